@@ -1,0 +1,4 @@
+pub mod Levels
+pub mod LevelsLeft
+pub mod Texts
+pub mod Matching

@@ -1,0 +1,17 @@
+//! Topic names and topic filters (MQTT 3.1.1, 4.7), and bytes that contracts see as their list.
+#![tactic(auto)]
+
+mod bytes;
+pub mod fault;
+pub mod filter;
+pub mod levels;
+pub mod matching;
+pub mod name;
+pub mod octets;
+
+pub use fault::TextFault;
+pub use filter::TopicFilter;
+pub use levels::Levels;
+pub use matching::matches;
+pub use name::TopicName;
+pub use octets::Octets;
