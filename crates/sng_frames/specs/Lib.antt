@@ -1,0 +1,4 @@
+pub mod FlagsOctet
+pub mod Reading
+pub mod Writing
+pub mod Grammar

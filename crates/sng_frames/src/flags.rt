@@ -1,0 +1,122 @@
+//! The Flags octet (MQTT-SN 1.2, 5.3.4), all eight bits of it.
+ghost use Rattle.std.specs.Prelude.{◌≡◌};
+ghost use Rattle.sng_frames.specs.FlagsOctet.{flags_of, flags_octet, qos_of, qos_bits, id_type_of, id_type_bits, bit};
+
+/// The quality of service of a PUBLISH.
+#[derive(Clone, Copy, Debug, PartialEq, Eq)]
+pub enum Qos {
+    /// Level 0, bits 00.
+    AtMostOnce,
+    /// Level 1, bits 01.
+    AtLeastOnce,
+    /// Level 2, bits 10.
+    ExactlyOnce,
+    /// Level -1, bits 11: a PUBLISH without a connection.
+    WithoutSession,
+}
+
+/// What a TopicId field holds.
+#[derive(Clone, Copy, Debug, PartialEq, Eq)]
+pub enum TopicIdType {
+    /// A registered topic id, or in place of the field a topic's text; bits 00.
+    Normal,
+    /// A predefined topic id; bits 01.
+    Predefined,
+    /// A topic name of two octets; bits 10.
+    Short,
+    /// Bits 11, which the standard reserves.
+    Reserved,
+}
+
+/// The fields of a Flags octet.
+#[derive(Clone, Copy, Debug, PartialEq, Eq)]
+pub struct Flags {
+    /// Whether the message is sent again; bit 7.
+    pub dup: bool,
+    /// Bits 6 and 5.
+    pub qos: Qos,
+    /// Whether the message is kept; bit 4.
+    pub retain: bool,
+    /// Whether a will is asked for; bit 3.
+    pub will: bool,
+    /// CleanSession; bit 2.
+    pub clean: bool,
+    /// TopicIdType; bits 1 and 0.
+    pub id_type: TopicIdType,
+}
+
+/// The fields that the octet holds.
+pub fn read(octet: u8) -> Flags
+    ensures { result ≡ flags_of octet }
+{
+    Flags {
+        dup: octet / 128 % 2 == 1,
+        qos: qos_of(octet / 32 % 4),
+        retain: octet / 16 % 2 == 1,
+        will: octet / 8 % 2 == 1,
+        clean: octet / 4 % 2 == 1,
+        id_type: id_type_of(octet % 4),
+    }
+}
+
+/// The octet that holds the fields.
+pub fn octet(flags: Flags) -> u8
+    ensures { result ≡ flags_octet flags }
+{
+    bit(flags.dup, 128)
+        + qos_bits(flags.qos)
+        + bit(flags.retain, 16)
+        + bit(flags.will, 8)
+        + bit(flags.clean, 4)
+        + id_type_bits(flags.id_type)
+}
+
+fn qos_of(bits: u8) -> Qos
+    ensures { result ≡ qos_of bits }
+{
+    match bits {
+        0 => Qos::AtMostOnce,
+        1 => Qos::AtLeastOnce,
+        2 => Qos::ExactlyOnce,
+        _ => Qos::WithoutSession,
+    }
+}
+
+fn id_type_of(bits: u8) -> TopicIdType
+    ensures { result ≡ id_type_of bits }
+{
+    match bits {
+        0 => TopicIdType::Normal,
+        1 => TopicIdType::Predefined,
+        2 => TopicIdType::Short,
+        _ => TopicIdType::Reserved,
+    }
+}
+
+fn bit(is_set: bool, weight: u8) -> u8
+    ensures { result ≡ bit is_set weight }
+{
+    if is_set { weight } else { 0 }
+}
+
+fn qos_bits(qos: Qos) -> u8
+    ensures { result ≡ qos_bits qos }
+{
+    match qos {
+        Qos::AtMostOnce => 0,
+        Qos::AtLeastOnce => 32,
+        Qos::ExactlyOnce => 64,
+        Qos::WithoutSession => 96,
+    }
+}
+
+fn id_type_bits(id_type: TopicIdType) -> u8
+    ensures { result ≡ id_type_bits id_type }
+{
+    match id_type {
+        TopicIdType::Normal => 0,
+        TopicIdType::Predefined => 1,
+        TopicIdType::Short => 2,
+        TopicIdType::Reserved => 3,
+    }
+}

@@ -1,0 +1,14 @@
+//! MQTT-SN frames as bytes (MQTT-SN 1.2, section 5): which message a datagram is, and which bytes a message is sent as.
+#![tactic(auto)]
+
+pub mod fault;
+pub mod flags;
+pub mod frame;
+pub mod reading;
+pub mod writing;
+
+pub use fault::FrameFault;
+pub use flags::{Flags, Qos, TopicIdType};
+pub use frame::{Publish, SnFrame};
+pub use reading::decode;
+pub use writing::encode;

@@ -1,0 +1,2 @@
+//! Judgements.
+#![tactic(auto)]
