@@ -2,6 +2,9 @@
 use crate::Flags;
 use sng_text::Octets;
 
+/// The most octets of a frame.
+pub const MOST_OCTETS: usize = 2048;
+
 /// A PUBLISH (5.4.12).
 #[derive(Debug, Drop)]
 pub struct Publish {

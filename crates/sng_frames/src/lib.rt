@@ -7,6 +7,7 @@ pub mod frame;
 pub mod reading;
 pub mod writing;
 
+
 pub use fault::FrameFault;
 pub use flags::{Flags, Qos, TopicIdType};
 pub use frame::{Publish, SnFrame};
