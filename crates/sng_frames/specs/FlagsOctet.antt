@@ -44,5 +44,5 @@ flags_of octet = record {
   retain = octet / 16 % 2 == 1;
   will = octet / 8 % 2 == 1;
   clean = octet / 4 % 2 == 1;
-  id_type = id_type_of (octet % 4)
+  id_type = id_type_of (octet % 4);
 }

@@ -1,10 +1,9 @@
 -- Which bytes spell which frame (MQTT-SN 1.2, 5.2 to 5.4), apart from how they are read or written.
-use Rattle.std.specs.Prelude.{◌≡◌, ℕ, ◌+◌, ◌*◌, ◌<◌, ◌≤◌, ◌⊎◌, List, [], ◌∷◌, length, Some, None}
+use Rattle.std.specs.Prelude.{◌≡◌, ℕ, ◌+◌, ◌*◌, ◌^◌, ◌<◌, ◌⊎◌, List, [], ◌∷◌, length, Some, None}
 use Rattle.sng_frames.specs.declared.frame.Publish.{Publish}
 use Rattle.sng_frames.specs.declared.frame.SnFrame.{SnFrame}
 use Rattle.sng_frames.specs.declared.frame.SnFrame.TheVariants as variants
 use Rattle.sng_frames.specs.FlagsOctet.{flags_octet}
-use Rattle.sng_frames.specs.Writing.{written}
 
 -- the two octets are the number, the high one first (5.3)
 pub record IsNumber (n high low : ℕ) : Type 0 where
@@ -61,7 +60,8 @@ pub record Spells (frame : SnFrame) (b : List ℕ) : Type 0 where
   pub variable : SpellsPart frame part
   pub message : SpellsMessage (type_of frame) part b
 
--- the frame has no spelling, though its bytes would not be too many
-pub record HasNoSpelling (frame : SnFrame) : Type 0 where
-  pub short : length (written frame) ≤ 2048
-  pub none : (b : List ℕ) → ¬ Spells frame b
+-- the frame's numbers are numbers of two octets
+abbrev pub IsInRange : SnFrame → Type 0
+IsInRange (variants.Publish p) = (p.topic_id < 2 ^ 16) × (p.msg_id < 2 ^ 16)
+IsInRange (variants.Disconnect None) = Unit {0}
+IsInRange (variants.Disconnect (Some duration)) = duration < 2 ^ 16

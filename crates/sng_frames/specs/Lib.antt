@@ -1,4 +1,6 @@
+pub mod FaultText
 pub mod FlagsOctet
+pub mod Grammar
 pub mod Reading
 pub mod Writing
-pub mod Grammar
+pub mod Laws

@@ -1,8 +1,9 @@
 -- The bytes of a frame with the shortest Length (MQTT-SN 1.2, 5.2 to 5.4).
-use Rattle.std.specs.Prelude.{ℕ, ◌+◌, ◌/◌, ◌%◌, nat_lt, List, [], ◌∷◌, length, if◌then◌else◌, Some, None}
+use Rattle.std.specs.Prelude.{ℕ, ◌≤◌, ◌+◌, ◌/◌, ◌%◌, nat_lt, List, [], ◌∷◌, length, if◌then◌else◌, Some, None}
 use Rattle.sng_frames.specs.declared.frame.SnFrame.{SnFrame}
 use Rattle.sng_frames.specs.declared.frame.SnFrame.TheVariants.{Publish, Disconnect}
 use Rattle.sng_frames.specs.FlagsOctet.{flags_octet}
+use Rattle.sng_frames.specs.Grammar.{Spells}
 
 -- the MsgType of a frame (5.2.2)
 abbrev pub kind_of : SnFrame → ℕ
@@ -24,3 +25,8 @@ framed kind part =
 
 abbrev pub written : SnFrame → List ℕ
 written frame = framed (kind_of frame) (part_of frame)
+
+-- the frame has no spelling, though its bytes would not be too many
+pub record HasNoSpelling (frame : SnFrame) : Type 0 where
+  pub short : length (written frame) ≤ 2048
+  pub none : (b : List ℕ) → ¬ Spells frame b

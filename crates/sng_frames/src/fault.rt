@@ -1,4 +1,7 @@
 //! Why a datagram is no frame that is read, or a frame none that is written.
+ghost use Rattle.std.specs.Prelude.{Some};
+ghost use Rattle.sng_frames.specs.FaultText.{text_of};
+
 use std::fmt;
 
 /// The fault of a datagram or of a frame.
@@ -15,6 +18,8 @@ pub enum FrameFault {
 }
 
 impl fmt::Display for FrameFault {
+    ghost output = { λ fault. Some (text_of fault) };
+
     fn fmt<W: fmt::Write>(&self, f: &mut fmt::Formatter<W>) -> fmt::Result {
         f.write_str(match self {
             FrameFault::Malformed => "the frame is malformed",

@@ -4,12 +4,15 @@
 pub mod fault;
 pub mod flags;
 pub mod frame;
+pub mod laws;
 pub mod reading;
 pub mod writing;
-
 
 pub use fault::FrameFault;
 pub use flags::{Flags, Qos, TopicIdType};
 pub use frame::{Publish, SnFrame};
 pub use reading::decode;
 pub use writing::encode;
+
+#[cfg(test)]
+mod tests;

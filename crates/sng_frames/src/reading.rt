@@ -2,11 +2,13 @@
 ghost use Rattle.std.specs.Prelude.{◌≡◌, ◌⊎◌, ◌<◌, Ok, Err, IfOk, IfErr};
 ghost use Rattle.sng_frames.specs.Reading.{frame_of, octets_read, behind_one, behind_length, publish_of, number};
 
-use crate::{FrameFault, Publish, SnFrame, flags, frame::MOST_OCTETS};
+use crate::frame::MOST_OCTETS;
+use crate::{FrameFault, Publish, SnFrame, flags};
 use sng_text::Octets;
 use std::alloc::Global;
 
 const PUBLISH: u8 = 0x0c;
+
 const ENCAPSULATED: u8 = 0xfe;
 
 /// The frame that a datagram is. Allocates the payload's copy, and nothing else.
@@ -29,14 +31,24 @@ fn read_octets(alloc: Global, size: usize, octets: &[u8]) -> Result<SnFrame, Fra
 {
     match octets {
         [] => Err(FrameFault::Malformed),
-        [1, high, low, message @ ..] => read_message(alloc, usize::from(number(*high, *low)), size, message),
+        [1, high, low, message @ ..] => read_message(
+            alloc,
+            usize::from(number(*high, *low)),
+            size,
+            message,
+        ),
         [1, ..] => Err(FrameFault::Malformed),
         [told, message @ ..] => read_message(alloc, usize::from(*told), size, message),
     }
 }
 
 /// What stands behind a Length.
-fn read_message(alloc: Global, told: usize, size: usize, message: &[u8]) -> Result<SnFrame, FrameFault>
+fn read_message(
+    alloc: Global,
+    told: usize,
+    size: usize,
+    message: &[u8],
+) -> Result<SnFrame, FrameFault>
     ensures ok { IfOk result (λ f. behind_length told size message.now ≡ Ok f) }
     ensures err { IfErr result (λ e. (e ≡ FrameFault.Memory) ⊎ (behind_length told size message.now ≡ Err e)) }
 {
@@ -62,7 +74,14 @@ fn read_publish(alloc: Global, part: &[u8]) -> Result<SnFrame, FrameFault>
     ensures err { IfErr result (λ e. (e ≡ FrameFault.Memory) ⊎ (publish_of part.now ≡ Err e)) }
 {
     match part {
-        [octet, topic_high, topic_low, msg_high, msg_low, payload @ ..] => {
+        [
+            octet,
+            topic_high,
+            topic_low,
+            msg_high,
+            msg_low,
+            payload @ ..,
+        ] => {
             let payload = Vec::from_slice(alloc, payload).map_err(|_| FrameFault::Memory)?;
             Ok(SnFrame::Publish(Publish {
                 flags: flags::read(*octet),

@@ -1,9 +1,10 @@
 //! Writing a frame as a datagram (MQTT-SN 1.2, 5.2 to 5.4).
 ghost use Rattle.std.specs.Prelude.{◌≡◌, ◌≢◌, ℕ, List, ◌+◌, ◌/◌, ◌%◌, ◌≤◌, ◌<◌, ◌^◌, ◌↔◌, ◌++◌, Err, IfOk, IfErr, length};
-ghost use Rattle.sng_frames.specs.Writing.{written};
-ghost use Rattle.sng_frames.specs.Grammar.{HasNoSpelling};
+ghost use Rattle.sng_frames.specs.Writing.{written, HasNoSpelling};
+ghost use Rattle.sng_frames.specs.Grammar.{IsInRange};
 
-use crate::{FrameFault, Publish, SnFrame, flags, frame::MOST_OCTETS};
+use crate::frame::MOST_OCTETS;
+use crate::{FrameFault, Publish, SnFrame, flags};
 use std::alloc::Global;
 
 /// The datagram that a frame is sent as, with the shortest Length. Allocates once.
@@ -18,12 +19,12 @@ pub fn encode(alloc: Global, frame: &SnFrame) -> Result<Vec<u8>, FrameFault>
 {
     match frame {
         SnFrame::Publish(publish) => write_publish(alloc, publish),
-        SnFrame::Disconnect(None) => join(alloc, &[2, DISCONNECT], &[]),
-        SnFrame::Disconnect(Some(duration)) => join(alloc, &[4, DISCONNECT, high(*duration), low(*duration)], &[]),
+        SnFrame::Disconnect(duration) => write_disconnect(alloc, *duration),
     }
 }
 
 const PUBLISH: u8 = 0x0c;
+
 const DISCONNECT: u8 = 0x18;
 
 fn write_publish(alloc: Global, publish: &Publish) -> Result<Vec<u8>, FrameFault>
@@ -32,8 +33,7 @@ fn write_publish(alloc: Global, publish: &Publish) -> Result<Vec<u8>, FrameFault
     ensures too_long { (result ≡ Err FrameFault.TooLong) ↔ (2048 < length (written (SnFrame.Publish publish.now))) }
     ensures malformed { result ≢ Err FrameFault.Malformed }
     ensures supported { result ≢ Err FrameFault.NotSupported }
-    ensures topic_id_fits { publish.now.topic_id < 2 ^ 16 }
-    ensures msg_id_fits { publish.now.msg_id < 2 ^ 16 }
+    ensures in_range { IsInRange (SnFrame.Publish publish.now) }
 {
     let octet = flags::octet(publish.flags);
     let (topic_high, topic_low) = (high(publish.topic_id), low(publish.topic_id));
@@ -44,10 +44,41 @@ fn write_publish(alloc: Global, publish: &Publish) -> Result<Vec<u8>, FrameFault
     }
     if payload.len() < 249 {
         let size = (payload.len() + 7) as u8;
-        return join(alloc, &[size, PUBLISH, octet, topic_high, topic_low, msg_high, msg_low], payload);
+        return join(
+            alloc,
+            &[
+                size, PUBLISH, octet, topic_high, topic_low, msg_high, msg_low,
+            ],
+            payload,
+        );
     }
     let size = (payload.len() + 9) as u16;
-    join(alloc, &[1, high(size), low(size), PUBLISH, octet, topic_high, topic_low, msg_high, msg_low], payload)
+    join(
+        alloc,
+        &[
+            1,
+            high(size),
+            low(size),
+            PUBLISH,
+            octet,
+            topic_high,
+            topic_low,
+            msg_high,
+            msg_low,
+        ],
+        payload,
+    )
+}
+
+fn write_disconnect(alloc: Global, duration: Option<u16>) -> Result<Vec<u8>, FrameFault>
+    ensures ok { IfOk result (λ v. v.items ≡ written (SnFrame.Disconnect duration)) }
+    ensures err { IfErr result (λ e. e ≡ FrameFault.Memory) }
+    ensures in_range { IsInRange (SnFrame.Disconnect duration) }
+{
+    match duration {
+        None => join(alloc, &[2, DISCONNECT], &[]),
+        Some(duration) => join(alloc, &[4, DISCONNECT, high(duration), low(duration)], &[]),
+    }
 }
 
 /// The two parts, one after the other, in one allocation.
@@ -57,9 +88,15 @@ fn join(alloc: Global, head: &[u8], tail: &[u8]) -> Result<Vec<u8>, FrameFault>
     ensures ok { IfOk result (λ v. v.items ≡ head.now ++ tail.now) }
     ensures err { IfErr result (λ e. e ≡ FrameFault.Memory) }
 {
-    let mut bytes = Vec::with_capacity(alloc, head.len() + tail.len()).map_err(|_| FrameFault::Memory)?;
-    bytes.extend_from_slice(head).map_err(|_| FrameFault::Memory)?;
-    bytes.extend_from_slice(tail).map_err(|_| FrameFault::Memory)?;
+    let mut bytes = Vec::with_capacity(alloc, head.len() + tail.len()).map_err(
+        |_| FrameFault::Memory,
+    )?;
+    bytes
+        .extend_from_slice(head)
+        .map_err(|_| FrameFault::Memory)?;
+    bytes
+        .extend_from_slice(tail)
+        .map_err(|_| FrameFault::Memory)?;
     Ok(bytes)
 }
 

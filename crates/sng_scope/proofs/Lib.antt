@@ -1,0 +1,4 @@
+pub mod PartLemmas
+pub mod PairLemmas
+pub mod JsonLemmas
+pub mod BoundLemmas

@@ -1,0 +1,4 @@
+pub mod RemainingLength
+pub mod Packets
+pub mod Grammar
+pub mod Laws

@@ -1,0 +1,55 @@
+//! How an ask is judged as it comes.
+ghost use Rattle.std.specs.Prelude.{◌≡◌, IfOk, Ok, Err};
+ghost use Rattle.sng_history.specs.Judging.{verdict, room, name_in};
+
+use crate::Core;
+use crate::leaving::exit;
+use sng_book::{IdKind, Outcome, Place};
+use sng_frames::TopicIdType;
+use sng_outbox::Origin;
+use sng_text::{TextFault, TopicName};
+use std::alloc::{AllocError, Global};
+
+impl Core {
+    /// The verdict on a publish under the name. Only memory can fail, for a denial that shows the name.
+    pub(crate) fn verdict(&self, origin: Origin, name: &TopicName) -> Result<Outcome, AllocError>
+        ensures { IfOk result (λ outcome. outcome ≡ verdict self.now origin name.now) }
+    {
+        match exit(&self.policy, origin, name)? {
+            Outcome::Allowed => Ok(self.room()),
+            denial => Ok(denial),
+        }
+    }
+
+    /// Whether there is a connection, and room for one more.
+    fn room(&self) -> Outcome
+        ensures { result ≡ room self.now }
+    {
+        if !self.is_up {
+            Outcome::UpstreamDown
+        } else if self.outbox.is_full() {
+            Outcome::Full(Place::Outbox)
+        } else {
+            Outcome::Allowed
+        }
+    }
+}
+
+/// The name that a topic id stands for in a PUBLISH without a session, or the rule that it breaks. Only memory can fail.
+pub fn name_in(
+    alloc: Global,
+    id_type: TopicIdType,
+    id: u16,
+) -> Result<Result<TopicName, Outcome>, AllocError>
+    ensures { IfOk result (λ named. named ≡ name_in id_type id) }
+{
+    match id_type {
+        TopicIdType::Short => match TopicName::read(alloc, id.to_be_bytes().as_slice()) {
+            Ok(name) => Ok(Ok(name)),
+            Err(TextFault::Memory) => Err(AllocError),
+            Err(_) => Ok(Err(Outcome::BadName)),
+        },
+        TopicIdType::Predefined => Ok(Err(Outcome::UnknownId(IdKind::Predefined, id))),
+        TopicIdType::Normal | TopicIdType::Reserved => Ok(Err(Outcome::IdType)),
+    }
+}

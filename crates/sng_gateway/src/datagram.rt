@@ -1,0 +1,26 @@
+//! Datagrams in hex digits.
+use hex::FromHexError;
+use sng_text::Octets;
+use std::alloc::Global;
+
+/// What keeps a word from being a datagram.
+#[derive(Clone, Copy, Debug, PartialEq, Eq)]
+pub enum DatagramFault {
+    /// It has no digit, an odd number of them, or a byte that is none.
+    Unreadable,
+    /// A growth was refused.
+    Memory,
+}
+
+/// The bytes of the digits, in upper or lower case. A `-` stands for no bytes.
+pub fn read_datagram(alloc: Global, digits: &[u8]) -> Result<Octets, DatagramFault> {
+    match digits {
+        [] => Err(DatagramFault::Unreadable),
+        b"-" => Ok(Octets::from(Vec::new(alloc))),
+        _ => match hex::decode(alloc, digits) {
+            Ok(bytes) => Ok(Octets::from(bytes)),
+            Err(FromHexError::OutOfMemory) => Err(DatagramFault::Memory),
+            Err(_) => Err(DatagramFault::Unreadable),
+        },
+    }
+}

@@ -1,0 +1,32 @@
+//! A reader that gives up on an input that never ends.
+use std::io::{Error, Read, Result};
+
+/// How many calls of `read` an input may need.
+pub const MOST_READS: u32 = 1_000_000;
+
+/// Passes reads on, as many as are left. From then on each one fails.
+#[derive(Drop)]
+pub struct CountedReader<R> {
+    inner: R,
+    left: u32,
+}
+
+impl<R: Read> CountedReader<R> {
+    /// A reader with `MOST_READS` calls left.
+    pub fn new(inner: R) -> CountedReader<R> {
+        CountedReader {
+            inner,
+            left: MOST_READS,
+        }
+    }
+}
+
+impl<R: Read> Read for CountedReader<R> {
+    fn read(&mut self, buf: &mut [u8]) -> Result<usize> {
+        if self.left == 0 {
+            return Err(Error::other("too many reads"));
+        }
+        self.left -= 1;
+        self.inner.read(buf)
+    }
+}

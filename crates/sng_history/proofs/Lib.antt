@@ -1,0 +1,4 @@
+pub mod Seen
+pub mod Left
+pub mod Sentences
+pub mod WorkedLemmas

@@ -1,0 +1,22 @@
+-- Bytes that are no JSON, and how many members an object has.
+use Rattle.std.proofs.Common.{◌≡◌, ℕ, Bool, true, false, List, [], ◌∷◌, length, None, Err, suc, refl, ap}
+use Rattle.std.specs.Str.{is_utf8, IsUtf8}
+use Rattle.std.proofs.lemmas.Str.{IsUtf8-from_is_utf8}
+use Rattle.serde_json.proofs.Views.{Entry}
+use Rattle.serde_json.specs.Events.{members_len}
+use Rattle.serde_json.specs.Read.{read}
+use Rattle.serde_json.specs.View.{members_view}
+use Rattle.sng_scope.specs.Policies.{value_of}
+use Rattle.sng_scope.specs.declared.fault.PolicyFault.TheVariants.{NotJson}
+
+pub members_len-members_view : (es : List Entry) → members_len (members_view es) ≡ length es
+members_len-members_view [] = refl
+members_len-members_view (e ∷ es) = ap suc (members_len-members_view es)
+
+not_json : (b : Bool) (text : List ℕ) → is_utf8 text ≡ b → (IsUtf8 text → read text ≡ None) → value_of text ≡ Err NotJson
+not_json true text is none = rw (is, none (IsUtf8-from_is_utf8 text is)) refl
+not_json false text is none = rw is refl
+
+-- bytes that are no text, or none that is read
+pub value_of-not_json : (text : List ℕ) → (IsUtf8 text → read text ≡ None) → value_of text ≡ Err NotJson
+value_of-not_json text none = not_json (is_utf8 text) text refl none
