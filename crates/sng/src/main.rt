@@ -19,7 +19,7 @@ fn main(rt: HostRuntime) -> ExitCode {
             Err(error) => report(&rt, &error),
         },
         Err(error) => match error.kind() {
-            io::ErrorKind::OutOfMemory => Status::OutOfMemory.code(),
+            io::ErrorKind::OutOfMemory => out_of_memory(&rt),
             _ => Status::Failed.code(),
         },
     };
@@ -33,12 +33,17 @@ fn words<R: Env + AllocGlobal>(rt: &R) -> io::Result<Vec<String>> {
 
 /// Prints help that was asked for on standard output, or what is wrong with the command line on standard error. Gives the exit status: 0 for help, 2 for a fault.
 fn report<R: Print + Eprint>(rt: &R, error: &Error) -> u8 {
-    let printed = error.print(rt);
     if error.kind() == ErrorKind::OutOfMemory {
-        Status::OutOfMemory.code()
-    } else if printed.is_err() && !error.use_stderr() {
-        Status::Failed.code()
-    } else {
-        error.exit_code() as u8
+        return out_of_memory(rt);
     }
+    match error.print(rt) {
+        Err(_) if !error.use_stderr() => Status::Failed.code(),
+        _ => error.exit_code() as u8,
+    }
+}
+
+/// Prints that memory is wanting, and gives the exit status of it, also where not even that can be printed.
+fn out_of_memory<R: Print>(rt: &R) -> u8 {
+    let _ = rt.println("out of memory");
+    Status::OutOfMemory.code()
 }

@@ -61,3 +61,6 @@ pub fn answers_are_exact()
     ensures { (policy : policy_type) (source name : List ℕ) (grant : grant_type)
         → (source_grant policy source name ≡ grant) ↔ Says grant policy source name }
 {}
+
+#[cfg(test)]
+mod tests;

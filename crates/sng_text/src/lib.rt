@@ -8,6 +8,8 @@ pub mod levels;
 pub mod matching;
 pub mod name;
 pub mod octets;
+#[cfg(test)]
+mod tests;
 
 pub use fault::TextFault;
 pub use filter::TopicFilter;

@@ -1,0 +1,154 @@
+//! Names, filters and matching against the examples of MQTT 3.1.1, 4.7.
+use crate::{Levels, Octets, TextFault, TopicFilter, TopicName, matches};
+use std::test::Fail;
+
+#[test]
+fn texts_that_are_names(rt: HostRuntime) -> Result<(), Fail> {
+    for text in [
+        b"sport/tennis/player1".as_slice(),
+        b"/finance",
+        b"/",
+        b"$SYS/",
+        b"a//b",
+        b"ACCOUNTS",
+        b"Accounts payable",
+        b"\xc3\xa9",
+    ] {
+        let name = TopicName::read(rt.alloc(), text)?;
+        assert_eq!(rt; name.text(), text);
+        assert_eq!(rt; name.copy()?.text(), text);
+    }
+    assert_eq!(rt;
+        TopicName::read(rt.alloc(), [b'a'; 65535].as_slice())?
+            .text()
+            .len(),
+        65535
+    );
+    Ok(())
+}
+
+#[test]
+fn first_faults_of_names(rt: HostRuntime) {
+    for (text, want) in [
+        (b"".as_slice(), TextFault::Empty),
+        (b"\xff\x00+", TextFault::NotUtf8),
+        (b"\xed\xa0\x80", TextFault::NotUtf8),
+        (b"+\x00", TextFault::Null),
+        (b"a/+", TextFault::Wildcard),
+        (b"a#", TextFault::Wildcard),
+    ] {
+        match TopicName::read(rt.alloc(), text) {
+            Ok(_) => assert!(rt; false, "{text:?} is no name"),
+            Err(fault) => assert_eq!(rt; fault, want, "at {text:?}"),
+        }
+    }
+    let long = TopicName::read(rt.alloc(), [0xff; 65536].as_slice());
+    assert_eq!(rt; long.err(), Some(TextFault::TooLong));
+}
+
+#[test]
+fn texts_that_are_filters(rt: HostRuntime) -> Result<(), Fail> {
+    for text in [
+        b"#".as_slice(),
+        b"sport/tennis/#",
+        b"+",
+        b"+/tennis/#",
+        b"sport/+/player1",
+        b"/+",
+        b"+/+",
+        b"$SYS/#",
+        b"/",
+    ] {
+        let filter = TopicFilter::read(rt.alloc(), text)?;
+        assert_eq!(rt; filter.text(), text);
+        assert_eq!(rt; filter.copy()?.text(), text);
+    }
+    assert_eq!(rt;
+        TopicFilter::read(rt.alloc(), [b'a'; 200].as_slice())?
+            .text()
+            .len(),
+        200
+    );
+    Ok(())
+}
+
+#[test]
+fn first_faults_of_filters(rt: HostRuntime) {
+    for (text, want) in [
+        (b"".as_slice(), TextFault::Empty),
+        (b"#/\xff", TextFault::NotUtf8),
+        (b"#/\x00", TextFault::Null),
+        (b"sport/tennis#", TextFault::Wildcard),
+        (b"sport/tennis/#/ranking", TextFault::Wildcard),
+        (b"sport+", TextFault::Wildcard),
+        (b"#/", TextFault::Wildcard),
+        (b"++", TextFault::Wildcard),
+        (b"+#", TextFault::Wildcard),
+    ] {
+        match TopicFilter::read(rt.alloc(), text) {
+            Ok(_) => assert!(rt; false, "{text:?} is no filter"),
+            Err(fault) => assert_eq!(rt; fault, want, "at {text:?}"),
+        }
+    }
+    let long = TopicFilter::read(rt.alloc(), [0xff; 201].as_slice());
+    assert_eq!(rt; long.err(), Some(TextFault::TooLong));
+}
+
+#[test]
+fn which_names_a_filter_matches(rt: HostRuntime) -> Result<(), Fail> {
+    for (filter, name, want) in [
+        (
+            b"sport/tennis/player1/#".as_slice(),
+            b"sport/tennis/player1".as_slice(),
+            true,
+        ),
+        (
+            b"sport/tennis/player1/#",
+            b"sport/tennis/player1/ranking",
+            true,
+        ),
+        (
+            b"sport/tennis/player1/#",
+            b"sport/tennis/player1/score/wimbledon",
+            true,
+        ),
+        (b"sport/#", b"sport", true),
+        (b"sport/#", b"sports", false),
+        (b"sport/tennis/+", b"sport/tennis/player1", true),
+        (b"sport/tennis/+", b"sport/tennis/player1/ranking", false),
+        (b"sport/+", b"sport", false),
+        (b"sport/+", b"sport/", true),
+        (b"+/+", b"/finance", true),
+        (b"/+", b"/finance", true),
+        (b"+", b"/finance", false),
+        (b"#", b"a/b", true),
+        (b"#", b"$SYS", false),
+        (b"+/monitor/Clients", b"$SYS/monitor/Clients", false),
+        (b"$SYS/#", b"$SYS/monitor/Clients", true),
+        (b"$SYS/monitor/+", b"$SYS/monitor/Clients", true),
+        (b"ACCOUNTS", b"Accounts", false),
+        (b"a//b", b"a//b", true),
+        (b"a/+/b", b"a//b", true),
+        (b"a/b", b"a/b/", false),
+    ] {
+        let filter = TopicFilter::read(rt.alloc(), filter)?;
+        let name = TopicName::read(rt.alloc(), name)?;
+        assert_eq!(rt; matches(&filter, &name), want, "{filter:?} at {name:?}");
+    }
+    Ok(())
+}
+
+#[test]
+fn levels_and_octets(rt: HostRuntime) -> Result<(), Fail> {
+    let levels: Vec<&[u8]> = Levels::of(b"/a//b").collect(rt.alloc())?;
+    assert_eq!(rt;
+        levels.as_slice(),
+        [b"".as_slice(), b"a", b"", b"b"].as_slice()
+    );
+    let octets = Octets::from(Vec::from_slice(rt.alloc(), b"21")?);
+    assert_eq!(rt; octets.as_slice(), b"21".as_slice());
+    assert_eq!(rt; octets.len(), 2);
+    assert!(rt; !octets.is_empty());
+    assert_eq!(rt; octets.copy()?.as_slice(), b"21".as_slice());
+    Ok(())
+}
