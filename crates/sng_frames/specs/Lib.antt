@@ -1,4 +1,3 @@
-pub mod FaultText
 pub mod FlagsOctet
 pub mod Grammar
 pub mod Reading
