@@ -1,5 +1,10 @@
 //! The command line.
+ghost use Rattle.std.specs.Prelude.{◌≡◌, ◌≢◌, true};
+ghost use Rattle.clap.specs.Values.{kind_of};
+ghost use Rattle.clap.specs.declared.error.ErrorKind.TheVariants.{DisplayHelp, DisplayVersion};
+
 use clap::{Command, Error};
+use sng_gateway::Status;
 use std::alloc::Global;
 
 /// What the command line asks for.
@@ -18,4 +23,18 @@ pub fn read_command(alloc: Global, words: &[String]) -> Result<Chosen, Error> {
         .subcommand(play)?;
     command.try_get_matches_from(words)?;
     Ok(Chosen::Play)
+}
+
+/// The exit status of a command line that starts nothing: 0 for help that was printed, 2 for a fault, 4 where help could not be printed.
+pub fn exit_status(error: &Error, is_printed: bool) -> u8
+    ensures fault { kind_of error.now ≢ DisplayHelp → kind_of error.now ≢ DisplayVersion → result ≡ 2 }
+    ensures help { kind_of error.now ≡ DisplayHelp → is_printed ≡ true → result ≡ 0 }
+{
+    if error.use_stderr() {
+        2
+    } else if is_printed {
+        Status::Done.code()
+    } else {
+        Status::Failed.code()
+    }
 }

@@ -5,7 +5,7 @@ mod command;
 
 use clap::Error;
 use clap::error::ErrorKind;
-use command::{Chosen, read_command};
+use command::{Chosen, exit_status, read_command};
 use sng_gateway::Status;
 use sng_gateway::play::play;
 use std::process::ExitCode;
@@ -31,15 +31,12 @@ fn words<R: Env + AllocGlobal>(rt: &R) -> io::Result<Vec<String>> {
     Ok(env::args(rt)?.collect(rt.alloc())?)
 }
 
-/// Prints help that was asked for on standard output, or what is wrong with the command line on standard error. Gives the exit status: 0 for help, 2 for a fault.
+/// Prints help that was asked for on standard output, or what is wrong with the command line on standard error. Gives the exit status.
 fn report<R: Print + Eprint>(rt: &R, error: &Error) -> u8 {
     if error.kind() == ErrorKind::OutOfMemory {
         return out_of_memory(rt);
     }
-    match error.print(rt) {
-        Err(_) if !error.use_stderr() => Status::Failed.code(),
-        _ => error.exit_code() as u8,
-    }
+    exit_status(error, error.print(rt).is_ok())
 }
 
 /// Prints that memory is wanting, and gives the exit status of it, also where not even that can be printed.

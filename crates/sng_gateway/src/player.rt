@@ -1,4 +1,9 @@
 //! A gateway that is played a script, line by line.
+ghost use Rattle.std.specs.Prelude.{◌≡◌, true, OnOk};
+ghost use Rattle.std.specs.Result.{is_err};
+ghost use Rattle.sng_scope.specs.Policies.{policy_of};
+ghost use Rattle.sng_gateway.specs.Playing.{IsPlayed};
+
 use crate::datagram::{DatagramFault, read_datagram};
 use crate::script::{Line, line_of};
 use sng_book::{Address, Event, push_row};
@@ -56,8 +61,10 @@ impl Player {
         }
     }
 
-    /// Puts the policy of the text in force. One that is refused makes no row.
-    fn replace<W: Write>(&mut self, text: &[u8], output: &mut W) -> Result<(), Stop> {
+    /// Puts the policy of the text in force. One that is refused makes no row, and replaces nothing.
+    fn replace<W: Write>(&mut self, text: &[u8], output: &mut W) -> Result<(), Stop>
+        ensures { is_err (policy_of text.now) ≡ true → self.new.core ≡ self.old.core }
+    {
         match read_policy(self.alloc, text) {
             Ok(policy) => self.step(Event::Replace(policy), output),
             Err(PolicyFault::Memory) => Err(Stop::OutOfMemory),
@@ -81,8 +88,10 @@ impl Player {
         }
     }
 
-    /// Takes one step and prints its row.
-    fn step<W: Write>(&mut self, event: Event, output: &mut W) -> Result<(), Stop> {
+    /// Takes one step and prints its row, which stays in `text`.
+    fn step<W: Write>(&mut self, event: Event, output: &mut W) -> Result<(), Stop>
+        ensures { OnOk result (IsPlayed self.old.core event self.new.core self.new.rows self.new.text.items) }
+    {
         let kind = event.kind();
         let outs = self.core.step(self.alloc, event)?;
         self.rows = self.rows.saturating_add(1);
@@ -90,6 +99,7 @@ impl Player {
         push_row(&mut self.text, self.rows, 0, kind, outs.as_slice())?;
         output
             .write_all(self.text.as_slice())
-            .map_err(|_| Stop::Failed)
+            .map_err(|_| Stop::Failed)?;
+        Ok(())
     }
 }
