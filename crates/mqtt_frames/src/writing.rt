@@ -14,7 +14,8 @@ pub fn write_publish(
     payload: &[u8],
     retain: bool,
 ) -> Result<Octets, AllocError>
-    ensures { IfOk result (λ o. o ≡ written (packets.Publish (record { dup = false; retain = retain; packet_id = None; name = name.now; payload = payload.now }))) }
+    ensures { IfOk result (λ o. o ≡ written (packets.Publish
+        (record { dup = false; retain = retain; packet_id = None; name = name.now; payload = payload.now }))) }
 {
     let name = name.text();
     let rest = 2 + name.len() + payload.len();

@@ -70,7 +70,8 @@ impl Core {
         publish: Publish,
     ) -> Result<Outs, AllocError>
         ensures outs { IfOk result (λ outs. outs ≡ Out.Note (source_ask self.old source publish) ∷ []) }
-        ensures next { OnOk result (self.new ≡ joined self.old (asked_by (source_ask self.old source publish) (Ok (frame.Publish publish)))) }
+        ensures next { OnOk result (self.new ≡ joined self.old
+            (asked_by (source_ask self.old source publish) (Ok (frame.Publish publish)))) }
         ensures err { OnErr result (self.new ≡ self.old) }
     {
         if !lists_source(&self.policy, source) {
@@ -91,7 +92,8 @@ impl Core {
         publish: Publish,
     ) -> Result<Outs, AllocError>
         ensures outs { IfOk result (λ outs. outs ≡ Out.Note (named_ask self.old source (Ok name)) ∷ []) }
-        ensures next { OnOk result (self.new ≡ joined self.old (asked_by (named_ask self.old source (Ok name)) (Ok (frame.Publish publish)))) }
+        ensures next { OnOk result (self.new ≡ joined self.old
+            (asked_by (named_ask self.old source (Ok name)) (Ok (frame.Publish publish)))) }
         ensures err { OnErr result (self.new ≡ self.old) }
     {
         let origin = Origin::Source(source);
@@ -138,7 +140,8 @@ fn frame_denied(alloc: Global, from: Address, rule: Outcome) -> Result<Outs, All
 
 /// A publish of a session comes from an address that has none: it is noted, and answered by DISCONNECT.
 fn dismiss(alloc: Global, from: Address) -> Result<Outs, AllocError>
-    ensures { IfOk result (λ outs. outs ≡ Out.Note (Decision.Publish (Who.Address from) None Outcome.NoSession) ∷ dismissed from ∷ []) }
+    ensures { IfOk result (λ outs. outs ≡
+        Out.Note (Decision.Publish (Who.Address from) None Outcome.NoSession) ∷ dismissed from ∷ []) }
 {
     let mut outs = denied(alloc, Who::Address(from), Outcome::NoSession)?;
     let disconnect = encode(alloc, &SnFrame::Disconnect(None)).map_err(|_| AllocError)?;

@@ -25,5 +25,6 @@ pub fn unlawful_rows()
     ensures unjudged { LawfulRow waits_replaced Take (forwarded Allowed ∷ packet_ab ∷ []) → ⊥ }
     ensures while_down { LawfulRow waits_down Take (forwarded Allowed ∷ packet_ab ∷ []) → ⊥ }
     ensures at_up { LawfulRow waits Up (forwarded Allowed ∷ packet_ab ∷ []) → ⊥ }
-    ensures denied { LawfulRow waits (Datagram (at source) publish_ab) (asked_ab source (MissingPub (codes "ab")) ∷ []) → ⊥ }
+    ensures denied { LawfulRow waits (Datagram (at source) publish_ab)
+        (asked_ab source (MissingPub (codes "ab")) ∷ []) → ⊥ }
 {}
