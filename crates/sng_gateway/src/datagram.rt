@@ -1,4 +1,7 @@
 //! Datagrams in hex digits.
+ghost use Rattle.std.specs.Prelude.{◌≡◌, ◌⊎◌, codes, [], Ok, IfOk};
+ghost use Rattle.hex.specs.Hex.{decode_of};
+
 use hex::FromHexError;
 use sng_text::Octets;
 use std::alloc::Global;
@@ -13,7 +16,9 @@ pub enum DatagramFault {
 }
 
 /// The bytes of the digits, in upper or lower case. A `-` stands for no bytes.
-pub fn read_datagram(alloc: Global, digits: &[u8]) -> Result<Octets, DatagramFault> {
+pub fn read_datagram(alloc: Global, digits: &[u8]) -> Result<Octets, DatagramFault>
+    ensures { IfOk result (λ o. ((digits.now ≡ codes "-") × (o ≡ [])) ⊎ (decode_of digits.now ≡ Ok o)) }
+{
     match digits {
         [] => Err(DatagramFault::Unreadable),
         b"-" => Ok(Octets::from(Vec::new(alloc))),

@@ -1,8 +1,9 @@
 //! A gateway that is played a script, line by line.
-ghost use Rattle.std.specs.Prelude.{◌≡◌, true, OnOk};
+ghost use Rattle.std.specs.Prelude.{◌≡◌, true, [], codes, Ok, IfOk, OnOk};
 ghost use Rattle.std.specs.Result.{is_err};
 ghost use Rattle.sng_scope.specs.Policies.{policy_of};
 ghost use Rattle.sng_gateway.specs.Playing.{IsPlayed};
+ghost use Rattle.sng_history.specs.Present.{opening, Leads};
 
 use crate::datagram::{DatagramFault, read_datagram};
 use crate::script::{Line, line_of};
@@ -24,6 +25,11 @@ pub enum Stop {
 }
 
 impl From<AllocError> for Stop {
+    ghost use Rattle.std.specs.Prelude.{◌≡◌};
+    ghost use Rattle.sng_gateway.specs.declared.player.Stop.TheVariants.{OutOfMemory};
+
+    ghost from_gives = { λ _ stop. stop ≡ OutOfMemory };
+
     fn from(_error: AllocError) -> Stop {
         Stop::OutOfMemory
     }
@@ -40,7 +46,9 @@ pub struct Player {
 
 impl Player {
     /// A gateway that grants nothing, with no row printed.
-    pub fn new(alloc: Global) -> Result<Player, AllocError> {
+    pub fn new(alloc: Global) -> Result<Player, AllocError>
+        ensures { IfOk result (λ player. Leads opening [] player.core) }
+    {
         Ok(Player {
             alloc,
             core: Core::new(alloc)?,
@@ -50,7 +58,13 @@ impl Player {
     }
 
     /// Plays one line, without its line feed, and prints what comes of it.
-    pub fn play<W: Write>(&mut self, line: &[u8], output: &mut W) -> Result<(), Stop> {
+    pub fn play<W: Write>(&mut self, line: &[u8], output: &mut W) -> Result<(), Stop>
+        ensures up { line.now ≡ codes "up"
+            → OnOk result (IsPlayed self.old.core Event.Up self.new.core self.new.rows self.new.text.items) }
+        ensures taken { line.now ≡ codes "take"
+            → OnOk result (IsPlayed self.old.core Event.Take self.new.core self.new.rows self.new.text.items) }
+        ensures empty { line.now ≡ [] → (result ≡ Ok tt) × (self.new.core ≡ self.old.core) }
+    {
         match line_of(line) {
             None => Err(Stop::Unreadable),
             Some(Line::Empty) => Ok(()),

@@ -1,4 +1,7 @@
 //! A reader that gives up on an input that never ends.
+ghost use Rattle.std.specs.Prelude.{◌≡◌};
+ghost use Rattle.sng_gateway.specs.declared.reader.TheConstants.{MOST_READS};
+
 use std::io::{Error, Read, Result};
 
 /// How many calls of `read` an input may need.
@@ -13,7 +16,9 @@ pub struct CountedReader<R> {
 
 impl<R: Read> CountedReader<R> {
     /// A reader with `MOST_READS` calls left.
-    pub fn new(inner: R) -> CountedReader<R> {
+    pub fn new(inner: R) -> CountedReader<R>
+        ensures { result.left ≡ MOST_READS }
+    {
         CountedReader {
             inner,
             left: MOST_READS,

@@ -1,4 +1,8 @@
 //! The lines of a script. Words are parted by one space.
+ghost use Rattle.std.specs.Prelude.{◌≡◌, ◌⊎◌, ℕ, List, ◌++◌, ◌∷◌, [], codes, Some, IsSome, IfSome};
+ghost use Rattle.sng_gateway.specs.declared.script.Line.TheVariants.{Empty, Up, Take};
+ghost use Rattle.sng_gateway.specs.Lines.{Spells};
+
 use sng_book::Address;
 use std::net::SocketAddrV4;
 use std::str;
@@ -19,7 +23,13 @@ pub enum Line<'a> {
 }
 
 /// What the line says, without the line feed at its end, or `None` where it cannot be read. Whether a datagram's digits can be read is left open.
-pub fn line_of(line: &[u8]) -> Option<Line<'_>> {
+pub fn line_of(line: &[u8]) -> Option<Line<'_>>
+    ensures read { IfSome result (λ found. Spells found line.now) }
+    ensures empty { line.now ≡ [] → result ≡ Some Empty }
+    ensures up { line.now ≡ codes "up" → result ≡ Some Up }
+    ensures taken { line.now ≡ codes "take" → result ≡ Some Take }
+    ensures policy { (text : List ℕ) → line.now ≡ codes "policy " ++ text → IsSome result }
+{
     match line {
         [] => Some(Line::Empty),
         b"up" => Some(Line::Up),
@@ -31,14 +41,19 @@ pub fn line_of(line: &[u8]) -> Option<Line<'_>> {
 }
 
 /// The line without a line feed at its end.
-pub fn trim_line_feed(line: &[u8]) -> &[u8] {
+pub fn trim_line_feed(line: &[u8]) -> &[u8]
+    ensures front { (line.now ≡ result.now) ⊎ (line.now ≡ result.now ++ 10 ∷ []) }
+    ensures trimmed { (text : List ℕ) → line.now ≡ text ++ 10 ∷ [] → result.now ≡ text }
+{
     match line {
         [text @ .., b'\n'] => text,
         _ => line,
     }
 }
 
-fn from_of(words: &[u8]) -> Option<Line<'_>> {
+fn from_of(words: &[u8]) -> Option<Line<'_>>
+    ensures { IfSome result (λ found. Spells found (codes "from " ++ words.now)) }
+{
     for (at, byte) in words.iter().enumerate() {
         if *byte == b' ' {
             let address = address_of(&words[..at])?;
