@@ -1,12 +1,10 @@
 //! What a datagram is answered, what is noted of it, and what it adds to what waits.
 ghost use Rattle.std.specs.Prelude.{◌≡◌, ◌∷◌, [], IfOk, OnOk, OnErr, Ok, None};
 ghost use Rattle.sng_frames.specs.Reading.{frame_of};
-ghost use Rattle.sng_frames.specs.Writing.{written};
 ghost use Rattle.sng_frames.specs.declared.frame.SnFrame.TheVariants as frame;
 ghost use Rattle.sng_history.specs.Present.{asked_by, asked_first, joined};
 ghost use Rattle.sng_history.specs.Judging.{source_ask, named_ask};
 ghost use Rattle.sng_history.specs.Whole.{frame_outs, publish_outs, dismissed};
-ghost use Rattle.sng_core.specs.Steps.{outs_of, next_of};
 
 use crate::Core;
 use crate::judging::name_in;

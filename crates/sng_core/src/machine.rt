@@ -1,6 +1,5 @@
 //! The present of the gateway, and one step of it.
-ghost use Rattle.std.specs.Prelude.{◌≡◌, ◌∷◌, [], IfOk, OnOk, OnErr, Ok};
-ghost use Rattle.sng_frames.specs.Reading.{frame_of};
+ghost use Rattle.std.specs.Prelude.{◌≡◌, [], IfOk, OnOk, OnErr};
 ghost use Rattle.sng_history.specs.Present.{opening, Leads};
 ghost use Rattle.sng_history.specs.Lawful.{Keeps};
 ghost use Rattle.sng_core.specs.Steps.{outs_of, next_of};
