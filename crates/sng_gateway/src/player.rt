@@ -2,6 +2,7 @@
 ghost use Rattle.std.specs.Prelude.{◌≡◌, true, [], codes, Ok, IfOk, OnOk};
 ghost use Rattle.std.specs.Result.{is_err};
 ghost use Rattle.sng_scope.specs.Policies.{policy_of};
+ghost use Rattle.sng_scope.specs.declared.policy.Policy.{Policy as policy_type};
 ghost use Rattle.sng_gateway.specs.Playing.{IsPlayed};
 ghost use Rattle.sng_history.specs.Present.{opening, Leads};
 
@@ -77,7 +78,9 @@ impl Player {
 
     /// Puts the policy of the text in force. One that is refused makes no row, and replaces nothing.
     fn replace<W: Write>(&mut self, text: &[u8], output: &mut W) -> Result<(), Stop>
-        ensures { is_err (policy_of text.now) ≡ true → self.new.core ≡ self.old.core }
+        ensures refused { is_err (policy_of text.now) ≡ true → self.new.core ≡ self.old.core }
+        ensures accepted { (policy : policy_type) → policy_of text.now ≡ Ok policy
+            → OnOk result (IsPlayed self.old.core (Event.Replace policy) self.new.core self.new.rows self.new.text.items) }
     {
         match read_policy(self.alloc, text) {
             Ok(policy) => self.step(Event::Replace(policy), output),
