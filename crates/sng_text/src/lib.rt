@@ -1,7 +1,7 @@
 //! Topic names and topic filters (MQTT 3.1.1, 4.7), and bytes that contracts see as their list.
 #![tactic(auto)]
 
-mod bytes;
+pub mod bytes;
 pub mod fault;
 pub mod filter;
 pub mod levels;
