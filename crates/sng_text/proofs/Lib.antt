@@ -1,2 +1,4 @@
 pub mod LevelLemmas
 pub mod PlaceLemmas
+pub mod Utf8Lemmas
+pub mod NameLemmas

@@ -1,7 +1,8 @@
-//! Topic names and topic filters (MQTT 3.1.1, 4.7), and bytes that contracts see as their list.
+//! Topic names and topic filters (MQTT 3.1.1, 4.7), client ids (MQTT-SN 1.2, 5.3.1), and bytes that contracts see as their list.
 #![tactic(auto)]
 
 mod bytes;
+pub mod client;
 pub mod fault;
 pub mod filter;
 pub mod levels;
@@ -11,6 +12,7 @@ pub mod octets;
 #[cfg(test)]
 mod tests;
 
+pub use client::ClientId;
 pub use fault::TextFault;
 pub use filter::TopicFilter;
 pub use levels::Levels;
