@@ -5,6 +5,7 @@ mod bytes;
 pub mod client;
 pub mod fault;
 pub mod filter;
+pub mod laws;
 pub mod levels;
 pub mod matching;
 pub mod name;
