@@ -1,2 +1,6 @@
 pub mod LevelLemmas
 pub mod PlaceLemmas
+pub mod Utf8Lemmas
+pub mod NameLemmas
+pub mod ClientIdLemmas
+pub mod SelfLemmas

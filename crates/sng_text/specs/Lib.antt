@@ -2,3 +2,5 @@ pub mod Levels
 pub mod LevelsLeft
 pub mod Texts
 pub mod Matching
+pub mod ClientIds
+pub mod Laws

@@ -1,6 +1,6 @@
 //! Tests on the bytes of a text.
-ghost use Rattle.std.specs.Prelude.{◌≡◌};
-ghost use Rattle.std.specs.Str.{is_utf8};
+ghost use Rattle.std.specs.Prelude.{◌≡◌, length, if◌then◌else◌, Some, None};
+ghost use Rattle.std.specs.Str.{is_utf8, chars};
 ghost use Rattle.sng_text.specs.Texts.{has_byte, is_plain, is_plus, is_hash, is_ordinary};
 
 use std::str;
@@ -29,6 +29,16 @@ pub fn is_utf8(text: &[u8]) -> bool
     ensures { result ≡ is_utf8 text.now }
 {
     str::from_utf8(text).is_ok()
+}
+
+/// How many characters the bytes spell, in one pass. None where they are no UTF-8.
+pub fn character_count(text: &[u8]) -> Option<usize>
+    ensures { result ≡ (if is_utf8 text.now then Some (length (chars text.now)) else None) }
+{
+    match str::from_utf8(text) {
+        Ok(text) => Some(text.chars().count()),
+        Err(_) => None,
+    }
 }
 
 /// Whether the level is `+` alone.

@@ -1,9 +1,9 @@
 //! Topic filters (MQTT 3.1.1, 4.7).
-ghost use Rattle.std.specs.Prelude.{◌≡◌, ◌⊎◌, true, Some, None, IfOk, IfErr};
+ghost use Rattle.std.specs.Prelude.{◌≡◌, ◌<◌, ◌≤◌, ◌⊎◌, true, Some, None, IfOk, IfErr, length};
 ghost use Rattle.sng_text.specs.Levels.{levels_of};
 ghost use Rattle.sng_text.specs.Texts.{is_filter, filter_fault, is_in_place};
 
-use crate::{Levels, TextFault, bytes};
+use crate::{Levels, TextFault, TopicName, bytes};
 use std::alloc::{AllocError, Global};
 use std::marker::Model;
 
@@ -34,6 +34,18 @@ impl TopicFilter {
             return Err(fault);
         }
         let text = Vec::from_slice(alloc, text).map_err(|_| TextFault::Memory)?;
+        Ok(TopicFilter { text })
+    }
+
+    /// The filter whose text is the name's: no level of a name is a wildcard. A name of more than 200 bytes is TooLong.
+    pub fn of_name(alloc: Global, name: &TopicName) -> Result<TopicFilter, TextFault>
+        ensures ok { IfOk result (λ f. (f ≡ name.now) × (length name.now ≤ 200)) }
+        ensures err { IfErr result (λ e. (e ≡ TextFault.Memory) ⊎ ((e ≡ TextFault.TooLong) × (200 < length name.now))) }
+    {
+        if name.text().len() > 200 {
+            return Err(TextFault::TooLong);
+        }
+        let text = Vec::from_slice(alloc, name.text()).map_err(|_| TextFault::Memory)?;
         Ok(TopicFilter { text })
     }
 

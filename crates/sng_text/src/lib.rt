@@ -1,9 +1,11 @@
-//! Topic names and topic filters (MQTT 3.1.1, 4.7), and bytes that contracts see as their list.
+//! Topic names and topic filters (MQTT 3.1.1, 4.7), client ids (MQTT-SN 1.2, 5.3.1), and bytes that contracts see as their list.
 #![tactic(auto)]
 
 pub mod bytes;
+pub mod client;
 pub mod fault;
 pub mod filter;
+pub mod laws;
 pub mod levels;
 pub mod matching;
 pub mod name;
@@ -11,6 +13,7 @@ pub mod octets;
 #[cfg(test)]
 mod tests;
 
+pub use client::ClientId;
 pub use fault::TextFault;
 pub use filter::TopicFilter;
 pub use levels::Levels;

@@ -1,0 +1,77 @@
+//! Client ids (MQTT-SN 1.2, 5.3.1).
+ghost use Rattle.std.specs.Prelude.{◌≡◌, ◌⊎◌, true, Some, None, IfOk, IfErr};
+ghost use Rattle.sng_text.specs.ClientIds.{is_client_id, client_id_fault};
+
+use crate::{TextFault, bytes};
+use std::alloc::{AllocError, Global};
+use std::marker::Model;
+
+/// The most characters of a client id.
+const MOST_CHARACTERS: usize = 23;
+
+/// A client id: 1 to 23 characters (Unicode scalar values) of UTF-8 without U+0000, of at most 92 bytes then. Contracts see its text.
+#[derive(Debug, Drop)]
+pub struct ClientId {
+    text: Vec<u8>,
+}
+
+impl Model for ClientId {
+    ghost use Rattle.std.specs.Prelude.{◌≡◌, true, List, ℕ};
+    ghost use Rattle.sng_text.specs.ClientIds.{is_client_id};
+
+    ghost Value = { List ℕ };
+
+    ghost view = { λ i. i.text.items };
+
+    ghost invariant = { λ i. is_client_id i.text.items ≡ true };
+}
+
+impl ClientId {
+    /// The client id that the bytes are, or the first of their faults: Empty, NotUtf8, Null, TooLong, Memory.
+    pub fn read(alloc: Global, text: &[u8]) -> Result<ClientId, TextFault>
+        ensures ok { IfOk result (λ i. (i ≡ text.now) × (client_id_fault text.now ≡ None)) }
+        ensures err { IfErr result (λ f. (f ≡ TextFault.Memory) ⊎ (client_id_fault text.now ≡ Some f)) }
+    {
+        if let Some(fault) = client_id_fault(text) {
+            return Err(fault);
+        }
+        let text = Vec::from_slice(alloc, text).map_err(|_| TextFault::Memory)?;
+        Ok(ClientId { text })
+    }
+
+    /// The client id's bytes.
+    pub fn text(&self) -> &[u8]
+        ensures value { result.now ≡ self.now }
+        ensures client_id { is_client_id self.now ≡ true }
+    {
+        self.text.as_slice()
+    }
+
+    /// An equal client id, in memory of its own. Only memory can fail.
+    pub fn copy(&self) -> Result<ClientId, AllocError>
+        ensures { IfOk result (λ i. i ≡ self.now) }
+    {
+        let text = self.text.clone()?;
+        Ok(ClientId { text })
+    }
+}
+
+fn client_id_fault(text: &[u8]) -> Option<TextFault>
+    ensures { result ≡ client_id_fault text.now }
+{
+    if text.is_empty() {
+        return Some(TextFault::Empty);
+    }
+    match bytes::character_count(text) {
+        None => Some(TextFault::NotUtf8),
+        Some(count) => {
+            if bytes::has_byte(0, text) {
+                Some(TextFault::Null)
+            } else if count > MOST_CHARACTERS {
+                Some(TextFault::TooLong)
+            } else {
+                None
+            }
+        }
+    }
+}
