@@ -2,7 +2,8 @@
 """end_to_end.py
 
 Runs each script of tests/scripts through `sng play` and compares its whole output and exit status with those that stand beside it
-(NAME.expected; NAME.status, where it is not 0), and tries a command line that is none. Uses the proved program where one lies in
+(NAME.expected; NAME.status, where it is not 0), asks `sng cover` each line of tests/cover.table, gives it words that are no filters,
+and tries a command line that is none. Uses the proved program where one lies in
 crates/sng/out that is newer than every source. Else the toolchain's build without proof runs them, which compares the output of
 all of them in one go, and the status of those that do not end with 0."""
 import glob
@@ -38,6 +39,15 @@ def cases():
     for path in sorted(glob.glob(os.path.join(HERE, 'scripts', '*.script'))):
         stem = path[:-len('.script')]
         yield os.path.basename(stem), ['play'], read(path), int(read(stem + '.status', b'0')), read(stem + '.expected')
+    for number, line in enumerate(read(os.path.join(HERE, 'cover.table')).decode().splitlines(), 1):
+        if not line.startswith('#'):
+            status, printed, words = line.split('|')
+            yield 'cover.table:%d' % number, ['cover'] + words.split(' '), b'', int(status), printed.encode() + b'\n'
+    for name, word in (('empty', b''), ('of-201-bytes', b'a' * 201), ('not-utf8', b'a/\xff')):
+        yield 'cover-a-filter-' + name, ['cover', 'a', word, '#'], b'', 1, b'bad filter 2\n'
+    yield 'cover-a-name-with-a-space', ['cover', 'a b/%'], b'', 1, b'uncovered a%20b/%25\n'
+    yield 'cover-a-filter-after-the-escape', ['cover', '--', '-x/+', '-x/a'], b'', 1, b'uncovered -x/x\n'
+    yield 'cover-nothing', ['cover'], b'', 2, b''
     yield 'no-such-command', ['nonsense'], b'', 2, b''
 
 

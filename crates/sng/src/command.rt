@@ -3,15 +3,18 @@ ghost use Rattle.std.specs.Prelude.{◌≡◌, ◌≢◌, true};
 ghost use Rattle.clap.specs.Values.{kind_of};
 ghost use Rattle.clap.specs.declared.error.ErrorKind.TheVariants.{DisplayHelp, DisplayVersion};
 
-use clap::{Command, Error};
+use clap::{Arg, ArgAction, Command, Error};
 use sng_gateway::Status;
-use std::alloc::Global;
+use sng_text::Octets;
+use std::alloc::{AllocError, Global};
 
 /// What the command line asks for.
 #[derive(Clone, Copy, Debug, PartialEq, Eq)]
 pub enum Chosen {
     /// Plays a script from standard input.
     Play,
+    /// Answers whether a filter is covered by granted ones.
+    Cover,
 }
 
 /// What the words ask for, of which the first is the program's name. An `Err` is what is wrong with them, or the help that they ask for.
@@ -20,9 +23,39 @@ pub fn read_command(alloc: Global, words: &[String]) -> Result<Chosen, Error> {
     let command = Command::new(alloc, "sng")
         .about("A gateway from MQTT-SN 1.2 to MQTT 3.1.1")
         .subcommand_required(true)
-        .subcommand(play)?;
-    command.try_get_matches_from(words)?;
-    Ok(Chosen::Play)
+        .subcommand(play)?
+        .subcommand(cover_command(alloc)?)?;
+    let matches = command.try_get_matches_from(words)?;
+    match matches.subcommand_name() {
+        Some("cover") => Ok(Chosen::Cover),
+        _ => Ok(Chosen::Play),
+    }
+}
+
+fn cover_command<'a>(alloc: Global) -> Result<Command<'a>, AllocError> {
+    let filter = Arg::new(alloc, "FILTER")
+        .help("The topic filter that is asked for")
+        .required(true)
+        .action(ArgAction::Set);
+    let granted = Arg::new(alloc, "GRANTED")
+        .help("The topic filters that are granted")
+        .num_args(0..)
+        .action(ArgAction::Append);
+    Command::new(alloc, "cover")
+        .about("Tells whether a topic filter matches only names that granted ones match")
+        .arg(filter)?
+        .arg(granted)
+}
+
+/// The filters among the words of `sng cover ..`, as they came: all but the first two, and but the first `--`, after which a word
+/// that begins with a dash is a filter too.
+pub fn filters_among(mut words: Vec<Octets>) -> Vec<Octets> {
+    let escape = words.iter().position(|word| word.as_slice() == b"--".as_slice());
+    if let Some(place) = escape {
+        words.remove(place);
+    }
+    words.drain(..2);
+    words
 }
 
 /// The exit status of a command line that starts nothing: 0 for help that was printed, 2 for a fault, 4 where help could not be printed.

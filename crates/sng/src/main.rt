@@ -2,33 +2,41 @@
 #![tactic(auto)]
 
 mod command;
+mod words;
 
 use clap::Error;
 use clap::error::ErrorKind;
-use command::{Chosen, exit_status, read_command};
+use command::{Chosen, exit_status, filters_among, read_command};
 use sng_gateway::Status;
+use sng_gateway::covering::cover_words;
 use sng_gateway::play::play;
+use sng_text::Octets;
+use std::alloc::AllocError;
+use std::io;
 use std::process::ExitCode;
 use std::rt::Env;
-use std::{env, io};
+use words::{texts, words};
 
 fn main(rt: HostRuntime) -> ExitCode {
-    let code = match words(&rt) {
-        Ok(words) => match read_command(rt.alloc(), words.as_slice()) {
+    let code = match read_words(&rt) {
+        Ok((words, texts)) => match read_command(rt.alloc(), texts.as_slice()) {
             Ok(Chosen::Play) => play(rt.alloc(), rt.reader(), io::writer(&rt)).code(),
+            Ok(Chosen::Cover) => {
+                let filters = filters_among(words);
+                cover_words(rt.alloc(), filters.as_slice(), io::writer(&rt)).code()
+            }
             Err(error) => report(&rt, &error),
         },
-        Err(error) => match error.kind() {
-            io::ErrorKind::OutOfMemory => out_of_memory(&rt),
-            _ => Status::Failed.code(),
-        },
+        Err(AllocError) => out_of_memory(&rt),
     };
     ExitCode::from(code)
 }
 
-/// The words of the command line.
-fn words<R: Env + AllocGlobal>(rt: &R) -> io::Result<Vec<String>> {
-    Ok(env::args(rt)?.collect(rt.alloc())?)
+/// The words of the command line, as they came and as texts.
+fn read_words<R: Env + AllocGlobal>(rt: &R) -> Result<(Vec<Octets>, Vec<String>), AllocError> {
+    let words = words(rt)?;
+    let texts = texts(rt.alloc(), words.as_slice())?;
+    Ok((words, texts))
 }
 
 /// Prints help that was asked for on standard output, or what is wrong with the command line on standard error. Gives the exit status.

@@ -10,6 +10,8 @@ pub mod laws;
 mod marks;
 mod reach;
 mod runs;
+#[cfg(test)]
+mod tests;
 
 pub use answer::Cover;
 pub use inclusion::{cover, shows_gap};

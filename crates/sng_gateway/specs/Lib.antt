@@ -1,3 +1,4 @@
 pub mod Statuses
 pub mod Playing
 pub mod Lines
+pub mod Covers

@@ -1,6 +1,7 @@
-//! The gateway as it is run: from scripts of events, one a line.
+//! The gateway as it is run: from scripts of events, one a line. Beside it, answers on inclusion for whoever writes policies.
 #![tactic(auto)]
 
+pub mod covering;
 mod datagram;
 pub mod play;
 mod player;

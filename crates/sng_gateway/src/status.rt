@@ -7,7 +7,9 @@ ghost use Rattle.sng_gateway.specs.Statuses.{code_of};
 pub enum Status {
     /// All of it was done.
     Done,
-    /// A line of the input could not be read.
+    /// A filter that was asked for is not covered.
+    Uncovered,
+    /// A line or a word of the input could not be read.
     Unreadable,
     /// A growth was refused.
     OutOfMemory,
@@ -16,12 +18,13 @@ pub enum Status {
 }
 
 impl Status {
-    /// The exit status: 0 for `Done`, 1 for `Unreadable`, 3 for `OutOfMemory`, 4 for `Failed`.
+    /// The exit status: 0 for `Done`, 1 for `Uncovered` and `Unreadable`, 3 for `OutOfMemory`, 4 for `Failed`.
     pub fn code(self) -> u8
         ensures { result ≡ code_of self }
     {
         match self {
             Status::Done => 0,
+            Status::Uncovered => 1,
             Status::Unreadable => 1,
             Status::OutOfMemory => 3,
             Status::Failed => 4,
