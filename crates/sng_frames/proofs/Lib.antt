@@ -1,3 +1,3 @@
-pub mod Spelling
 pub mod FlagBits
-pub mod Parsing
+pub mod TypeOctets
+pub mod PartReading
