@@ -1,3 +1,5 @@
 pub mod FlagBits
 pub mod TypeOctets
 pub mod PartReading
+pub mod FrameReading
+pub mod Parsing
