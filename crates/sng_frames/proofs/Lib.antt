@@ -3,3 +3,5 @@ pub mod TypeOctets
 pub mod PartReading
 pub mod FrameReading
 pub mod Parsing
+pub mod PartWriting
+pub mod Spelling
