@@ -5,3 +5,4 @@ pub mod FrameReading
 pub mod Parsing
 pub mod PartWriting
 pub mod Spelling
+pub mod Faults
