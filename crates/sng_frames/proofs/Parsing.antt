@@ -81,17 +81,17 @@ kind-says b kind part (Some t) are message type = typed-says b kind part t (part
 message_of-says : (b : List ℕ) (kind : ℕ) (part : List ℕ) → AreOctets part → SpellsMessage kind part b → Says b (message_of kind part)
 message_of-says b kind part are message =
     chosen (Says b) (is_discovery kind part) (Err NotSupported) (or_malformed (option_and_then (λ t. part_read t part) (type_of_octet kind)))
-      (λ is. inl (record { kind = kind; part = part; is = IsDiscovery-is kind part is; message = message }))
-      (λ is. kind-says b kind part (type_of_octet kind) are message refl)
+    (λ is. inl (record { kind = kind; part = part; is = IsDiscovery-is kind part is; message = message }))
+    (λ is. kind-says b kind part (type_of_octet kind) are message refl)
 
 behind_length-says : (b : List ℕ) (told size kind : ℕ) (part : List ℕ) → AreOctets part
     → (told ≡ size → SpellsMessage kind part b) → (kind ≡ 254 → IsUnsupported b) → Says b (behind_length told size (kind ∷ part))
 behind_length-says b told size kind part are message encapsulated =
     chosen (Says b) (kind == 254) (Err NotSupported) (if told == size then message_of kind part else Err Malformed)
-      (λ is. encapsulated (eqb-true kind 254 is))
-      (λ is. chosen (Says b) (told == size) (message_of kind part) (Err Malformed)
-        (λ right. message_of-says b kind part are (message (eqb-true told size right)))
-        (λ wrong. tt))
+    (λ is. encapsulated (eqb-true kind 254 is))
+    (λ is. chosen (Says b) (told == size) (message_of kind part) (Err Malformed)
+    (λ right. message_of-says b kind part are (message (eqb-true told size right)))
+    (λ wrong. tt))
 
 tail : (octet : ℕ) (octets : List ℕ) → AreOctets (octet ∷ octets) → AreOctets octets
 tail octet octets are = All-tail (λ n. n < 256) octet octets are
@@ -102,16 +102,16 @@ short-says first [] are other = tt
 short-says first (kind ∷ part) are other =
     let low : first < 256 = are 0 0 (omega arith) in
     behind_length-says (first ∷ kind ∷ part) first (length (first ∷ kind ∷ part)) kind part (tail kind part (tail first (kind ∷ part) are))
-      (λ told. inl (record {
-        octets = (let counted : first ≡ length part + 2 = omega (arith, told) in ap (λ n. n ∷ kind ∷ part) counted);
-        fits = omega (arith, told, low);
-      }))
-      (λ is. inr (inl (record {
-        first = first;
-        rest = part;
-        short = grind (arith, nat_tests, other);
-        octets = ap (λ k. first ∷ k ∷ part) is;
-      })))
+    (λ told. inl (record {
+      octets = (let counted : first ≡ length part + 2 = omega (arith, told) in ap (λ n. n ∷ kind ∷ part) counted);
+      fits = omega (arith, told, low);
+    }))
+    (λ is. inr (inl (record {
+      first = first;
+      rest = part;
+      short = grind (arith, nat_tests, other);
+      octets = ap (λ k. first ∷ k ∷ part) is;
+    })))
 
 long-says : (octets : List ℕ) → AreOctets (1 ∷ octets) → Says (1 ∷ octets) (behind_one (length (1 ∷ octets)) octets)
 long-says [] are = tt
@@ -119,27 +119,27 @@ long-says (high ∷ []) are = tt
 long-says (high ∷ low ∷ []) are = tt
 long-says (high ∷ low ∷ kind ∷ part) are =
     behind_length-says (1 ∷ high ∷ low ∷ kind ∷ part) (number high low) (length (1 ∷ high ∷ low ∷ kind ∷ part)) kind part
-      (tail kind part (tail low (kind ∷ part) (tail high (low ∷ kind ∷ part) (tail 1 (high ∷ low ∷ kind ∷ part) are))))
-      (λ told. inr (record {
-        high = high;
-        low = low;
-        total = record {
-          high_fits = are 1 0 (omega arith);
-          low_fits = are 2 0 (omega arith);
-          value = omega (arith, told);
-        };
-        octets = refl;
-      }))
-      (λ is. inr (inr (record { high = high; low = low; rest = part; octets = ap (λ k. 1 ∷ high ∷ low ∷ k ∷ part) is })))
+    (tail kind part (tail low (kind ∷ part) (tail high (low ∷ kind ∷ part) (tail 1 (high ∷ low ∷ kind ∷ part) are))))
+    (λ told. inr (record {
+      high = high;
+      low = low;
+      total = record {
+        high_fits = are 1 0 (omega arith);
+        low_fits = are 2 0 (omega arith);
+        value = omega (arith, told);
+      };
+      octets = refl;
+    }))
+    (λ is. inr (inr (record { high = high; low = low; rest = part; octets = ap (λ k. 1 ∷ high ∷ low ∷ k ∷ part) is })))
 
 -- what the octets of a datagram are read as says what they spell
 pub octets_read-says : (b : List ℕ) → AreOctets b → Says b (octets_read (length b) b)
 octets_read-says [] are = tt
 octets_read-says (first ∷ octets) are =
     chosen (Says (first ∷ octets)) (first == 1) (behind_one (length (first ∷ octets)) octets) (behind_length first (length (first ∷ octets)) octets)
-      (λ one. (let is : first ≡ 1 = eqb-true first 1 one in
-          subst (λ n. Says (n ∷ octets) (behind_one (length (first ∷ octets)) octets)) (sym is) (long-says octets (subst (λ n. AreOctets (n ∷ octets)) is are))))
-      (λ other. short-says first octets are other)
+    (λ one. (let is : first ≡ 1 = eqb-true first 1 one in
+    subst (λ n. Says (n ∷ octets) (behind_one (length (first ∷ octets)) octets)) (sym is) (long-says octets (subst (λ n. AreOctets (n ∷ octets)) is are))))
+    (λ other. short-says first octets are other)
 
 -- a message is read by its type and its variable part
 octets_read-message : (kind : ℕ) (part b : List ℕ) → SpellsMessage kind part b → (kind == 254) ≡ false → octets_read (length b) b ≡ message_of kind part

@@ -53,7 +53,7 @@ Spells-spelled frame b s =
       part = part_of frame;
       variable = subst (SpellsPart frame) only s.variable;
       message = SpellsMessage-framed (octet_of (type_of frame)) (part_of frame)
-        (subst (λ part. length part + 4 < 2 ^ 16) only (message-length (octet_of (type_of frame)) s.part b s.message));
+          (subst (λ part. length part + 4 < 2 ^ 16) only (message-length (octet_of (type_of frame)) s.part b s.message));
     }
 
 -- every other spelling is longer
@@ -70,7 +70,7 @@ framed-shortest kind part b (inr s) =
 pub written-shortest : (frame : SnFrame) (b : List ℕ) → Spells frame b → (b ≡ written frame) ⊎ (length (written frame) < length b)
 written-shortest frame b s =
     subst (λ part. (b ≡ framed (octet_of (type_of frame)) part) ⊎ (length (framed (octet_of (type_of frame)) part) < length b))
-      (part_of-only frame s.part s.variable) (framed-shortest (octet_of (type_of frame)) s.part b s.message)
+    (part_of-only frame s.part s.variable) (framed-shortest (octet_of (type_of frame)) s.part b s.message)
 
 -- a frame whose topic does not fit has no spelling
 pub none-spelled : (frame : SnFrame) → length (written frame) ≤ 2048 → (TopicFits frame → ⊥) → HasNoSpelling frame

@@ -13,7 +13,9 @@ pub mod writing;
 
 pub use fault::FrameFault;
 pub use flags::{Flags, Qos, TopicIdType};
-pub use frame::{Connect, Publish, Register, SnFrame, SubscribeAck, TopicAck, TopicRequest, WillTopic};
+pub use frame::{
+    Connect, Publish, Register, SnFrame, SubscribeAck, TopicAck, TopicRequest, WillTopic,
+};
 pub use message_type::MessageType;
 pub use reading::decode;
 pub use return_code::ReturnCode;

@@ -21,7 +21,11 @@ pub fn number(high: u8, low: u8) -> u16
 pub fn nothing(part: &[u8]) -> Result<(), FrameFault>
     ensures { result ≡ or_malformed (nothing_of part.now) }
 {
-    if part.is_empty() { Ok(()) } else { Err(FrameFault::Malformed) }
+    if part.is_empty() {
+        Ok(())
+    } else {
+        Err(FrameFault::Malformed)
+    }
 }
 
 /// A ReturnCode.

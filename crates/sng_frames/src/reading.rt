@@ -94,11 +94,7 @@ fn is_discovery(kind: u8, part: &[u8]) -> bool
 }
 
 /// The variable part of a message of that type.
-fn read_part(
-    alloc: Global,
-    message_type: MessageType,
-    part: &[u8],
-) -> Result<SnFrame, FrameFault>
+fn read_part(alloc: Global, message_type: MessageType, part: &[u8]) -> Result<SnFrame, FrameFault>
     ensures { Reads result (part_read message_type part.now) }
 {
     match message_type {
@@ -131,9 +127,13 @@ fn read_part(
             Ok(SnFrame::PingResponse)
         }
         MessageType::Disconnect => Ok(SnFrame::Disconnect(parts::duration(part)?)),
-        MessageType::WillTopicUpdate => Ok(SnFrame::WillTopicUpdate(parts::will_topic(alloc, part)?)),
+        MessageType::WillTopicUpdate => Ok(SnFrame::WillTopicUpdate(parts::will_topic(
+            alloc, part,
+        )?)),
         MessageType::WillTopicResponse => Ok(SnFrame::WillTopicResponse(parts::code(part)?)),
-        MessageType::WillMessageUpdate => Ok(SnFrame::WillMessageUpdate(parts::octets(alloc, part)?)),
+        MessageType::WillMessageUpdate => Ok(SnFrame::WillMessageUpdate(parts::octets(
+            alloc, part,
+        )?)),
         MessageType::WillMessageResponse => Ok(SnFrame::WillMessageResponse(parts::code(part)?)),
     }
 }

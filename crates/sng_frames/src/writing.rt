@@ -141,11 +141,7 @@ fn write_register(alloc: Global, register: &Register) -> Result<Vec<u8>, FrameFa
     )
 }
 
-fn write_topic_ack(
-    alloc: Global,
-    kind: MessageType,
-    ack: &TopicAck,
-) -> Result<Vec<u8>, FrameFault>
+fn write_topic_ack(alloc: Global, kind: MessageType, ack: &TopicAck) -> Result<Vec<u8>, FrameFault>
     ensures answer { Writes result (framed (octet_of kind) (topic_ack_part ack.now)) }
     ensures in_range { (ack.now.topic_id < 2 ^ 16) × (ack.now.msg_id < 2 ^ 16) }
 {
@@ -221,12 +217,7 @@ fn write_subscribe_ack(alloc: Global, ack: &SubscribeAck) -> Result<Vec<u8>, Fra
 }
 
 /// A frame of that type, whose variable part is the two slices one after the other, in one allocation.
-fn join(
-    alloc: Global,
-    kind: MessageType,
-    head: &[u8],
-    tail: &[u8],
-) -> Result<Vec<u8>, FrameFault>
+fn join(alloc: Global, kind: MessageType, head: &[u8], tail: &[u8]) -> Result<Vec<u8>, FrameFault>
     requires { length head.now ≤ 6 }
     ensures { Writes result (framed (octet_of kind) (head.now ++ tail.now)) }
 {
@@ -238,21 +229,11 @@ fn join(
         return fill(alloc, &[(size + 2) as u8, kind.octet()], head, tail);
     }
     let size = (size + 4) as u16;
-    fill(
-        alloc,
-        &[1, high(size), low(size), kind.octet()],
-        head,
-        tail,
-    )
+    fill(alloc, &[1, high(size), low(size), kind.octet()], head, tail)
 }
 
 /// The three slices, one after the other.
-fn fill(
-    alloc: Global,
-    front: &[u8],
-    head: &[u8],
-    tail: &[u8],
-) -> Result<Vec<u8>, FrameFault>
+fn fill(alloc: Global, front: &[u8], head: &[u8], tail: &[u8]) -> Result<Vec<u8>, FrameFault>
     requires { length front.now + length head.now + length tail.now ≤ 2048 }
     ensures ok { IfOk result (λ v. v.items ≡ front.now ++ head.now ++ tail.now) }
     ensures err { IfErr result (λ e. e ≡ FrameFault.Memory) }

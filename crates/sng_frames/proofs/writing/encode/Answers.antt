@@ -15,5 +15,5 @@ not_malformed (Err fault) octets (inr refused) is = (let other = refused.0 in cc
 pub returns-clause-malformed : goal.returns-clause-malformed
 returns-clause-malformed c = (
   λ is. absurd (not_malformed _ _ c.write_frame.ensures.answer is),
-  λ lacks. absurd (some-spelled c.args.frame.now c.write_frame.ensures.in_range (c.in_ok-check_topic.ensures).ok lacks)
+  λ lacks. absurd (some-spelled c.args.frame.now c.write_frame.ensures.in_range (c.in_ok-check_topic.ensures).ok lacks),
 )
