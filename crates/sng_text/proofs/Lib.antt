@@ -2,3 +2,5 @@ pub mod LevelLemmas
 pub mod PlaceLemmas
 pub mod Utf8Lemmas
 pub mod NameLemmas
+pub mod ClientIdLemmas
+pub mod SelfLemmas

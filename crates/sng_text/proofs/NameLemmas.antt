@@ -31,3 +31,6 @@ all_plain-levels_of (b ∷ text) is = grind (arith, common_steps, all_plain-leve
 -- a name of at most 200 bytes is a filter
 pub name-filter : (text : List ℕ) → is_name text ≡ true → length text ≤ 200 → filter_fault text ≡ None
 name-filter text is short = grind (arith, common_steps, all_plain-levels_of text, all_plain-in_place (levels_of text))
+
+pub name-plain : (text : List ℕ) → is_name text ≡ true → is_plain text ≡ true
+name-plain text is = grind (arith, common_steps)

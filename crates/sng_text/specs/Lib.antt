@@ -3,3 +3,4 @@ pub mod LevelsLeft
 pub mod Texts
 pub mod Matching
 pub mod ClientIds
+pub mod Laws

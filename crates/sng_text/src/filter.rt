@@ -42,11 +42,10 @@ impl TopicFilter {
         ensures ok { IfOk result (λ f. (f ≡ name.now) × (length name.now ≤ 200)) }
         ensures err { IfErr result (λ e. (e ≡ TextFault.Memory) ⊎ ((e ≡ TextFault.TooLong) × (200 < length name.now))) }
     {
-        let text = name.text();
-        if text.len() > 200 {
+        if name.text().len() > 200 {
             return Err(TextFault::TooLong);
         }
-        let text = Vec::from_slice(alloc, text).map_err(|_| TextFault::Memory)?;
+        let text = Vec::from_slice(alloc, name.text()).map_err(|_| TextFault::Memory)?;
         Ok(TopicFilter { text })
     }
 

@@ -1,10 +1,11 @@
 //! Topic names and topic filters (MQTT 3.1.1, 4.7), client ids (MQTT-SN 1.2, 5.3.1), and bytes that contracts see as their list.
 #![tactic(auto)]
 
-mod bytes;
+pub mod bytes;
 pub mod client;
 pub mod fault;
 pub mod filter;
+pub mod laws;
 pub mod levels;
 pub mod matching;
 pub mod name;

@@ -18,7 +18,7 @@ pub fn matches(filter: &TopicFilter, name: &TopicName) -> bool
 }
 
 /// Whether the filter's first level is a wildcard.
-fn begins_wild(filter: &[u8]) -> bool
+pub fn begins_wild(filter: &[u8]) -> bool
     ensures { result ≡ begins_wild (items_of (levels_of filter.now)) (has_rest (levels_of filter.now)) }
 {
     match Levels::of(filter).next() {
@@ -28,7 +28,7 @@ fn begins_wild(filter: &[u8]) -> bool
 }
 
 /// Whether the name begins with `$`.
-fn is_reserved(name: &[u8]) -> bool
+pub fn is_reserved(name: &[u8]) -> bool
     ensures { result ≡ is_reserved name.now }
 {
     match name {

@@ -36,6 +36,14 @@ impl TopicName {
         Ok(TopicName { text })
     }
 
+    /// The name with this text, which the caller has shown to be one. Takes no memory.
+    pub fn of_text(text: Vec<u8>) -> TopicName
+        requires { is_name text.items ≡ true }
+        ensures { result ≡ text.items }
+    {
+        TopicName { text }
+    }
+
     /// The name's bytes.
     pub fn text(&self) -> &[u8]
         ensures value { result.now ≡ self.now }

@@ -1,5 +1,5 @@
-//! Names, filters and matching against the examples of MQTT 3.1.1, 4.7.
-use crate::{Levels, Octets, TextFault, TopicFilter, TopicName, matches};
+//! Names, filters and matching against the examples of MQTT 3.1.1, 4.7; client ids at the bounds of MQTT-SN 1.2, 5.3.1.
+use crate::{ClientId, Levels, Octets, TextFault, TopicFilter, TopicName, matches};
 use std::test::Fail;
 
 #[test]
@@ -92,6 +92,56 @@ fn first_faults_of_filters(rt: HostRuntime) {
     }
     let long = TopicFilter::read(rt.alloc(), [0xff; 201].as_slice());
     assert_eq!(rt; long.err(), Some(TextFault::TooLong));
+}
+
+#[test]
+fn filters_of_names(rt: HostRuntime) -> Result<(), Fail> {
+    let name = TopicName::read(rt.alloc(), b"t/1")?;
+    let filter = TopicFilter::of_name(rt.alloc(), &name)?;
+    assert_eq!(rt; filter.text(), b"t/1".as_slice());
+    assert_eq!(rt; filter.copy()?.text(), b"t/1".as_slice());
+    let longest = TopicName::read(rt.alloc(), [b'a'; 200].as_slice())?;
+    let filter = TopicFilter::of_name(rt.alloc(), &longest)?;
+    assert_eq!(rt; filter.text(), [b'a'; 200].as_slice());
+    let longer = TopicName::read(rt.alloc(), [b'a'; 201].as_slice())?;
+    let refused = TopicFilter::of_name(rt.alloc(), &longer);
+    assert_eq!(rt; refused.err(), Some(TextFault::TooLong));
+    Ok(())
+}
+
+#[test]
+fn texts_that_are_client_ids(rt: HostRuntime) -> Result<(), Fail> {
+    for text in [
+        "s1".as_bytes(),
+        "+/a/#".as_bytes(),
+        "abcdefghijklmnopqrstuvw".as_bytes(),
+        "ééééééééééééééééééééééé".as_bytes(),
+        "😀😀😀😀😀😀😀😀😀😀😀😀😀😀😀😀😀😀😀😀😀😀😀".as_bytes(),
+    ] {
+        let id = ClientId::read(rt.alloc(), text)?;
+        assert_eq!(rt; id.text(), text);
+        assert_eq!(rt; id.copy()?.text(), text);
+    }
+    Ok(())
+}
+
+#[test]
+fn first_faults_of_client_ids(rt: HostRuntime) {
+    for (text, want) in [
+        (b"".as_slice(), TextFault::Empty),
+        (b"a\xff", TextFault::NotUtf8),
+        (b"\x00\xff", TextFault::NotUtf8),
+        (b"abcdefghijklmnopqrstuvwx\xff", TextFault::NotUtf8),
+        (b"a\x00", TextFault::Null),
+        (b"abcdefghijklmnopqrstuvwx\x00", TextFault::Null),
+        (b"abcdefghijklmnopqrstuvwx", TextFault::TooLong),
+        ("😀😀😀😀😀😀😀😀😀😀😀😀😀😀😀😀😀😀😀😀😀😀😀😀".as_bytes(), TextFault::TooLong),
+    ] {
+        match ClientId::read(rt.alloc(), text) {
+            Ok(_) => assert!(rt; false, "{text:?} is no client id"),
+            Err(fault) => assert_eq!(rt; fault, want, "at {text:?}"),
+        }
+    }
 }
 
 #[test]

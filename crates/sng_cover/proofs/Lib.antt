@@ -1,0 +1,12 @@
+pub mod Least
+pub mod Joining
+pub mod Short
+pub mod Filters
+pub mod Fresh
+pub mod Matched
+pub mod Swapped
+pub mod Reserved
+pub mod Named
+pub mod Opened
+pub mod Right
+pub mod Answered

@@ -1,0 +1,11 @@
+use Rattle.std.proofs.Common.{◌≡◌, ◌+◌, length}
+use Rattle.sng_cover.specs.Candidates.{joined, further}
+use Rattle.sng_cover.specs.Left.{levels_left}
+use Rattle.sng_cover.proofs.gap.size_of.Given as goal
+
+abbrev pub invariant-loop-level : goal.invariant-loop-level
+invariant-loop-level l = record {
+  can_next : (goal.iterator-loop-level).can_next l.level-iterator;
+  is_finite : (goal.iterator-loop-level).is_finite l.level-iterator;
+  left : l.size + length (further (levels_left l.level-iterator)) ≡ length (joined (levels_left l.fn.levels));
+}

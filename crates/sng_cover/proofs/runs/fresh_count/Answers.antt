@@ -1,0 +1,26 @@
+use Rattle.std.proofs.Common.{ℕ, ◌≡◌, ◌<◌, ◌≤◌, true, false, not, List, sym, ap, ◌∙◌, arith}
+use Rattle.sng_cover.specs.Candidates.{run, run_of, is_taken, fresh_level}
+use Rattle.std.proofs.lemmas.Bool.{not_from_true, not_from_false}
+use Rattle.sng_cover.proofs.Least.{least_found, least_never}
+use Rattle.sng_cover.proofs.runs.fresh_count.Goals as goal
+
+found : (granted : List (List ℕ)) (count : ℕ) → 1 ≤ count → count < 201 → is_taken granted (run count) ≡ false → ((less : ℕ) → 1 ≤ less → less < count → is_taken granted (run less) ≡ true)
+    → run count ≡ fresh_level granted
+found granted count some below new taken =
+    sym (ap run_of (least_found (λ (number : ℕ). not (is_taken granted (run number))) 200 1 count some (omega arith) (not_from_false (is_taken granted (run count)) new)
+    (λ less from under. not_from_true (is_taken granted (run less)) (taken less from under))))
+
+never : (granted : List (List ℕ)) → ((less : ℕ) → 1 ≤ less → less < 201 → is_taken granted (run less) ≡ true) → run 201 ≡ fresh_level granted
+never granted taken =
+    sym (ap run_of (least_never (λ (number : ℕ). not (is_taken granted (run number))) 200 1
+    (λ less from under. not_from_true (is_taken granted (run less)) (taken less from (omega arith)))))
+
+pub returns-then-not-has-clause-value : goal.returns-then-not-has-clause-value
+returns-then-not-has-clause-value c =
+    let new : is_taken c.args.granted.now (run c.loop-count.count) ≡ false = sym (c.runs_in-runs.ensures c.loop-count.count) ∙ (sym c.has.ensures ∙ c.if-not-has.true) in
+    found c.args.granted.now c.loop-count.count c.loop-count.auto.count c.loop-count-test.true new c.loop-count.invariant
+
+pub returns-clause-value : goal.returns-clause-value
+returns-clause-value c =
+    let past : 201 ≤ c.loop-count.count = c.loop-count-test.false in
+    never c.args.granted.now (λ less from under. c.loop-count.invariant less from (omega arith))

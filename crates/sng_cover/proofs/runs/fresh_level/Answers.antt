@@ -1,0 +1,6 @@
+use Rattle.std.proofs.Common.{◌∙◌}
+use Rattle.sng_cover.proofs.Fresh.{take_run}
+use Rattle.sng_cover.proofs.runs.fresh_level.Goals as goal
+
+pub returns : goal.returns
+returns c = take_run c.fresh_count.result 201 c.fresh_count.ensures.few ∙ c.fresh_count.ensures.value

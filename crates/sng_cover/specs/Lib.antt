@@ -1,0 +1,9 @@
+pub mod Inclusion
+pub mod Search
+pub mod Candidates
+pub mod Covering
+pub mod Gaps
+pub mod Reaches
+pub mod Marks
+pub mod Left
+pub mod Reached

@@ -1,0 +1,125 @@
+//! The least depth with a candidate that no granted filter matches (MQTT 3.1.1, 4.7).
+ghost use Rattle.std.specs.Prelude.{ℕ, ◌≡◌, ◌+◌, ◌==◌, ◌<◌, ◌&&◌, ◌||◌, not, max, true, false, IfSome};
+ghost use Rattle.std.specs.List.{All};
+ghost use Rattle.sng_text.specs.Texts.{is_filter, is_name};
+ghost use Rattle.sng_cover.specs.Candidates.{candidate};
+ghost use Rattle.sng_cover.specs.Covering.{gap_depth, longest_fixed};
+ghost use Rattle.sng_cover.specs.Reaches.{any_reaches, kept_reaches};
+ghost use Rattle.sng_cover.specs.Reached.{is_reached, begins_empty};
+
+use crate::marks::Marks;
+use crate::reach::Reach;
+use sng_text::TopicFilter;
+use std::cmp;
+
+/// The depths whose candidate some granted filter matches.
+#[derive(Drop)]
+struct Reached {
+    /// Those of a filter without `#`, which matches one depth alone.
+    ends: Marks,
+    /// The depth from which on a filter with `#` matches.
+    rest_from: Option<usize>,
+    /// The most levels that one of the filters has before its `#`, or in all.
+    longest: usize,
+}
+
+/// The least depth whose candidate is a name that shows a gap, where there is one.
+pub fn gap_depth(asked: &TopicFilter, granted: &[TopicFilter]) -> Option<usize>
+    ensures value { result ≡ gap_depth asked.now granted.now }
+    ensures named { IfSome result (λ depth. is_name (candidate asked.now granted.now depth) ≡ true) }
+{
+    let own = Reach::of(asked, asked);
+    let reached = Reached::by(asked, granted);
+    let last = last_depth(&own, &reached);
+    for depth in 1..last + 1 {
+        if is_left(asked, &own, &reached, depth) {
+            return Some(depth);
+        }
+    }
+    None
+}
+
+/// One level more than the longest fixed part: past it only filters with `#` match, and they match at every depth.
+fn last_depth(own: &Reach, reached: &Reached) -> usize
+    requires own_few { own.now.fixed < 202 }
+    requires granted_few { reached.now.longest < 202 }
+    ensures { result ≡ max own.now.fixed reached.now.longest + 1 }
+{
+    cmp::max(own.fixed, reached.longest) + 1
+}
+
+/// Whether the asked filter reaches the depth, with a candidate that has a text, and no granted filter does.
+fn is_left(asked: &TopicFilter, own: &Reach, reached: &Reached, depth: usize) -> bool
+    requires { depth < 203 }
+    ensures { result ≡ ((kept_reaches own.now depth && not ((depth == 1) && begins_empty asked.now)) && not (is_reached reached.now depth)) }
+{
+    own.reaches(depth) && !(depth == 1 && begins_empty(asked)) && !reached.has(depth)
+}
+
+/// Whether the filter's first level is empty: then so is the candidate of depth 1, which is no name.
+fn begins_empty(filter: &TopicFilter) -> bool
+    ensures { result ≡ begins_empty filter.now }
+{
+    match filter.text() {
+        [] => true,
+        [first, ..] => *first == b'/',
+    }
+}
+
+impl Reached {
+    /// No depth is reached.
+    fn new() -> Reached
+        ensures depths { (depth : ℕ) → is_reached result depth ≡ false }
+        ensures longest { result.longest ≡ 0 }
+    {
+        Reached {
+            ends: Marks::new(),
+            rest_from: None,
+            longest: 0,
+        }
+    }
+
+    /// The depths that some granted filter reaches.
+    fn by(asked: &TopicFilter, granted: &[TopicFilter]) -> Reached
+        ensures depths { (depth : ℕ) → is_reached result depth ≡ any_reaches asked.now granted.now depth }
+        ensures longest { result.longest ≡ longest_fixed granted.now }
+        ensures few { result.longest < 202 }
+        ensures are { All (λ filter. is_filter filter ≡ true) granted.now }
+    {
+        let mut reached = Reached::new();
+        for filter in granted {
+            reached.add(Reach::of(asked, filter));
+        }
+        reached
+    }
+
+    /// Adds the depths of one granted filter.
+    fn add(&mut self, reach: Reach)
+        requires { reach.fixed < 202 }
+        ensures depths { (depth : ℕ) → is_reached self.new depth ≡ (kept_reaches reach depth || is_reached self.old depth) }
+        ensures longest { self.new.longest ≡ max reach.fixed self.old.longest }
+    {
+        self.longest = cmp::max(reach.fixed, self.longest);
+        if reach.fits {
+            if reach.has_rest {
+                self.rest_from = match self.rest_from {
+                    Some(from) if from <= reach.fixed => Some(from),
+                    _ => Some(reach.fixed),
+                };
+            } else {
+                self.ends.mark(reach.fixed);
+            }
+        }
+    }
+
+    /// Whether the depth is reached.
+    fn has(&self, depth: usize) -> bool
+        requires { depth < 203 }
+        ensures { result ≡ is_reached self.now depth }
+    {
+        match self.rest_from {
+            Some(from) if depth >= from => true,
+            _ => self.ends.has(depth),
+        }
+    }
+}

@@ -1,0 +1,15 @@
+//! Inclusion: whether every topic name that one filter matches is matched by some of others, and if not, which name shows it
+//! (MQTT 3.1.1, 4.7).
+#![tactic(auto)]
+
+pub mod answer;
+mod depths;
+mod gap;
+pub mod inclusion;
+pub mod laws;
+mod marks;
+mod reach;
+mod runs;
+
+pub use answer::Cover;
+pub use inclusion::{cover, shows_gap};

@@ -1,0 +1,19 @@
+-- What ties the definitions of the texts to their standards.
+use Rattle.std.specs.Prelude.{◌≡◌, ◌↔◌, ℕ, ◌<◌, ◌≤◌, true, false, List, length}
+use Rattle.std.specs.Str.{all_scalars, encode_utf8_all}
+use Rattle.sng_text.specs.ClientIds.{is_client_id}
+use Rattle.sng_text.specs.Matching.{matches}
+use Rattle.sng_text.specs.Texts.{has_byte, is_name}
+
+-- the bytes are the UTF-8 of 1 to 23 Unicode scalar values, none of them U+0000
+abbrev pub SpellsClientId : List ℕ → Type 0
+SpellsClientId text = (characters : List ℕ) × (all_scalars characters ≡ true) × (encode_utf8_all characters ≡ text) × (0 < length characters) × (length characters ≤ 23)
+    × (has_byte 0 characters ≡ false)
+
+-- those bytes, and no others, are a client id
+abbrev pub ClientIdsAreCharacters : Type 0
+ClientIdsAreCharacters = (text : List ℕ) → (is_client_id text ≡ true) ↔ SpellsClientId text
+
+-- a name, taken as a filter, matches itself and no other name
+abbrev pub NamesMatchThemselves : Type 0
+NamesMatchThemselves = (name other : List ℕ) → is_name name ≡ true → (matches name other ≡ true) ↔ (name ≡ other)
