@@ -39,5 +39,5 @@ exits_in-publish s from p ExactlyOnce = refl
 -- nothing leaves at a datagram
 pub exits_in-frame : (s : State) (from : Address) (read : Result SnFrame FrameFault) → exits_in (frame_outs s from read) ≡ []
 exits_in-frame s from (Ok (frame.Publish p)) = exits_in-publish s from p p.flags.qos
-exits_in-frame s from (Ok (frame.Disconnect duration)) = refl
 exits_in-frame s from (Err broken) = refl
+exits_in-frame s from (Ok other) = refl

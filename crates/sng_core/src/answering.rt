@@ -30,7 +30,7 @@ impl Core {
     {
         match decode(alloc, datagram) {
             Ok(SnFrame::Publish(publish)) => self.hear_publish(alloc, from, publish),
-            Ok(SnFrame::Disconnect(_)) => frame_denied(alloc, from, Outcome::NotSupported),
+            Ok(_) => frame_denied(alloc, from, Outcome::NotSupported),
             Err(FrameFault::NotSupported) => frame_denied(alloc, from, Outcome::NotSupported),
             Err(FrameFault::Memory) => Err(AllocError),
             Err(FrameFault::Malformed) | Err(FrameFault::TooLong) => frame_denied(

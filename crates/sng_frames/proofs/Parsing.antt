@@ -1,213 +1,169 @@
--- Between the bytes of a frame and the frame, one way and the other.
-use Rattle.std.proofs.Common.{◌≡◌, ℕ, suc, ◌+◌, ◌<◌, ◌≤◌, ◌==◌, Bool, true, false, List, [], ◌∷◌, length, slice_index, drop, Option, Some, None, Result, Ok, Err, ◌⊎◌, inl, inr, if◌then◌else◌, refl, ap, sym, subst, ◌∙◌, arith, nat_lt, eq-eqb}
+-- Between the bytes of a datagram and what it is read as, one way and the other.
+use Rattle.std.proofs.Common.{◌≡◌, ◌≢◌, ℕ, suc, ◌+◌, ◌<◌, ◌≤◌, ◌==◌, Bool, true, false, ◌&&◌, ◌||◌, List, [], ◌∷◌, length, Option, Some, None, Result, Ok, Err, ◌⊎◌, inl, inr, if◌then◌else◌, refl, ap, sym, subst, ◌∙◌, arith, nat_lt, eq-eqb}
+use Rattle.std.specs.Option.{option_and_then}
 use Rattle.std.proofs.lemmas.Bool.{ltb-false, le-ltb, eqb-true}
 use Rattle.std.proofs.lemmas.Bool.Decides.{nat_tests}
 use Rattle.std.proofs.lemmas.List.Elements.{All-tail}
 use Rattle.sng_frames.specs.declared.fault.FrameFault.{FrameFault}
-use Rattle.sng_frames.specs.declared.fault.FrameFault.TheVariants.{Malformed, NotSupported}
-use Rattle.sng_frames.specs.declared.frame.Publish.{Publish}
+use Rattle.sng_frames.specs.declared.fault.FrameFault.TheVariants.{Malformed, NotSupported, TooLong, Memory}
 use Rattle.sng_frames.specs.declared.frame.SnFrame.{SnFrame}
-use Rattle.sng_frames.specs.declared.frame.SnFrame.TheVariants as variants
-use Rattle.sng_frames.specs.FlagsOctet.{flags_of, flags_octet}
-use Rattle.sng_frames.specs.Grammar.{SpellsMessage, SpellsPublish, SpellsPart, Spells, type_of}
-use Rattle.sng_frames.specs.Reading.{number, publish_of, message_of, behind_length, behind_one, octets_read, frame_of}
+use Rattle.sng_frames.specs.declared.message_type.MessageType.{MessageType}
+use Rattle.sng_frames.specs.Grammar.{SpellsMessage, Spells, type_of, IsDiscovery, SpellsDiscovery, IsUnsupported}
 use Rattle.sng_frames.specs.Laws.{AreOctets}
-use Rattle.sng_frames.proofs.FlagBits.{flags_of-flags_octet, flags_octet-flags_of}
+use Rattle.sng_frames.specs.MessageTypes.{octet_of, type_of_octet}
+use Rattle.sng_frames.specs.Parts.{number, part_read}
+use Rattle.sng_frames.specs.Reading.{is_discovery, or_malformed, message_of, behind_length, behind_one, octets_read, frame_of}
+use Rattle.sng_frames.proofs.FrameReading.{part_read-spelled, part_read-reads}
+use Rattle.sng_frames.proofs.TypeOctets.{type_of_octet-octet_of, octet_of-type_of_octet, octet_of-other}
 
--- a PUBLISH of its fields
-abbrev publish : ℕ → ℕ → ℕ → List ℕ → Publish
-publish octet topic msg payload = record { flags = flags_of octet; topic_id = topic; msg_id = msg; payload = payload }
+-- what an answer says of the bytes
+abbrev pub Says : List ℕ → Result SnFrame FrameFault → Type 0
+Says b (Ok frame) = Spells frame b
+Says b (Err NotSupported) = IsUnsupported b
+Says b (Err Malformed) = Unit {0}
+Says b (Err TooLong) = ⊥
+Says b (Err Memory) = ⊥
 
-publish-spelled : (p : Publish) → publish (flags_octet p.flags) p.topic_id p.msg_id p.payload ≡ p
-publish-spelled p = ap (λ (f : _). record p { flags = f }) (flags_of-flags_octet p.flags)
+chosen : (P : Result SnFrame FrameFault → Type 0) (b : Bool) (one other : Result SnFrame FrameFault)
+    → (b ≡ true → P one) → (b ≡ false → P other) → P (if b then one else other)
+chosen P true one other first second = first refl
+chosen P false one other first second = second refl
 
--- a spelled variable part is read
-pub publish_of-spelled : (p : Publish) (part : List ℕ) → SpellsPublish p part → publish_of part ≡ Ok (variants.Publish p)
-publish_of-spelled p part s =
-    ap publish_of s.octets
-    ∙ ap (λ topic. Ok (variants.Publish (publish (flags_octet p.flags) topic (number s.msg_high s.msg_low) p.payload))) (sym s.topic.value)
-    ∙ ap (λ msg. Ok (variants.Publish (publish (flags_octet p.flags) p.topic_id msg p.payload))) (sym s.msg.value)
-    ∙ ap (λ q. Ok (variants.Publish q)) (publish-spelled p)
+-- the tests of gateway discovery
+both : (a b : Bool) → (a && b) ≡ true → (a ≡ true) × (b ≡ true)
+both true true is = (refl, refl)
+both true false is = cc
+both false b is = cc
 
--- a variable part that is read is spelled
-pub publish_of-reads : (p : Publish) (part : List ℕ) → AreOctets part → publish_of part ≡ Ok (variants.Publish p) → SpellsPublish p part
-publish_of-reads p [] octets read = cc
-publish_of-reads p (a ∷ []) octets read = cc
-publish_of-reads p (a ∷ b ∷ []) octets read = cc
-publish_of-reads p (a ∷ b ∷ c ∷ []) octets read = cc
-publish_of-reads p (a ∷ b ∷ c ∷ d ∷ []) octets read = cc
-publish_of-reads p (flags ∷ topic_high ∷ topic_low ∷ msg_high ∷ msg_low ∷ payload) octets read =
-    let is : publish flags (number topic_high topic_low) (number msg_high msg_low) payload ≡ p = cc in
-    let at_most : (k : ℕ) → k < 5 → slice_index (flags ∷ topic_high ∷ topic_low ∷ msg_high ∷ msg_low ∷ payload) k < 256 = λ k within. octets k 0 (omega arith) in
-    subst (λ q. SpellsPublish q (flags ∷ topic_high ∷ topic_low ∷ msg_high ∷ msg_low ∷ payload)) is (record {
-      topic_high = topic_high;
-      topic_low = topic_low;
-      topic = record { high_fits = at_most 1 (omega arith); low_fits = at_most 2 (omega arith); value = refl };
-      msg_high = msg_high;
-      msg_low = msg_low;
-      msg = record { high_fits = at_most 3 (omega arith); low_fits = at_most 4 (omega arith); value = refl };
-      octets = ap (λ octet. octet ∷ topic_high ∷ topic_low ∷ msg_high ∷ msg_low ∷ payload) (sym (flags_octet-flags_of flags (at_most 0 (omega arith))));
-    })
+either : (a b : Bool) → (a || b) ≡ true → (a ≡ true) ⊎ (b ≡ true)
+either true b is = inl refl
+either false b is = inr is
 
--- it is that of a PUBLISH
-not_disconnect : (duration : Option ℕ) (part : List ℕ) → publish_of part ≡ Ok (variants.Disconnect duration) → ⊥
-not_disconnect duration [] read = cc
-not_disconnect duration (a ∷ []) read = cc
-not_disconnect duration (a ∷ b ∷ []) read = cc
-not_disconnect duration (a ∷ b ∷ c ∷ []) read = cc
-not_disconnect duration (a ∷ b ∷ c ∷ d ∷ []) read = cc
-not_disconnect duration (flags ∷ topic_high ∷ topic_low ∷ msg_high ∷ msg_low ∷ payload) read = cc
+IsDiscovery-is : (kind : ℕ) (part : List ℕ) → is_discovery kind part ≡ true → IsDiscovery kind part
+IsDiscovery-is kind part is =
+    elim (either ((kind == 0) && (length part == 3)) _ is) [
+      | inl advertise ↦ (let t = both _ _ advertise in inl (eqb-true kind 0 t.0, eqb-true (length part) 3 t.1))
+      | inr others ↦ elim (either ((kind == 1) && (length part == 1)) _ others) [
+        | inl search_gateway ↦ (let t = both _ _ search_gateway in inr (inl (eqb-true kind 1 t.0, eqb-true (length part) 1 t.1)))
+        | inr gateway ↦ (let t = both (kind == 2) (nat_lt 0 (length part)) gateway in inr (inr (eqb-true kind 2 t.0, grind (arith, nat_tests, t.1))))
+      ]
+    ]
 
--- a test that let a value through
-passed : (b : Bool) (r : Result SnFrame FrameFault) (fault : FrameFault) (frame : SnFrame) → (if b then r else Err fault) ≡ Ok frame → (b ≡ true) × (r ≡ Ok frame)
-passed true r fault frame read = (refl, read)
-passed false r fault frame read = cc
+is_discovery-spelled : (kind : ℕ) (part : List ℕ) → IsDiscovery kind part → (is_discovery kind part ≡ true) × ((kind == 254) ≡ false)
+is_discovery-spelled kind part (inl d) = (rw (d.0, d.1) refl, rw d.0 refl)
+is_discovery-spelled kind part (inr (inl d)) = (rw (d.0, d.1) refl, rw d.0 refl)
+is_discovery-spelled kind part (inr (inr d)) =
+    let some : nat_lt 0 (length part) ≡ true = grind (arith, nat_tests, d.1) in
+    (rw (d.0, some) refl, rw d.0 refl)
 
-kept : (b : Bool) (r : Result SnFrame FrameFault) (fault : FrameFault) (frame : SnFrame) → (if b then Err fault else r) ≡ Ok frame → (b ≡ false) × (r ≡ Ok frame)
-kept true r fault frame read = cc
-kept false r fault frame read = (refl, read)
+-- a type that is read is none of these
+is_discovery-type : (t : MessageType) (part : List ℕ) → (is_discovery (octet_of t) part ≡ false) × ((octet_of t == 254) ≡ false)
+is_discovery-type t part =
+    let advertise = octet_of-other t 0 (octet_of t == 0) refl refl in
+    let search_gateway = octet_of-other t 1 (octet_of t == 1) refl refl in
+    let gateway = octet_of-other t 2 (octet_of t == 2) refl refl in
+    (rw (advertise, search_gateway, gateway) refl, octet_of-other t 254 (octet_of t == 254) refl refl)
 
-either : (b : Bool) (one other : Result SnFrame FrameFault) (frame : SnFrame) → (if b then one else other) ≡ Ok frame
-    → ((b ≡ true) × (one ≡ Ok frame)) ⊎ ((b ≡ false) × (other ≡ Ok frame))
-either true one other frame read = inl (refl, read)
-either false one other frame read = inr (refl, read)
+-- a message, by what its type and its variable part are read as
+typed-says : (b : List ℕ) (kind : ℕ) (part : List ℕ) (t : MessageType) (r : Option SnFrame) → AreOctets part → SpellsMessage kind part b
+    → type_of_octet kind ≡ Some t → part_read t part ≡ r → Says b (or_malformed r)
+typed-says b kind part t None are message type read = tt
+typed-says b kind part t (Some frame) are message type read =
+    let f = part_read-reads t frame part are read in
+    let same : kind ≡ octet_of (type_of frame) = octet_of-type_of_octet kind t type ∙ ap octet_of (sym f.is_type) in
+    record { part = part; variable = f.spelled; message = subst (λ k. SpellsMessage k part b) same message }
 
--- the frame of a variable part under the type that is read
-record IsRead (frame : SnFrame) (told size : ℕ) (message : List ℕ) : Type 0 where
-  part : List ℕ
-  behind : message ≡ 12 ∷ part
-  right : told ≡ size
-  read : publish_of part ≡ Ok frame
+kind-says : (b : List ℕ) (kind : ℕ) (part : List ℕ) (o : Option MessageType) → AreOctets part → SpellsMessage kind part b
+    → type_of_octet kind ≡ o → Says b (or_malformed (option_and_then (λ t. part_read t part) o))
+kind-says b kind part None are message type = tt
+kind-says b kind part (Some t) are message type = typed-says b kind part t (part_read t part) are message type refl
 
-behind_length-reads : (frame : SnFrame) (told size : ℕ) (message : List ℕ) → behind_length told size message ≡ Ok frame → IsRead frame told size message
-behind_length-reads frame told size [] read = cc
-behind_length-reads frame told size (kind ∷ part) read =
-    let first = kept (kind == 254) (if told == size then message_of kind part else Err Malformed) NotSupported frame read in
-    let second = passed (told == size) (message_of kind part) Malformed frame first.1 in
-    let third = passed (kind == 12) (publish_of part) NotSupported frame second.1 in
-    record {
-      part = part;
-      behind = ap (λ k. k ∷ part) (eqb-true kind 12 third.0);
-      right = eqb-true told size second.0;
-      read = third.1;
-    }
+message_of-says : (b : List ℕ) (kind : ℕ) (part : List ℕ) → AreOctets part → SpellsMessage kind part b → Says b (message_of kind part)
+message_of-says b kind part are message =
+    chosen (Says b) (is_discovery kind part) (Err NotSupported) (or_malformed (option_and_then (λ t. part_read t part) (type_of_octet kind)))
+    (λ is. inl (record { kind = kind; part = part; is = IsDiscovery-is kind part is; message = message }))
+    (λ is. kind-says b kind part (type_of_octet kind) are message refl)
 
--- what is read as a variable part is spelled as one
-part-reads : (frame : SnFrame) (part : List ℕ) → AreOctets part → publish_of part ≡ Ok frame → SpellsPart frame part × (type_of frame ≡ 12)
-part-reads (variants.Publish p) part octets read = (publish_of-reads p part octets read, refl)
-part-reads (variants.Disconnect duration) part octets read = absurd (not_disconnect duration part read)
+behind_length-says : (b : List ℕ) (told size kind : ℕ) (part : List ℕ) → AreOctets part
+    → (told ≡ size → SpellsMessage kind part b) → (kind ≡ 254 → IsUnsupported b) → Says b (behind_length told size (kind ∷ part))
+behind_length-says b told size kind part are message encapsulated =
+    chosen (Says b) (kind == 254) (Err NotSupported) (if told == size then message_of kind part else Err Malformed)
+    (λ is. encapsulated (eqb-true kind 254 is))
+    (λ is. chosen (Says b) (told == size) (message_of kind part) (Err Malformed)
+    (λ right. message_of-says b kind part are (message (eqb-true told size right)))
+    (λ wrong. tt))
 
--- a message whose parts are known
-message-spelled : (frame : SnFrame) (part b : List ℕ) → AreOctets part → publish_of part ≡ Ok frame → SpellsMessage 12 part b → Spells frame b
-message-spelled frame part b octets read message =
-    let spelled = part-reads frame part octets read in
-    record {
-      part = part;
-      variable = spelled.0;
-      message = subst (λ kind. SpellsMessage kind part b) (sym spelled.1) message;
-    }
+tail : (octet : ℕ) (octets : List ℕ) → AreOctets (octet ∷ octets) → AreOctets octets
+tail octet octets are = All-tail (λ n. n < 256) octet octets are
 
-short-reads : (frame : SnFrame) (first : ℕ) (octets : List ℕ) → AreOctets (first ∷ octets) → behind_length first (length (first ∷ octets)) octets ≡ Ok frame → Spells frame (first ∷ octets)
-short-reads frame first octets are read =
-    let r = behind_length-reads frame first (length (first ∷ octets)) octets read in
-    let whole : first ∷ octets ≡ first ∷ 12 ∷ r.part = ap (λ rest. first ∷ rest) r.behind in
-    let count : length octets ≡ length r.part + 1 = ap length r.behind ∙ omega arith in
-    let told : first ≡ length r.part + 2 = omega (arith, r.right, count) in
-    let parts : AreOctets r.part = All-tail (λ n. n < 256) 12 r.part (All-tail (λ n. n < 256) first (12 ∷ r.part) (subst AreOctets whole are)) in
+short-says : (first : ℕ) (octets : List ℕ) → AreOctets (first ∷ octets) → (first == 1) ≡ false
+    → Says (first ∷ octets) (behind_length first (length (first ∷ octets)) octets)
+short-says first [] are other = tt
+short-says first (kind ∷ part) are other =
     let low : first < 256 = are 0 0 (omega arith) in
-    message-spelled frame r.part (first ∷ octets) parts r.read (inl (record {
-      octets = whole ∙ ap (λ n. n ∷ 12 ∷ r.part) told;
+    behind_length-says (first ∷ kind ∷ part) first (length (first ∷ kind ∷ part)) kind part (tail kind part (tail first (kind ∷ part) are))
+    (λ told. inl (record {
+      octets = (let counted : first ≡ length part + 2 = omega (arith, told) in ap (λ n. n ∷ kind ∷ part) counted);
       fits = omega (arith, told, low);
     }))
+    (λ is. inr (inl (record {
+      first = first;
+      rest = part;
+      short = grind (arith, nat_tests, other);
+      octets = ap (λ k. first ∷ k ∷ part) is;
+    })))
 
-long-reads : (frame : SnFrame) (octets : List ℕ) → AreOctets (1 ∷ octets) → behind_one (length (1 ∷ octets)) octets ≡ Ok frame → Spells frame (1 ∷ octets)
-long-reads frame [] are read = cc
-long-reads frame (high ∷ []) are read = cc
-long-reads frame (high ∷ low ∷ message) are read =
-    let r = behind_length-reads frame (number high low) (length (1 ∷ high ∷ low ∷ message)) message read in
-    let whole : 1 ∷ high ∷ low ∷ message ≡ 1 ∷ high ∷ low ∷ 12 ∷ r.part = ap (λ rest. 1 ∷ high ∷ low ∷ rest) r.behind in
-    let count : length message ≡ length r.part + 1 = ap length r.behind ∙ omega arith in
-    let parts : AreOctets r.part =
-    All-tail (λ n. n < 256) 12 r.part (All-tail (λ n. n < 256) low (12 ∷ r.part) (All-tail (λ n. n < 256) high (low ∷ 12 ∷ r.part) (All-tail (λ n. n < 256) 1 (high ∷ low ∷ 12 ∷ r.part) (subst AreOctets whole are)))) in
-    message-spelled frame r.part (1 ∷ high ∷ low ∷ message) parts r.read (inr (record {
+long-says : (octets : List ℕ) → AreOctets (1 ∷ octets) → Says (1 ∷ octets) (behind_one (length (1 ∷ octets)) octets)
+long-says [] are = tt
+long-says (high ∷ []) are = tt
+long-says (high ∷ low ∷ []) are = tt
+long-says (high ∷ low ∷ kind ∷ part) are =
+    behind_length-says (1 ∷ high ∷ low ∷ kind ∷ part) (number high low) (length (1 ∷ high ∷ low ∷ kind ∷ part)) kind part
+    (tail kind part (tail low (kind ∷ part) (tail high (low ∷ kind ∷ part) (tail 1 (high ∷ low ∷ kind ∷ part) are))))
+    (λ told. inr (record {
       high = high;
       low = low;
       total = record {
         high_fits = are 1 0 (omega arith);
         low_fits = are 2 0 (omega arith);
-        value = omega (arith, r.right, count);
+        value = omega (arith, told);
       };
-      octets = whole;
+      octets = refl;
     }))
+    (λ is. inr (inr (record { high = high; low = low; rest = part; octets = ap (λ k. 1 ∷ high ∷ low ∷ k ∷ part) is })))
 
-octets_read-reads : (frame : SnFrame) (b : List ℕ) → AreOctets b → octets_read (length b) b ≡ Ok frame → Spells frame b
-octets_read-reads frame [] are read = cc
-octets_read-reads frame (first ∷ octets) are read =
-    elim (either (first == 1) (behind_one (length (first ∷ octets)) octets) (behind_length first (length (first ∷ octets)) octets) frame read) [
-      | inl one ↦ (let is : first ≡ 1 = eqb-true first 1 one.0 in
-          subst (λ n. Spells frame (n ∷ octets)) (sym is) (long-reads frame octets (subst (λ n. AreOctets (n ∷ octets)) is are) one.1))
-      | inr other ↦ short-reads frame first octets are other.1
-    ]
+-- what the octets of a datagram are read as says what they spell
+pub octets_read-says : (b : List ℕ) → AreOctets b → Says b (octets_read (length b) b)
+octets_read-says [] are = tt
+octets_read-says (first ∷ octets) are =
+    chosen (Says (first ∷ octets)) (first == 1) (behind_one (length (first ∷ octets)) octets) (behind_length first (length (first ∷ octets)) octets)
+    (λ one. (let is : first ≡ 1 = eqb-true first 1 one in
+    subst (λ n. Says (n ∷ octets) (behind_one (length (first ∷ octets)) octets)) (sym is) (long-says octets (subst (λ n. AreOctets (n ∷ octets)) is are))))
+    (λ other. short-says first octets are other)
 
--- what is read is not too long, and is spelled
-pub frame_of-reads : (b : List ℕ) (frame : SnFrame) → AreOctets b → frame_of b ≡ Ok frame → (length b ≤ 2048) × Spells frame b
-frame_of-reads b frame are read =
-    let short = kept (nat_lt 2048 (length b)) (octets_read (length b) b) Malformed frame read in
-    (ltb-false 2048 (length b) short.0, octets_read-reads frame b are short.1)
-
-octets_read-spelled : (part b : List ℕ) → SpellsMessage 12 part b → octets_read (length b) b ≡ publish_of part
-octets_read-spelled part b (inl s) =
+-- a message is read by its type and its variable part
+octets_read-message : (kind : ℕ) (part b : List ℕ) → SpellsMessage kind part b → (kind == 254) ≡ false → octets_read (length b) b ≡ message_of kind part
+octets_read-message kind part b (inl s) plain =
     let other : (length part + 2 == 1) ≡ false = grind (arith, nat_tests) in
     let right : (length part + 2 == suc (suc (length part))) ≡ true = grind (arith, nat_tests) in
-    rw (s.octets, other, right) refl
-octets_read-spelled part b (inr s) =
+    rw (s.octets, other, plain, right) refl
+octets_read-message kind part b (inr s) plain =
     let right : (number s.high s.low == suc (suc (suc (suc (length part))))) ≡ true = eq-eqb _ _ (omega (arith, s.total.value)) in
-    rw (s.octets, right) refl
+    rw (s.octets, plain, right) refl
 
--- a PUBLISH that is spelled in at most 2,048 bytes is read
-pub frame_of-spelled : (b : List ℕ) (p : Publish) → length b ≤ 2048 → Spells (variants.Publish p) b → frame_of b ≡ Ok (variants.Publish p)
-frame_of-spelled b p short s =
-    let within : nat_lt 2048 (length b) ≡ false = le-ltb 2048 (length b) short in
-    rw within (octets_read-spelled s.part b s.message ∙ publish_of-spelled p s.part s.variable)
+-- the octets that spell a frame are read as that frame
+pub octets_read-spelled : (b : List ℕ) (frame : SnFrame) → Spells frame b → octets_read (length b) b ≡ Ok frame
+octets_read-spelled b frame s =
+    let t = is_discovery-type (type_of frame) s.part in
+    octets_read-message (octet_of (type_of frame)) s.part b s.message t.1
+    ∙ rw (t.0, type_of_octet-octet_of (type_of frame), part_read-spelled frame s.part s.variable) refl
 
--- MsgType and the variable part, behind either Length
-abbrev behind : List ℕ → List ℕ
-behind [] = []
-behind (first ∷ octets) = if first == 1 then drop 2 octets else octets
-
-behind-spelled : (kind : ℕ) (part b : List ℕ) → SpellsMessage kind part b → behind b ≡ kind ∷ part
-behind-spelled kind part b (inl s) =
-    let other : (length part + 2 == 1) ≡ false = grind (arith, nat_tests) in
+-- those of a type that is not read are not supported
+pub octets_read-unsupported : (b : List ℕ) → IsUnsupported b → octets_read (length b) b ≡ Err NotSupported
+octets_read-unsupported b (inl s) =
+    let d = is_discovery-spelled s.kind s.part s.is in
+    octets_read-message s.kind s.part b s.message d.1 ∙ rw d.0 refl
+octets_read-unsupported b (inr (inl s)) =
+    let other : (s.first == 1) ≡ false = grind (arith, nat_tests, s.short) in
     rw (s.octets, other) refl
-behind-spelled kind part b (inr s) = rw s.octets refl
-
--- the Duration that a variable part is
-abbrev duration_of : List ℕ → Option ℕ
-duration_of [] = None
-duration_of (high ∷ []) = None
-duration_of (high ∷ low ∷ rest) = Some (number high low)
-
-duration_of-spelled : (duration : Option ℕ) (part : List ℕ) → SpellsPart (variants.Disconnect duration) part → duration_of part ≡ duration
-duration_of-spelled None part s = ap duration_of s
-duration_of-spelled (Some duration) part s = ap duration_of s.octets ∙ ap Some (sym s.is.value)
-
--- a variable part is that of one frame of its type
-part-spells_one : (one other : SnFrame) (part : List ℕ) → type_of one ≡ type_of other → SpellsPart one part → SpellsPart other part → one ≡ other
-part-spells_one (variants.Publish p) (variants.Publish q) part same s t =
-    let first = publish_of-spelled p part s in
-    let second = publish_of-spelled q part t in
-    let equal = sym first ∙ second in
-    cc
-part-spells_one (variants.Publish p) (variants.Disconnect d) part same s t = absurd (omega arith)
-part-spells_one (variants.Disconnect d) (variants.Publish p) part same s t = absurd (omega arith)
-part-spells_one (variants.Disconnect d) (variants.Disconnect e) part same s t =
-    ap variants.Disconnect (sym (duration_of-spelled d part s) ∙ duration_of-spelled e part t)
-
-pub spells_one : (b : List ℕ) (one other : SnFrame) → Spells one b → Spells other b → one ≡ other
-spells_one b one other s t =
-    let first = behind-spelled (type_of one) s.part b s.message in
-    let second = behind-spelled (type_of other) t.part b t.message in
-    let equal : type_of one ∷ s.part ≡ type_of other ∷ t.part = sym first ∙ second in
-    let kinds : type_of one ≡ type_of other = cc in
-    let parts : t.part ≡ s.part = cc in
-    part-spells_one one other s.part kinds s.variable (subst (SpellsPart other) parts t.variable)
+octets_read-unsupported b (inr (inr s)) = rw s.octets refl

@@ -1,21 +1,19 @@
--- What is written is spelled.
-use Rattle.std.proofs.Common.{◌≡◌, ℕ, ◌+◌, ◌/◌, ◌%◌, ◌^◌, ◌<◌, ◌≤◌, List, ◌∷◌, length, Some, None, refl, inl, inr, arith}
+-- What is written is spelled, and is the shortest spelling.
+use Rattle.std.proofs.Common.{◌≡◌, ℕ, ◌+◌, ◌/◌, ◌%◌, ◌^◌, ◌<◌, ◌≤◌, ◌⊎◌, List, ◌∷◌, length, refl, ap, sym, subst, ◌∙◌, inl, inr, arith}
 use Rattle.std.proofs.lemmas.Bool.{cases_lt, lt-ltb, le-ltb}
 use Rattle.sng_frames.specs.declared.frame.SnFrame.{SnFrame}
-use Rattle.sng_frames.specs.declared.frame.SnFrame.TheVariants.{Publish, Disconnect}
-use Rattle.sng_frames.specs.Writing.{written, framed, part_of}
-use Rattle.sng_frames.specs.Grammar.{IsNumber, SpellsMessage, SpellsPart, Spells, IsInRange}
-
-pub IsNumber-halves : (n : ℕ) → n < 2 ^ 16 → IsNumber n (n / 256) (n % 256)
-IsNumber-halves n fits = record { high_fits = omega arith; low_fits = omega arith; value = omega arith }
+use Rattle.sng_frames.specs.Grammar.{SpellsMessage, SpellsPart, Spells, IsInRange, TopicFits, type_of}
+use Rattle.sng_frames.specs.MessageTypes.{octet_of}
+use Rattle.sng_frames.specs.Writing.{number_then, written, framed, part_of, HasNoSpelling}
+use Rattle.sng_frames.proofs.PartWriting.{IsNumber-halves, number_then-halves, part_of-only, SpellsPart-part_of, TopicFits-spelled}
 
 framed-short : (kind : ℕ) (part : List ℕ) → length part < 254 → framed kind part ≡ (length part + 2) ∷ kind ∷ part
 framed-short kind part short = rw (lt-ltb (length part) 254 short) refl
 
-framed-long : (kind : ℕ) (part : List ℕ) → 254 ≤ length part → framed kind part ≡ 1 ∷ (length part + 4) / 256 ∷ (length part + 4) % 256 ∷ kind ∷ part
+framed-long : (kind : ℕ) (part : List ℕ) → 254 ≤ length part → framed kind part ≡ 1 ∷ number_then (length part + 4) (kind ∷ part)
 framed-long kind part long = rw (le-ltb (length part) 254 long) refl
 
-pub SpellsMessage-framed : (kind : ℕ) (part : List ℕ) → length part + 4 < 2 ^ 16 → SpellsMessage kind part (framed kind part)
+SpellsMessage-framed : (kind : ℕ) (part : List ℕ) → length part + 4 < 2 ^ 16 → SpellsMessage kind part (framed kind part)
 SpellsMessage-framed kind part fits =
     elim (cases_lt (length part) 254) [
       | inl short ↦ inl (record { octets = framed-short kind part short; fits = omega arith })
@@ -31,35 +29,53 @@ part-length : (kind : ℕ) (part : List ℕ) → length (framed kind part) ≤ 2
 part-length kind part fits =
     elim (cases_lt (length part) 254) [
       | inl short ↦ omega arith
-      | inr long ↦ (let shown : length (1 ∷ (length part + 4) / 256 ∷ (length part + 4) % 256 ∷ kind ∷ part) ≤ 2048 = rw (framed-long kind part long) at fits in omega arith)
+      | inr long ↦ (let shown : length (1 ∷ number_then (length part + 4) (kind ∷ part)) ≤ 2048 = rw (framed-long kind part long) at fits in omega arith)
     ]
 
-SpellsPart-written : (frame : SnFrame) → IsInRange frame → SpellsPart frame (part_of frame)
-SpellsPart-written (Publish p) fits = record {
-  topic_high = p.topic_id / 256;
-  topic_low = p.topic_id % 256;
-  topic = IsNumber-halves p.topic_id fits.0;
-  msg_high = p.msg_id / 256;
-  msg_low = p.msg_id % 256;
-  msg = IsNumber-halves p.msg_id fits.1;
-  octets = refl;
-}
-SpellsPart-written (Disconnect None) fits = refl
-SpellsPart-written (Disconnect (Some duration)) fits = record {
-  high = duration / 256;
-  low = duration % 256;
-  is = IsNumber-halves duration fits;
-  octets = refl;
+-- a frame whose parts fit is written as bytes that spell it
+pub Spells-written : (frame : SnFrame) → IsInRange frame → TopicFits frame → length (written frame) ≤ 2048 → Spells frame (written frame)
+Spells-written frame fits topic short = record {
+  part = part_of frame;
+  variable = SpellsPart-part_of frame fits topic;
+  message = SpellsMessage-framed (octet_of (type_of frame)) (part_of frame) (part-length (octet_of (type_of frame)) (part_of frame) short);
 }
 
-pub Spells-written : (frame : SnFrame) → IsInRange frame → length (written frame) ≤ 2048 → Spells frame (written frame)
-Spells-written (Publish p) fits short = record {
-  part = part_of (Publish p);
-  variable = SpellsPart-written (Publish p) fits;
-  message = SpellsMessage-framed 12 (part_of (Publish p)) (part-length 12 (part_of (Publish p)) short);
-}
-Spells-written (Disconnect duration) fits short = record {
-  part = part_of (Disconnect duration);
-  variable = SpellsPart-written (Disconnect duration) fits;
-  message = SpellsMessage-framed 24 (part_of (Disconnect duration)) (part-length 24 (part_of (Disconnect duration)) short);
-}
+-- a Length counts less than 65,536 octets
+message-length : (kind : ℕ) (part b : List ℕ) → SpellsMessage kind part b → length part + 4 < 2 ^ 16
+message-length kind part b (inl s) = omega (arith, s.fits)
+message-length kind part b (inr s) = omega (arith, s.total.high_fits, s.total.low_fits, s.total.value)
+
+-- a frame that has a spelling is written as one
+pub Spells-spelled : (frame : SnFrame) (b : List ℕ) → Spells frame b → Spells frame (written frame)
+Spells-spelled frame b s =
+    let only = part_of-only frame s.part s.variable in
+    record {
+      part = part_of frame;
+      variable = subst (SpellsPart frame) only s.variable;
+      message = SpellsMessage-framed (octet_of (type_of frame)) (part_of frame)
+          (subst (λ part. length part + 4 < 2 ^ 16) only (message-length (octet_of (type_of frame)) s.part b s.message));
+    }
+
+-- every other spelling is longer
+framed-shortest : (kind : ℕ) (part b : List ℕ) → SpellsMessage kind part b → (b ≡ framed kind part) ⊎ (length (framed kind part) < length b)
+framed-shortest kind part b (inl s) = inl (s.octets ∙ sym (framed-short kind part (omega (arith, s.fits))))
+framed-shortest kind part b (inr s) =
+    elim (cases_lt (length part) 254) [
+      | inl short ↦ (let one : length (framed kind part) ≡ length part + 2 = ap length (framed-short kind part short) ∙ omega arith in
+          let three : length b ≡ length part + 4 = ap length s.octets ∙ omega arith in
+          inr (omega (arith, one, three)))
+      | inr long ↦ inl (s.octets ∙ ap (λ rest. 1 ∷ rest) (number_then-halves (length part + 4) s.high s.low (kind ∷ part) s.total) ∙ sym (framed-long kind part long))
+    ]
+
+pub written-shortest : (frame : SnFrame) (b : List ℕ) → Spells frame b → (b ≡ written frame) ⊎ (length (written frame) < length b)
+written-shortest frame b s =
+    subst (λ part. (b ≡ framed (octet_of (type_of frame)) part) ⊎ (length (framed (octet_of (type_of frame)) part) < length b))
+    (part_of-only frame s.part s.variable) (framed-shortest (octet_of (type_of frame)) s.part b s.message)
+
+-- a frame whose topic does not fit has no spelling
+pub none-spelled : (frame : SnFrame) → length (written frame) ≤ 2048 → (TopicFits frame → ⊥) → HasNoSpelling frame
+none-spelled frame short unfit = record { short = short; none = λ b s. unfit (TopicFits-spelled frame s.part s.variable) }
+
+-- one whose parts fit has one, unless it is too long
+pub some-spelled : (frame : SnFrame) → IsInRange frame → TopicFits frame → HasNoSpelling frame → ⊥
+some-spelled frame fits topic lacks = lacks.none (written frame) (Spells-written frame fits topic lacks.short)

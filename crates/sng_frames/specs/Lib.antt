@@ -1,5 +1,7 @@
 pub mod FlagsOctet
+pub mod MessageTypes
 pub mod Grammar
+pub mod Parts
 pub mod Reading
 pub mod Writing
 pub mod Laws

@@ -1,25 +1,34 @@
--- Which frame a datagram is (MQTT-SN 1.2, 5.2 to 5.4).
-use Rattle.std.specs.Prelude.{ℕ, ◌+◌, ◌*◌, ◌==◌, nat_lt, List, [], ◌∷◌, length, if◌then◌else◌, Ok, Err}
+-- Which frame a datagram is (MQTT-SN 1.2, 5.2 to 5.5).
+use Rattle.std.specs.Prelude.{◌≡◌, ℕ, ◌==◌, nat_lt, Bool, ◌&&◌, ◌||◌, ◌⊎◌, List, [], ◌∷◌, length, if◌then◌else◌, Some, None, Ok, Err}
+use Rattle.std.specs.Option.{option_and_then}
+use Rattle.std.specs.declared.option.Option.{Option}
 use Rattle.std.specs.declared.result.Result.{Result}
 use Rattle.sng_frames.specs.declared.fault.FrameFault.{FrameFault}
-use Rattle.sng_frames.specs.declared.fault.FrameFault.TheVariants.{Malformed, NotSupported}
+use Rattle.sng_frames.specs.declared.fault.FrameFault.TheVariants.{Malformed, NotSupported, Memory}
 use Rattle.sng_frames.specs.declared.frame.SnFrame.{SnFrame}
-use Rattle.sng_frames.specs.declared.frame.SnFrame.TheVariants.{Publish}
-use Rattle.sng_frames.specs.FlagsOctet.{flags_of}
+use Rattle.sng_frames.specs.MessageTypes.{type_of_octet}
+use Rattle.sng_frames.specs.Parts.{number, part_read}
 
--- two octets as a number, the high one first (5.3)
-abbrev pub number : ℕ → ℕ → ℕ
-number high low = high * 256 + low
+-- a reader's answer to bytes that mean this, or nothing: its copies may be refused
+abbrev pub Reads : {A : Type 0} → Result A FrameFault → Option A → Type 0
+Reads (Ok x) meant = meant ≡ Some x
+Reads (Err fault) meant = (fault ≡ Memory) ⊎ ((fault ≡ Malformed) × (meant ≡ None))
 
--- the PUBLISH of a variable part: Flags, TopicId, MsgId and the data (5.4.12)
-abbrev pub publish_of : List ℕ → Result SnFrame FrameFault
-publish_of (flags ∷ topic_high ∷ topic_low ∷ msg_high ∷ msg_low ∷ payload) =
-    Ok (Publish (record { flags = flags_of flags; topic_id = number topic_high topic_low; msg_id = number msg_high msg_low; payload = payload }))
-publish_of _ = Err Malformed
+-- ADVERTISE 00, SEARCHGW 01 and GWINFO 02, of a right size (5.4.1 to 5.4.3)
+abbrev pub is_discovery : ℕ → List ℕ → Bool
+is_discovery kind part = ((kind == 0) && (length part == 3)) || (((kind == 1) && (length part == 1)) || ((kind == 2) && nat_lt 0 (length part)))
 
--- the message of a type and its variable part; 12 is PUBLISH
+-- where nothing is meant, the bytes are malformed
+abbrev pub or_malformed : {A : Type 0} → Option A → Result A FrameFault
+or_malformed None = Err Malformed
+or_malformed (Some x) = Ok x
+
+-- the message of a MsgType and its variable part
 abbrev pub message_of : ℕ → List ℕ → Result SnFrame FrameFault
-message_of kind part = if kind == 12 then publish_of part else Err NotSupported
+message_of kind part =
+    if is_discovery kind part
+    then Err NotSupported
+    else or_malformed (option_and_then (λ t. part_read t part) (type_of_octet kind))
 
 -- what stands behind a Length, in a datagram of so many octets: MsgType and the variable part.
 -- 254 is forwarder encapsulation (5.5), whose layout is another one and is not read

@@ -1,30 +1,108 @@
 -- The bytes of a frame with the shortest Length (MQTT-SN 1.2, 5.2 to 5.4).
-use Rattle.std.specs.Prelude.{ℕ, ◌≤◌, ◌+◌, ◌/◌, ◌%◌, nat_lt, List, [], ◌∷◌, length, if◌then◌else◌, Some, None}
+use Rattle.std.specs.Prelude.{◌≡◌, ℕ, ◌≤◌, ◌<◌, ◌⊎◌, ◌+◌, ◌/◌, ◌%◌, nat_lt, List, [], ◌∷◌, length, if◌then◌else◌, Some, None, Ok, Err, Vec}
+use Rattle.std.specs.declared.option.Option.{Option}
+use Rattle.std.specs.Global.{Global}
+use Rattle.std.specs.declared.result.Result.{Result}
+use Rattle.sng_frames.specs.declared.fault.FrameFault.{FrameFault}
+use Rattle.sng_frames.specs.declared.fault.FrameFault.TheVariants.{Malformed, TooLong, Memory}
+use Rattle.sng_frames.specs.declared.frame.Connect.{Connect}
+use Rattle.sng_frames.specs.declared.frame.Publish.{Publish}
+use Rattle.sng_frames.specs.declared.frame.Register.{Register}
 use Rattle.sng_frames.specs.declared.frame.SnFrame.{SnFrame}
-use Rattle.sng_frames.specs.declared.frame.SnFrame.TheVariants.{Publish, Disconnect}
+use Rattle.sng_frames.specs.declared.frame.SnFrame.TheVariants as variants
+use Rattle.sng_frames.specs.declared.frame.SubscribeAck.{SubscribeAck}
+use Rattle.sng_frames.specs.declared.frame.TopicAck.{TopicAck}
+use Rattle.sng_frames.specs.declared.frame.TopicRequest.{TopicRequest}
+use Rattle.sng_frames.specs.declared.frame.WillTopic.{WillTopic}
+use Rattle.sng_frames.specs.declared.return_code.ReturnCode.{ReturnCode}
 use Rattle.sng_frames.specs.FlagsOctet.{flags_octet}
-use Rattle.sng_frames.specs.Grammar.{Spells}
+use Rattle.sng_frames.specs.Grammar.{Spells, TopicFits, type_of}
+use Rattle.sng_frames.specs.MessageTypes.{octet_of}
 
--- the MsgType of a frame (5.2.2)
-abbrev pub kind_of : SnFrame → ℕ
-kind_of (Publish p) = 12
-kind_of (Disconnect duration) = 24
+-- a number behind which something stands, high octet first (5.3)
+abbrev pub number_then : ℕ → List ℕ → List ℕ
+number_then n octets = n / 256 ∷ n % 256 ∷ octets
 
--- its variable part: numbers have the high octet first
+abbrev pub connect_part : Connect → List ℕ
+connect_part c = flags_octet c.flags ∷ c.protocol_id ∷ number_then c.duration c.client_id
+
+abbrev pub code_part : ReturnCode → List ℕ
+code_part code = code.0 ∷ []
+
+abbrev pub will_topic_part : Option WillTopic → List ℕ
+will_topic_part None = []
+will_topic_part (Some w) = flags_octet w.flags ∷ w.topic
+
+abbrev pub register_part : Register → List ℕ
+register_part r = number_then r.topic_id (number_then r.msg_id r.name)
+
+abbrev pub topic_ack_part : TopicAck → List ℕ
+topic_ack_part a = number_then a.topic_id (number_then a.msg_id (code_part a.code))
+
+abbrev pub publish_part : Publish → List ℕ
+publish_part p = flags_octet p.flags ∷ number_then p.topic_id (number_then p.msg_id p.payload)
+
+abbrev pub topic_request_part : TopicRequest → List ℕ
+topic_request_part r = flags_octet r.flags ∷ number_then r.msg_id r.topic
+
+abbrev pub subscribe_ack_part : SubscribeAck → List ℕ
+subscribe_ack_part a = flags_octet a.flags ∷ number_then a.topic_id (number_then a.msg_id (code_part a.code))
+
+abbrev pub ping_part : Option (List ℕ) → List ℕ
+ping_part None = []
+ping_part (Some client_id) = client_id
+
+abbrev pub duration_part : Option ℕ → List ℕ
+duration_part None = []
+duration_part (Some duration) = number_then duration []
+
+-- the variable part of a frame
 abbrev pub part_of : SnFrame → List ℕ
-part_of (Publish p) = flags_octet p.flags ∷ p.topic_id / 256 ∷ p.topic_id % 256 ∷ p.msg_id / 256 ∷ p.msg_id % 256 ∷ p.payload
-part_of (Disconnect None) = []
-part_of (Disconnect (Some duration)) = duration / 256 ∷ duration % 256 ∷ []
+part_of (variants.Connect c) = connect_part c
+part_of (variants.ConnectAck code) = code_part code
+part_of variants.WillTopicRequest = []
+part_of (variants.WillTopic w) = will_topic_part w
+part_of variants.WillMessageRequest = []
+part_of (variants.WillMessage message) = message
+part_of (variants.Register r) = register_part r
+part_of (variants.RegisterAck a) = topic_ack_part a
+part_of (variants.Publish p) = publish_part p
+part_of (variants.PublishAck a) = topic_ack_part a
+part_of (variants.PublishComplete msg_id) = number_then msg_id []
+part_of (variants.PublishReceived msg_id) = number_then msg_id []
+part_of (variants.PublishRelease msg_id) = number_then msg_id []
+part_of (variants.Subscribe r) = topic_request_part r
+part_of (variants.SubscribeAck a) = subscribe_ack_part a
+part_of (variants.Unsubscribe r) = topic_request_part r
+part_of (variants.UnsubscribeAck msg_id) = number_then msg_id []
+part_of (variants.PingRequest client_id) = ping_part client_id
+part_of variants.PingResponse = []
+part_of (variants.Disconnect duration) = duration_part duration
+part_of (variants.WillTopicUpdate w) = will_topic_part w
+part_of (variants.WillTopicResponse code) = code_part code
+part_of (variants.WillMessageUpdate message) = message
+part_of (variants.WillMessageResponse code) = code_part code
 
 -- a message behind its Length, which has one octet up to 255 and else three (5.2.1)
 abbrev pub framed : ℕ → List ℕ → List ℕ
 framed kind part =
     if nat_lt (length part) 254
     then (length part + 2) ∷ kind ∷ part
-    else 1 ∷ (length part + 4) / 256 ∷ (length part + 4) % 256 ∷ kind ∷ part
+    else 1 ∷ number_then (length part + 4) (kind ∷ part)
 
 abbrev pub written : SnFrame → List ℕ
-written frame = framed (kind_of frame) (part_of frame)
+written frame = framed (octet_of (type_of frame)) (part_of frame)
+
+-- a writer's answer where these octets are to be written: they are at most 2,048, and only memory can be wanting, or they are too many
+abbrev pub Writes : Result (Vec ℕ Global) FrameFault → List ℕ → Type 0
+Writes (Ok v) octets = (v.items ≡ octets) × (length octets ≤ 2048)
+Writes (Err fault) octets = ((fault ≡ TooLong) × (2048 < length octets)) ⊎ ((fault ≡ Memory) × (length octets ≤ 2048))
+
+-- why a frame is not written, before memory is asked for: it is too long, or else the octets of its topic do not fit their type
+abbrev pub Refuses : FrameFault → SnFrame → Type 0
+Refuses fault frame =
+    ((fault ≡ TooLong) × (2048 < length (written frame)))
+    ⊎ ((fault ≡ Malformed) × (length (written frame) ≤ 2048) × (¬ TopicFits frame))
 
 -- the frame has no spelling, though its bytes would not be too many
 pub record HasNoSpelling (frame : SnFrame) : Type 0 where

@@ -1,4 +1,7 @@
 //! Why a datagram is no frame that is read, or a frame none that is written.
+ghost use Rattle.std.specs.Prelude.{◌≡◌};
+
+use std::alloc::AllocError;
 use thiserror::Error;
 
 /// The fault of a datagram or of a frame.
@@ -16,4 +19,14 @@ pub enum FrameFault {
     /// A growth was refused.
     #[error("out of memory")]
     Memory,
+}
+
+impl From<AllocError> for FrameFault {
+    ghost use Rattle.sng_frames.specs.declared.fault.FrameFault.TheVariants.{Memory};
+
+    ghost from_gives = { λ _ fault. fault ≡ Memory };
+
+    fn from(_refused: AllocError) -> FrameFault {
+        FrameFault::Memory
+    }
 }

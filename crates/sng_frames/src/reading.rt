@@ -1,19 +1,23 @@
-//! Reading a datagram as a frame (MQTT-SN 1.2, 5.2 to 5.4).
+//! Reading a datagram as a frame (MQTT-SN 1.2, 5.2 to 5.5).
 ghost use Rattle.std.specs.Prelude.{◌≡◌, ◌⊎◌, ◌<◌, Ok, Err, IfOk, IfErr};
-ghost use Rattle.sng_frames.specs.Reading.{frame_of, octets_read, behind_one, behind_length, publish_of, number};
+ghost use Rattle.sng_frames.specs.Parts.{part_read};
+ghost use Rattle.sng_frames.specs.Reading.{Reads, frame_of, octets_read, behind_length, message_of, is_discovery};
 
 use crate::frame::MOST_OCTETS;
-use crate::{FrameFault, Publish, SnFrame, flags};
-use sng_text::Octets;
+use crate::{FrameFault, MessageType, SnFrame, parts};
 use std::alloc::Global;
 
-const PUBLISH: u8 = 0x0c;
+const ADVERTISE: u8 = 0x00;
+
+const SEARCH_GATEWAY: u8 = 0x01;
+
+const GATEWAY_INFO: u8 = 0x02;
 
 const ENCAPSULATED: u8 = 0xfe;
 
-/// The frame that a datagram is. Allocates the payload's copy, and nothing else.
+/// The frame that a datagram is. Allocates the copy of the variable part's text or data, and nothing else.
 ///
-/// `Malformed`: it has more than 2,048 octets, or its Length is not its size, or its variable part is too short for its type. `NotSupported`: its MsgType is not one that is read. `Memory`: the copy was refused.
+/// `Malformed`: it has more than 2,048 octets, or its Length is not its size, or its variable part is none of its type. `NotSupported`: it is an ADVERTISE, SEARCHGW or GWINFO, or its MsgType is that of forwarder encapsulation, whatever its Length. `Memory`: the copy was refused.
 pub fn decode(alloc: Global, datagram: &[u8]) -> Result<SnFrame, FrameFault>
     ensures ok { IfOk result (λ f. frame_of datagram.now ≡ Ok f) }
     ensures err { IfErr result (λ e. (e ≡ FrameFault.Memory) ⊎ (frame_of datagram.now ≡ Err e)) }
@@ -33,7 +37,7 @@ fn read_octets(alloc: Global, size: usize, octets: &[u8]) -> Result<SnFrame, Fra
         [] => Err(FrameFault::Malformed),
         [1, high, low, message @ ..] => read_message(
             alloc,
-            usize::from(number(*high, *low)),
+            usize::from(parts::number(*high, *low)),
             size,
             message,
         ),
@@ -59,44 +63,77 @@ fn read_message(
                 Err(FrameFault::NotSupported)
             } else if told != size {
                 Err(FrameFault::Malformed)
-            } else if *kind == PUBLISH {
-                read_publish(alloc, part)
             } else {
-                Err(FrameFault::NotSupported)
+                read_typed(alloc, *kind, part)
             }
         }
     }
 }
 
-/// The variable part of a PUBLISH (5.4.12).
-fn read_publish(alloc: Global, part: &[u8]) -> Result<SnFrame, FrameFault>
-    ensures ok { IfOk result (λ f. publish_of part.now ≡ Ok f) }
-    ensures err { IfErr result (λ e. (e ≡ FrameFault.Memory) ⊎ (publish_of part.now ≡ Err e)) }
+/// A MsgType and its variable part.
+fn read_typed(alloc: Global, kind: u8, part: &[u8]) -> Result<SnFrame, FrameFault>
+    ensures ok { IfOk result (λ f. message_of kind part.now ≡ Ok f) }
+    ensures err { IfErr result (λ e. (e ≡ FrameFault.Memory) ⊎ (message_of kind part.now ≡ Err e)) }
 {
-    match part {
-        [
-            octet,
-            topic_high,
-            topic_low,
-            msg_high,
-            msg_low,
-            payload @ ..,
-        ] => {
-            let payload = Vec::from_slice(alloc, payload).map_err(|_| FrameFault::Memory)?;
-            Ok(SnFrame::Publish(Publish {
-                flags: flags::read(*octet),
-                topic_id: number(*topic_high, *topic_low),
-                msg_id: number(*msg_high, *msg_low),
-                payload: Octets::from(payload),
-            }))
-        }
-        _ => Err(FrameFault::Malformed),
+    if is_discovery(kind, part) {
+        return Err(FrameFault::NotSupported);
+    }
+    match MessageType::read(kind) {
+        None => Err(FrameFault::Malformed),
+        Some(message_type) => read_part(alloc, message_type, part),
     }
 }
 
-/// Two octets as a number.
-fn number(high: u8, low: u8) -> u16
-    ensures { result ≡ number high low }
+/// Whether it is a message by which gateways and clients find each other (5.4.1 to 5.4.3).
+fn is_discovery(kind: u8, part: &[u8]) -> bool
+    ensures { result ≡ is_discovery kind part.now }
 {
-    u16::from(high) * 256 + u16::from(low)
+    (kind == ADVERTISE && part.len() == 3)
+        || (kind == SEARCH_GATEWAY && part.len() == 1)
+        || (kind == GATEWAY_INFO && !part.is_empty())
+}
+
+/// The variable part of a message of that type.
+fn read_part(alloc: Global, message_type: MessageType, part: &[u8]) -> Result<SnFrame, FrameFault>
+    ensures { Reads result (part_read message_type part.now) }
+{
+    match message_type {
+        MessageType::Connect => Ok(SnFrame::Connect(parts::connect(alloc, part)?)),
+        MessageType::ConnectAck => Ok(SnFrame::ConnectAck(parts::code(part)?)),
+        MessageType::WillTopicRequest => {
+            parts::nothing(part)?;
+            Ok(SnFrame::WillTopicRequest)
+        }
+        MessageType::WillTopic => Ok(SnFrame::WillTopic(parts::will_topic(alloc, part)?)),
+        MessageType::WillMessageRequest => {
+            parts::nothing(part)?;
+            Ok(SnFrame::WillMessageRequest)
+        }
+        MessageType::WillMessage => Ok(SnFrame::WillMessage(parts::octets(alloc, part)?)),
+        MessageType::Register => Ok(SnFrame::Register(parts::register(alloc, part)?)),
+        MessageType::RegisterAck => Ok(SnFrame::RegisterAck(parts::topic_ack(part)?)),
+        MessageType::Publish => Ok(SnFrame::Publish(parts::publish(alloc, part)?)),
+        MessageType::PublishAck => Ok(SnFrame::PublishAck(parts::topic_ack(part)?)),
+        MessageType::PublishComplete => Ok(SnFrame::PublishComplete(parts::msg_id(part)?)),
+        MessageType::PublishReceived => Ok(SnFrame::PublishReceived(parts::msg_id(part)?)),
+        MessageType::PublishRelease => Ok(SnFrame::PublishRelease(parts::msg_id(part)?)),
+        MessageType::Subscribe => Ok(SnFrame::Subscribe(parts::topic_request(alloc, part)?)),
+        MessageType::SubscribeAck => Ok(SnFrame::SubscribeAck(parts::subscribe_ack(part)?)),
+        MessageType::Unsubscribe => Ok(SnFrame::Unsubscribe(parts::topic_request(alloc, part)?)),
+        MessageType::UnsubscribeAck => Ok(SnFrame::UnsubscribeAck(parts::msg_id(part)?)),
+        MessageType::PingRequest => Ok(SnFrame::PingRequest(parts::ping(alloc, part)?)),
+        MessageType::PingResponse => {
+            parts::nothing(part)?;
+            Ok(SnFrame::PingResponse)
+        }
+        MessageType::Disconnect => Ok(SnFrame::Disconnect(parts::duration(part)?)),
+        MessageType::WillTopicUpdate => Ok(SnFrame::WillTopicUpdate(parts::will_topic(
+            alloc, part,
+        )?)),
+        MessageType::WillTopicResponse => Ok(SnFrame::WillTopicResponse(parts::code(part)?)),
+        MessageType::WillMessageUpdate => Ok(SnFrame::WillMessageUpdate(parts::octets(
+            alloc, part,
+        )?)),
+        MessageType::WillMessageResponse => Ok(SnFrame::WillMessageResponse(parts::code(part)?)),
+    }
 }

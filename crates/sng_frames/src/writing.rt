@@ -1,15 +1,19 @@
 //! Writing a frame as a datagram (MQTT-SN 1.2, 5.2 to 5.4).
-ghost use Rattle.std.specs.Prelude.{◌≡◌, ◌≢◌, ℕ, List, ◌+◌, ◌/◌, ◌%◌, ◌≤◌, ◌<◌, ◌^◌, ◌↔◌, ◌++◌, Err, IfOk, IfErr, length};
-ghost use Rattle.sng_frames.specs.Writing.{written, HasNoSpelling};
-ghost use Rattle.sng_frames.specs.Grammar.{IsInRange};
+ghost use Rattle.std.specs.Prelude.{◌≡◌, ◌≢◌, ℕ, List, ◌+◌, ◌/◌, ◌%◌, ◌≤◌, ◌<◌, ◌^◌, ◌↔◌, ◌++◌, ◌⊎◌, Err, IfOk, IfErr, OnOk, length};
+ghost use Rattle.sng_frames.specs.MessageTypes.{octet_of};
+ghost use Rattle.sng_frames.specs.Writing.{written, framed, Writes, Refuses, HasNoSpelling, connect_part, will_topic_part, register_part, topic_ack_part, publish_part, topic_request_part, subscribe_ack_part};
+ghost use Rattle.sng_frames.specs.Grammar.{IsInRange, TopicFits};
 
 use crate::frame::MOST_OCTETS;
-use crate::{FrameFault, Publish, SnFrame, flags};
+use crate::{
+    Connect, FrameFault, MessageType, Publish, Register, SnFrame, SubscribeAck, TopicAck,
+    TopicRequest, WillTopic, flags, parts,
+};
 use std::alloc::Global;
 
 /// The datagram that a frame is sent as, with the shortest Length. Allocates once.
 ///
-/// `TooLong`: it has more than 2,048 octets. `Malformed`: no bytes spell the frame. `Memory`: its growth was refused.
+/// `TooLong`: it has more than 2,048 octets. `Malformed`: no bytes spell the frame, which is a SUBSCRIBE or an UNSUBSCRIBE whose topic has not the two octets that its TopicIdType asks for. `Memory`: its growth was refused.
 pub fn encode(alloc: Global, frame: &SnFrame) -> Result<Vec<u8>, FrameFault>
     ensures written { IfOk result (λ v. v.items ≡ written frame.now) }
     ensures fits { IfOk result (λ v. length v.items ≤ 2048) }
@@ -17,86 +21,227 @@ pub fn encode(alloc: Global, frame: &SnFrame) -> Result<Vec<u8>, FrameFault>
     ensures malformed { (result ≡ Err FrameFault.Malformed) ↔ HasNoSpelling frame.now }
     ensures supported { result ≢ Err FrameFault.NotSupported }
 {
+    check_topic(frame)?;
+    write_frame(alloc, frame)
+}
+
+/// The most octets of a topic in a SUBSCRIBE or UNSUBSCRIBE: seven go before it.
+const MOST_TOPIC: usize = MOST_OCTETS - 7;
+
+/// That a topic has as many octets as its type asks for.
+fn check_topic(frame: &SnFrame) -> Result<(), FrameFault>
+    ensures ok { OnOk result (TopicFits frame.now) }
+    ensures err { IfErr result (λ e. Refuses e frame.now) }
+{
     match frame {
-        SnFrame::Publish(publish) => write_publish(alloc, publish),
-        SnFrame::Disconnect(duration) => write_disconnect(alloc, *duration),
+        SnFrame::Subscribe(request) | SnFrame::Unsubscribe(request) => {
+            let topic = request.topic.as_slice();
+            if topic.len() > MOST_TOPIC {
+                Err(FrameFault::TooLong)
+            } else if parts::fits_type(request.flags.id_type, topic) {
+                Ok(())
+            } else {
+                Err(FrameFault::Malformed)
+            }
+        }
+        _ => Ok(()),
     }
 }
 
-const PUBLISH: u8 = 0x0c;
-
-const DISCONNECT: u8 = 0x18;
-
-fn write_publish(alloc: Global, publish: &Publish) -> Result<Vec<u8>, FrameFault>
-    ensures written { IfOk result (λ v. v.items ≡ written (SnFrame.Publish publish.now)) }
-    ensures fits { IfOk result (λ v. length v.items ≤ 2048) }
-    ensures too_long { (result ≡ Err FrameFault.TooLong) ↔ (2048 < length (written (SnFrame.Publish publish.now))) }
-    ensures malformed { result ≢ Err FrameFault.Malformed }
-    ensures supported { result ≢ Err FrameFault.NotSupported }
-    ensures in_range { IsInRange (SnFrame.Publish publish.now) }
+fn write_frame(alloc: Global, frame: &SnFrame) -> Result<Vec<u8>, FrameFault>
+    ensures answer { Writes result (written frame.now) }
+    ensures in_range { IsInRange frame.now }
 {
-    let octet = flags::octet(publish.flags);
-    let (topic_high, topic_low) = (high(publish.topic_id), low(publish.topic_id));
-    let (msg_high, msg_low) = (high(publish.msg_id), low(publish.msg_id));
-    let payload = publish.payload.as_slice();
-    if payload.len() > MOST_OCTETS - 9 {
-        return Err(FrameFault::TooLong);
+    let kind = frame.message_type();
+    match frame {
+        SnFrame::Connect(connect) => write_connect(alloc, connect),
+        SnFrame::ConnectAck(code)
+        | SnFrame::WillTopicResponse(code)
+        | SnFrame::WillMessageResponse(code) => join(alloc, kind, &[code.0], &[]),
+        SnFrame::WillTopicRequest | SnFrame::WillMessageRequest | SnFrame::PingResponse => {
+            join(alloc, kind, &[], &[])
+        }
+        SnFrame::WillTopic(will) | SnFrame::WillTopicUpdate(will) => {
+            write_will_topic(alloc, kind, will)
+        }
+        SnFrame::WillMessage(message) | SnFrame::WillMessageUpdate(message) => {
+            join(alloc, kind, &[], message.as_slice())
+        }
+        SnFrame::Register(register) => write_register(alloc, register),
+        SnFrame::RegisterAck(ack) | SnFrame::PublishAck(ack) => write_topic_ack(alloc, kind, ack),
+        SnFrame::Publish(publish) => write_publish(alloc, publish),
+        SnFrame::PublishComplete(msg_id)
+        | SnFrame::PublishReceived(msg_id)
+        | SnFrame::PublishRelease(msg_id)
+        | SnFrame::UnsubscribeAck(msg_id) => {
+            join(alloc, kind, &[high(*msg_id), low(*msg_id)], &[])
+        }
+        SnFrame::Subscribe(request) | SnFrame::Unsubscribe(request) => {
+            write_topic_request(alloc, kind, request)
+        }
+        SnFrame::SubscribeAck(ack) => write_subscribe_ack(alloc, ack),
+        SnFrame::PingRequest(None) => join(alloc, kind, &[], &[]),
+        SnFrame::PingRequest(Some(client_id)) => join(alloc, kind, &[], client_id.text()),
+        SnFrame::Disconnect(None) => join(alloc, kind, &[], &[]),
+        SnFrame::Disconnect(Some(duration)) => {
+            join(alloc, kind, &[high(*duration), low(*duration)], &[])
+        }
     }
-    if payload.len() < 249 {
-        let size = (payload.len() + 7) as u8;
-        return join(
-            alloc,
-            &[
-                size, PUBLISH, octet, topic_high, topic_low, msg_high, msg_low,
-            ],
-            payload,
-        );
-    }
-    let size = (payload.len() + 9) as u16;
+}
+
+fn write_connect(alloc: Global, connect: &Connect) -> Result<Vec<u8>, FrameFault>
+    ensures answer { Writes result (framed 4 (connect_part connect.now)) }
+    ensures in_range { IsInRange (SnFrame.Connect connect.now) }
+{
     join(
         alloc,
+        MessageType::Connect,
         &[
-            1,
-            high(size),
-            low(size),
-            PUBLISH,
-            octet,
-            topic_high,
-            topic_low,
-            msg_high,
-            msg_low,
+            flags::octet(connect.flags),
+            connect.protocol_id,
+            high(connect.duration),
+            low(connect.duration),
         ],
-        payload,
+        connect.client_id.text(),
     )
 }
 
-fn write_disconnect(alloc: Global, duration: Option<u16>) -> Result<Vec<u8>, FrameFault>
-    ensures ok { IfOk result (λ v. v.items ≡ written (SnFrame.Disconnect duration)) }
-    ensures err { IfErr result (λ e. e ≡ FrameFault.Memory) }
-    ensures in_range { IsInRange (SnFrame.Disconnect duration) }
+fn write_will_topic(
+    alloc: Global,
+    kind: MessageType,
+    will: &Option<WillTopic>,
+) -> Result<Vec<u8>, FrameFault>
+    ensures { Writes result (framed (octet_of kind) (will_topic_part will.now)) }
 {
-    match duration {
-        None => join(alloc, &[2, DISCONNECT], &[]),
-        Some(duration) => join(alloc, &[4, DISCONNECT, high(duration), low(duration)], &[]),
+    match will {
+        None => join(alloc, kind, &[], &[]),
+        Some(will) => join(
+            alloc,
+            kind,
+            &[flags::octet(will.flags)],
+            will.topic.as_slice(),
+        ),
     }
 }
 
-/// The two parts, one after the other, in one allocation.
-fn join(alloc: Global, head: &[u8], tail: &[u8]) -> Result<Vec<u8>, FrameFault>
-    requires head_fits { length head.now ≤ 9 }
-    requires tail_fits { length tail.now ≤ 2039 }
-    ensures ok { IfOk result (λ v. v.items ≡ head.now ++ tail.now) }
+fn write_register(alloc: Global, register: &Register) -> Result<Vec<u8>, FrameFault>
+    ensures answer { Writes result (framed 10 (register_part register.now)) }
+    ensures in_range { IsInRange (SnFrame.Register register.now) }
+{
+    join(
+        alloc,
+        MessageType::Register,
+        &[
+            high(register.topic_id),
+            low(register.topic_id),
+            high(register.msg_id),
+            low(register.msg_id),
+        ],
+        register.name.as_slice(),
+    )
+}
+
+fn write_topic_ack(alloc: Global, kind: MessageType, ack: &TopicAck) -> Result<Vec<u8>, FrameFault>
+    ensures answer { Writes result (framed (octet_of kind) (topic_ack_part ack.now)) }
+    ensures in_range { (ack.now.topic_id < 2 ^ 16) × (ack.now.msg_id < 2 ^ 16) }
+{
+    join(
+        alloc,
+        kind,
+        &[
+            high(ack.topic_id),
+            low(ack.topic_id),
+            high(ack.msg_id),
+            low(ack.msg_id),
+            ack.code.0,
+        ],
+        &[],
+    )
+}
+
+fn write_publish(alloc: Global, publish: &Publish) -> Result<Vec<u8>, FrameFault>
+    ensures answer { Writes result (framed 12 (publish_part publish.now)) }
+    ensures in_range { IsInRange (SnFrame.Publish publish.now) }
+{
+    join(
+        alloc,
+        MessageType::Publish,
+        &[
+            flags::octet(publish.flags),
+            high(publish.topic_id),
+            low(publish.topic_id),
+            high(publish.msg_id),
+            low(publish.msg_id),
+        ],
+        publish.payload.as_slice(),
+    )
+}
+
+fn write_topic_request(
+    alloc: Global,
+    kind: MessageType,
+    request: &TopicRequest,
+) -> Result<Vec<u8>, FrameFault>
+    ensures answer { Writes result (framed (octet_of kind) (topic_request_part request.now)) }
+    ensures in_range { request.now.msg_id < 2 ^ 16 }
+{
+    join(
+        alloc,
+        kind,
+        &[
+            flags::octet(request.flags),
+            high(request.msg_id),
+            low(request.msg_id),
+        ],
+        request.topic.as_slice(),
+    )
+}
+
+fn write_subscribe_ack(alloc: Global, ack: &SubscribeAck) -> Result<Vec<u8>, FrameFault>
+    ensures answer { Writes result (framed 19 (subscribe_ack_part ack.now)) }
+    ensures in_range { IsInRange (SnFrame.SubscribeAck ack.now) }
+{
+    join(
+        alloc,
+        MessageType::SubscribeAck,
+        &[
+            flags::octet(ack.flags),
+            high(ack.topic_id),
+            low(ack.topic_id),
+            high(ack.msg_id),
+            low(ack.msg_id),
+            ack.code.0,
+        ],
+        &[],
+    )
+}
+
+/// A frame of that type, whose variable part is the two slices one after the other, in one allocation.
+fn join(alloc: Global, kind: MessageType, head: &[u8], tail: &[u8]) -> Result<Vec<u8>, FrameFault>
+    requires { length head.now ≤ 6 }
+    ensures { Writes result (framed (octet_of kind) (head.now ++ tail.now)) }
+{
+    if head.len() + tail.len() > MOST_OCTETS - 4 {
+        return Err(FrameFault::TooLong);
+    }
+    let size = head.len() + tail.len();
+    if size < 254 {
+        return fill(alloc, &[(size + 2) as u8, kind.octet()], head, tail);
+    }
+    let size = (size + 4) as u16;
+    fill(alloc, &[1, high(size), low(size), kind.octet()], head, tail)
+}
+
+/// The three slices, one after the other.
+fn fill(alloc: Global, front: &[u8], head: &[u8], tail: &[u8]) -> Result<Vec<u8>, FrameFault>
+    requires { length front.now + length head.now + length tail.now ≤ 2048 }
+    ensures ok { IfOk result (λ v. v.items ≡ front.now ++ head.now ++ tail.now) }
     ensures err { IfErr result (λ e. e ≡ FrameFault.Memory) }
 {
-    let mut bytes = Vec::with_capacity(alloc, head.len() + tail.len()).map_err(
-        |_| FrameFault::Memory,
-    )?;
-    bytes
-        .extend_from_slice(head)
-        .map_err(|_| FrameFault::Memory)?;
-    bytes
-        .extend_from_slice(tail)
-        .map_err(|_| FrameFault::Memory)?;
+    let mut bytes = Vec::with_capacity(alloc, front.len() + head.len() + tail.len())?;
+    bytes.extend_from_slice(front)?;
+    bytes.extend_from_slice(head)?;
+    bytes.extend_from_slice(tail)?;
     Ok(bytes)
 }
 

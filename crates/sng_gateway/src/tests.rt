@@ -80,7 +80,7 @@ fn datagrams_that_are_no_frames_are_noted_by_address(rt: HostRuntime) -> Outcome
     let (status, printed) = played(
         rt.alloc(),
         &[
-            b"from 10.0.0.9:4000 0300ff\nfrom 10.0.0.9:4000 0250\nfrom 10.0.0.9:4000 0350\nfrom 10.0.0.9:4000 05fe\n",
+            b"from 10.0.0.9:4000 050001000a\nfrom 10.0.0.9:4000 030100\nfrom 10.0.0.9:4000 0350\nfrom 10.0.0.9:4000 05fe\n",
         ],
     )?;
     let want =

@@ -79,5 +79,5 @@ wires_in-publish s from p ExactlyOnce = refl
 -- no frame makes a packet at once
 pub wires_in-frame : (s : State) (from : Address) (read : Result SnFrame FrameFault) → wires_in (frame_outs s from read) ≡ []
 wires_in-frame s from (Ok (frame.Publish p)) = wires_in-publish s from p p.flags.qos
-wires_in-frame s from (Ok (frame.Disconnect duration)) = refl
 wires_in-frame s from (Err broken) = refl
+wires_in-frame s from (Ok other) = refl

@@ -49,11 +49,11 @@ publish_outs s from p ExactlyOnce = Note (note.Publish (who.Address from) None N
 publish_outs s from p AtMostOnce = Note (note.Publish (who.Address from) None NoSession) ∷ dismissed from ∷ []
 publish_outs s from p AtLeastOnce = Note (note.Publish (who.Address from) None NoSession) ∷ dismissed from ∷ []
 
--- what a frame from an address is answered, and what is noted of it
+-- what a frame from an address is answered, and what is noted of it; of the messages only PUBLISH is taken as yet
 abbrev pub frame_outs : State → Address → Result SnFrame FrameFault → List Out
 frame_outs s from (Ok (frame.Publish p)) = publish_outs s from p p.flags.qos
-frame_outs s from (Ok (frame.Disconnect duration)) = Note (note.Frame (who.Address from) NotSupported) ∷ []
 frame_outs s from (Err broken) = Note (note.Frame (who.Address from) (rule_of broken)) ∷ []
+frame_outs s from (Ok other) = Note (note.Frame (who.Address from) NotSupported) ∷ []
 
 -- the whole row
 abbrev pub whole : State → Event → Notes → List Out

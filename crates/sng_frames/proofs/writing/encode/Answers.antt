@@ -1,26 +1,19 @@
-use Rattle.std.proofs.Common.{◌≡◌, Err, Result, Ok, IfErr}
-use Rattle.sng_frames.specs.declared.frame.SnFrame.{SnFrame}
+use Rattle.std.proofs.Common.{◌≡◌, ℕ, List, Err, Ok, Result, Vec, inl, inr}
+use Rattle.std.specs.Global.{Global}
 use Rattle.sng_frames.specs.declared.fault.FrameFault.{FrameFault}
-use Rattle.sng_frames.specs.declared.fault.FrameFault.TheVariants.{Malformed, Memory}
-use Rattle.sng_frames.specs.Writing.{written, HasNoSpelling}
-use Rattle.sng_frames.specs.Grammar.{IsInRange}
-use Rattle.sng_frames.proofs.Spelling.{Spells-written}
+use Rattle.sng_frames.specs.declared.fault.FrameFault.TheVariants.{Malformed}
+use Rattle.sng_frames.specs.Writing.{Writes}
+use Rattle.sng_frames.proofs.Spelling.{some-spelled}
 use Rattle.sng_frames.proofs.writing.encode.Goals as goal
 
--- a frame in range has a spelling, unless it is too long
-has_spelling : (frame : SnFrame) → IsInRange frame → HasNoSpelling frame → ⊥
-has_spelling frame fits lacks = lacks.none (written frame) (Spells-written frame fits lacks.short)
+-- a writer does not find a frame malformed
+not_malformed : (r : Result (Vec ℕ Global) FrameFault) (octets : List ℕ) → Writes r octets → r ≡ Err Malformed → ⊥
+not_malformed (Ok v) octets writes is = cc
+not_malformed (Err fault) octets (inl long) is = (let other = long.0 in cc)
+not_malformed (Err fault) octets (inr refused) is = (let other = refused.0 in cc)
 
-not_malformed : {A : Type 0} (r : Result A FrameFault) → IfErr r (λ e. e ≡ Memory) → r ≡ Err Malformed → ⊥
-not_malformed (Ok x) h is = cc
-not_malformed (Err e) h is = cc
-
-pub returns-in-Publish-clause-malformed : goal.returns-in-Publish-clause-malformed
-returns-in-Publish-clause-malformed c =
-    let spelled : HasNoSpelling c.args.frame.now → ⊥ = has_spelling c.args.frame.now (rw c.in-Publish.is c.write_publish.ensures.in_range) in
-    (λ is. absurd (c.write_publish.ensures.malformed is), λ lacks. absurd (spelled lacks))
-
-pub returns-in-Disconnect-clause-malformed : goal.returns-in-Disconnect-clause-malformed
-returns-in-Disconnect-clause-malformed c =
-    let spelled : HasNoSpelling c.args.frame.now → ⊥ = has_spelling c.args.frame.now (rw c.in-Disconnect.is c.write_disconnect.ensures.in_range) in
-    (λ is. absurd (not_malformed c.write_disconnect.result c.write_disconnect.ensures.err is), λ lacks. absurd (spelled lacks))
+pub returns-clause-malformed : goal.returns-clause-malformed
+returns-clause-malformed c = (
+  λ is. absurd (not_malformed _ _ c.write_frame.ensures.answer is),
+  λ lacks. absurd (some-spelled c.args.frame.now c.write_frame.ensures.in_range (c.in_ok-check_topic.ensures).ok lacks),
+)
