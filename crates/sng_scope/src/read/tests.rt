@@ -2,6 +2,7 @@
 use super::*;
 use base64::engine::general_purpose::URL_SAFE_NO_PAD;
 use sng_text::{ClientId, TopicName};
+use std::process::Abort;
 use std::test::Fail;
 
 mod faults;
@@ -58,7 +59,7 @@ fn reads_a_scope(rt: HostRuntime) -> Result<(), Fail> {
 }
 
 /// That the scope text is one pair of this filter, which may be published to.
-fn is_published_alone(rt: &HostRuntime, text: &[u8], filter: &[u8]) -> Result<(), Fail> {
+fn is_published_alone(rt: &(impl Abort + AllocGlobal), text: &[u8], filter: &[u8]) -> Result<(), Fail> {
     let scope = read_scope(rt.alloc(), text)?;
     let [pair] = scope.pairs() else {
         return Err("not one pair")?;
@@ -150,7 +151,7 @@ fn takes_64_pairs_and_no_more(rt: HostRuntime) -> Result<(), Fail> {
 }
 
 /// That the text is no scope, for this fault.
-fn is_no_scope(rt: &HostRuntime, text: &str, fault: PolicyFault) {
+fn is_no_scope(rt: &(impl Abort + AllocGlobal), text: &str, fault: PolicyFault) {
     match read_scope(rt.alloc(), text.as_bytes()) {
         Ok(_) => assert!(rt; false, "accepted {text}"),
         Err(found) => assert_eq!(rt; found, fault, "at {text}"),
@@ -158,7 +159,7 @@ fn is_no_scope(rt: &HostRuntime, text: &str, fault: PolicyFault) {
 }
 
 /// That the text is no policy, for this fault.
-fn is_no_policy(rt: &HostRuntime, text: &str, fault: PolicyFault) {
+fn is_no_policy(rt: &(impl Abort + AllocGlobal), text: &str, fault: PolicyFault) {
     match read_policy(rt.alloc(), text.as_bytes()) {
         Ok(_) => assert!(rt; false, "accepted {text}"),
         Err(found) => assert_eq!(rt; found, fault, "at {text}"),
