@@ -28,10 +28,13 @@ impl Policy {
     pub fn copy(&self) -> Result<Policy, AllocError>
         ensures { IfOk result (λ p. p ≡ self.now) }
     {
+        let clients = self.clients.copy()?;
+        let sources = self.sources.copy()?;
+        let topics = self.topics.copy()?;
         Ok(Policy {
-            clients: self.clients.copy()?,
-            sources: self.sources.copy()?,
-            topics: self.topics.copy()?,
+            clients,
+            sources,
+            topics,
         })
     }
 }
