@@ -3,16 +3,18 @@ use Rattle.std.proofs.Common.{◌≡◌, ℕ, suc, ◌+◌, ◌≤◌, Bool, tru
 use Rattle.std.specs.Ordering.{nat_cmp, match_ordering}
 use Rattle.std.specs.Cmp.Lexicographic.{slice_cmp}
 use Rattle.std.specs.BTreeMap.{insert_entry}
-use Rattle.std.specs.Map.{values_of}
+use Rattle.std.specs.Map.{keys_of, values_of}
 use Rattle.std.proofs.lemmas.Bool.{ltb-false}
 use Rattle.std.proofs.lemmas.List.Elements.{All-nil, All-cons}
-use Rattle.std.proofs.lemmas.Map.Views.{All-values-insert_entry}
+use Rattle.std.proofs.lemmas.Map.Views.{All-keys-insert_entry, All-values-insert_entry}
 use Rattle.serde_json.specs.Data.{Data, null, boolean, number, string, array, object, Items, no_items, item, Members, no_members, member}
 use Rattle.serde_json.specs.Events.{items_len, members_len}
 use Rattle.serde_json.specs.Find.{as_object, as_str, get}
+use Rattle.sng_text.specs.ClientIds.{is_client_id}
 use Rattle.sng_text.specs.Texts.{is_filter, is_name}
+use Rattle.sng_scope.proofs.KeyLemmas.{client_of-client, source_of-address, topic_id_of-id}
 use Rattle.sng_scope.specs.Addresses.{source_of}
-use Rattle.sng_scope.specs.Bounds.{IsScope, AreListed, AreTopics, IsPolicy, ScopesAreBounded, PoliciesAreBounded}
+use Rattle.sng_scope.specs.Bounds.{IsScope, IsAddress, IsTopicId, AreWithin, IsPolicy, ScopesAreBounded, PoliciesAreBounded}
 use Rattle.sng_scope.specs.Numerals.{topic_id_of}
 use Rattle.sng_scope.specs.Policies.{client_of, name_of_data, clients_onto, sources_onto, topics_onto, members_within, clients_of, sources_of, topics_of, is_policy_object, parts_of, policy_of_data}
 use Rattle.sng_scope.specs.Scopes.{are_texts, are_permissions, pair_parts, pair_of, pairs_of, scope_of_items}
@@ -100,27 +102,8 @@ length-insert_entry cmp (e ∷ entries) key value =
     let more : length (insert_entry cmp entries key value) ≤ suc (length entries) = length-insert_entry cmp entries key value in
     placed (cmp key e.0) (suc (suc (length entries))) _ _ _ (omega arith) (omega arith) (omega arith)
 
--- at most so many entries, of which each value is as it must be
-abbrev AreWithin : {K V : Type 0} → ℕ → (V → Type 0) → List (K × V) → Type 0
-AreWithin n P entries = (length entries ≤ n) × All P (values_of entries)
-
-clients_onto-listed : (ms : Members) (n : ℕ) (clients : List (List ℕ × List Pair)) → length clients + members_len ms ≤ n → All IsScope (values_of clients) → IfOk (clients_onto clients ms) (AreWithin n IsScope)
-clients_onto-listed no_members n clients h all = (omega arith, all)
-clients_onto-listed (member name d ms) n clients h all =
-    after_any (client_of name) _ (AreWithin n IsScope) (λ client.
-    after (scope_of_data d) _ IsScope (AreWithin n IsScope) (scope_of_data-scope d) (λ scope is_scope.
-    clients_onto-listed ms n (with_scope clients client scope)
-    (omega (arith, length-insert_entry (slice_cmp nat_cmp) clients client scope))
-    (All-values-insert_entry (slice_cmp nat_cmp) client scope IsScope clients all is_scope)))
-
-sources_onto-listed : (ms : Members) (n : ℕ) (sources : List (List ℕ × List Pair)) → length sources + members_len ms ≤ n → All IsScope (values_of sources) → IfOk (sources_onto sources ms) (AreWithin n IsScope)
-sources_onto-listed no_members n sources h all = (omega arith, all)
-sources_onto-listed (member name d ms) n sources h all =
-    after_any (ok_or (source_of name) BadSource) _ (AreWithin n IsScope) (λ source.
-    after (scope_of_data d) _ IsScope (AreWithin n IsScope) (scope_of_data-scope d) (λ scope is_scope.
-    sources_onto-listed ms n (with_scope sources source scope)
-    (omega (arith, length-insert_entry (slice_cmp nat_cmp) sources source scope))
-    (All-values-insert_entry (slice_cmp nat_cmp) source scope IsScope sources all is_scope)))
+abbrev IsClient : List ℕ → Type 0
+IsClient client = is_client_id client ≡ true
 
 abbrev IsName : List ℕ → Type 0
 IsName name = is_name name ≡ true
@@ -132,14 +115,38 @@ tested_name false text is = tt
 name_of_data-name : (d : Data) → IfOk (name_of_data d) IsName
 name_of_data-name d = after_any (ok_or (as_str d) Shape) _ IsName (λ text. tested_name (is_name text) text refl)
 
-topics_onto-topics : (ms : Members) (n : ℕ) (topics : List (ℕ × List ℕ)) → length topics + members_len ms ≤ n → All IsName (values_of topics) → IfOk (topics_onto topics ms) (AreWithin n IsName)
-topics_onto-topics no_members n topics h all = (omega arith, all)
-topics_onto-topics (member name d ms) n topics h all =
-    after_any (ok_or (topic_id_of name) BadTopicId) _ (AreWithin n IsName) (λ id.
-    after (name_of_data d) _ IsName (AreWithin n IsName) (name_of_data-name d) (λ topic named.
-    topics_onto-topics ms n (with_name topics id topic)
+clients_onto-within : (ms : Members) (n : ℕ) (clients : List (List ℕ × List Pair)) → length clients + members_len ms ≤ n → All IsClient (keys_of clients) → All IsScope (values_of clients)
+    → IfOk (clients_onto clients ms) (AreWithin n IsClient IsScope)
+clients_onto-within no_members n clients h keys values = record { few = omega arith; keys = keys; values = values }
+clients_onto-within (member name d ms) n clients h keys values =
+    after (client_of name) _ IsClient (AreWithin n IsClient IsScope) (client_of-client name) (λ client is_client.
+    after (scope_of_data d) _ IsScope (AreWithin n IsClient IsScope) (scope_of_data-scope d) (λ scope is_scope.
+    clients_onto-within ms n (with_scope clients client scope)
+    (omega (arith, length-insert_entry (slice_cmp nat_cmp) clients client scope))
+    (All-keys-insert_entry (slice_cmp nat_cmp) client scope IsClient clients keys is_client)
+    (All-values-insert_entry (slice_cmp nat_cmp) client scope IsScope clients values is_scope)))
+
+sources_onto-within : (ms : Members) (n : ℕ) (sources : List (List ℕ × List Pair)) → length sources + members_len ms ≤ n → All IsAddress (keys_of sources) → All IsScope (values_of sources)
+    → IfOk (sources_onto sources ms) (AreWithin n IsAddress IsScope)
+sources_onto-within no_members n sources h keys values = record { few = omega arith; keys = keys; values = values }
+sources_onto-within (member name d ms) n sources h keys values =
+    after (ok_or (source_of name) BadSource) _ IsAddress (AreWithin n IsAddress IsScope) (source_of-address name) (λ source is_address.
+    after (scope_of_data d) _ IsScope (AreWithin n IsAddress IsScope) (scope_of_data-scope d) (λ scope is_scope.
+    sources_onto-within ms n (with_scope sources source scope)
+    (omega (arith, length-insert_entry (slice_cmp nat_cmp) sources source scope))
+    (All-keys-insert_entry (slice_cmp nat_cmp) source scope IsAddress sources keys is_address)
+    (All-values-insert_entry (slice_cmp nat_cmp) source scope IsScope sources values is_scope)))
+
+topics_onto-within : (ms : Members) (n : ℕ) (topics : List (ℕ × List ℕ)) → length topics + members_len ms ≤ n → All IsTopicId (keys_of topics) → All IsName (values_of topics)
+    → IfOk (topics_onto topics ms) (AreWithin n IsTopicId IsName)
+topics_onto-within no_members n topics h keys values = record { few = omega arith; keys = keys; values = values }
+topics_onto-within (member name d ms) n topics h keys values =
+    after (ok_or (topic_id_of name) BadTopicId) _ IsTopicId (AreWithin n IsTopicId IsName) (topic_id_of-id name) (λ id is_id.
+    after (name_of_data d) _ IsName (AreWithin n IsTopicId IsName) (name_of_data-name d) (λ topic named.
+    topics_onto-within ms n (with_name topics id topic)
     (omega (arith, length-insert_entry nat_cmp topics id topic))
-    (All-values-insert_entry nat_cmp id topic IsName topics all named)))
+    (All-keys-insert_entry nat_cmp id topic IsTopicId topics keys is_id)
+    (All-values-insert_entry nat_cmp id topic IsName topics values named)))
 
 few_members : (b : Bool) (most : ℕ) (ms : Members) → ltb most (members_len ms) ≡ b → IfOk (cond b (Err TooMany) (Ok ms)) (λ found. members_len found ≤ most)
 few_members true most ms is = tt
@@ -148,23 +155,29 @@ few_members false most ms is = ltb-false most (members_len ms) is
 members_within-few : (most : ℕ) (d : Data) → IfOk (members_within most d) (λ ms. members_len ms ≤ most)
 members_within-few most d = after_any (ok_or (as_object d) Shape) _ (λ ms. members_len ms ≤ most) (λ ms. few_members (ltb most (members_len ms)) most ms refl)
 
-clients_of-listed : (o : Option Data) → IfOk (clients_of o) AreListed
-clients_of-listed None = (omega arith, All-nil IsScope)
-clients_of-listed (Some d) = after (members_within 256 d) (clients_onto []) (λ ms. members_len ms ≤ 256) AreListed (members_within-few 256 d) (λ ms few. clients_onto-listed ms 256 [] (omega arith) (All-nil IsScope))
+clients_of-within : (o : Option Data) → IfOk (clients_of o) (AreWithin 256 IsClient IsScope)
+clients_of-within None = record { few = omega arith; keys = All-nil IsClient; values = All-nil IsScope }
+clients_of-within (Some d) =
+    after (members_within 256 d) (clients_onto []) (λ ms. members_len ms ≤ 256) (AreWithin 256 IsClient IsScope) (members_within-few 256 d)
+    (λ ms few. clients_onto-within ms 256 [] (omega arith) (All-nil IsClient) (All-nil IsScope))
 
-sources_of-listed : (o : Option Data) → IfOk (sources_of o) AreListed
-sources_of-listed None = (omega arith, All-nil IsScope)
-sources_of-listed (Some d) = after (members_within 256 d) (sources_onto []) (λ ms. members_len ms ≤ 256) AreListed (members_within-few 256 d) (λ ms few. sources_onto-listed ms 256 [] (omega arith) (All-nil IsScope))
+sources_of-within : (o : Option Data) → IfOk (sources_of o) (AreWithin 256 IsAddress IsScope)
+sources_of-within None = record { few = omega arith; keys = All-nil IsAddress; values = All-nil IsScope }
+sources_of-within (Some d) =
+    after (members_within 256 d) (sources_onto []) (λ ms. members_len ms ≤ 256) (AreWithin 256 IsAddress IsScope) (members_within-few 256 d)
+    (λ ms few. sources_onto-within ms 256 [] (omega arith) (All-nil IsAddress) (All-nil IsScope))
 
-topics_of-topics : (o : Option Data) → IfOk (topics_of o) AreTopics
-topics_of-topics None = (omega arith, All-nil IsName)
-topics_of-topics (Some d) = after (members_within 1024 d) (topics_onto []) (λ ms. members_len ms ≤ 1024) AreTopics (members_within-few 1024 d) (λ ms few. topics_onto-topics ms 1024 [] (omega arith) (All-nil IsName))
+topics_of-within : (o : Option Data) → IfOk (topics_of o) (AreWithin 1024 IsTopicId IsName)
+topics_of-within None = record { few = omega arith; keys = All-nil IsTopicId; values = All-nil IsName }
+topics_of-within (Some d) =
+    after (members_within 1024 d) (topics_onto []) (λ ms. members_len ms ≤ 1024) (AreWithin 1024 IsTopicId IsName) (members_within-few 1024 d)
+    (λ ms few. topics_onto-within ms 1024 [] (omega arith) (All-nil IsTopicId) (All-nil IsName))
 
 parts_of-policy : (d : Data) → IfOk (parts_of d) IsPolicy
 parts_of-policy d =
-    after (clients_of (get (codes "clients") d)) _ AreListed IsPolicy (clients_of-listed (get (codes "clients") d)) (λ clients c.
-    after (sources_of (get (codes "sources") d)) _ AreListed IsPolicy (sources_of-listed (get (codes "sources") d)) (λ sources s.
-    after (topics_of (get (codes "topics") d)) _ AreTopics IsPolicy (topics_of-topics (get (codes "topics") d)) (λ topics t.
+    after (clients_of (get (codes "clients") d)) _ (AreWithin 256 IsClient IsScope) IsPolicy (clients_of-within (get (codes "clients") d)) (λ clients c.
+    after (sources_of (get (codes "sources") d)) _ (AreWithin 256 IsAddress IsScope) IsPolicy (sources_of-within (get (codes "sources") d)) (λ sources s.
+    after (topics_of (get (codes "topics") d)) _ (AreWithin 1024 IsTopicId IsName) IsPolicy (topics_of-within (get (codes "topics") d)) (λ topics t.
     record { clients = c; sources = s; topics = t })))
 
 shaped : (b : Bool) (r : Result Policy PolicyFault) → IfOk r IsPolicy → IfOk (cond b r (Err Shape)) IsPolicy

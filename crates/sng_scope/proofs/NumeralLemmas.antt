@@ -6,14 +6,14 @@ use Rattle.std.proofs.lemmas.Str.Parse.{IsNumeralModel, numerals_by_fold, parse_
 use Rattle.std.specs.Str.Parse.{ParsesUnsigned}
 use Rattle.sng_scope.specs.Numerals.{are_digits, is_numeral, number_onto, topic_id_of}
 
-numerals : IsNumeralModel (λ ds. are_digits ds ≡ true) (number_onto 0)
+pub numerals : IsNumeralModel (λ ds. are_digits ds ≡ true) (number_onto 0)
 numerals = numerals_by_fold _ (search rules) number_onto (search rules)
 
-numeral-digits : (text : List ℕ) → is_numeral text ≡ true → (are_digits text ≡ true) × (0 < length text)
+pub numeral-digits : (text : List ℕ) → is_numeral text ≡ true → (are_digits text ≡ true) × (0 < length text)
 numeral-digits [] is = absurd (cc)
 numeral-digits (b ∷ bs) is = (grind (arith, common_steps), omega arith)
 
-some_id : (text : List ℕ) → is_numeral text ≡ true → number_onto 0 text ≤ 65534 → topic_id_of text ≡ Some (number_onto 0 text)
+pub some_id : (text : List ℕ) → is_numeral text ≡ true → number_onto 0 text ≤ 65534 → topic_id_of text ≡ Some (number_onto 0 text)
 some_id text is fits = rw (is, le-leb (number_onto 0 text) 65534 fits) refl
 
 no_id : (text : List ℕ) → is_numeral text ≡ true → 65534 < number_onto 0 text → topic_id_of text ≡ None

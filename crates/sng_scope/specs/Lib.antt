@@ -8,3 +8,4 @@ pub mod Scopes
 pub mod Texts
 pub mod Policies
 pub mod Bounds
+pub mod Laws

@@ -59,7 +59,11 @@ fn reads_a_scope(rt: HostRuntime) -> Result<(), Fail> {
 }
 
 /// That the scope text is one pair of this filter, which may be published to.
-fn is_published_alone(rt: &(impl Abort + AllocGlobal), text: &[u8], filter: &[u8]) -> Result<(), Fail> {
+fn is_published_alone(
+    rt: &(impl Abort + AllocGlobal),
+    text: &[u8],
+    filter: &[u8],
+) -> Result<(), Fail> {
     let scope = read_scope(rt.alloc(), text)?;
     let [pair] = scope.pairs() else {
         return Err("not one pair")?;
