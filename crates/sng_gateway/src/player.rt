@@ -87,7 +87,8 @@ impl Player {
             Err(PolicyFault::Memory) => Err(Stop::OutOfMemory),
             Err(fault) => {
                 let number = fault.number();
-                writeln!(output, "refused policy {number} {fault}").map_err(|_| Stop::Failed)
+                let name = fault.name();
+                writeln!(output, "refused policy {number} {name}").map_err(|_| Stop::Failed)
             }
         }
     }

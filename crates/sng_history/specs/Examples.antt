@@ -25,11 +25,11 @@ at ip = record { ip = ip; port = 4000 }
 
 -- the source may publish under `ab`
 abbrev pub grants_ab : Policy
-grants_ab = record { sources = (source, record { filter = codes "ab"; publishes = true; subscribes = false } ∷ []) ∷ [] }
+grants_ab = record { clients = []; sources = (source, record { filter = codes "ab"; publishes = true; subscribes = false } ∷ []) ∷ []; topics = [] }
 
 -- nothing is granted
 abbrev pub grants_nothing : Policy
-grants_nothing = record { sources = [] }
+grants_nothing = record { clients = []; sources = []; topics = [] }
 
 -- a PUBLISH at QoS -1 under the short name `ab` with the payload `21`, with a Length of one octet and of three
 abbrev pub publish_ab : List ℕ

@@ -32,7 +32,7 @@ pub record State : Type 0 where
 
 -- before any row nothing is granted, the connection is down, and nothing waits
 abbrev pub opening : State
-opening = record { policy = record { sources = [] }; up = false; link = record { waiting = [] } }
+opening = record { policy = record { clients = []; sources = []; topics = [] }; up = false; link = record { waiting = [] } }
 
 -- a replacement puts its policy in force
 abbrev pub policy_by : Event → Policy → Policy

@@ -19,7 +19,7 @@ in_force_after Take before = before
 in_force_after (Datagram from datagram) before = before
 
 abbrev pub policy_in_force : List Row → Policy
-policy_in_force [] = record { sources = [] }
+policy_in_force [] = record { clients = []; sources = []; topics = [] }
 policy_in_force (row ∷ earlier) = in_force_after row.event (policy_in_force earlier)
 
 abbrev pub is_up_event : Event → Bool

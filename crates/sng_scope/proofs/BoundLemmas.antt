@@ -2,24 +2,30 @@
 use Rattle.std.proofs.Common.{◌≡◌, ℕ, suc, ◌+◌, ◌≤◌, Bool, true, false, not, cond, ltb, List, [], ◌∷◌, length, All, Ordering, Less, Equal, Greater, Option, Some, None, ok_or, Result, Ok, Err, IfOk, codes, refl, arith}
 use Rattle.std.specs.Ordering.{nat_cmp, match_ordering}
 use Rattle.std.specs.Cmp.Lexicographic.{slice_cmp}
-use Rattle.std.specs.Map.{values_of}
+use Rattle.std.specs.BTreeMap.{insert_entry}
+use Rattle.std.specs.Map.{keys_of, values_of}
 use Rattle.std.proofs.lemmas.Bool.{ltb-false}
 use Rattle.std.proofs.lemmas.List.Elements.{All-nil, All-cons}
-use Rattle.std.proofs.lemmas.Map.Views.{All-values-insert_entry}
-use Rattle.serde_json.specs.Data.{Data, Items, no_items, item, Members, no_members, member}
+use Rattle.std.proofs.lemmas.Map.Views.{All-keys-insert_entry, All-values-insert_entry}
+use Rattle.serde_json.specs.Data.{Data, null, boolean, number, string, array, object, Items, no_items, item, Members, no_members, member}
 use Rattle.serde_json.specs.Events.{items_len, members_len}
-use Rattle.serde_json.specs.Find.{as_array, as_object, get}
-use Rattle.sng_text.specs.Texts.{is_filter}
+use Rattle.serde_json.specs.Find.{as_object, as_str, get}
+use Rattle.sng_text.specs.ClientIds.{is_client_id}
+use Rattle.sng_text.specs.Texts.{is_filter, is_name}
+use Rattle.sng_scope.proofs.KeyLemmas.{client_of-client, source_of-address, topic_id_of-id}
 use Rattle.sng_scope.specs.Addresses.{source_of}
-use Rattle.sng_scope.specs.Bounds.{IsScope, IsPolicy, ScopesAreBounded, PoliciesAreBounded}
-use Rattle.sng_scope.specs.Policies.{value_of, sources_onto, sources_of_members, sources_of, is_policy_object, policy_of_data}
-use Rattle.sng_scope.specs.Scopes.{are_texts, are_permissions, pair_parts, pair_of, pairs_of, scope_of_items, scope_of_data}
+use Rattle.sng_scope.specs.Bounds.{IsScope, IsAddress, IsTopicId, AreWithin, IsPolicy, ScopesAreBounded, PoliciesAreBounded}
+use Rattle.sng_scope.specs.Numerals.{topic_id_of}
+use Rattle.sng_scope.specs.Policies.{client_of, name_of_data, clients_onto, sources_onto, topics_onto, members_within, clients_of, sources_of, topics_of, is_policy_object, parts_of, policy_of_data}
+use Rattle.sng_scope.specs.Scopes.{are_texts, are_permissions, pair_parts, pair_of, pairs_of, scope_of_items}
 use Rattle.sng_scope.specs.Sources.{with_scope}
+use Rattle.sng_scope.specs.Texts.{value_of, items_of_text, scope_of_encoded, scope_of_data}
+use Rattle.sng_scope.specs.Topics.{with_name}
 use Rattle.sng_scope.specs.Steps.{◌>>=◌}
 use Rattle.sng_scope.specs.declared.scope.Pair.{Pair}
 use Rattle.sng_scope.specs.declared.policy.Policy.{Policy}
 use Rattle.sng_scope.specs.declared.fault.PolicyFault.{PolicyFault}
-use Rattle.sng_scope.specs.declared.fault.PolicyFault.TheVariants.{Shape, BadFilter, BadPermission, BadSource, TooMany}
+use Rattle.sng_scope.specs.declared.fault.PolicyFault.TheVariants.{Shape, BadFilter, BadPermission, BadSource, BadTopicId, TooMany}
 
 -- what holds after a step, since each value that the step gives leads to it
 after : {A B E : Type 0} (r : Result A E) (next : A → Result B E) (P : A → Type 0) (Q : B → Type 0) → IfOk r P → ((a : A) → P a → IfOk (next a) Q) → IfOk (r >>= next) Q
@@ -70,57 +76,113 @@ scope_of_items-scope ds =
     let most : items_len ds ≤ 64 = ltb-false 64 (items_len ds) few in
     if_ok_more (pairs_of ds) (IsPairs (items_len ds)) IsScope (pairs_of-pairs ds) (λ pairs h. (omega (arith, h.0), h.1)))
 
+scope_of_encoded-scope : (text : List ℕ) → IfOk (scope_of_encoded text) IsScope
+scope_of_encoded-scope text = after_any (items_of_text text) scope_of_items IsScope scope_of_items-scope
+
 scope_of_data-scope : (d : Data) → IfOk (scope_of_data d) IsScope
-scope_of_data-scope d = after_any (ok_or (as_array d) Shape) scope_of_items IsScope scope_of_items-scope
+scope_of_data-scope (array ds) = scope_of_items-scope ds
+scope_of_data-scope (string text) = scope_of_encoded-scope text
+scope_of_data-scope null = tt
+scope_of_data-scope (boolean b) = tt
+scope_of_data-scope (number n) = tt
+scope_of_data-scope (object ms) = tt
 
 pub scopes_are_bounded : ScopesAreBounded
 scopes_are_bounded text = after_any (value_of text) scope_of_data IsScope scope_of_data-scope
 
-abbrev Sources : Type 0
-Sources = List (List ℕ × List Pair)
-
--- one more source at most
-placed : (o : Ordering) (n : ℕ) (a b c : Sources) → length a ≤ n → length b ≤ n → length c ≤ n → length (match_ordering o a b c) ≤ n
+-- one more entry at most
+placed : {A : Type 0} (o : Ordering) (n : ℕ) (a b c : List A) → length a ≤ n → length b ≤ n → length c ≤ n → length (match_ordering o a b c) ≤ n
 placed Less n a b c h i j = h
 placed Equal n a b c h i j = i
 placed Greater n a b c h i j = j
 
-length-with_scope : (sources : Sources) (source : List ℕ) (scope : List Pair) → length (with_scope sources source scope) ≤ suc (length sources)
-length-with_scope [] source scope = omega arith
-length-with_scope (s ∷ sources) source scope =
-    let more : length (with_scope sources source scope) ≤ suc (length sources) = length-with_scope sources source scope in
-    placed (slice_cmp nat_cmp source s.0) (suc (suc (length sources))) _ _ _ (omega arith) (omega arith) (omega arith)
+length-insert_entry : {K V : Type 0} (cmp : K → K → Ordering) (entries : List (K × V)) (key : K) (value : V) → length (insert_entry cmp entries key value) ≤ suc (length entries)
+length-insert_entry cmp [] key value = omega arith
+length-insert_entry cmp (e ∷ entries) key value =
+    let more : length (insert_entry cmp entries key value) ≤ suc (length entries) = length-insert_entry cmp entries key value in
+    placed (cmp key e.0) (suc (suc (length entries))) _ _ _ (omega arith) (omega arith) (omega arith)
 
-abbrev IsSources : ℕ → Sources → Type 0
-IsSources n sources = (length sources ≤ n) × All IsScope (values_of sources)
+abbrev IsClient : List ℕ → Type 0
+IsClient client = is_client_id client ≡ true
 
-sources_onto-sources : (ms : Members) (n : ℕ) (sources : Sources) → length sources + members_len ms ≤ n → All IsScope (values_of sources) → IfOk (sources_onto sources ms) (IsSources n)
-sources_onto-sources no_members n sources h all = (omega arith, all)
-sources_onto-sources (member name d ms) n sources h all =
-    after_any (ok_or (source_of name) BadSource) _ (IsSources n) (λ source.
-    after (scope_of_data d) _ IsScope (IsSources n) (scope_of_data-scope d) (λ scope is_scope.
-    sources_onto-sources ms n (with_scope sources source scope)
-    (omega (arith, length-with_scope sources source scope))
-    (All-values-insert_entry (slice_cmp nat_cmp) source scope IsScope sources all is_scope)))
+abbrev IsName : List ℕ → Type 0
+IsName name = is_name name ≡ true
 
-sources_of_members-sources : (ms : Members) → IfOk (sources_of_members ms) (IsSources 256)
-sources_of_members-sources ms =
-    within (ltb 256 (members_len ms)) (sources_onto [] ms) (IsSources 256) (λ few.
-    let most : members_len ms ≤ 256 = ltb-false 256 (members_len ms) few in
-    sources_onto-sources ms 256 [] (omega arith) (All-nil IsScope))
+tested_name : (b : Bool) (text : List ℕ) → is_name text ≡ b → IfOk (cond b (Ok text) (Err BadTopicId)) IsName
+tested_name true text is = is
+tested_name false text is = tt
 
-sources_of-sources : (o : Option Data) → IfOk (sources_of o) (IsSources 256)
-sources_of-sources None = (omega arith, All-nil IsScope)
-sources_of-sources (Some d) = after_any (ok_or (as_object d) Shape) sources_of_members (IsSources 256) sources_of_members-sources
+name_of_data-name : (d : Data) → IfOk (name_of_data d) IsName
+name_of_data-name d = after_any (ok_or (as_str d) Shape) _ IsName (λ text. tested_name (is_name text) text refl)
+
+clients_onto-within : (ms : Members) (n : ℕ) (clients : List (List ℕ × List Pair)) → length clients + members_len ms ≤ n → All IsClient (keys_of clients) → All IsScope (values_of clients)
+    → IfOk (clients_onto clients ms) (AreWithin n IsClient IsScope)
+clients_onto-within no_members n clients h keys values = record { few = omega arith; keys = keys; values = values }
+clients_onto-within (member name d ms) n clients h keys values =
+    after (client_of name) _ IsClient (AreWithin n IsClient IsScope) (client_of-client name) (λ client is_client.
+    after (scope_of_data d) _ IsScope (AreWithin n IsClient IsScope) (scope_of_data-scope d) (λ scope is_scope.
+    clients_onto-within ms n (with_scope clients client scope)
+    (omega (arith, length-insert_entry (slice_cmp nat_cmp) clients client scope))
+    (All-keys-insert_entry (slice_cmp nat_cmp) client scope IsClient clients keys is_client)
+    (All-values-insert_entry (slice_cmp nat_cmp) client scope IsScope clients values is_scope)))
+
+sources_onto-within : (ms : Members) (n : ℕ) (sources : List (List ℕ × List Pair)) → length sources + members_len ms ≤ n → All IsAddress (keys_of sources) → All IsScope (values_of sources)
+    → IfOk (sources_onto sources ms) (AreWithin n IsAddress IsScope)
+sources_onto-within no_members n sources h keys values = record { few = omega arith; keys = keys; values = values }
+sources_onto-within (member name d ms) n sources h keys values =
+    after (ok_or (source_of name) BadSource) _ IsAddress (AreWithin n IsAddress IsScope) (source_of-address name) (λ source is_address.
+    after (scope_of_data d) _ IsScope (AreWithin n IsAddress IsScope) (scope_of_data-scope d) (λ scope is_scope.
+    sources_onto-within ms n (with_scope sources source scope)
+    (omega (arith, length-insert_entry (slice_cmp nat_cmp) sources source scope))
+    (All-keys-insert_entry (slice_cmp nat_cmp) source scope IsAddress sources keys is_address)
+    (All-values-insert_entry (slice_cmp nat_cmp) source scope IsScope sources values is_scope)))
+
+topics_onto-within : (ms : Members) (n : ℕ) (topics : List (ℕ × List ℕ)) → length topics + members_len ms ≤ n → All IsTopicId (keys_of topics) → All IsName (values_of topics)
+    → IfOk (topics_onto topics ms) (AreWithin n IsTopicId IsName)
+topics_onto-within no_members n topics h keys values = record { few = omega arith; keys = keys; values = values }
+topics_onto-within (member name d ms) n topics h keys values =
+    after (ok_or (topic_id_of name) BadTopicId) _ IsTopicId (AreWithin n IsTopicId IsName) (topic_id_of-id name) (λ id is_id.
+    after (name_of_data d) _ IsName (AreWithin n IsTopicId IsName) (name_of_data-name d) (λ topic named.
+    topics_onto-within ms n (with_name topics id topic)
+    (omega (arith, length-insert_entry nat_cmp topics id topic))
+    (All-keys-insert_entry nat_cmp id topic IsTopicId topics keys is_id)
+    (All-values-insert_entry nat_cmp id topic IsName topics values named)))
+
+few_members : (b : Bool) (most : ℕ) (ms : Members) → ltb most (members_len ms) ≡ b → IfOk (cond b (Err TooMany) (Ok ms)) (λ found. members_len found ≤ most)
+few_members true most ms is = tt
+few_members false most ms is = ltb-false most (members_len ms) is
+
+members_within-few : (most : ℕ) (d : Data) → IfOk (members_within most d) (λ ms. members_len ms ≤ most)
+members_within-few most d = after_any (ok_or (as_object d) Shape) _ (λ ms. members_len ms ≤ most) (λ ms. few_members (ltb most (members_len ms)) most ms refl)
+
+clients_of-within : (o : Option Data) → IfOk (clients_of o) (AreWithin 256 IsClient IsScope)
+clients_of-within None = record { few = omega arith; keys = All-nil IsClient; values = All-nil IsScope }
+clients_of-within (Some d) =
+    after (members_within 256 d) (clients_onto []) (λ ms. members_len ms ≤ 256) (AreWithin 256 IsClient IsScope) (members_within-few 256 d)
+    (λ ms few. clients_onto-within ms 256 [] (omega arith) (All-nil IsClient) (All-nil IsScope))
+
+sources_of-within : (o : Option Data) → IfOk (sources_of o) (AreWithin 256 IsAddress IsScope)
+sources_of-within None = record { few = omega arith; keys = All-nil IsAddress; values = All-nil IsScope }
+sources_of-within (Some d) =
+    after (members_within 256 d) (sources_onto []) (λ ms. members_len ms ≤ 256) (AreWithin 256 IsAddress IsScope) (members_within-few 256 d)
+    (λ ms few. sources_onto-within ms 256 [] (omega arith) (All-nil IsAddress) (All-nil IsScope))
+
+topics_of-within : (o : Option Data) → IfOk (topics_of o) (AreWithin 1024 IsTopicId IsName)
+topics_of-within None = record { few = omega arith; keys = All-nil IsTopicId; values = All-nil IsName }
+topics_of-within (Some d) =
+    after (members_within 1024 d) (topics_onto []) (λ ms. members_len ms ≤ 1024) (AreWithin 1024 IsTopicId IsName) (members_within-few 1024 d)
+    (λ ms few. topics_onto-within ms 1024 [] (omega arith) (All-nil IsTopicId) (All-nil IsName))
+
+parts_of-policy : (d : Data) → IfOk (parts_of d) IsPolicy
+parts_of-policy d =
+    after (clients_of (get (codes "clients") d)) _ (AreWithin 256 IsClient IsScope) IsPolicy (clients_of-within (get (codes "clients") d)) (λ clients c.
+    after (sources_of (get (codes "sources") d)) _ (AreWithin 256 IsAddress IsScope) IsPolicy (sources_of-within (get (codes "sources") d)) (λ sources s.
+    after (topics_of (get (codes "topics") d)) _ (AreWithin 1024 IsTopicId IsName) IsPolicy (topics_of-within (get (codes "topics") d)) (λ topics t.
+    record { clients = c; sources = s; topics = t })))
 
 shaped : (b : Bool) (r : Result Policy PolicyFault) → IfOk r IsPolicy → IfOk (cond b r (Err Shape)) IsPolicy
 shaped true r h = h
 shaped false r h = tt
 
-policy_of_data-policy : (d : Data) → IfOk (policy_of_data d) IsPolicy
-policy_of_data-policy d =
-    let found = sources_of (get (codes "sources") d) in
-    shaped (is_policy_object d) _ (after found _ (IsSources 256) IsPolicy (sources_of-sources (get (codes "sources") d)) (λ sources h. h))
-
 pub policies_are_bounded : PoliciesAreBounded
-policies_are_bounded text = after_any (value_of text) policy_of_data IsPolicy policy_of_data-policy
+policies_are_bounded text = after_any (value_of text) policy_of_data IsPolicy (λ d. shaped (is_policy_object d) (parts_of d) (parts_of-policy d))

@@ -6,7 +6,7 @@ use Rattle.serde_json.proofs.Views.{Entry}
 use Rattle.serde_json.specs.Events.{members_len}
 use Rattle.serde_json.specs.Read.{read}
 use Rattle.serde_json.specs.View.{members_view}
-use Rattle.sng_scope.specs.Policies.{value_of}
+use Rattle.sng_scope.specs.Texts.{value_of}
 use Rattle.sng_scope.specs.declared.fault.PolicyFault.TheVariants.{NotJson}
 
 pub members_len-members_view : (es : List Entry) → members_len (members_view es) ≡ length es

@@ -1,4 +1,8 @@
 pub mod PartLemmas
 pub mod PairLemmas
 pub mod JsonLemmas
+pub mod EncodedLemmas
+pub mod NumeralLemmas
+pub mod LawLemmas
+pub mod KeyLemmas
 pub mod BoundLemmas

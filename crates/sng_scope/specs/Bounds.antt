@@ -1,8 +1,10 @@
 -- What holds of each scope and of each policy that a text gives.
-use Rattle.std.specs.Prelude.{◌≡◌, ℕ, ◌≤◌, true, List, length, All, IfOk}
-use Rattle.std.specs.Map.{values_of}
-use Rattle.sng_text.specs.Texts.{is_filter}
-use Rattle.sng_scope.specs.Policies.{policy_of, scope_of_text}
+use Rattle.std.specs.Prelude.{◌≡◌, ℕ, ◌<◌, ◌≤◌, true, List, length, All, IfOk}
+use Rattle.std.specs.Map.{keys_of, values_of}
+use Rattle.sng_text.specs.ClientIds.{is_client_id}
+use Rattle.sng_text.specs.Texts.{is_filter, is_name}
+use Rattle.sng_scope.specs.Policies.{policy_of}
+use Rattle.sng_scope.specs.Texts.{scope_of_text}
 use Rattle.sng_scope.specs.declared.scope.Pair.{Pair}
 use Rattle.sng_scope.specs.declared.policy.Policy.{Policy}
 
@@ -10,9 +12,24 @@ use Rattle.sng_scope.specs.declared.policy.Policy.{Policy}
 abbrev pub IsScope : List Pair → Type 0
 IsScope pairs = (length pairs ≤ 64) × All (λ pair. is_filter pair.filter ≡ true) pairs
 
--- at most 256 sources, each with such a scope
-abbrev pub IsPolicy : Policy → Type 0
-IsPolicy policy = (length policy.sources ≤ 256) × All IsScope (values_of policy.sources)
+-- four octets
+abbrev pub IsAddress : List ℕ → Type 0
+IsAddress octets = (length octets ≡ 4) × All (λ octet. octet < 256) octets
+
+-- neither of the two that are reserved
+abbrev pub IsTopicId : ℕ → Type 0
+IsTopicId id = (1 ≤ id) × (id ≤ 65534)
+
+-- at most so many entries, each with a key and a value as they must be
+pub record AreWithin {K V : Type 0} (most : ℕ) (IsKey : K → Type 0) (IsValue : V → Type 0) (entries : List (K × V)) : Type 0 where
+  pub few : length entries ≤ most
+  pub keys : All IsKey (keys_of entries)
+  pub values : All IsValue (values_of entries)
+
+pub record IsPolicy (policy : Policy) : Type 0 where
+  pub clients : AreWithin 256 (λ client. is_client_id client ≡ true) IsScope policy.clients
+  pub sources : AreWithin 256 IsAddress IsScope policy.sources
+  pub topics : AreWithin 1024 IsTopicId (λ name. is_name name ≡ true) policy.topics
 
 abbrev pub ScopesAreBounded : Type 0
 ScopesAreBounded = (text : List ℕ) → IfOk (scope_of_text text) IsScope

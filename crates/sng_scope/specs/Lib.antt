@@ -1,7 +1,11 @@
 pub mod Sources
+pub mod Topics
 pub mod Faults
 pub mod Steps
 pub mod Addresses
+pub mod Numerals
 pub mod Scopes
+pub mod Texts
 pub mod Policies
 pub mod Bounds
+pub mod Laws

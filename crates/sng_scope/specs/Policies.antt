@@ -1,26 +1,25 @@
--- Policy texts: a JSON object (RFC 8259) with the version and the scopes of sources.
+-- Policy texts: a JSON object (RFC 8259) with the version, the scopes of clients and of sources, and the predefined topics.
 use Rattle.std.specs.Prelude.{ℕ, Bool, true, false, ◌==◌, ◌&&◌, ◌||◌, nat_lt, List, [], if◌then◌else◌, Option, Some, None, option_map, option_and_then, unwrap_or, ok_or, Result, Ok, Err, codes}
-use Rattle.std.specs.Str.{is_utf8, bytes_eq}
+use Rattle.std.specs.Str.{bytes_eq}
 use Rattle.serde_json.specs.Data.{Data, Members, no_members, member}
 use Rattle.serde_json.specs.Events.{members_len}
-use Rattle.serde_json.specs.Find.{get, as_number, as_object, as_u64}
-use Rattle.serde_json.specs.Read.{read}
+use Rattle.serde_json.specs.Find.{get, as_number, as_object, as_str, as_u64}
+use Rattle.sng_text.specs.ClientIds.{is_client_id}
+use Rattle.sng_text.specs.Texts.{is_name}
 use Rattle.sng_scope.specs.Addresses.{source_of}
-use Rattle.sng_scope.specs.Scopes.{scope_of_data}
+use Rattle.sng_scope.specs.Numerals.{topic_id_of}
 use Rattle.sng_scope.specs.Sources.{with_scope}
 use Rattle.sng_scope.specs.Steps.{◌>>=◌}
+use Rattle.sng_scope.specs.Texts.{value_of, scope_of_data}
+use Rattle.sng_scope.specs.Topics.{with_name}
 use Rattle.sng_scope.specs.declared.scope.Pair.{Pair}
 use Rattle.sng_scope.specs.declared.policy.Policy.{Policy}
 use Rattle.sng_scope.specs.declared.fault.PolicyFault.{PolicyFault}
-use Rattle.sng_scope.specs.declared.fault.PolicyFault.TheVariants.{NotJson, Shape, BadSource, TooMany}
-
--- the JSON value of a text, which is UTF-8
-abbrev pub value_of : List ℕ → Result Data PolicyFault
-value_of text = if is_utf8 text then ok_or (read text) NotJson else Err NotJson
+use Rattle.sng_scope.specs.declared.fault.PolicyFault.TheVariants.{Shape, BadClientId, BadSource, BadTopicId, TooMany}
 
 -- the name of a member that a policy may have
 abbrev pub is_known : List ℕ → Bool
-is_known name = bytes_eq name (codes "version") || bytes_eq name (codes "sources")
+is_known name = bytes_eq name (codes "version") || bytes_eq name (codes "clients") || bytes_eq name (codes "sources") || bytes_eq name (codes "topics")
 
 -- each name is known
 abbrev pub are_known : Members → Bool
@@ -35,7 +34,25 @@ is_version_one d = unwrap_or (option_map (λ n. n == 1) (option_and_then as_u64 
 abbrev pub is_policy_object : Data → Bool
 is_policy_object d = is_version_one d && unwrap_or (option_map are_known (as_object d)) false
 
--- The members are taken in the byte order of their names, in which an object has them; in each the name is judged before the value.
+-- ---- keys and topic names
+
+-- 1 to 23 characters without U+0000
+abbrev pub client_of : List ℕ → Result (List ℕ) PolicyFault
+client_of text = if is_client_id text then Ok text else Err BadClientId
+
+-- a text that is a topic name
+abbrev pub name_of_data : Data → Result (List ℕ) PolicyFault
+name_of_data d = ok_or (as_str d) Shape >>= (λ text. if is_name text then Ok text else Err BadTopicId)
+
+-- ---- clients, sources and topics: their members are taken in the byte order of their names, in which an object has them, and in each the name is judged before the value
+
+abbrev pub clients_onto : List (List ℕ × List Pair) → Members → Result (List (List ℕ × List Pair)) PolicyFault
+clients_onto clients no_members = Ok clients
+clients_onto clients (member name d ms) = do
+  client ← client_of name
+  scope ← scope_of_data d
+  clients_onto (with_scope clients client scope) ms
+
 abbrev pub sources_onto : List (List ℕ × List Pair) → Members → Result (List (List ℕ × List Pair)) PolicyFault
 sources_onto sources no_members = Ok sources
 sources_onto sources (member name d ms) = do
@@ -43,29 +60,43 @@ sources_onto sources (member name d ms) = do
   scope ← scope_of_data d
   sources_onto (with_scope sources source scope) ms
 
--- at most 256 sources
-abbrev pub sources_of_members : Members → Result (List (List ℕ × List Pair)) PolicyFault
-sources_of_members ms = if nat_lt 256 (members_len ms) then Err TooMany else sources_onto [] ms
+abbrev pub topics_onto : List (ℕ × List ℕ) → Members → Result (List (ℕ × List ℕ)) PolicyFault
+topics_onto topics no_members = Ok topics
+topics_onto topics (member name d ms) = do
+  id ← ok_or (topic_id_of name) BadTopicId
+  topic ← name_of_data d
+  topics_onto (with_name topics id topic) ms
 
--- an object of sources
-abbrev pub sources_of_data : Data → Result (List (List ℕ × List Pair)) PolicyFault
-sources_of_data d = ok_or (as_object d) Shape >>= sources_of_members
+-- an object of at most so many members
+abbrev pub members_within : ℕ → Data → Result Members PolicyFault
+members_within most d = ok_or (as_object d) Shape >>= (λ ms. if nat_lt most (members_len ms) then Err TooMany else Ok ms)
 
--- no sources are an empty object of them
+-- what is absent is empty
+abbrev pub clients_of : Option Data → Result (List (List ℕ × List Pair)) PolicyFault
+clients_of None = Ok []
+clients_of (Some d) = members_within 256 d >>= clients_onto []
+
 abbrev pub sources_of : Option Data → Result (List (List ℕ × List Pair)) PolicyFault
 sources_of None = Ok []
-sources_of (Some d) = sources_of_data d
+sources_of (Some d) = members_within 256 d >>= sources_onto []
+
+abbrev pub topics_of : Option Data → Result (List (ℕ × List ℕ)) PolicyFault
+topics_of None = Ok []
+topics_of (Some d) = members_within 1024 d >>= topics_onto []
+
+-- ---- the policy
+
+-- the clients, the sources and the topics of an object
+abbrev pub parts_of : Data → Result Policy PolicyFault
+parts_of d = do
+  clients ← clients_of (get (codes "clients") d)
+  sources ← sources_of (get (codes "sources") d)
+  topics ← topics_of (get (codes "topics") d)
+  Ok (record { clients = clients; sources = sources; topics = topics })
 
 abbrev pub policy_of_data : Data → Result Policy PolicyFault
-policy_of_data d =
-    if is_policy_object d
-    then (sources_of (get (codes "sources") d) >>= (λ sources. Ok (record { sources = sources })))
-    else Err Shape
+policy_of_data d = if is_policy_object d then parts_of d else Err Shape
 
 -- the policy that a text is, or its first fault
 abbrev pub policy_of : List ℕ → Result Policy PolicyFault
 policy_of text = value_of text >>= policy_of_data
-
--- the scope that a text is, or its first fault
-abbrev pub scope_of_text : List ℕ → Result (List Pair) PolicyFault
-scope_of_text text = value_of text >>= scope_of_data

@@ -72,7 +72,3 @@ pairs_of (item d ds) = do
 -- at most 64 pairs
 abbrev pub scope_of_items : Items → Result (List Pair) PolicyFault
 scope_of_items ds = if nat_lt 64 (items_len ds) then Err TooMany else pairs_of ds
-
--- an array of pairs
-abbrev pub scope_of_data : Data → Result (List Pair) PolicyFault
-scope_of_data d = ok_or (as_array d) Shape >>= scope_of_items

@@ -50,13 +50,13 @@ fn octet_from(digits: &[u8]) -> Option<u8>
     }
 }
 
-fn is_digit(byte: u8) -> bool
+pub fn is_digit(byte: u8) -> bool
     ensures { result ≡ is_digit byte }
 {
     b'0' <= byte && byte <= b'9'
 }
 
-fn is_leading(byte: u8) -> bool
+pub fn is_leading(byte: u8) -> bool
     ensures { result ≡ is_leading byte }
 {
     b'1' <= byte && byte <= b'9'

@@ -1,35 +1,44 @@
 //! What keeps a text from being a policy or a scope.
 use thiserror::Error;
 
-/// The fault of a policy text or of the text of a scope. Its number is what a log shows of it.
+/// The fault of a policy text or of the text of a scope. Its number and its name are what a log shows of it, and its sentence tells an operator what to mend.
 #[derive(Clone, Copy, Debug, PartialEq, Eq, Error)]
 pub enum PolicyFault {
     /// The bytes are no UTF-8, or no JSON (RFC 8259).
-    #[error("NotJson")]
+    #[error("the text is not JSON in UTF-8, or a scope given as a text does not decode to such JSON")]
     NotJson,
     /// The JSON is not of the shape of a policy or of a scope.
-    #[error("Shape")]
+    #[error("the text is JSON, but not of the shape of a policy of version 1 or of a scope")]
     Shape,
     /// A text that is no topic filter (MQTT 3.1.1, 4.7).
-    #[error("BadFilter")]
+    #[error("a filter in a scope is not a topic filter of 1 to 200 bytes")]
     BadFilter,
     /// A permission other than `pub` and `sub` (RFC 9431, 2.3).
-    #[error("BadPermission")]
+    #[error("a permission in a scope is neither `pub` nor `sub`")]
     BadPermission,
-    /// A source that is no IPv4 address.
-    #[error("BadSource")]
+    /// A scope given as a text that is no unpadded base64url (RFC 4648, 5).
+    #[error("a scope given as a text is not base64url without padding")]
+    BadBase64,
+    /// A name under `clients` that is no client id (MQTT-SN 1.2, 5.3.1).
+    #[error("a name under `clients` is not a client id of 1 to 23 characters")]
+    BadClientId,
+    /// A name under `sources` that is no IPv4 address.
+    #[error("a name under `sources` is not an IPv4 address in decimal without leading zeros")]
     BadSource,
-    /// More sources than 256, or more pairs in a scope than 64.
-    #[error("TooMany")]
+    /// A name under `topics` that is no topic id, or its value no topic name (MQTT-SN 1.2, 5.3.11).
+    #[error("under `topics` a name is not a topic id from 1 to 65534 without leading zeros, or its text is not a topic name")]
+    BadTopicId,
+    /// More clients or sources than 256, more topics than 1,024, or more pairs in a scope than 64.
+    #[error("there are more than 256 clients, 256 sources, 1024 topics or 64 pairs in a scope")]
     TooMany,
     /// A growth was refused.
-    #[error("Memory")]
+    #[error("out of memory")]
     Memory,
 }
 
 impl PolicyFault {
     ghost use Rattle.std.specs.Prelude.{◌≡◌};
-    ghost use Rattle.sng_scope.specs.Faults.{number_of};
+    ghost use Rattle.sng_scope.specs.Faults.{number_of, name_of};
 
     /// The number of the fault, by which logs and tables know it.
     pub fn number(self) -> u8
@@ -40,9 +49,30 @@ impl PolicyFault {
             PolicyFault::Shape => 2,
             PolicyFault::BadFilter => 3,
             PolicyFault::BadPermission => 4,
+            PolicyFault::BadBase64 => 5,
+            PolicyFault::BadClientId => 6,
             PolicyFault::BadSource => 7,
+            PolicyFault::BadTopicId => 8,
             PolicyFault::TooMany => 9,
             PolicyFault::Memory => 10,
+        }
+    }
+
+    /// The name of the fault, as logs print it behind the number.
+    pub fn name(self) -> &'static str
+        ensures { result.now ≡ name_of self }
+    {
+        match self {
+            PolicyFault::NotJson => "NotJson",
+            PolicyFault::Shape => "Shape",
+            PolicyFault::BadFilter => "BadFilter",
+            PolicyFault::BadPermission => "BadPermission",
+            PolicyFault::BadBase64 => "BadBase64",
+            PolicyFault::BadClientId => "BadClientId",
+            PolicyFault::BadSource => "BadSource",
+            PolicyFault::BadTopicId => "BadTopicId",
+            PolicyFault::TooMany => "TooMany",
+            PolicyFault::Memory => "Memory",
         }
     }
 }

@@ -2,7 +2,9 @@
 #![tactic(auto)]
 
 mod address;
+pub mod clients;
 pub mod fault;
+mod json_text;
 pub mod laws;
 mod members;
 mod pairs;
@@ -10,10 +12,15 @@ mod permissions;
 pub mod policy;
 pub mod read;
 pub mod scope;
+mod scope_form;
 pub mod sources;
+mod topic_id;
+pub mod topics;
 
+pub use clients::Clients;
 pub use fault::PolicyFault;
 pub use policy::Policy;
 pub use read::{read_policy, read_scope};
 pub use scope::{Pair, Scope};
 pub use sources::Sources;
+pub use topics::Topics;

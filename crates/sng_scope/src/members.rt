@@ -1,16 +1,19 @@
-//! The members of a policy object: the version and the sources.
-ghost use Rattle.std.specs.Prelude.{◌≡◌, ◌⊎◌, [], IfOk, IfErr, Ok, Err, nat_lt};
+//! The members of a policy object: the version, the clients, the sources and the topics.
+ghost use Rattle.std.specs.Prelude.{◌≡◌, ◌⊎◌, IfOk, IfErr, Ok, Err, MatchResult, nat_lt};
 ghost use Rattle.serde_json.specs.Events.{members_len};
 ghost use Rattle.serde_json.specs.View.{view, members_view};
-ghost use Rattle.sng_scope.specs.Policies.{is_known, are_known, is_version_one, is_policy_object, sources_onto, sources_of_data, policy_of_data};
+ghost use Rattle.sng_scope.specs.Policies.{is_known, are_known, is_version_one, is_policy_object, members_within, parts_of, policy_of_data};
 
-use crate::address::source_from;
-use crate::pairs::scope_from;
-use crate::{Policy, PolicyFault, Sources};
+mod clients;
+mod sources;
+mod topics;
+
+use crate::{Policy, PolicyFault};
+use clients::clients_in;
 use serde_json::{Map, Value};
+use sources::sources_in;
 use std::alloc::Global;
-
-const MOST_SOURCES: usize = 256;
+use topics::topics_in;
 
 /// The policy that the value is, or the first of its faults.
 pub fn policy_from(alloc: Global, value: &Value) -> Result<Policy, PolicyFault>
@@ -21,11 +24,23 @@ pub fn policy_from(alloc: Global, value: &Value) -> Result<Policy, PolicyFault>
     if !is_policy_object(value) {
         return Err(PolicyFault::Shape);
     }
-    let sources = match value.get("sources") {
-        None => Sources::new(alloc),
-        Some(sources) => sources_from(alloc, sources)?,
-    };
-    Ok(Policy { sources })
+    parts_from(alloc, value)
+}
+
+/// The parts of a policy object, one after another.
+fn parts_from(alloc: Global, value: &Value) -> Result<Policy, PolicyFault>
+    ensures ok { IfOk result (λ p. parts_of (view value.now) ≡ Ok p) }
+    ensures err { IfErr result (λ e. (e ≡ PolicyFault.Memory)
+        ⊎ (parts_of (view value.now) ≡ Err e)) }
+{
+    let clients = clients_in(alloc, value)?;
+    let sources = sources_in(alloc, value)?;
+    let topics = topics_in(alloc, value)?;
+    Ok(Policy {
+        clients,
+        sources,
+        topics,
+    })
 }
 
 /// Whether the value is an object of this version, with no member that is unknown.
@@ -47,7 +62,7 @@ fn is_version_one(value: &Value) -> bool
     }
 }
 
-/// Whether each name is `version` or `sources`.
+/// Whether each name is one that a policy may have.
 fn are_known(members: &Map<String, Value>) -> bool
     ensures { result ≡ are_known (members_view members.now.entries) }
 {
@@ -62,44 +77,27 @@ fn are_known(members: &Map<String, Value>) -> bool
 fn is_known(name: &str) -> bool
     ensures { result ≡ is_known name.now }
 {
-    name == "version" || name == "sources"
+    name == "version" || name == "clients" || name == "sources" || name == "topics"
 }
 
-fn sources_from(alloc: Global, value: &Value) -> Result<Sources, PolicyFault>
-    ensures ok { IfOk result (λ s. sources_of_data (view value.now) ≡ Ok s) }
-    ensures err { IfErr result (λ e. (e ≡ PolicyFault.Memory)
-        ⊎ (sources_of_data (view value.now) ≡ Err e)) }
+/// The members of an object that has no more of them than `most`.
+fn members_within(value: &Value, most: usize) -> Result<&Map<String, Value>, PolicyFault>
+    ensures { MatchResult result
+        (λ ms. members_within most (view value.now) ≡ Ok (members_view ms.now.entries))
+        (λ e. members_within most (view value.now) ≡ Err e) }
 {
     let Some(members) = value.as_object() else {
         return Err(PolicyFault::Shape);
     };
-    if is_over_limit(members) {
+    if is_over(members, most) {
         return Err(PolicyFault::TooMany);
     }
-    sources_of(alloc, members)
+    Ok(members)
 }
 
-/// Whether there are more sources than a policy may list.
-fn is_over_limit(members: &Map<String, Value>) -> bool
-    ensures { result ≡ nat_lt 256 (members_len (members_view members.now.entries)) }
+/// Whether there are more members than `most`.
+fn is_over(members: &Map<String, Value>, most: usize) -> bool
+    ensures { result ≡ nat_lt most (members_len (members_view members.now.entries)) }
 {
-    members.len() > MOST_SOURCES
-}
-
-fn sources_of(alloc: Global, members: &Map<String, Value>) -> Result<Sources, PolicyFault>
-    ensures ok { IfOk result (λ s. sources_onto [] (members_view members.now.entries) ≡ Ok s) }
-    ensures err { IfErr result (λ e. (e ≡ PolicyFault.Memory)
-        ⊎ (sources_onto [] (members_view members.now.entries) ≡ Err e)) }
-{
-    let mut sources = Sources::new(alloc);
-    for (name, value) in members {
-        let Some(source) = source_from(name.as_bytes()) else {
-            return Err(PolicyFault::BadSource);
-        };
-        let scope = scope_from(alloc, value)?;
-        sources
-            .insert(source, scope)
-            .map_err(|_| PolicyFault::Memory)?;
-    }
-    Ok(sources)
+    members.len() > most
 }

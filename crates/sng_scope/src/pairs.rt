@@ -3,7 +3,7 @@ ghost use Rattle.std.specs.Prelude.{◌≡◌, ◌⊎◌, true, false, IfOk, IfE
 ghost use Rattle.serde_json.specs.Events.{items_len};
 ghost use Rattle.serde_json.specs.View.{view, items_view};
 ghost use Rattle.sng_text.specs.Texts.{is_filter};
-ghost use Rattle.sng_scope.specs.Scopes.{pair_parts, pair_from, pair_of, pairs_of, scope_of_data};
+ghost use Rattle.sng_scope.specs.Scopes.{pair_parts, pair_from, pair_of, pairs_of, scope_of_items};
 
 use crate::permissions::{are_permissions, are_texts, has_text};
 use crate::{Pair, PolicyFault, Scope};
@@ -13,19 +13,16 @@ use std::alloc::Global;
 
 const MOST_PAIRS: usize = 64;
 
-/// The scope that the value is, or the first of its faults.
-pub fn scope_from(alloc: Global, value: &Value) -> Result<Scope, PolicyFault>
-    ensures ok { IfOk result (λ s. scope_of_data (view value.now) ≡ Ok s) }
+/// The scope of the pairs, or the first of its faults.
+pub fn scope_of_items(alloc: Global, items: &[Value]) -> Result<Scope, PolicyFault>
+    ensures ok { IfOk result (λ s. scope_of_items (items_view items.now) ≡ Ok s) }
     ensures err { IfErr result (λ e. (e ≡ PolicyFault.Memory)
-        ⊎ (scope_of_data (view value.now) ≡ Err e)) }
+        ⊎ (scope_of_items (items_view items.now) ≡ Err e)) }
 {
-    let Some(items) = value.as_array() else {
-        return Err(PolicyFault::Shape);
-    };
-    if is_over_limit(items.as_slice()) {
+    if is_over_limit(items) {
         return Err(PolicyFault::TooMany);
     }
-    pairs_from(alloc, items.as_slice())
+    pairs_from(alloc, items)
 }
 
 /// Whether there are more pairs than a scope may have.

@@ -56,6 +56,14 @@ impl ClientId {
     }
 }
 
+impl Clone for ClientId {
+    ghost is_clone = { λ id copy. copy ≡ id };
+
+    fn clone(&self) -> Result<ClientId, AllocError> {
+        self.copy()
+    }
+}
+
 fn client_id_fault(text: &[u8]) -> Option<TextFault>
     ensures { result ≡ client_id_fault text.now }
 {

@@ -10,6 +10,7 @@ pub mod levels;
 pub mod matching;
 pub mod name;
 pub mod octets;
+mod order;
 #[cfg(test)]
 mod tests;
 

@@ -61,6 +61,14 @@ impl TopicName {
     }
 }
 
+impl Clone for TopicName {
+    ghost is_clone = { λ name copy. copy ≡ name };
+
+    fn clone(&self) -> Result<TopicName, AllocError> {
+        self.copy()
+    }
+}
+
 fn name_fault(text: &[u8]) -> Option<TextFault>
     ensures { result ≡ name_fault text.now }
 {

@@ -1,5 +1,6 @@
 //! Names, filters and matching against the examples of MQTT 3.1.1, 4.7; client ids at the bounds of MQTT-SN 1.2, 5.3.1.
 use crate::{ClientId, Levels, Octets, TextFault, TopicFilter, TopicName, matches};
+use std::cmp::Ordering;
 use std::test::Fail;
 
 #[test]
@@ -200,5 +201,24 @@ fn levels_and_octets(rt: HostRuntime) -> Result<(), Fail> {
     assert_eq!(rt; octets.len(), 2);
     assert!(rt; !octets.is_empty());
     assert_eq!(rt; octets.copy()?.as_slice(), b"21".as_slice());
+    Ok(())
+}
+
+#[test]
+fn client_ids_are_keys(rt: HostRuntime) -> Result<(), Fail> {
+    let a = ClientId::read(rt.alloc(), b"a")?;
+    let long = ClientId::read(rt.alloc(), b"aa")?;
+    let b = ClientId::read(rt.alloc(), b"b")?;
+    assert!(rt; a == a.clone()?);
+    assert!(rt; a != long);
+    assert!(rt; a < long && long < b);
+    assert_eq!(rt; a.partial_cmp(&b), Some(Ordering::Less));
+    Ok(())
+}
+
+#[test]
+fn names_have_clones(rt: HostRuntime) -> Result<(), Fail> {
+    let name = TopicName::read(rt.alloc(), b"a/b")?;
+    assert_eq!(rt; name.clone()?.text(), b"a/b".as_slice());
     Ok(())
 }

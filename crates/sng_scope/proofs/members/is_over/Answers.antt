@@ -1,6 +1,6 @@
 use Rattle.std.proofs.Common.{rules}
 use Rattle.sng_scope.proofs.JsonLemmas.{members_len-members_view}
-use Rattle.sng_scope.proofs.members.is_over_limit.Goals as goal
+use Rattle.sng_scope.proofs.members.is_over.Goals as goal
 
 pub returns : goal.returns
 returns c = rw (members_len-members_view c.args.members.now.entries) (search rules)

@@ -1,0 +1,53 @@
+//! The member `clients`: an object of scopes by client id (MQTT-SN 1.2, 5.3.1).
+ghost use Rattle.std.specs.Prelude.{◌≡◌, ◌⊎◌, [], IfOk, IfErr, Ok, Err, codes};
+ghost use Rattle.serde_json.specs.Find.{get};
+ghost use Rattle.serde_json.specs.View.{view, members_view};
+ghost use Rattle.sng_scope.specs.Policies.{client_of, clients_of, clients_onto};
+
+use super::members_within;
+use crate::scope_form::scope_from;
+use crate::{Clients, PolicyFault};
+use serde_json::{Map, Value};
+use sng_text::{ClientId, TextFault};
+use std::alloc::Global;
+
+const MOST_CLIENTS: usize = 256;
+
+/// The clients that the policy lists: none where it has no such member.
+pub fn clients_in(alloc: Global, policy: &Value) -> Result<Clients, PolicyFault>
+    ensures ok { IfOk result (λ c. clients_of (get (codes "clients") (view policy.now)) ≡ Ok c) }
+    ensures err { IfErr result (λ e. (e ≡ PolicyFault.Memory)
+        ⊎ (clients_of (get (codes "clients") (view policy.now)) ≡ Err e)) }
+{
+    match policy.get("clients") {
+        None => Ok(Clients::new(alloc)),
+        Some(clients) => clients_of(alloc, members_within(clients, MOST_CLIENTS)?),
+    }
+}
+
+fn clients_of(alloc: Global, members: &Map<String, Value>) -> Result<Clients, PolicyFault>
+    ensures ok { IfOk result (λ c. clients_onto [] (members_view members.now.entries) ≡ Ok c) }
+    ensures err { IfErr result (λ e. (e ≡ PolicyFault.Memory)
+        ⊎ (clients_onto [] (members_view members.now.entries) ≡ Err e)) }
+{
+    let mut clients = Clients::new(alloc);
+    for (name, value) in members {
+        let client = client_from(alloc, name.as_str())?;
+        let scope = scope_from(alloc, value)?;
+        clients
+            .insert(client, scope)
+            .map_err(|_| PolicyFault::Memory)?;
+    }
+    Ok(clients)
+}
+
+fn client_from(alloc: Global, text: &str) -> Result<ClientId, PolicyFault>
+    ensures ok { IfOk result (λ i. client_of text.now ≡ Ok i) }
+    ensures err { IfErr result (λ e. (e ≡ PolicyFault.Memory) ⊎ (client_of text.now ≡ Err e)) }
+{
+    match ClientId::read(alloc, text.as_bytes()) {
+        Ok(client) => Ok(client),
+        Err(TextFault::Memory) => Err(PolicyFault::Memory),
+        Err(_) => Err(PolicyFault::BadClientId),
+    }
+}

@@ -1,0 +1,44 @@
+//! The member `sources`: an object of scopes by IPv4 address.
+ghost use Rattle.std.specs.Prelude.{◌≡◌, ◌⊎◌, [], IfOk, IfErr, Ok, Err, codes};
+ghost use Rattle.serde_json.specs.Find.{get};
+ghost use Rattle.serde_json.specs.View.{view, members_view};
+ghost use Rattle.sng_scope.specs.Policies.{sources_of, sources_onto};
+
+use super::members_within;
+use crate::address::source_from;
+use crate::scope_form::scope_from;
+use crate::{PolicyFault, Sources};
+use serde_json::{Map, Value};
+use std::alloc::Global;
+
+const MOST_SOURCES: usize = 256;
+
+/// The sources that the policy lists: none where it has no such member.
+pub fn sources_in(alloc: Global, policy: &Value) -> Result<Sources, PolicyFault>
+    ensures ok { IfOk result (λ s. sources_of (get (codes "sources") (view policy.now)) ≡ Ok s) }
+    ensures err { IfErr result (λ e. (e ≡ PolicyFault.Memory)
+        ⊎ (sources_of (get (codes "sources") (view policy.now)) ≡ Err e)) }
+{
+    match policy.get("sources") {
+        None => Ok(Sources::new(alloc)),
+        Some(sources) => sources_of(alloc, members_within(sources, MOST_SOURCES)?),
+    }
+}
+
+fn sources_of(alloc: Global, members: &Map<String, Value>) -> Result<Sources, PolicyFault>
+    ensures ok { IfOk result (λ s. sources_onto [] (members_view members.now.entries) ≡ Ok s) }
+    ensures err { IfErr result (λ e. (e ≡ PolicyFault.Memory)
+        ⊎ (sources_onto [] (members_view members.now.entries) ≡ Err e)) }
+{
+    let mut sources = Sources::new(alloc);
+    for (name, value) in members {
+        let Some(source) = source_from(name.as_bytes()) else {
+            return Err(PolicyFault::BadSource);
+        };
+        let scope = scope_from(alloc, value)?;
+        sources
+            .insert(source, scope)
+            .map_err(|_| PolicyFault::Memory)?;
+    }
+    Ok(sources)
+}

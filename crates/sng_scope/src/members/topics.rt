@@ -1,0 +1,57 @@
+//! The member `topics`: an object of topic names by predefined topic id (MQTT-SN 1.2, 6.7).
+ghost use Rattle.std.specs.Prelude.{◌≡◌, ◌⊎◌, [], IfOk, IfErr, Ok, Err, codes};
+ghost use Rattle.serde_json.specs.Find.{get};
+ghost use Rattle.serde_json.specs.View.{view, members_view};
+ghost use Rattle.sng_scope.specs.Policies.{name_of_data, topics_of, topics_onto};
+
+use super::members_within;
+use crate::topic_id::topic_id_from;
+use crate::{PolicyFault, Topics};
+use serde_json::{Map, Value};
+use sng_text::{TextFault, TopicName};
+use std::alloc::Global;
+
+const MOST_TOPICS: usize = 1024;
+
+/// The topics that the policy names: none where it has no such member.
+pub fn topics_in(alloc: Global, policy: &Value) -> Result<Topics, PolicyFault>
+    ensures ok { IfOk result (λ t. topics_of (get (codes "topics") (view policy.now)) ≡ Ok t) }
+    ensures err { IfErr result (λ e. (e ≡ PolicyFault.Memory)
+        ⊎ (topics_of (get (codes "topics") (view policy.now)) ≡ Err e)) }
+{
+    match policy.get("topics") {
+        None => Ok(Topics::new(alloc)),
+        Some(topics) => topics_of(alloc, members_within(topics, MOST_TOPICS)?),
+    }
+}
+
+fn topics_of(alloc: Global, members: &Map<String, Value>) -> Result<Topics, PolicyFault>
+    ensures ok { IfOk result (λ t. topics_onto [] (members_view members.now.entries) ≡ Ok t) }
+    ensures err { IfErr result (λ e. (e ≡ PolicyFault.Memory)
+        ⊎ (topics_onto [] (members_view members.now.entries) ≡ Err e)) }
+{
+    let mut topics = Topics::new(alloc);
+    for (name, value) in members {
+        let Some(id) = topic_id_from(name.as_str()) else {
+            return Err(PolicyFault::BadTopicId);
+        };
+        let topic = name_from(alloc, value)?;
+        topics.insert(id, topic).map_err(|_| PolicyFault::Memory)?;
+    }
+    Ok(topics)
+}
+
+fn name_from(alloc: Global, value: &Value) -> Result<TopicName, PolicyFault>
+    ensures ok { IfOk result (λ n. name_of_data (view value.now) ≡ Ok n) }
+    ensures err { IfErr result (λ e. (e ≡ PolicyFault.Memory)
+        ⊎ (name_of_data (view value.now) ≡ Err e)) }
+{
+    let Some(text) = value.as_str() else {
+        return Err(PolicyFault::Shape);
+    };
+    match TopicName::read(alloc, text.as_bytes()) {
+        Ok(name) => Ok(name),
+        Err(TextFault::Memory) => Err(PolicyFault::Memory),
+        Err(_) => Err(PolicyFault::BadTopicId),
+    }
+}
