@@ -1,13 +1,24 @@
 //! MQTT packets as bytes (MQTT 3.1.1, sections 2 and 3).
 #![tactic(auto)]
 
+mod body;
+mod copying;
+pub mod fault;
 pub mod laws;
+pub mod list;
 pub mod packet;
 pub mod remaining;
+mod size;
+mod spellable;
 pub mod writing;
 
-pub use packet::{Packet, Publish};
-pub use writing::write_publish;
+pub use fault::StreamFault;
+pub use list::List;
+pub use packet::{
+    Connect, ConnectAck, Packet, Publish, Qos, Request, Subscribe, SubscribeAck, SubscribeCode,
+    Unsubscribe,
+};
+pub use writing::{encode, write_publish};
 
 #[cfg(test)]
 mod tests;
