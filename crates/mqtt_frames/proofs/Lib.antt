@@ -1,2 +1,4 @@
+pub mod FieldLemmas
 pub mod Groups
+pub mod Items
 pub mod Spelling

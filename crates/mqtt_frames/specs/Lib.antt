@@ -3,4 +3,8 @@ pub mod RemainingLength
 pub mod Packets
 pub mod Spellable
 pub mod Grammar
+pub mod Kinds
+pub mod Reading
+pub mod Headers
+pub mod Fronts
 pub mod Laws

@@ -4,9 +4,14 @@
 mod body;
 mod copying;
 pub mod fault;
+mod fields;
+mod front;
+mod header;
+mod kind;
 pub mod laws;
 pub mod list;
 pub mod packet;
+mod reading;
 pub mod remaining;
 mod size;
 mod spellable;
