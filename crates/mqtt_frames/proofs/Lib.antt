@@ -2,3 +2,4 @@ pub mod FieldLemmas
 pub mod Groups
 pub mod Items
 pub mod Spelling
+pub mod StreamLemmas

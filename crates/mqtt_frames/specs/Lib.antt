@@ -7,4 +7,5 @@ pub mod Kinds
 pub mod Reading
 pub mod Headers
 pub mod Fronts
+pub mod Streams
 pub mod Laws

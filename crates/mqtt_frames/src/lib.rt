@@ -15,6 +15,7 @@ mod reading;
 pub mod remaining;
 mod size;
 mod spellable;
+pub mod stream;
 pub mod writing;
 
 pub use fault::StreamFault;
@@ -23,6 +24,7 @@ pub use packet::{
     Connect, ConnectAck, Packet, Publish, Qos, Request, Subscribe, SubscribeAck, SubscribeCode,
     Unsubscribe,
 };
+pub use stream::Stream;
 pub use writing::{encode, write_publish};
 
 #[cfg(test)]
