@@ -102,7 +102,7 @@ Consumes-text_at bytes x rest is = omega (arith, length-text bytes x rest (text_
 pub qos_of-reads : (byte : ℕ) (qos : Qos) → qos_of byte ≡ Ok qos → qos_byte qos ≡ byte
 qos_of-reads byte qos is =
     link byte 0 AtMostOnce _ qos qos_byte refl
-        (λ one. link byte 1 AtLeastOnce _ qos qos_byte refl (λ two. link byte 2 ExactlyOnce (Err Malformed) qos qos_byte refl (λ three. absurd cc) two) one) is
+    (λ one. link byte 1 AtLeastOnce _ qos qos_byte refl (λ two. link byte 2 ExactlyOnce (Err Malformed) qos qos_byte refl (λ three. absurd cc) two) one) is
 
 -- a topic filter and its level at the front
 pub record IsRequest (bytes : List ℕ) (r : Request) (rest : List ℕ) : Type 0 where

@@ -28,7 +28,7 @@ items_within-room item_at consumes (suc most) zero (b ∷ bytes) fits below = ab
 items_within-room item_at consumes (suc most) (suc least) [] fits below = refl
 items_within-room {A} item_at consumes (suc most) (suc least) (b ∷ bytes) fits below =
     bind_same (item_at (b ∷ bytes)) (λ item. items_within item_at most item.1 >>= λ items. Ok (item.0 ∷ items)) (λ item. items_within item_at least item.1 >>= λ items. Ok (item.0 ∷ items))
-        (λ x is. ap (λ (r : Result (List A) StreamFault). r >>= λ items. Ok (x.0 ∷ items)) (items_within-room item_at consumes most least x.1 (omega (arith, consumes (b ∷ bytes) x.0 x.1 is)) (omega arith)))
+    (λ x is. ap (λ (r : Result (List A) StreamFault). r >>= λ items. Ok (x.0 ∷ items)) (items_within-room item_at consumes most least x.1 (omega (arith, consumes (b ∷ bytes) x.0 x.1 is)) (omega arith)))
 
 pub items_of-next : {A : Type 0} (item_at : List ℕ → Result (A × List ℕ) StreamFault) → Consumes item_at → (bytes : List ℕ) (x : A) (rest : List ℕ) → item_at bytes ≡ Ok (x, rest)
     → items_of item_at bytes ≡ (items_of item_at rest >>= λ items. Ok (x ∷ items))

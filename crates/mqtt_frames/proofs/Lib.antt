@@ -3,3 +3,4 @@ pub mod Groups
 pub mod Items
 pub mod Spelling
 pub mod StreamLemmas
+pub mod SpelledIsRead

@@ -26,8 +26,8 @@ length_at-more zero bytes more = inr refl
 length_at-more (suc most) [] more = inl refl
 length_at-more (suc most) (b ∷ bytes) more =
     elim (nat_lt b 128) as (λ t.
-      ((if t then lengths.Told b 1 else behind_group b (length_at most bytes)) ≡ lengths.Unfinished)
-      ⊎ ((if t then lengths.Told b 1 else behind_group b (length_at most (bytes ++ more))) ≡ (if t then lengths.Told b 1 else behind_group b (length_at most bytes)))) [
+    ((if t then lengths.Told b 1 else behind_group b (length_at most bytes)) ≡ lengths.Unfinished)
+    ⊎ ((if t then lengths.Told b 1 else behind_group b (length_at most (bytes ++ more))) ≡ (if t then lengths.Told b 1 else behind_group b (length_at most bytes)))) [
       | true ↦ inr refl
       | false ↦ elim (length_at-more most bytes more) [ inl waits ↦ inl (ap (behind_group b) waits) | inr same ↦ inr (ap (behind_group b) same) ]
     ]
@@ -242,9 +242,9 @@ is_whole held part behind kind start rest p size =
     let told = told-more held (part ++ behind) kind start rest p.told in
     let enough : start + rest ≤ length (held ++ (part ++ behind)) = omega (arith, length-append held (part ++ behind), length-append part behind, length-append held part) in
     let body : take rest (drop start (held ++ (part ++ behind))) ≡ drop start (held ++ part) =
-        ap (λ (b : List ℕ). take rest (drop start b)) (sym (append_assoc held part behind))
-        ∙ body-more start rest (held ++ part) behind (omega arith)
-        ∙ take_all rest (drop start (held ++ part)) (omega (arith, length-drop start (held ++ part))) in
+    ap (λ (b : List ℕ). take rest (drop start b)) (sym (append_assoc held part behind))
+    ∙ body-more start rest (held ++ part) behind (omega arith)
+    ∙ take_all rest (drop start (held ++ part)) (omega (arith, length-drop start (held ++ part))) in
     rw (told, le-ltb 70000 (start + rest) p.most, le-ltb (length (held ++ (part ++ behind))) (start + rest) enough) (ap (λ b. sized (start + rest) (body_of kind b)) body)
 
 pub read_all-completed : (held part behind : List ℕ) (kind : Kind) (start rest : ℕ) (packet : Packet) → IsPart held kind start rest → length (held ++ part) ≡ start + rest
@@ -252,8 +252,8 @@ pub read_all-completed : (held part behind : List ℕ) (kind : Kind) (start rest
 read_all-completed held part behind kind start rest packet p size is =
     let front : front_at (held ++ (part ++ behind)) ≡ fronts.Whole packet (start + rest) = is_whole held part behind kind start rest p size ∙ ap (sized (start + rest)) is in
     let left : drop (start + rest) (held ++ (part ++ behind)) ≡ behind =
-        ap (drop (start + rest)) (sym (append_assoc held part behind)) ∙ drop-append-le (start + rest) (held ++ part) behind (omega arith)
-        ∙ ap (λ (b : List ℕ). b ++ behind) (drop_all (start + rest) (held ++ part) (omega arith)) in
+    ap (drop (start + rest)) (sym (append_assoc held part behind)) ∙ drop-append-le (start + rest) (held ++ part) behind (omega arith)
+    ∙ ap (λ (b : List ℕ). b ++ behind) (drop_all (start + rest) (held ++ part) (omega arith)) in
     read_all-whole (held ++ (part ++ behind)) packet (start + rest) front ∙ ap (λ (b : List ℕ). with_packets (packet ∷ []) (read_all b)) left
 
 pub read_all-broken : (held part behind : List ℕ) (kind : Kind) (start rest : ℕ) (fault : StreamFault) → IsPart held kind start rest → length (held ++ part) ≡ start + rest

@@ -1,10 +1,20 @@
 -- What ties writing and reading to the grammar.
-use Rattle.std.specs.Prelude.{◌≡◌, ◌≤◌, true, length}
+use Rattle.std.specs.Prelude.{◌≡◌, ℕ, ◌≤◌, ◌++◌, true, List, length}
 use Rattle.mqtt_frames.specs.declared.packet.Packet.{Packet}
+use Rattle.mqtt_frames.specs.declared.front.Front.TheVariants as fronts
 use Rattle.mqtt_frames.specs.Packets.{written}
 use Rattle.mqtt_frames.specs.Spellable.{has_spelling}
 use Rattle.mqtt_frames.specs.Grammar.{Spells, IsInRange}
+use Rattle.mqtt_frames.specs.Fronts.{front_at}
 
 -- a packet with texts of at most 65,535 bytes, identifiers other than 0 and lists that are not empty is written as bytes that spell it, up to 70,000 of them
 abbrev pub WritesASpelling : Type 0
 WritesASpelling = (p : Packet) → IsInRange p → has_spelling p ≡ true → length (written p) ≤ 70000 → Spells p (written p)
+
+-- no bytes spell two packets
+abbrev pub SpellsOne : Type 0
+SpellsOne = (b : List ℕ) (one other : Packet) → Spells one b → Spells other b → one ≡ other
+
+-- what spells a packet in at most 70,000 bytes is read as it, whatever follows
+abbrev pub ReadsASpelling : Type 0
+ReadsASpelling = (p : Packet) (b more : List ℕ) → Spells p b → length b ≤ 70000 → front_at (b ++ more) ≡ fronts.Whole p (length b)

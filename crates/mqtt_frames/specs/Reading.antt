@@ -18,7 +18,6 @@ use Rattle.mqtt_frames.specs.declared.kind.Kind.TheVariants as kinds
 use Rattle.mqtt_frames.specs.Packets.{protocol}
 
 infixl 10 ◌>>=◌
-
 -- one reading behind another: the first fault stands
 abbrev pub ◌>>=◌ : {A B : Type 0} → Result A StreamFault → (A → Result B StreamFault) → Result B StreamFault
 (Ok x) >>= f = f x

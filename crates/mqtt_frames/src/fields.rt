@@ -28,10 +28,7 @@ pub fn id_at(bytes: &[u8]) -> Result<(u16, &[u8]), StreamFault>
 }
 
 /// A packet identifier where there is one, and what stands behind it.
-pub fn optional_id_at(
-    identified: bool,
-    bytes: &[u8],
-) -> Result<(Option<u16>, &[u8]), StreamFault>
+pub fn optional_id_at(identified: bool, bytes: &[u8]) -> Result<(Option<u16>, &[u8]), StreamFault>
     ensures { Gives (λ x. (x.0, x.1.now)) result (optional_id_at identified bytes.now) }
 {
     if !identified {

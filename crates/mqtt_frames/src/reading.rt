@@ -2,10 +2,10 @@
 ghost use Rattle.mqtt_frames.specs.Reading.{Gives, body_of, connect_of, connect_rest, session_of, connect_ack_of, publish_of, subscribe_of, subscribe_ack_of, unsubscribe_of, at_end};
 
 use crate::body::PROTOCOL;
-use crate::fields;
 use crate::kind::{Kind, PublishFlags};
 use crate::{
     Connect, ConnectAck, List, Packet, Publish, StreamFault, Subscribe, SubscribeAck, Unsubscribe,
+    fields,
 };
 use std::alloc::Global;
 

@@ -90,6 +90,9 @@ impl Stream {
                     }
                 }
                 _ => {
+                    if self.held.is_empty() {
+                        return self.settle(alloc, Vec::new(alloc), piece);
+                    }
                     let bytes = join(alloc, self.held.as_slice(), piece)?;
                     self.settle(alloc, Vec::new(alloc), bytes.as_slice())
                 }

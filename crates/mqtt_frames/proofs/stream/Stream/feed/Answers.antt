@@ -19,7 +19,7 @@ returns-in_ok-push-in-Ok-clause-ok c =
     let part = ready_part c.self.inside.status held c.self.inside.header c.in-Told.kind c.in-Told.start c.in-Told.rest c.self.invariant c.in-Reading.is c.in-Told.is in
     let is = rw c.as_slice.ensures.value at c.in-Ok.ensures in
     let whole = fed_completed c.args.self.now c.self.inside.status held c.args.piece.now c.split_at.result.0.now c.split_at.result.1.now c.in-Told.kind c.in-Told.start c.in-Told.rest c.in-Ok.packet c.push.new.self.items
-        (sym c.self.view_is) c.in-Reading.is part c.split_at.ensures.by_index.0 (omega (arith, c.split_at.ensures.front_len, c.len.ensures)) is (search (c.in_ok-push-in-Ok.ensures.items, c.new-packets.ensures.items)) in
+    (sym c.self.view_is) c.in-Reading.is part c.split_at.ensures.by_index.0 (omega (arith, c.split_at.ensures.front_len, c.len.ensures)) is (search (c.in_ok-push-in-Ok.ensures.items, c.new-packets.ensures.items)) in
     rw whole c.settle.ensures.ok
 
 pub returns-in_default-fault : goal.returns-in_default-fault
@@ -30,5 +30,5 @@ returns-in_default-fault c =
     record {
       ok = tt;
       err = inr (fed_broken c.args.self.now c.self.inside.status held c.args.piece.now c.split_at.result.0.now c.split_at.result.1.now c.in-Told.kind c.in-Told.start c.in-Told.rest c.in-Err.fault
-        (sym c.self.view_is) c.in-Reading.is part c.split_at.ensures.by_index.0 (omega (arith, c.split_at.ensures.front_len, c.len.ensures)) fails c.in_default-fault.not-Memory);
+          (sym c.self.view_is) c.in-Reading.is part c.split_at.ensures.by_index.0 (omega (arith, c.split_at.ensures.front_len, c.len.ensures)) fails c.in_default-fault.not-Memory);
     }
