@@ -33,7 +33,7 @@ done x = Ok x
 pub ok_is : {A : Type 0} (x y : A) → done x ≡ done y → x ≡ y
 ok_is x y e = cc
 
-either : {A : Type 0} (b : Bool) (one other : Result A StreamFault) (y : A) → (if b then one else other) ≡ Ok y → ((b ≡ true) × (one ≡ Ok y)) ⊎ ((b ≡ false) × (other ≡ Ok y))
+pub either : {A : Type 0} (b : Bool) (one other : Result A StreamFault) (y : A) → (if b then one else other) ≡ Ok y → ((b ≡ true) × (one ≡ Ok y)) ⊎ ((b ≡ false) × (other ≡ Ok y))
 either true one other y e = inl (refl, e)
 either false one other y e = inr (refl, e)
 

@@ -4,3 +4,4 @@ pub mod Items
 pub mod Spelling
 pub mod StreamLemmas
 pub mod SpelledIsRead
+pub mod ReadIsSpelled

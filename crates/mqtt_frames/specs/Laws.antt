@@ -1,5 +1,5 @@
 -- What ties writing and reading to the grammar.
-use Rattle.std.specs.Prelude.{◌≡◌, ℕ, ◌≤◌, ◌++◌, true, List, length}
+use Rattle.std.specs.Prelude.{◌≡◌, ℕ, ◌<◌, ◌≤◌, ◌++◌, true, List, [], ◌∷◌, length, take}
 use Rattle.mqtt_frames.specs.declared.packet.Packet.{Packet}
 use Rattle.mqtt_frames.specs.declared.front.Front.TheVariants as fronts
 use Rattle.mqtt_frames.specs.Packets.{written}
@@ -18,3 +18,11 @@ SpellsOne = (b : List ℕ) (one other : Packet) → Spells one b → Spells othe
 -- what spells a packet in at most 70,000 bytes is read as it, whatever follows
 abbrev pub ReadsASpelling : Type 0
 ReadsASpelling = (p : Packet) (b more : List ℕ) → Spells p b → length b ≤ 70000 → front_at (b ++ more) ≡ fronts.Whole p (length b)
+
+abbrev pub AreBytes : List ℕ → Type 0
+AreBytes [] = Unit {0}
+AreBytes (b ∷ bytes) = (b < 256) × AreBytes bytes
+
+-- a packet at the front of bytes is spelled by just those bytes, at most 70,000 of them
+abbrev pub ReadsWhatIsSpelled : Type 0
+ReadsWhatIsSpelled = (p : Packet) (bytes : List ℕ) (size : ℕ) → AreBytes bytes → front_at bytes ≡ fronts.Whole p size → Spells p (take size bytes) × (size ≤ 70000)
