@@ -5,3 +5,4 @@ pub mod Spelling
 pub mod StreamLemmas
 pub mod SpelledIsRead
 pub mod ReadIsSpelled
+pub mod StreamIsGrammar

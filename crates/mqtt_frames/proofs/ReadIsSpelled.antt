@@ -45,7 +45,7 @@ AreBytes-front : (xs ys : List ℕ) → AreBytes (xs ++ ys) → AreBytes xs
 AreBytes-front [] ys are = tt
 AreBytes-front (x ∷ xs) ys are = (are.0, AreBytes-front xs ys are.1)
 
-AreBytes-drop : (n : ℕ) (xs : List ℕ) → AreBytes xs → AreBytes (drop n xs)
+pub AreBytes-drop : (n : ℕ) (xs : List ℕ) → AreBytes xs → AreBytes (drop n xs)
 AreBytes-drop n xs are = AreBytes-behind (take n xs) (drop n xs) (subst AreBytes (sym (take-append-drop n xs)) are)
 
 AreBytes-take : (n : ℕ) (xs : List ℕ) → AreBytes xs → AreBytes (take n xs)

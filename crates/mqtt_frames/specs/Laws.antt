@@ -26,3 +26,7 @@ AreBytes (b ∷ bytes) = (b < 256) × AreBytes bytes
 -- a packet at the front of bytes is spelled by just those bytes, at most 70,000 of them
 abbrev pub ReadsWhatIsSpelled : Type 0
 ReadsWhatIsSpelled = (p : Packet) (bytes : List ℕ) (size : ℕ) → AreBytes bytes → front_at bytes ≡ fronts.Whole p size → Spells p (take size bytes) × (size ≤ 70000)
+
+-- what is written is read again, whatever follows
+abbrev pub ReadsWhatIsWritten : Type 0
+ReadsWhatIsWritten = (p : Packet) (more : List ℕ) → IsInRange p → has_spelling p ≡ true → length (written p) ≤ 70000 → front_at (written p ++ more) ≡ fronts.Whole p (length (written p))

@@ -9,3 +9,4 @@ pub mod Headers
 pub mod Fronts
 pub mod Streams
 pub mod Laws
+pub mod StreamLaws
