@@ -1,17 +1,32 @@
--- What ties writing to the grammar.
-use Rattle.std.specs.Prelude.{◌≡◌, ◌<◌, ◌^◌, true, false, length, None, IfSome}
-use Rattle.sng_text.specs.Texts.{is_name}
-use Rattle.mqtt_frames.specs.declared.packet.Publish.{Publish}
-use Rattle.mqtt_frames.specs.declared.packet.Packet.TheVariants as variants
-use Rattle.mqtt_frames.specs.Packets.{body, written}
-use Rattle.mqtt_frames.specs.Grammar.{Spells}
+-- What ties writing and reading to the grammar.
+use Rattle.std.specs.Prelude.{◌≡◌, ℕ, ◌<◌, ◌≤◌, ◌++◌, true, List, [], ◌∷◌, length, take}
+use Rattle.mqtt_frames.specs.declared.packet.Packet.{Packet}
+use Rattle.mqtt_frames.specs.declared.front.Front.TheVariants as fronts
+use Rattle.mqtt_frames.specs.Packets.{written}
+use Rattle.mqtt_frames.specs.Spellable.{has_spelling}
+use Rattle.mqtt_frames.specs.Grammar.{Spells, IsInRange}
+use Rattle.mqtt_frames.specs.Fronts.{front_at}
 
--- what may be sent: the name is a topic name, the packet identifier a number of two bytes and not 0, and DUP is 0 at QoS 0
-pub record IsSendable (p : Publish) : Type 0 where
-  pub dup : p.packet_id ≡ None → p.dup ≡ false
-  pub name : is_name p.name ≡ true
-  pub packet_id : IfSome p.packet_id (λ id. (0 < id) × (id < 2 ^ 16))
-
--- a PUBLISH with less than 268,435,456 bytes behind its Remaining Length is written as bytes that spell it
+-- a packet with texts of at most 65,535 bytes, identifiers other than 0 and lists that are not empty is written as bytes that spell it, up to 70,000 of them
 abbrev pub WritesASpelling : Type 0
-WritesASpelling = (p : Publish) → IsSendable p → length (body p) < 268435456 → Spells (variants.Publish p) (written (variants.Publish p))
+WritesASpelling = (p : Packet) → IsInRange p → has_spelling p ≡ true → length (written p) ≤ 70000 → Spells p (written p)
+
+-- no bytes spell two packets
+abbrev pub SpellsOne : Type 0
+SpellsOne = (b : List ℕ) (one other : Packet) → Spells one b → Spells other b → one ≡ other
+
+-- what spells a packet in at most 70,000 bytes is read as it, whatever follows
+abbrev pub ReadsASpelling : Type 0
+ReadsASpelling = (p : Packet) (b more : List ℕ) → Spells p b → length b ≤ 70000 → front_at (b ++ more) ≡ fronts.Whole p (length b)
+
+abbrev pub AreBytes : List ℕ → Type 0
+AreBytes [] = Unit {0}
+AreBytes (b ∷ bytes) = (b < 256) × AreBytes bytes
+
+-- a packet at the front of bytes is spelled by just those bytes, at most 70,000 of them
+abbrev pub ReadsWhatIsSpelled : Type 0
+ReadsWhatIsSpelled = (p : Packet) (bytes : List ℕ) (size : ℕ) → AreBytes bytes → front_at bytes ≡ fronts.Whole p size → Spells p (take size bytes) × (size ≤ 70000)
+
+-- what is written is read again, whatever follows
+abbrev pub ReadsWhatIsWritten : Type 0
+ReadsWhatIsWritten = (p : Packet) (more : List ℕ) → IsInRange p → has_spelling p ≡ true → length (written p) ≤ 70000 → front_at (written p ++ more) ≡ fronts.Whole p (length (written p))

@@ -1,4 +1,12 @@
+pub mod Faults
 pub mod RemainingLength
 pub mod Packets
+pub mod Spellable
 pub mod Grammar
+pub mod Kinds
+pub mod Reading
+pub mod Headers
+pub mod Fronts
+pub mod Streams
 pub mod Laws
+pub mod StreamLaws

@@ -1,7 +1,48 @@
-//! The laws of writing. Each function here only states one: its contract is the law, and calling it does nothing.
-ghost use Rattle.mqtt_frames.specs.Laws.{WritesASpelling};
+//! The laws of writing and reading. Each function here only states one: its contract is the law, and calling it does nothing.
+ghost use Rattle.mqtt_frames.specs.Laws.{WritesASpelling, SpellsOne, ReadsASpelling, ReadsWhatIsSpelled, ReadsWhatIsWritten};
+ghost use Rattle.mqtt_frames.specs.StreamLaws.{ReadsTheStream, ReadsWhatStands, FaultIsNoPacket, IsCutAnyhow};
 
-/// A PUBLISH with less than 268,435,456 bytes behind its Remaining Length is written as bytes that spell it.
+/// A packet that has a spelling is written as bytes that spell it, up to 70,000 of them.
 pub fn what_is_written_is_spelled()
     ensures { WritesASpelling }
+{}
+
+/// No bytes spell two packets.
+pub fn bytes_spell_one_packet()
+    ensures { SpellsOne }
+{}
+
+/// What spells a packet in at most 70,000 bytes is read as it, whatever follows.
+pub fn what_is_spelled_is_read()
+    ensures { ReadsASpelling }
+{}
+
+/// A packet at the front of bytes is spelled by just those bytes, at most 70,000 of them.
+pub fn what_is_read_is_spelled()
+    ensures { ReadsWhatIsSpelled }
+{}
+
+/// What is written is read again, whatever follows.
+pub fn what_is_written_is_read_again()
+    ensures { ReadsWhatIsWritten }
+{}
+
+/// Packets that are spelled one behind the other are read, and behind them what follows.
+pub fn a_spelled_stream_is_read()
+    ensures { ReadsTheStream }
+{}
+
+/// The packets that are read from bytes are spelled, one behind the other, up to an unfinished packet or a fault.
+pub fn a_stream_is_what_stands()
+    ensures { ReadsWhatStands }
+{}
+
+/// Where a fault is told no packet of at most 70,000 bytes stands, whatever follows.
+pub fn a_fault_is_no_packet()
+    ensures { FaultIsNoPacket }
+{}
+
+/// However the bytes are cut, the packets that were answered, the fault that was told or is kept, and what is held, are those of all the bytes.
+pub fn a_stream_is_cut_anyhow()
+    ensures { IsCutAnyhow }
 {}

@@ -1,0 +1,58 @@
+//! Why the bytes of a connection are no packets that are read, or a packet none that is written.
+ghost use Rattle.std.specs.Prelude.{◌≡◌};
+ghost use Rattle.mqtt_frames.specs.Faults.{number_of};
+ghost use Rattle.mqtt_frames.specs.declared.fault.StreamFault.TheVariants.{Memory};
+
+use std::alloc::{AllocError, AllocFailed};
+use thiserror::Error;
+
+/// The fault of a stream of packets, or of a packet that is to be written.
+#[derive(Clone, Copy, Debug, PartialEq, Eq, Error)]
+pub enum StreamFault {
+    /// The bytes spell no packet, or no bytes spell the packet (MQTT 3.1.1, 4.8).
+    #[error("the packet is malformed")]
+    Malformed,
+    /// The packet is one that is not read.
+    #[error("the packet is not supported")]
+    NotSupported,
+    /// The packet has more than 70,000 bytes.
+    #[error("the packet is too long")]
+    TooLong,
+    /// A fault was told before, after which no packet is read.
+    #[error("the stream has failed")]
+    Failed,
+    /// A growth was refused.
+    #[error("out of memory")]
+    Memory,
+}
+
+impl StreamFault {
+    /// The number by which the fault is printed, 1 to 5.
+    pub fn number(self) -> u8
+        ensures { result ≡ number_of self }
+    {
+        match self {
+            StreamFault::Malformed => 1,
+            StreamFault::NotSupported => 2,
+            StreamFault::TooLong => 3,
+            StreamFault::Failed => 4,
+            StreamFault::Memory => 5,
+        }
+    }
+}
+
+impl From<AllocError> for StreamFault {
+    ghost from_gives = { λ _ fault. fault ≡ Memory };
+
+    fn from(_error: AllocError) -> StreamFault {
+        StreamFault::Memory
+    }
+}
+
+impl<T: Drop> From<AllocFailed<T>> for StreamFault {
+    ghost from_gives = { λ _ fault. fault ≡ Memory };
+
+    fn from(_error: AllocFailed<T>) -> StreamFault {
+        StreamFault::Memory
+    }
+}

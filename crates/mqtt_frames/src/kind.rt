@@ -1,0 +1,91 @@
+//! What the first byte of a packet says (MQTT 3.1.1, 2.2): its type and its flags.
+ghost use Rattle.std.specs.Prelude.{◌≡◌};
+ghost use Rattle.mqtt_frames.specs.Kinds.{kind_of, publish_kind};
+
+use crate::StreamFault;
+
+/// The kinds of packets that are read.
+#[derive(Clone, Copy, Debug)]
+pub enum Kind {
+    /// CONNECT.
+    Connect,
+    /// CONNACK.
+    ConnectAck,
+    /// PUBLISH, with its flags.
+    Publish(PublishFlags),
+    /// PUBACK.
+    PublishAck,
+    /// SUBSCRIBE.
+    Subscribe,
+    /// SUBACK.
+    SubscribeAck,
+    /// UNSUBSCRIBE.
+    Unsubscribe,
+    /// UNSUBACK.
+    UnsubscribeAck,
+    /// PINGREQ.
+    PingRequest,
+    /// PINGRESP.
+    PingResponse,
+    /// DISCONNECT.
+    Disconnect,
+}
+
+/// The flags of a PUBLISH (3.3.1).
+#[derive(Clone, Copy, Debug)]
+pub struct PublishFlags {
+    /// Whether the packet is sent again.
+    pub dup: bool,
+    /// Whether it has a packet identifier: QoS 1, and else 0.
+    pub identified: bool,
+    /// Whether the message is kept.
+    pub retain: bool,
+}
+
+/// The kind of packet that begins with the byte. `NotSupported`: a PUBLISH of QoS 2, or one of the three packets that only go with it. `Malformed`: no packet begins so.
+pub fn kind_of(first: u8) -> Result<Kind, StreamFault>
+    ensures { result ≡ kind_of first }
+{
+    match first {
+        0x10 => Ok(Kind::Connect),
+        0x20 => Ok(Kind::ConnectAck),
+        0x40 => Ok(Kind::PublishAck),
+        0x50 | 0x62 | 0x70 => Err(StreamFault::NotSupported),
+        0x82 => Ok(Kind::Subscribe),
+        0x90 => Ok(Kind::SubscribeAck),
+        0xa2 => Ok(Kind::Unsubscribe),
+        0xb0 => Ok(Kind::UnsubscribeAck),
+        0xc0 => Ok(Kind::PingRequest),
+        0xd0 => Ok(Kind::PingResponse),
+        0xe0 => Ok(Kind::Disconnect),
+        _ => {
+            if first / 16 == 3 {
+                publish_kind(first % 16)
+            } else {
+                Err(StreamFault::Malformed)
+            }
+        }
+    }
+}
+
+/// A PUBLISH with those low four bits.
+fn publish_kind(bits: u8) -> Result<Kind, StreamFault>
+    ensures { result ≡ publish_kind bits }
+{
+    let dup = bits / 8 == 1;
+    let retain = bits % 2 == 1;
+    match bits / 2 % 4 {
+        0 => Ok(Kind::Publish(PublishFlags {
+            dup,
+            identified: false,
+            retain,
+        })),
+        1 => Ok(Kind::Publish(PublishFlags {
+            dup,
+            identified: true,
+            retain,
+        })),
+        2 => Err(StreamFault::NotSupported),
+        _ => Err(StreamFault::Malformed),
+    }
+}
