@@ -1,9 +1,16 @@
 //! Topic names (MQTT 3.1.1, 4.7).
 ghost use Rattle.std.specs.Prelude.{◌≡◌, ◌⊎◌, true, Some, None, IfOk, IfErr};
+ghost use Rattle.std.specs.Cmp.{partial_equiv_from_equiv};
+ghost use Rattle.std.specs.Cmp.Lexicographic.{nat_list_eq_equiv};
+ghost use Rattle.std.specs.Cmp.Rules.{hashing};
+ghost use Rattle.std.specs.Hash as fed;
+ghost use Rattle.std.specs.Str.{bytes_eq};
+ghost use Rattle.std.proofs.Common.{rules};
 ghost use Rattle.sng_text.specs.Texts.{is_name, name_fault};
 
 use crate::{TextFault, bytes};
 use std::alloc::{AllocError, Global};
+use std::hash::{Hash, Hasher};
 use std::marker::Model;
 
 /// A topic name: 1 to 65,535 bytes of UTF-8 without U+0000, `+` and `#`. Contracts see its text.
@@ -66,6 +73,30 @@ impl Clone for TopicName {
 
     fn clone(&self) -> Result<TopicName, AllocError> {
         self.copy()
+    }
+}
+
+impl PartialEq for TopicName {
+    ghost eq = { bytes_eq };
+
+    ghost laws = { partial_equiv_from_equiv nat_list_eq_equiv };
+
+    fn eq(&self, other: &TopicName) -> bool {
+        self.text() == other.text()
+    }
+}
+
+impl Eq for TopicName {
+    ghost laws = { nat_list_eq_equiv };
+}
+
+impl Hash for TopicName {
+    ghost hash_input = { fed.slice fed.u8 };
+
+    ghost respects_eq = { Prim.search (hashing, rules) };
+
+    fn hash<H: Hasher>(&self, state: &mut H) {
+        self.text().hash(state);
     }
 }
 

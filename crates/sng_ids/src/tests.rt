@@ -1,0 +1,65 @@
+//! Ids as MQTT-SN 1.2, 6.5, gives them out, and the limit of 128.
+use crate::{IdFault, IdTable};
+use sng_text::TopicName;
+use std::alloc::Global;
+use std::test::Fail;
+
+fn name(alloc: Global, text: &[u8]) -> Result<TopicName, Fail> {
+    Ok(TopicName::read(alloc, text)?)
+}
+
+#[test]
+fn ids_in_order(rt: HostRuntime) -> Result<(), Fail> {
+    let alloc = rt.alloc();
+    let mut ids = IdTable::new(alloc);
+    assert_eq!(rt; ids.len(), 0);
+    assert_eq!(rt; ids.give(name(alloc, b"t/1")?), Ok(1));
+    assert_eq!(rt; ids.give(name(alloc, b"t/2")?), Ok(2));
+    assert_eq!(rt; ids.give(name(alloc, b"t/1")?), Ok(1));
+    assert_eq!(rt; ids.len(), 2);
+    assert_eq!(rt; ids.id_of(&name(alloc, b"t/1")?), None);
+    ids.confirm(1);
+    ids.confirm(0);
+    ids.confirm(3);
+    assert_eq!(rt; ids.id_of(&name(alloc, b"t/1")?), Some(1));
+    assert_eq!(rt; ids.id_of(&name(alloc, b"t/2")?), None);
+    assert_eq!(rt; ids.id_of(&name(alloc, b"t/3")?), None);
+    for (id, want) in [(1, b"t/1".as_slice()), (2, b"t/2")] {
+        match ids.name_of(id) {
+            None => assert!(rt; false, "{id} is given"),
+            Some(name) => assert_eq!(rt; name.text(), want),
+        }
+    }
+    assert!(rt; ids.name_of(0).is_none());
+    assert!(rt; ids.name_of(3).is_none());
+    ids.take_back();
+    ids.take_back();
+    assert_eq!(rt; ids.len(), 1);
+    assert_eq!(rt; ids.id_of(&name(alloc, b"t/1")?), Some(1));
+    assert_eq!(rt; ids.give(name(alloc, b"t/3")?), Ok(2));
+    ids.clear();
+    ids.take_back();
+    assert_eq!(rt; ids.len(), 0);
+    assert!(rt; ids.name_of(1).is_none());
+    Ok(())
+}
+
+#[test]
+fn full_at_128(rt: HostRuntime) -> Result<(), Fail> {
+    let alloc = rt.alloc();
+    let mut ids = IdTable::new(alloc);
+    for number in 1..=128u8 {
+        assert_eq!(rt;
+            ids.give(name(alloc, &[b't', number])?),
+            Ok(u16::from(number))
+        );
+    }
+    assert_eq!(rt; ids.give(name(alloc, b"t/129")?), Err(IdFault::Full));
+    assert_eq!(rt; ids.len(), 128);
+    assert_eq!(rt; ids.give(name(alloc, b"t\x7f")?), Ok(127));
+    ids.confirm(127);
+    assert_eq!(rt; ids.id_of(&name(alloc, b"t\x7f")?), Some(127));
+    ids.take_back();
+    assert_eq!(rt; ids.give(name(alloc, b"t/129")?), Ok(128));
+    Ok(())
+}

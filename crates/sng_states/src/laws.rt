@@ -1,0 +1,12 @@
+//! What is right of the table of states (MQTT-SN 1.2, 6.14). Each function states one law: its contract is the law, and calling it does nothing.
+ghost use Rattle.sng_states.specs.Laws.{SessionsBeginByConnect, WakingIsFromSleep};
+
+/// A client without a session, which has left or is lost, gets one by a CONNECT, and nothing else moves it.
+pub fn sessions_begin_by_connect()
+    ensures { SessionsBeginByConnect }
+{}
+
+/// A client is awake only where it was asleep and has just asked for what waits.
+pub fn waking_is_from_sleep()
+    ensures { WakingIsFromSleep }
+{}
