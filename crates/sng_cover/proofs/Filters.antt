@@ -1,14 +1,13 @@
 -- What is known of texts that are filters.
 use Rattle.std.proofs.Common.{◌≡◌, ◌≤◌, ◌<◌, ◌==◌, nat_lt, ℕ, suc, Bool, true, false, not, List, [], ◌∷◌, length, refl, Some, None, is_none, arith, if◌then◌else◌}
-use Rattle.std.specs.List.{All}
-use Rattle.std.proofs.lemmas.List.Elements.{All-head, All-tail}
+use Rattle.std.specs.List.{All, AllByRecursion as AllOf}
+use Rattle.std.proofs.lemmas.List.Elements.{recursion_from_All}
 use Rattle.std.specs.Str.{is_utf8}
 use Rattle.std.proofs.lemmas.Bool.{ltb-false}
 use Rattle.sng_text.specs.declared.fault.TextFault.TheVariants.{Empty, TooLong, NotUtf8, Null, Wildcard}
 use Rattle.sng_text.specs.Levels.{levels_of}
 use Rattle.sng_text.specs.Texts.{is_filter, is_in_place, has_byte}
 use Rattle.sng_cover.specs.Covering.{fixed_part}
-use Rattle.sng_cover.proofs.Joining.{AllOf}
 use Rattle.sng_cover.proofs.Short.{AreShort, short_levels, longer, few_fixed}
 
 no_fault : (empty long utf8 null fit : Bool)
@@ -34,9 +33,7 @@ abbrev pub AreFilters : List (List ℕ) → Type 0
 AreFilters filters = AllOf (λ filter. is_filter filter ≡ true) filters
 
 pub filters_from_all : (filters : List (List ℕ)) → All (λ filter. is_filter filter ≡ true) filters → AreFilters filters
-filters_from_all [] all = tt
-filters_from_all (filter ∷ filters) all =
-    (All-head (λ filter. is_filter filter ≡ true) filter filters all, filters_from_all filters (All-tail (λ filter. is_filter filter ≡ true) filter filters all))
+filters_from_all filters all = recursion_from_All (λ (filter : List ℕ). is_filter filter ≡ true) filters all
 
 -- a filter has at most 201 levels before its `#`
 pub few_of : (filter : List ℕ) → is_filter filter ≡ true → fixed_part filter < 202

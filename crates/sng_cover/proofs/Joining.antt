@@ -1,15 +1,11 @@
 -- Levels and the text that they make.
 use Rattle.std.proofs.Common.{◌≡◌, ℕ, Bool, true, false, ◌==◌, List, [], ◌∷◌, ◌++◌, refl, sym, ap, eqb-true, if◌then◌else◌, ◌∙◌}
+use Rattle.std.specs.List.{AllByRecursion as AllOf}
 use Rattle.std.proofs.lemmas.List.{append-nil}
 use Rattle.std.proofs.lemmas.Bool.{or_parts}
 use Rattle.sng_text.specs.Levels.{lengthen, levels_of}
 use Rattle.sng_text.specs.Texts.{has_byte}
 use Rattle.sng_cover.specs.Candidates.{joined, further}
-
--- each of the levels is so
-abbrev pub AllOf : (List ℕ → Type 0) → List (List ℕ) → Type 0
-AllOf P [] = Unit {0}
-AllOf P (level ∷ levels) = P level × AllOf P levels
 
 -- the levels have no byte like this
 abbrev pub Lack : ℕ → List (List ℕ) → Type 0

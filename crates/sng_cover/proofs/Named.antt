@@ -1,5 +1,6 @@
 -- A candidate is a topic name, where it has a text.
 use Rattle.std.proofs.Common.{◌≡◌, ◌≤◌, ◌<◌, ◌+◌, ◌*◌, ◌==◌, nat_lt, ℕ, zero, suc, Bool, true, false, not, List, [], ◌∷◌, ◌++◌, length, refl, ap, arith, if◌then◌else◌, Some, None, is_none, rules, tests, get_or, take, drop, inl, inr}
+use Rattle.std.specs.List.{AllByRecursion as AllOf}
 use Rattle.std.specs.Str.{bytes_eq, IsUtf8, IsAscii, is_utf8}
 use Rattle.std.proofs.lemmas.Str.{IsUtf8-from_ascii, IsUtf8-append, IsUtf8-nil, IsUtf8-take, IsUtf8-drop, IsCharBoundary-before_ascii, IsCharBoundary-after_ascii, IsUtf8-from_is_utf8, is_utf8-from_IsUtf8}
 use Rattle.std.proofs.lemmas.Bool.{and_parts, or_parts, not-true, le-ltb, both_ways, or_cases}
@@ -8,7 +9,7 @@ use Rattle.sng_text.specs.declared.fault.TextFault.TheVariants.{Empty, TooLong, 
 use Rattle.sng_text.specs.Levels.{levels_of}
 use Rattle.sng_text.specs.Texts.{has_byte, is_filter, is_name, is_plain, is_plus, is_hash, is_in_place, is_ordinary}
 use Rattle.sng_cover.specs.Candidates.{joined, further, run, is_wild, candidate_levels}
-use Rattle.sng_cover.proofs.Joining.{AllOf, Lack, levels_lack, levels_lack_slash, joined_levels_of}
+use Rattle.sng_cover.proofs.Joining.{Lack, levels_lack, levels_lack_slash, joined_levels_of}
 use Rattle.sng_cover.proofs.Short.{AreShort, short_levels, longer}
 use Rattle.sng_cover.proofs.Filters.{filter_facts}
 use Rattle.sng_cover.proofs.Fresh.{length_run, run_lacks, run_utf8}

@@ -1,9 +1,9 @@
 -- How many levels a text has, and how long they are.
 use Rattle.std.proofs.Common.{◌≡◌, ℕ, Bool, true, false, ◌==◌, ◌≤◌, List, [], ◌∷◌, length, suc, refl, arith, if◌then◌else◌}
+use Rattle.std.specs.List.{AllByRecursion as AllOf}
 use Rattle.sng_text.specs.Levels.{lengthen, levels_of}
 use Rattle.sng_text.specs.Texts.{is_hash}
 use Rattle.sng_text.specs.Matching.{items_of}
-use Rattle.sng_cover.proofs.Joining.{AllOf}
 
 -- no level has more bytes than so many
 abbrev pub AreShort : ℕ → List (List ℕ) → Type 0
