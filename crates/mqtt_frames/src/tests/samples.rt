@@ -30,36 +30,41 @@ pub const BYTES: [&[u8]; 13] = [
 
 /// The packets that those bytes spell.
 pub fn packets(alloc: Global) -> Result<Vec<Packet>, AllocError> {
-    let mut packets = Vec::new(alloc);
-    packets.push(connect(alloc, true, 60, b"gw1")?)?;
-    packets.push(connect(alloc, false, 0x0102, b"")?)?;
-    packets.push(Packet::ConnectAck(ConnectAck {
+    let connect_ack = Packet::ConnectAck(ConnectAck {
         session_present: true,
         code: 5,
-    }))?;
-    packets.push(Packet::Publish(Publish {
-        dup: true,
-        retain: true,
-        packet_id: Some(10),
+    });
+    Ok(vec![in alloc;
+        connect(alloc, true, 60, b"gw1")?,
+        connect(alloc, false, 0x0102, b"")?,
+        connect_ack,
+        publish(alloc, true, Some(10), b"hi")?,
+        publish(alloc, false, None, b"")?,
+        Packet::PublishAck(10),
+        subscribe(alloc)?,
+        subscribe_ack(alloc)?,
+        unsubscribe(alloc)?,
+        Packet::UnsubscribeAck(256),
+        Packet::PingRequest,
+        Packet::PingResponse,
+        Packet::Disconnect,
+    ]?)
+}
+
+/// A PUBLISH under the name `a/b`.
+fn publish(
+    alloc: Global,
+    flags: bool,
+    packet_id: Option<u16>,
+    payload: &[u8],
+) -> Result<Packet, AllocError> {
+    Ok(Packet::Publish(Publish {
+        dup: flags,
+        retain: flags,
+        packet_id,
         name: octets(alloc, b"a/b")?,
-        payload: octets(alloc, b"hi")?,
-    }))?;
-    packets.push(Packet::Publish(Publish {
-        dup: false,
-        retain: false,
-        packet_id: None,
-        name: octets(alloc, b"a/b")?,
-        payload: octets(alloc, b"")?,
-    }))?;
-    packets.push(Packet::PublishAck(10))?;
-    packets.push(subscribe(alloc)?)?;
-    packets.push(subscribe_ack(alloc)?)?;
-    packets.push(unsubscribe(alloc)?)?;
-    packets.push(Packet::UnsubscribeAck(256))?;
-    packets.push(Packet::PingRequest)?;
-    packets.push(Packet::PingResponse)?;
-    packets.push(Packet::Disconnect)?;
-    Ok(packets)
+        payload: octets(alloc, payload)?,
+    }))
 }
 
 fn connect(
