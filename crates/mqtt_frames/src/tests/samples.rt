@@ -11,7 +11,7 @@ pub fn octets(alloc: Global, bytes: &[u8]) -> Result<Octets, AllocError> {
     Ok(Octets::from(Vec::from_slice(alloc, bytes)?))
 }
 
-/// The bytes of the samples, in their order.
+/// The bytes of each sample.
 pub const BYTES: [&[u8]; 13] = [
     b"\x10\x0f\x00\x04\x4d\x51\x54\x54\x04\x02\x00\x3c\x00\x03\x67\x77\x31",
     b"\x10\x0c\x00\x04\x4d\x51\x54\x54\x04\x00\x01\x02\x00\x00",
@@ -28,27 +28,26 @@ pub const BYTES: [&[u8]; 13] = [
     b"\xe0\x00",
 ];
 
-/// The packets that those bytes spell.
-pub fn packets(alloc: Global) -> Result<Vec<Packet>, AllocError> {
-    let connect_ack = Packet::ConnectAck(ConnectAck {
-        session_present: true,
-        code: 5,
-    });
-    Ok(vec![in alloc;
-        connect(alloc, true, 60, b"gw1")?,
-        connect(alloc, false, 0x0102, b"")?,
-        connect_ack,
-        publish(alloc, true, Some(10), b"hi")?,
-        publish(alloc, false, None, b"")?,
-        Packet::PublishAck(10),
-        subscribe(alloc)?,
-        subscribe_ack(alloc)?,
-        unsubscribe(alloc)?,
-        Packet::UnsubscribeAck(256),
-        Packet::PingRequest,
-        Packet::PingResponse,
-        Packet::Disconnect,
-    ]?)
+/// The packet that the bytes at that place spell.
+pub fn packet(alloc: Global, place: usize) -> Result<Packet, AllocError> {
+    match place {
+        0 => connect(alloc, true, 60, b"gw1"),
+        1 => connect(alloc, false, 0x0102, b""),
+        2 => Ok(Packet::ConnectAck(ConnectAck {
+            session_present: true,
+            code: 5,
+        })),
+        3 => publish(alloc, true, Some(10), b"hi"),
+        4 => publish(alloc, false, None, b""),
+        5 => Ok(Packet::PublishAck(10)),
+        6 => subscribe(alloc),
+        7 => subscribe_ack(alloc),
+        8 => unsubscribe(alloc),
+        9 => Ok(Packet::UnsubscribeAck(256)),
+        10 => Ok(Packet::PingRequest),
+        11 => Ok(Packet::PingResponse),
+        _ => Ok(Packet::Disconnect),
+    }
 }
 
 /// A PUBLISH under the name `a/b`.
