@@ -15,7 +15,7 @@ mod reading;
 pub mod remaining;
 mod size;
 mod spellable;
-pub mod stream;
+mod stream;
 pub mod writing;
 
 pub use fault::StreamFault;

@@ -9,10 +9,9 @@ use std::test::Fail;
 
 #[test]
 fn each_packet_and_its_copy(rt: HostRuntime) -> Result<(), Fail> {
-    let packets = samples::packets(rt.alloc())?;
-    assert_eq!(rt; packets.len(), samples::BYTES.len());
-    for (packet, bytes) in packets.iter().zip(samples::BYTES.iter()) {
-        assert_eq!(rt; encode(rt.alloc(), packet)?.as_slice(), *bytes);
+    for (place, bytes) in samples::BYTES.iter().enumerate() {
+        let packet = samples::packet(rt.alloc(), place)?;
+        assert_eq!(rt; encode(rt.alloc(), &packet)?.as_slice(), *bytes);
         let copy = packet.copy()?;
         assert_eq!(rt; encode(rt.alloc(), &copy)?.as_slice(), *bytes);
     }
@@ -53,11 +52,9 @@ fn up_to_the_limit(rt: HostRuntime) -> Result<(), Fail> {
     );
     let both = publish(rt.alloc(), 65536, 5000)?;
     assert_eq!(rt; fault_of(rt.alloc(), &both), Some(StreamFault::TooLong));
-    let longest_text = publish(rt.alloc(), 65535, 0)?;
-    assert_eq!(rt;
-        &encode(rt.alloc(), &longest_text)?[..6],
-        b"\x30\x81\x80\x04\xff\xff".as_slice()
-    );
+    let longest_text = encode(rt.alloc(), &publish(rt.alloc(), 65535, 0)?)?;
+    let front = b"\x30\x81\x80\x04\xff\xff".as_slice();
+    assert!(rt; longest_text.as_slice().starts_with(front));
     Ok(())
 }
 

@@ -11,7 +11,7 @@ pub fn octets(alloc: Global, bytes: &[u8]) -> Result<Octets, AllocError> {
     Ok(Octets::from(Vec::from_slice(alloc, bytes)?))
 }
 
-/// The bytes of the samples, in their order.
+/// The bytes of each sample.
 pub const BYTES: [&[u8]; 13] = [
     b"\x10\x0f\x00\x04\x4d\x51\x54\x54\x04\x02\x00\x3c\x00\x03\x67\x77\x31",
     b"\x10\x0c\x00\x04\x4d\x51\x54\x54\x04\x00\x01\x02\x00\x00",
@@ -28,38 +28,42 @@ pub const BYTES: [&[u8]; 13] = [
     b"\xe0\x00",
 ];
 
-/// The packets that those bytes spell.
-pub fn packets(alloc: Global) -> Result<Vec<Packet>, AllocError> {
-    let mut packets = Vec::new(alloc);
-    packets.push(connect(alloc, true, 60, b"gw1")?)?;
-    packets.push(connect(alloc, false, 0x0102, b"")?)?;
-    packets.push(Packet::ConnectAck(ConnectAck {
-        session_present: true,
-        code: 5,
-    }))?;
-    packets.push(Packet::Publish(Publish {
-        dup: true,
-        retain: true,
-        packet_id: Some(10),
+/// The packet that the bytes at that place spell.
+pub fn packet(alloc: Global, place: usize) -> Result<Packet, AllocError> {
+    match place {
+        0 => connect(alloc, true, 60, b"gw1"),
+        1 => connect(alloc, false, 0x0102, b""),
+        2 => Ok(Packet::ConnectAck(ConnectAck {
+            session_present: true,
+            code: 5,
+        })),
+        3 => publish(alloc, true, Some(10), b"hi"),
+        4 => publish(alloc, false, None, b""),
+        5 => Ok(Packet::PublishAck(10)),
+        6 => subscribe(alloc),
+        7 => subscribe_ack(alloc),
+        8 => unsubscribe(alloc),
+        9 => Ok(Packet::UnsubscribeAck(256)),
+        10 => Ok(Packet::PingRequest),
+        11 => Ok(Packet::PingResponse),
+        _ => Ok(Packet::Disconnect),
+    }
+}
+
+/// A PUBLISH under the name `a/b`.
+fn publish(
+    alloc: Global,
+    flags: bool,
+    packet_id: Option<u16>,
+    payload: &[u8],
+) -> Result<Packet, AllocError> {
+    Ok(Packet::Publish(Publish {
+        dup: flags,
+        retain: flags,
+        packet_id,
         name: octets(alloc, b"a/b")?,
-        payload: octets(alloc, b"hi")?,
-    }))?;
-    packets.push(Packet::Publish(Publish {
-        dup: false,
-        retain: false,
-        packet_id: None,
-        name: octets(alloc, b"a/b")?,
-        payload: octets(alloc, b"")?,
-    }))?;
-    packets.push(Packet::PublishAck(10))?;
-    packets.push(subscribe(alloc)?)?;
-    packets.push(subscribe_ack(alloc)?)?;
-    packets.push(unsubscribe(alloc)?)?;
-    packets.push(Packet::UnsubscribeAck(256))?;
-    packets.push(Packet::PingRequest)?;
-    packets.push(Packet::PingResponse)?;
-    packets.push(Packet::Disconnect)?;
-    Ok(packets)
+        payload: octets(alloc, payload)?,
+    }))
 }
 
 fn connect(
