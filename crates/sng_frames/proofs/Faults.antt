@@ -1,5 +1,5 @@
 -- What a datagram is read as, by what it spells.
-use Rattle.std.proofs.Common.{◌≡◌, ℕ, ◌<◌, ◌≤◌, ◌↔◌, ◌⊎◌, Bool, true, false, List, length, Result, Ok, Err, if◌then◌else◌, inl, inr, refl, sym, ap, subst, ◌∙◌, nat_lt, arith}
+use Rattle.std.proofs.Common.{◌≡◌, ℕ, ◌≤◌, Bool, true, false, List, length, Result, Ok, Err, if◌then◌else◌, refl, sym, subst, ◌∙◌, nat_lt}
 use Rattle.std.proofs.lemmas.Bool.{ltb-false, le-ltb}
 use Rattle.sng_frames.specs.declared.fault.FrameFault.{FrameFault}
 use Rattle.sng_frames.specs.declared.fault.FrameFault.TheVariants.{Malformed, NotSupported, TooLong, Memory}

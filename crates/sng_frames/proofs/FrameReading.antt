@@ -1,11 +1,11 @@
 -- Between a variable part and the frame of a type, one way and the other.
-use Rattle.std.proofs.Common.{◌≡◌, ℕ, List, [], ◌∷◌, Option, Some, None, refl, ap, sym, subst, ◌∙◌}
+use Rattle.std.proofs.Common.{◌≡◌, ℕ, List, Option, Some, refl, ap, subst}
 use Rattle.std.specs.Option.{option_map}
 use Rattle.sng_frames.specs.declared.frame.SnFrame.{SnFrame}
 use Rattle.sng_frames.specs.declared.frame.SnFrame.TheVariants as variants
 use Rattle.sng_frames.specs.declared.message_type.MessageType.{MessageType}
 use Rattle.sng_frames.specs.declared.message_type.MessageType.TheVariants as types
-use Rattle.sng_frames.specs.Grammar.{SpellsPart, type_of, SpellsCode, SpellsConnect, SpellsDuration, SpellsNumber, SpellsPing, SpellsPublish, SpellsRegister, SpellsSubscribeAck, SpellsTopicAck, SpellsTopicRequest, SpellsWillTopic}
+use Rattle.sng_frames.specs.Grammar.{SpellsPart, type_of}
 use Rattle.sng_frames.specs.Laws.{AreOctets}
 use Rattle.sng_frames.specs.Parts.{part_read, nothing_of, connect_of, code_of, register_of, topic_ack_of, publish_of, number_of, topic_request_of, subscribe_ack_of, ping_of, duration_of, will_topic_of}
 use Rattle.sng_frames.proofs.PartReading.{mapped, nothing_of-spelled, nothing_of-reads, will_topic_of-spelled, will_topic_of-reads, connect_of-spelled, connect_of-reads, code_of-spelled, code_of-reads, register_of-spelled, register_of-reads, topic_ack_of-spelled, topic_ack_of-reads, publish_of-spelled, publish_of-reads, number_of-spelled, number_of-reads, topic_request_of-spelled, topic_request_of-reads, subscribe_ack_of-spelled, subscribe_ack_of-reads, ping_of-spelled, ping_of-reads, duration_of-spelled, duration_of-reads}

@@ -1,18 +1,18 @@
 -- Between the bytes of a datagram and what it is read as, one way and the other.
-use Rattle.std.proofs.Common.{◌≡◌, ◌≢◌, ℕ, suc, ◌+◌, ◌<◌, ◌≤◌, ◌==◌, Bool, true, false, ◌&&◌, ◌||◌, List, [], ◌∷◌, length, Option, Some, None, Result, Ok, Err, ◌⊎◌, inl, inr, if◌then◌else◌, refl, ap, sym, subst, ◌∙◌, arith, nat_lt, eq-eqb}
+use Rattle.std.proofs.Common.{◌≡◌, ℕ, suc, ◌+◌, ◌<◌, ◌==◌, Bool, true, false, ◌&&◌, ◌||◌, List, [], ◌∷◌, length, Option, Some, None, Result, Ok, Err, ◌⊎◌, inl, inr, if◌then◌else◌, refl, ap, sym, subst, ◌∙◌, arith, nat_lt, eq-eqb}
 use Rattle.std.specs.Option.{option_and_then}
-use Rattle.std.proofs.lemmas.Bool.{ltb-false, le-ltb, eqb-true}
+use Rattle.std.proofs.lemmas.Bool.{eqb-true}
 use Rattle.std.proofs.lemmas.Bool.Decides.{nat_tests}
 use Rattle.std.proofs.lemmas.List.Elements.{All-tail}
 use Rattle.sng_frames.specs.declared.fault.FrameFault.{FrameFault}
 use Rattle.sng_frames.specs.declared.fault.FrameFault.TheVariants.{Malformed, NotSupported, TooLong, Memory}
 use Rattle.sng_frames.specs.declared.frame.SnFrame.{SnFrame}
 use Rattle.sng_frames.specs.declared.message_type.MessageType.{MessageType}
-use Rattle.sng_frames.specs.Grammar.{SpellsMessage, Spells, type_of, IsDiscovery, SpellsDiscovery, IsUnsupported}
+use Rattle.sng_frames.specs.Grammar.{SpellsMessage, Spells, type_of, IsDiscovery, IsUnsupported}
 use Rattle.sng_frames.specs.Laws.{AreOctets}
 use Rattle.sng_frames.specs.MessageTypes.{octet_of, type_of_octet}
 use Rattle.sng_frames.specs.Parts.{number, part_read}
-use Rattle.sng_frames.specs.Reading.{is_discovery, or_malformed, message_of, behind_length, behind_one, octets_read, frame_of}
+use Rattle.sng_frames.specs.Reading.{is_discovery, or_malformed, message_of, behind_length, behind_one, octets_read}
 use Rattle.sng_frames.proofs.FrameReading.{part_read-spelled, part_read-reads}
 use Rattle.sng_frames.proofs.TypeOctets.{type_of_octet-octet_of, octet_of-type_of_octet, octet_of-other}
 

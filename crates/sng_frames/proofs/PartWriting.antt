@@ -1,6 +1,5 @@
 -- The variable part that is written is spelled, and it is the only one.
-use Rattle.std.proofs.Common.{◌≡◌, ℕ, ◌+◌, ◌*◌, ◌/◌, ◌%◌, ◌^◌, ◌<◌, true, List, [], ◌∷◌, Option, Some, None, refl, ap, sym, ◌∙◌, arith}
-use Rattle.sng_text.specs.ClientIds.{is_client_id}
+use Rattle.std.proofs.Common.{◌≡◌, ℕ, ◌/◌, ◌%◌, ◌^◌, ◌<◌, List, [], ◌∷◌, Option, Some, None, refl, ap, ◌∙◌, arith}
 use Rattle.sng_frames.specs.declared.frame.Connect.{Connect}
 use Rattle.sng_frames.specs.declared.frame.Publish.{Publish}
 use Rattle.sng_frames.specs.declared.frame.Register.{Register}

@@ -1,7 +1,6 @@
 -- Which bytes spell which frame (MQTT-SN 1.2, 5.2 to 5.4), apart from how they are read or written.
 use Rattle.std.specs.Prelude.{◌≡◌, ◌≢◌, ℕ, ◌+◌, ◌*◌, ◌^◌, ◌<◌, ◌≤◌, ◌⊎◌, true, List, [], ◌∷◌, length, Option, Some, None}
 use Rattle.sng_text.specs.ClientIds.{is_client_id}
-use Rattle.sng_frames.specs.declared.flags.Flags.{Flags}
 use Rattle.sng_frames.specs.declared.flags.TopicIdType.{TopicIdType}
 use Rattle.sng_frames.specs.declared.flags.TopicIdType.TheVariants.{Normal, Predefined, Short, Reserved}
 use Rattle.sng_frames.specs.declared.frame.Connect.{Connect}
