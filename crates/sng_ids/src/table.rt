@@ -15,7 +15,7 @@ pub const MOST: usize = 128;
 
 /// The topic ids of one client. The names that were told have ids from 1 on, in order, and some of them are confirmed: the client
 /// is known to know them. Contracts see the list of the names, each with whether it is confirmed.
-#[derive(Drop)]
+#[derive(Debug, Drop)]
 pub struct IdTable {
     names: IndexMap<TopicName, bool>,
 }
@@ -77,7 +77,8 @@ impl IdTable {
         if id == 0 {
             return;
         }
-        if let Some(is_confirmed) = self.names.get_index_mut(usize::from(id) - 1) {
+        let place = usize::from(id) - 1;
+        if let Some(is_confirmed) = self.names.get_index_mut(place) {
             *is_confirmed = true;
         }
     }

@@ -49,17 +49,35 @@ fn full_at_128(rt: HostRuntime) -> Result<(), Fail> {
     let alloc = rt.alloc();
     let mut ids = IdTable::new(alloc);
     for number in 1..=128u8 {
-        assert_eq!(rt;
-            ids.give(name(alloc, &[b't', number])?),
-            Ok(u16::from(number))
-        );
+        let text = [b'a' + number / 16, b'a' + number % 16];
+        assert_eq!(rt; ids.give(name(alloc, &text)?), Ok(u16::from(number)));
     }
     assert_eq!(rt; ids.give(name(alloc, b"t/129")?), Err(IdFault::Full));
     assert_eq!(rt; ids.len(), 128);
-    assert_eq!(rt; ids.give(name(alloc, b"t\x7f")?), Ok(127));
+    assert_eq!(rt; ids.give(name(alloc, b"hp")?), Ok(127));
     ids.confirm(127);
-    assert_eq!(rt; ids.id_of(&name(alloc, b"t\x7f")?), Some(127));
+    assert_eq!(rt; ids.id_of(&name(alloc, b"hp")?), Some(127));
     ids.take_back();
+    assert_eq!(rt; ids.len(), 127);
     assert_eq!(rt; ids.give(name(alloc, b"t/129")?), Ok(128));
+    assert_eq!(rt; ids.give(name(alloc, b"t/130")?), Err(IdFault::Full));
+    Ok(())
+}
+
+#[test]
+fn a_refused_growth_changes_nothing(rt: HostRuntime) -> Result<(), Fail> {
+    let alloc = rt.alloc();
+    let mut ids = IdTable::new(alloc);
+    for text in [b"t/1".as_slice(), b"t/2", b"t/3", b"t/4", b"t/5"] {
+        let before = ids.len();
+        match ids.give(name(alloc, text)?) {
+            Ok(id) => assert_eq!(rt; usize::from(id), before + 1),
+            Err(fault) => {
+                assert_eq!(rt; fault, IdFault::Memory);
+                assert_eq!(rt; ids.len(), before);
+                assert_eq!(rt; ids.give(name(alloc, text)?), Ok(before as u16 + 1));
+            }
+        }
+    }
     Ok(())
 }

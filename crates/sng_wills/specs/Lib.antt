@@ -1,1 +1,3 @@
 pub mod Wills
+pub mod Stated
+pub mod Laws

@@ -71,8 +71,7 @@ impl WillDialogue {
     pub fn clear(&mut self)
         ensures { self.new ≡ record { stage = Closed; will = None } }
     {
-        self.stage = Stage::Closed;
-        self.will = None;
+        *self = WillDialogue::new(self.alloc);
     }
 
     /// A WILLTOPIC with a topic: where one is awaited, a message is awaited from now on. The will stays.

@@ -3,6 +3,7 @@
 
 pub mod dialogue;
 pub mod fault;
+pub mod laws;
 #[cfg(test)]
 mod tests;
 pub mod will;
