@@ -35,17 +35,33 @@ fn is_repeated(queue: &mut Queue, clock: u64) -> bool {
     may_repeat
 }
 
-#[test]
-fn a_message_is_announced_then_handed_over(rt: HostRuntime) -> Result<(), Fail> {
-    let alloc = rt.alloc();
+/// A queue in which `x` waits before `y`.
+fn two_waiting(alloc: Global) -> Result<Queue, Fail> {
     let mut queue = Queue::new(alloc)?;
-    assert!(rt; queue.push(message(alloc, b"a/b", b"x")?).is_ok());
-    assert!(rt; queue.push(message(alloc, b"a/c", b"y")?).is_ok());
+    for payload in [b"x", b"y"] {
+        let _ = queue.push(message(alloc, b"a/b", payload)?);
+    }
+    Ok(queue)
+}
+
+#[test]
+fn messages_leave_in_order(rt: HostRuntime) -> Result<(), Fail> {
+    let mut queue = two_waiting(rt.alloc())?;
     assert_eq!(rt; queue.len(), 2);
     assert!(rt; has_payload(queue.at(1), b"y"));
     assert!(rt; queue.at(2).is_none());
+    assert!(rt; has_payload(queue.settle().as_ref(), b"x"));
+    assert!(rt; has_payload(queue.settle().as_ref(), b"y"));
+    assert!(rt; queue.settle().is_none());
+    Ok(())
+}
 
+#[test]
+fn the_front_is_announced(rt: HostRuntime) -> Result<(), Fail> {
+    let mut queue = two_waiting(rt.alloc())?;
     queue.announce(1, 7, 100);
+    queue.announce(2, 8, 110);
+    assert_eq!(rt; queue.len(), 2);
     match queue.exchange() {
         None => assert!(rt; false),
         Some(exchange) => {
@@ -55,31 +71,40 @@ fn a_message_is_announced_then_handed_over(rt: HostRuntime) -> Result<(), Fail> 
             assert_eq!(rt; (exchange.sent, exchange.tries), (100, 0));
         }
     }
-    // The client confirms the id, and the front is sent.
     queue.close();
+    assert!(rt; queue.exchange().is_none());
     assert_eq!(rt; queue.len(), 2);
-    queue.await_ack(TopicIdType::Normal, 1, 8, 150);
-    assert_eq!(rt; queue.len(), 1);
+    Ok(())
+}
+
+#[test]
+fn the_front_is_under_way(rt: HostRuntime) -> Result<(), Fail> {
+    let mut queue = two_waiting(rt.alloc())?;
+    queue.await_ack(TopicIdType::Predefined, 1, 8, 150);
     assert!(rt; has_payload(queue.at(0), b"y"));
     match queue.exchange() {
         None => assert!(rt; false),
         Some(exchange) => {
             assert!(rt; !exchange.announcing);
-            assert_eq!(rt; exchange.msg_id, 8);
+            assert_eq!(rt;
+                (exchange.id_type, exchange.msg_id),
+                (TopicIdType::Predefined, 8)
+            );
             assert!(rt; has_payload(exchange.message.as_ref(), b"x"));
         }
     }
-    // Nothing else is settled or begun meanwhile.
+    // Nothing else is settled meanwhile.
     assert!(rt; queue.settle().is_none());
-    queue.announce(2, 9, 160);
-    queue.await_ack(TopicIdType::Short, 2, 9, 160);
-    assert_eq!(rt; queue.len(), 1);
     queue.close();
-    assert!(rt; queue.exchange().is_none());
     assert!(rt; has_payload(queue.settle().as_ref(), b"y"));
-    assert!(rt; queue.settle().is_none());
-    // With nothing waiting there is nothing to begin.
+    Ok(())
+}
+
+#[test]
+fn with_nothing_waiting_nothing_begins(rt: HostRuntime) -> Result<(), Fail> {
+    let mut queue = Queue::new(rt.alloc())?;
     queue.announce(2, 10, 170);
+    assert!(rt; queue.exchange().is_none());
     queue.await_ack(TopicIdType::Normal, 2, 10, 170);
     assert!(rt; queue.exchange().is_none());
     Ok(())

@@ -1,0 +1,3 @@
+pub mod GrantLemmas
+pub mod PlaceLemmas
+pub mod TableLemmas
