@@ -3,6 +3,7 @@
 
 pub mod fault;
 pub mod holder;
+pub mod laws;
 pub mod standing;
 pub mod subscription;
 #[cfg(test)]

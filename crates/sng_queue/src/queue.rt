@@ -84,7 +84,7 @@ impl Queue {
                 return None;
             }
         }
-        self.exchange = None;
+        self.close();
         self.waiting.pop_front()
     }
 
@@ -156,7 +156,7 @@ impl Queue {
     pub fn empty(&mut self)
         ensures { self.new ≡ nothing }
     {
-        self.exchange = None;
+        self.close();
         self.waiting.clear();
     }
 }
