@@ -1,0 +1,4 @@
+pub mod GrantLemmas
+pub mod HolderLemmas
+pub mod PlaceLemmas
+pub mod TableLemmas

@@ -1,0 +1,13 @@
+//! What keeps a filter from standing.
+use thiserror::Error;
+
+/// The fault of a subscription.
+#[derive(Clone, Copy, Debug, PartialEq, Eq, Error)]
+pub enum FanFault {
+    /// As many other filters stand for the client as may.
+    #[error("too many filters stand for the client")]
+    Full,
+    /// A growth was refused.
+    #[error("out of memory")]
+    Memory,
+}

@@ -1,0 +1,59 @@
+//! Who gets a message, each client once.
+ghost use Rattle.std.specs.Prelude.{◌≡◌, ◌≤◌, OnOk, length};
+ghost use Rattle.sng_fan.specs.Holders.{level, greater, place_of, with_grant};
+
+use sng_frames::Qos;
+use std::alloc::AllocError;
+
+/// A client that holds a filter that matches.
+#[derive(Clone, Copy, Debug, PartialEq, Eq)]
+pub struct Holder {
+    /// The client's number.
+    pub client: u16,
+    /// The greatest QoS among its filters that match.
+    pub qos: Qos,
+}
+
+/// The greater of two QoS, in the order of their levels, -1 to 2.
+pub fn greater(a: Qos, b: Qos) -> Qos
+    ensures { result ≡ greater a b }
+{
+    if level(a) < level(b) { b } else { a }
+}
+
+/// The place of a QoS among the levels -1 to 2.
+fn level(qos: Qos) -> u8
+    ensures { result ≡ level qos }
+{
+    match qos {
+        Qos::WithoutSession => 0,
+        Qos::AtMostOnce => 1,
+        Qos::AtLeastOnce => 2,
+        Qos::ExactlyOnce => 3,
+    }
+}
+
+/// Counts one more matching subscription in, the holders being in the order of their clients.
+pub(crate) fn add_grant(holders: &mut Vec<Holder>, client: u16, qos: Qos) -> Result<(), AllocError>
+    ensures { OnOk result (holders.new.items ≡ with_grant holders.old.items client qos) }
+{
+    let place = place_of(holders, client);
+    if place < holders.len() && holders[place].client == client {
+        let holder = &mut holders[place];
+        holder.qos = greater(holder.qos, qos);
+        return Ok(());
+    }
+    holders.insert(place, Holder { client, qos })?;
+    Ok(())
+}
+
+/// Where the client stands among the holders, or would stand.
+fn place_of(holders: &[Holder], client: u16) -> usize
+    ensures place { result ≡ place_of holders.now client }
+    ensures within { result ≤ length holders.now }
+{
+    holders
+        .iter()
+        .take_while(|holder| holder.client < client)
+        .count()
+}

@@ -1,0 +1,15 @@
+//! Who holds which topic filter at which QoS (MQTT-SN 1.2, 6.9), and who gets a message.
+#![tactic(auto)]
+
+pub mod fault;
+pub mod holder;
+pub mod laws;
+pub mod standing;
+pub mod subscription;
+#[cfg(test)]
+mod tests;
+
+pub use fault::FanFault;
+pub use holder::Holder;
+pub use standing::Standing;
+pub use subscription::Subscription;

@@ -1,0 +1,12 @@
+//! What one client still has to get, and the exchange with it that is open (MQTT-SN 1.2, 6.5, 6.6 and 6.14).
+#![tactic(auto)]
+
+pub mod exchange;
+pub mod queue;
+#[cfg(test)]
+mod tests;
+pub mod waiting;
+
+pub use exchange::Exchange;
+pub use queue::Queue;
+pub use waiting::Waiting;
