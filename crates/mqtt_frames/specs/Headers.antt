@@ -5,31 +5,31 @@ use Rattle.mqtt_frames.specs.declared.fault.StreamFault.{StreamFault}
 use Rattle.mqtt_frames.specs.declared.fault.StreamFault.TheVariants.{Malformed}
 use Rattle.mqtt_frames.specs.declared.kind.Kind.{Kind}
 use Rattle.mqtt_frames.specs.declared.header.Length.{Length}
-use Rattle.mqtt_frames.specs.declared.header.Length.TheVariants as length
+use Rattle.mqtt_frames.specs.declared.header.Length.TheVariants as lengths
 use Rattle.mqtt_frames.specs.declared.header.Header.{Header}
 use Rattle.mqtt_frames.specs.declared.header.Header.TheVariants as header
 use Rattle.mqtt_frames.specs.Kinds.{kind_of}
 
 -- a group of seven bits, which has 128 more because others follow it
 abbrev pub behind_group : ℕ → Length → Length
-behind_group byte length.Unfinished = length.Unfinished
-behind_group byte length.Overlong = length.Overlong
-behind_group byte (length.Told value size) = length.Told (byte - 128 + 128 * value) (size + 1)
+behind_group byte lengths.Unfinished = lengths.Unfinished
+behind_group byte lengths.Overlong = lengths.Overlong
+behind_group byte (lengths.Told value size) = lengths.Told (byte - 128 + 128 * value) (size + 1)
 
 -- groups of seven bits, the low ones first, of which there are at most so many (2.2.3)
 abbrev pub length_at : ℕ → List ℕ → Length
-length_at zero bytes = length.Overlong
-length_at (suc most) [] = length.Unfinished
-length_at (suc most) (byte ∷ bytes) = if nat_lt byte 128 then length.Told byte 1 else behind_group byte (length_at most bytes)
+length_at zero bytes = lengths.Overlong
+length_at (suc most) [] = lengths.Unfinished
+length_at (suc most) (byte ∷ bytes) = if nat_lt byte 128 then lengths.Told byte 1 else behind_group byte (length_at most bytes)
 
 abbrev pub with_kind : Result Kind StreamFault → ℕ → ℕ → Header
 with_kind (Ok kind) size value = header.Told kind size value
 with_kind (Err fault) size value = header.Faulty fault
 
 abbrev pub with_length : ℕ → Length → Header
-with_length first length.Unfinished = header.Unfinished
-with_length first length.Overlong = header.Faulty Malformed
-with_length first (length.Told value size) = with_kind (kind_of first) (1 + size) value
+with_length first lengths.Unfinished = header.Unfinished
+with_length first lengths.Overlong = header.Faulty Malformed
+with_length first (lengths.Told value size) = with_kind (kind_of first) (1 + size) value
 
 -- the first byte, and a Remaining Length of at most four bytes
 abbrev pub header_at : List ℕ → Header
@@ -38,7 +38,7 @@ header_at (first ∷ rest) = with_length first (length_at 4 rest)
 
 -- the value of four groups is less than 2 ^ 28
 abbrev pub IsSmall : Length → Type 0
-IsSmall (length.Told value size) = (value < 268435456) × (0 < size) × (size ≤ 4)
+IsSmall (lengths.Told value size) = (value < 268435456) × (0 < size) × (size ≤ 4)
 IsSmall _ = Unit {0}
 
 -- a header has two to five bytes
