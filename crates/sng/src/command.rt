@@ -50,7 +50,9 @@ fn cover_command<'a>(alloc: Global) -> Result<Command<'a>, AllocError> {
 /// The filters among the words of `sng cover ..`, as they came: all but the first two, and but the first `--`, after which a word
 /// that begins with a dash is a filter too.
 pub fn filters_among(mut words: Vec<Octets>) -> Vec<Octets> {
-    let escape = words.iter().position(|word| word.as_slice() == b"--".as_slice());
+    let escape = words
+        .iter()
+        .position(|word| word.as_slice() == b"--".as_slice());
     if let Some(place) = escape {
         words.remove(place);
     }

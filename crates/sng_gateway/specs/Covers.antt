@@ -4,7 +4,6 @@ use Rattle.std.specs.declared.option.Option.{Option}
 use Rattle.std.specs.Fmt.{decimal}
 use Rattle.sng_text.specs.Texts.{is_filter}
 use Rattle.sng_cover.specs.Covering.{cover_of}
-use Rattle.sng_cover.specs.declared.answer.Cover.{Cover}
 use Rattle.sng_cover.specs.declared.answer.Cover.TheVariants.{Included, Uncovered}
 use Rattle.sng_book.specs.Printing.{name_text}
 use Rattle.sng_gateway.specs.declared.status.Status.{Status}

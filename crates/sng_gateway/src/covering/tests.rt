@@ -31,7 +31,10 @@ fn a_filter_that_is_not(rt: HostRuntime) -> std::result::Result<(), Fail> {
     assert_eq!(rt; printed.as_slice(), b"uncovered xx/xx\n".as_slice());
     assert_eq!(rt; status.code(), 1);
     let (status, printed) = covered(rt.alloc(), &[b"\xc3\xa9 %/+"])?;
-    assert_eq!(rt; printed.as_slice(), b"uncovered %C3%A9%20%25/x\n".as_slice());
+    assert_eq!(rt;
+        printed.as_slice(),
+        b"uncovered %C3%A9%20%25/x\n".as_slice()
+    );
     assert_eq!(rt; status, Status::Uncovered);
     Ok(())
 }
