@@ -29,6 +29,15 @@ fn texts_that_are_names(rt: HostRuntime) -> Result<(), Fail> {
 }
 
 #[test]
+fn names_are_equal_by_their_text(rt: HostRuntime) -> Result<(), Fail> {
+    let name = TopicName::read(rt.alloc(), b"t/1")?;
+    assert!(rt; name == name.copy()?);
+    assert!(rt; name != TopicName::read(rt.alloc(), b"t/2")?);
+    assert!(rt; name != TopicName::read(rt.alloc(), b"t/10")?);
+    Ok(())
+}
+
+#[test]
 fn first_faults_of_names(rt: HostRuntime) {
     for (text, want) in [
         (b"".as_slice(), TextFault::Empty),
