@@ -1,10 +1,10 @@
 -- What each call leaves of the messages, by what is open and what waits.
-use Rattle.std.proofs.Common.{◌≡◌, ℕ, Bool, true, false, not, List, [], ◌∷◌, ◌++◌, Some, None, drop, slice_get, if◌then◌else◌, refl}
+use Rattle.std.proofs.Common.{◌≡◌, ℕ, Bool, true, false, List, [], ◌∷◌, ◌++◌, Some, None, drop, slice_get, if◌then◌else◌, refl}
 use Rattle.std.specs.Option.{option_to_list}
 use Rattle.std.specs.declared.option.Option.{Option}
 use Rattle.sng_queue.specs.declared.exchange.Exchange.{Exchange}
 use Rattle.sng_queue.specs.declared.waiting.Waiting.{Waiting}
-use Rattle.sng_queue.specs.Buffers.{Buffer, announce_by, await_ack_by, repeat, awaits_ack, settled, settle}
+use Rattle.sng_queue.specs.Buffers.{Buffer, announce_by, await_ack_by, repeat, awaits_ack}
 use Rattle.sng_queue.specs.Laws.{under_way, messages, MessagesStayInOrder}
 
 front_and_rest : (waiting : List Waiting) → option_to_list (slice_get waiting 0) ++ drop 1 waiting ≡ waiting

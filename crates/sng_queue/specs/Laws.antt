@@ -1,5 +1,5 @@
 -- No call puts a message before an older one, and none but a settlement or an end takes one away.
-use Rattle.std.specs.Prelude.{ℕ, ◌≡◌, List, [], ◌∷◌, ◌++◌, Some, None}
+use Rattle.std.specs.Prelude.{ℕ, ◌≡◌, List, [], ◌++◌, Some, None}
 use Rattle.std.specs.Option.{option_to_list}
 use Rattle.std.specs.declared.option.Option.{Option}
 use Rattle.sng_frames.specs.declared.flags.TopicIdType.{TopicIdType}
