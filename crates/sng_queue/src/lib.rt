@@ -2,6 +2,7 @@
 #![tactic(auto)]
 
 pub mod exchange;
+pub mod laws;
 pub mod queue;
 #[cfg(test)]
 mod tests;

@@ -1,0 +1,40 @@
+-- What each call leaves of the messages, by what is open and what waits.
+use Rattle.std.proofs.Common.{◌≡◌, ℕ, Bool, true, false, List, [], ◌∷◌, ◌++◌, Some, None, drop, slice_get, if◌then◌else◌, refl}
+use Rattle.std.specs.Option.{option_to_list}
+use Rattle.std.specs.declared.option.Option.{Option}
+use Rattle.sng_queue.specs.declared.exchange.Exchange.{Exchange}
+use Rattle.sng_queue.specs.declared.waiting.Waiting.{Waiting}
+use Rattle.sng_queue.specs.Buffers.{Buffer, announce_by, await_ack_by, repeat, awaits_ack}
+use Rattle.sng_queue.specs.Laws.{under_way, messages, MessagesStayInOrder}
+
+front_and_rest : (waiting : List Waiting) → option_to_list (slice_get waiting 0) ++ drop 1 waiting ≡ waiting
+front_and_rest [] = refl
+front_and_rest (front ∷ rest) = refl
+
+settled_by : (b : Buffer) (acknowledging : Bool)
+    → option_to_list (if acknowledging then None else slice_get b.waiting 0) ++ (let left : Buffer = if acknowledging then b else record { waiting = drop 1 b.waiting; exchange = None } in left).waiting ≡ b.waiting
+settled_by b true = refl
+settled_by b false = front_and_rest b.waiting
+
+announced : (open_one : Option Exchange) (waiting : List Waiting) (e : Exchange) → e.message ≡ None → messages (announce_by open_one waiting e) ≡ under_way open_one ++ waiting
+announced None [] e none = refl
+announced None (front ∷ rest) e none = rw none refl
+announced (Some open_one) waiting e none = refl
+
+handed_over : (open_one : Option Exchange) (waiting : List Waiting) (exchange_of : Waiting → Exchange) → ((front : Waiting) → (exchange_of front).message ≡ Some front)
+    → messages (await_ack_by open_one waiting exchange_of) ≡ under_way open_one ++ waiting
+handed_over None [] exchange_of carries = refl
+handed_over None (front ∷ rest) exchange_of carries = rw (carries front) refl
+handed_over (Some open_one) waiting exchange_of carries = refl
+
+repeated : (open_one : Option Exchange) (clock : ℕ) → under_way (repeat open_one clock) ≡ under_way open_one
+repeated None clock = refl
+repeated (Some open_one) clock = refl
+
+pub in_order : MessagesStayInOrder
+in_order b = (
+  settled_by b (awaits_ack b.exchange),
+  λ topic_id msg_id clock. announced b.exchange b.waiting _ refl,
+  λ id_type topic_id msg_id clock. handed_over b.exchange b.waiting _ (λ front. refl),
+  λ clock. rw (repeated b.exchange clock) refl,
+)
