@@ -170,6 +170,20 @@ fn is_no_policy(rt: &(impl Abort + AllocGlobal), text: &str, fault: PolicyFault)
     }
 }
 
+/// That each line is no policy, for this fault.
+fn are_no_policies(rt: &(impl Abort + AllocGlobal), texts: &str, fault: PolicyFault) {
+    for text in texts.lines() {
+        is_no_policy(rt, text, fault);
+    }
+}
+
+/// That each line is no scope, for this fault.
+fn are_no_scopes(rt: &(impl Abort + AllocGlobal), texts: &str, fault: PolicyFault) {
+    for text in texts.lines() {
+        is_no_scope(rt, text, fault);
+    }
+}
+
 /// The text of a policy with so many clients, each with the scope, so many sources and so many topics.
 fn policy_text(
     alloc: Global,
