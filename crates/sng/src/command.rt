@@ -48,16 +48,18 @@ fn cover_command<'a>(alloc: Global) -> Result<Command<'a>, AllocError> {
 }
 
 /// The filters among the words of `sng cover ..`, as they came: all but the first two, and but the first `--`, after which a word
-/// that begins with a dash is a filter too.
-pub fn filters_among(mut words: Vec<Octets>) -> Vec<Octets> {
-    let escape = words
-        .iter()
-        .position(|word| word.as_slice() == b"--".as_slice());
-    if let Some(place) = escape {
-        words.remove(place);
+/// that begins with a dash is a filter too. Only memory can fail.
+pub fn filters_among(alloc: Global, words: Vec<Octets>) -> Result<Vec<Octets>, AllocError> {
+    let mut filters = Vec::with_capacity(alloc, words.len())?;
+    let mut is_escaped = false;
+    for (place, word) in words.into_iter().enumerate() {
+        if !is_escaped && word.as_slice() == b"--".as_slice() {
+            is_escaped = true;
+        } else if place >= 2 {
+            filters.push(word)?;
+        }
     }
-    words.drain(..2);
-    words
+    Ok(filters)
 }
 
 /// The exit status of a command line that starts nothing: 0 for help that was printed, 2 for a fault, 4 where help could not be printed.

@@ -21,10 +21,10 @@ fn main(rt: HostRuntime) -> ExitCode {
     let code = match read_words(&rt) {
         Ok((words, texts)) => match read_command(rt.alloc(), texts.as_slice()) {
             Ok(Chosen::Play) => play(rt.alloc(), rt.reader(), io::writer(&rt)).code(),
-            Ok(Chosen::Cover) => {
-                let filters = filters_among(words);
-                cover_words(rt.alloc(), filters.as_slice(), io::writer(&rt)).code()
-            }
+            Ok(Chosen::Cover) => match filters_among(rt.alloc(), words) {
+                Ok(filters) => cover_words(rt.alloc(), filters.as_slice(), io::writer(&rt)).code(),
+                Err(AllocError) => out_of_memory(&rt),
+            },
             Err(error) => report(&rt, &error),
         },
         Err(AllocError) => out_of_memory(&rt),
