@@ -118,7 +118,7 @@ fn encode_times(alloc: Global, times: u32) -> Result<u64, NotDone> {
     Ok(total)
 }
 
-/// A stream of 4,096 PUBLISHes of 32 bytes each, so many times over.
+/// A stream of 4,096 PUBLISHes of 32 bytes each, so many times over, in pieces of one byte at least.
 fn feed_times(alloc: Global, size: usize, times: u32) -> Result<u64, NotDone> {
     let mut bytes = Vec::new(alloc);
     for _ in 0..4096 {
@@ -126,6 +126,7 @@ fn feed_times(alloc: Global, size: usize, times: u32) -> Result<u64, NotDone> {
             .extend_from_slice(b"\x30\x1e\x00\x03a/b0123456789012345678901234")
             .map_err(|_| NotDone)?;
     }
+    let size = if size == 0 { 1 } else { size };
     let mut stream = Stream::new(alloc);
     let mut total: u64 = 0;
     for _ in 0..times {
