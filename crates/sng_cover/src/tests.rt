@@ -1,112 +1,42 @@
-//! Answers on inclusion: worked examples, a table that a search outside of this program gave, and a search over all names of a
-//! small alphabet beside the answers.
+//! Answers on inclusion: worked examples, a search over names of a small alphabet beside them, and the limits. `tests/cover.table`
+//! has many more pairs, for the program.
 use crate::{Cover, cover, shows_gap};
-use sng_text::{Levels, TopicFilter, TopicName};
+use sng_text::{TopicFilter, TopicName};
 use std::alloc::Global;
 use std::test::Fail;
 
-/// The worked examples: a line of filters, and its answer.
-const WORKED: [(&str, &str); 8] = [
-    ("a/# a a/+/#", "included"),
-    ("a/# a a/+ a/+/+/+/#", "uncovered a/x/x"),
-    ("a/# a/+ a/+/+/#", "uncovered a"),
-    ("a/#", "uncovered a"),
-    ("/#", "uncovered /x"),
-    ("+/+ x/+ +/b", "uncovered xx/xx"),
-    ("$SYS/# #", "uncovered $SYS"),
-    ("# +/#", "included"),
-];
+/// Worked examples, a line each: the answer, and behind a bar the filters.
+const WORKED: &str = "included|a/# a a/+/#
+uncovered a/x/x|a/# a a/+ a/+/+/+/#
+uncovered a|a/# a/+ a/+/+/#
+uncovered a|a/#
+uncovered /x|/#
+uncovered xx/xx|+/+ x/+ +/b
+uncovered $SYS|$SYS/# #
+included|# +/#";
 
-/// Pairs whose answers a search over names gave, which shares no code with this program.
-const TABLE: [(&str, &str); 73] = [
-    ("a a", "included"),
-    ("a b", "uncovered a"),
-    ("a +", "included"),
-    ("a #", "included"),
-    ("+ a", "uncovered x"),
-    ("+ +", "included"),
-    ("+ #", "included"),
-    ("+ a b c", "uncovered x"),
-    ("# #", "included"),
-    ("# a/#", "uncovered x"),
-    ("# + +/+ +/+/#", "included"),
-    ("# + +/+ +/+/+ +/+/+/#", "included"),
-    ("# + +/+ +/+/+/#", "included"),
-    ("# + +/# a", "included"),
-    ("# +", "uncovered x/x"),
-    ("a/+ a/b a/c", "uncovered a/x"),
-    ("a/+ a/b a/+", "included"),
-    ("a/+ +/+", "included"),
-    ("a/+ +/b", "uncovered a/x"),
-    ("a/+/c a/#", "included"),
-    ("a/+/c a/b/c +/+/c", "included"),
-    ("a/+/c +/b/c a/b/#", "uncovered a/x/c"),
-    ("a/b a/b/#", "included"),
-    ("a/b/# a/b a/b/+/#", "included"),
-    ("a/b/# a/b/+/#", "uncovered a/b"),
-    ("a/b/# a/+", "uncovered a/b/x"),
-    ("a/b/# a/+ a/+/#", "included"),
-    ("+/# #", "included"),
-    ("+/# + +/+/#", "included"),
-    ("+/# /# a/#", "uncovered x"),
-    ("/# / /+/#", "included"),
-    ("/# /+ /+/+/#", "included"),
-    ("/+ +/+", "included"),
-    ("/+ / /a", "uncovered /x"),
-    ("/ /+", "included"),
-    ("/ +/", "included"),
-    ("a//b a/+/b", "included"),
-    ("a//b a//+", "included"),
-    ("a//b a/b", "uncovered a//b"),
-    ("a/+/b a//b", "uncovered a/x/b"),
-    ("// +/+/+", "included"),
-    ("// /+/", "included"),
-    ("+// +/+/", "included"),
-    ("a/ a/+", "included"),
-    ("a/ a/#", "included"),
-    ("a a/#", "included"),
-    ("a/# a/b/# a a/+ a/+/+/#", "included"),
-    ("$SYS/a +/a", "uncovered $SYS/a"),
-    ("$SYS/a #", "uncovered $SYS/a"),
-    ("$SYS/a $SYS/#", "included"),
-    ("$SYS/+ +/+ $SYS/a", "uncovered $SYS/x"),
-    ("$SYS/+ $SYS/+", "included"),
-    ("$SYS/# $SYS/+ $SYS/+/#", "uncovered $SYS"),
-    ("$SYS/# $SYS $SYS/+/#", "included"),
-    ("$/# #", "uncovered $"),
-    ("+/$a #", "included"),
-    ("+/$a +/+", "included"),
-    ("x/+ x/x", "uncovered x/xx"),
-    ("+ x xx", "uncovered xxx"),
-    ("+/+ x/+ xx/+", "uncovered xxx/xxx"),
-    ("+/+ +/x x/xx", "uncovered xxx/xxx"),
-    ("+/x xx/x", "uncovered xxx/x"),
-    ("# x xx/# xxx", "uncovered xxxx"),
-    ("x/# x x/x x/x/+", "uncovered x/xx"),
-    ("+/+/+ a/+/+ +/b/+ +/+/c", "uncovered x/x/x"),
-    ("a/b/c/# a/#", "included"),
-    ("a/+/+/# a/b/# a/+/c/#", "uncovered a/x/x"),
-    ("a/+/# a/b/# a/+ a/+/+/#", "included"),
-    ("+/a/# +/a +/a/+ +/+/+/+/#", "included"),
-    ("a/+/b/# a/+/#", "included"),
-    ("+/+/# +/#", "included"),
-    ("+/+/# #", "included"),
-    ("# +/# $SYS/#", "included"),
-];
+/// The filters of a line.
+#[derive(Drop)]
+struct Question {
+    asked: TopicFilter,
+    granted: Vec<TopicFilter>,
+}
 
 /// The filters of a line: the asked one first, then the granted ones.
-fn filters_of(alloc: Global, line: &str) -> Result<Vec<TopicFilter>, Fail> {
-    let mut filters = Vec::new(alloc);
-    for word in line.split(' ') {
-        filters.push(TopicFilter::read(alloc, word.as_bytes())?)?;
+fn read_question(alloc: Global, line: &str) -> Result<Question, Fail> {
+    let mut words = line.split(' ');
+    let asked = TopicFilter::read(alloc, words.next().unwrap_or("").as_bytes())?;
+    let mut granted = Vec::new(alloc);
+    for word in words {
+        granted.push(TopicFilter::read(alloc, word.as_bytes())?)?;
     }
-    Ok(filters)
+    Ok(Question { asked, granted })
 }
 
 /// The answer as a text.
-fn answer_to(alloc: Global, filters: &[TopicFilter]) -> Result<Vec<u8>, Fail> {
+fn answer_to(alloc: Global, question: &Question) -> Result<Vec<u8>, Fail> {
     let mut text = Vec::new(alloc);
-    match cover(alloc, &filters[0], &filters[1..])? {
+    match cover(alloc, &question.asked, question.granted.as_slice())? {
         Cover::Included => text.extend_from_slice(b"included")?,
         Cover::Uncovered(name) => {
             text.extend_from_slice(b"uncovered ")?;
@@ -116,30 +46,13 @@ fn answer_to(alloc: Global, filters: &[TopicFilter]) -> Result<Vec<u8>, Fail> {
     Ok(text)
 }
 
-/// The first of the lines that gets another answer.
-fn first_wrong(
-    alloc: Global,
-    lines: &[(&'static str, &str)],
-) -> Result<Option<&'static str>, Fail> {
-    for (line, want) in lines {
-        let filters = filters_of(alloc, line)?;
-        let answer = answer_to(alloc, filters.as_slice())?;
-        if answer.as_slice() != want.as_bytes() {
-            return Ok(Some(*line));
-        }
-    }
-    Ok(None)
-}
-
 #[test]
 fn worked_examples(rt: HostRuntime) -> Result<(), Fail> {
-    assert_eq!(rt; first_wrong(rt.alloc(), WORKED.as_slice())?, None);
-    Ok(())
-}
-
-#[test]
-fn table_of_pairs(rt: HostRuntime) -> Result<(), Fail> {
-    assert_eq!(rt; first_wrong(rt.alloc(), TABLE.as_slice())?, None);
+    for line in WORKED.split('\n') {
+        let (want, filters) = line.split_once('|').unwrap_or((line, ""));
+        let answer = answer_to(rt.alloc(), &read_question(rt.alloc(), filters)?)?;
+        assert_eq!(rt; answer.as_slice(), want.as_bytes(), "at {line}");
+    }
     Ok(())
 }
 
@@ -158,19 +71,25 @@ fn small_names(alloc: Global) -> Result<Vec<TopicName>, Fail> {
     Ok(names)
 }
 
-/// How many levels a name has.
-fn depth_of(name: &TopicName) -> usize {
-    Levels::of(name.text()).count()
+/// How many slashes a name has: one fewer than levels.
+fn slashes_in(name: &TopicName) -> usize {
+    let mut slashes: usize = 0;
+    for byte in name.text() {
+        if *byte == b'/' {
+            slashes = slashes.saturating_add(1);
+        }
+    }
+    slashes
 }
 
 /// Whether some name shows a gap where the answer has none, or one of fewer levels than the answer's.
-fn is_beaten(filters: &[TopicFilter], answer: &Cover, names: &[TopicName]) -> bool {
+fn is_beaten(question: &Question, answer: &Cover, names: &[TopicName]) -> bool {
     for name in names {
-        if shows_gap(&filters[0], &filters[1..], name) {
+        if shows_gap(&question.asked, question.granted.as_slice(), name) {
             match answer {
                 Cover::Included => return true,
                 Cover::Uncovered(gap) => {
-                    if depth_of(name) < depth_of(gap) {
+                    if slashes_in(name) < slashes_in(gap) {
                         return true;
                     }
                 }
@@ -183,10 +102,11 @@ fn is_beaten(filters: &[TopicFilter], answer: &Cover, names: &[TopicName]) -> bo
 #[test]
 fn no_small_name_beats_an_answer(rt: HostRuntime) -> Result<(), Fail> {
     let names = small_names(rt.alloc())?;
-    for (line, _) in TABLE {
-        let filters = filters_of(rt.alloc(), line)?;
-        let answer = cover(rt.alloc(), &filters[0], &filters[1..])?;
-        let is_beaten = is_beaten(filters.as_slice(), &answer, names.as_slice());
+    for line in WORKED.split('\n') {
+        let (_, filters) = line.split_once('|').unwrap_or((line, ""));
+        let question = read_question(rt.alloc(), filters)?;
+        let answer = cover(rt.alloc(), &question.asked, question.granted.as_slice())?;
+        let is_beaten = is_beaten(&question, &answer, names.as_slice());
         assert!(rt; !is_beaten, "at {line}");
     }
     Ok(())
@@ -194,7 +114,7 @@ fn no_small_name_beats_an_answer(rt: HostRuntime) -> Result<(), Fail> {
 
 #[test]
 fn names_that_show_a_gap(rt: HostRuntime) -> Result<(), Fail> {
-    let filters = filters_of(rt.alloc(), "a/# a a/+/c/#")?;
+    let question = read_question(rt.alloc(), "a/# a a/+/c/#")?;
     for (name, want) in [
         ("a", false),
         ("a/b", true),
@@ -205,7 +125,7 @@ fn names_that_show_a_gap(rt: HostRuntime) -> Result<(), Fail> {
         ("a/", true),
     ] {
         let name = TopicName::read(rt.alloc(), name.as_bytes())?;
-        let shows = shows_gap(&filters[0], &filters[1..], &name);
+        let shows = shows_gap(&question.asked, question.granted.as_slice(), &name);
         assert_eq!(rt; shows, want, "at {name:?}");
     }
     Ok(())
