@@ -3,7 +3,7 @@
 
 Runs each script of tests/scripts through `sng play` and compares its whole output and exit status with those that stand beside it
 (NAME.expected; NAME.status, where it is not 0), asks `sng cover` each line of tests/cover.table, gives it words that are no filters,
-and tries a command line that is none. Uses the proved program where one lies in
+tries a command line that is none, and has a search over names (cover_search.py) answer the table too. Uses the proved program where one lies in
 crates/sng/out that is newer than every source. Else the toolchain's build without proof runs them, which compares the output of
 all of them in one go, and the status of those that do not end with 0."""
 import glob
@@ -83,6 +83,8 @@ def main():
             results.append((name, found == (status, expected)))
             if found != (status, expected):
                 print('  wanted', status, expected, '\n  found', *found)
+    search = subprocess.run([sys.executable, os.path.join(HERE, 'cover_search.py')], timeout=SECONDS)
+    results.append(('cover.table-by-a-search-over-names', search.returncode == 0))
     for name, good in results:
         print('pass' if good else 'FAIL', name)
     failed = sum(not good for _, good in results)

@@ -43,8 +43,8 @@ fn runs_in(granted: &[TopicFilter]) -> Marks
     runs
 }
 
-#[tactic(auto, using(crate::proofs::Filters::short_of))]
 /// Marks the lengths of the runs of `x` among the filter's levels.
+#[tactic(auto, using(crate::proofs::Filters::short_of))]
 fn mark_runs(runs: &mut Marks, filter: &TopicFilter)
     ensures { (count : ℕ) → is_marked runs.new count ≡ (has_level (run count) (levels_of filter.now) || is_marked runs.old count) }
 {
