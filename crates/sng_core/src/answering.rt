@@ -95,19 +95,23 @@ impl Core {
         ensures err { OnErr result (self.new ≡ self.old) }
     {
         let origin = Origin::Source(source);
-        let verdict = self.verdict(origin, &name)?;
+        let verdict = self.verdict(&origin, &name)?;
         let is_allowed = verdict.is_allowed();
         let asked = Decision::Publish(Who::Source(source), Some(name.copy()?), verdict);
         let outs = only(alloc, Out::Note(asked))?;
         if is_allowed {
             let retain = publish.flags.retain;
             let payload = publish.payload;
-            self.outbox.push(Item::Publish(Publication {
+            let item = Item::Publish(Publication {
                 origin,
                 name,
                 payload,
+                qos: Qos::AtMostOnce,
                 retain,
-            }));
+            });
+            if self.outbox.push(item).is_err() {
+                unreachable!()
+            }
         }
         Ok(outs)
     }

@@ -12,8 +12,8 @@ use std::alloc::{AllocError, Global};
 
 impl Core {
     /// The verdict on a publish under the name. Only memory can fail, for a denial that shows the name.
-    pub(crate) fn verdict(&self, origin: Origin, name: &TopicName) -> Result<Outcome, AllocError>
-        ensures { IfOk result (λ outcome. outcome ≡ verdict self.now origin name.now) }
+    pub(crate) fn verdict(&self, origin: &Origin, name: &TopicName) -> Result<Outcome, AllocError>
+        ensures { IfOk result (λ outcome. outcome ≡ verdict self.now origin.now name.now) }
     {
         match exit(&self.policy, origin, name)? {
             Outcome::Allowed => Ok(self.room()),

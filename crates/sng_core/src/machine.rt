@@ -24,7 +24,7 @@ impl Model for Core {
 
     ghost Value = { State };
 
-    ghost view = { λ c. record { policy = c.policy; up = c.is_up; link = record { waiting = c.outbox } } };
+    ghost view = { λ c. record { policy = c.policy; up = c.is_up; link = record { waiting = c.outbox.waiting } } };
 }
 
 impl Core {
@@ -77,7 +77,7 @@ impl Core {
         if !self.is_up {
             return Ok(Outs::new(alloc));
         }
-        let outs = leave_all(alloc, &self.policy, self.outbox.items())?;
+        let outs = leave_all(alloc, &self.policy, &self.outbox)?;
         self.outbox.clear();
         Ok(outs)
     }

@@ -1,5 +1,5 @@
 -- What is known of texts that are filters.
-use Rattle.std.proofs.Common.{◌≡◌, ◌≤◌, ◌<◌, ◌==◌, nat_lt, ℕ, suc, Bool, true, false, not, List, [], ◌∷◌, length, refl, Some, None, is_none, arith, if◌then◌else◌}
+use Rattle.std.proofs.Common.{◌≡◌, ◌≤◌, ◌<◌, ◌==◌, nat_lt, ℕ, suc, Bool, true, false, not, List, length, refl, Some, None, is_none, arith, if◌then◌else◌}
 use Rattle.std.specs.List.{All, AllByRecursion as AllOf}
 use Rattle.std.proofs.lemmas.List.Elements.{recursion_from_All}
 use Rattle.std.specs.Str.{is_utf8}

@@ -3,6 +3,7 @@ pub mod Joining
 pub mod Short
 pub mod Filters
 pub mod Fresh
+pub mod Gathering
 pub mod Matched
 pub mod Swapped
 pub mod Reserved

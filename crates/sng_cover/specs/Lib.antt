@@ -3,6 +3,7 @@ pub mod Search
 pub mod Candidates
 pub mod Covering
 pub mod Gaps
+pub mod Gathered
 pub mod Reaches
 pub mod Marks
 pub mod Left

@@ -1,10 +1,10 @@
 //! The least depth with a candidate that no granted filter matches (MQTT 3.1.1, 4.7).
-ghost use Rattle.std.specs.Prelude.{ℕ, ◌≡◌, ◌+◌, ◌==◌, ◌<◌, ◌&&◌, ◌||◌, not, max, true, false, IfSome};
-ghost use Rattle.std.specs.List.{All};
-ghost use Rattle.sng_text.specs.Texts.{is_filter, is_name};
+ghost use Rattle.std.specs.Prelude.{ℕ, List, ◌≡◌, ◌+◌, ◌==◌, ◌<◌, ◌&&◌, ◌||◌, not, max, true, false, IfSome};
+ghost use Rattle.sng_text.specs.Texts.{is_name};
 ghost use Rattle.sng_cover.specs.Candidates.{candidate};
-ghost use Rattle.sng_cover.specs.Covering.{gap_depth, longest_fixed};
-ghost use Rattle.sng_cover.specs.Reaches.{any_reaches, kept_reaches};
+ghost use Rattle.sng_cover.specs.Covering.{gap_depth};
+ghost use Rattle.sng_cover.specs.Reaches.{kept_reaches};
+ghost use Rattle.sng_cover.specs.Gathered.{ReachedBy};
 ghost use Rattle.sng_cover.specs.Reached.{is_reached, begins_empty};
 
 use crate::marks::Marks;
@@ -14,7 +14,7 @@ use std::cmp;
 
 /// The depths whose candidate some granted filter matches.
 #[derive(Drop)]
-struct Reached {
+pub struct Reached {
     /// Those of a filter without `#`, which matches one depth alone.
     ends: Marks,
     /// The depth from which on a filter with `#` matches.
@@ -24,15 +24,16 @@ struct Reached {
 }
 
 /// The least depth whose candidate is a name that shows a gap, where there is one.
-pub fn gap_depth(asked: &TopicFilter, granted: &[TopicFilter]) -> Option<usize>
-    ensures value { result ≡ gap_depth asked.now granted.now }
-    ensures named { IfSome result (λ depth. is_name (candidate asked.now granted.now depth) ≡ true) }
+pub fn gap_depth(asked: &TopicFilter, reached: &Reached) -> Option<usize>
+    requires { (granted : List (List ℕ)) × ReachedBy reached.now asked.now granted }
+    ensures value { (granted : List (List ℕ)) → ReachedBy reached.now asked.now granted → result ≡ gap_depth asked.now granted }
+    ensures named { (granted : List (List ℕ)) → ReachedBy reached.now asked.now granted
+        → IfSome result (λ depth. is_name (candidate asked.now granted depth) ≡ true) }
 {
     let own = Reach::of(asked, asked);
-    let reached = Reached::by(asked, granted);
-    let last = last_depth(&own, &reached);
+    let last = last_depth(&own, reached);
     for depth in 1..last + 1 {
-        if is_left(asked, &own, &reached, depth) {
+        if is_left(asked, &own, reached, depth) {
             return Some(depth);
         }
     }
@@ -43,7 +44,8 @@ pub fn gap_depth(asked: &TopicFilter, granted: &[TopicFilter]) -> Option<usize>
 fn last_depth(own: &Reach, reached: &Reached) -> usize
     requires own_few { own.now.fixed < 202 }
     requires granted_few { reached.now.longest < 202 }
-    ensures { result ≡ max own.now.fixed reached.now.longest + 1 }
+    ensures value { result ≡ max own.now.fixed reached.now.longest + 1 }
+    ensures few { result < 203 }
 {
     cmp::max(own.fixed, reached.longest) + 1
 }
@@ -68,7 +70,7 @@ fn begins_empty(filter: &TopicFilter) -> bool
 
 impl Reached {
     /// No depth is reached.
-    fn new() -> Reached
+    pub fn new() -> Reached
         ensures depths { (depth : ℕ) → is_reached result depth ≡ false }
         ensures longest { result.longest ≡ 0 }
     {
@@ -79,22 +81,8 @@ impl Reached {
         }
     }
 
-    /// The depths that some granted filter reaches.
-    fn by(asked: &TopicFilter, granted: &[TopicFilter]) -> Reached
-        ensures depths { (depth : ℕ) → is_reached result depth ≡ any_reaches asked.now granted.now depth }
-        ensures longest { result.longest ≡ longest_fixed granted.now }
-        ensures few { result.longest < 202 }
-        ensures are { All (λ filter. is_filter filter ≡ true) granted.now }
-    {
-        let mut reached = Reached::new();
-        for filter in granted {
-            reached.add(Reach::of(asked, filter));
-        }
-        reached
-    }
-
     /// Adds the depths of one granted filter.
-    fn add(&mut self, reach: Reach)
+    pub fn add(&mut self, reach: Reach)
         requires { reach.fixed < 202 }
         ensures depths { (depth : ℕ) → is_reached self.new depth ≡ (kept_reaches reach depth || is_reached self.old depth) }
         ensures longest { self.new.longest ≡ max reach.fixed self.old.longest }

@@ -4,7 +4,7 @@ ghost use Rattle.sng_cover.specs.Inclusion.{shows_gap, is_granted};
 ghost use Rattle.sng_cover.specs.Covering.{cover_of};
 
 use crate::answer::Cover;
-use crate::{depths, gap, runs};
+use crate::question::Question;
 use sng_text::{TopicFilter, TopicName, matches};
 use std::alloc::{AllocError, Global};
 
@@ -18,13 +18,11 @@ pub fn cover(
 ) -> Result<Cover, AllocError>
     ensures { IfOk result (λ answer. answer ≡ cover_of asked.now granted.now) }
 {
-    match depths::gap_depth(asked, granted) {
-        None => Ok(Cover::Included),
-        Some(depth) => {
-            let name = gap::gap_name(alloc, asked, depth, runs::fresh_level(granted))?;
-            Ok(Cover::Uncovered(name))
-        }
+    let mut question = Question::about(asked);
+    for filter in granted {
+        question.add(filter);
     }
+    question.answer(alloc)
 }
 
 /// Whether the name shows a gap: the asked filter matches it, and no granted one does. Takes no memory.

@@ -8,6 +8,7 @@ mod gap;
 pub mod inclusion;
 pub mod laws;
 mod marks;
+pub mod question;
 mod reach;
 mod runs;
 #[cfg(test)]
@@ -15,3 +16,4 @@ mod tests;
 
 pub use answer::Cover;
 pub use inclusion::{cover, shows_gap};
+pub use question::Question;

@@ -1,8 +1,9 @@
 //! The level that no granted filter names: the shortest run of `x` that is none of their levels.
-ghost use Rattle.std.specs.Prelude.{ℕ, ◌≡◌, ◌≤◌, ◌||◌, length};
+ghost use Rattle.std.specs.Prelude.{ℕ, List, ◌≡◌, ◌≤◌, ◌||◌, length};
 ghost use Rattle.std.specs.Str.{bytes_eq};
 ghost use Rattle.sng_text.specs.Levels.{levels_of};
-ghost use Rattle.sng_cover.specs.Candidates.{run, has_level, is_taken, fresh_level};
+ghost use Rattle.sng_cover.specs.Candidates.{run, has_level, fresh_level};
+ghost use Rattle.sng_cover.specs.Gathered.{AreRunsOf};
 ghost use Rattle.sng_cover.specs.Marks.{is_marked};
 
 use crate::marks::Marks;
@@ -11,19 +12,18 @@ use sng_text::{Levels, TopicFilter};
 /// As many `x` as may be asked for: one more than a filter has bytes.
 const LONGEST: [u8; 201] = [b'x'; 201];
 
-/// The shortest run of `x`, of at least one, that is no level of a granted filter.
-pub fn fresh_level(granted: &[TopicFilter]) -> &'static [u8]
-    ensures { result.now ≡ fresh_level granted.now }
+/// The shortest run of `x`, of at least one, that is no level of a granted filter, by the lengths of the runs that are.
+pub fn fresh_level(runs: &Marks) -> &'static [u8]
+    ensures { (granted : List (List ℕ)) → AreRunsOf runs.now granted → result.now ≡ fresh_level granted }
 {
-    &LONGEST[..fresh_count(granted)]
+    &LONGEST[..fresh_count(runs)]
 }
 
 /// How long that run is.
-fn fresh_count(granted: &[TopicFilter]) -> usize
-    ensures value { run result ≡ fresh_level granted.now }
+fn fresh_count(runs: &Marks) -> usize
+    ensures value { (granted : List (List ℕ)) → AreRunsOf runs.now granted → run result ≡ fresh_level granted }
     ensures few { result ≤ 201 }
 {
-    let runs = runs_in(granted);
     for count in 1..201 {
         if !runs.has(count) {
             return count;
@@ -32,20 +32,9 @@ fn fresh_count(granted: &[TopicFilter]) -> usize
     201
 }
 
-/// The lengths of the runs of `x` among the levels of granted filters.
-fn runs_in(granted: &[TopicFilter]) -> Marks
-    ensures { (count : ℕ) → is_marked result count ≡ is_taken granted.now (run count) }
-{
-    let mut runs = Marks::new();
-    for filter in granted {
-        mark_runs(&mut runs, filter);
-    }
-    runs
-}
-
 /// Marks the lengths of the runs of `x` among the filter's levels.
 #[tactic(auto, using(crate::proofs::Filters::short_of))]
-fn mark_runs(runs: &mut Marks, filter: &TopicFilter)
+pub fn mark_runs(runs: &mut Marks, filter: &TopicFilter)
     ensures { (count : ℕ) → is_marked runs.new count ≡ (has_level (run count) (levels_of filter.now) || is_marked runs.old count) }
 {
     for level in Levels::of(filter.text()) {

@@ -1,7 +1,7 @@
 -- The sentences that hold in every lawful history, by induction over its rows.
-use Rattle.std.proofs.Common.{◌≡◌, ℕ, Bool, true, false, List, [], ◌∷◌, ◌++◌, map, refl, ap, ◌∙◌, if◌then◌else◌, MatchBool}
+use Rattle.std.proofs.Common.{◌≡◌, ℕ, Bool, true, false, List, [], ◌∷◌, ◌++◌, refl, ap, ◌∙◌, if◌then◌else◌, MatchBool}
 use Rattle.std.specs.List.{flat_map}
-use Rattle.std.proofs.lemmas.List.{append-nil, append_assoc, map-append}
+use Rattle.std.proofs.lemmas.List.{append-nil, append_assoc}
 use Rattle.std.proofs.lemmas.Grind.{flat_map-append}
 use Rattle.sng_frames.specs.Reading.{frame_of}
 use Rattle.sng_outbox.specs.declared.item.Item.{Item}
@@ -23,20 +23,20 @@ lawful_seen h e outs l = rw (state_of-seen h) at l
 
 -- nothing leaves, and something may join what waits
 joins : (h : List Row) (outs : List Out) (more : List Item) → LeavesInOrder h → exits_in outs ≡ []
-    → map about_item (asked h ++ more) ≡ flat_map about_note (settled h ++ exits_in outs) ++ map about_item (waiting h ++ more)
+    → flat_map about_item (asked h ++ more) ≡ flat_map about_note (settled h ++ exits_in outs) ++ flat_map about_item (waiting h ++ more)
 joins h outs more k none =
-    rw (none, append-nil (settled h), map-append about_item (asked h) more, map-append about_item (waiting h) more, k)
-    (append_assoc (flat_map about_note (settled h)) (map about_item (waiting h)) (map about_item more))
+    rw (none, append-nil (settled h), flat_map-append about_item (asked h) more, flat_map-append about_item (waiting h) more, k)
+    (append_assoc (flat_map about_note (settled h)) (flat_map about_item (waiting h)) (flat_map about_item more))
 
 -- all that waits leaves
 empties : (h : List Row) (outs : List Out) → LeavesInOrder h → exits_in outs ≡ exit_notes (policy_in_force h) (waiting h)
-    → map about_item (asked h ++ []) ≡ flat_map about_note (settled h ++ exits_in outs) ++ []
+    → flat_map about_item (asked h ++ []) ≡ flat_map about_note (settled h ++ exits_in outs) ++ []
 empties h outs k all =
     rw (all, append-nil (asked h), append-nil (flat_map about_note (settled h ++ exit_notes (policy_in_force h) (waiting h))), flat_map-append about_note (settled h) (exit_notes (policy_in_force h) (waiting h)), about-exit_notes (policy_in_force h) (waiting h)) k
 
 take_in_order : (h : List Row) (outs : List Out) (b : Bool) → LeavesInOrder h → is_up h ≡ b
     → exits_in outs ≡ (if b then exit_notes (policy_in_force h) (waiting h) else [])
-    → map about_item (asked h ++ []) ≡ flat_map about_note (settled h ++ exits_in outs) ++ map about_item (if b then [] else waiting h ++ [])
+    → flat_map about_item (asked h ++ []) ≡ flat_map about_note (settled h ++ exits_in outs) ++ flat_map about_item (if b then [] else waiting h ++ [])
 take_in_order h outs true k up all = empties h outs k all
 take_in_order h outs false k up none = joins h outs [] k none
 

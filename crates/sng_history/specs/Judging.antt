@@ -5,31 +5,33 @@ use Rattle.std.specs.Prelude.{ℕ, ◌/◌, ◌%◌, nat_lt, List, [], ◌∷◌
 use Rattle.std.specs.declared.result.Result.{Result}
 use Rattle.sng_text.specs.Texts.{is_name}
 use Rattle.sng_scope.specs.declared.policy.Policy.{Policy}
-use Rattle.sng_policy.specs.Grants.{source_grant, lists_source}
-use Rattle.sng_policy.specs.declared.Grant.{Grant}
-use Rattle.sng_policy.specs.declared.Grant.TheVariants as grant
+use Rattle.sng_policy.specs.Grants.{publish_grant, source_grant, lists_source}
+use Rattle.sng_policy.specs.declared.grant.Grant.{Grant}
+use Rattle.sng_policy.specs.declared.grant.Grant.TheVariants as grant
 use Rattle.sng_frames.specs.declared.frame.Publish.{Publish}
 use Rattle.sng_frames.specs.declared.flags.TopicIdType.{TopicIdType}
 use Rattle.sng_frames.specs.declared.flags.TopicIdType.TheVariants.{Normal, Predefined, Short, Reserved}
-use Rattle.sng_outbox.specs.declared.item.Origin.{Origin}
-use Rattle.sng_outbox.specs.declared.item.Origin.TheVariants as origin
+use Rattle.sng_outbox.specs.declared.origin.Origin.{Origin}
+use Rattle.sng_outbox.specs.declared.origin.Origin.TheVariants as origin
 use Rattle.sng_book.specs.declared.decision.Decision.{Decision}
 use Rattle.sng_book.specs.declared.decision.Decision.TheVariants as note
 use Rattle.sng_book.specs.declared.decision.IdKind.TheVariants as kind
 use Rattle.sng_book.specs.declared.decision.Place.TheVariants as place
 use Rattle.sng_book.specs.declared.decision.Who.TheVariants as who
 use Rattle.sng_book.specs.declared.decision.Outcome.{Outcome}
-use Rattle.sng_book.specs.declared.decision.Outcome.TheVariants.{Allowed, UnknownSource, BadName, IdType, UnknownId, MissingPub, UpstreamDown, Full}
+use Rattle.sng_book.specs.declared.decision.Outcome.TheVariants.{Allowed, NoScope, UnknownSource, BadName, IdType, UnknownId, MissingPub, UpstreamDown, Full}
 use Rattle.sng_history.specs.Present.{State}
 
--- a grant as an outcome, with the name for which it is missing
+-- what a policy says to a publish as an outcome, with the name for which the grant is missing; it says nothing else to a publish
 abbrev pub outcome_of : Grant → List ℕ → Outcome
 outcome_of grant.Allowed name = Allowed
+outcome_of grant.NoScope name = NoScope
 outcome_of grant.UnknownSource name = UnknownSource
-outcome_of grant.MissingPub name = MissingPub name
+outcome_of _ name = MissingPub name
 
 -- what the policy says to a publish under the name, as it is asked for and again as it leaves
 abbrev pub exit : Policy → Origin → List ℕ → Outcome
+exit policy (origin.Client client) name = outcome_of (publish_grant policy client name) name
 exit policy (origin.Source source) name = outcome_of (source_grant policy source name) name
 
 -- the first of two rules that forbids

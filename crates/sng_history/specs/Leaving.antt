@@ -18,21 +18,27 @@ use Rattle.sng_history.specs.Judging.{exit}
 abbrev pub packet_of : Publication → List ℕ
 packet_of p = written (packet.Publish (record { dup = false; retain = p.retain; packet_id = None; name = p.name; payload = p.payload }))
 
--- the note with which an item leaves under the policy
-abbrev pub exit_note : Policy → Item → Decision
-exit_note policy (item.Publish p) = note.Forward (who_of p.origin) p.name (exit policy p.origin p.name)
-
+-- the notes with which items leave under the policy; of the items a publish alone is judged
 abbrev pub exit_notes : Policy → List Item → List Decision
 exit_notes policy [] = []
-exit_notes policy (item ∷ items) = exit_note policy item ∷ exit_notes policy items
+exit_notes policy (item.Publish p ∷ items) = note.Forward (who_of p.origin) p.name (exit policy p.origin p.name) ∷ exit_notes policy items
+exit_notes policy (item.Subscribe filter ∷ items) = exit_notes policy items
+exit_notes policy (item.Unsubscribe filter ∷ items) = exit_notes policy items
+exit_notes policy (item.Acknowledge packet_id ∷ items) = exit_notes policy items
+exit_notes policy (item.Ping ∷ items) = exit_notes policy items
 
--- items leave, in order, with their notes: what is allowed goes out behind its note, and what is denied is dropped
+-- items leave, in order, with their notes: what is allowed goes out behind its note, and what is denied is dropped. Nothing asks for an
+-- item that is no publish as yet, and none goes out
 abbrev pub leaving : List Item → List Decision → List Out
 leaving [] notes = []
 leaving (item.Publish p ∷ items) [] = []
 leaving (item.Publish p ∷ items) (note.Forward who name Allowed ∷ notes) =
     Note (note.Forward who name Allowed) ∷ Wire (packet_of p) ∷ leaving items notes
 leaving (item.Publish p ∷ items) (said ∷ notes) = Note said ∷ leaving items notes
+leaving (item.Subscribe filter ∷ items) notes = leaving items notes
+leaving (item.Unsubscribe filter ∷ items) notes = leaving items notes
+leaving (item.Acknowledge packet_id ∷ items) notes = leaving items notes
+leaving (item.Ping ∷ items) notes = leaving items notes
 
 -- the note is of an item that leaves
 abbrev pub is_exit : Decision → Bool

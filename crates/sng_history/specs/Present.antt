@@ -5,11 +5,12 @@ use Rattle.std.specs.declared.result.Result.{Result}
 use Rattle.sng_scope.specs.declared.policy.Policy.{Policy}
 use Rattle.sng_frames.specs.Reading.{frame_of}
 use Rattle.sng_frames.specs.declared.fault.FrameFault.{FrameFault}
+use Rattle.sng_frames.specs.declared.flags.Qos.TheVariants.{AtMostOnce}
 use Rattle.sng_frames.specs.declared.frame.SnFrame.{SnFrame}
 use Rattle.sng_frames.specs.declared.frame.SnFrame.TheVariants as frame
 use Rattle.sng_outbox.specs.declared.item.Item.{Item}
 use Rattle.sng_outbox.specs.declared.item.Item.TheVariants as item
-use Rattle.sng_outbox.specs.declared.item.Origin.TheVariants as origin
+use Rattle.sng_outbox.specs.declared.origin.Origin.TheVariants as origin
 use Rattle.sng_book.specs.declared.decision.Decision.{Decision}
 use Rattle.sng_book.specs.declared.decision.Decision.TheVariants as note
 use Rattle.sng_book.specs.Outcomes.{is_allowed}
@@ -43,10 +44,10 @@ abbrev pub up_by : Event → Bool → Bool
 up_by Up before = true
 up_by _ before = before
 
--- the item of a publish that a source asked for under this name
+-- the item of a publish that a source asked for under this name: without a session it has QoS 0 upstream
 abbrev pub item_for : List ℕ → List ℕ → Result SnFrame FrameFault → List Item
 item_for source name (Ok (frame.Publish p)) =
-    item.Publish (record { origin = origin.Source source; name = name; payload = p.payload; retain = p.flags.retain }) ∷ []
+    item.Publish (record { origin = origin.Source source; name = name; payload = p.payload; qos = AtMostOnce; retain = p.flags.retain }) ∷ []
 item_for source name _ = []
 
 -- what a note of an ask adds to what waits, given the frame

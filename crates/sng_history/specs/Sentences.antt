@@ -1,5 +1,5 @@
 -- What holds in every lawful history, in the views' words.
-use Rattle.std.specs.Prelude.{ℕ, ◌≡◌, List, [], ◌∷◌, ◌++◌, map, MatchBool, if◌then◌else◌}
+use Rattle.std.specs.Prelude.{ℕ, ◌≡◌, List, [], ◌∷◌, ◌++◌, MatchBool, if◌then◌else◌}
 use Rattle.std.specs.List.{flat_map}
 use Rattle.sng_scope.specs.declared.policy.Policy.{Policy}
 use Rattle.sng_frames.specs.Reading.{frame_of}
@@ -22,9 +22,10 @@ use Rattle.sng_history.specs.Leaving.{packet_of, exits_in}
 use Rattle.sng_history.specs.Whole.{frame_outs}
 use Rattle.sng_history.specs.Views.{policy_in_force, lets_out, asked, waiting, settled, wires_in, seen}
 
--- whom and what an item is about
-abbrev pub about_item : Item → Who × List ℕ
-about_item (item.Publish p) = (who_of p.origin, p.name)
+-- whom and what an item is about that is a publish
+abbrev pub about_item : Item → List (Who × List ℕ)
+about_item (item.Publish p) = (who_of p.origin, p.name) ∷ []
+about_item _ = []
 
 -- whom and what a note is about with which an item left
 abbrev pub about_note : Decision → List (Who × List ℕ)
@@ -33,7 +34,7 @@ about_note _ = []
 
 -- what left is a beginning of what was asked for, in order, and what waits is the rest
 abbrev pub LeavesInOrder : List Row → Type 0
-LeavesInOrder h = map about_item (asked h) ≡ flat_map about_note (settled h) ++ map about_item (waiting h)
+LeavesInOrder h = flat_map about_item (asked h) ≡ flat_map about_note (settled h) ++ flat_map about_item (waiting h)
 
 -- one item leaves under a policy: it is judged for its own origin and name, and where that allows it, its own packet follows
 abbrev pub judged_by : Publication → Outcome → List Out
@@ -41,6 +42,7 @@ judged_by p outcome = Note (note.Forward (who_of p.origin) p.name outcome) ∷ (
 
 abbrev pub leaves : Policy → Item → List Out
 leaves policy (item.Publish p) = judged_by p (exit policy p.origin p.name)
+leaves policy _ = []
 
 -- at each take while up, just what waits leaves, each item under the policy in force at that row; at no other row anything leaves
 abbrev pub EachLeavesJudged : List Row → Type 0

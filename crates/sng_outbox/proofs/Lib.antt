@@ -1,0 +1,3 @@
+pub mod IdLemmas
+pub mod ItemLemmas
+pub mod PlaceLemmas

@@ -1,12 +1,10 @@
-//! The items that leave for the broker.
-use sng_text::{Octets, TopicName};
+//! What leaves for the broker (MQTT 3.1.1, 2.2.1).
+ghost use Rattle.std.specs.Prelude.{◌≡◌};
+ghost use Rattle.sng_outbox.specs.Sending.{is_publish, asks_for_ack};
 
-/// Who asked for a publish.
-#[derive(Clone, Copy, Debug, PartialEq, Eq)]
-pub enum Origin {
-    /// A device without a session, by its IPv4 address (MQTT-SN 1.2, 6.8).
-    Source([u8; 4]),
-}
+use crate::Origin;
+use sng_frames::Qos;
+use sng_text::{Octets, TopicFilter, TopicName};
 
 /// A publish that was allowed when it was asked for. It is judged again as it leaves.
 #[derive(Debug, Drop)]
@@ -14,12 +12,40 @@ pub struct Publication {
     pub origin: Origin,
     pub name: TopicName,
     pub payload: Octets,
+    pub qos: Qos,
     pub retain: bool,
 }
 
-/// What waits for the broker.
+/// What waits for the broker, a control packet each (MQTT 3.1.1, 2.2.1).
 #[derive(Debug, Drop)]
 pub enum Item {
-    /// A publish.
+    /// PUBLISH: transports an application message (3.3).
     Publish(Publication),
+    /// SUBSCRIBE: creates a subscription to this topic filter (3.8).
+    Subscribe(TopicFilter),
+    /// UNSUBSCRIBE: unsubscribes from this topic filter (3.10).
+    Unsubscribe(TopicFilter),
+    /// PUBACK: the response to a PUBLISH of QoS 1 with this packet id (3.4).
+    Acknowledge(u16),
+    /// PINGREQ: indicates to the server that its client is alive (3.12).
+    Ping,
+}
+
+impl Item {
+    /// Whether it is a publish.
+    pub fn is_publish(&self) -> bool
+        ensures { result ≡ is_publish self.now }
+    {
+        matches!(self, Item::Publish(_))
+    }
+
+    /// Whether it is a publish of QoS 1, whose response is a PUBACK (3.3.4).
+    pub fn asks_for_ack(&self) -> bool
+        ensures { result ≡ asks_for_ack self.now }
+    {
+        match self {
+            Item::Publish(publication) => publication.qos == Qos::AtLeastOnce,
+            _ => false,
+        }
+    }
 }

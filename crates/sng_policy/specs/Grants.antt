@@ -1,46 +1,73 @@
 -- What a policy allows (RFC 9431, 2.3): a scope is a list of pairs, and each pair permits what it says for the names that its filter matches.
-use Rattle.std.specs.Prelude.{ℕ, ◌≡◌, ◌⊎◌, Bool, true, false, ◌&&◌, ◌||◌, List, [], ◌∷◌, if◌then◌else◌, Some, None, is_some}
+use Rattle.std.specs.Prelude.{ℕ, Bool, false, ◌&&◌, ◌||◌, List, [], ◌∷◌, if◌then◌else◌, Some, None, is_some}
 use Rattle.std.specs.declared.option.Option.{Option}
 use Rattle.sng_text.specs.Matching.{matches}
+use Rattle.sng_cover.specs.Covering.{cover_of}
+use Rattle.sng_cover.specs.declared.answer.Cover.{Cover}
+use Rattle.sng_cover.specs.declared.answer.Cover.TheVariants as cover
 use Rattle.sng_scope.specs.Sources.{scope_of}
+use Rattle.sng_scope.specs.Topics.{name_of}
 use Rattle.sng_scope.specs.declared.scope.Pair.{Pair}
 use Rattle.sng_scope.specs.declared.policy.Policy.{Policy}
-use Rattle.sng_policy.specs.declared.Grant.{Grant}
-use Rattle.sng_policy.specs.declared.Grant.TheVariants.{Allowed, UnknownSource, MissingPub}
+use Rattle.sng_policy.specs.declared.permission.Permission.{Permission}
+use Rattle.sng_policy.specs.declared.permission.Permission.TheVariants.{Publish, Subscribe}
+use Rattle.sng_policy.specs.declared.grant.Grant.{Grant}
+use Rattle.sng_policy.specs.declared.grant.Grant.TheVariants.{Allowed, NoScope, UnknownSource, MissingPub, MissingSub, Uncovered}
+
+-- the policy lists the client
+abbrev pub lists : Policy → List ℕ → Bool
+lists policy client = is_some (scope_of policy.clients client)
 
 -- the policy lists the source
 abbrev pub lists_source : Policy → List ℕ → Bool
 lists_source policy source = is_some (scope_of policy.sources source)
 
--- some pair with `pub` matches the name
-abbrev pub publishes : List Pair → List ℕ → Bool
-publishes [] name = false
-publishes (pair ∷ pairs) name = (pair.publishes && matches pair.filter name) || publishes pairs name
+-- the name that the policy gives to a predefined topic id
+abbrev pub topic : Policy → ℕ → Option (List ℕ)
+topic policy id = name_of policy.topics id
 
--- what the scope of a source says to a publish, where it has one
-abbrev pub grant_of_scope : Option (List Pair) → List ℕ → Grant
-grant_of_scope None name = UnknownSource
-grant_of_scope (Some pairs) name = if publishes pairs name then Allowed else MissingPub
+-- the pair has the permission
+abbrev pub permits : Permission → Pair → Bool
+permits Publish pair = pair.publishes
+permits Subscribe pair = pair.subscribes
 
--- what the policy says to a publish under the name by the source
+-- some pair with the permission matches the name
+abbrev pub is_granted : Permission → List Pair → List ℕ → Bool
+is_granted permission [] name = false
+is_granted permission (pair ∷ pairs) name = (permits permission pair && matches pair.filter name) || is_granted permission pairs name
+
+-- what a scope says to an ask about a name, given the answers where there is no scope, and no pair
+abbrev pub grant_by : Permission → Grant → Grant → Option (List Pair) → List ℕ → Grant
+grant_by permission unlisted missing None name = unlisted
+grant_by permission unlisted missing (Some pairs) name = if is_granted permission pairs name then Allowed else missing
+
+-- what the policy says to a publish under the name by the client
+abbrev pub publish_grant : Policy → List ℕ → List ℕ → Grant
+publish_grant policy client name = grant_by Publish NoScope MissingPub (scope_of policy.clients client) name
+
+-- to a publish under the name by the source
 abbrev pub source_grant : Policy → List ℕ → List ℕ → Grant
-source_grant policy source name = grant_of_scope (scope_of policy.sources source) name
+source_grant policy source name = grant_by Publish UnknownSource MissingPub (scope_of policy.sources source) name
 
--- some pair of the scope has `pub` and a filter that matches the name
-abbrev pub HasPublishing : List Pair → List ℕ → Type 0
-HasPublishing [] name = ⊥
-HasPublishing (pair ∷ pairs) name = ((pair.publishes ≡ true) × (matches pair.filter name ≡ true)) ⊎ HasPublishing pairs name
+-- to a message with the name for the client
+abbrev pub receive_grant : Policy → List ℕ → List ℕ → Grant
+receive_grant policy client name = grant_by Subscribe NoScope MissingSub (scope_of policy.clients client) name
 
--- the scope, where there is one, grants publishing under the name
-abbrev pub Grants : Option (List Pair) → List ℕ → Type 0
-Grants None name = ⊥
-Grants (Some pairs) name = HasPublishing pairs name
+-- the filters of the pairs with `sub`, in order
+abbrev pub subscribed : List Pair → List (List ℕ)
+subscribed [] = []
+subscribed (pair ∷ pairs) = if pair.subscribes then pair.filter ∷ subscribed pairs else subscribed pairs
 
--- what each answer says of the scope with which a source is listed
-abbrev pub SaysOfScope : Grant → Option (List Pair) → List ℕ → Type 0
-SaysOfScope Allowed scope name = Grants scope name
-SaysOfScope UnknownSource scope name = scope ≡ None
-SaysOfScope MissingPub scope name = (is_some scope ≡ true) × ¬ Grants scope name
+-- an answer on inclusion as a grant
+abbrev pub grant_of_cover : Cover → Grant
+grant_of_cover cover.Included = Allowed
+grant_of_cover (cover.Uncovered gap) = Uncovered gap
 
-abbrev pub Says : Grant → Policy → List ℕ → List ℕ → Type 0
-Says grant policy source name = SaysOfScope grant (scope_of policy.sources source) name
+-- what a scope says to a subscription by the filter
+abbrev pub subscribe_by : Option (List Pair) → List ℕ → Grant
+subscribe_by None filter = NoScope
+subscribe_by (Some pairs) filter = grant_of_cover (cover_of filter (subscribed pairs))
+
+-- what the policy says to a subscription of the client by the filter
+abbrev pub subscribe_grant : Policy → List ℕ → List ℕ → Grant
+subscribe_grant policy client filter = subscribe_by (scope_of policy.clients client) filter

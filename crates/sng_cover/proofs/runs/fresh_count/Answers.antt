@@ -16,11 +16,11 @@ never granted taken =
     (λ less from under. not_from_true (is_taken granted (run less)) (taken less from (omega arith)))))
 
 pub returns-then-not-has-clause-value : goal.returns-then-not-has-clause-value
-returns-then-not-has-clause-value c =
-    let new : is_taken c.args.granted.now (run c.loop-count.count) ≡ false = sym (c.runs_in-runs.ensures c.loop-count.count) ∙ (sym c.has.ensures ∙ c.if-not-has.true) in
-    found c.args.granted.now c.loop-count.count c.loop-count.auto.count c.loop-count-test.true new c.loop-count.invariant
+returns-then-not-has-clause-value c = λ granted are.
+    let new : is_taken granted (run c.loop-count.count) ≡ false = sym (are c.loop-count.count) ∙ (sym c.has.ensures ∙ c.if-not-has.true) in
+    found granted c.loop-count.count c.loop-count.auto.count c.loop-count-test.true new (λ less from under. sym (are less) ∙ c.loop-count.invariant less from under)
 
 pub returns-clause-value : goal.returns-clause-value
-returns-clause-value c =
+returns-clause-value c = λ granted are.
     let past : 201 ≤ c.loop-count.count = c.loop-count-test.false in
-    never c.args.granted.now (λ less from under. c.loop-count.invariant less from (omega arith))
+    never granted (λ less from under. sym (are less) ∙ c.loop-count.invariant less from (omega arith))

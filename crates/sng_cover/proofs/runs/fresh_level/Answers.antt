@@ -3,4 +3,4 @@ use Rattle.sng_cover.proofs.Fresh.{take_run}
 use Rattle.sng_cover.proofs.runs.fresh_level.Goals as goal
 
 pub returns : goal.returns
-returns c = take_run c.fresh_count.result 201 c.fresh_count.ensures.few ∙ c.fresh_count.ensures.value
+returns c = λ granted are. take_run c.fresh_count.result 201 c.fresh_count.ensures.few ∙ c.fresh_count.ensures.value granted are

@@ -1,0 +1,28 @@
+-- What a question of inclusion holds of the granted filters that were added to it.
+use Rattle.std.specs.Prelude.{ℕ, ◌≡◌, true, List}
+use Rattle.std.specs.List.{All}
+use Rattle.sng_text.specs.Texts.{is_filter}
+use Rattle.sng_cover.specs.Candidates.{run, is_taken}
+use Rattle.sng_cover.specs.Covering.{longest_fixed}
+use Rattle.sng_cover.specs.Marks.{is_marked}
+use Rattle.sng_cover.specs.Reaches.{any_reaches}
+use Rattle.sng_cover.specs.Reached.{is_reached}
+use Rattle.sng_cover.specs.declared.marks.Marks.{Marks}
+use Rattle.sng_cover.specs.declared.depths.Reached.{Reached}
+use Rattle.sng_cover.specs.declared.question.Question.{Question}
+
+-- the depths whose candidate one of these filters matches
+pub record ReachedBy (reached : Reached) (asked : List ℕ) (granted : List (List ℕ)) : Type 0 where
+  pub are : All (λ filter. is_filter filter ≡ true) granted
+  pub depths : (depth : ℕ) → is_reached reached depth ≡ any_reaches asked granted depth
+  pub longest : reached.longest ≡ longest_fixed granted
+
+-- the lengths of the runs of `x` among their levels
+abbrev pub AreRunsOf : Marks → List (List ℕ) → Type 0
+AreRunsOf runs granted = (count : ℕ) → is_marked runs count ≡ is_taken granted (run count)
+
+-- the question is whether the asked filter is included in these
+pub record Gathered (question : Question) (asked : List ℕ) (granted : List (List ℕ)) : Type 0 where
+  pub asked_is : question.asked.now ≡ asked
+  pub reached : ReachedBy question.reached asked granted
+  pub runs : AreRunsOf question.runs granted

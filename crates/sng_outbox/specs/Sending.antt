@@ -1,0 +1,73 @@
+-- What leaves for the broker: a list of items that wait, and a list of publishes in flight.
+use Rattle.std.specs.Prelude.{ℕ, ◌+◌, Bool, true, false, ◌==◌, List, [], ◌∷◌, length, filter, count_by, if◌then◌else◌}
+use Rattle.std.specs.List.{list_any}
+use Rattle.sng_frames.specs.declared.flags.Qos.{Qos}
+use Rattle.sng_frames.specs.declared.flags.Qos.TheVariants.{AtMostOnce, AtLeastOnce, ExactlyOnce, WithoutSession}
+use Rattle.sng_outbox.specs.declared.item.Item.{Item}
+use Rattle.sng_outbox.specs.declared.item.Item.TheVariants.{Publish, Subscribe, Unsubscribe, Acknowledge, Ping}
+use Rattle.sng_outbox.specs.declared.in_flight.InFlight.{InFlight}
+
+-- the items that wait, the oldest first, and the publishes in flight, in the order of their sending
+pub record Sending : Type 0 where
+  pub waiting : List Item
+  pub in_flight : List InFlight
+
+abbrev pub nothing : Sending
+nothing = record { waiting = []; in_flight = [] }
+
+abbrev pub is_publish : Item → Bool
+is_publish (Publish publication) = true
+is_publish (Subscribe text) = false
+is_publish (Unsubscribe text) = false
+is_publish (Acknowledge packet_id) = false
+is_publish Ping = false
+
+-- QoS 1
+abbrev pub is_at_least_once : Qos → Bool
+is_at_least_once WithoutSession = false
+is_at_least_once AtMostOnce = false
+is_at_least_once AtLeastOnce = true
+is_at_least_once ExactlyOnce = false
+
+-- a publish of QoS 1
+abbrev pub asks_for_ack : Item → Bool
+asks_for_ack (Publish publication) = is_at_least_once publication.qos
+asks_for_ack (Subscribe text) = false
+asks_for_ack (Unsubscribe text) = false
+asks_for_ack (Acknowledge packet_id) = false
+asks_for_ack Ping = false
+
+-- the publishes alone, in order
+abbrev pub publishes : List Item → List Item
+publishes waiting = filter is_publish waiting
+
+-- the publishes of QoS 1 that wait or are in flight
+abbrev pub load : Sending → ℕ
+load s = count_by asks_for_ack s.waiting + length s.in_flight
+
+-- it was sent with this packet id
+abbrev pub has_id : ℕ → InFlight → Bool
+has_id packet_id sent = sent.packet_id == packet_id
+
+-- a publish is in flight with this packet id
+abbrev pub is_in_flight : List InFlight → ℕ → Bool
+is_in_flight in_flight packet_id = list_any (has_id packet_id) in_flight
+
+-- the packet id that follows: 0 is none
+abbrev pub successor : ℕ → ℕ
+successor packet_id = if packet_id == 65535 then 1 else packet_id + 1
+
+-- counted on from this id while it is in flight, once for each of the turns at the most
+abbrev pub counted_on : List InFlight → List InFlight → ℕ → ℕ
+counted_on in_flight [] packet_id = packet_id
+counted_on in_flight (turn ∷ turns) packet_id =
+    if is_in_flight in_flight packet_id then counted_on in_flight turns (successor packet_id) else packet_id
+
+-- the id after the last one, counted on past those in flight: there are as many turns as publishes in flight
+abbrev pub next_id : List InFlight → ℕ → ℕ
+next_id in_flight last = counted_on in_flight in_flight (successor last)
+
+-- all but the first with this packet id
+abbrev pub without_first : List InFlight → ℕ → List InFlight
+without_first [] packet_id = []
+without_first (sent ∷ in_flight) packet_id = if has_id packet_id sent then in_flight else sent ∷ without_first in_flight packet_id

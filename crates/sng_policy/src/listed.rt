@@ -1,0 +1,28 @@
+//! Whom and what a policy lists. No call here takes memory, and each finds its entry without a walk over the policy.
+ghost use Rattle.std.specs.Prelude.{◌≡◌};
+ghost use Rattle.std.specs.Option.{option_copied};
+ghost use Rattle.sng_policy.specs.Grants.{lists, lists_source, topic};
+
+use sng_scope::Policy;
+use sng_text::{ClientId, TopicName};
+
+/// Whether the policy lists the client.
+pub fn lists(policy: &Policy, client: &ClientId) -> bool
+    ensures { result ≡ lists policy.now client.now }
+{
+    policy.clients.scope(client).is_some()
+}
+
+/// Whether the policy lists the source with this IPv4 address.
+pub fn lists_source(policy: &Policy, source: [u8; 4]) -> bool
+    ensures { result ≡ lists_source policy.now source }
+{
+    policy.sources.scope(source).is_some()
+}
+
+/// The name that the policy gives to a predefined topic id (MQTT-SN 1.2, 6.7), where it gives one.
+pub fn topic(policy: &Policy, id: u16) -> Option<&TopicName>
+    ensures { option_copied result ≡ topic policy.now id }
+{
+    policy.topics.name(id)
+}

@@ -1,0 +1,42 @@
+//! What a policy says about a subscription: whether each name that the filter matches is granted (MQTT 3.1.1, 4.7).
+ghost use Rattle.std.specs.Prelude.{◌≡◌, IfOk};
+ghost use Rattle.sng_cover.specs.Covering.{cover_of};
+ghost use Rattle.sng_policy.specs.Grants.{subscribe_grant, subscribed};
+
+use crate::Grant;
+use sng_cover::{Cover, Question};
+use sng_scope::{Pair, Policy};
+use sng_text::{ClientId, TopicFilter};
+use std::alloc::{AllocError, Global};
+
+/// What the policy says to a subscription of the client by the filter: Allowed, NoScope, or Uncovered with the gap over the client's
+/// filters with `sub`. Memory is taken for the gap's name alone.
+pub fn may_subscribe(
+    alloc: Global,
+    policy: &Policy,
+    client: &ClientId,
+    filter: &TopicFilter,
+) -> Result<Grant, AllocError>
+    ensures { IfOk result (λ grant. grant ≡ subscribe_grant policy.now client.now filter.now) }
+{
+    match policy.clients.scope(client) {
+        None => Ok(Grant::NoScope),
+        Some(scope) => match cover_by(alloc, filter, scope.pairs())? {
+            Cover::Included => Ok(Grant::Allowed),
+            Cover::Uncovered(gap) => Ok(Grant::Uncovered(gap)),
+        },
+    }
+}
+
+/// Whether the filter is included in the union of the pairs' filters with `sub`.
+fn cover_by(alloc: Global, filter: &TopicFilter, pairs: &[Pair]) -> Result<Cover, AllocError>
+    ensures { IfOk result (λ answer. answer ≡ cover_of filter.now (subscribed pairs.now)) }
+{
+    let mut question = Question::about(filter);
+    for pair in pairs {
+        if pair.subscribes {
+            question.add(&pair.filter);
+        }
+    }
+    question.answer(alloc)
+}
