@@ -1,15 +1,15 @@
 -- Between the fields of a packet and their bytes, one way and the other.
-use Rattle.std.proofs.Common.{◌≡◌, ℕ, zero, suc, ◌+◌, ◌*◌, ◌<◌, ◌≤◌, ◌==◌, Bool, true, false, List, [], ◌∷◌, ◌++◌, length, take, drop, length-append, length-drop, nat_lt, if◌then◌else◌, Option, Some, None, Result, Ok, Err, refl, ap, sym, subst, ◌∙◌, append_assoc, ◌⊎◌, inl, inr, arith}
-use Rattle.std.proofs.lemmas.Bool.{ltb-false, le-ltb, eqb-true}
+use Rattle.std.proofs.Common.{◌≡◌, ℕ, ◌+◌, ◌<◌, ◌≤◌, ◌==◌, Bool, true, false, List, [], ◌∷◌, ◌++◌, length, take, drop, length-append, length-drop, nat_lt, if◌then◌else◌, Result, Ok, Err, refl, ap, sym, subst, ◌∙◌, ◌⊎◌, inl, inr, arith}
+use Rattle.std.proofs.lemmas.Bool.{ltb-false, eqb-true}
 use Rattle.std.proofs.lemmas.Bool.Decides.{nat_tests}
-use Rattle.std.proofs.lemmas.List.{take-append-drop, append-nil}
+use Rattle.std.proofs.lemmas.List.{take-append-drop}
 use Rattle.mqtt_frames.specs.declared.fault.StreamFault.{StreamFault}
 use Rattle.mqtt_frames.specs.declared.fault.StreamFault.TheVariants.{Malformed}
 use Rattle.mqtt_frames.specs.declared.packet.Qos.{Qos}
 use Rattle.mqtt_frames.specs.declared.packet.Qos.TheVariants.{AtMostOnce, AtLeastOnce, ExactlyOnce}
 use Rattle.mqtt_frames.specs.declared.packet.Request.{Request}
 use Rattle.mqtt_frames.specs.Packets.{qos_byte}
-use Rattle.mqtt_frames.specs.Reading.{◌>>=◌, number, number_at, id_at, text_at, optional_id_at, qos_of, qos_behind, request_at}
+use Rattle.mqtt_frames.specs.Reading.{◌>>=◌, number, number_at, id_at, text_at, qos_of, qos_behind, request_at}
 use Rattle.mqtt_frames.proofs.Items.{Consumes}
 
 -- the value of a step that did not fail

@@ -1,21 +1,15 @@
 -- What is read is spelled by the grammar.
-use Rattle.std.proofs.Common.{◌≡◌, ◌≢◌, ℕ, zero, suc, ◌+◌, ◌-◌, ◌*◌, ◌/◌, ◌%◌, ◌<◌, ◌≤◌, ◌==◌, Bool, true, false, List, [], ◌∷◌, ◌++◌, length, take, drop, length-append, length-drop, nat_lt, if◌then◌else◌, Option, Some, None, is_some, ◌⊎◌, inl, inr, Result, Ok, Err, refl, ap, sym, subst, ◌∙◌, append_assoc, arith}
-use Rattle.std.proofs.lemmas.Bool.{cases_lt, lt-ltb, le-ltb, eqb-true, ltb-false}
-use Rattle.std.proofs.lemmas.Bool.Decides.{nat_tests}
+use Rattle.std.proofs.Common.{◌≡◌, ◌≢◌, ℕ, zero, suc, ◌+◌, ◌-◌, ◌*◌, ◌/◌, ◌%◌, ◌<◌, ◌≤◌, ◌==◌, Bool, true, false, List, [], ◌∷◌, ◌++◌, length, take, drop, length-drop, if◌then◌else◌, Option, Some, None, is_some, inl, inr, Result, Ok, Err, refl, ap, sym, subst, ◌∙◌, arith}
+use Rattle.std.proofs.lemmas.Bool.{cases_lt, lt-ltb, le-ltb, eqb-true}
 use Rattle.std.proofs.lemmas.List.{take-append-drop, append-nil, length-take, length-take-le}
 use Rattle.std.proofs.Math.Seq.{take-add}
 use Rattle.std.specs.Str.{bytes_eq}
 use Rattle.std.specs.Cmp.Lexicographic.{same_text}
 use Rattle.mqtt_frames.specs.declared.fault.StreamFault.{StreamFault}
 use Rattle.mqtt_frames.specs.declared.fault.StreamFault.TheVariants.{Malformed, NotSupported, TooLong}
-use Rattle.mqtt_frames.specs.declared.packet.Qos.{Qos}
 use Rattle.mqtt_frames.specs.declared.packet.Connect.{Connect}
-use Rattle.mqtt_frames.specs.declared.packet.ConnectAck.{ConnectAck}
 use Rattle.mqtt_frames.specs.declared.packet.Publish.{Publish}
 use Rattle.mqtt_frames.specs.declared.packet.Request.{Request}
-use Rattle.mqtt_frames.specs.declared.packet.Subscribe.{Subscribe}
-use Rattle.mqtt_frames.specs.declared.packet.SubscribeAck.{SubscribeAck}
-use Rattle.mqtt_frames.specs.declared.packet.Unsubscribe.{Unsubscribe}
 use Rattle.mqtt_frames.specs.declared.packet.SubscribeCode.{SubscribeCode}
 use Rattle.mqtt_frames.specs.declared.packet.SubscribeCode.TheVariants.{Granted, Refused}
 use Rattle.mqtt_frames.specs.declared.packet.Packet.{Packet}
@@ -28,14 +22,14 @@ use Rattle.mqtt_frames.specs.declared.header.Length.TheVariants as lengths
 use Rattle.mqtt_frames.specs.declared.header.Header.{Header}
 use Rattle.mqtt_frames.specs.declared.header.Header.TheVariants as headers
 use Rattle.mqtt_frames.specs.declared.front.Front.TheVariants as fronts
-use Rattle.mqtt_frames.specs.Packets.{flag, qos_bits, first_byte, qos_byte, code_byte, codes_bytes, protocol}
-use Rattle.mqtt_frames.specs.Grammar.{SpellsNumber, SpellsId, SpellsText, SpellsGroups, SpellsLength, SpellsConnect, SpellsOptionalId, SpellsPublish, SpellsRequests, SpellsFilters, SpellsListed, SpellsCodes, SpellsBody, Spells}
+use Rattle.mqtt_frames.specs.Packets.{flag, qos_bits, first_byte, code_byte, codes_bytes, protocol}
+use Rattle.mqtt_frames.specs.Grammar.{SpellsNumber, SpellsId, SpellsText, SpellsGroups, SpellsOptionalId, SpellsRequests, SpellsFilters, SpellsBody, Spells}
 use Rattle.mqtt_frames.specs.Kinds.{publish_flags, publish_kind, is_of_qos_2, kind_of}
-use Rattle.mqtt_frames.specs.Reading.{◌>>=◌, number, number_at, id_at, text_at, at_end, connect_of, connect_behind, connect_rest, session_of, connect_ack_of, optional_id_at, publish_of, whole_id, qos_of, qos_behind, request_at, items_within, items_of, code_of, codes_of, some_of, subscribe_of, subscribe_ack_of, unsubscribe_of, body_of}
+use Rattle.mqtt_frames.specs.Reading.{◌>>=◌, number_at, id_at, text_at, at_end, connect_of, connect_behind, connect_rest, session_of, connect_ack_of, optional_id_at, publish_of, whole_id, qos_of, request_at, items_within, items_of, code_of, codes_of, some_of, subscribe_of, subscribe_ack_of, unsubscribe_of, body_of}
 use Rattle.mqtt_frames.specs.Headers.{behind_group, length_at, with_kind, with_length, header_at}
 use Rattle.mqtt_frames.specs.Fronts.{sized, behind_header, front_at}
 use Rattle.mqtt_frames.specs.Laws.{AreBytes}
-use Rattle.mqtt_frames.proofs.FieldLemmas.{bind_ok, guard_ok, pass_ok, either, link, done, ok_is, IsSplit, IsText, IsRequest, number_at-reads, id_at-reads, text_at-reads, request_at-reads, qos_of-reads}
+use Rattle.mqtt_frames.proofs.FieldLemmas.{bind_ok, guard_ok, pass_ok, either, link, done, ok_is, IsText, number_at-reads, id_at-reads, text_at-reads, request_at-reads, qos_of-reads}
 
 AreBytes-behind : (xs ys : List ℕ) → AreBytes (xs ++ ys) → AreBytes ys
 AreBytes-behind [] ys are = are

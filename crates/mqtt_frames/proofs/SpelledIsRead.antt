@@ -1,11 +1,10 @@
 -- What the grammar spells is read.
-use Rattle.std.proofs.Common.{◌≡◌, ◌≢◌, ℕ, zero, suc, ◌+◌, ◌-◌, ◌*◌, ◌<◌, ◌≤◌, ◌==◌, Bool, true, false, List, [], ◌∷◌, ◌++◌, length, take, drop, length-append, nat_lt, if◌then◌else◌, Option, Some, None, is_some, ◌⊎◌, inl, inr, Result, Ok, Err, refl, ap, sym, subst, ◌∙◌, append_assoc, arith}
+use Rattle.std.proofs.Common.{◌≡◌, ◌≢◌, ℕ, zero, suc, ◌+◌, ◌-◌, ◌*◌, ◌≤◌, ◌==◌, Bool, true, false, List, [], ◌∷◌, ◌++◌, length, take, drop, length-append, nat_lt, Option, Some, None, is_some, inl, inr, Result, Ok, refl, ap, sym, ◌∙◌, append_assoc, arith}
 use Rattle.std.proofs.lemmas.Bool.{lt-ltb, le-ltb}
 use Rattle.std.proofs.lemmas.Bool.Decides.{nat_tests}
-use Rattle.std.proofs.lemmas.List.{take-append-le, drop-append-le, take_all, drop_all, append-nil}
+use Rattle.std.proofs.lemmas.List.{take_all, append-nil}
 use Rattle.std.proofs.Math.Seq.{take-append_seam, drop-append_seam}
 use Rattle.mqtt_frames.specs.declared.fault.StreamFault.{StreamFault}
-use Rattle.mqtt_frames.specs.declared.fault.StreamFault.TheVariants.{Malformed}
 use Rattle.mqtt_frames.specs.declared.packet.Qos.{Qos}
 use Rattle.mqtt_frames.specs.declared.packet.Qos.TheVariants.{AtMostOnce, AtLeastOnce, ExactlyOnce}
 use Rattle.mqtt_frames.specs.declared.packet.Connect.{Connect}
@@ -16,17 +15,16 @@ use Rattle.mqtt_frames.specs.declared.packet.SubscribeCode.{SubscribeCode}
 use Rattle.mqtt_frames.specs.declared.packet.SubscribeCode.TheVariants.{Granted, Refused}
 use Rattle.mqtt_frames.specs.declared.packet.Packet.{Packet}
 use Rattle.mqtt_frames.specs.declared.packet.Packet.TheVariants as variants
-use Rattle.mqtt_frames.specs.declared.kind.PublishFlags.{PublishFlags}
 use Rattle.mqtt_frames.specs.declared.kind.Kind.{Kind}
 use Rattle.mqtt_frames.specs.declared.kind.Kind.TheVariants as kinds
 use Rattle.mqtt_frames.specs.declared.header.Length.TheVariants as lengths
 use Rattle.mqtt_frames.specs.declared.header.Header.TheVariants as headers
 use Rattle.mqtt_frames.specs.declared.front.Front.TheVariants as fronts
 use Rattle.mqtt_frames.specs.Packets.{flag, qos_bits, first_byte, qos_byte, code_byte, codes_bytes, protocol}
-use Rattle.mqtt_frames.specs.Grammar.{SpellsNumber, SpellsId, SpellsText, SpellsGroups, SpellsLength, SpellsConnect, SpellsOptionalId, SpellsPublish, SpellsRequests, SpellsFilters, SpellsListed, SpellsCodes, SpellsBody, Spells}
+use Rattle.mqtt_frames.specs.Grammar.{SpellsNumber, SpellsId, SpellsText, SpellsGroups, SpellsConnect, SpellsOptionalId, SpellsPublish, SpellsRequests, SpellsFilters, SpellsBody, Spells}
 use Rattle.mqtt_frames.specs.Kinds.{kind_of}
-use Rattle.mqtt_frames.specs.Reading.{◌>>=◌, number_at, id_at, text_at, at_end, connect_of, connect_rest, connect_ack_of, optional_id_at, publish_of, whole_id, qos_of, qos_behind, request_at, items_of, code_of, codes_of, some_of, body_of}
-use Rattle.mqtt_frames.specs.Headers.{behind_group, length_at, header_at}
+use Rattle.mqtt_frames.specs.Reading.{◌>>=◌, number_at, id_at, text_at, connect_of, connect_rest, connect_ack_of, optional_id_at, publish_of, whole_id, qos_of, request_at, items_of, code_of, codes_of, some_of, body_of}
+use Rattle.mqtt_frames.specs.Headers.{length_at, header_at}
 use Rattle.mqtt_frames.specs.Fronts.{front_at}
 use Rattle.mqtt_frames.proofs.Items.{items_of-next}
 use Rattle.mqtt_frames.proofs.FieldLemmas.{Consumes-text_at, Consumes-request_at, ok_is}

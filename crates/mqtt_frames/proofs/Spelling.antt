@@ -1,6 +1,6 @@
 -- What is written is spelled.
-use Rattle.std.proofs.Common.{◌≡◌, ◌≢◌, ℕ, zero, suc, ◌+◌, ◌*◌, ◌/◌, ◌%◌, ◌^◌, ◌<◌, ◌≤◌, ◌==◌, ◌&&◌, not, Bool, true, false, List, [], ◌∷◌, ◌++◌, length, length-append, Option, Some, None, refl, inl, inr, sym, subst, arith}
-use Rattle.std.proofs.lemmas.Bool.{cases_lt, ltb-true, ltb-false}
+use Rattle.std.proofs.Common.{◌≡◌, ◌≢◌, ℕ, zero, suc, ◌+◌, ◌/◌, ◌%◌, ◌<◌, ◌≤◌, ◌==◌, ◌&&◌, not, Bool, true, false, List, [], ◌∷◌, length, length-append, Option, Some, None, refl, inl, inr, sym, subst, arith}
+use Rattle.std.proofs.lemmas.Bool.{cases_lt, ltb-true}
 use Rattle.std.proofs.lemmas.Bool.Decides.{nat_tests}
 use Rattle.mqtt_frames.specs.declared.packet.Request.{Request}
 use Rattle.mqtt_frames.specs.declared.packet.Packet.{Packet}
@@ -8,7 +8,7 @@ use Rattle.mqtt_frames.specs.declared.packet.Packet.TheVariants as variants
 use Rattle.mqtt_frames.specs.RemainingLength.{groups, remaining_length}
 use Rattle.mqtt_frames.specs.Packets.{number_bytes, text_bytes, id_bytes, requests_bytes, filters_bytes, body, written}
 use Rattle.mqtt_frames.specs.Spellable.{is_text, is_id, is_optional_id, are_requests, are_filters, has_spelling}
-use Rattle.mqtt_frames.specs.Grammar.{IsNumber, SpellsNumber, SpellsId, SpellsText, SpellsGroups, SpellsLength, SpellsOptionalId, SpellsRequests, SpellsFilters, SpellsBody, Spells, IsOptionalInRange, IsInRange}
+use Rattle.mqtt_frames.specs.Grammar.{SpellsNumber, SpellsId, SpellsText, SpellsGroups, SpellsLength, SpellsOptionalId, SpellsRequests, SpellsFilters, SpellsBody, Spells, IsOptionalInRange, IsInRange}
 use Rattle.mqtt_frames.proofs.Groups.{groups-last, groups-next, length-remaining_length-last, length-remaining_length-next}
 
 both : (a b : Bool) → (a && b) ≡ true → (a ≡ true) × (b ≡ true)

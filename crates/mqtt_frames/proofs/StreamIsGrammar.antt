@@ -1,5 +1,5 @@
 -- The packets of a stream are those that the grammar spells, and do not depend on how it is cut.
-use Rattle.std.proofs.Common.{◌≡◌, ℕ, zero, suc, ◌+◌, ◌<◌, ◌≤◌, true, List, [], ◌∷◌, ◌++◌, length, take, drop, length-drop, length-append, Option, Some, None, Result, Ok, Err, refl, ap, sym, subst, ◌∙◌, append_assoc, ◌⊎◌, inl, inr, arith}
+use Rattle.std.proofs.Common.{◌≡◌, ℕ, zero, suc, ◌<◌, ◌≤◌, true, List, [], ◌∷◌, ◌++◌, length, take, drop, length-drop, length-append, Some, refl, ap, sym, subst, ◌∙◌, append_assoc, inl, inr, arith}
 use Rattle.std.proofs.lemmas.List.{take-append-drop, append-nil}
 use Rattle.std.proofs.Math.Seq.{drop-append_seam}
 use Rattle.mqtt_frames.specs.declared.fault.StreamFault.{StreamFault}
@@ -10,9 +10,9 @@ use Rattle.mqtt_frames.specs.Packets.{written}
 use Rattle.mqtt_frames.specs.Spellable.{has_spelling}
 use Rattle.mqtt_frames.specs.Grammar.{Spells, IsInRange}
 use Rattle.mqtt_frames.specs.Fronts.{front_at}
-use Rattle.mqtt_frames.specs.Streams.{End, Rest, Fault, Read, with_packets, read_all, State, Reading, Kept, Failed, settled_of, fed}
+use Rattle.mqtt_frames.specs.Streams.{End, Rest, Fault, Read, with_packets, read_all, Reading, Kept, Failed, settled_of}
 use Rattle.mqtt_frames.specs.Laws.{AreBytes}
-use Rattle.mqtt_frames.specs.StreamLaws.{SpellsStream, EndsAt, Story, with_answer, story_of, joined, known_fault, fault_at, IsHeld, Tells}
+use Rattle.mqtt_frames.specs.StreamLaws.{SpellsStream, EndsAt, with_answer, story_of, joined, known_fault, Tells}
 use Rattle.mqtt_frames.proofs.Spelling.{Spells-short}
 use Rattle.mqtt_frames.proofs.SpelledIsRead.{front-read}
 use Rattle.mqtt_frames.proofs.ReadIsSpelled.{front-spelled, AreBytes-drop}

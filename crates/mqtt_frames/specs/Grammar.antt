@@ -1,18 +1,13 @@
 -- Which bytes spell which packet (MQTT 3.1.1, sections 1.5, 2 and 3), apart from how they are read or written.
-use Rattle.std.specs.Prelude.{◌≡◌, ◌≢◌, ℕ, ◌+◌, ◌*◌, ◌^◌, ◌<◌, ◌≤◌, ◌⊎◌, Bool, true, false, List, [], ◌∷◌, ◌++◌, length, Some, None}
+use Rattle.std.specs.Prelude.{◌≡◌, ◌≢◌, ℕ, ◌+◌, ◌*◌, ◌^◌, ◌<◌, ◌≤◌, ◌⊎◌, List, [], ◌∷◌, ◌++◌, length, Some, None}
 use Rattle.std.specs.declared.option.Option.{Option}
-use Rattle.mqtt_frames.specs.declared.packet.Qos.{Qos}
 use Rattle.mqtt_frames.specs.declared.packet.Connect.{Connect}
-use Rattle.mqtt_frames.specs.declared.packet.ConnectAck.{ConnectAck}
 use Rattle.mqtt_frames.specs.declared.packet.Publish.{Publish}
 use Rattle.mqtt_frames.specs.declared.packet.Request.{Request}
-use Rattle.mqtt_frames.specs.declared.packet.Subscribe.{Subscribe}
 use Rattle.mqtt_frames.specs.declared.packet.SubscribeCode.{SubscribeCode}
-use Rattle.mqtt_frames.specs.declared.packet.SubscribeAck.{SubscribeAck}
-use Rattle.mqtt_frames.specs.declared.packet.Unsubscribe.{Unsubscribe}
 use Rattle.mqtt_frames.specs.declared.packet.Packet.{Packet}
 use Rattle.mqtt_frames.specs.declared.packet.Packet.TheVariants as variants
-use Rattle.mqtt_frames.specs.Packets.{flag, protocol, qos_byte, code_byte, codes_bytes, first_byte, written}
+use Rattle.mqtt_frames.specs.Packets.{flag, protocol, qos_byte, codes_bytes, first_byte, written}
 
 -- the two bytes are the number, the high one first (1.5.2)
 pub record IsNumber (n high low : ℕ) : Type 0 where

@@ -1,6 +1,5 @@
-use Rattle.std.proofs.Common.{◌≡◌, ◌++◌, ◌∷◌, [], arith}
 use Rattle.mqtt_frames.specs.Reading.{text_at, items_of}
-use Rattle.mqtt_frames.proofs.Items.{with_front, goes_on}
+use Rattle.mqtt_frames.proofs.Items.{goes_on}
 use Rattle.mqtt_frames.proofs.FieldLemmas.{Consumes-text_at}
 use Rattle.mqtt_frames.proofs.fields.filters_of.Goals as goal
 

@@ -1,6 +1,5 @@
-use Rattle.std.proofs.Common.{◌≡◌, ◌++◌, ◌∷◌, [], arith}
 use Rattle.mqtt_frames.specs.Reading.{request_at, items_of}
-use Rattle.mqtt_frames.proofs.Items.{with_front, goes_on}
+use Rattle.mqtt_frames.proofs.Items.{goes_on}
 use Rattle.mqtt_frames.proofs.FieldLemmas.{Consumes-request_at}
 use Rattle.mqtt_frames.proofs.fields.requests_of.Goals as goal
 

@@ -1,5 +1,4 @@
-use Rattle.std.proofs.Common.{◌≡◌, ◌++◌, ◌∷◌, [], List, drop, sym, ap, ◌∙◌}
-use Rattle.mqtt_frames.specs.declared.packet.Packet.{Packet}
+use Rattle.std.proofs.Common.{◌∷◌, [], drop, sym, ap, ◌∙◌}
 use Rattle.mqtt_frames.specs.Streams.{read_all, with_packets}
 use Rattle.mqtt_frames.proofs.StreamLemmas.{read_all-whole, with_packets-both}
 use Rattle.mqtt_frames.proofs.stream.read_all.Goals as goal

@@ -1,6 +1,5 @@
 use Rattle.std.proofs.Common.{◌≡◌, length}
 use Rattle.mqtt_frames.specs.Streams.{read_all, with_packets}
-use Rattle.mqtt_frames.proofs.StreamLemmas.{alone}
 use Rattle.mqtt_frames.proofs.stream.read_all.Given as goal
 
 abbrev pub invariant-loop-packets : goal.invariant-loop-packets

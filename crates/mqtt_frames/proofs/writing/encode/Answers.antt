@@ -1,11 +1,11 @@
-use Rattle.std.proofs.Common.{◌≡◌, ◌≤◌, ℕ, ◌+◌, Bool, true, false, List, length, length-append, refl, ap, sym, Result, Ok, Err, IsErrAnd, arith}
+use Rattle.std.proofs.Common.{◌≡◌, ◌≤◌, ℕ, ◌+◌, true, false, length, refl, ap, sym, Result, Ok, Err, IsErrAnd, arith}
 use Rattle.mqtt_frames.specs.declared.fault.StreamFault.{StreamFault}
 use Rattle.mqtt_frames.specs.declared.fault.StreamFault.TheVariants.{Malformed, Memory}
 use Rattle.mqtt_frames.specs.declared.packet.Packet.{Packet}
 use Rattle.mqtt_frames.specs.Packets.{body, written}
 use Rattle.mqtt_frames.specs.RemainingLength.{remaining_length}
 use Rattle.mqtt_frames.specs.Spellable.{has_spelling}
-use Rattle.mqtt_frames.specs.Grammar.{IsInRange, HasNoSpelling, Spells}
+use Rattle.mqtt_frames.specs.Grammar.{IsInRange, HasNoSpelling}
 use Rattle.mqtt_frames.proofs.Spelling.{length-written, Spells-short, has_spelling-spelled}
 use Rattle.mqtt_frames.proofs.writing.encode.Goals as goal
 

@@ -1,4 +1,4 @@
-use Rattle.std.proofs.Common.{◌≡◌, ◌+◌, ◌-◌, ◌<◌, ◌++◌, ◌∷◌, [], length, length-append, ap, sym, ◌∙◌, inl, inr, arith}
+use Rattle.std.proofs.Common.{◌+◌, ◌<◌, ◌++◌, length, length-append, ap, sym, ◌∙◌, inr, arith}
 use Rattle.mqtt_frames.specs.Headers.{header_at}
 use Rattle.mqtt_frames.proofs.StreamLemmas.{ready_part, ready_from, still_waits, fed_completed, fed_broken}
 use Rattle.mqtt_frames.proofs.stream.Stream.feed.Goals as goal

@@ -1,4 +1,4 @@
-use Rattle.std.proofs.Common.{◌≡◌, ap, sym, ◌∙◌}
+use Rattle.std.proofs.Common.{ap, sym, ◌∙◌}
 use Rattle.mqtt_frames.specs.Headers.{header_at}
 use Rattle.mqtt_frames.specs.Streams.{ending_of}
 use Rattle.mqtt_frames.proofs.StreamLemmas.{waits_after}
