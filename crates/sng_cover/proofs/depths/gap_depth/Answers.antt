@@ -48,15 +48,15 @@ returns-then-is_left c =
     let own = c.of-own.ensures in
     let some : 1 ≤ c.loop-depth.depth = c.loop-depth.auto.depth in
     let found : (granted : List (List ℕ)) → ReachedBy c.args.reached.now c.args.asked.now granted
-        → (gap_depth c.args.asked.now granted ≡ Some c.loop-depth.depth) × (is_name (candidate c.args.asked.now granted c.loop-depth.depth) ≡ true) = λ granted by.
-        let test = test_of c.args.asked.now granted c.of-own.result c.args.reached.now c.loop-depth.depth by some own.fixed own.has_rest own.fits in
-        let opened : is_open c.args.asked.now granted c.loop-depth.depth ≡ true = sym test ∙ (sym c.is_left.ensures ∙ c.if-is_left.true) in
-        let below : c.loop-depth.depth < 1 + suc (longest_fixed (c.args.asked.now ∷ granted)) =
-        let own_fixed : c.of-own.result.fixed ≡ fixed_part c.args.asked.now = own.fixed in
-        let longest : c.args.reached.now.longest ≡ longest_fixed granted = by.longest in
-        let last : c.last_depth-last.result ≡ max c.of-own.result.fixed c.args.reached.now.longest + 1 = c.last_depth-last.ensures.value in
-        let test : c.loop-depth.depth < c.last_depth-last.result + 1 = c.loop-depth-test.true in omega arith in
-        found_depth c.args.asked.now granted c.loop-depth.depth own.asked_is (filters_from_all granted by.are) some below opened (c.loop-depth.invariant granted by) in
+    → (gap_depth c.args.asked.now granted ≡ Some c.loop-depth.depth) × (is_name (candidate c.args.asked.now granted c.loop-depth.depth) ≡ true) = λ granted by.
+    let test = test_of c.args.asked.now granted c.of-own.result c.args.reached.now c.loop-depth.depth by some own.fixed own.has_rest own.fits in
+    let opened : is_open c.args.asked.now granted c.loop-depth.depth ≡ true = sym test ∙ (sym c.is_left.ensures ∙ c.if-is_left.true) in
+    let below : c.loop-depth.depth < 1 + suc (longest_fixed (c.args.asked.now ∷ granted)) =
+    let own_fixed : c.of-own.result.fixed ≡ fixed_part c.args.asked.now = own.fixed in
+    let longest : c.args.reached.now.longest ≡ longest_fixed granted = by.longest in
+    let last : c.last_depth-last.result ≡ max c.of-own.result.fixed c.args.reached.now.longest + 1 = c.last_depth-last.ensures.value in
+    let test : c.loop-depth.depth < c.last_depth-last.result + 1 = c.loop-depth-test.true in omega arith in
+    found_depth c.args.asked.now granted c.loop-depth.depth own.asked_is (filters_from_all granted by.are) some below opened (c.loop-depth.invariant granted by) in
     record { value = λ granted by. sym (found granted by).0; named = λ granted by. (found granted by).1 }
 
 pub returns-clause-value : goal.returns-clause-value
