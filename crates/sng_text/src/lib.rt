@@ -1,4 +1,5 @@
-//! Topic names and topic filters (MQTT 3.1.1, 4.7), client ids (MQTT-SN 1.2, 5.3.1), and bytes that contracts see as their list.
+//! Topic names and topic filters (MQTT 3.1.1, 4.7), client ids (MQTT-SN 1.2, 5.3.1), the quality of service as it is granted
+//! (MQTT 3.1.1, 4.3), and bytes that contracts see as their list.
 #![tactic(auto)]
 
 pub mod bytes;
@@ -11,8 +12,7 @@ pub mod matching;
 pub mod name;
 pub mod octets;
 mod order;
-#[cfg(test)]
-mod tests;
+pub mod qos;
 
 pub use client::ClientId;
 pub use fault::TextFault;
@@ -21,3 +21,4 @@ pub use levels::Levels;
 pub use matching::matches;
 pub use name::TopicName;
 pub use octets::Octets;
+pub use qos::Qos;

@@ -1,5 +1,5 @@
 //! Names, filters and matching against the examples of MQTT 3.1.1, 4.7; client ids at the bounds of MQTT-SN 1.2, 5.3.1.
-use crate::{ClientId, Levels, Octets, TextFault, TopicFilter, TopicName, matches};
+use sng_text::{ClientId, Levels, Octets, TextFault, TopicFilter, TopicName, matches};
 use std::cmp::Ordering;
 use std::test::Fail;
 
