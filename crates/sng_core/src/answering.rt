@@ -106,7 +106,7 @@ impl Core {
                 origin,
                 name,
                 payload,
-                qos: Qos::AtMostOnce,
+                qos: sng_text::Qos::AtMostOnce,
                 retain,
             });
             if self.outbox.push(item).is_err() {

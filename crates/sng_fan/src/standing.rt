@@ -8,8 +8,7 @@ ghost use Rattle.sng_fan.specs.Subscriptions.{is_of, is_held, is_full, stands, f
 
 use crate::holder::add_grant;
 use crate::{FanFault, Holder, Subscription};
-use sng_frames::Qos;
-use sng_text::{TopicFilter, TopicName, matches};
+use sng_text::{Qos, TopicFilter, TopicName, matches};
 use std::alloc::{AllocError, Global};
 use std::marker::Model;
 

@@ -1,8 +1,7 @@
 //! Who holds what, on small tables and at the limits.
 use crate::standing::MOST;
 use crate::{FanFault, Holder, Standing};
-use sng_frames::Qos;
-use sng_text::{TopicFilter, TopicName};
+use sng_text::{Qos, TopicFilter, TopicName};
 use std::alloc::Global;
 use std::test::Fail;
 

@@ -1,8 +1,7 @@
 //! The outbox on its happy path and at its limits.
 use crate::outbox::{MOST, MOST_IN_FLIGHT};
 use crate::{Item, Origin, Outbox, Publication};
-use sng_frames::Qos;
-use sng_text::{ClientId, Octets, TopicFilter, TopicName};
+use sng_text::{ClientId, Octets, Qos, TopicFilter, TopicName};
 use std::alloc::Global;
 use std::test::Fail;
 
