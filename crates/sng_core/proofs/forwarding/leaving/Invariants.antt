@@ -1,8 +1,8 @@
 use Rattle.std.proofs.Common.{◌≡◌, ◌++◌}
 use Rattle.std.specs.List.{flat_map}
 use Rattle.std.specs.VecDeque.Iter.{deque_iter_rest}
-use Rattle.sng_history.specs.Sentences.{leaves}
-use Rattle.sng_core.proofs.leaving.leave_all.Given as goal
+use Rattle.sng_history.specs.Laws.{leaves}
+use Rattle.sng_core.proofs.forwarding.leaving.Given as goal
 
 abbrev pub invariant-loop-item : goal.invariant-loop-item
 invariant-loop-item l = record {
