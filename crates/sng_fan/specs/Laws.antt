@@ -1,4 +1,4 @@
--- What the holders of a name are, told of each client by itself.
+-- What the holders of a name are, stated for each client by itself.
 use Rattle.std.specs.Prelude.{ℕ, ◌≡◌, ◌+◌, ◌≤◌, ◌==◌, ◌&&◌, List, [], ◌∷◌, if◌then◌else◌, Some, None}
 use Rattle.std.specs.declared.option.Option.{Option}
 use Rattle.sng_text.specs.Matching.{matches}

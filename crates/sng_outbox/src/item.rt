@@ -44,7 +44,7 @@ impl Item {
     {
         match self {
             Item::Publish(publication) => publication.qos == Qos::AtLeastOnce,
-            _ => false,
+            Item::Subscribe(_) | Item::Unsubscribe(_) | Item::Acknowledge(_) | Item::Ping => false,
         }
     }
 }

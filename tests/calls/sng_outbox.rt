@@ -1,6 +1,5 @@
 //! The outbox on its happy path and at its limits.
-use crate::outbox::{MOST, MOST_IN_FLIGHT};
-use crate::{Item, Origin, Outbox, Publication};
+use sng_outbox::{Item, MAX_IN_FLIGHT, MAX_OUTBOX_ITEMS, Origin, Outbox, Publication};
 use sng_text::{ClientId, Octets, Qos, TopicFilter, TopicName};
 use std::alloc::Global;
 use std::test::Fail;
@@ -43,7 +42,7 @@ fn in_flight(alloc: Global, packet_ids: &[u16]) -> Result<Outbox, Fail> {
 /// Whether there was room for one more in flight, which is added then.
 fn is_tracked(alloc: Global, outbox: &mut Outbox, packet_id: u16) -> Result<bool, Fail> {
     let sent = publication(alloc, b"x", Qos::AtLeastOnce)?;
-    if outbox.in_flight() >= MOST_IN_FLIGHT {
+    if outbox.in_flight() >= MAX_IN_FLIGHT {
         return Ok(false);
     }
     outbox.track(packet_id, sent);
@@ -136,34 +135,35 @@ fn publishes_are_kept(rt: HostRuntime) -> Result<(), Fail> {
 }
 
 #[test]
-fn five_hundred_and_twelve_wait(rt: HostRuntime) -> Result<(), Fail> {
+fn as_many_items_wait_as_may(rt: HostRuntime) -> Result<(), Fail> {
     let mut outbox = Outbox::new(rt.alloc())?;
-    for _ in 0..MOST {
+    for _ in 0..MAX_OUTBOX_ITEMS {
         assert!(rt; !outbox.is_full());
         assert!(rt; outbox.push(Item::Ping).is_ok());
     }
     assert!(rt; outbox.is_full());
-    assert_eq!(rt; outbox.len(), 512);
+    assert_eq!(rt; outbox.len(), MAX_OUTBOX_ITEMS);
     assert!(rt; matches!(outbox.push(Item::Acknowledge(7)), Err(Item::Acknowledge(7))));
     assert!(rt; outbox.settle().is_some());
     assert!(rt; outbox.push(Item::Acknowledge(8)).is_ok());
-    assert!(rt; matches!(outbox.at(511), Some(Item::Acknowledge(8))));
-    assert!(rt; matches!(outbox.at(510), Some(Item::Ping)));
+    assert!(rt; matches!(outbox.at(MAX_OUTBOX_ITEMS - 1), Some(Item::Acknowledge(8))));
+    assert!(rt; matches!(outbox.at(MAX_OUTBOX_ITEMS - 2), Some(Item::Ping)));
     Ok(())
 }
 
 #[test]
-fn a_hundred_and_twenty_eight_are_in_flight(rt: HostRuntime) -> Result<(), Fail> {
+fn as_many_are_in_flight_as_may(rt: HostRuntime) -> Result<(), Fail> {
     let alloc = rt.alloc();
     let mut outbox = Outbox::new(alloc)?;
-    for packet_id in 1..=128u16 {
+    let most = MAX_IN_FLIGHT as u16;
+    for packet_id in 1..=most {
         assert!(rt; is_tracked(alloc, &mut outbox, packet_id)?);
     }
-    assert!(rt; !is_tracked(alloc, &mut outbox, 129)?);
-    assert_eq!(rt; (outbox.in_flight(), outbox.load()), (128, 128));
-    assert_eq!(rt; (outbox.next_id(65_535), outbox.next_id(0)), (129, 129));
+    assert!(rt; !is_tracked(alloc, &mut outbox, most + 1)?);
+    assert_eq!(rt; (outbox.in_flight(), outbox.load()), (MAX_IN_FLIGHT, MAX_IN_FLIGHT));
+    assert_eq!(rt; (outbox.next_id(65_535), outbox.next_id(0)), (most + 1, most + 1));
     assert!(rt; outbox.acked(100));
-    assert_eq!(rt; (outbox.next_id(65_535), outbox.in_flight()), (100, 127));
+    assert_eq!(rt; (outbox.next_id(65_535), outbox.in_flight()), (100, MAX_IN_FLIGHT - 1));
     assert_eq!(rt;
         (packet_id_at(&outbox, 98), packet_id_at(&outbox, 99)),
         (99, 101)

@@ -1,6 +1,5 @@
 //! Who holds what, on small tables and at the limits.
-use crate::standing::MOST;
-use crate::{FanFault, Holder, Standing};
+use sng_fan::{FanFault, Holder, MAX_SUBSCRIPTIONS, Standing};
 use sng_text::{Qos, TopicFilter, TopicName};
 use std::alloc::Global;
 use std::test::Fail;
@@ -111,10 +110,10 @@ fn a_client_ends_with_all_its_filters(rt: HostRuntime) -> Result<(), Fail> {
 }
 
 #[test]
-fn thirty_two_filters_stand_for_a_client(rt: HostRuntime) -> Result<(), Fail> {
+fn as_many_filters_stand_as_may(rt: HostRuntime) -> Result<(), Fail> {
     let alloc = rt.alloc();
     let mut standing = Standing::new(alloc);
-    for letter in 0..MOST as u8 {
+    for letter in 0..MAX_SUBSCRIPTIONS as u8 {
         standing.add(
             4,
             TopicFilter::read(alloc, &[b'A' + letter])?,
@@ -126,14 +125,14 @@ fn thirty_two_filters_stand_for_a_client(rt: HostRuntime) -> Result<(), Fail> {
         standing.add(4, more.copy()?, Qos::AtMostOnce),
         Err(FanFault::Full)
     );
-    assert_eq!(rt; standing.subscriptions().len(), 32);
+    assert_eq!(rt; standing.subscriptions().len(), MAX_SUBSCRIPTIONS);
     // Another client, and a filter that stands, are not refused.
     assert_eq!(rt; standing.add(5, more, Qos::AtMostOnce), Ok(()));
     assert_eq!(rt;
         standing.add(4, TopicFilter::read(alloc, b"A")?, Qos::AtLeastOnce),
         Ok(())
     );
-    assert_eq!(rt; standing.subscriptions().len(), 33);
+    assert_eq!(rt; standing.subscriptions().len(), MAX_SUBSCRIPTIONS + 1);
     // The filter keeps its place.
     assert_eq!(rt; standing.subscriptions()[0].qos, Qos::AtLeastOnce);
     Ok(())
