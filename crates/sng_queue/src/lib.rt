@@ -2,6 +2,7 @@
 #![tactic(auto)]
 
 pub mod exchange;
+pub mod kind;
 pub mod laws;
 pub mod queue;
 #[cfg(test)]
@@ -9,5 +10,6 @@ mod tests;
 pub mod waiting;
 
 pub use exchange::Exchange;
+pub use kind::TopicIdKind;
 pub use queue::Queue;
 pub use waiting::Waiting;

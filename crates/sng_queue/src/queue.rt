@@ -4,8 +4,7 @@ ghost use Rattle.std.specs.Option.{option_copied};
 ghost use Rattle.sng_queue.specs.declared.queue.TheConstants.{MOST};
 ghost use Rattle.sng_queue.specs.Buffers.{nothing, IsExchangeOn, settled, settle, announce, await_ack, repeat, MayRepeat};
 
-use crate::{Exchange, Waiting};
-use sng_frames::TopicIdType;
+use crate::{Exchange, TopicIdKind, Waiting};
 use std::alloc::{AllocError, Global};
 use std::collections::VecDeque;
 use std::marker::Model;
@@ -97,7 +96,7 @@ impl Queue {
         }
         self.exchange = Some(Exchange {
             announcing: true,
-            id_type: TopicIdType::Normal,
+            id_type: TopicIdKind::Normal,
             topic_id,
             msg_id,
             sent: clock,
@@ -107,7 +106,7 @@ impl Queue {
     }
 
     /// Moves the front into an exchange that waits for its PUBACK, sent at this clock. Nothing changes where nothing waits or an exchange is open.
-    pub fn await_ack(&mut self, id_type: TopicIdType, topic_id: u16, msg_id: u16, clock: u64)
+    pub fn await_ack(&mut self, id_type: TopicIdKind, topic_id: u16, msg_id: u16, clock: u64)
         ensures { self.new ≡ await_ack self.old id_type topic_id msg_id clock }
     {
         if self.exchange.is_some() {

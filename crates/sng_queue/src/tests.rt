@@ -1,8 +1,7 @@
 //! The queue of one client on its happy path and at its limits.
 use crate::queue::MOST;
-use crate::{Queue, Waiting};
-use sng_frames::{Qos, TopicIdType};
-use sng_text::{Octets, TopicName};
+use crate::{Queue, TopicIdKind, Waiting};
+use sng_text::{Octets, Qos, TopicName};
 use std::alloc::Global;
 use std::test::Fail;
 
@@ -66,7 +65,7 @@ fn the_front_is_announced(rt: HostRuntime) -> Result<(), Fail> {
         None => assert!(rt; false),
         Some(exchange) => {
             assert!(rt; exchange.announcing && exchange.message.is_none());
-            assert_eq!(rt; exchange.id_type, TopicIdType::Normal);
+            assert_eq!(rt; exchange.id_type, TopicIdKind::Normal);
             assert_eq!(rt; (exchange.topic_id, exchange.msg_id), (1, 7));
             assert_eq!(rt; (exchange.sent, exchange.tries), (100, 0));
         }
@@ -80,7 +79,7 @@ fn the_front_is_announced(rt: HostRuntime) -> Result<(), Fail> {
 #[test]
 fn the_front_is_under_way(rt: HostRuntime) -> Result<(), Fail> {
     let mut queue = two_waiting(rt.alloc())?;
-    queue.await_ack(TopicIdType::Predefined, 1, 8, 150);
+    queue.await_ack(TopicIdKind::Predefined, 1, 8, 150);
     assert!(rt; has_payload(queue.at(0), b"y"));
     match queue.exchange() {
         None => assert!(rt; false),
@@ -88,7 +87,7 @@ fn the_front_is_under_way(rt: HostRuntime) -> Result<(), Fail> {
             assert!(rt; !exchange.announcing);
             assert_eq!(rt;
                 (exchange.id_type, exchange.msg_id),
-                (TopicIdType::Predefined, 8)
+                (TopicIdKind::Predefined, 8)
             );
             assert!(rt; has_payload(exchange.message.as_ref(), b"x"));
         }
@@ -105,7 +104,7 @@ fn with_nothing_waiting_nothing_begins(rt: HostRuntime) -> Result<(), Fail> {
     let mut queue = Queue::new(rt.alloc())?;
     queue.announce(2, 10, 170);
     assert!(rt; queue.exchange().is_none());
-    queue.await_ack(TopicIdType::Normal, 2, 10, 170);
+    queue.await_ack(TopicIdKind::Normal, 2, 10, 170);
     assert!(rt; queue.exchange().is_none());
     Ok(())
 }
@@ -145,7 +144,7 @@ fn sixty_four_wait_besides_the_one_under_way(rt: HostRuntime) -> Result<(), Fail
         Ok(()) => assert!(rt; false),
         Err(refused) => assert!(rt; has_payload(Some(&refused), b"late")),
     }
-    queue.await_ack(TopicIdType::Short, 0x6162, 1, 0);
+    queue.await_ack(TopicIdKind::Short, 0x6162, 1, 0);
     assert!(rt; queue.push(message(alloc, b"a/b", b"last")?).is_ok());
     assert!(rt; queue.push(message(alloc, b"a/b", b"late")?).is_err());
     assert!(rt; has_payload(queue.at(63), b"last"));

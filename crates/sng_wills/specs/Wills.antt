@@ -3,7 +3,7 @@ use Rattle.std.specs.Prelude.{ℕ, Bool, true, false, List, [], Some, None, Ok, 
 use Rattle.std.specs.declared.option.Option.{Option}
 use Rattle.std.specs.declared.result.Result.{Result}
 use Rattle.std.specs.Option.{option_map}
-use Rattle.sng_frames.specs.declared.flags.Qos.{Qos}
+use Rattle.sng_text.specs.declared.qos.Qos.{Qos}
 use Rattle.sng_wills.specs.declared.will.Will.{Will}
 use Rattle.sng_wills.specs.declared.will.StatedTopic.{StatedTopic}
 use Rattle.sng_wills.specs.declared.will.Stage.{Stage}

@@ -5,8 +5,7 @@ ghost use Rattle.sng_wills.specs.declared.will.Stage.TheVariants.{Closed, TopicA
 ghost use Rattle.sng_wills.specs.Wills.{stated_topic, after_topic, after_message, after_topic_update, after_message_update, answer};
 
 use crate::{Stage, StatedTopic, Will, WillFault};
-use sng_frames::Qos;
-use sng_text::{Octets, TopicName};
+use sng_text::{Octets, Qos, TopicName};
 use std::alloc::Global;
 use std::marker::Model;
 use std::mem;
