@@ -3,6 +3,7 @@ use Rattle.std.specs.Prelude.{ℕ, ◌≡◌, ◌+◌, ◌<◌, ◌≤◌, Bool,
 use Rattle.std.specs.declared.option.Option.{Option}
 use Rattle.sng_queue.specs.declared.kind.TopicIdKind.{TopicIdKind}
 use Rattle.sng_queue.specs.declared.kind.TopicIdKind.TheVariants.{Normal}
+use Rattle.sng_queue.specs.declared.limits.TheConstants.{MAX_TRIES}
 use Rattle.sng_queue.specs.declared.exchange.Exchange.{Exchange}
 use Rattle.sng_queue.specs.declared.waiting.Waiting.{Waiting}
 
@@ -14,10 +15,11 @@ pub record Buffer : Type 0 where
 abbrev pub nothing : Buffer
 nothing = record { waiting = []; exchange = None }
 
--- an open exchange was sent again 3 times at the most, and has a message of its own exactly where it announces none; what is announced is for the front
+-- an open exchange was sent again `MAX_TRIES` times at the most, and has a message of its own exactly where
+-- it announces none; what is announced is for the front
 abbrev pub IsExchangeOn : List Waiting → Option Exchange → Type 0
 IsExchangeOn waiting None = Unit {0}
-IsExchangeOn waiting (Some e) = (e.tries ≤ 3) × (e.announcing ≡ is_none e.message) × (e.announcing ≡ true → 0 < length waiting)
+IsExchangeOn waiting (Some e) = (e.tries ≤ MAX_TRIES) × (e.announcing ≡ is_none e.message) × (e.announcing ≡ true → 0 < length waiting)
 
 -- a message that left the front waits for its PUBACK
 abbrev pub awaits_ack : Option Exchange → Bool
@@ -66,7 +68,7 @@ abbrev pub repeat : Option Exchange → ℕ → Option Exchange
 repeat None clock = None
 repeat (Some e) clock = Some (sent_again clock e)
 
--- an open exchange has fewer than 3 tries
+-- an open exchange was sent again fewer than `MAX_TRIES` times
 abbrev pub MayRepeat : Option Exchange → Type 0
 MayRepeat None = Unit {0}
-MayRepeat (Some e) = e.tries < 3
+MayRepeat (Some e) = e.tries < MAX_TRIES

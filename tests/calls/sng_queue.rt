@@ -1,6 +1,5 @@
 //! The queue of one client on its happy path and at its limits.
-use crate::queue::MOST;
-use crate::{Queue, TopicIdKind, Waiting};
+use sng_queue::{MAX_QUEUED, MAX_TRIES, Queue, TopicIdKind, Waiting};
 use sng_text::{Octets, Qos, TopicName};
 use std::alloc::Global;
 use std::test::Fail;
@@ -22,11 +21,12 @@ fn has_payload(found: Option<&Waiting>, payload: &[u8]) -> bool {
     }
 }
 
-/// Whether the open exchange, if there is one, was sent again fewer than 3 times, and is now sent once more.
+/// Whether the open exchange, if there is one, was sent again fewer than `MAX_TRIES` times, and is now sent
+/// once more.
 fn is_repeated(queue: &mut Queue, clock: u64) -> bool {
     let may_repeat = match queue.exchange() {
         None => false,
-        Some(exchange) => exchange.tries < 3,
+        Some(exchange) => exchange.tries < MAX_TRIES,
     };
     if may_repeat {
         queue.repeat(clock);
@@ -116,14 +116,14 @@ fn a_settled_front_ends_its_announcement(rt: HostRuntime) -> Result<(), Fail> {
     assert!(rt; queue.push(message(alloc, b"a/b", b"x")?).is_ok());
     assert!(rt; !is_repeated(&mut queue, 5));
     queue.announce(1, 1, 0);
-    for clock in [10_000u64, 20_000, 30_000] {
+    for clock in 1..=u64::from(MAX_TRIES) {
         assert!(rt; is_repeated(&mut queue, clock));
     }
     match queue.exchange() {
         None => assert!(rt; false),
         Some(exchange) => assert_eq!(rt;
             (exchange.sent, exchange.tries, exchange.msg_id),
-            (30_000, 3, 1)
+            (u64::from(MAX_TRIES), MAX_TRIES, 1)
         ),
     }
     assert!(rt; !is_repeated(&mut queue, 40_000));
@@ -133,13 +133,13 @@ fn a_settled_front_ends_its_announcement(rt: HostRuntime) -> Result<(), Fail> {
 }
 
 #[test]
-fn sixty_four_wait_besides_the_one_under_way(rt: HostRuntime) -> Result<(), Fail> {
+fn as_many_wait_as_may_besides_the_one_under_way(rt: HostRuntime) -> Result<(), Fail> {
     let alloc = rt.alloc();
     let mut queue = Queue::new(alloc)?;
-    for _ in 0..MOST {
+    for _ in 0..MAX_QUEUED {
         assert!(rt; queue.push(message(alloc, b"a/b", b"x")?).is_ok());
     }
-    assert_eq!(rt; queue.len(), 64);
+    assert_eq!(rt; queue.len(), MAX_QUEUED);
     match queue.push(message(alloc, b"a/b", b"late")?) {
         Ok(()) => assert!(rt; false),
         Err(refused) => assert!(rt; has_payload(Some(&refused), b"late")),
@@ -147,7 +147,7 @@ fn sixty_four_wait_besides_the_one_under_way(rt: HostRuntime) -> Result<(), Fail
     queue.await_ack(TopicIdKind::Short, 0x6162, 1, 0);
     assert!(rt; queue.push(message(alloc, b"a/b", b"last")?).is_ok());
     assert!(rt; queue.push(message(alloc, b"a/b", b"late")?).is_err());
-    assert!(rt; has_payload(queue.at(63), b"last"));
+    assert!(rt; has_payload(queue.at(MAX_QUEUED - 1), b"last"));
     queue.empty();
     assert_eq!(rt; queue.len(), 0);
     assert!(rt; queue.exchange().is_none());

@@ -1,5 +1,5 @@
 //! Dialogues as MQTT-SN 1.2, 6.2 and 6.4, has them, frame by frame.
-use crate::{Stage, Will, WillDialogue, WillFault};
+use sng_wills::{Stage, Will, WillDialogue, WillFault};
 use sng_text::{Octets, Qos, TopicName};
 use std::alloc::Global;
 use std::test::Fail;
