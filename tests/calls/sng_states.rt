@@ -1,5 +1,5 @@
 //! The table row by row, and silence at its limits, by hand.
-use crate::{ClientState, Cue, next, overdue};
+use sng_states::{ClientState, Cue, next, overdue};
 
 const STATES: [ClientState; 6] = [
     ClientState::Dialogue,

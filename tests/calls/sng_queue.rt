@@ -1,8 +1,6 @@
 //! The queue of one client on its happy path and at its limits.
-use crate::queue::MOST;
-use crate::{Queue, Waiting};
-use sng_frames::{Qos, TopicIdType};
-use sng_text::{Octets, TopicName};
+use sng_queue::{MAX_QUEUED, MAX_TRIES, Queue, TopicIdKind, Waiting};
+use sng_text::{Octets, Qos, TopicName};
 use std::alloc::Global;
 use std::test::Fail;
 
@@ -23,11 +21,12 @@ fn has_payload(found: Option<&Waiting>, payload: &[u8]) -> bool {
     }
 }
 
-/// Whether the open exchange, if there is one, was sent again fewer than 3 times, and is now sent once more.
+/// Whether the open exchange, if there is one, was sent again fewer than `MAX_TRIES` times, and is now sent
+/// once more.
 fn is_repeated(queue: &mut Queue, clock: u64) -> bool {
     let may_repeat = match queue.exchange() {
         None => false,
-        Some(exchange) => exchange.tries < 3,
+        Some(exchange) => exchange.tries < MAX_TRIES,
     };
     if may_repeat {
         queue.repeat(clock);
@@ -66,7 +65,7 @@ fn the_front_is_announced(rt: HostRuntime) -> Result<(), Fail> {
         None => assert!(rt; false),
         Some(exchange) => {
             assert!(rt; exchange.announcing && exchange.message.is_none());
-            assert_eq!(rt; exchange.id_type, TopicIdType::Normal);
+            assert_eq!(rt; exchange.id_type, TopicIdKind::Normal);
             assert_eq!(rt; (exchange.topic_id, exchange.msg_id), (1, 7));
             assert_eq!(rt; (exchange.sent, exchange.tries), (100, 0));
         }
@@ -80,7 +79,7 @@ fn the_front_is_announced(rt: HostRuntime) -> Result<(), Fail> {
 #[test]
 fn the_front_is_under_way(rt: HostRuntime) -> Result<(), Fail> {
     let mut queue = two_waiting(rt.alloc())?;
-    queue.await_ack(TopicIdType::Predefined, 1, 8, 150);
+    queue.await_ack(TopicIdKind::Predefined, 1, 8, 150);
     assert!(rt; has_payload(queue.at(0), b"y"));
     match queue.exchange() {
         None => assert!(rt; false),
@@ -88,7 +87,7 @@ fn the_front_is_under_way(rt: HostRuntime) -> Result<(), Fail> {
             assert!(rt; !exchange.announcing);
             assert_eq!(rt;
                 (exchange.id_type, exchange.msg_id),
-                (TopicIdType::Predefined, 8)
+                (TopicIdKind::Predefined, 8)
             );
             assert!(rt; has_payload(exchange.message.as_ref(), b"x"));
         }
@@ -105,7 +104,7 @@ fn with_nothing_waiting_nothing_begins(rt: HostRuntime) -> Result<(), Fail> {
     let mut queue = Queue::new(rt.alloc())?;
     queue.announce(2, 10, 170);
     assert!(rt; queue.exchange().is_none());
-    queue.await_ack(TopicIdType::Normal, 2, 10, 170);
+    queue.await_ack(TopicIdKind::Normal, 2, 10, 170);
     assert!(rt; queue.exchange().is_none());
     Ok(())
 }
@@ -117,14 +116,14 @@ fn a_settled_front_ends_its_announcement(rt: HostRuntime) -> Result<(), Fail> {
     assert!(rt; queue.push(message(alloc, b"a/b", b"x")?).is_ok());
     assert!(rt; !is_repeated(&mut queue, 5));
     queue.announce(1, 1, 0);
-    for clock in [10_000u64, 20_000, 30_000] {
+    for clock in 1..=u64::from(MAX_TRIES) {
         assert!(rt; is_repeated(&mut queue, clock));
     }
     match queue.exchange() {
         None => assert!(rt; false),
         Some(exchange) => assert_eq!(rt;
             (exchange.sent, exchange.tries, exchange.msg_id),
-            (30_000, 3, 1)
+            (u64::from(MAX_TRIES), MAX_TRIES, 1)
         ),
     }
     assert!(rt; !is_repeated(&mut queue, 40_000));
@@ -134,21 +133,21 @@ fn a_settled_front_ends_its_announcement(rt: HostRuntime) -> Result<(), Fail> {
 }
 
 #[test]
-fn sixty_four_wait_besides_the_one_under_way(rt: HostRuntime) -> Result<(), Fail> {
+fn as_many_wait_as_may_besides_the_one_under_way(rt: HostRuntime) -> Result<(), Fail> {
     let alloc = rt.alloc();
     let mut queue = Queue::new(alloc)?;
-    for _ in 0..MOST {
+    for _ in 0..MAX_QUEUED {
         assert!(rt; queue.push(message(alloc, b"a/b", b"x")?).is_ok());
     }
-    assert_eq!(rt; queue.len(), 64);
+    assert_eq!(rt; queue.len(), MAX_QUEUED);
     match queue.push(message(alloc, b"a/b", b"late")?) {
         Ok(()) => assert!(rt; false),
         Err(refused) => assert!(rt; has_payload(Some(&refused), b"late")),
     }
-    queue.await_ack(TopicIdType::Short, 0x6162, 1, 0);
+    queue.await_ack(TopicIdKind::Short, 0x6162, 1, 0);
     assert!(rt; queue.push(message(alloc, b"a/b", b"last")?).is_ok());
     assert!(rt; queue.push(message(alloc, b"a/b", b"late")?).is_err());
-    assert!(rt; has_payload(queue.at(63), b"last"));
+    assert!(rt; has_payload(queue.at(MAX_QUEUED - 1), b"last"));
     queue.empty();
     assert_eq!(rt; queue.len(), 0);
     assert!(rt; queue.exchange().is_none());

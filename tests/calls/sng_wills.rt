@@ -1,7 +1,6 @@
 //! Dialogues as MQTT-SN 1.2, 6.2 and 6.4, has them, frame by frame.
-use crate::{Stage, Will, WillDialogue, WillFault};
-use sng_frames::Qos;
-use sng_text::{Octets, TopicName};
+use sng_wills::{Stage, Will, WillDialogue, WillFault};
+use sng_text::{Octets, Qos, TopicName};
 use std::alloc::Global;
 use std::test::Fail;
 

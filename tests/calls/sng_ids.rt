@@ -1,11 +1,17 @@
-//! Ids as MQTT-SN 1.2, 6.5, gives them out, and the limit of 128.
-use crate::{IdFault, IdTable};
+//! Ids as MQTT-SN 1.2, 6.5, gives them out, and their limit.
+use sng_ids::{IdFault, IdTable, MAX_TOPIC_IDS};
 use sng_text::TopicName;
 use std::alloc::Global;
 use std::test::Fail;
 
 fn name(alloc: Global, text: &[u8]) -> Result<TopicName, Fail> {
     Ok(TopicName::read(alloc, text)?)
+}
+
+/// A name of its own for each number below 65,536.
+fn numbered(alloc: Global, number: usize) -> Result<TopicName, Fail> {
+    let digits = [number / 4096 % 16, number / 256 % 16, number / 16 % 16, number % 16];
+    name(alloc, digits.map(|digit| b'a' + digit as u8).as_slice())
 }
 
 #[test]
@@ -45,22 +51,22 @@ fn ids_in_order(rt: HostRuntime) -> Result<(), Fail> {
 }
 
 #[test]
-fn full_at_128(rt: HostRuntime) -> Result<(), Fail> {
+fn full_at_the_limit(rt: HostRuntime) -> Result<(), Fail> {
     let alloc = rt.alloc();
     let mut ids = IdTable::new(alloc);
-    for number in 1..=128u8 {
-        let text = [b'a' + number / 16, b'a' + number % 16];
-        assert_eq!(rt; ids.give(name(alloc, &text)?), Ok(u16::from(number)));
+    for number in 1..=MAX_TOPIC_IDS {
+        assert_eq!(rt; ids.give(numbered(alloc, number)?), Ok(number as u16));
     }
-    assert_eq!(rt; ids.give(name(alloc, b"t/129")?), Err(IdFault::Full));
-    assert_eq!(rt; ids.len(), 128);
-    assert_eq!(rt; ids.give(name(alloc, b"hp")?), Ok(127));
-    ids.confirm(127);
-    assert_eq!(rt; ids.id_of(&name(alloc, b"hp")?), Some(127));
+    let last = MAX_TOPIC_IDS as u16;
+    assert_eq!(rt; ids.give(name(alloc, b"one/more")?), Err(IdFault::Full));
+    assert_eq!(rt; ids.len(), MAX_TOPIC_IDS);
+    assert_eq!(rt; ids.give(numbered(alloc, MAX_TOPIC_IDS - 1)?), Ok(last - 1));
+    ids.confirm(last - 1);
+    assert_eq!(rt; ids.id_of(&numbered(alloc, MAX_TOPIC_IDS - 1)?), Some(last - 1));
     ids.take_back();
-    assert_eq!(rt; ids.len(), 127);
-    assert_eq!(rt; ids.give(name(alloc, b"t/129")?), Ok(128));
-    assert_eq!(rt; ids.give(name(alloc, b"t/130")?), Err(IdFault::Full));
+    assert_eq!(rt; ids.len(), MAX_TOPIC_IDS - 1);
+    assert_eq!(rt; ids.give(name(alloc, b"one/more")?), Ok(last));
+    assert_eq!(rt; ids.give(name(alloc, b"and/another")?), Err(IdFault::Full));
     Ok(())
 }
 
