@@ -1,7 +1,7 @@
 //! Datagrams and frames as the standard spells them (MQTT-SN 1.2, 5.2 to 5.5).
-use crate::{
-    Connect, Flags, FrameFault, Publish, Qos, Register, ReturnCode, SnFrame, SubscribeAck,
-    TopicAck, TopicIdType, TopicRequest, WillTopic, decode, encode,
+use sng_frames::{
+    Connect, Flags, FrameFault, MAX_DATAGRAM, MAX_SHORT_LENGTH, Publish, Qos, Register, ReturnCode, SnFrame,
+    SubscribeAck, TopicAck, TopicIdType, TopicRequest, WillTopic, decode, encode,
 };
 use sng_text::Octets;
 use std::alloc::Global;
@@ -27,7 +27,7 @@ fn fault_of(alloc: Global, datagram: &[u8]) -> Option<FrameFault> {
     }
 }
 
-/// Whether the bytes are read as such a frame, and that is written as them.
+/// Whether the bytes are decoded as such a frame, and that is encoded as them.
 fn spells<F: Fn(&SnFrame) -> bool>(alloc: Global, bytes: &[u8], is: F) -> Result<bool, Fail>
     requires { F.IsAlwaysCallable is }
 {
@@ -47,7 +47,11 @@ fn connect(rt: HostRuntime) -> Result<(), Fail> {
         spells(
             rt.alloc(),
             b"\x08\x04\x0c\x01\x00\x3c\x73\x31",
-            |frame| matches!(frame, SnFrame::Connect(Connect { flags: f, protocol_id: 1, duration: 60, client_id }) if *f == flags && client_id.text() == b"s1".as_slice())
+            |frame| matches!(
+                frame,
+                SnFrame::Connect(Connect { flags: f, protocol_id: 1, duration: 60, client_id })
+                    if *f == flags && client_id.text() == b"s1".as_slice()
+            )
         )?
     );
     assert!(rt;
@@ -85,7 +89,11 @@ fn will_dialogue(rt: HostRuntime) -> Result<(), Fail> {
         spells(
             rt.alloc(),
             b"\x06\x07\x30\x77\x2f\x31",
-            |frame| matches!(frame, SnFrame::WillTopic(Some(WillTopic { flags: f, topic })) if *f == flags && topic.as_slice() == b"w/1".as_slice())
+            |frame| matches!(
+                frame,
+                SnFrame::WillTopic(Some(WillTopic { flags: f, topic }))
+                    if *f == flags && topic.as_slice() == b"w/1".as_slice()
+            )
         )?
     );
     assert!(rt;
@@ -99,7 +107,11 @@ fn will_dialogue(rt: HostRuntime) -> Result<(), Fail> {
         spells(
             rt.alloc(),
             b"\x03\x07\x30",
-            |frame| matches!(frame, SnFrame::WillTopic(Some(WillTopic { flags: f, topic })) if *f == flags && topic.is_empty())
+            |frame| matches!(
+                frame,
+                SnFrame::WillTopic(Some(WillTopic { flags: f, topic }))
+                    if *f == flags && topic.is_empty()
+            )
         )?
     );
     Ok(())
@@ -137,7 +149,11 @@ fn will_updates(rt: HostRuntime) -> Result<(), Fail> {
         spells(
             rt.alloc(),
             b"\x06\x1a\x00\x77\x2f\x31",
-            |frame| matches!(frame, SnFrame::WillTopicUpdate(Some(WillTopic { flags: f, topic })) if *f == NO_FLAGS && topic.as_slice() == b"w/1".as_slice())
+            |frame| matches!(
+                frame,
+                SnFrame::WillTopicUpdate(Some(WillTopic { flags: f, topic }))
+                    if *f == NO_FLAGS && topic.as_slice() == b"w/1".as_slice()
+            )
         )?
     );
     assert!(rt;
@@ -158,7 +174,11 @@ fn will_updates(rt: HostRuntime) -> Result<(), Fail> {
         spells(
             rt.alloc(),
             b"\x04\x1c\x6f\x6b",
-            |frame| matches!(frame, SnFrame::WillMessageUpdate(message) if message.as_slice() == b"ok".as_slice())
+            |frame| matches!(
+                frame,
+                SnFrame::WillMessageUpdate(message)
+                    if message.as_slice() == b"ok".as_slice()
+            )
         )?
     );
     assert!(rt;
@@ -177,7 +197,11 @@ fn topic_ids(rt: HostRuntime) -> Result<(), Fail> {
         spells(
             rt.alloc(),
             b"\x09\x0a\x00\x00\x01\x02\x74\x2f\x31",
-            |frame| matches!(frame, SnFrame::Register(Register { topic_id: 0, msg_id: 0x0102, name }) if name.as_slice() == b"t/1".as_slice())
+            |frame| matches!(
+                frame,
+                SnFrame::Register(Register { topic_id: 0, msg_id: 0x0102, name })
+                    if name.as_slice() == b"t/1".as_slice()
+            )
         )?
     );
     assert!(rt;
@@ -208,14 +232,22 @@ fn publishes(rt: HostRuntime) -> Result<(), Fail> {
         spells(
             rt.alloc(),
             b"\x09\x0c\x62\x61\x62\x00\x00\x32\x31",
-            |frame| matches!(frame, SnFrame::Publish(Publish { flags: f, topic_id: 0x6162, msg_id: 0, payload }) if *f == flags && payload.as_slice() == b"21".as_slice())
+            |frame| matches!(
+                frame,
+                SnFrame::Publish(Publish { flags: f, topic_id: 0x6162, msg_id: 0, payload })
+                    if *f == flags && payload.as_slice() == b"21".as_slice()
+            )
         )?
     );
     assert!(rt;
         spells(
             rt.alloc(),
             b"\x08\x0c\x00\x00\x09\x12\x34\x31",
-            |frame| matches!(frame, SnFrame::Publish(Publish { flags: f, topic_id: 9, msg_id: 0x1234, payload }) if *f == NO_FLAGS && payload.as_slice() == b"1".as_slice())
+            |frame| matches!(
+                frame,
+                SnFrame::Publish(Publish { flags: f, topic_id: 9, msg_id: 0x1234, payload })
+                    if *f == NO_FLAGS && payload.as_slice() == b"1".as_slice()
+            )
         )?
     );
     Ok(())
@@ -275,7 +307,11 @@ fn all_flags(rt: HostRuntime) -> Result<(), Fail> {
         spells(
             rt.alloc(),
             b"\x07\x0c\xff\x00\x00\xff\xff",
-            |frame| matches!(frame, SnFrame::Publish(Publish { flags: f, topic_id: 0, msg_id: 0xffff, payload }) if *f == flags && payload.is_empty())
+            |frame| matches!(
+                frame,
+                SnFrame::Publish(Publish { flags: f, topic_id: 0, msg_id: 0xffff, payload })
+                    if *f == flags && payload.is_empty()
+            )
         )?
     );
     Ok(())
@@ -291,21 +327,33 @@ fn subscriptions(rt: HostRuntime) -> Result<(), Fail> {
         spells(
             rt.alloc(),
             b"\x08\x12\x20\x00\x02\x61\x2f\x23",
-            |frame| matches!(frame, SnFrame::Subscribe(TopicRequest { flags: f, msg_id: 2, topic }) if *f == at_least_once && topic.as_slice() == b"a/#".as_slice())
+            |frame| matches!(
+                frame,
+                SnFrame::Subscribe(TopicRequest { flags: f, msg_id: 2, topic })
+                    if *f == at_least_once && topic.as_slice() == b"a/#".as_slice()
+            )
         )?
     );
     assert!(rt;
         spells(
             rt.alloc(),
             b"\x07\x12\x01\x00\x02\x00\x04",
-            |frame| matches!(frame, SnFrame::Subscribe(TopicRequest { flags: f, msg_id: 2, topic }) if f.id_type == TopicIdType::Predefined && topic.as_slice() == b"\x00\x04".as_slice())
+            |frame| matches!(
+                frame,
+                SnFrame::Subscribe(TopicRequest { flags: f, msg_id: 2, topic })
+                    if f.id_type == TopicIdType::Predefined && topic.as_slice() == b"\x00\x04".as_slice()
+            )
         )?
     );
     assert!(rt;
         spells(
             rt.alloc(),
             b"\x05\x12\x03\x00\x02",
-            |frame| matches!(frame, SnFrame::Subscribe(TopicRequest { flags: f, msg_id: 2, topic }) if f.id_type == TopicIdType::Reserved && topic.is_empty())
+            |frame| matches!(
+                frame,
+                SnFrame::Subscribe(TopicRequest { flags: f, msg_id: 2, topic })
+                    if f.id_type == TopicIdType::Reserved && topic.is_empty()
+            )
         )?
     );
     Ok(())
@@ -321,14 +369,22 @@ fn unsubscriptions(rt: HostRuntime) -> Result<(), Fail> {
         spells(
             rt.alloc(),
             b"\x08\x13\x20\x00\x01\x00\x02\x00",
-            |frame| matches!(frame, SnFrame::SubscribeAck(SubscribeAck { flags: f, topic_id: 1, msg_id: 2, code: ReturnCode(0) }) if *f == at_least_once)
+            |frame| matches!(
+                frame,
+                SnFrame::SubscribeAck(SubscribeAck { flags: f, topic_id: 1, msg_id: 2, code: ReturnCode(0) })
+                    if *f == at_least_once
+            )
         )?
     );
     assert!(rt;
         spells(
             rt.alloc(),
             b"\x07\x14\x02\x00\x03\x61\x62",
-            |frame| matches!(frame, SnFrame::Unsubscribe(TopicRequest { flags: f, msg_id: 3, topic }) if f.id_type == TopicIdType::Short && topic.as_slice() == b"ab".as_slice())
+            |frame| matches!(
+                frame,
+                SnFrame::Unsubscribe(TopicRequest { flags: f, msg_id: 3, topic })
+                    if f.id_type == TopicIdType::Short && topic.as_slice() == b"ab".as_slice()
+            )
         )?
     );
     assert!(rt;
@@ -354,7 +410,11 @@ fn pings_and_leaving(rt: HostRuntime) -> Result<(), Fail> {
         spells(
             rt.alloc(),
             b"\x04\x16\x73\x31",
-            |frame| matches!(frame, SnFrame::PingRequest(Some(client_id)) if client_id.text() == b"s1".as_slice())
+            |frame| matches!(
+                frame,
+                SnFrame::PingRequest(Some(client_id))
+                    if client_id.text() == b"s1".as_slice()
+            )
         )?
     );
     assert!(rt;
@@ -475,12 +535,15 @@ fn malformed_parts(rt: HostRuntime) {
 
 #[test]
 fn lengths_up_to_the_limit(rt: HostRuntime) -> Result<(), Fail> {
-    let mut datagram = vec![in rt.alloc(); 0x0c; 2048]?;
+    let mut datagram = vec![in rt.alloc(); 0x0c; MAX_DATAGRAM]?;
     datagram[0] = 1;
-    datagram[1] = 8;
-    datagram[2] = 0;
+    let [high, low] = (MAX_DATAGRAM as u16).to_be_bytes();
+    datagram[1] = high;
+    datagram[2] = low;
     assert_eq!(rt; fault_of(rt.alloc(), datagram.as_slice()), None);
-    datagram[2] = 1;
+    let [high, low] = (MAX_DATAGRAM as u16 + 1).to_be_bytes();
+    datagram[1] = high;
+    datagram[2] = low;
     datagram.push(0)?;
     assert_eq!(rt; fault_of(rt.alloc(), datagram.as_slice()), MALFORMED);
     datagram[3] = 0xfe;
@@ -506,13 +569,15 @@ fn publish_of_size(alloc: Global, size: usize) -> Result<SnFrame, Fail> {
 
 #[test]
 fn publish_up_to_the_limit(rt: HostRuntime) -> Result<(), Fail> {
-    let bytes = encode(rt.alloc(), &publish_of_size(rt.alloc(), 2039)?)?;
-    assert_eq!(rt; bytes.len(), 2048);
+    let bytes = encode(rt.alloc(), &publish_of_size(rt.alloc(), MAX_DATAGRAM - 9)?)?;
+    assert_eq!(rt; bytes.len(), MAX_DATAGRAM);
+    let [high, low] = (MAX_DATAGRAM as u16).to_be_bytes();
+    assert_eq!(rt; &bytes[..3], [1, high, low].as_slice());
     assert_eq!(rt;
-        &bytes[..10],
-        b"\x01\x08\x00\x0c\xa1\x01\x02\xff\xfe\x55".as_slice()
+        &bytes[3..10],
+        b"\x0c\xa1\x01\x02\xff\xfe\x55".as_slice()
     );
-    let longer = publish_of_size(rt.alloc(), 2040)?;
+    let longer = publish_of_size(rt.alloc(), MAX_DATAGRAM - 8)?;
     assert_eq!(rt;
         encode(rt.alloc(), &longer).err(),
         Some(FrameFault::TooLong)
@@ -522,11 +587,11 @@ fn publish_up_to_the_limit(rt: HostRuntime) -> Result<(), Fail> {
 
 #[test]
 fn shortest_length(rt: HostRuntime) -> Result<(), Fail> {
-    let bytes = encode(rt.alloc(), &publish_of_size(rt.alloc(), 248)?)?;
-    assert_eq!(rt; bytes.len(), 255);
-    assert_eq!(rt; bytes[0], 255);
-    let bytes = encode(rt.alloc(), &publish_of_size(rt.alloc(), 249)?)?;
-    assert_eq!(rt; bytes.len(), 258);
+    let bytes = encode(rt.alloc(), &publish_of_size(rt.alloc(), MAX_SHORT_LENGTH - 7)?)?;
+    assert_eq!(rt; bytes.len(), MAX_SHORT_LENGTH);
+    assert_eq!(rt; bytes[0], 0xff);
+    let bytes = encode(rt.alloc(), &publish_of_size(rt.alloc(), MAX_SHORT_LENGTH - 6)?)?;
+    assert_eq!(rt; bytes.len(), MAX_SHORT_LENGTH + 3);
     Ok(())
 }
 
@@ -550,11 +615,11 @@ fn frames_that_nothing_spells(rt: HostRuntime) -> Result<(), Fail> {
         MALFORMED
     );
     assert_eq!(rt;
-        encode(alloc, &predefined_of_size(alloc, 2041)?).err(),
+        encode(alloc, &predefined_of_size(alloc, MAX_DATAGRAM - 7)?).err(),
         MALFORMED
     );
     assert_eq!(rt;
-        encode(alloc, &predefined_of_size(alloc, 2042)?).err(),
+        encode(alloc, &predefined_of_size(alloc, MAX_DATAGRAM - 6)?).err(),
         Some(FrameFault::TooLong)
     );
     Ok(())

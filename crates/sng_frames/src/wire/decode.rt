@@ -1,86 +1,94 @@
-//! Reading a datagram as a frame (MQTT-SN 1.2, 5.2 to 5.5).
+//! Decoding a datagram as a frame (MQTT-SN 1.2, 5.2 to 5.5).
 ghost use Rattle.std.specs.Prelude.{◌≡◌, ◌⊎◌, ◌<◌, Ok, Err, IfOk, IfErr};
 ghost use Rattle.sng_frames.specs.Parts.{part_read};
-ghost use Rattle.sng_frames.specs.Reading.{Reads, frame_of, octets_read, behind_length, message_of, is_discovery};
+ghost use Rattle.sng_frames.specs.Reading.{Reads, frame_of, octets_read, behind_length, message_of};
+ghost use Rattle.sng_frames.specs.Reading.{is_discovery};
 
-use crate::frame::MOST_OCTETS;
-use crate::{FrameFault, MessageType, SnFrame, parts};
+use crate::{FrameFault, MAX_DATAGRAM, MessageType, SnFrame, parts};
 use std::alloc::Global;
 
+/// The MsgType of an ADVERTISE (5.4.1).
 const ADVERTISE: u8 = 0x00;
 
+/// The MsgType of a SEARCHGW (5.4.2).
 const SEARCH_GATEWAY: u8 = 0x01;
 
+/// The MsgType of a GWINFO (5.4.3).
 const GATEWAY_INFO: u8 = 0x02;
 
+/// The MsgType of forwarder encapsulation (5.5).
 const ENCAPSULATED: u8 = 0xfe;
 
 /// The frame that a datagram is. Allocates the copy of the variable part's text or data, and nothing else.
 ///
-/// `Malformed`: it has more than 2,048 octets, or its Length is not its size, or its variable part is none of its type. `NotSupported`: it is an ADVERTISE, SEARCHGW or GWINFO, or its MsgType is that of forwarder encapsulation, whatever its Length. `Memory`: the copy was refused.
+/// `Malformed`: it has more than `MAX_DATAGRAM` octets, or its Length is not its size, or its variable part
+/// does not
+/// fit its type. `NotSupported`: it is an ADVERTISE, SEARCHGW or GWINFO, or its MsgType is that of forwarder
+/// encapsulation, whatever its Length. `Memory`: the allocation of the copy failed.
 pub fn decode(alloc: Global, datagram: &[u8]) -> Result<SnFrame, FrameFault>
     ensures ok { IfOk result (λ f. frame_of datagram.now ≡ Ok f) }
     ensures err { IfErr result (λ e. (e ≡ FrameFault.Memory) ⊎ (frame_of datagram.now ≡ Err e)) }
 {
-    if datagram.len() > MOST_OCTETS {
+    if datagram.len() > MAX_DATAGRAM {
         return Err(FrameFault::Malformed);
     }
-    read_octets(alloc, datagram.len(), datagram)
+    decode_octets(alloc, datagram.len(), datagram)
 }
 
 /// A datagram of that size, from its Length on.
-fn read_octets(alloc: Global, size: usize, octets: &[u8]) -> Result<SnFrame, FrameFault>
+fn decode_octets(alloc: Global, size: usize, octets: &[u8]) -> Result<SnFrame, FrameFault>
     ensures ok { IfOk result (λ f. octets_read size octets.now ≡ Ok f) }
     ensures err { IfErr result (λ e. (e ≡ FrameFault.Memory) ⊎ (octets_read size octets.now ≡ Err e)) }
 {
     match octets {
         [] => Err(FrameFault::Malformed),
-        [1, high, low, message @ ..] => read_message(
+        [1, high, low, message @ ..] => decode_message(
             alloc,
             usize::from(parts::number(*high, *low)),
             size,
             message,
         ),
         [1, ..] => Err(FrameFault::Malformed),
-        [told, message @ ..] => read_message(alloc, usize::from(*told), size, message),
+        [stated, message @ ..] => decode_message(alloc, usize::from(*stated), size, message),
     }
 }
 
 /// What stands behind a Length.
-fn read_message(
+fn decode_message(
     alloc: Global,
-    told: usize,
+    stated: usize,
     size: usize,
     message: &[u8],
 ) -> Result<SnFrame, FrameFault>
-    ensures ok { IfOk result (λ f. behind_length told size message.now ≡ Ok f) }
-    ensures err { IfErr result (λ e. (e ≡ FrameFault.Memory) ⊎ (behind_length told size message.now ≡ Err e)) }
+    ensures ok { IfOk result (λ f. behind_length stated size message.now ≡ Ok f) }
+    ensures err { IfErr result (λ e. (e ≡ FrameFault.Memory)
+        ⊎ (behind_length stated size message.now ≡ Err e)) }
 {
     match message {
         [] => Err(FrameFault::Malformed),
         [kind, part @ ..] => {
             if *kind == ENCAPSULATED {
                 Err(FrameFault::NotSupported)
-            } else if told != size {
+            } else if stated != size {
                 Err(FrameFault::Malformed)
             } else {
-                read_typed(alloc, *kind, part)
+                decode_typed(alloc, *kind, part)
             }
         }
     }
 }
 
 /// A MsgType and its variable part.
-fn read_typed(alloc: Global, kind: u8, part: &[u8]) -> Result<SnFrame, FrameFault>
+fn decode_typed(alloc: Global, kind: u8, part: &[u8]) -> Result<SnFrame, FrameFault>
     ensures ok { IfOk result (λ f. message_of kind part.now ≡ Ok f) }
     ensures err { IfErr result (λ e. (e ≡ FrameFault.Memory) ⊎ (message_of kind part.now ≡ Err e)) }
 {
     if is_discovery(kind, part) {
         return Err(FrameFault::NotSupported);
     }
-    match MessageType::read(kind) {
+    match MessageType::from_octet(kind) {
         None => Err(FrameFault::Malformed),
-        Some(message_type) => read_part(alloc, message_type, part),
+        Some(message_type) => decode_part(alloc, message_type, part),
     }
 }
 
@@ -94,7 +102,7 @@ fn is_discovery(kind: u8, part: &[u8]) -> bool
 }
 
 /// The variable part of a message of that type.
-fn read_part(alloc: Global, message_type: MessageType, part: &[u8]) -> Result<SnFrame, FrameFault>
+fn decode_part(alloc: Global, message_type: MessageType, part: &[u8]) -> Result<SnFrame, FrameFault>
     ensures { Reads result (part_read message_type part.now) }
 {
     match message_type {

@@ -1,34 +1,41 @@
-//! Writing a frame as a datagram (MQTT-SN 1.2, 5.2 to 5.4).
-ghost use Rattle.std.specs.Prelude.{◌≡◌, ◌≢◌, ℕ, List, ◌+◌, ◌/◌, ◌%◌, ◌≤◌, ◌<◌, ◌^◌, ◌↔◌, ◌++◌, ◌⊎◌, Err, IfOk, IfErr, OnOk, length};
+//! Encoding a frame as a datagram (MQTT-SN 1.2, 5.2 to 5.4).
+ghost use Rattle.std.specs.Prelude.{◌≡◌, ◌≢◌, ℕ, List, ◌+◌, ◌/◌, ◌%◌, ◌≤◌, ◌<◌, ◌^◌, ◌↔◌, ◌++◌, ◌⊎◌};
+ghost use Rattle.std.specs.Prelude.{Err, IfOk, IfErr, OnOk, length};
 ghost use Rattle.sng_frames.specs.MessageTypes.{octet_of};
-ghost use Rattle.sng_frames.specs.Writing.{written, framed, Writes, Refuses, HasNoSpelling, connect_part, will_topic_part, register_part, topic_ack_part, publish_part, topic_request_part, subscribe_ack_part};
+ghost use Rattle.sng_frames.specs.Writing.{written, framed, Writes, Refuses, HasNoSpelling};
+ghost use Rattle.sng_frames.specs.Writing.{connect_part, will_topic_part, register_part, topic_ack_part};
+ghost use Rattle.sng_frames.specs.Writing.{publish_part, topic_request_part, subscribe_ack_part};
+ghost use Rattle.sng_frames.specs.declared.limits.TheConstants.{MAX_DATAGRAM};
 ghost use Rattle.sng_frames.specs.Grammar.{IsInRange, TopicFits};
 
-use crate::frame::MOST_OCTETS;
 use crate::{
-    Connect, FrameFault, MessageType, Publish, Register, SnFrame, SubscribeAck, TopicAck,
-    TopicRequest, WillTopic, flags, parts,
+    Connect, FrameFault, MAX_DATAGRAM, MAX_SHORT_LENGTH, MessageType, Publish, Register, SnFrame,
+    SubscribeAck, TopicAck, TopicRequest, WillTopic, parts,
 };
 use std::alloc::Global;
 
 /// The datagram that a frame is sent as, with the shortest Length. Allocates once.
 ///
-/// `TooLong`: it has more than 2,048 octets. `Malformed`: no bytes spell the frame, which is a SUBSCRIBE or an UNSUBSCRIBE whose topic has not the two octets that its TopicIdType asks for. `Memory`: its growth was refused.
+/// `TooLong`: it has more than `MAX_DATAGRAM` octets. `Malformed`: no bytes spell the frame, which is a
+/// SUBSCRIBE or
+/// an UNSUBSCRIBE whose topic does not have the two octets that its TopicIdType asks for. `Memory`: the
+/// allocation
+/// failed.
 pub fn encode(alloc: Global, frame: &SnFrame) -> Result<Vec<u8>, FrameFault>
     ensures written { IfOk result (λ v. v.items ≡ written frame.now) }
-    ensures fits { IfOk result (λ v. length v.items ≤ 2048) }
-    ensures too_long { (result ≡ Err FrameFault.TooLong) ↔ (2048 < length (written frame.now)) }
+    ensures fits { IfOk result (λ v. length v.items ≤ MAX_DATAGRAM) }
+    ensures too_long { (result ≡ Err FrameFault.TooLong) ↔ (MAX_DATAGRAM < length (written frame.now)) }
     ensures malformed { (result ≡ Err FrameFault.Malformed) ↔ HasNoSpelling frame.now }
     ensures supported { result ≢ Err FrameFault.NotSupported }
 {
     check_topic(frame)?;
-    write_frame(alloc, frame)
+    encode_frame(alloc, frame)
 }
 
 /// The most octets of a topic in a SUBSCRIBE or UNSUBSCRIBE: seven go before it.
-const MOST_TOPIC: usize = MOST_OCTETS - 7;
+const MAX_TOPIC: usize = MAX_DATAGRAM - 7;
 
-/// That a topic has as many octets as its type asks for.
+/// Checks that a topic has as many octets as its type asks for.
 fn check_topic(frame: &SnFrame) -> Result<(), FrameFault>
     ensures ok { OnOk result (TopicFits frame.now) }
     ensures err { IfErr result (λ e. Refuses e frame.now) }
@@ -36,7 +43,7 @@ fn check_topic(frame: &SnFrame) -> Result<(), FrameFault>
     match frame {
         SnFrame::Subscribe(request) | SnFrame::Unsubscribe(request) => {
             let topic = request.topic.as_slice();
-            if topic.len() > MOST_TOPIC {
+            if topic.len() > MAX_TOPIC {
                 Err(FrameFault::TooLong)
             } else if parts::fits_type(request.flags.id_type, topic) {
                 Ok(())
@@ -44,17 +51,38 @@ fn check_topic(frame: &SnFrame) -> Result<(), FrameFault>
                 Err(FrameFault::Malformed)
             }
         }
-        _ => Ok(()),
+        SnFrame::Connect(_)
+        | SnFrame::ConnectAck(_)
+        | SnFrame::WillTopicRequest
+        | SnFrame::WillTopic(_)
+        | SnFrame::WillMessageRequest
+        | SnFrame::WillMessage(_)
+        | SnFrame::Register(_)
+        | SnFrame::RegisterAck(_)
+        | SnFrame::Publish(_)
+        | SnFrame::PublishAck(_)
+        | SnFrame::PublishComplete(_)
+        | SnFrame::PublishReceived(_)
+        | SnFrame::PublishRelease(_)
+        | SnFrame::SubscribeAck(_)
+        | SnFrame::UnsubscribeAck(_)
+        | SnFrame::PingRequest(_)
+        | SnFrame::PingResponse
+        | SnFrame::Disconnect(_)
+        | SnFrame::WillTopicUpdate(_)
+        | SnFrame::WillTopicResponse(_)
+        | SnFrame::WillMessageUpdate(_)
+        | SnFrame::WillMessageResponse(_) => Ok(()),
     }
 }
 
-fn write_frame(alloc: Global, frame: &SnFrame) -> Result<Vec<u8>, FrameFault>
+fn encode_frame(alloc: Global, frame: &SnFrame) -> Result<Vec<u8>, FrameFault>
     ensures answer { Writes result (written frame.now) }
     ensures in_range { IsInRange frame.now }
 {
     let kind = frame.message_type();
     match frame {
-        SnFrame::Connect(connect) => write_connect(alloc, connect),
+        SnFrame::Connect(connect) => encode_connect(alloc, connect),
         SnFrame::ConnectAck(code)
         | SnFrame::WillTopicResponse(code)
         | SnFrame::WillMessageResponse(code) => join(alloc, kind, &[code.0], &[]),
@@ -62,14 +90,14 @@ fn write_frame(alloc: Global, frame: &SnFrame) -> Result<Vec<u8>, FrameFault>
             join(alloc, kind, &[], &[])
         }
         SnFrame::WillTopic(will) | SnFrame::WillTopicUpdate(will) => {
-            write_will_topic(alloc, kind, will)
+            encode_will_topic(alloc, kind, will)
         }
         SnFrame::WillMessage(message) | SnFrame::WillMessageUpdate(message) => {
             join(alloc, kind, &[], message.as_slice())
         }
-        SnFrame::Register(register) => write_register(alloc, register),
-        SnFrame::RegisterAck(ack) | SnFrame::PublishAck(ack) => write_topic_ack(alloc, kind, ack),
-        SnFrame::Publish(publish) => write_publish(alloc, publish),
+        SnFrame::Register(register) => encode_register(alloc, register),
+        SnFrame::RegisterAck(ack) | SnFrame::PublishAck(ack) => encode_topic_ack(alloc, kind, ack),
+        SnFrame::Publish(publish) => encode_publish(alloc, publish),
         SnFrame::PublishComplete(msg_id)
         | SnFrame::PublishReceived(msg_id)
         | SnFrame::PublishRelease(msg_id)
@@ -77,9 +105,9 @@ fn write_frame(alloc: Global, frame: &SnFrame) -> Result<Vec<u8>, FrameFault>
             join(alloc, kind, &[high(*msg_id), low(*msg_id)], &[])
         }
         SnFrame::Subscribe(request) | SnFrame::Unsubscribe(request) => {
-            write_topic_request(alloc, kind, request)
+            encode_topic_request(alloc, kind, request)
         }
-        SnFrame::SubscribeAck(ack) => write_subscribe_ack(alloc, ack),
+        SnFrame::SubscribeAck(ack) => encode_subscribe_ack(alloc, ack),
         SnFrame::PingRequest(None) => join(alloc, kind, &[], &[]),
         SnFrame::PingRequest(Some(client_id)) => join(alloc, kind, &[], client_id.text()),
         SnFrame::Disconnect(None) => join(alloc, kind, &[], &[]),
@@ -89,7 +117,7 @@ fn write_frame(alloc: Global, frame: &SnFrame) -> Result<Vec<u8>, FrameFault>
     }
 }
 
-fn write_connect(alloc: Global, connect: &Connect) -> Result<Vec<u8>, FrameFault>
+fn encode_connect(alloc: Global, connect: &Connect) -> Result<Vec<u8>, FrameFault>
     ensures answer { Writes result (framed 4 (connect_part connect.now)) }
     ensures in_range { IsInRange (SnFrame.Connect connect.now) }
 {
@@ -97,7 +125,7 @@ fn write_connect(alloc: Global, connect: &Connect) -> Result<Vec<u8>, FrameFault
         alloc,
         MessageType::Connect,
         &[
-            flags::octet(connect.flags),
+            connect.flags.octet(),
             connect.protocol_id,
             high(connect.duration),
             low(connect.duration),
@@ -106,7 +134,7 @@ fn write_connect(alloc: Global, connect: &Connect) -> Result<Vec<u8>, FrameFault
     )
 }
 
-fn write_will_topic(
+fn encode_will_topic(
     alloc: Global,
     kind: MessageType,
     will: &Option<WillTopic>,
@@ -115,16 +143,11 @@ fn write_will_topic(
 {
     match will {
         None => join(alloc, kind, &[], &[]),
-        Some(will) => join(
-            alloc,
-            kind,
-            &[flags::octet(will.flags)],
-            will.topic.as_slice(),
-        ),
+        Some(will) => join(alloc, kind, &[will.flags.octet()], will.topic.as_slice()),
     }
 }
 
-fn write_register(alloc: Global, register: &Register) -> Result<Vec<u8>, FrameFault>
+fn encode_register(alloc: Global, register: &Register) -> Result<Vec<u8>, FrameFault>
     ensures answer { Writes result (framed 10 (register_part register.now)) }
     ensures in_range { IsInRange (SnFrame.Register register.now) }
 {
@@ -141,7 +164,7 @@ fn write_register(alloc: Global, register: &Register) -> Result<Vec<u8>, FrameFa
     )
 }
 
-fn write_topic_ack(alloc: Global, kind: MessageType, ack: &TopicAck) -> Result<Vec<u8>, FrameFault>
+fn encode_topic_ack(alloc: Global, kind: MessageType, ack: &TopicAck) -> Result<Vec<u8>, FrameFault>
     ensures answer { Writes result (framed (octet_of kind) (topic_ack_part ack.now)) }
     ensures in_range { (ack.now.topic_id < 2 ^ 16) × (ack.now.msg_id < 2 ^ 16) }
 {
@@ -159,7 +182,7 @@ fn write_topic_ack(alloc: Global, kind: MessageType, ack: &TopicAck) -> Result<V
     )
 }
 
-fn write_publish(alloc: Global, publish: &Publish) -> Result<Vec<u8>, FrameFault>
+fn encode_publish(alloc: Global, publish: &Publish) -> Result<Vec<u8>, FrameFault>
     ensures answer { Writes result (framed 12 (publish_part publish.now)) }
     ensures in_range { IsInRange (SnFrame.Publish publish.now) }
 {
@@ -167,7 +190,7 @@ fn write_publish(alloc: Global, publish: &Publish) -> Result<Vec<u8>, FrameFault
         alloc,
         MessageType::Publish,
         &[
-            flags::octet(publish.flags),
+            publish.flags.octet(),
             high(publish.topic_id),
             low(publish.topic_id),
             high(publish.msg_id),
@@ -177,7 +200,7 @@ fn write_publish(alloc: Global, publish: &Publish) -> Result<Vec<u8>, FrameFault
     )
 }
 
-fn write_topic_request(
+fn encode_topic_request(
     alloc: Global,
     kind: MessageType,
     request: &TopicRequest,
@@ -189,7 +212,7 @@ fn write_topic_request(
         alloc,
         kind,
         &[
-            flags::octet(request.flags),
+            request.flags.octet(),
             high(request.msg_id),
             low(request.msg_id),
         ],
@@ -197,7 +220,7 @@ fn write_topic_request(
     )
 }
 
-fn write_subscribe_ack(alloc: Global, ack: &SubscribeAck) -> Result<Vec<u8>, FrameFault>
+fn encode_subscribe_ack(alloc: Global, ack: &SubscribeAck) -> Result<Vec<u8>, FrameFault>
     ensures answer { Writes result (framed 19 (subscribe_ack_part ack.now)) }
     ensures in_range { IsInRange (SnFrame.SubscribeAck ack.now) }
 {
@@ -205,7 +228,7 @@ fn write_subscribe_ack(alloc: Global, ack: &SubscribeAck) -> Result<Vec<u8>, Fra
         alloc,
         MessageType::SubscribeAck,
         &[
-            flags::octet(ack.flags),
+            ack.flags.octet(),
             high(ack.topic_id),
             low(ack.topic_id),
             high(ack.msg_id),
@@ -221,11 +244,11 @@ fn join(alloc: Global, kind: MessageType, head: &[u8], tail: &[u8]) -> Result<Ve
     requires { length head.now ≤ 6 }
     ensures { Writes result (framed (octet_of kind) (head.now ++ tail.now)) }
 {
-    if head.len() + tail.len() > MOST_OCTETS - 4 {
+    if head.len() + tail.len() > MAX_DATAGRAM - 4 {
         return Err(FrameFault::TooLong);
     }
     let size = head.len() + tail.len();
-    if size < 254 {
+    if size + 2 <= MAX_SHORT_LENGTH {
         return fill(alloc, &[(size + 2) as u8, kind.octet()], head, tail);
     }
     let size = (size + 4) as u16;
@@ -234,7 +257,7 @@ fn join(alloc: Global, kind: MessageType, head: &[u8], tail: &[u8]) -> Result<Ve
 
 /// The three slices, one after the other.
 fn fill(alloc: Global, front: &[u8], head: &[u8], tail: &[u8]) -> Result<Vec<u8>, FrameFault>
-    requires { length front.now + length head.now + length tail.now ≤ 2048 }
+    requires { length front.now + length head.now + length tail.now ≤ MAX_DATAGRAM }
     ensures ok { IfOk result (λ v. v.items ≡ front.now ++ head.now ++ tail.now) }
     ensures err { IfErr result (λ e. e ≡ FrameFault.Memory) }
 {
