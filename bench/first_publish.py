@@ -1,9 +1,10 @@
 #!/usr/bin/env python3
 """first_publish.py [SNG]
 
-Plays a script of 200,000 publishes at QoS -1, with a `take` after each hundred of them and one policy, through SNG (if none is
-given, the build that `rt run` leaves in crates/sng/out/sng). Prints how many rows a second it prints, and the most memory that it
-held at a time. Fails where the program takes more than two minutes, ends with another status than 0, or prints other rows."""
+Plays a script of 200,000 publishes at QoS -1, with a `take` after each hundred of them and one policy,
+through SNG (if none is given, the build that `rt run` leaves in crates/sng/out/sng). Prints how many rows
+a second it prints, and the most memory that it held at a time. Fails where the program takes more than two
+minutes, ends with another status than 0, or prints other rows."""
 import os
 import subprocess
 import sys
@@ -36,7 +37,9 @@ def lines_of(row):
 
 
 def peak_of(process, before):
-    """The most memory in KiB that the process has held. The figure of `getrusage` would be that of Python, which it is forked from."""
+    """The most memory in KiB that the process has held.
+
+    The figure of `getrusage` would be that of Python, which it is forked from."""
     try:
         with open('/proc/%d/status' % process.pid) as status:
             return max([before] + [int(line.split()[1]) for line in status if line.startswith('VmHWM:')])
@@ -68,7 +71,8 @@ def main(arguments):
         lines = printed.read().split(b'\n')
     want = [line for row in range(1, rows + 1) for line in lines_of(row)] + [b'']
     if status != 0 or lines != want:
-        print('status %d, %d lines of %d as they must be' % (status, sum(a == b for a, b in zip(lines, want)), len(want)))
+        right = sum(a == b for a, b in zip(lines, want))
+        print('status %d, %d lines of %d as they must be' % (status, right, len(want)))
         return 1
     print('%d rows in %.3f s: %d rows a second, %d KiB at most' % (rows, seconds, rows / seconds, memory))
     return 0

@@ -1,8 +1,9 @@
 #!/usr/bin/env python3
 """speed.py [BENCH]
 
-Runs each job of the proved program BENCH (if none is given, the build that `rt run` leaves in crates/sng_bench/out/sng_bench) and
-prints what it costs: answers on inclusion, frames read and written, and a stream taken in pieces. Fails where a job fails."""
+Runs each job of the proved program BENCH (if none is given, the build that `rt run` leaves in
+crates/sng_bench/out/sng_bench) and prints what it costs: answers on inclusion, frames read and written,
+and a stream taken in pieces. Fails where a job fails."""
 import os
 import subprocess
 import sys

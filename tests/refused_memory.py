@@ -1,58 +1,59 @@
 #!/usr/bin/env python3
-"""refused_memory.py [CRATE ..]
+"""refused_memory.py [NAME ..]
 
-Refuses allocations of the crates' tests: of every test the N-th, for N from 1 on, by `rt try --test --fail-alloc N`, until no test has
-so many or TURNS are made. A test that meets the refusal has to end with an error of memory; where one ends otherwise, its name is
-printed, and the exit status is 1. A turn takes some 20 seconds, so the gate leaves this out. Without words it takes the crates
-whose calls take memory one at a time."""
-import os
+Refuses allocations of the tests of public calls, by tests/calls.py: of every test the N-th, for N from 1 on,
+until two turns in a row refuse none or TURNS are made. A test that meets the refusal has to end with an error
+of memory; where one ends otherwise, its name is printed with how it ended, and the exit status is 1.
+
+NAMEs are those of the files in tests/calls; without any it takes them all, in one build a turn. A turn
+takes half a minute for one file and some two minutes for all, so the gate leaves this out."""
 import re
-import subprocess
 import sys
 
-ROOT = os.path.dirname(os.path.dirname(os.path.abspath(__file__)))
-CRATES = ['sng_policy', 'sng_ids', 'sng_outbox', 'sng_queue', 'sng_fan']
-TURNS = 24
-OF_MEMORY = re.compile(r'error: (AllocError|AllocFailed \{.*\}|(\w+::)?Memory)$')
+sys.dont_write_bytecode = True
+import calls
+
+TURNS = 60
+OF_MEMORY = re.compile(r'error: (AllocError|AllocFailed \{.*\}|OutOfMemory|(\w+::)?Memory)$')
 
 
-def turn(crate, number):
-    """The names of the tests that failed, each with its error."""
-    command = ['rt', 'try', '--test', '--fail-alloc', str(number)]
-    done = subprocess.run(command, cwd=os.path.join(ROOT, 'crates', crate), stdout=subprocess.PIPE, stderr=subprocess.STDOUT, text=True)
-    if 'test result:' not in done.stdout:
-        raise SystemExit('%s: the tests were not run\n%s' % (crate, done.stdout[-2000:]))
+def turn(names, number):
+    """The tests that failed where their allocation of this number was refused, each with its error."""
+    _, printed = calls.run(names, ['--fail-alloc', str(number)])
+    if 'test result:' not in printed:
+        raise SystemExit('the tests were not run\n' + printed[-2000:])
     failed, name = {}, None
-    for line in done.stdout.splitlines():
+    for line in printed.splitlines():
         found = re.match(r'test (\S+) \.\.\. (\w+)', line)
         if found:
-            name = found[1]
-            if found[2] == 'FAILED':
+            name = found[1] if found[2] == 'FAILED' else None
+            if name:
                 failed[name] = ''
-        elif name in failed and not failed[name] and line.strip().startswith('error:'):
+        elif name and not failed[name]:
             failed[name] = line.strip()
     return failed
 
 
-def refuse(crate):
-    """Whether every refusal was told as one of memory."""
-    is_right = True
+def refuse(names):
+    """Whether every refusal was reported as one of memory."""
+    is_right, quiet = True, 0
     for number in range(1, TURNS + 1):
-        failed = turn(crate, number)
-        for name, error in failed.items():
-            if not OF_MEMORY.match(error):
-                print('%s, allocation %d: %s ends with %s' % (crate, number, name, error or 'no error'), flush=True)
-                is_right = False
-        if not failed:
-            print('%s: no test has %d allocations' % (crate, number), flush=True)
+        failed = turn(names, number)
+        wrong = {name: how for name, how in failed.items() if not OF_MEMORY.match(how)}
+        print('allocation %d: %d tests met the refusal' % (number, len(failed)), flush=True)
+        for name, how in wrong.items():
+            print('  %s ends with: %s' % (name, how), flush=True)
+        is_right = is_right and not wrong
+        quiet = 0 if failed else quiet + 1
+        if quiet == 2:
+            print('no test has so many allocations')
             return is_right
-    print('%s: %d refusals in each test' % (crate, TURNS), flush=True)
+    print('stopped after %d turns' % TURNS)
     return is_right
 
 
 def main():
-    answers = [refuse(crate) for crate in sys.argv[1:] or CRATES]
-    return 0 if all(answers) else 1
+    return 0 if refuse(sys.argv[1:]) else 1
 
 
 if __name__ == '__main__':
