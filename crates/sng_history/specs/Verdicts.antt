@@ -11,7 +11,7 @@ use Rattle.sng_policy.specs.declared.grant.Grant.TheVariants as grant
 use Rattle.sng_frames.specs.declared.frame.Publish.{Publish}
 use Rattle.sng_frames.specs.declared.flags.TopicIdType.{TopicIdType}
 use Rattle.sng_frames.specs.declared.flags.TopicIdType.TheVariants.{Normal, Predefined, Short, Reserved}
-use Rattle.sng_outbox.specs.declared.outbox.TheConstants.{MOST}
+use Rattle.sng_outbox.specs.declared.limits.TheConstants.{MAX_OUTBOX_ITEMS}
 use Rattle.sng_outbox.specs.declared.origin.Origin.{Origin}
 use Rattle.sng_outbox.specs.declared.origin.Origin.TheVariants as origin
 use Rattle.sng_book.specs.declared.decision.Decision.{Decision}
@@ -51,7 +51,7 @@ and_then (Denied denial) next = Denied denial
 
 -- whether there is a connection, and room for one more
 abbrev pub room : State → Outcome
-room s = if s.up then (if nat_lt (length s.link.waiting) MOST then Allowed else Denied (Full place.Outbox)) else Denied UpstreamDown
+room s = if s.up then (if nat_lt (length s.link.waiting) MAX_OUTBOX_ITEMS then Allowed else Denied (Full place.Outbox)) else Denied UpstreamDown
 
 -- a publish under the name is judged: by the policy in force, then by the connection and the room
 abbrev pub verdict : State → Origin → List ℕ → Outcome
