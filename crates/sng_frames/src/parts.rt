@@ -20,7 +20,7 @@ use std::alloc::Global;
 pub fn number(high: u8, low: u8) -> u16
     ensures { result ≡ number high low }
 {
-    u16::from(high) * 256 + u16::from(low)
+    u16::from_be_bytes([high, low])
 }
 
 /// Nothing.

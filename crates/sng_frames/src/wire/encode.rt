@@ -1,5 +1,5 @@
 //! Encoding a frame as a datagram (MQTT-SN 1.2, 5.2 to 5.4).
-ghost use Rattle.std.specs.Prelude.{◌≡◌, ◌≢◌, ℕ, List, ◌+◌, ◌/◌, ◌%◌, ◌≤◌, ◌<◌, ◌^◌, ◌↔◌, ◌++◌, ◌⊎◌};
+ghost use Rattle.std.specs.Prelude.{◌≡◌, ◌≢◌, ℕ, List, ◌+◌, ◌/◌, ◌%◌, ◌≤◌, ◌<◌, ◌^◌, ◌↔◌, ◌++◌, ◌⊎◌, ◌∷◌, []};
 ghost use Rattle.std.specs.Prelude.{Err, IfOk, IfErr, OnOk, length};
 ghost use Rattle.sng_frames.specs.MessageTypes.{octet_of};
 ghost use Rattle.sng_frames.specs.Writing.{written, framed, Writes, Refuses, HasNoSpelling};
@@ -101,9 +101,7 @@ fn encode_frame(alloc: Global, frame: &SnFrame) -> Result<Vec<u8>, FrameFault>
         SnFrame::PublishComplete(msg_id)
         | SnFrame::PublishReceived(msg_id)
         | SnFrame::PublishRelease(msg_id)
-        | SnFrame::UnsubscribeAck(msg_id) => {
-            join(alloc, kind, &[high(*msg_id), low(*msg_id)], &[])
-        }
+        | SnFrame::UnsubscribeAck(msg_id) => { join(alloc, kind, &octets(*msg_id), &[]) }
         SnFrame::Subscribe(request) | SnFrame::Unsubscribe(request) => {
             encode_topic_request(alloc, kind, request)
         }
@@ -111,9 +109,7 @@ fn encode_frame(alloc: Global, frame: &SnFrame) -> Result<Vec<u8>, FrameFault>
         SnFrame::PingRequest(None) => join(alloc, kind, &[], &[]),
         SnFrame::PingRequest(Some(client_id)) => join(alloc, kind, &[], client_id.text()),
         SnFrame::Disconnect(None) => join(alloc, kind, &[], &[]),
-        SnFrame::Disconnect(Some(duration)) => {
-            join(alloc, kind, &[high(*duration), low(*duration)], &[])
-        }
+        SnFrame::Disconnect(Some(duration)) => { join(alloc, kind, &octets(*duration), &[]) }
     }
 }
 
@@ -121,15 +117,11 @@ fn encode_connect(alloc: Global, connect: &Connect) -> Result<Vec<u8>, FrameFaul
     ensures answer { Writes result (framed 4 (connect_part connect.now)) }
     ensures in_range { IsInRange (SnFrame.Connect connect.now) }
 {
+    let [high, low] = octets(connect.duration);
     join(
         alloc,
         MessageType::Connect,
-        &[
-            connect.flags.octet(),
-            connect.protocol_id,
-            high(connect.duration),
-            low(connect.duration),
-        ],
+        &[connect.flags.octet(), connect.protocol_id, high, low],
         connect.client_id.text(),
     )
 }
@@ -151,15 +143,12 @@ fn encode_register(alloc: Global, register: &Register) -> Result<Vec<u8>, FrameF
     ensures answer { Writes result (framed 10 (register_part register.now)) }
     ensures in_range { IsInRange (SnFrame.Register register.now) }
 {
+    let [topic_high, topic_low] = octets(register.topic_id);
+    let [msg_high, msg_low] = octets(register.msg_id);
     join(
         alloc,
         MessageType::Register,
-        &[
-            high(register.topic_id),
-            low(register.topic_id),
-            high(register.msg_id),
-            low(register.msg_id),
-        ],
+        &[topic_high, topic_low, msg_high, msg_low],
         register.name.as_slice(),
     )
 }
@@ -168,16 +157,12 @@ fn encode_topic_ack(alloc: Global, kind: MessageType, ack: &TopicAck) -> Result<
     ensures answer { Writes result (framed (octet_of kind) (topic_ack_part ack.now)) }
     ensures in_range { (ack.now.topic_id < 2 ^ 16) × (ack.now.msg_id < 2 ^ 16) }
 {
+    let [topic_high, topic_low] = octets(ack.topic_id);
+    let [msg_high, msg_low] = octets(ack.msg_id);
     join(
         alloc,
         kind,
-        &[
-            high(ack.topic_id),
-            low(ack.topic_id),
-            high(ack.msg_id),
-            low(ack.msg_id),
-            ack.code.0,
-        ],
+        &[topic_high, topic_low, msg_high, msg_low, ack.code.0],
         &[],
     )
 }
@@ -186,15 +171,17 @@ fn encode_publish(alloc: Global, publish: &Publish) -> Result<Vec<u8>, FrameFaul
     ensures answer { Writes result (framed 12 (publish_part publish.now)) }
     ensures in_range { IsInRange (SnFrame.Publish publish.now) }
 {
+    let [topic_high, topic_low] = octets(publish.topic_id);
+    let [msg_high, msg_low] = octets(publish.msg_id);
     join(
         alloc,
         MessageType::Publish,
         &[
             publish.flags.octet(),
-            high(publish.topic_id),
-            low(publish.topic_id),
-            high(publish.msg_id),
-            low(publish.msg_id),
+            topic_high,
+            topic_low,
+            msg_high,
+            msg_low,
         ],
         publish.payload.as_slice(),
     )
@@ -208,14 +195,11 @@ fn encode_topic_request(
     ensures answer { Writes result (framed (octet_of kind) (topic_request_part request.now)) }
     ensures in_range { request.now.msg_id < 2 ^ 16 }
 {
+    let [msg_high, msg_low] = octets(request.msg_id);
     join(
         alloc,
         kind,
-        &[
-            request.flags.octet(),
-            high(request.msg_id),
-            low(request.msg_id),
-        ],
+        &[request.flags.octet(), msg_high, msg_low],
         request.topic.as_slice(),
     )
 }
@@ -224,15 +208,17 @@ fn encode_subscribe_ack(alloc: Global, ack: &SubscribeAck) -> Result<Vec<u8>, Fr
     ensures answer { Writes result (framed 19 (subscribe_ack_part ack.now)) }
     ensures in_range { IsInRange (SnFrame.SubscribeAck ack.now) }
 {
+    let [topic_high, topic_low] = octets(ack.topic_id);
+    let [msg_high, msg_low] = octets(ack.msg_id);
     join(
         alloc,
         MessageType::SubscribeAck,
         &[
             ack.flags.octet(),
-            high(ack.topic_id),
-            low(ack.topic_id),
-            high(ack.msg_id),
-            low(ack.msg_id),
+            topic_high,
+            topic_low,
+            msg_high,
+            msg_low,
             ack.code.0,
         ],
         &[],
@@ -251,8 +237,8 @@ fn join(alloc: Global, kind: MessageType, head: &[u8], tail: &[u8]) -> Result<Ve
     if size + 2 <= MAX_SHORT_LENGTH {
         return fill(alloc, &[(size + 2) as u8, kind.octet()], head, tail);
     }
-    let size = (size + 4) as u16;
-    fill(alloc, &[1, high(size), low(size), kind.octet()], head, tail)
+    let [high, low] = octets((size + 4) as u16);
+    fill(alloc, &[1, high, low, kind.octet()], head, tail)
 }
 
 /// The three slices, one after the other.
@@ -268,14 +254,9 @@ fn fill(alloc: Global, front: &[u8], head: &[u8], tail: &[u8]) -> Result<Vec<u8>
     Ok(bytes)
 }
 
-fn high(number: u16) -> u8
-    ensures { result ≡ number / 256 }
+/// The two octets of a number, the high one first.
+fn octets(number: u16) -> [u8; 2]
+    ensures { result ≡ number / 256 ∷ number % 256 ∷ [] }
 {
-    (number / 256) as u8
-}
-
-fn low(number: u16) -> u8
-    ensures { result ≡ number % 256 }
-{
-    (number % 256) as u8
+    number.to_be_bytes()
 }
