@@ -5,8 +5,8 @@ use Rattle.std.proofs.lemmas.Bool.Decides.{nat_tests}
 use Rattle.std.proofs.lemmas.List.{take-append-drop}
 use Rattle.mqtt_frames.specs.declared.fault.StreamFault.{StreamFault}
 use Rattle.mqtt_frames.specs.declared.fault.StreamFault.TheVariants.{Malformed}
-use Rattle.mqtt_frames.specs.declared.packet.Qos.{Qos}
-use Rattle.mqtt_frames.specs.declared.packet.Qos.TheVariants.{AtMostOnce, AtLeastOnce, ExactlyOnce}
+use Rattle.mqtt_frames.specs.declared.packet.RequestedQos.{RequestedQos}
+use Rattle.mqtt_frames.specs.declared.packet.RequestedQos.TheVariants.{AtMostOnce, AtLeastOnce, ExactlyOnce}
 use Rattle.mqtt_frames.specs.declared.packet.Request.{Request}
 use Rattle.mqtt_frames.specs.Packets.{qos_byte}
 use Rattle.mqtt_frames.specs.Reading.{◌>>=◌, number, number_at, id_at, text_at, qos_of, qos_behind, request_at}
@@ -99,7 +99,7 @@ pub Consumes-text_at : Consumes text_at
 Consumes-text_at bytes x rest is = omega (arith, length-text bytes x rest (text_at-reads bytes (x, rest) is))
 
 -- a level, by its byte
-pub qos_of-reads : (byte : ℕ) (qos : Qos) → qos_of byte ≡ Ok qos → qos_byte qos ≡ byte
+pub qos_of-reads : (byte : ℕ) (qos : RequestedQos) → qos_of byte ≡ Ok qos → qos_byte qos ≡ byte
 qos_of-reads byte qos is =
     link byte 0 AtMostOnce _ qos qos_byte refl
     (λ one. link byte 1 AtLeastOnce _ qos qos_byte refl (λ two. link byte 2 ExactlyOnce (Err Malformed) qos qos_byte refl (λ three. absurd cc) two) one) is

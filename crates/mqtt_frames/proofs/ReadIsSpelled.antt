@@ -5,6 +5,7 @@ use Rattle.std.proofs.lemmas.List.{take-append-drop, append-nil, length-take, le
 use Rattle.std.proofs.Math.Seq.{take-add}
 use Rattle.std.specs.Str.{bytes_eq}
 use Rattle.std.specs.Cmp.Lexicographic.{same_text}
+use Rattle.mqtt_frames.specs.declared.limits.TheConstants.{MAX_PACKET}
 use Rattle.mqtt_frames.specs.declared.fault.StreamFault.{StreamFault}
 use Rattle.mqtt_frames.specs.declared.fault.StreamFault.TheVariants.{Malformed, NotSupported, TooLong}
 use Rattle.mqtt_frames.specs.declared.packet.Connect.{Connect}
@@ -21,13 +22,13 @@ use Rattle.mqtt_frames.specs.declared.header.Length.{Length}
 use Rattle.mqtt_frames.specs.declared.header.Length.TheVariants as lengths
 use Rattle.mqtt_frames.specs.declared.header.Header.{Header}
 use Rattle.mqtt_frames.specs.declared.header.Header.TheVariants as headers
-use Rattle.mqtt_frames.specs.declared.front.Front.TheVariants as fronts
+use Rattle.mqtt_frames.specs.declared.wire.decode.Front.TheVariants as fronts
 use Rattle.mqtt_frames.specs.Packets.{flag, qos_bits, first_byte, code_byte, codes_bytes, protocol}
 use Rattle.mqtt_frames.specs.Grammar.{SpellsNumber, SpellsId, SpellsText, SpellsGroups, SpellsOptionalId, SpellsRequests, SpellsFilters, SpellsBody, Spells}
 use Rattle.mqtt_frames.specs.Kinds.{publish_flags, publish_kind, is_of_qos_2, kind_of}
 use Rattle.mqtt_frames.specs.Reading.{◌>>=◌, number_at, id_at, text_at, at_end, connect_of, connect_behind, connect_rest, session_of, connect_ack_of, optional_id_at, publish_of, whole_id, qos_of, request_at, items_within, items_of, code_of, codes_of, some_of, subscribe_of, subscribe_ack_of, unsubscribe_of, body_of}
 use Rattle.mqtt_frames.specs.Headers.{behind_group, length_at, with_kind, with_length, header_at}
-use Rattle.mqtt_frames.specs.Fronts.{sized, behind_header, front_at}
+use Rattle.mqtt_frames.specs.Fronts.{sized, behind_header, decode}
 use Rattle.mqtt_frames.specs.Laws.{AreBytes}
 use Rattle.mqtt_frames.proofs.FieldLemmas.{bind_ok, guard_ok, pass_ok, either, link, done, ok_is, IsText, number_at-reads, id_at-reads, text_at-reads, request_at-reads, qos_of-reads}
 
@@ -54,22 +55,22 @@ record IsLength (bytes : List ℕ) (n size : ℕ) : Type 0 where
 record IsBehind (b : ℕ) (l : Length) (n size : ℕ) : Type 0 where
   value : ℕ
   others : ℕ
-  told : l ≡ lengths.Told value others
+  told : l ≡ lengths.Known value others
   total : n ≡ b - 128 + 128 * value
   count : size ≡ others + 1
 
-behind_group-told : (b : ℕ) (l : Length) (n size : ℕ) → behind_group b l ≡ lengths.Told n size → IsBehind b l n size
+behind_group-told : (b : ℕ) (l : Length) (n size : ℕ) → behind_group b l ≡ lengths.Known n size → IsBehind b l n size
 behind_group-told b lengths.Unfinished n size is = absurd cc
 behind_group-told b lengths.Overlong n size is = absurd cc
-behind_group-told b (lengths.Told value others) n size is =
+behind_group-told b (lengths.Known value others) n size is =
     record { value = value; others = others; told = refl; total = cc; count = cc }
 
-length_at-spelled : (most : ℕ) (bytes : List ℕ) (n size : ℕ) → AreBytes bytes → length_at most bytes ≡ lengths.Told n size → IsLength bytes n size × (size ≤ most)
+length_at-spelled : (most : ℕ) (bytes : List ℕ) (n size : ℕ) → AreBytes bytes → length_at most bytes ≡ lengths.Known n size → IsLength bytes n size × (size ≤ most)
 length_at-spelled zero bytes n size are is = absurd cc
 length_at-spelled (suc most) [] n size are is = absurd cc
 length_at-spelled (suc most) (b ∷ bytes) n size are is =
     elim (cases_lt b 128) [
-      | inl small ↦ (let one : lengths.Told b 1 ≡ lengths.Told n size = rw (lt-ltb b 128 small) at is in
+      | inl small ↦ (let one : lengths.Known b 1 ≡ lengths.Known n size = rw (lt-ltb b 128 small) at is in
           let value : b ≡ n = cc in
           let count : 1 ≡ size = cc in
           subst (λ (k : ℕ). IsLength (b ∷ bytes) n k × (k ≤ suc most)) count (record { groups = inl (small, sym value, refl); within = omega arith }, omega arith))
@@ -445,20 +446,20 @@ body-spelled kinds.Disconnect body p are is = empty-spelled kinds.Disconnect var
 
 record IsHeader (first : ℕ) (bytes : List ℕ) (kind : Kind) (start rest : ℕ) : Type 0 where
   size : ℕ
-  told : length_at 4 bytes ≡ lengths.Told rest size
+  told : length_at 4 bytes ≡ lengths.Known rest size
   kind_is : kind_of first ≡ Ok kind
   begins : start ≡ 1 + size
 
-with_kind-told : (r : Result Kind StreamFault) (size value : ℕ) (kind : Kind) (start rest : ℕ) → with_kind r size value ≡ headers.Told kind start rest → (r ≡ Ok kind) × (size ≡ start) × (value ≡ rest)
+with_kind-told : (r : Result Kind StreamFault) (size value : ℕ) (kind : Kind) (start rest : ℕ) → with_kind r size value ≡ headers.Known kind start rest → (r ≡ Ok kind) × (size ≡ start) × (value ≡ rest)
 with_kind-told (Ok found) size value kind start rest is = (ap Ok cc, cc, cc)
 with_kind-told (Err fault) size value kind start rest is = absurd cc
 
-with_length-told : (first : ℕ) (l : Length) (bytes : List ℕ) (kind : Kind) (start rest : ℕ) → length_at 4 bytes ≡ l → with_length first l ≡ headers.Told kind start rest → IsHeader first bytes kind start rest
+with_length-told : (first : ℕ) (l : Length) (bytes : List ℕ) (kind : Kind) (start rest : ℕ) → length_at 4 bytes ≡ l → with_length first l ≡ headers.Known kind start rest → IsHeader first bytes kind start rest
 with_length-told first lengths.Unfinished bytes kind start rest l is = absurd cc
 with_length-told first lengths.Overlong bytes kind start rest l is = absurd cc
-with_length-told first (lengths.Told value size) bytes kind start rest l is =
+with_length-told first (lengths.Known value size) bytes kind start rest l is =
     let k = with_kind-told (kind_of first) (1 + size) value kind start rest is in
-    record { size = size; told = l ∙ ap (λ (n : ℕ). lengths.Told n size) k.2; kind_is = k.0; begins = sym k.1 }
+    record { size = size; told = l ∙ ap (λ (n : ℕ). lengths.Known n size) k.2; kind_is = k.0; begins = sym k.1 }
 
 sized-told : (n size : ℕ) (r : Result Packet StreamFault) (p : Packet) → sized n r ≡ fronts.Whole p size → (r ≡ Ok p) × (n ≡ size)
 sized-told n size (Ok packet) p is = (ap Ok cc, cc)
@@ -466,23 +467,23 @@ sized-told n size (Err fault) p is = absurd cc
 
 record IsBehindHeader (kind : Kind) (start rest : ℕ) (bytes : List ℕ) (p : Packet) (size : ℕ) : Type 0 where
   total : start + rest ≡ size
-  short : start + rest ≤ 70000
+  short : start + rest ≤ MAX_PACKET
   enough : start + rest ≤ length bytes
   body : body_of kind (take rest (drop start bytes)) ≡ Ok p
 
-behind_header-told : (kind : Kind) (start rest : ℕ) (bytes : List ℕ) (p : Packet) (size : ℕ) → behind_header (headers.Told kind start rest) bytes ≡ fronts.Whole p size → IsBehindHeader kind start rest bytes p size
+behind_header-told : (kind : Kind) (start rest : ℕ) (bytes : List ℕ) (p : Packet) (size : ℕ) → behind_header (headers.Known kind start rest) bytes ≡ fronts.Whole p size → IsBehindHeader kind start rest bytes p size
 behind_header-told kind start rest bytes p size is =
-    elim (cases_lt 70000 (start + rest)) [
-      | inl long ↦ absurd (let e : fronts.Faulty TooLong ≡ fronts.Whole p size = rw (lt-ltb 70000 (start + rest) long) at is in cc)
+    elim (cases_lt MAX_PACKET (start + rest)) [
+      | inl long ↦ absurd (let e : fronts.Faulty TooLong ≡ fronts.Whole p size = rw (lt-ltb MAX_PACKET (start + rest) long) at is in cc)
       | inr short ↦ elim (cases_lt (length bytes) (start + rest)) [
-        | inl part ↦ absurd (let e : fronts.Waiting ≡ fronts.Whole p size = rw (le-ltb 70000 (start + rest) short, lt-ltb (length bytes) (start + rest) part) at is in cc)
-        | inr whole ↦ (let s = sized-told (start + rest) size (body_of kind (take rest (drop start bytes))) p (rw (le-ltb 70000 (start + rest) short, le-ltb (length bytes) (start + rest) whole) at is) in
+        | inl part ↦ absurd (let e : fronts.Waiting ≡ fronts.Whole p size = rw (le-ltb MAX_PACKET (start + rest) short, lt-ltb (length bytes) (start + rest) part) at is in cc)
+        | inr whole ↦ (let s = sized-told (start + rest) size (body_of kind (take rest (drop start bytes))) p (rw (le-ltb MAX_PACKET (start + rest) short, le-ltb (length bytes) (start + rest) whole) at is) in
             record { total = s.1; short = short; enough = whole; body = s.0 })
       ]
     ]
 
 told-spelled : (first : ℕ) (bytes : List ℕ) (kind : Kind) (start rest : ℕ) (p : Packet) (size : ℕ) → AreBytes (first ∷ bytes) → IsHeader first bytes kind start rest → IsBehindHeader kind start rest (first ∷ bytes) p size
-    → Spells p (take size (first ∷ bytes)) × (size ≤ 70000)
+    → Spells p (take size (first ∷ bytes)) × (size ≤ MAX_PACKET)
 told-spelled first bytes kind start rest p size are h b =
     let n = h.size in
     let begins : start ≡ suc n = omega (arith, h.begins) in
@@ -503,12 +504,12 @@ told-spelled first bytes kind start rest p size are h b =
       omega (arith, b.total, b.short),
     )
 
-front-spelled-at : (h : Header) (bytes : List ℕ) (p : Packet) (size : ℕ) → AreBytes bytes → header_at bytes ≡ h → behind_header h bytes ≡ fronts.Whole p size → Spells p (take size bytes) × (size ≤ 70000)
+front-spelled-at : (h : Header) (bytes : List ℕ) (p : Packet) (size : ℕ) → AreBytes bytes → header_at bytes ≡ h → behind_header h bytes ≡ fronts.Whole p size → Spells p (take size bytes) × (size ≤ MAX_PACKET)
 front-spelled-at headers.Unfinished bytes p size are told is = absurd cc
 front-spelled-at (headers.Faulty fault) bytes p size are told is = absurd cc
-front-spelled-at (headers.Told kind start rest) [] p size are told is = absurd cc
-front-spelled-at (headers.Told kind start rest) (first ∷ bytes) p size are told is =
+front-spelled-at (headers.Known kind start rest) [] p size are told is = absurd cc
+front-spelled-at (headers.Known kind start rest) (first ∷ bytes) p size are told is =
     told-spelled first bytes kind start rest p size are (with_length-told first (length_at 4 bytes) bytes kind start rest refl told) (behind_header-told kind start rest (first ∷ bytes) p size is)
 
-pub front-spelled : (p : Packet) (bytes : List ℕ) (size : ℕ) → AreBytes bytes → front_at bytes ≡ fronts.Whole p size → Spells p (take size bytes) × (size ≤ 70000)
+pub front-spelled : (p : Packet) (bytes : List ℕ) (size : ℕ) → AreBytes bytes → decode bytes ≡ fronts.Whole p size → Spells p (take size bytes) × (size ≤ MAX_PACKET)
 front-spelled p bytes size are is = front-spelled-at (header_at bytes) bytes p size are refl is

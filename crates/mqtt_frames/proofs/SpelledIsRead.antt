@@ -4,9 +4,10 @@ use Rattle.std.proofs.lemmas.Bool.{lt-ltb, le-ltb}
 use Rattle.std.proofs.lemmas.Bool.Decides.{nat_tests}
 use Rattle.std.proofs.lemmas.List.{take_all, append-nil}
 use Rattle.std.proofs.Math.Seq.{take-append_seam, drop-append_seam}
+use Rattle.mqtt_frames.specs.declared.limits.TheConstants.{MAX_PACKET}
 use Rattle.mqtt_frames.specs.declared.fault.StreamFault.{StreamFault}
-use Rattle.mqtt_frames.specs.declared.packet.Qos.{Qos}
-use Rattle.mqtt_frames.specs.declared.packet.Qos.TheVariants.{AtMostOnce, AtLeastOnce, ExactlyOnce}
+use Rattle.mqtt_frames.specs.declared.packet.RequestedQos.{RequestedQos}
+use Rattle.mqtt_frames.specs.declared.packet.RequestedQos.TheVariants.{AtMostOnce, AtLeastOnce, ExactlyOnce}
 use Rattle.mqtt_frames.specs.declared.packet.Connect.{Connect}
 use Rattle.mqtt_frames.specs.declared.packet.ConnectAck.{ConnectAck}
 use Rattle.mqtt_frames.specs.declared.packet.Publish.{Publish}
@@ -19,29 +20,29 @@ use Rattle.mqtt_frames.specs.declared.kind.Kind.{Kind}
 use Rattle.mqtt_frames.specs.declared.kind.Kind.TheVariants as kinds
 use Rattle.mqtt_frames.specs.declared.header.Length.TheVariants as lengths
 use Rattle.mqtt_frames.specs.declared.header.Header.TheVariants as headers
-use Rattle.mqtt_frames.specs.declared.front.Front.TheVariants as fronts
+use Rattle.mqtt_frames.specs.declared.wire.decode.Front.TheVariants as fronts
 use Rattle.mqtt_frames.specs.Packets.{flag, qos_bits, first_byte, qos_byte, code_byte, codes_bytes, protocol}
 use Rattle.mqtt_frames.specs.Grammar.{SpellsNumber, SpellsId, SpellsText, SpellsGroups, SpellsConnect, SpellsOptionalId, SpellsPublish, SpellsRequests, SpellsFilters, SpellsBody, Spells}
 use Rattle.mqtt_frames.specs.Kinds.{kind_of}
 use Rattle.mqtt_frames.specs.Reading.{◌>>=◌, number_at, id_at, text_at, connect_of, connect_rest, connect_ack_of, optional_id_at, publish_of, whole_id, qos_of, request_at, items_of, code_of, codes_of, some_of, body_of}
 use Rattle.mqtt_frames.specs.Headers.{length_at, header_at}
-use Rattle.mqtt_frames.specs.Fronts.{front_at}
+use Rattle.mqtt_frames.specs.Fronts.{decode}
 use Rattle.mqtt_frames.proofs.Items.{items_of-next}
 use Rattle.mqtt_frames.proofs.FieldLemmas.{Consumes-text_at, Consumes-request_at, ok_is}
 use Rattle.mqtt_frames.proofs.StreamLemmas.{body-more}
 
 -- the fixed header
 
-groups-read : (most n : ℕ) (bytes more : List ℕ) → SpellsGroups n bytes → length bytes ≤ most → length_at most (bytes ++ more) ≡ lengths.Told n (length bytes)
+groups-read : (most n : ℕ) (bytes more : List ℕ) → SpellsGroups n bytes → length bytes ≤ most → length_at most (bytes ++ more) ≡ lengths.Known n (length bytes)
 groups-read most n [] more s fits = absurd s
 groups-read zero n (b ∷ bytes) more s fits = absurd (omega arith)
 groups-read (suc most) n (b ∷ bytes) more (inl last) fits =
     rw (lt-ltb b 128 last.0, last.2, last.1) refl
 groups-read (suc most) n (b ∷ bytes) more (inr next) fits =
     let rest = next.2.0 in
-    let others : length_at most (bytes ++ more) ≡ lengths.Told rest (length bytes) = groups-read most rest bytes more next.2.2 (omega arith) in
+    let others : length_at most (bytes ++ more) ≡ lengths.Known rest (length bytes) = groups-read most rest bytes more next.2.2 (omega arith) in
     let value : b - 128 + 128 * rest ≡ n = omega (arith, next.0, next.2.1) in
-    rw (le-ltb b 128 next.0, others, value) (ap (λ k. lengths.Told n k) (omega arith))
+    rw (le-ltb b 128 next.0, others, value) (ap (λ k. lengths.Known n k) (omega arith))
 
 -- the kind of a packet
 abbrev pub kind_for : Packet → Kind
@@ -101,7 +102,7 @@ optional_id-read : (id : Option ℕ) (b rest : List ℕ) → SpellsOptionalId id
 optional_id-read None b rest s = rw s refl
 optional_id-read (Some id) b rest s = rw (id-read id b rest s) refl
 
-qos-read : (qos : Qos) → qos_of (qos_byte qos) ≡ Ok qos
+qos-read : (qos : RequestedQos) → qos_of (qos_byte qos) ≡ Ok qos
 qos-read AtMostOnce = refl
 qos-read AtLeastOnce = refl
 qos-read ExactlyOnce = refl
@@ -179,9 +180,9 @@ body-read variants.Disconnect b s = rw s refl
 
 -- the whole packet
 
-pub header-read : (p : Packet) (b more : List ℕ) (s : Spells p b) → header_at (b ++ more) ≡ headers.Told (kind_for p) (1 + length s.remaining) (length s.behind)
+pub header-read : (p : Packet) (b more : List ℕ) (s : Spells p b) → header_at (b ++ more) ≡ headers.Known (kind_for p) (1 + length s.remaining) (length s.behind)
 header-read p b more s =
-    let is : length_at 4 (s.remaining ++ (s.behind ++ more)) ≡ lengths.Told (length s.behind) (length s.remaining) = groups-read 4 (length s.behind) s.remaining (s.behind ++ more) s.total.groups s.total.most in
+    let is : length_at 4 (s.remaining ++ (s.behind ++ more)) ≡ lengths.Known (length s.behind) (length s.remaining) = groups-read 4 (length s.behind) s.remaining (s.behind ++ more) s.total.groups s.total.most in
     let parts : b ++ more ≡ first_byte p ∷ (s.remaining ++ (s.behind ++ more)) = ap (λ (x : List ℕ). x ++ more) s.bytes ∙ ap (λ (x : List ℕ). first_byte p ∷ x) (append_assoc s.remaining s.behind more) in
     ap header_at parts ∙ rw (is, kind_of-first p) refl
 
@@ -193,14 +194,14 @@ behind-is p b s =
 size-is : (p : Packet) (b : List ℕ) (s : Spells p b) → 1 + length s.remaining + length s.behind ≡ length b
 size-is p b s = omega (arith, ap length s.bytes, length-append s.remaining s.behind)
 
-pub front-read : (p : Packet) (b more : List ℕ) → Spells p b → length b ≤ 70000 → front_at (b ++ more) ≡ fronts.Whole p (length b)
+pub front-read : (p : Packet) (b more : List ℕ) → Spells p b → length b ≤ MAX_PACKET → decode (b ++ more) ≡ fronts.Whole p (length b)
 front-read p b more s short =
     let size = size-is p b s in
     let enough : length b ≤ length (b ++ more) = omega (arith, length-append b more) in
     let within : 1 + length s.remaining + length s.behind ≤ length b = omega arith in
     let body : take (length s.behind) (drop (1 + length s.remaining) (b ++ more)) ≡ s.behind =
     body-more (1 + length s.remaining) (length s.behind) b more within ∙ ap (take (length s.behind)) (behind-is p b s) ∙ take_all (length s.behind) s.behind (omega arith) in
-    rw (header-read p b more s, size, le-ltb 70000 (length b) short, le-ltb (length (b ++ more)) (length b) enough, body, body-read p s.behind s.variable) refl
+    rw (header-read p b more s, size, le-ltb MAX_PACKET (length b) short, le-ltb (length (b ++ more)) (length b) enough, body, body-read p s.behind s.variable) refl
 
 pub spells_one : (b : List ℕ) (one other : Packet) → Spells one b → Spells other b → one ≡ other
 spells_one b one other s t =

@@ -1,7 +1,8 @@
 -- What is written is spelled.
-use Rattle.std.proofs.Common.{◌≡◌, ◌≢◌, ℕ, zero, suc, ◌+◌, ◌/◌, ◌%◌, ◌<◌, ◌≤◌, ◌==◌, ◌&&◌, not, Bool, true, false, List, [], ◌∷◌, length, length-append, Option, Some, None, refl, inl, inr, sym, subst, arith}
+use Rattle.std.proofs.Common.{◌≡◌, ◌≢◌, ℕ, zero, suc, ◌+◌, ◌^◌, ◌/◌, ◌%◌, ◌<◌, ◌≤◌, ◌==◌, ◌&&◌, not, Bool, true, false, List, [], ◌∷◌, length, length-append, Option, Some, None, refl, inl, inr, sym, subst, arith}
 use Rattle.std.proofs.lemmas.Bool.{cases_lt, ltb-true}
 use Rattle.std.proofs.lemmas.Bool.Decides.{nat_tests}
+use Rattle.mqtt_frames.specs.declared.limits.TheConstants.{MAX_PACKET, MAX_REMAINING}
 use Rattle.mqtt_frames.specs.declared.packet.Request.{Request}
 use Rattle.mqtt_frames.specs.declared.packet.Packet.{Packet}
 use Rattle.mqtt_frames.specs.declared.packet.Packet.TheVariants as variants
@@ -40,18 +41,18 @@ at_most-three n fits =
       | inr large ↦ omega (arith, length-remaining_length-next n large, at_most-two (n / 128) (omega arith))
     ]
 
-at_most-four : (n : ℕ) → n < 268435456 → length (remaining_length n) ≤ 4
+at_most-four : (n : ℕ) → n ≤ MAX_REMAINING → length (remaining_length n) ≤ 4
 at_most-four n fits =
     elim (cases_lt n 128) [
       | inl small ↦ omega (arith, at_most-one n small)
       | inr large ↦ omega (arith, length-remaining_length-next n large, at_most-three (n / 128) (omega arith))
     ]
 
-pub SpellsLength-remaining_length : (n : ℕ) → n < 268435456 → SpellsLength n (remaining_length n)
+pub SpellsLength-remaining_length : (n : ℕ) → n ≤ MAX_REMAINING → SpellsLength n (remaining_length n)
 unfolding remaining_length
 SpellsLength-remaining_length n fits = record { groups = SpellsGroups-groups n n (omega arith); most = at_most-four n fits }
 
-SpellsNumber-written : (n : ℕ) → n < 65536 → SpellsNumber n (number_bytes n)
+SpellsNumber-written : (n : ℕ) → n < 2 ^ 16 → SpellsNumber n (number_bytes n)
 SpellsNumber-written n fits = record {
   high = n / 256 % 256;
   low = n % 256;
@@ -63,13 +64,13 @@ positive : (id : ℕ) → is_id id ≡ true → 0 < id
 positive zero is = cc
 positive (suc id) is = omega arith
 
-SpellsId-written : (id : ℕ) → id < 65536 → is_id id ≡ true → SpellsId id (number_bytes id)
+SpellsId-written : (id : ℕ) → id < 2 ^ 16 → is_id id ≡ true → SpellsId id (number_bytes id)
 SpellsId-written id fits is = record { positive = positive id is; number = SpellsNumber-written id fits }
 
 SpellsText-written : (text : List ℕ) → is_text text ≡ true → SpellsText text (text_bytes text)
 SpellsText-written text is = record {
   count = number_bytes (length text);
-  number = SpellsNumber-written (length text) (ltb-true (length text) 65536 is);
+  number = SpellsNumber-written (length text) (ltb-true (length text) (2 ^ 16) is);
   bytes = refl;
 }
 
@@ -150,7 +151,7 @@ SpellsBody-written variants.PingResponse fits is = refl
 SpellsBody-written variants.Disconnect fits is = refl
 
 -- a packet whose texts, identifiers and lists have a spelling is written as bytes that spell it
-pub Spells-written : (p : Packet) → IsInRange p → has_spelling p ≡ true → length (body p) < 268435456 → Spells p (written p)
+pub Spells-written : (p : Packet) → IsInRange p → has_spelling p ≡ true → length (body p) ≤ MAX_REMAINING → Spells p (written p)
 Spells-written p fits is short = record {
   behind = body p;
   variable = SpellsBody-written p fits is;
@@ -162,7 +163,7 @@ Spells-written p fits is short = record {
 pub length-written : (p : Packet) → length (written p) ≡ 1 + length (remaining_length (length (body p))) + length (body p)
 length-written p = simp length-append (omega arith)
 
-pub Spells-short : (p : Packet) → IsInRange p → has_spelling p ≡ true → length (written p) ≤ 70000 → Spells p (written p)
+pub Spells-short : (p : Packet) → IsInRange p → has_spelling p ≡ true → length (written p) ≤ MAX_PACKET → Spells p (written p)
 Spells-short p fits is short = Spells-written p fits is (omega (arith, length-written p))
 
 -- the other way: what is spelled has such texts, identifiers and lists
@@ -172,7 +173,7 @@ is_id-positive id above = grind (arith, nat_tests)
 
 is_text-spelled : (text b : List ℕ) → SpellsText text b → is_text text ≡ true
 is_text-spelled text b s =
-    let below : length text < 65536 = omega (arith, s.number.is.value, s.number.is.high_fits, s.number.is.low_fits) in
+    let below : length text < 2 ^ 16 = omega (arith, s.number.is.value, s.number.is.high_fits, s.number.is.low_fits) in
     grind (arith, nat_tests)
 
 are_requests-spelled : (requests : List Request) (b : List ℕ) → SpellsRequests requests b → are_requests requests ≡ true

@@ -2,23 +2,24 @@
 use Rattle.std.proofs.Common.{◌≡◌, ℕ, zero, suc, ◌<◌, ◌≤◌, true, List, [], ◌∷◌, ◌++◌, length, take, drop, length-drop, length-append, Some, refl, ap, sym, subst, ◌∙◌, append_assoc, inl, inr, arith}
 use Rattle.std.proofs.lemmas.List.{take-append-drop, append-nil}
 use Rattle.std.proofs.Math.Seq.{drop-append_seam}
+use Rattle.mqtt_frames.specs.declared.limits.TheConstants.{MAX_PACKET}
 use Rattle.mqtt_frames.specs.declared.fault.StreamFault.{StreamFault}
 use Rattle.mqtt_frames.specs.declared.packet.Packet.{Packet}
-use Rattle.mqtt_frames.specs.declared.front.Front.{Front}
-use Rattle.mqtt_frames.specs.declared.front.Front.TheVariants as fronts
+use Rattle.mqtt_frames.specs.declared.wire.decode.Front.{Front}
+use Rattle.mqtt_frames.specs.declared.wire.decode.Front.TheVariants as fronts
 use Rattle.mqtt_frames.specs.Packets.{written}
 use Rattle.mqtt_frames.specs.Spellable.{has_spelling}
 use Rattle.mqtt_frames.specs.Grammar.{Spells, IsInRange}
-use Rattle.mqtt_frames.specs.Fronts.{front_at}
+use Rattle.mqtt_frames.specs.Fronts.{decode}
 use Rattle.mqtt_frames.specs.Streams.{End, Rest, Fault, Read, with_packets, read_all, Reading, Kept, Failed, settled_of}
 use Rattle.mqtt_frames.specs.Laws.{AreBytes}
 use Rattle.mqtt_frames.specs.StreamLaws.{SpellsStream, EndsAt, with_answer, story_of, joined, known_fault, Tells}
 use Rattle.mqtt_frames.proofs.Spelling.{Spells-short}
 use Rattle.mqtt_frames.proofs.SpelledIsRead.{front-read}
 use Rattle.mqtt_frames.proofs.ReadIsSpelled.{front-spelled, AreBytes-drop}
-use Rattle.mqtt_frames.proofs.StreamLemmas.{front_at-more, front_at-within, alone, read_all-waiting, read_all-faulty, read_all-whole, with_packets-both, WaitsAt, read_all-waits, continued_from, read_all-append}
+use Rattle.mqtt_frames.proofs.StreamLemmas.{decode-more, decode-within, alone, read_all-waiting, read_all-faulty, read_all-whole, with_packets-both, WaitsAt, read_all-waits, continued_from, read_all-append}
 
-pub written-read : (p : Packet) (more : List ℕ) → IsInRange p → has_spelling p ≡ true → length (written p) ≤ 70000 → front_at (written p ++ more) ≡ fronts.Whole p (length (written p))
+pub written-read : (p : Packet) (more : List ℕ) → IsInRange p → has_spelling p ≡ true → length (written p) ≤ MAX_PACKET → decode (written p ++ more) ≡ fronts.Whole p (length (written p))
 written-read p more fits is short = front-read p (written p) more (Spells-short p fits is short) short
 
 pub stream-read : (packets : List Packet) (bytes rest : List ℕ) → SpellsStream packets bytes rest → read_all bytes ≡ with_packets packets (read_all rest)
@@ -35,31 +36,31 @@ stream-read (p ∷ packets) bytes rest s =
 abbrev Stands : List ℕ → Read → Type 0
 Stands bytes read = (rest : List ℕ) × SpellsStream read.packets bytes rest × EndsAt rest read.ending
 
-stands-behind : (f : Front) (bytes : List ℕ) → AreBytes bytes → front_at bytes ≡ f → ((others : List ℕ) → length others < length bytes → AreBytes others → Stands others (read_all others)) → Stands bytes (read_all bytes)
+stands-behind : (f : Front) (bytes : List ℕ) → AreBytes bytes → decode bytes ≡ f → ((others : List ℕ) → length others < length bytes → AreBytes others → Stands others (read_all others)) → Stands bytes (read_all bytes)
 stands-behind fronts.Waiting bytes are is next = subst (Stands bytes) (sym (read_all-waiting bytes is)) (bytes, refl, (refl, is))
 stands-behind (fronts.Faulty fault) bytes are is next = subst (Stands bytes) (sym (read_all-faulty bytes fault is)) (bytes, refl, is)
 stands-behind (fronts.Whole packet size) bytes are is next =
-    let within = front_at-within bytes packet size is in
+    let within = decode-within bytes packet size is in
     let spelled = front-spelled packet bytes size are is in
     let others = drop size bytes in
     let behind = next others (omega (arith, length-drop size bytes)) (AreBytes-drop size bytes are) in
-    let short : length (take size bytes) ≤ 70000 = omega (arith, spelled.1, ap length (take-append-drop size bytes), length-append (take size bytes) (drop size bytes), length-drop size bytes) in
+    let short : length (take size bytes) ≤ MAX_PACKET = omega (arith, spelled.1, ap length (take-append-drop size bytes), length-append (take size bytes) (drop size bytes), length-drop size bytes) in
     subst (Stands bytes) (sym (read_all-whole bytes packet size is)) (behind.0, (take size bytes, others, spelled.0, short, sym (take-append-drop size bytes), behind.1), behind.2)
 
 stands-within : (most : ℕ) (bytes : List ℕ) → length bytes ≤ most → AreBytes bytes → Stands bytes (read_all bytes)
 stands-within zero [] fits are = ([], refl, (refl, refl))
 stands-within zero (b ∷ bytes) fits are = absurd (omega arith)
-stands-within (suc most) bytes fits are = stands-behind (front_at bytes) bytes are refl (λ others less those. stands-within most others (omega arith) those)
+stands-within (suc most) bytes fits are = stands-behind (decode bytes) bytes are refl (λ others less those. stands-within most others (omega arith) those)
 
 pub stream-stands : (bytes : List ℕ) → AreBytes bytes → (rest : List ℕ) × SpellsStream (read_all bytes).packets bytes rest × EndsAt rest (read_all bytes).ending
 stream-stands bytes are = stands-within (length bytes) bytes (omega arith) are
 
-pub no_packet : (bytes more b rest : List ℕ) (fault : StreamFault) (p : Packet) → front_at bytes ≡ fronts.Faulty fault → Spells p b → length b ≤ 70000 → bytes ++ more ≡ b ++ rest → ⊥
+pub no_packet : (bytes more b rest : List ℕ) (fault : StreamFault) (p : Packet) → decode bytes ≡ fronts.Faulty fault → Spells p b → length b ≤ MAX_PACKET → bytes ++ more ≡ b ++ rest → ⊥
 no_packet bytes more b rest fault p is s short same =
     let whole = front-read p b rest s short in
-    elim (front_at-more bytes more) [
+    elim (decode-more bytes more) [
       | inl waits ↦ (let e : fronts.Faulty fault ≡ fronts.Waiting = sym is ∙ waits in cc)
-      | inr equal ↦ (let e : fronts.Faulty fault ≡ fronts.Whole p (length b) = sym is ∙ sym equal ∙ ap front_at same ∙ whole in cc)
+      | inr equal ↦ (let e : fronts.Faulty fault ≡ fronts.Whole p (length b) = sym is ∙ sym equal ∙ ap decode same ∙ whole in cc)
     ]
 
 -- piece by piece
@@ -72,11 +73,11 @@ kept-silent : (fault : StreamFault) (pieces : List (List ℕ)) → (story_of (Ke
 kept-silent fault [] = refl
 kept-silent fault (piece ∷ pieces) = failed-silent pieces
 
-kept-known : (fault : StreamFault) (pieces : List (List ℕ)) → known_fault (story_of (Kept fault) pieces).told (story_of (Kept fault) pieces).state ≡ Some fault
+kept-known : (fault : StreamFault) (pieces : List (List ℕ)) → known_fault (story_of (Kept fault) pieces).reported (story_of (Kept fault) pieces).state ≡ Some fault
 kept-known fault [] = refl
 kept-known fault (piece ∷ pieces) = refl
 
-tells-next : (packets : List Packet) (e : End) (pieces : List (List ℕ)) → WaitsAt e → ((held : List ℕ) → front_at held ≡ fronts.Waiting → Tells (story_of (Reading held) pieces) (read_all (held ++ joined pieces)))
+tells-next : (packets : List Packet) (e : End) (pieces : List (List ℕ)) → WaitsAt e → ((held : List ℕ) → decode held ≡ fronts.Waiting → Tells (story_of (Reading held) pieces) (read_all (held ++ joined pieces)))
     → Tells (with_answer (settled_of packets e).0 (story_of (settled_of packets e).1 pieces)) (continued_from packets e (joined pieces))
 tells-next packets (Rest held) pieces waits next =
     let later = next held waits in
@@ -85,7 +86,7 @@ tells-next [] (Fault fault) pieces waits next = record { packets = failed-silent
 tells-next (p ∷ packets) (Fault fault) pieces waits next =
     record { packets = ap (λ (ps : List Packet). (p ∷ packets) ++ ps) (kept-silent fault pieces) ∙ append-nil (p ∷ packets); fault = kept-known fault pieces; held = tt }
 
-tells-from : (held : List ℕ) (pieces : List (List ℕ)) → front_at held ≡ fronts.Waiting → Tells (story_of (Reading held) pieces) (read_all (held ++ joined pieces))
+tells-from : (held : List ℕ) (pieces : List (List ℕ)) → decode held ≡ fronts.Waiting → Tells (story_of (Reading held) pieces) (read_all (held ++ joined pieces))
 tells-from held [] waits =
     let all : read_all (held ++ []) ≡ alone (Rest held) = ap read_all (append-nil held) ∙ read_all-waiting held waits in
     subst (Tells (story_of (Reading held) [])) (sym all) (record { packets = refl; fault = refl; held = refl })

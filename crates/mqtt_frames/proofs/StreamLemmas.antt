@@ -2,6 +2,7 @@
 use Rattle.std.proofs.Common.{◌≡◌, ℕ, zero, suc, ◌+◌, ◌-◌, ◌<◌, ◌≤◌, true, false, List, [], ◌∷◌, ◌++◌, length, take, drop, length-append, length-drop, nat_lt, if◌then◌else◌, ◌⊎◌, inl, inr, Result, Ok, Err, refl, ap, sym, subst, ◌∙◌, append_assoc, arith}
 use Rattle.std.proofs.lemmas.Bool.{cases_lt, lt-ltb, le-ltb}
 use Rattle.std.proofs.lemmas.List.{take-append-le, drop-append-le, take_all, drop_all}
+use Rattle.mqtt_frames.specs.declared.limits.TheConstants.{MAX_PACKET}
 use Rattle.mqtt_frames.specs.declared.fault.StreamFault.{StreamFault}
 use Rattle.mqtt_frames.specs.declared.fault.StreamFault.TheVariants as faults
 use Rattle.mqtt_frames.specs.declared.packet.Packet.{Packet}
@@ -10,14 +11,14 @@ use Rattle.mqtt_frames.specs.declared.header.Length.{Length}
 use Rattle.mqtt_frames.specs.declared.header.Length.TheVariants as lengths
 use Rattle.mqtt_frames.specs.declared.header.Header.{Header}
 use Rattle.mqtt_frames.specs.declared.header.Header.TheVariants as headers
-use Rattle.mqtt_frames.specs.declared.front.Front.{Front}
-use Rattle.mqtt_frames.specs.declared.front.Front.TheVariants as fronts
+use Rattle.mqtt_frames.specs.declared.wire.decode.Front.{Front}
+use Rattle.mqtt_frames.specs.declared.wire.decode.Front.TheVariants as fronts
 use Rattle.mqtt_frames.specs.declared.stream.Status.{Status}
 use Rattle.mqtt_frames.specs.declared.stream.Status.TheVariants as statuses
 use Rattle.mqtt_frames.specs.Kinds.{kind_of}
 use Rattle.mqtt_frames.specs.Reading.{Fails, body_of}
 use Rattle.mqtt_frames.specs.Headers.{behind_group, length_at, with_kind, with_length, header_at}
-use Rattle.mqtt_frames.specs.Fronts.{sized, behind_header, front_at, IsWithin}
+use Rattle.mqtt_frames.specs.Fronts.{sized, behind_header, decode, IsWithin}
 use Rattle.mqtt_frames.specs.Streams.{End, Rest, Fault, Read, with_packets, behind_front, read_within, read_all, State, Failed, settled, fed, state_of, IsReady}
 
 -- a Remaining Length that is told, or too long, is so whatever follows
@@ -26,8 +27,8 @@ length_at-more zero bytes more = inr refl
 length_at-more (suc most) [] more = inl refl
 length_at-more (suc most) (b ∷ bytes) more =
     elim (nat_lt b 128) as (λ t.
-    ((if t then lengths.Told b 1 else behind_group b (length_at most bytes)) ≡ lengths.Unfinished)
-    ⊎ ((if t then lengths.Told b 1 else behind_group b (length_at most (bytes ++ more))) ≡ (if t then lengths.Told b 1 else behind_group b (length_at most bytes)))) [
+    ((if t then lengths.Known b 1 else behind_group b (length_at most bytes)) ≡ lengths.Unfinished)
+    ⊎ ((if t then lengths.Known b 1 else behind_group b (length_at most (bytes ++ more))) ≡ (if t then lengths.Known b 1 else behind_group b (length_at most bytes)))) [
       | true ↦ inr refl
       | false ↦ elim (length_at-more most bytes more) [ inl waits ↦ inl (ap (behind_group b) waits) | inr same ↦ inr (ap (behind_group b) same) ]
     ]
@@ -46,18 +47,18 @@ body-more start rest bytes more fits =
 behind_header-more : (h : Header) (bytes more : List ℕ) → (behind_header h bytes ≡ fronts.Waiting) ⊎ (behind_header h (bytes ++ more) ≡ behind_header h bytes)
 behind_header-more headers.Unfinished bytes more = inl refl
 behind_header-more (headers.Faulty fault) bytes more = inr refl
-behind_header-more (headers.Told kind start rest) bytes more =
-    elim (cases_lt 70000 (start + rest)) [
-      | inl long ↦ inr (rw (lt-ltb 70000 (start + rest) long) refl)
+behind_header-more (headers.Known kind start rest) bytes more =
+    elim (cases_lt MAX_PACKET (start + rest)) [
+      | inl long ↦ inr (rw (lt-ltb MAX_PACKET (start + rest) long) refl)
       | inr short ↦ elim (cases_lt (length bytes) (start + rest)) [
-        | inl part ↦ inl (rw (le-ltb 70000 (start + rest) short, lt-ltb (length bytes) (start + rest) part) refl)
+        | inl part ↦ inl (rw (le-ltb MAX_PACKET (start + rest) short, lt-ltb (length bytes) (start + rest) part) refl)
         | inr whole ↦ (let above : start + rest ≤ length (bytes ++ more) = omega (arith, length-append bytes more) in
-            inr (rw (le-ltb 70000 (start + rest) short, le-ltb (length bytes) (start + rest) whole, le-ltb (length (bytes ++ more)) (start + rest) above) (ap (λ b. sized (start + rest) (body_of kind b)) (body-more start rest bytes more whole))))
+            inr (rw (le-ltb MAX_PACKET (start + rest) short, le-ltb (length bytes) (start + rest) whole, le-ltb (length (bytes ++ more)) (start + rest) above) (ap (λ b. sized (start + rest) (body_of kind b)) (body-more start rest bytes more whole))))
       ]
     ]
 
-pub front_at-more : (bytes more : List ℕ) → (front_at bytes ≡ fronts.Waiting) ⊎ (front_at (bytes ++ more) ≡ front_at bytes)
-front_at-more bytes more =
+pub decode-more : (bytes more : List ℕ) → (decode bytes ≡ fronts.Waiting) ⊎ (decode (bytes ++ more) ≡ decode bytes)
+decode-more bytes more =
     elim (header_at-more bytes more) [
       | inl waits ↦ inl (rw waits refl)
       | inr same ↦ elim (behind_header-more (header_at bytes) bytes more) [ inl waits ↦ inl waits | inr equal ↦ inr (rw same equal) ]
@@ -65,16 +66,16 @@ front_at-more bytes more =
 
 -- a packet takes a byte or more, and no more than there are
 
-with_kind-positive : (r : Result Kind StreamFault) (size value : ℕ) (kind : Kind) (start rest : ℕ) → with_kind r (1 + size) value ≡ headers.Told kind start rest → 0 < start
+with_kind-positive : (r : Result Kind StreamFault) (size value : ℕ) (kind : Kind) (start rest : ℕ) → with_kind r (1 + size) value ≡ headers.Known kind start rest → 0 < start
 with_kind-positive (Ok found) size value kind start rest is = let e : 1 + size ≡ start = cc in omega arith
 with_kind-positive (Err fault) size value kind start rest is = absurd cc
 
-with_length-positive : (first : ℕ) (l : Length) (kind : Kind) (start rest : ℕ) → with_length first l ≡ headers.Told kind start rest → 0 < start
+with_length-positive : (first : ℕ) (l : Length) (kind : Kind) (start rest : ℕ) → with_length first l ≡ headers.Known kind start rest → 0 < start
 with_length-positive first lengths.Unfinished kind start rest is = absurd cc
 with_length-positive first lengths.Overlong kind start rest is = absurd cc
-with_length-positive first (lengths.Told value size) kind start rest is = with_kind-positive (kind_of first) size value kind start rest is
+with_length-positive first (lengths.Known value size) kind start rest is = with_kind-positive (kind_of first) size value kind start rest is
 
-header_at-positive : (bytes : List ℕ) (kind : Kind) (start rest : ℕ) → header_at bytes ≡ headers.Told kind start rest → 0 < start
+header_at-positive : (bytes : List ℕ) (kind : Kind) (start rest : ℕ) → header_at bytes ≡ headers.Known kind start rest → 0 < start
 header_at-positive [] kind start rest is = absurd cc
 header_at-positive (first ∷ bytes) kind start rest is = with_length-positive first (length_at 4 bytes) kind start rest is
 
@@ -82,30 +83,30 @@ sized-within : (most size : ℕ) (r : Result Packet StreamFault) → 0 < size �
 sized-within most size (Ok packet) above below = (above, below)
 sized-within most size (Err fault) above below = tt
 
-behind_header-within : (h : Header) (bytes : List ℕ) → ((kind : Kind) (start rest : ℕ) → h ≡ headers.Told kind start rest → 0 < start) → IsWithin (length bytes) (behind_header h bytes)
+behind_header-within : (h : Header) (bytes : List ℕ) → ((kind : Kind) (start rest : ℕ) → h ≡ headers.Known kind start rest → 0 < start) → IsWithin (length bytes) (behind_header h bytes)
 behind_header-within headers.Unfinished bytes positive = tt
 behind_header-within (headers.Faulty fault) bytes positive = tt
-behind_header-within (headers.Told kind start rest) bytes positive =
-    elim (cases_lt 70000 (start + rest)) [
-      | inl long ↦ rw (lt-ltb 70000 (start + rest) long) tt
+behind_header-within (headers.Known kind start rest) bytes positive =
+    elim (cases_lt MAX_PACKET (start + rest)) [
+      | inl long ↦ rw (lt-ltb MAX_PACKET (start + rest) long) tt
       | inr short ↦ elim (cases_lt (length bytes) (start + rest)) [
-        | inl part ↦ rw (le-ltb 70000 (start + rest) short, lt-ltb (length bytes) (start + rest) part) tt
+        | inl part ↦ rw (le-ltb MAX_PACKET (start + rest) short, lt-ltb (length bytes) (start + rest) part) tt
         | inr whole ↦ (let above : 0 < start + rest = omega (arith, positive kind start rest refl) in
-            rw (le-ltb 70000 (start + rest) short, le-ltb (length bytes) (start + rest) whole) (sized-within (length bytes) (start + rest) (body_of kind (take rest (drop start bytes))) above whole))
+            rw (le-ltb MAX_PACKET (start + rest) short, le-ltb (length bytes) (start + rest) whole) (sized-within (length bytes) (start + rest) (body_of kind (take rest (drop start bytes))) above whole))
       ]
     ]
 
-pub front_at-within : (bytes : List ℕ) (packet : Packet) (size : ℕ) → front_at bytes ≡ fronts.Whole packet size → (0 < size) × (size ≤ length bytes)
-front_at-within bytes packet size is = subst (IsWithin (length bytes)) is (behind_header-within (header_at bytes) bytes (header_at-positive bytes))
+pub decode-within : (bytes : List ℕ) (packet : Packet) (size : ℕ) → decode bytes ≡ fronts.Whole packet size → (0 < size) × (size ≤ length bytes)
+decode-within bytes packet size is = subst (IsWithin (length bytes)) is (behind_header-within (header_at bytes) bytes (header_at-positive bytes))
 
 -- one packet after another
 
-behind_front-same : (f : Front) (bytes : List ℕ) (one other : List ℕ → Read) → front_at bytes ≡ f → ((rest : List ℕ) → length rest < length bytes → one rest ≡ other rest)
+behind_front-same : (f : Front) (bytes : List ℕ) (one other : List ℕ → Read) → decode bytes ≡ f → ((rest : List ℕ) → length rest < length bytes → one rest ≡ other rest)
     → behind_front f bytes one ≡ behind_front f bytes other
 behind_front-same fronts.Waiting bytes one other is same = refl
 behind_front-same (fronts.Faulty fault) bytes one other is same = refl
 behind_front-same (fronts.Whole packet size) bytes one other is same =
-    let within = front_at-within bytes packet size is in
+    let within = decode-within bytes packet size is in
     ap (with_packets (packet ∷ [])) (same (drop size bytes) (omega (arith, length-drop size bytes)))
 
 -- room for more packets than there are changes nothing
@@ -115,23 +116,23 @@ read_within-room zero (suc least) bytes fits below = absurd (omega arith)
 read_within-room (suc most) zero [] fits below = refl
 read_within-room (suc most) zero (b ∷ bytes) fits below = absurd (omega arith)
 read_within-room (suc most) (suc least) bytes fits below =
-    behind_front-same (front_at bytes) bytes (read_within most) (read_within least) refl (λ rest less. read_within-room most least rest (omega arith) (omega arith))
+    behind_front-same (decode bytes) bytes (read_within most) (read_within least) refl (λ rest less. read_within-room most least rest (omega arith) (omega arith))
 
 abbrev pub alone : End → Read
 alone ending = record { packets = []; ending = ending }
 
-pub read_all-waiting : (bytes : List ℕ) → front_at bytes ≡ fronts.Waiting → read_all bytes ≡ alone (Rest bytes)
+pub read_all-waiting : (bytes : List ℕ) → decode bytes ≡ fronts.Waiting → read_all bytes ≡ alone (Rest bytes)
 read_all-waiting [] is = refl
 read_all-waiting (b ∷ bytes) is = rw is refl
 
-pub read_all-faulty : (bytes : List ℕ) (fault : StreamFault) → front_at bytes ≡ fronts.Faulty fault → read_all bytes ≡ alone (Fault fault)
+pub read_all-faulty : (bytes : List ℕ) (fault : StreamFault) → decode bytes ≡ fronts.Faulty fault → read_all bytes ≡ alone (Fault fault)
 read_all-faulty [] fault is = absurd cc
 read_all-faulty (b ∷ bytes) fault is = rw is refl
 
-pub read_all-whole : (bytes : List ℕ) (packet : Packet) (size : ℕ) → front_at bytes ≡ fronts.Whole packet size → read_all bytes ≡ with_packets (packet ∷ []) (read_all (drop size bytes))
+pub read_all-whole : (bytes : List ℕ) (packet : Packet) (size : ℕ) → decode bytes ≡ fronts.Whole packet size → read_all bytes ≡ with_packets (packet ∷ []) (read_all (drop size bytes))
 read_all-whole [] packet size is = absurd cc
 read_all-whole (b ∷ bytes) packet size is =
-    let within = front_at-within (b ∷ bytes) packet size is in
+    let within = decode-within (b ∷ bytes) packet size is in
     rw is (ap (with_packets (packet ∷ [])) (read_within-room (length bytes) (length (drop size (b ∷ bytes))) (drop size (b ∷ bytes)) (omega arith) (omega (arith, length-drop size (b ∷ bytes)))))
 
 pub with_packets-both : (first second : List Packet) (read : Read) → with_packets first (with_packets second read) ≡ with_packets (first ++ second) read
@@ -140,20 +141,20 @@ with_packets-both first second read = ap (λ (packets : List Packet). record { p
 -- what is left waits for more
 
 abbrev pub WaitsAt : End → Type 0
-WaitsAt (Rest bytes) = front_at bytes ≡ fronts.Waiting
+WaitsAt (Rest bytes) = decode bytes ≡ fronts.Waiting
 WaitsAt (Fault fault) = Unit {0}
 
-waits-behind : (f : Front) (bytes : List ℕ) → front_at bytes ≡ f → ((rest : List ℕ) → length rest < length bytes → WaitsAt (read_all rest).ending) → WaitsAt (read_all bytes).ending
+waits-behind : (f : Front) (bytes : List ℕ) → decode bytes ≡ f → ((rest : List ℕ) → length rest < length bytes → WaitsAt (read_all rest).ending) → WaitsAt (read_all bytes).ending
 waits-behind fronts.Waiting bytes is others = subst (λ (r : Read). WaitsAt r.ending) (sym (read_all-waiting bytes is)) is
 waits-behind (fronts.Faulty fault) bytes is others = subst (λ (r : Read). WaitsAt r.ending) (sym (read_all-faulty bytes fault is)) tt
 waits-behind (fronts.Whole packet size) bytes is others =
-    let within = front_at-within bytes packet size is in
+    let within = decode-within bytes packet size is in
     subst (λ (r : Read). WaitsAt r.ending) (sym (read_all-whole bytes packet size is)) (others (drop size bytes) (omega (arith, length-drop size bytes)))
 
 read_all-waits-within : (most : ℕ) (bytes : List ℕ) → length bytes ≤ most → WaitsAt (read_all bytes).ending
 read_all-waits-within zero [] fits = refl
 read_all-waits-within zero (b ∷ bytes) fits = absurd (omega arith)
-read_all-waits-within (suc most) bytes fits = waits-behind (front_at bytes) bytes refl (λ rest less. read_all-waits-within most rest (omega arith))
+read_all-waits-within (suc most) bytes fits = waits-behind (decode bytes) bytes refl (λ rest less. read_all-waits-within most rest (omega arith))
 
 pub read_all-waits : (bytes : List ℕ) → WaitsAt (read_all bytes).ending
 read_all-waits bytes = read_all-waits-within (length bytes) bytes (omega arith)
@@ -171,18 +172,18 @@ continued-both : (packets others : List Packet) (e : End) (more : List ℕ) → 
 continued-both packets others (Rest bytes) more = sym (with_packets-both packets others (read_all (bytes ++ more)))
 continued-both packets others (Fault fault) more = refl
 
-append-behind : (f : Front) (bytes more : List ℕ) → front_at bytes ≡ f → ((rest : List ℕ) → length rest < length bytes → read_all (rest ++ more) ≡ continued (read_all rest) more)
+append-behind : (f : Front) (bytes more : List ℕ) → decode bytes ≡ f → ((rest : List ℕ) → length rest < length bytes → read_all (rest ++ more) ≡ continued (read_all rest) more)
     → read_all (bytes ++ more) ≡ continued (read_all bytes) more
 append-behind fronts.Waiting bytes more is others = sym (ap (λ (r : Read). continued r more) (read_all-waiting bytes is))
 append-behind (fronts.Faulty fault) bytes more is others =
-    elim (front_at-more bytes more) [
+    elim (decode-more bytes more) [
       | inl waits ↦ absurd (let e : fronts.Faulty fault ≡ fronts.Waiting = sym is ∙ waits in cc)
       | inr same ↦ read_all-faulty (bytes ++ more) fault (same ∙ is) ∙ sym (ap (λ (r : Read). continued r more) (read_all-faulty bytes fault is))
     ]
 append-behind (fronts.Whole packet size) bytes more is others =
-    elim (front_at-more bytes more) [
+    elim (decode-more bytes more) [
       | inl waits ↦ absurd (let e : fronts.Whole packet size ≡ fronts.Waiting = sym is ∙ waits in cc)
-      | inr same ↦ (let within = front_at-within bytes packet size is in
+      | inr same ↦ (let within = decode-within bytes packet size is in
           let rest = drop size bytes in
           read_all-whole (bytes ++ more) packet size (same ∙ is)
           ∙ ap (λ (b : List ℕ). with_packets (packet ∷ []) (read_all b)) (drop-append-le size bytes more within.1)
@@ -194,7 +195,7 @@ append-behind (fronts.Whole packet size) bytes more is others =
 read_all-append-within : (most : ℕ) (bytes more : List ℕ) → length bytes ≤ most → read_all (bytes ++ more) ≡ continued (read_all bytes) more
 read_all-append-within zero [] more fits = refl
 read_all-append-within zero (b ∷ bytes) more fits = absurd (omega arith)
-read_all-append-within (suc most) bytes more fits = append-behind (front_at bytes) bytes more refl (λ rest less. read_all-append-within most rest more (omega arith))
+read_all-append-within (suc most) bytes more fits = append-behind (decode bytes) bytes more refl (λ rest less. read_all-append-within most rest more (omega arith))
 
 pub read_all-append : (bytes more : List ℕ) → read_all (bytes ++ more) ≡ continued (read_all bytes) more
 read_all-append bytes more = read_all-append-within (length bytes) bytes more (omega arith)
@@ -207,37 +208,37 @@ not_sized size (Err fault) is = cc
 
 -- it does not make the packet whole
 pub record IsPart (bytes : List ℕ) (kind : Kind) (start rest : ℕ) : Type 0 where
-  pub told : header_at bytes ≡ headers.Told kind start rest
-  pub most : start + rest ≤ 70000
+  pub told : header_at bytes ≡ headers.Known kind start rest
+  pub most : start + rest ≤ MAX_PACKET
   pub part : length bytes < start + rest
 
-pub waiting-told : (bytes : List ℕ) (kind : Kind) (start rest : ℕ) → front_at bytes ≡ fronts.Waiting → header_at bytes ≡ headers.Told kind start rest → IsPart bytes kind start rest
+pub waiting-told : (bytes : List ℕ) (kind : Kind) (start rest : ℕ) → decode bytes ≡ fronts.Waiting → header_at bytes ≡ headers.Known kind start rest → IsPart bytes kind start rest
 waiting-told bytes kind start rest waits told =
-    let is : behind_header (headers.Told kind start rest) bytes ≡ fronts.Waiting = rw told at waits in
-    elim (cases_lt 70000 (start + rest)) [
-      | inl long ↦ absurd (let e : fronts.Faulty _ ≡ fronts.Waiting = rw (lt-ltb 70000 (start + rest) long) at is in cc)
+    let is : behind_header (headers.Known kind start rest) bytes ≡ fronts.Waiting = rw told at waits in
+    elim (cases_lt MAX_PACKET (start + rest)) [
+      | inl long ↦ absurd (let e : fronts.Faulty _ ≡ fronts.Waiting = rw (lt-ltb MAX_PACKET (start + rest) long) at is in cc)
       | inr short ↦ elim (cases_lt (length bytes) (start + rest)) [
         | inl part ↦ record { told = told; most = short; part = part }
-        | inr whole ↦ absurd (not_sized (start + rest) (body_of kind (take rest (drop start bytes))) (rw (le-ltb 70000 (start + rest) short, le-ltb (length bytes) (start + rest) whole) at is))
+        | inr whole ↦ absurd (not_sized (start + rest) (body_of kind (take rest (drop start bytes))) (rw (le-ltb MAX_PACKET (start + rest) short, le-ltb (length bytes) (start + rest) whole) at is))
       ]
     ]
 
-told-more : (bytes more : List ℕ) (kind : Kind) (start rest : ℕ) → header_at bytes ≡ headers.Told kind start rest → header_at (bytes ++ more) ≡ headers.Told kind start rest
+told-more : (bytes more : List ℕ) (kind : Kind) (start rest : ℕ) → header_at bytes ≡ headers.Known kind start rest → header_at (bytes ++ more) ≡ headers.Known kind start rest
 told-more bytes more kind start rest told =
     elim (header_at-more bytes more) [
-      | inl waits ↦ absurd (let e : headers.Told kind start rest ≡ headers.Unfinished = sym told ∙ waits in cc)
+      | inl waits ↦ absurd (let e : headers.Known kind start rest ≡ headers.Unfinished = sym told ∙ waits in cc)
       | inr same ↦ same ∙ told
     ]
 
 pub still_waits : (bytes more : List ℕ) (kind : Kind) (start rest : ℕ) → IsPart bytes kind start rest → length (bytes ++ more) < start + rest
-    → (front_at (bytes ++ more) ≡ fronts.Waiting) × (header_at (bytes ++ more) ≡ headers.Told kind start rest)
+    → (decode (bytes ++ more) ≡ fronts.Waiting) × (header_at (bytes ++ more) ≡ headers.Known kind start rest)
 still_waits bytes more kind start rest p short =
     let told = told-more bytes more kind start rest p.told in
-    (rw (told, le-ltb 70000 (start + rest) p.most, lt-ltb (length (bytes ++ more)) (start + rest) short) refl, told)
+    (rw (told, le-ltb MAX_PACKET (start + rest) p.most, lt-ltb (length (bytes ++ more)) (start + rest) short) refl, told)
 
 -- it makes the packet whole
 pub is_whole : (held part behind : List ℕ) (kind : Kind) (start rest : ℕ) → IsPart held kind start rest → length (held ++ part) ≡ start + rest
-    → front_at (held ++ (part ++ behind)) ≡ sized (start + rest) (body_of kind (drop start (held ++ part)))
+    → decode (held ++ (part ++ behind)) ≡ sized (start + rest) (body_of kind (drop start (held ++ part)))
 is_whole held part behind kind start rest p size =
     let told = told-more held (part ++ behind) kind start rest p.told in
     let enough : start + rest ≤ length (held ++ (part ++ behind)) = omega (arith, length-append held (part ++ behind), length-append part behind, length-append held part) in
@@ -245,12 +246,12 @@ is_whole held part behind kind start rest p size =
     ap (λ (b : List ℕ). take rest (drop start b)) (sym (append_assoc held part behind))
     ∙ body-more start rest (held ++ part) behind (omega arith)
     ∙ take_all rest (drop start (held ++ part)) (omega (arith, length-drop start (held ++ part))) in
-    rw (told, le-ltb 70000 (start + rest) p.most, le-ltb (length (held ++ (part ++ behind))) (start + rest) enough) (ap (λ b. sized (start + rest) (body_of kind b)) body)
+    rw (told, le-ltb MAX_PACKET (start + rest) p.most, le-ltb (length (held ++ (part ++ behind))) (start + rest) enough) (ap (λ b. sized (start + rest) (body_of kind b)) body)
 
 pub read_all-completed : (held part behind : List ℕ) (kind : Kind) (start rest : ℕ) (packet : Packet) → IsPart held kind start rest → length (held ++ part) ≡ start + rest
     → body_of kind (drop start (held ++ part)) ≡ Ok packet → read_all (held ++ (part ++ behind)) ≡ with_packets (packet ∷ []) (read_all behind)
 read_all-completed held part behind kind start rest packet p size is =
-    let front : front_at (held ++ (part ++ behind)) ≡ fronts.Whole packet (start + rest) = is_whole held part behind kind start rest p size ∙ ap (sized (start + rest)) is in
+    let front : decode (held ++ (part ++ behind)) ≡ fronts.Whole packet (start + rest) = is_whole held part behind kind start rest p size ∙ ap (sized (start + rest)) is in
     let left : drop (start + rest) (held ++ (part ++ behind)) ≡ behind =
     ap (drop (start + rest)) (sym (append_assoc held part behind)) ∙ drop-append-le (start + rest) (held ++ part) behind (omega arith)
     ∙ ap (λ (b : List ℕ). b ++ behind) (drop_all (start + rest) (held ++ part) (omega arith)) in
@@ -266,12 +267,12 @@ read_all-broken held part behind kind start rest fault p size is =
 pub waits_after : (packets all : List Packet) (bytes : List ℕ) (e : End) → with_packets packets (read_all bytes) ≡ record { packets = all; ending = e } → WaitsAt e
 waits_after packets all bytes e is = subst WaitsAt (ap (λ (r : Read). r.ending) is) (read_all-waits bytes)
 
-pub ready_part : (s : Status) (held : List ℕ) (h : Header) (kind : Kind) (start rest : ℕ) → IsReady s held h → s ≡ statuses.Reading → h ≡ headers.Told kind start rest → IsPart held kind start rest
+pub ready_part : (s : Status) (held : List ℕ) (h : Header) (kind : Kind) (start rest : ℕ) → IsReady s held h → s ≡ statuses.Reading → h ≡ headers.Known kind start rest → IsPart held kind start rest
 ready_part statuses.Reading held h kind start rest ready reads told = waiting-told held kind start rest ready.0 (ready.1 ∙ told)
 ready_part (statuses.Kept fault) held h kind start rest ready reads told = absurd cc
 ready_part statuses.Failed held h kind start rest ready reads told = absurd cc
 
-pub ready_from : (s : Status) (held : List ℕ) (h : Header) → s ≡ statuses.Reading → front_at held ≡ fronts.Waiting → header_at held ≡ h → IsReady s held h
+pub ready_from : (s : Status) (held : List ℕ) (h : Header) → s ≡ statuses.Reading → decode held ≡ fronts.Waiting → header_at held ≡ h → IsReady s held h
 ready_from statuses.Reading held h reads waits told = (waits, told)
 ready_from (statuses.Kept fault) held h reads waits told = tt
 ready_from statuses.Failed held h reads waits told = tt

@@ -1,13 +1,14 @@
 -- The packet or the fault at the front of bytes (MQTT 3.1.1, sections 2 and 3).
 use Rattle.std.specs.Prelude.{ℕ, ◌+◌, ◌<◌, ◌≤◌, nat_lt, List, length, take, drop, if◌then◌else◌, Ok, Err}
 use Rattle.std.specs.declared.result.Result.{Result}
+use Rattle.mqtt_frames.specs.declared.limits.TheConstants.{MAX_PACKET}
 use Rattle.mqtt_frames.specs.declared.fault.StreamFault.{StreamFault}
 use Rattle.mqtt_frames.specs.declared.fault.StreamFault.TheVariants.{TooLong}
 use Rattle.mqtt_frames.specs.declared.packet.Packet.{Packet}
 use Rattle.mqtt_frames.specs.declared.header.Header.{Header}
 use Rattle.mqtt_frames.specs.declared.header.Header.TheVariants as header
-use Rattle.mqtt_frames.specs.declared.front.Front.{Front}
-use Rattle.mqtt_frames.specs.declared.front.Front.TheVariants as front
+use Rattle.mqtt_frames.specs.declared.wire.decode.Front.{Front}
+use Rattle.mqtt_frames.specs.declared.wire.decode.Front.TheVariants as front
 use Rattle.mqtt_frames.specs.Reading.{body_of}
 use Rattle.mqtt_frames.specs.Headers.{header_at}
 
@@ -16,17 +17,17 @@ abbrev pub sized : ℕ → Result Packet StreamFault → Front
 sized size (Ok packet) = front.Whole packet size
 sized size (Err fault) = front.Faulty fault
 
--- a packet has at most 70,000 bytes, of which its header tells; all other faults are told with the packet's last byte
+-- a packet has at most MAX_PACKET bytes, of which its header tells; all other faults are reported with the packet's last byte
 abbrev pub behind_header : Header → List ℕ → Front
 behind_header header.Unfinished bytes = front.Waiting
 behind_header (header.Faulty fault) bytes = front.Faulty fault
-behind_header (header.Told kind start rest) bytes =
-    if nat_lt 70000 (start + rest)
+behind_header (header.Known kind start rest) bytes =
+    if nat_lt MAX_PACKET (start + rest)
     then front.Faulty TooLong
     else (if nat_lt (length bytes) (start + rest) then front.Waiting else sized (start + rest) (body_of kind (take rest (drop start bytes))))
 
-abbrev pub front_at : List ℕ → Front
-front_at bytes = behind_header (header_at bytes) bytes
+abbrev pub decode : List ℕ → Front
+decode bytes = behind_header (header_at bytes) bytes
 
 -- a packet has one byte at least, and no more than there are
 abbrev pub IsWithin : ℕ → Front → Type 0

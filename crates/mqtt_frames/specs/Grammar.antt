@@ -1,6 +1,7 @@
 -- Which bytes spell which packet (MQTT 3.1.1, sections 1.5, 2 and 3), apart from how they are read or written.
 use Rattle.std.specs.Prelude.{◌≡◌, ◌≢◌, ℕ, ◌+◌, ◌*◌, ◌^◌, ◌<◌, ◌≤◌, ◌⊎◌, List, [], ◌∷◌, ◌++◌, length, Some, None}
 use Rattle.std.specs.declared.option.Option.{Option}
+use Rattle.mqtt_frames.specs.declared.limits.TheConstants.{MAX_PACKET}
 use Rattle.mqtt_frames.specs.declared.packet.Connect.{Connect}
 use Rattle.mqtt_frames.specs.declared.packet.Publish.{Publish}
 use Rattle.mqtt_frames.specs.declared.packet.Request.{Request}
@@ -110,7 +111,7 @@ pub record Spells (p : Packet) (b : List ℕ) : Type 0 where
 
 -- the packet has no spelling, though its bytes would not be too many
 pub record HasNoSpelling (p : Packet) : Type 0 where
-  pub short : length (written p) ≤ 70000
+  pub short : length (written p) ≤ MAX_PACKET
   pub none : (b : List ℕ) → ¬ Spells p b
 
 -- the packet's numbers are numbers of two bytes

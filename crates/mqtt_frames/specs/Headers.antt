@@ -1,6 +1,7 @@
 -- The fixed header at the front of bytes (MQTT 3.1.1, 2.2): first byte and Remaining Length.
 use Rattle.std.specs.Prelude.{ℕ, zero, suc, ◌+◌, ◌-◌, ◌*◌, ◌<◌, ◌≤◌, nat_lt, List, [], ◌∷◌, if◌then◌else◌, Ok, Err}
 use Rattle.std.specs.declared.result.Result.{Result}
+use Rattle.mqtt_frames.specs.declared.limits.TheConstants.{MAX_REMAINING}
 use Rattle.mqtt_frames.specs.declared.fault.StreamFault.{StreamFault}
 use Rattle.mqtt_frames.specs.declared.fault.StreamFault.TheVariants.{Malformed}
 use Rattle.mqtt_frames.specs.declared.kind.Kind.{Kind}
@@ -14,22 +15,22 @@ use Rattle.mqtt_frames.specs.Kinds.{kind_of}
 abbrev pub behind_group : ℕ → Length → Length
 behind_group byte lengths.Unfinished = lengths.Unfinished
 behind_group byte lengths.Overlong = lengths.Overlong
-behind_group byte (lengths.Told value size) = lengths.Told (byte - 128 + 128 * value) (size + 1)
+behind_group byte (lengths.Known value size) = lengths.Known (byte - 128 + 128 * value) (size + 1)
 
 -- groups of seven bits, the low ones first, of which there are at most so many (2.2.3)
 abbrev pub length_at : ℕ → List ℕ → Length
 length_at zero bytes = lengths.Overlong
 length_at (suc most) [] = lengths.Unfinished
-length_at (suc most) (byte ∷ bytes) = if nat_lt byte 128 then lengths.Told byte 1 else behind_group byte (length_at most bytes)
+length_at (suc most) (byte ∷ bytes) = if nat_lt byte 128 then lengths.Known byte 1 else behind_group byte (length_at most bytes)
 
 abbrev pub with_kind : Result Kind StreamFault → ℕ → ℕ → Header
-with_kind (Ok kind) size value = header.Told kind size value
+with_kind (Ok kind) size value = header.Known kind size value
 with_kind (Err fault) size value = header.Faulty fault
 
 abbrev pub with_length : ℕ → Length → Header
 with_length first lengths.Unfinished = header.Unfinished
 with_length first lengths.Overlong = header.Faulty Malformed
-with_length first (lengths.Told value size) = with_kind (kind_of first) (1 + size) value
+with_length first (lengths.Known value size) = with_kind (kind_of first) (1 + size) value
 
 -- the first byte, and a Remaining Length of at most four bytes
 abbrev pub header_at : List ℕ → Header
@@ -38,10 +39,10 @@ header_at (first ∷ rest) = with_length first (length_at 4 rest)
 
 -- the value of four groups is less than 2 ^ 28
 abbrev pub IsSmall : Length → Type 0
-IsSmall (lengths.Told value size) = (value < 268435456) × (0 < size) × (size ≤ 4)
+IsSmall (lengths.Known value size) = (value ≤ MAX_REMAINING) × (0 < size) × (size ≤ 4)
 IsSmall _ = Unit {0}
 
 -- a header has two to five bytes
 abbrev pub IsBrief : Header → Type 0
-IsBrief (header.Told kind size value) = (value < 268435456) × (1 < size) × (size ≤ 5)
+IsBrief (header.Known kind size value) = (value ≤ MAX_REMAINING) × (1 < size) × (size ≤ 5)
 IsBrief _ = Unit {0}

@@ -1,8 +1,8 @@
 -- The bytes of a packet with the shortest Remaining Length (MQTT 3.1.1, sections 2 and 3).
 use Rattle.std.specs.Prelude.{ℕ, ◌+◌, ◌/◌, ◌%◌, Bool, List, [], ◌∷◌, ◌++◌, length, if◌then◌else◌, Some, None}
 use Rattle.std.specs.declared.option.Option.{Option}
-use Rattle.mqtt_frames.specs.declared.packet.Qos.{Qos}
-use Rattle.mqtt_frames.specs.declared.packet.Qos.TheVariants.{AtMostOnce, AtLeastOnce, ExactlyOnce}
+use Rattle.mqtt_frames.specs.declared.packet.RequestedQos.{RequestedQos}
+use Rattle.mqtt_frames.specs.declared.packet.RequestedQos.TheVariants.{AtMostOnce, AtLeastOnce, ExactlyOnce}
 use Rattle.mqtt_frames.specs.declared.packet.Publish.{Publish}
 use Rattle.mqtt_frames.specs.declared.packet.Request.{Request}
 use Rattle.mqtt_frames.specs.declared.packet.SubscribeCode.{SubscribeCode}
@@ -56,7 +56,7 @@ id_bytes None = []
 id_bytes (Some id) = number_bytes id
 
 -- the byte of a level (3.8.3.1)
-abbrev pub qos_byte : Qos → ℕ
+abbrev pub qos_byte : RequestedQos → ℕ
 qos_byte AtMostOnce = 0
 qos_byte AtLeastOnce = 1
 qos_byte ExactlyOnce = 2

@@ -5,8 +5,8 @@ use Rattle.std.specs.declared.result.Result.{Result}
 use Rattle.std.specs.Str.{bytes_eq}
 use Rattle.mqtt_frames.specs.declared.fault.StreamFault.{StreamFault}
 use Rattle.mqtt_frames.specs.declared.fault.StreamFault.TheVariants.{Malformed, NotSupported, Memory}
-use Rattle.mqtt_frames.specs.declared.packet.Qos.{Qos}
-use Rattle.mqtt_frames.specs.declared.packet.Qos.TheVariants.{AtMostOnce, AtLeastOnce, ExactlyOnce}
+use Rattle.mqtt_frames.specs.declared.packet.RequestedQos.{RequestedQos}
+use Rattle.mqtt_frames.specs.declared.packet.RequestedQos.TheVariants.{AtMostOnce, AtLeastOnce, ExactlyOnce}
 use Rattle.mqtt_frames.specs.declared.packet.Request.{Request}
 use Rattle.mqtt_frames.specs.declared.packet.SubscribeCode.{SubscribeCode}
 use Rattle.mqtt_frames.specs.declared.packet.SubscribeCode.TheVariants.{Granted, Refused}
@@ -105,7 +105,7 @@ whole_id body = do
   at_end id.0 id.1
 
 -- a level (3.8.3.1)
-abbrev pub qos_of : ℕ → Result Qos StreamFault
+abbrev pub qos_of : ℕ → Result RequestedQos StreamFault
 qos_of byte = if byte == 0 then Ok AtMostOnce else (if byte == 1 then Ok AtLeastOnce else (if byte == 2 then Ok ExactlyOnce else Err Malformed))
 
 -- the level behind a topic filter

@@ -1,13 +1,13 @@
 -- Which packets have a spelling (MQTT 3.1.1, 1.5.3, 2.3.1, 3.8.3, 3.9.3 and 3.10.3).
-use Rattle.std.specs.Prelude.{ℕ, ◌==◌, nat_lt, Bool, true, not, ◌&&◌, List, [], ◌∷◌, length, Some, None}
+use Rattle.std.specs.Prelude.{ℕ, ◌^◌, ◌==◌, nat_lt, Bool, true, not, ◌&&◌, List, [], ◌∷◌, length, Some, None}
 use Rattle.std.specs.declared.option.Option.{Option}
 use Rattle.mqtt_frames.specs.declared.packet.Request.{Request}
 use Rattle.mqtt_frames.specs.declared.packet.Packet.{Packet}
 use Rattle.mqtt_frames.specs.declared.packet.Packet.TheVariants as variants
 
--- a text has at most 65,535 bytes
+-- the length of a text is a number of two bytes
 abbrev pub is_text : List ℕ → Bool
-is_text text = nat_lt (length text) 65536
+is_text text = nat_lt (length text) (2 ^ 16)
 
 -- a packet identifier is not 0
 abbrev pub is_id : ℕ → Bool

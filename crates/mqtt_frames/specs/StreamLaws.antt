@@ -2,18 +2,19 @@
 use Rattle.std.specs.Prelude.{◌≡◌, ℕ, ◌≤◌, List, [], ◌∷◌, ◌++◌, length, Some, None, Ok, Err}
 use Rattle.std.specs.declared.option.Option.{Option}
 use Rattle.std.specs.declared.result.Result.{Result}
+use Rattle.mqtt_frames.specs.declared.limits.TheConstants.{MAX_PACKET}
 use Rattle.mqtt_frames.specs.declared.fault.StreamFault.{StreamFault}
 use Rattle.mqtt_frames.specs.declared.packet.Packet.{Packet}
-use Rattle.mqtt_frames.specs.declared.front.Front.TheVariants as fronts
+use Rattle.mqtt_frames.specs.declared.wire.decode.Front.TheVariants as fronts
 use Rattle.mqtt_frames.specs.Grammar.{Spells}
-use Rattle.mqtt_frames.specs.Fronts.{front_at}
+use Rattle.mqtt_frames.specs.Fronts.{decode}
 use Rattle.mqtt_frames.specs.Streams.{End, Rest, Fault, Read, with_packets, read_all, State, Reading, Kept, fed}
 use Rattle.mqtt_frames.specs.Laws.{AreBytes}
 
--- the bytes begin with spellings of the packets, in order, each of at most 70,000 bytes, and the rest follows
+-- the bytes begin with spellings of the packets, in order, each of at most MAX_PACKET bytes, and the rest follows
 abbrev pub SpellsStream : List Packet → List ℕ → List ℕ → Type 0
 SpellsStream [] bytes rest = bytes ≡ rest
-SpellsStream (p ∷ packets) bytes rest = (b : List ℕ) × (others : List ℕ) × Spells p b × (length b ≤ 70000) × (bytes ≡ b ++ others) × SpellsStream packets others rest
+SpellsStream (p ∷ packets) bytes rest = (b : List ℕ) × (others : List ℕ) × Spells p b × (length b ≤ MAX_PACKET) × (bytes ≡ b ++ others) × SpellsStream packets others rest
 
 -- packets that are spelled are read, and behind them what follows
 abbrev pub ReadsTheStream : Type 0
@@ -21,31 +22,31 @@ ReadsTheStream = (packets : List Packet) (bytes rest : List ℕ) → SpellsStrea
 
 -- the rest is an unfinished packet, or begins with that fault
 abbrev pub EndsAt : List ℕ → End → Type 0
-EndsAt rest (Rest bytes) = (bytes ≡ rest) × (front_at rest ≡ fronts.Waiting)
-EndsAt rest (Fault fault) = front_at rest ≡ fronts.Faulty fault
+EndsAt rest (Rest bytes) = (bytes ≡ rest) × (decode rest ≡ fronts.Waiting)
+EndsAt rest (Fault fault) = decode rest ≡ fronts.Faulty fault
 
 -- the packets that are read are spelled, one behind the other, up to an unfinished packet or a fault
 abbrev pub ReadsWhatStands : Type 0
 ReadsWhatStands = (bytes : List ℕ) → AreBytes bytes → (rest : List ℕ) × SpellsStream (read_all bytes).packets bytes rest × EndsAt rest (read_all bytes).ending
 
--- where a fault is told no packet of at most 70,000 bytes stands, whatever follows
+-- where a fault is reported no packet of at most MAX_PACKET bytes stands, whatever follows
 abbrev pub FaultIsNoPacket : Type 0
-FaultIsNoPacket = (bytes more b rest : List ℕ) (fault : StreamFault) (p : Packet) → front_at bytes ≡ fronts.Faulty fault → Spells p b → length b ≤ 70000 → bytes ++ more ≡ b ++ rest → ⊥
+FaultIsNoPacket = (bytes more b rest : List ℕ) (fault : StreamFault) (p : Packet) → decode bytes ≡ fronts.Faulty fault → Spells p b → length b ≤ MAX_PACKET → bytes ++ more ≡ b ++ rest → ⊥
 
--- what a stream answered in all, the first fault that it told, and its state then
+-- what a stream answered in all, the first fault that it reported, and its state then
 pub record Story : Type 0 where
   pub packets : List Packet
-  pub told : Option StreamFault
+  pub reported : Option StreamFault
   pub state : State
 
 -- an answer before the others
 abbrev pub with_answer : Result (List Packet) StreamFault → Story → Story
-with_answer (Ok packets) later = record { packets = packets ++ later.packets; told = later.told; state = later.state }
-with_answer (Err fault) later = record { packets = later.packets; told = Some fault; state = later.state }
+with_answer (Ok packets) later = record { packets = packets ++ later.packets; reported = later.reported; state = later.state }
+with_answer (Err fault) later = record { packets = later.packets; reported = Some fault; state = later.state }
 
 -- piece by piece, from a state on
 abbrev pub story_of : State → List (List ℕ) → Story
-story_of state [] = record { packets = []; told = None; state = state }
+story_of state [] = record { packets = []; reported = None; state = state }
 story_of state (piece ∷ pieces) = with_answer (fed state piece).0 (story_of (fed state piece).1 pieces)
 
 -- the bytes of all pieces
@@ -53,7 +54,7 @@ abbrev pub joined : List (List ℕ) → List ℕ
 joined [] = []
 joined (piece ∷ pieces) = piece ++ joined pieces
 
--- the fault that was told, or is kept
+-- the fault that was reported, or is kept
 abbrev pub known_fault : Option StreamFault → State → Option StreamFault
 known_fault (Some fault) state = Some fault
 known_fault None (Kept fault) = Some fault
@@ -70,9 +71,9 @@ IsHeld (Fault fault) state = Unit {0}
 
 pub record Tells (story : Story) (read : Read) : Type 0 where
   pub packets : story.packets ≡ read.packets
-  pub fault : known_fault story.told story.state ≡ fault_at read.ending
+  pub fault : known_fault story.reported story.state ≡ fault_at read.ending
   pub held : IsHeld read.ending story.state
 
--- however the bytes are cut, the packets that were answered, the fault that was told or is kept, and what is held, are those of all the bytes
+-- however the bytes are cut, the packets that were answered, the fault that was reported or is kept, and what is held, are those of all the bytes
 abbrev pub IsCutAnyhow : Type 0
 IsCutAnyhow = (pieces : List (List ℕ)) → Tells (story_of (Reading []) pieces) (read_all (joined pieces))

@@ -5,14 +5,14 @@ use Rattle.mqtt_frames.specs.declared.fault.StreamFault.{StreamFault}
 use Rattle.mqtt_frames.specs.declared.fault.StreamFault.TheVariants as faults
 use Rattle.mqtt_frames.specs.declared.packet.Packet.{Packet}
 use Rattle.mqtt_frames.specs.declared.header.Header.{Header}
-use Rattle.mqtt_frames.specs.declared.front.Front.{Front}
-use Rattle.mqtt_frames.specs.declared.front.Front.TheVariants as front
+use Rattle.mqtt_frames.specs.declared.wire.decode.Front.{Front}
+use Rattle.mqtt_frames.specs.declared.wire.decode.Front.TheVariants as front
 use Rattle.mqtt_frames.specs.declared.stream.Status.{Status}
 use Rattle.mqtt_frames.specs.declared.stream.Status.TheVariants as status
 use Rattle.mqtt_frames.specs.declared.stream.Ending.{Ending}
 use Rattle.mqtt_frames.specs.declared.stream.Ending.TheVariants as ending
 use Rattle.mqtt_frames.specs.Headers.{header_at}
-use Rattle.mqtt_frames.specs.Fronts.{front_at}
+use Rattle.mqtt_frames.specs.Fronts.{decode}
 
 -- what stands behind the packets of a stream
 pub data End : Type 0 where
@@ -38,7 +38,7 @@ behind_front (front.Whole packet size) bytes others = with_packets (packet ∷ [
 -- at most so many packets
 abbrev pub read_within : ℕ → List ℕ → Read
 read_within zero bytes = record { packets = []; ending = Rest bytes }
-read_within (suc most) bytes = behind_front (front_at bytes) bytes (read_within most)
+read_within (suc most) bytes = behind_front (decode bytes) bytes (read_within most)
 
 -- the packets at the front of the bytes, up to an unfinished one or the first fault. Each has a byte or more
 abbrev pub read_all : List ℕ → Read
@@ -50,7 +50,7 @@ pub data State : Type 0 where
   Reading : List ℕ → State
   -- a fault stands behind the packets that were answered
   Kept : StreamFault → State
-  -- a fault was told
+  -- a fault was reported
   Failed : State
 
 -- where packets stand before a fault they are answered, and the fault is kept
@@ -76,7 +76,7 @@ state_of status.Failed held = Failed
 
 -- what is held is no whole packet, and its header is known
 abbrev pub IsReady : Status → List ℕ → Header → Type 0
-IsReady status.Reading held header = (front_at held ≡ front.Waiting) × (header_at held ≡ header)
+IsReady status.Reading held header = (decode held ≡ front.Waiting) × (header_at held ≡ header)
 IsReady _ held header = Unit {0}
 
 abbrev pub ending_of : Ending → End

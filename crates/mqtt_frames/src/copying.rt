@@ -8,7 +8,7 @@ use sng_text::Octets;
 use std::alloc::{AllocError, Global};
 
 impl Packet {
-    /// An equal packet, in memory of its own. Only memory can fail.
+    /// An equal packet, in memory of its own. The only error is that an allocation failed.
     pub fn copy(&self) -> Result<Packet, AllocError>
         ensures { IfOk result (λ packet. packet ≡ self.now) }
     {

@@ -1,4 +1,4 @@
-//! Why the bytes of a connection are no packets that are read, or a packet none that is written.
+//! Why bytes are not read as packets, and why a packet is not written.
 ghost use Rattle.std.specs.Prelude.{◌≡◌};
 ghost use Rattle.mqtt_frames.specs.Faults.{number_of};
 ghost use Rattle.mqtt_frames.specs.declared.fault.StreamFault.TheVariants.{Memory};
@@ -12,16 +12,16 @@ pub enum StreamFault {
     /// The bytes spell no packet, or no bytes spell the packet (MQTT 3.1.1, 4.8).
     #[error("the packet is malformed")]
     Malformed,
-    /// The packet is one that is not read.
+    /// The packet is of a kind that is not read.
     #[error("the packet is not supported")]
     NotSupported,
-    /// The packet has more than 70,000 bytes.
+    /// The packet has more than `MAX_PACKET` bytes.
     #[error("the packet is too long")]
     TooLong,
-    /// A fault was told before, after which no packet is read.
+    /// A fault was reported before, after which no packet is read.
     #[error("the stream has failed")]
     Failed,
-    /// A growth was refused.
+    /// An allocation failed.
     #[error("out of memory")]
     Memory,
 }

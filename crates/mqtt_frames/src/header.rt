@@ -13,7 +13,7 @@ pub enum Length {
     /// A fifth byte would follow.
     Overlong,
     /// Its value, and how many bytes spell it.
-    Told(usize, usize),
+    Known(usize, usize),
 }
 
 /// The Remaining Length at the front of the bytes (2.2.3): one to four bytes, the shortest spelling or a longer one.
@@ -22,12 +22,12 @@ pub fn length_at(bytes: &[u8]) -> Length
     ensures small { IsSmall result }
 {
     match bytes {
-        [a, ..] if *a < 128 => Length::Told(usize::from(*a), 1),
-        [a, b, ..] if *b < 128 => Length::Told(group(*a) + 128 * usize::from(*b), 2),
+        [a, ..] if *a < 128 => Length::Known(usize::from(*a), 1),
+        [a, b, ..] if *b < 128 => Length::Known(group(*a) + 128 * usize::from(*b), 2),
         [a, b, c, ..] if *c < 128 => {
-            Length::Told(group(*a) + 128 * (group(*b) + 128 * usize::from(*c)), 3)
+            Length::Known(group(*a) + 128 * (group(*b) + 128 * usize::from(*c)), 3)
         }
-        [a, b, c, d, ..] if *d < 128 => Length::Told(
+        [a, b, c, d, ..] if *d < 128 => Length::Known(
             group(*a) + 128 * (group(*b) + 128 * (group(*c) + 128 * usize::from(*d))),
             4,
         ),
@@ -51,10 +51,11 @@ pub enum Header {
     /// The Remaining Length or the first byte has that fault.
     Faulty(StreamFault),
     /// The kind of packet, the size of the header and the Remaining Length, in bytes.
-    Told(Kind, usize, usize),
+    Known(Kind, usize, usize),
 }
 
-/// The fixed header at the front of the bytes. A fault of the first byte is told once the Remaining Length is whole.
+/// The fixed header at the front of the bytes. A fault of the first byte is reported once the Remaining Length is
+/// whole.
 pub fn header_at(bytes: &[u8]) -> Header
     ensures value { result ≡ header_at bytes.now }
     ensures brief { IsBrief result }
@@ -65,8 +66,8 @@ pub fn header_at(bytes: &[u8]) -> Header
     match length_at(rest) {
         Length::Unfinished => Header::Unfinished,
         Length::Overlong => Header::Faulty(StreamFault::Malformed),
-        Length::Told(value, size) => match kind::kind_of(*first) {
-            Ok(kind) => Header::Told(kind, 1 + size, value),
+        Length::Known(value, size) => match kind::kind_of(*first) {
+            Ok(kind) => Header::Known(kind, 1 + size, value),
             Err(fault) => Header::Faulty(fault),
         },
     }

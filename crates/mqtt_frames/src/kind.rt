@@ -42,7 +42,9 @@ pub struct PublishFlags {
     pub retain: bool,
 }
 
-/// The kind of packet that begins with the byte. `NotSupported`: a PUBLISH of QoS 2, or one of the three packets that only go with it. `Malformed`: no packet begins so.
+/// The kind of packet that begins with the byte.
+///
+/// `NotSupported`: a PUBLISH of QoS 2, or one of the three packets that only go with it. `Malformed`: no packet begins so.
 pub fn kind_of(first: u8) -> Result<Kind, StreamFault>
     ensures { result ≡ kind_of first }
 {

@@ -1,8 +1,17 @@
 //! The laws of writing and reading. Each function here only states one: its contract is the law, and calling it does nothing.
+ghost use Rattle.std.specs.Prelude.{◌≡◌};
 ghost use Rattle.mqtt_frames.specs.Laws.{WritesASpelling, SpellsOne, ReadsASpelling, ReadsWhatIsSpelled, ReadsWhatIsWritten};
 ghost use Rattle.mqtt_frames.specs.StreamLaws.{ReadsTheStream, ReadsWhatStands, FaultIsNoPacket, IsCutAnyhow};
 
-/// A packet that has a spelling is written as bytes that spell it, up to 70,000 of them.
+use crate::limits::{MAX_PACKET, MAX_REMAINING};
+
+/// The number of each limit.
+pub fn limits()
+    ensures most_of_a_packet { MAX_PACKET ≡ 70000 }
+    ensures most_that_remains { MAX_REMAINING ≡ 268435455 }
+{}
+
+/// A packet that has a spelling is written as bytes that spell it, up to `MAX_PACKET` of them.
 pub fn what_is_written_is_spelled()
     ensures { WritesASpelling }
 {}
@@ -12,12 +21,12 @@ pub fn bytes_spell_one_packet()
     ensures { SpellsOne }
 {}
 
-/// What spells a packet in at most 70,000 bytes is read as it, whatever follows.
+/// What spells a packet in at most `MAX_PACKET` bytes is read as it, whatever follows.
 pub fn what_is_spelled_is_read()
     ensures { ReadsASpelling }
 {}
 
-/// A packet at the front of bytes is spelled by just those bytes, at most 70,000 of them.
+/// A packet at the front of bytes is spelled by just those bytes, at most `MAX_PACKET` of them.
 pub fn what_is_read_is_spelled()
     ensures { ReadsWhatIsSpelled }
 {}
@@ -37,12 +46,13 @@ pub fn a_stream_is_what_stands()
     ensures { ReadsWhatStands }
 {}
 
-/// Where a fault is told no packet of at most 70,000 bytes stands, whatever follows.
+/// Where a fault is reported no packet of at most `MAX_PACKET` bytes stands, whatever follows.
 pub fn a_fault_is_no_packet()
     ensures { FaultIsNoPacket }
 {}
 
-/// However the bytes are cut, the packets that were answered, the fault that was told or is kept, and what is held, are those of all the bytes.
+/// However the bytes are cut, the packets that were answered, the fault that was reported or is kept, and what is held, are those of all
+/// the bytes.
 pub fn a_stream_is_cut_anyhow()
     ensures { IsCutAnyhow }
 {}

@@ -1,31 +1,31 @@
 //! MQTT packets as bytes (MQTT 3.1.1, sections 2 and 3).
 #![tactic(auto)]
 
-mod body;
+mod acknowledgements;
+mod connect;
 mod copying;
 pub mod fault;
 mod fields;
-mod front;
 mod header;
 mod kind;
 pub mod laws;
+pub mod limits;
 pub mod list;
 pub mod packet;
-mod reading;
+mod publish;
 pub mod remaining;
-mod size;
 mod spellable;
 mod stream;
-pub mod writing;
+mod subscribe;
+mod unsubscribe;
+pub mod wire;
 
 pub use fault::StreamFault;
+pub use limits::{MAX_PACKET, MAX_REMAINING};
 pub use list::List;
 pub use packet::{
-    Connect, ConnectAck, Packet, Publish, Qos, Request, Subscribe, SubscribeAck, SubscribeCode,
-    Unsubscribe,
+    Connect, ConnectAck, Packet, Publish, Request, RequestedQos, Subscribe, SubscribeAck,
+    SubscribeCode, Unsubscribe,
 };
 pub use stream::Stream;
-pub use writing::{encode, write_publish};
-
-#[cfg(test)]
-mod tests;
+pub use wire::encode::{encode, write_publish};

@@ -1,12 +1,14 @@
 //! The control packets of MQTT as values (MQTT 3.1.1, section 3).
 //!
-//! A value that no bytes spell can exist: a packet identifier of 0, a text of more than 65,535 bytes, a SUBSCRIBE of nothing. Texts are any bytes: who reads them judges them.
+//! A value that no bytes spell can exist: a packet identifier of 0, a text whose length is no number of two bytes, a SUBSCRIBE of
+//! nothing. Texts are any bytes: who reads them judges them.
 use crate::List;
 use sng_text::Octets;
 
-/// A level of quality of service (4.3).
+/// A level of quality of service that is asked for or granted (4.3). A PUBLISH that is read or written has one of the first two, by its
+/// packet identifier.
 #[derive(Clone, Copy, Debug, PartialEq, Eq)]
-pub enum Qos {
+pub enum RequestedQos {
     /// Level 0.
     AtMostOnce,
     /// Level 1.
@@ -56,7 +58,7 @@ pub struct Request {
     /// The topic filter's bytes.
     pub filter: Octets,
     /// The greatest quality of service.
-    pub qos: Qos,
+    pub qos: RequestedQos,
 }
 
 /// A SUBSCRIBE (3.8).
@@ -72,7 +74,7 @@ pub struct Subscribe {
 #[derive(Clone, Copy, Debug, PartialEq, Eq)]
 pub enum SubscribeCode {
     /// It is granted, with that greatest quality of service.
-    Granted(Qos),
+    Granted(RequestedQos),
     /// It is refused.
     Refused,
 }

@@ -6,9 +6,6 @@ ghost use Rattle.mqtt_frames.specs.Grammar.{IsInRange, IsOptionalInRange};
 use crate::{Packet, Request};
 use sng_text::Octets;
 
-/// The most bytes of a text.
-const MOST_TEXT: usize = 65535;
-
 /// Whether some bytes spell the packet, however many.
 pub fn has_spelling(packet: &Packet) -> bool
     ensures value { result ≡ has_spelling packet.now }
@@ -40,10 +37,11 @@ pub fn has_spelling(packet: &Packet) -> bool
     }
 }
 
+/// The length of a text is a number of two bytes.
 fn is_text(text: &[u8]) -> bool
     ensures { result ≡ is_text text.now }
 {
-    text.len() <= MOST_TEXT
+    text.len() <= usize::from(u16::MAX)
 }
 
 fn is_optional_id(packet_id: Option<u16>) -> bool

@@ -3,10 +3,10 @@ ghost use Rattle.std.specs.Prelude.{◌≡◌, ◌≤◌, ◌⊎◌, [], ◌++�
 ghost use Rattle.mqtt_frames.specs.Streams.{Reading, fed, settled, read_all, with_packets, ending_of};
 ghost use Rattle.mqtt_frames.specs.Reading.{Gives, body_of};
 
-use crate::front::{self, Front};
 use crate::header::{self, Header};
 use crate::kind::Kind;
-use crate::{Packet, StreamFault, reading};
+use crate::wire::decode::{self, Front};
+use crate::{Packet, StreamFault};
 use std::alloc::{AllocError, Global};
 use std::marker::Model;
 
@@ -15,13 +15,14 @@ use std::marker::Model;
 pub enum Status {
     /// It reads it.
     Reading,
-    /// It tells a fault that stands behind packets that were answered.
+    /// It reports a fault that stands behind packets that were answered.
     Kept(StreamFault),
-    /// It fails, since a fault was told.
+    /// It fails, since a fault was reported.
     Failed,
 }
 
-/// A stream of packets, cut into pieces anyhow. It holds the bytes of an unfinished packet, and no others. Contracts see those bytes, or that a fault is kept, or that one was told.
+/// A stream of packets, cut into pieces anyhow. It holds the bytes of an unfinished packet, and no others. Contracts see those bytes, or
+/// that a fault is kept, or that one was reported.
 #[derive(Debug, Drop)]
 pub struct Stream {
     status: Status,
@@ -55,7 +56,10 @@ impl Stream {
 
     /// Takes the next piece, and answers the packets that are whole now, in order.
     ///
-    /// A fault behind packets is kept and told by the next call; where no packet stands before it, this call tells it. `Malformed`: the bytes spell no packet. `NotSupported`: a packet that is not read. `TooLong`: a packet of more than 70,000 bytes. `Failed`: one of the three was told before. After these every call answers `Failed`. `Memory`: a growth was refused, and the piece was not taken.
+    /// A fault behind packets is kept and reported by the next call; where no packet stands before it, this call reports it.
+    /// `Malformed`: the bytes spell no packet. `NotSupported`: a packet of a kind that is not read. `TooLong`: a packet of more than
+    /// `MAX_PACKET` bytes. `Failed`: one of the three was reported before. After these every call answers `Failed`. `Memory`: an
+    /// allocation failed, and the piece was not taken.
     pub fn feed(&mut self, alloc: Global, piece: &[u8]) -> Result<Vec<Packet>, StreamFault>
         ensures ok { IfOk result (λ packets. fed self.old piece.now ≡ (Ok packets.items, self.new)) }
         ensures err { IfErr result (λ fault. ((fault ≡ StreamFault.Memory) × (self.new ≡ self.old)) ⊎ (fed self.old piece.now ≡ (Err fault, self.new))) }
@@ -67,7 +71,7 @@ impl Stream {
                 Err(fault)
             }
             Status::Reading => match self.header {
-                Header::Told(kind, start, rest) => {
+                Header::Known(kind, start, rest) => {
                     let missing = start + rest - self.held.len();
                     if piece.len() < missing {
                         self.held.extend_from_slice(piece)?;
@@ -140,7 +144,7 @@ pub enum Ending<'a> {
     Fault(StreamFault),
 }
 
-/// Adds the packets at the front of the bytes to others, and says how the reading ended. Only memory can fail.
+/// Adds the packets at the front of the bytes to others, and says how the reading ended. The only error is `Memory`.
 fn read_all(
     alloc: Global,
     packets: Vec<Packet>,
@@ -152,7 +156,7 @@ fn read_all(
     let mut packets = packets;
     let mut rest = bytes;
     loop {
-        match front::front_at(alloc, rest)? {
+        match decode::decode(alloc, rest)? {
             Front::Waiting => return Ok((packets, Ending::Rest(rest))),
             Front::Faulty(fault) => return Ok((packets, Ending::Fault(fault))),
             Front::Whole(packet, size) => {
@@ -186,5 +190,5 @@ fn read_joined(
 {
     let bytes = join(alloc, front, back)?;
     let (_, body) = bytes.as_slice().split_at(start);
-    reading::read_body(alloc, kind, body)
+    decode::body_of(alloc, kind, body)
 }

@@ -1,14 +1,13 @@
-//! The core of the gateway: a pure step machine. One event in, all that it lets out; the present after it stays in the core.
-//! A step plans with all its growths first, and its commit cannot fail, so a step that is refused memory changes nothing.
+//! The core of the gateway: a pure step machine. One event in, all that it lets out; the state after it stays in the core. A step
+//! plans with all its allocations first, and its commit cannot fail, so a step whose allocation failed changes nothing.
 #![tactic(auto)]
 
-mod answering;
-mod judging;
-mod leaving;
+mod datagram;
+mod exit;
+mod forwarding;
+pub mod history;
 pub mod machine;
-pub mod running;
-#[cfg(test)]
-mod tests;
+mod verdict;
 
+pub use history::run;
 pub use machine::Core;
-pub use running::run;

@@ -2,7 +2,7 @@
 use Rattle.std.proofs.Common.{◌≡◌, ℕ, ◌+◌, ◌<◌, ◌≤◌, Bool, true, false, nat_lt, ◌==◌, ◌&&◌, List, [], ◌∷◌, Some, None, if◌then◌else◌, refl, sym, ◌∙◌, ap, arith}
 use Rattle.std.proofs.lemmas.Bool.{eq-eqb, ne_eqb, eqb-true, eqb-false, ltb-true, ltb-false}
 use Rattle.sng_text.specs.Matching.{matches}
-use Rattle.sng_frames.specs.declared.flags.Qos.{Qos}
+use Rattle.sng_text.specs.declared.qos.Qos.{Qos}
 use Rattle.sng_fan.specs.declared.holder.Holder.{Holder}
 use Rattle.sng_fan.specs.declared.subscription.Subscription.{Subscription}
 use Rattle.sng_fan.specs.Holders.{greater, with_grant, with_grants}

@@ -3,7 +3,7 @@ use Rattle.std.proofs.Common.{◌≡◌, ℕ, ◌+◌, ◌<◌, ◌≤◌, Bool,
 use Rattle.std.specs.List.{list_any, position_or_len, count_by}
 use Rattle.std.proofs.lemmas.List.Sums.{sum_by-cons}
 use Rattle.std.proofs.Math.Numerals.{one-add}
-use Rattle.sng_frames.specs.declared.flags.Qos.{Qos}
+use Rattle.sng_text.specs.declared.qos.Qos.{Qos}
 use Rattle.sng_fan.specs.declared.subscription.Subscription.{Subscription}
 use Rattle.sng_fan.specs.Subscriptions.{is_of, stands, with_filter}
 

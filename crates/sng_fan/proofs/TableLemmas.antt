@@ -6,7 +6,7 @@ use Rattle.std.proofs.lemmas.Bool.{eqb-true, and_parts, le-leb, lt-leb}
 use Rattle.std.proofs.lemmas.List.Sums.{sum_by-set, sum_by_push}
 use Rattle.std.proofs.lemmas.List.Filters.{sum_by-filter_both}
 use Rattle.std.proofs.lemmas.Slice.Eq.{bytes_eq-Decides}
-use Rattle.sng_frames.specs.declared.flags.Qos.{Qos}
+use Rattle.sng_text.specs.declared.qos.Qos.{Qos}
 use Rattle.sng_fan.specs.declared.subscription.Subscription.{Subscription}
 use Rattle.sng_fan.specs.Subscriptions.{is_of, is_client, stands, filter_count, is_full, with_filter, IsTable}
 use Rattle.sng_fan.proofs.PlaceLemmas.{any_at, none_at, none_counted, granted_at}

@@ -2,20 +2,15 @@
 use Rattle.std.specs.Prelude.{ℕ, ◌==◌, nat_lt, List, [], ◌∷◌, if◌then◌else◌}
 use Rattle.std.specs.List.{prefix_len}
 use Rattle.sng_text.specs.Matching.{matches}
-use Rattle.sng_frames.specs.declared.flags.Qos.{Qos}
-use Rattle.sng_frames.specs.declared.flags.Qos.TheVariants.{AtMostOnce, AtLeastOnce, ExactlyOnce, WithoutSession}
+use Rattle.sng_text.specs.declared.qos.Qos.{Qos}
+use Rattle.sng_text.specs.declared.qos.Qos.TheVariants.{AtMostOnce, AtLeastOnce}
 use Rattle.sng_fan.specs.declared.holder.Holder.{Holder}
 use Rattle.sng_fan.specs.declared.subscription.Subscription.{Subscription}
 
--- the place of a QoS among the levels -1 to 2
-abbrev pub level : Qos → ℕ
-level WithoutSession = 0
-level AtMostOnce = 1
-level AtLeastOnce = 2
-level ExactlyOnce = 3
-
+-- the greater of two levels of QoS, 0 and 1
 abbrev pub greater : Qos → Qos → Qos
-greater a b = if nat_lt (level a) (level b) then b else a
+greater AtMostOnce b = b
+greater AtLeastOnce b = AtLeastOnce
 
 -- where the client may stand in order of number: behind the clients below it
 abbrev pub place_of : List Holder → ℕ → ℕ

@@ -1,8 +1,8 @@
--- What the holders of a name are, told of each client by itself.
+-- What the holders of a name are, stated for each client by itself.
 use Rattle.std.specs.Prelude.{ℕ, ◌≡◌, ◌+◌, ◌≤◌, ◌==◌, ◌&&◌, List, [], ◌∷◌, if◌then◌else◌, Some, None}
 use Rattle.std.specs.declared.option.Option.{Option}
 use Rattle.sng_text.specs.Matching.{matches}
-use Rattle.sng_frames.specs.declared.flags.Qos.{Qos}
+use Rattle.sng_text.specs.declared.qos.Qos.{Qos}
 use Rattle.sng_fan.specs.declared.holder.Holder.{Holder}
 use Rattle.sng_fan.specs.declared.subscription.Subscription.{Subscription}
 use Rattle.sng_fan.specs.Holders.{greater, holders_of}

@@ -3,7 +3,7 @@ use Rattle.std.specs.Prelude.{ℕ, ◌≤◌, Bool, ◌==◌, ◌&&◌, not, nat
 use Rattle.std.specs.declared.option.Option.{Option}
 use Rattle.std.specs.List.{list_any}
 use Rattle.std.specs.Str.{bytes_eq}
-use Rattle.sng_frames.specs.declared.flags.Qos.{Qos}
+use Rattle.sng_text.specs.declared.qos.Qos.{Qos}
 use Rattle.sng_fan.specs.declared.subscription.Subscription.{Subscription}
 
 -- the client's subscription to the filter

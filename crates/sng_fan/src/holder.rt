@@ -1,8 +1,8 @@
 //! Who gets a message, each client once.
 ghost use Rattle.std.specs.Prelude.{◌≡◌, ◌≤◌, OnOk, length};
-ghost use Rattle.sng_fan.specs.Holders.{level, greater, place_of, with_grant};
+ghost use Rattle.sng_fan.specs.Holders.{greater, place_of, with_grant};
 
-use sng_frames::Qos;
+use sng_text::Qos;
 use std::alloc::AllocError;
 
 /// A client that holds a filter that matches.
@@ -14,22 +14,13 @@ pub struct Holder {
     pub qos: Qos,
 }
 
-/// The greater of two QoS, in the order of their levels, -1 to 2.
+/// The greater of two QoS, in the order of their levels, 0 and 1.
 pub fn greater(a: Qos, b: Qos) -> Qos
     ensures { result ≡ greater a b }
 {
-    if level(a) < level(b) { b } else { a }
-}
-
-/// The place of a QoS among the levels -1 to 2.
-fn level(qos: Qos) -> u8
-    ensures { result ≡ level qos }
-{
-    match qos {
-        Qos::WithoutSession => 0,
-        Qos::AtMostOnce => 1,
-        Qos::AtLeastOnce => 2,
-        Qos::ExactlyOnce => 3,
+    match a {
+        Qos::AtMostOnce => b,
+        Qos::AtLeastOnce => Qos::AtLeastOnce,
     }
 }
 

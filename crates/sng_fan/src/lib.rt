@@ -4,12 +4,12 @@
 pub mod fault;
 pub mod holder;
 pub mod laws;
+pub mod limits;
 pub mod standing;
 pub mod subscription;
-#[cfg(test)]
-mod tests;
 
 pub use fault::FanFault;
 pub use holder::Holder;
+pub use limits::MAX_SUBSCRIPTIONS;
 pub use standing::Standing;
 pub use subscription::Subscription;

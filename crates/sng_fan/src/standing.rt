@@ -1,23 +1,19 @@
 //! The filters that stand.
 ghost use Rattle.std.specs.Prelude.{◌≡◌, ◌↔◌, ◌⊎◌, ℕ, List, [], true, false, Ok, Err, IfOk, OnOk, IfErr};
 ghost use Rattle.std.specs.List.{position_or_len};
-ghost use Rattle.sng_fan.specs.declared.standing.TheConstants.{MOST};
+ghost use Rattle.sng_fan.specs.declared.limits.TheConstants.{MAX_SUBSCRIPTIONS};
 ghost use Rattle.sng_fan.specs.declared.subscription.Subscription.{Subscription as subscription_type};
 ghost use Rattle.sng_fan.specs.Holders.{holders_of};
 ghost use Rattle.sng_fan.specs.Subscriptions.{is_of, is_held, is_full, stands, filter_count, with_filter, without_filter, without_client, still_held, IsTable};
 
 use crate::holder::add_grant;
-use crate::{FanFault, Holder, Subscription};
-use sng_frames::Qos;
-use sng_text::{TopicFilter, TopicName, matches};
+use crate::{FanFault, Holder, MAX_SUBSCRIPTIONS, Subscription};
+use sng_text::{Qos, TopicFilter, TopicName, matches};
 use std::alloc::{AllocError, Global};
 use std::marker::Model;
 
-/// How many filters may stand for one client.
-pub const MOST: usize = 32;
-
-/// Who holds which filter at which QoS. Contracts see the list of subscriptions, in the order in which they first stood: a client has a
-/// filter once, and 32 filters at the most.
+/// Who holds which filter at which QoS. Contracts see the list of subscriptions, in the order in which they first stood: a
+/// client has a filter once, and `MAX_SUBSCRIPTIONS` filters at the most.
 #[derive(Debug, Drop)]
 pub struct Standing {
     subscriptions: Vec<Subscription>,
@@ -26,14 +22,14 @@ pub struct Standing {
 impl Model for Standing {
     ghost use Rattle.std.specs.Prelude.{List};
     ghost use Rattle.sng_fan.specs.declared.subscription.Subscription.{Subscription};
-    ghost use Rattle.sng_fan.specs.declared.standing.TheConstants.{MOST};
+    ghost use Rattle.sng_fan.specs.declared.limits.TheConstants.{MAX_SUBSCRIPTIONS};
     ghost use Rattle.sng_fan.specs.Subscriptions.{IsTable};
 
     ghost Value = { List Subscription };
 
     ghost view = { λ s. s.subscriptions.items };
 
-    ghost invariant = { λ s. IsTable MOST s.subscriptions.items };
+    ghost invariant = { λ s. IsTable MAX_SUBSCRIPTIONS s.subscriptions.items };
 }
 
 impl Standing {
@@ -46,11 +42,11 @@ impl Standing {
         }
     }
 
-    /// Lets the filter stand for the client at this QoS. Where it stood it keeps its place, and no memory is taken. Full exactly where `MOST` filters
-    /// stand for the client and this one does not; an `Err` leaves all as it was.
+    /// Lets the filter stand for the client at this QoS. Where it stood it keeps its place, and no memory is taken. Full
+    /// exactly where `MAX_SUBSCRIPTIONS` filters stand for the client and this one does not; an `Err` leaves all as it was.
     pub fn add(&mut self, client: u16, filter: TopicFilter, qos: Qos) -> Result<(), FanFault>
-        ensures ok { OnOk result ((is_full MOST self.old client filter ≡ false) × (self.new ≡ with_filter self.old client filter qos)) }
-        ensures err { IfErr result (λ fault. (self.new ≡ self.old) × ((fault ≡ FanFault.Full) ↔ (is_full MOST self.old client filter ≡ true))) }
+        ensures ok { OnOk result ((is_full MAX_SUBSCRIPTIONS self.old client filter ≡ false) × (self.new ≡ with_filter self.old client filter qos)) }
+        ensures err { IfErr result (λ fault. (self.new ≡ self.old) × ((fault ≡ FanFault.Full) ↔ (is_full MAX_SUBSCRIPTIONS self.old client filter ≡ true))) }
     {
         let place = place_of(&self.subscriptions, client, &filter);
         if place < self.subscriptions.len() {
@@ -58,7 +54,7 @@ impl Standing {
             subscription.qos = qos;
             return Ok(());
         }
-        if filter_count(&self.subscriptions, client) >= MOST {
+        if filter_count(&self.subscriptions, client) >= MAX_SUBSCRIPTIONS {
             return Err(FanFault::Full);
         }
         let subscription = Subscription {
@@ -72,7 +68,7 @@ impl Standing {
         }
     }
 
-    /// Ends the client's subscription to the filter, and tells whether there was one. Takes no memory.
+    /// Ends the client's subscription to the filter, and returns whether there was one. Takes no memory.
     pub fn end(&mut self, client: u16, filter: &TopicFilter) -> bool
         ensures stood { result ≡ stands self.old client filter.now }
         ensures rest { self.new ≡ without_filter self.old client filter.now }
@@ -89,7 +85,8 @@ impl Standing {
         self.subscriptions.retain(|s| s.client != client);
     }
 
-    /// Ends the client's subscription to the filter, and tells whether somebody else still holds it; None where it did not stand. Takes no memory.
+    /// Ends the client's subscription to the filter, and returns whether somebody else still holds it; None where it did not
+    /// stand. Takes no memory.
     pub fn end_where(&mut self, client: u16, filter: &TopicFilter) -> Option<bool>
         ensures others { result ≡ still_held self.old client filter.now }
         ensures rest { self.new ≡ without_filter self.old client filter.now }
@@ -108,7 +105,8 @@ impl Standing {
         is_held(&self.subscriptions, filter)
     }
 
-    /// The clients that hold a filter that matches the name, each once, in order of number, with the greatest QoS among those filters. Only memory can fail.
+    /// The clients that hold a filter that matches the name, each once, in order of number, with the greatest QoS among those
+    /// filters. Only memory can fail.
     pub fn holders(&self, alloc: Global, name: &TopicName) -> Result<Vec<Holder>, AllocError>
         ensures { IfOk result (λ holders. holders.items ≡ holders_of self.now name.now) }
     {
@@ -118,7 +116,7 @@ impl Standing {
     /// The subscriptions, in the order in which they first stood.
     pub fn subscriptions(&self) -> &[Subscription]
         ensures value { result.now ≡ self.now }
-        ensures table { IsTable MOST self.now }
+        ensures table { IsTable MAX_SUBSCRIPTIONS self.now }
     {
         self.subscriptions.as_slice()
     }

@@ -2,8 +2,7 @@
 ghost use Rattle.std.specs.Prelude.{◌≡◌};
 ghost use Rattle.sng_fan.specs.Subscriptions.{is_of};
 
-use sng_frames::Qos;
-use sng_text::TopicFilter;
+use sng_text::{Qos, TopicFilter};
 
 /// A filter that stands for a client.
 #[derive(Debug, Drop)]

@@ -1,11 +1,14 @@
 -- The Flags octet and its fields, from one to the other and back.
-use Rattle.std.proofs.Common.{◌≡◌, ℕ, zero, suc, ◌+◌, ◌*◌, ◌/◌, ◌%◌, ◌<◌, ◌==◌, Bool, true, false, refl, ap, ◌∙◌, arith}
+use Rattle.std.proofs.Common.{◌≡◌, ℕ, zero, suc, ◌+◌, ◌*◌, ◌/◌, ◌%◌, ◌<◌, ◌==◌, Bool, true, false, refl, ap}
+use Rattle.std.proofs.Common.{◌∙◌, arith}
 use Rattle.sng_frames.specs.declared.flags.Flags.{Flags}
 use Rattle.sng_frames.specs.declared.flags.Qos.{Qos}
-use Rattle.sng_frames.specs.declared.flags.Qos.TheVariants.{AtMostOnce, AtLeastOnce, ExactlyOnce, WithoutSession}
+use Rattle.sng_frames.specs.declared.flags.Qos.TheVariants.{AtMostOnce, AtLeastOnce, ExactlyOnce}
+use Rattle.sng_frames.specs.declared.flags.Qos.TheVariants.{WithoutSession}
 use Rattle.sng_frames.specs.declared.flags.TopicIdType.{TopicIdType}
 use Rattle.sng_frames.specs.declared.flags.TopicIdType.TheVariants.{Normal, Predefined, Short, Reserved}
-use Rattle.sng_frames.specs.FlagsOctet.{bit, qos_bits, id_type_bits, flags_octet, qos_of, id_type_of, flags_of}
+use Rattle.sng_frames.specs.FlagsOctet.{bit, qos_bits, id_type_bits, flags_octet, qos_of, id_type_of}
+use Rattle.sng_frames.specs.FlagsOctet.{flags_of}
 
 -- an octet from its parts
 abbrev sum_of : ℕ → ℕ → ℕ → ℕ → ℕ → ℕ → ℕ
@@ -48,17 +51,31 @@ qos_bits-level AtLeastOnce = refl
 qos_bits-level ExactlyOnce = refl
 qos_bits-level WithoutSession = refl
 
-sum-parts : (dup qos retain will clean id : ℕ) → dup < 2 → qos < 4 → retain < 2 → will < 2 → clean < 2 → id < 4
+sum-parts : (dup qos retain will clean id : ℕ) → dup < 2 → qos < 4 → retain < 2 → will < 2 → clean < 2
+    → id < 4
     → let octet = sum_of dup qos retain will clean id in
-    (octet / 128 % 2 ≡ dup) × (octet / 32 % 4 ≡ qos) × (octet / 16 % 2 ≡ retain) × (octet / 8 % 2 ≡ will) × (octet / 4 % 2 ≡ clean) × (octet % 4 ≡ id)
-sum-parts dup qos retain will clean id a b c d e f = (omega arith, omega arith, omega arith, omega arith, omega arith, omega arith)
+    (octet / 128 % 2 ≡ dup) × (octet / 32 % 4 ≡ qos) × (octet / 16 % 2 ≡ retain) × (octet / 8 % 2 ≡ will)
+    × (octet / 4 % 2 ≡ clean) × (octet % 4 ≡ id)
+sum-parts dup qos retain will clean id a b c d e f =
+    (omega arith, omega arith, omega arith, omega arith, omega arith, omega arith)
 
-parts-sum : (octet : ℕ) → octet < 256 → sum_of (octet / 128 % 2) (octet / 32 % 4) (octet / 16 % 2) (octet / 8 % 2) (octet / 4 % 2) (octet % 4) ≡ octet
+parts-sum : (octet : ℕ) → octet < 256
+    → sum_of (octet / 128 % 2) (octet / 32 % 4) (octet / 16 % 2) (octet / 8 % 2) (octet / 4 % 2)
+    (octet % 4) ≡ octet
 parts-sum octet fits = omega arith
 
-octet-sum : (f : Flags) → flags_octet f ≡ sum_of (value_of f.dup) (level_of f.qos) (value_of f.retain) (value_of f.will) (value_of f.clean) (id_type_bits f.id_type)
+octet-sum : (f : Flags)
+    → flags_octet f ≡ sum_of (value_of f.dup) (level_of f.qos) (value_of f.retain) (value_of f.will)
+    (value_of f.clean) (id_type_bits f.id_type)
 octet-sum f =
-    omega (arith, bit-value f.dup 128, qos_bits-level f.qos, bit-value f.retain 16, bit-value f.will 8, bit-value f.clean 4)
+    omega (
+      arith,
+      bit-value f.dup 128,
+      qos_bits-level f.qos,
+      bit-value f.retain 16,
+      bit-value f.will 8,
+      bit-value f.clean 4,
+    )
 
 -- the fields of parts
 abbrev fields : ℕ → ℕ → ℕ → ℕ → ℕ → ℕ → Flags
@@ -71,7 +88,8 @@ fields dup qos retain will clean id = record {
   id_type = id_type_of id;
 }
 
-fields-sum : (dup qos retain will clean id : ℕ) → dup < 2 → qos < 4 → retain < 2 → will < 2 → clean < 2 → id < 4
+fields-sum : (dup qos retain will clean id : ℕ) → dup < 2 → qos < 4 → retain < 2 → will < 2 → clean < 2
+    → id < 4
     → flags_of (sum_of dup qos retain will clean id) ≡ fields dup qos retain will clean id
 fields-sum dup qos retain will clean id a b c d e f =
     let parts = sum-parts dup qos retain will clean id a b c d e f in
@@ -93,14 +111,25 @@ id_type_of-bits Predefined = refl
 id_type_of-bits Short = refl
 id_type_of-bits Reserved = refl
 
-fields-values : (f : Flags) → fields (value_of f.dup) (level_of f.qos) (value_of f.retain) (value_of f.will) (value_of f.clean) (id_type_bits f.id_type) ≡ f
-fields-values f = rw (test-value f.dup, qos_of-level f.qos, test-value f.retain, test-value f.will, test-value f.clean, id_type_of-bits f.id_type) refl
+fields-values : (f : Flags)
+    → fields (value_of f.dup) (level_of f.qos) (value_of f.retain) (value_of f.will) (value_of f.clean)
+    (id_type_bits f.id_type) ≡ f
+fields-values f =
+    rw (
+      test-value f.dup,
+      qos_of-level f.qos,
+      test-value f.retain,
+      test-value f.will,
+      test-value f.clean,
+      id_type_of-bits f.id_type,
+    ) refl
 
 -- the octet of some fields has those fields
 pub flags_of-flags_octet : (f : Flags) → flags_of (flags_octet f) ≡ f
 flags_of-flags_octet f =
     ap flags_of (octet-sum f)
-    ∙ fields-sum _ _ _ _ _ _ (value-fits f.dup) (level-fits f.qos) (value-fits f.retain) (value-fits f.will) (value-fits f.clean) (id_type-fits f.id_type)
+    ∙ fields-sum _ _ _ _ _ _ (value-fits f.dup) (level-fits f.qos) (value-fits f.retain) (value-fits f.will)
+    (value-fits f.clean) (id_type-fits f.id_type)
     ∙ fields-values f
 
 bit-test : (x weight : ℕ) → x < 2 → bit (x == 1) weight ≡ x * weight

@@ -1,5 +1,7 @@
 -- The variable part that is written is spelled, and it is the only one.
-use Rattle.std.proofs.Common.{◌≡◌, ℕ, ◌/◌, ◌%◌, ◌^◌, ◌<◌, List, [], ◌∷◌, Option, Some, None, refl, ap, ◌∙◌, arith}
+use Rattle.std.proofs.Common.{◌≡◌, ℕ, ◌/◌, ◌%◌, ◌^◌, ◌<◌, List, [], ◌∷◌, Option, Some, None, refl, ap, ◌∙◌}
+use Rattle.std.proofs.Common.{arith}
+use Rattle.sng_frames.specs.declared.flags.Flags.{Flags}
 use Rattle.sng_frames.specs.declared.frame.Connect.{Connect}
 use Rattle.sng_frames.specs.declared.frame.Publish.{Publish}
 use Rattle.sng_frames.specs.declared.frame.Register.{Register}
@@ -10,28 +12,67 @@ use Rattle.sng_frames.specs.declared.frame.TopicAck.{TopicAck}
 use Rattle.sng_frames.specs.declared.frame.TopicRequest.{TopicRequest}
 use Rattle.sng_frames.specs.declared.frame.WillTopic.{WillTopic}
 use Rattle.sng_frames.specs.FlagsOctet.{flags_octet}
-use Rattle.sng_frames.specs.Grammar.{IsNumber, SpellsConnect, SpellsNumber, SpellsWillTopic, SpellsRegister, SpellsTopicAck, SpellsPublish, FitsType, SpellsTopicRequest, SpellsSubscribeAck, SpellsPing, SpellsDuration, SpellsPart, IsInRange, TopicFits}
-use Rattle.sng_frames.specs.Writing.{number_then, connect_part, code_part, will_topic_part, register_part, topic_ack_part, publish_part, topic_request_part, subscribe_ack_part, ping_part, duration_part, part_of}
+use Rattle.sng_frames.specs.Grammar.{IsNumber, SpellsIds, SpellsFlaggedIds, SpellsConnect, SpellsNumber}
+use Rattle.sng_frames.specs.Grammar.{SpellsWillTopic, SpellsRegister}
+use Rattle.sng_frames.specs.Grammar.{SpellsTopicAck, SpellsPublish, FitsType, SpellsTopicRequest}
+use Rattle.sng_frames.specs.Grammar.{SpellsSubscribeAck, SpellsPing, SpellsDuration, SpellsPart, IsInRange}
+use Rattle.sng_frames.specs.Grammar.{TopicFits}
+use Rattle.sng_frames.specs.Writing.{number_then, connect_part, code_part, will_topic_part, register_part}
+use Rattle.sng_frames.specs.Writing.{topic_ack_part, publish_part, topic_request_part, subscribe_ack_part}
+use Rattle.sng_frames.specs.Writing.{ping_part, duration_part, part_of}
 
 -- a number in its two octets
 pub IsNumber-halves : (n : ℕ) → n < 2 ^ 16 → IsNumber n (n / 256) (n % 256)
 IsNumber-halves n fits = record { high_fits = omega arith; low_fits = omega arith; value = omega arith }
 
-pub number_then-halves : (n high low : ℕ) (octets : List ℕ) → IsNumber n high low → high ∷ low ∷ octets ≡ number_then n octets
+pub number_then-halves : (n high low : ℕ) (octets : List ℕ) → IsNumber n high low
+    → high ∷ low ∷ octets ≡ number_then n octets
 number_then-halves n high low octets is =
     let above : high ≡ n / 256 = omega (arith, is.high_fits, is.low_fits, is.value) in
     let below : low ≡ n % 256 = omega (arith, is.high_fits, is.low_fits, is.value) in
     ap (λ h. h ∷ low ∷ octets) above ∙ ap (λ l. n / 256 ∷ l ∷ octets) below
 
--- two numbers, one behind the other
-numbers_then-halves : (n m n_high n_low m_high m_low : ℕ) (octets : List ℕ) → IsNumber n n_high n_low → IsNumber m m_high m_low
-    → n_high ∷ n_low ∷ m_high ∷ m_low ∷ octets ≡ number_then n (number_then m octets)
-numbers_then-halves n m n_high n_low m_high m_low octets is_n is_m =
-    number_then-halves n n_high n_low (m_high ∷ m_low ∷ octets) is_n ∙ ap (number_then n) (number_then-halves m m_high m_low octets is_m)
+-- TopicId and MsgId in their octets
+ids-only : (topic_id msg_id : ℕ) (behind part : List ℕ) → SpellsIds topic_id msg_id behind part
+    → part ≡ number_then topic_id (number_then msg_id behind)
+ids-only topic_id msg_id behind part s =
+    s.octets
+    ∙ number_then-halves topic_id s.topic_high s.topic_low (s.msg_high ∷ s.msg_low ∷ behind) s.topic
+    ∙ ap (number_then topic_id) (number_then-halves msg_id s.msg_high s.msg_low behind s.msg)
+
+flagged-only : (flags : Flags) (topic_id msg_id : ℕ) (behind part : List ℕ)
+    → SpellsFlaggedIds flags topic_id msg_id behind part
+    → part ≡ flags_octet flags ∷ number_then topic_id (number_then msg_id behind)
+flagged-only flags topic_id msg_id behind part s =
+    s.octets ∙ ap (λ rest. flags_octet flags ∷ rest) (ids-only topic_id msg_id behind s.ids s.spelled)
+
+ids-written : (topic_id msg_id : ℕ) (behind : List ℕ) → topic_id < 2 ^ 16 → msg_id < 2 ^ 16
+    → SpellsIds topic_id msg_id behind (number_then topic_id (number_then msg_id behind))
+ids-written topic_id msg_id behind topic_fits msg_fits = record {
+  topic_high = topic_id / 256;
+  topic_low = topic_id % 256;
+  topic = IsNumber-halves topic_id topic_fits;
+  msg_high = msg_id / 256;
+  msg_low = msg_id % 256;
+  msg = IsNumber-halves msg_id msg_fits;
+  octets = refl;
+}
+
+flagged-written : (flags : Flags) (topic_id msg_id : ℕ) (behind : List ℕ) → topic_id < 2 ^ 16
+    → msg_id < 2 ^ 16
+    → SpellsFlaggedIds flags topic_id msg_id behind
+    (flags_octet flags ∷ number_then topic_id (number_then msg_id behind))
+flagged-written flags topic_id msg_id behind topic_fits msg_fits = record {
+  ids = number_then topic_id (number_then msg_id behind);
+  spelled = ids-written topic_id msg_id behind topic_fits msg_fits;
+  octets = refl;
+}
 
 connect-only : (c : Connect) (part : List ℕ) → SpellsConnect c part → part ≡ connect_part c
 connect-only c part s =
-    s.octets ∙ ap (λ rest. flags_octet c.flags ∷ c.protocol_id ∷ rest) (number_then-halves c.duration s.duration_high s.duration_low c.client_id s.duration)
+    s.octets
+    ∙ ap (λ rest. flags_octet c.flags ∷ c.protocol_id ∷ rest)
+    (number_then-halves c.duration s.duration_high s.duration_low c.client_id s.duration)
 
 number-only : (n : ℕ) (part : List ℕ) → SpellsNumber n part → part ≡ number_then n []
 number-only n part s = s.octets ∙ number_then-halves n s.high s.low [] s.is
@@ -40,22 +81,11 @@ will_topic-only : (w : Option WillTopic) (part : List ℕ) → SpellsWillTopic w
 will_topic-only None part s = s
 will_topic-only (Some w) part s = s
 
-register-only : (r : Register) (part : List ℕ) → SpellsRegister r part → part ≡ register_part r
-register-only r part s = s.octets ∙ numbers_then-halves r.topic_id r.msg_id s.topic_high s.topic_low s.msg_high s.msg_low r.name s.topic s.msg
-
-topic_ack-only : (a : TopicAck) (part : List ℕ) → SpellsTopicAck a part → part ≡ topic_ack_part a
-topic_ack-only a part s = s.octets ∙ numbers_then-halves a.topic_id a.msg_id s.topic_high s.topic_low s.msg_high s.msg_low (code_part a.code) s.topic s.msg
-
-publish-only : (p : Publish) (part : List ℕ) → SpellsPublish p part → part ≡ publish_part p
-publish-only p part s =
-    s.octets ∙ ap (λ rest. flags_octet p.flags ∷ rest) (numbers_then-halves p.topic_id p.msg_id s.topic_high s.topic_low s.msg_high s.msg_low p.payload s.topic s.msg)
-
-topic_request-only : (r : TopicRequest) (part : List ℕ) → SpellsTopicRequest r part → part ≡ topic_request_part r
-topic_request-only r part s = s.octets ∙ ap (λ rest. flags_octet r.flags ∷ rest) (number_then-halves r.msg_id s.msg_high s.msg_low r.topic s.msg)
-
-subscribe_ack-only : (a : SubscribeAck) (part : List ℕ) → SpellsSubscribeAck a part → part ≡ subscribe_ack_part a
-subscribe_ack-only a part s =
-    s.octets ∙ ap (λ rest. flags_octet a.flags ∷ rest) (numbers_then-halves a.topic_id a.msg_id s.topic_high s.topic_low s.msg_high s.msg_low (code_part a.code) s.topic s.msg)
+topic_request-only : (r : TopicRequest) (part : List ℕ) → SpellsTopicRequest r part
+    → part ≡ topic_request_part r
+topic_request-only r part s =
+    s.octets
+    ∙ ap (λ rest. flags_octet r.flags ∷ rest) (number_then-halves r.msg_id s.msg_high s.msg_low r.topic s.msg)
 
 ping-only : (c : Option (List ℕ)) (part : List ℕ) → SpellsPing c part → part ≡ ping_part c
 ping-only None part s = s
@@ -73,15 +103,16 @@ part_of-only variants.WillTopicRequest part s = s
 part_of-only (variants.WillTopic x) part s = will_topic-only x part s
 part_of-only variants.WillMessageRequest part s = s
 part_of-only (variants.WillMessage x) part s = s
-part_of-only (variants.Register x) part s = register-only x part s
-part_of-only (variants.RegisterAck x) part s = topic_ack-only x part s
-part_of-only (variants.Publish x) part s = publish-only x part s
-part_of-only (variants.PublishAck x) part s = topic_ack-only x part s
+part_of-only (variants.Register x) part s = ids-only x.topic_id x.msg_id x.name part s
+part_of-only (variants.RegisterAck x) part s = ids-only x.topic_id x.msg_id (code_part x.code) part s
+part_of-only (variants.Publish x) part s = flagged-only x.flags x.topic_id x.msg_id x.payload part s
+part_of-only (variants.PublishAck x) part s = ids-only x.topic_id x.msg_id (code_part x.code) part s
 part_of-only (variants.PublishComplete x) part s = number-only x part s
 part_of-only (variants.PublishReceived x) part s = number-only x part s
 part_of-only (variants.PublishRelease x) part s = number-only x part s
 part_of-only (variants.Subscribe x) part s = topic_request-only x part s
-part_of-only (variants.SubscribeAck x) part s = subscribe_ack-only x part s
+part_of-only (variants.SubscribeAck x) part s =
+    flagged-only x.flags x.topic_id x.msg_id (code_part x.code) part s
 part_of-only (variants.Unsubscribe x) part s = topic_request-only x part s
 part_of-only (variants.UnsubscribeAck x) part s = number-only x part s
 part_of-only (variants.PingRequest x) part s = ping-only x part s
@@ -100,18 +131,8 @@ will_topic-written : (w : Option WillTopic) → SpellsWillTopic w (will_topic_pa
 will_topic-written None = refl
 will_topic-written (Some w) = refl
 
-topic_ack-written : (a : TopicAck) → a.topic_id < 2 ^ 16 → a.msg_id < 2 ^ 16 → SpellsTopicAck a (topic_ack_part a)
-topic_ack-written a topic_fits msg_fits = record {
-  topic_high = a.topic_id / 256;
-  topic_low = a.topic_id % 256;
-  topic = IsNumber-halves a.topic_id topic_fits;
-  msg_high = a.msg_id / 256;
-  msg_low = a.msg_id % 256;
-  msg = IsNumber-halves a.msg_id msg_fits;
-  octets = refl;
-}
-
-topic_request-written : (r : TopicRequest) → r.msg_id < 2 ^ 16 → FitsType r.flags.id_type r.topic → SpellsTopicRequest r (topic_request_part r)
+topic_request-written : (r : TopicRequest) → r.msg_id < 2 ^ 16 → FitsType r.flags.id_type r.topic
+    → SpellsTopicRequest r (topic_request_part r)
 topic_request-written r fits topic = record {
   msg_high = r.msg_id / 256;
   msg_low = r.msg_id % 256;
@@ -121,7 +142,8 @@ topic_request-written r fits topic = record {
 }
 
 -- a frame whose parts fit has the variable part that is written
-pub SpellsPart-part_of : (frame : SnFrame) → IsInRange frame → TopicFits frame → SpellsPart frame (part_of frame)
+pub SpellsPart-part_of : (frame : SnFrame) → IsInRange frame → TopicFits frame
+    → SpellsPart frame (part_of frame)
 SpellsPart-part_of (variants.Connect x) fits topic = record {
   duration_high = x.duration / 256;
   duration_low = x.duration % 256;
@@ -134,39 +156,20 @@ SpellsPart-part_of variants.WillTopicRequest fits topic = refl
 SpellsPart-part_of (variants.WillTopic x) fits topic = will_topic-written x
 SpellsPart-part_of variants.WillMessageRequest fits topic = refl
 SpellsPart-part_of (variants.WillMessage x) fits topic = refl
-SpellsPart-part_of (variants.Register x) fits topic = record {
-  topic_high = x.topic_id / 256;
-  topic_low = x.topic_id % 256;
-  topic = IsNumber-halves x.topic_id fits.0;
-  msg_high = x.msg_id / 256;
-  msg_low = x.msg_id % 256;
-  msg = IsNumber-halves x.msg_id fits.1;
-  octets = refl;
-}
-SpellsPart-part_of (variants.RegisterAck x) fits topic = topic_ack-written x fits.0 fits.1
-SpellsPart-part_of (variants.Publish x) fits topic = record {
-  topic_high = x.topic_id / 256;
-  topic_low = x.topic_id % 256;
-  topic = IsNumber-halves x.topic_id fits.0;
-  msg_high = x.msg_id / 256;
-  msg_low = x.msg_id % 256;
-  msg = IsNumber-halves x.msg_id fits.1;
-  octets = refl;
-}
-SpellsPart-part_of (variants.PublishAck x) fits topic = topic_ack-written x fits.0 fits.1
+SpellsPart-part_of (variants.Register x) fits topic =
+    ids-written x.topic_id x.msg_id x.name fits.0 fits.1
+SpellsPart-part_of (variants.RegisterAck x) fits topic =
+    ids-written x.topic_id x.msg_id (code_part x.code) fits.0 fits.1
+SpellsPart-part_of (variants.Publish x) fits topic =
+    flagged-written x.flags x.topic_id x.msg_id x.payload fits.0 fits.1
+SpellsPart-part_of (variants.PublishAck x) fits topic =
+    ids-written x.topic_id x.msg_id (code_part x.code) fits.0 fits.1
 SpellsPart-part_of (variants.PublishComplete x) fits topic = number-written x fits
 SpellsPart-part_of (variants.PublishReceived x) fits topic = number-written x fits
 SpellsPart-part_of (variants.PublishRelease x) fits topic = number-written x fits
 SpellsPart-part_of (variants.Subscribe x) fits topic = topic_request-written x fits topic
-SpellsPart-part_of (variants.SubscribeAck x) fits topic = record {
-  topic_high = x.topic_id / 256;
-  topic_low = x.topic_id % 256;
-  topic = IsNumber-halves x.topic_id fits.0;
-  msg_high = x.msg_id / 256;
-  msg_low = x.msg_id % 256;
-  msg = IsNumber-halves x.msg_id fits.1;
-  octets = refl;
-}
+SpellsPart-part_of (variants.SubscribeAck x) fits topic =
+    flagged-written x.flags x.topic_id x.msg_id (code_part x.code) fits.0 fits.1
 SpellsPart-part_of (variants.Unsubscribe x) fits topic = topic_request-written x fits topic
 SpellsPart-part_of (variants.UnsubscribeAck x) fits topic = number-written x fits
 SpellsPart-part_of (variants.PingRequest None) fits topic = refl

@@ -1,23 +1,29 @@
 -- What is written is spelled, and is the shortest spelling.
-use Rattle.std.proofs.Common.{◌≡◌, ℕ, ◌+◌, ◌/◌, ◌%◌, ◌^◌, ◌<◌, ◌≤◌, ◌⊎◌, List, ◌∷◌, length, refl, ap, sym, subst, ◌∙◌, inl, inr, arith}
+use Rattle.std.proofs.Common.{◌≡◌, ℕ, ◌+◌, ◌/◌, ◌%◌, ◌^◌, ◌<◌, ◌≤◌, ◌⊎◌, List, ◌∷◌, length, refl, ap, sym}
+use Rattle.std.proofs.Common.{subst, ◌∙◌, inl, inr, arith}
 use Rattle.std.proofs.lemmas.Bool.{cases_lt, lt-ltb, le-ltb}
 use Rattle.sng_frames.specs.declared.frame.SnFrame.{SnFrame}
 use Rattle.sng_frames.specs.Grammar.{SpellsMessage, SpellsPart, Spells, IsInRange, TopicFits, type_of}
+use Rattle.sng_frames.specs.declared.limits.TheConstants.{MAX_DATAGRAM, MAX_SHORT_LENGTH}
 use Rattle.sng_frames.specs.MessageTypes.{octet_of}
 use Rattle.sng_frames.specs.Writing.{number_then, written, framed, part_of, HasNoSpelling}
-use Rattle.sng_frames.proofs.PartWriting.{IsNumber-halves, number_then-halves, part_of-only, SpellsPart-part_of, TopicFits-spelled}
+use Rattle.sng_frames.proofs.PartWriting.{IsNumber-halves, number_then-halves, part_of-only}
+use Rattle.sng_frames.proofs.PartWriting.{SpellsPart-part_of, TopicFits-spelled}
 
-framed-short : (kind : ℕ) (part : List ℕ) → length part < 254 → framed kind part ≡ (length part + 2) ∷ kind ∷ part
-framed-short kind part short = rw (lt-ltb (length part) 254 short) refl
+framed-short : (kind : ℕ) (part : List ℕ) → length part + 2 ≤ MAX_SHORT_LENGTH
+    → framed kind part ≡ (length part + 2) ∷ kind ∷ part
+framed-short kind part short = rw (le-ltb MAX_SHORT_LENGTH (length part + 2) short) refl
 
-framed-long : (kind : ℕ) (part : List ℕ) → 254 ≤ length part → framed kind part ≡ 1 ∷ number_then (length part + 4) (kind ∷ part)
-framed-long kind part long = rw (le-ltb (length part) 254 long) refl
+framed-long : (kind : ℕ) (part : List ℕ) → MAX_SHORT_LENGTH < length part + 2
+    → framed kind part ≡ 1 ∷ number_then (length part + 4) (kind ∷ part)
+framed-long kind part long = rw (lt-ltb MAX_SHORT_LENGTH (length part + 2) long) refl
 
-SpellsMessage-framed : (kind : ℕ) (part : List ℕ) → length part + 4 < 2 ^ 16 → SpellsMessage kind part (framed kind part)
+SpellsMessage-framed : (kind : ℕ) (part : List ℕ) → length part + 4 < 2 ^ 16
+    → SpellsMessage kind part (framed kind part)
 SpellsMessage-framed kind part fits =
-    elim (cases_lt (length part) 254) [
-      | inl short ↦ inl (record { octets = framed-short kind part short; fits = omega arith })
-      | inr long ↦ inr (record {
+    elim (cases_lt MAX_SHORT_LENGTH (length part + 2)) [
+      | inr short ↦ inl (record { octets = framed-short kind part short; fits = omega arith })
+      | inl long ↦ inr (record {
         high = (length part + 4) / 256;
         low = (length part + 4) % 256;
         total = IsNumber-halves (length part + 4) fits;
@@ -25,19 +31,24 @@ SpellsMessage-framed kind part fits =
       })
     ]
 
-part-length : (kind : ℕ) (part : List ℕ) → length (framed kind part) ≤ 2048 → length part + 4 < 2 ^ 16
+part-length : (kind : ℕ) (part : List ℕ) → length (framed kind part) ≤ MAX_DATAGRAM → length part + 4 < 2 ^ 16
 part-length kind part fits =
-    elim (cases_lt (length part) 254) [
-      | inl short ↦ omega arith
-      | inr long ↦ (let shown : length (1 ∷ number_then (length part + 4) (kind ∷ part)) ≤ 2048 = rw (framed-long kind part long) at fits in omega arith)
+    elim (cases_lt MAX_SHORT_LENGTH (length part + 2)) [
+      | inr short ↦ omega arith
+      | inl long ↦
+          (let shown : length (1 ∷ number_then (length part + 4) (kind ∷ part)) ≤ MAX_DATAGRAM =
+          rw (framed-long kind part long) at fits in omega arith)
     ]
 
 -- a frame whose parts fit is written as bytes that spell it
-pub Spells-written : (frame : SnFrame) → IsInRange frame → TopicFits frame → length (written frame) ≤ 2048 → Spells frame (written frame)
+pub Spells-written : (frame : SnFrame) → IsInRange frame → TopicFits frame
+    → length (written frame) ≤ MAX_DATAGRAM → Spells frame (written frame)
 Spells-written frame fits topic short = record {
   part = part_of frame;
   variable = SpellsPart-part_of frame fits topic;
-  message = SpellsMessage-framed (octet_of (type_of frame)) (part_of frame) (part-length (octet_of (type_of frame)) (part_of frame) short);
+  message =
+      SpellsMessage-framed (octet_of (type_of frame)) (part_of frame)
+      (part-length (octet_of (type_of frame)) (part_of frame) short);
 }
 
 -- a Length counts less than 65,536 octets
@@ -53,28 +64,41 @@ Spells-spelled frame b s =
       part = part_of frame;
       variable = subst (SpellsPart frame) only s.variable;
       message = SpellsMessage-framed (octet_of (type_of frame)) (part_of frame)
-          (subst (λ part. length part + 4 < 2 ^ 16) only (message-length (octet_of (type_of frame)) s.part b s.message));
+          (subst (λ part. length part + 4 < 2 ^ 16) only
+          (message-length (octet_of (type_of frame)) s.part b s.message));
     }
 
 -- every other spelling is longer
-framed-shortest : (kind : ℕ) (part b : List ℕ) → SpellsMessage kind part b → (b ≡ framed kind part) ⊎ (length (framed kind part) < length b)
+framed-shortest : (kind : ℕ) (part b : List ℕ) → SpellsMessage kind part b → (b ≡ framed kind part)
+    ⊎ (length (framed kind part) < length b)
 framed-shortest kind part b (inl s) = inl (s.octets ∙ sym (framed-short kind part (omega (arith, s.fits))))
 framed-shortest kind part b (inr s) =
-    elim (cases_lt (length part) 254) [
-      | inl short ↦ (let one : length (framed kind part) ≡ length part + 2 = ap length (framed-short kind part short) ∙ omega arith in
+    elim (cases_lt MAX_SHORT_LENGTH (length part + 2)) [
+      | inr short ↦
+          (let one : length (framed kind part) ≡ length part + 2 =
+          ap length (framed-short kind part short) ∙ omega arith in
           let three : length b ≡ length part + 4 = ap length s.octets ∙ omega arith in
           inr (omega (arith, one, three)))
-      | inr long ↦ inl (s.octets ∙ ap (λ rest. 1 ∷ rest) (number_then-halves (length part + 4) s.high s.low (kind ∷ part) s.total) ∙ sym (framed-long kind part long))
+      | inl long ↦
+          inl
+          (s.octets
+          ∙ ap (λ rest. 1 ∷ rest) (number_then-halves (length part + 4) s.high s.low (kind ∷ part) s.total)
+          ∙ sym (framed-long kind part long))
     ]
 
-pub written-shortest : (frame : SnFrame) (b : List ℕ) → Spells frame b → (b ≡ written frame) ⊎ (length (written frame) < length b)
+pub written-shortest : (frame : SnFrame) (b : List ℕ) → Spells frame b → (b ≡ written frame)
+    ⊎ (length (written frame) < length b)
 written-shortest frame b s =
-    subst (λ part. (b ≡ framed (octet_of (type_of frame)) part) ⊎ (length (framed (octet_of (type_of frame)) part) < length b))
+    subst
+    (λ part. (b ≡ framed (octet_of (type_of frame)) part)
+    ⊎ (length (framed (octet_of (type_of frame)) part) < length b))
     (part_of-only frame s.part s.variable) (framed-shortest (octet_of (type_of frame)) s.part b s.message)
 
 -- a frame whose topic does not fit has no spelling
-pub none-spelled : (frame : SnFrame) → length (written frame) ≤ 2048 → (TopicFits frame → ⊥) → HasNoSpelling frame
-none-spelled frame short unfit = record { short = short; none = λ b s. unfit (TopicFits-spelled frame s.part s.variable) }
+pub none-spelled : (frame : SnFrame) → length (written frame) ≤ MAX_DATAGRAM → (TopicFits frame → ⊥)
+    → HasNoSpelling frame
+none-spelled frame short unfit =
+    record { short = short; none = λ b s. unfit (TopicFits-spelled frame s.part s.variable) }
 
 -- one whose parts fit has one, unless it is too long
 pub some-spelled : (frame : SnFrame) → IsInRange frame → TopicFits frame → HasNoSpelling frame → ⊥

@@ -1,5 +1,6 @@
 -- A type and its octet, from one to the other and back.
-use Rattle.std.proofs.Common.{◌≡◌, ℕ, ◌==◌, Bool, true, false, List, [], ◌∷◌, Option, Some, None, cond, refl, ap, sym, ◌∙◌, find}
+use Rattle.std.proofs.Common.{◌≡◌, ℕ, ◌==◌, Bool, true, false, List, [], ◌∷◌, Option, Some, None, cond, refl}
+use Rattle.std.proofs.Common.{ap, sym, ◌∙◌, find}
 use Rattle.std.proofs.lemmas.Bool.{eqb-true}
 use Rattle.sng_frames.specs.declared.message_type.MessageType.{MessageType}
 use Rattle.sng_frames.specs.declared.message_type.MessageType.TheVariants as types
@@ -32,23 +33,28 @@ type_of_octet-octet_of types.WillTopicResponse = refl
 type_of_octet-octet_of types.WillMessageUpdate = refl
 type_of_octet-octet_of types.WillMessageResponse = refl
 
-found-tail : (octet : ℕ) (b : Bool) (first t : MessageType) (rest : Option MessageType) → (octet == octet_of first) ≡ b
+found-tail : (octet : ℕ) (b : Bool) (first t : MessageType) (rest : Option MessageType)
+    → (octet == octet_of first) ≡ b
     → (rest ≡ Some t → octet ≡ octet_of t) → cond b (Some first) rest ≡ Some t → octet ≡ octet_of t
 found-tail octet true first t rest test later is =
     let same : first ≡ t = cc in
     eqb-true octet (octet_of first) test ∙ ap octet_of same
 found-tail octet false first t rest test later is = later is
 
-found : (octet : ℕ) (ts : List MessageType) (t : MessageType) → find (λ u. octet == octet_of u) ts ≡ Some t → octet ≡ octet_of t
+found : (octet : ℕ) (ts : List MessageType) (t : MessageType) → find (λ u. octet == octet_of u) ts ≡ Some t
+    → octet ≡ octet_of t
 found octet [] t is = cc
-found octet (first ∷ ts) t is = found-tail octet (octet == octet_of first) first t (find (λ u. octet == octet_of u) ts) refl (found octet ts t) is
+found octet (first ∷ ts) t is =
+    found-tail octet (octet == octet_of first) first t (find (λ u. octet == octet_of u) ts) refl
+    (found octet ts t) is
 
 -- a type that an octet is has that octet
 pub octet_of-type_of_octet : (octet : ℕ) (t : MessageType) → type_of_octet octet ≡ Some t → octet ≡ octet_of t
 octet_of-type_of_octet octet t is = found octet all_types t is
 
 -- a type's octet is none that is no type
-pub octet_of-other : (t : MessageType) (n : ℕ) (b : Bool) → type_of_octet n ≡ None → (octet_of t == n) ≡ b → b ≡ false
+pub octet_of-other : (t : MessageType) (n : ℕ) (b : Bool) → type_of_octet n ≡ None → (octet_of t == n) ≡ b
+    → b ≡ false
 octet_of-other t n false none test = refl
 octet_of-other t n true none test =
     let same : octet_of t ≡ n = eqb-true (octet_of t) n test in

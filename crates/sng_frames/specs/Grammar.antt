@@ -1,6 +1,8 @@
--- Which bytes spell which frame (MQTT-SN 1.2, 5.2 to 5.4), apart from how they are read or written.
-use Rattle.std.specs.Prelude.{◌≡◌, ◌≢◌, ℕ, ◌+◌, ◌*◌, ◌^◌, ◌<◌, ◌≤◌, ◌⊎◌, true, List, [], ◌∷◌, length, Option, Some, None}
+-- Which bytes spell which frame (MQTT-SN 1.2, 5.2 to 5.4), apart from how they are decoded or encoded.
+use Rattle.std.specs.Prelude.{◌≡◌, ◌≢◌, ℕ, ◌+◌, ◌*◌, ◌^◌, ◌<◌, ◌≤◌, ◌⊎◌, true, List, [], ◌∷◌, length, Option}
+use Rattle.std.specs.Prelude.{Some, None}
 use Rattle.sng_text.specs.ClientIds.{is_client_id}
+use Rattle.sng_frames.specs.declared.flags.Flags.{Flags}
 use Rattle.sng_frames.specs.declared.flags.TopicIdType.{TopicIdType}
 use Rattle.sng_frames.specs.declared.flags.TopicIdType.TheVariants.{Normal, Predefined, Short, Reserved}
 use Rattle.sng_frames.specs.declared.frame.Connect.{Connect}
@@ -12,6 +14,7 @@ use Rattle.sng_frames.specs.declared.frame.SubscribeAck.{SubscribeAck}
 use Rattle.sng_frames.specs.declared.frame.TopicAck.{TopicAck}
 use Rattle.sng_frames.specs.declared.frame.TopicRequest.{TopicRequest}
 use Rattle.sng_frames.specs.declared.frame.WillTopic.{WillTopic}
+use Rattle.sng_frames.specs.declared.limits.TheConstants.{MAX_SHORT_LENGTH}
 use Rattle.sng_frames.specs.declared.message_type.MessageType.{MessageType}
 use Rattle.sng_frames.specs.declared.message_type.MessageType.TheVariants as types
 use Rattle.sng_frames.specs.declared.return_code.ReturnCode.{ReturnCode}
@@ -27,14 +30,14 @@ pub record IsNumber (n high low : ℕ) : Type 0 where
 -- Length in one octet: it counts itself, MsgType and the variable part, and is no 1
 pub record SpellsShort (kind : ℕ) (part b : List ℕ) : Type 0 where
   pub octets : b ≡ (length part + 2) ∷ kind ∷ part
-  pub fits : length part + 2 < 256
+  pub fits : length part + 2 ≤ MAX_SHORT_LENGTH
 
 -- Length in three octets: 1, and the number of all the octets
 pub record SpellsLong (kind : ℕ) (part b : List ℕ) : Type 0 where
   pub high : ℕ
   pub low : ℕ
   pub total : IsNumber (length part + 4) high low
-  pub octets : b ≡ 1 ∷ high ∷ low ∷ kind ∷ part
+  pub octets : b ≡ 0x01 ∷ high ∷ low ∷ kind ∷ part
 
 -- a message of that MsgType and variable part, in either spelling of its Length (5.2.1)
 abbrev pub SpellsMessage : ℕ → List ℕ → List ℕ → Type 0
@@ -52,7 +55,8 @@ pub record SpellsConnect (c : Connect) (part : List ℕ) : Type 0 where
 abbrev pub SpellsCode : ReturnCode → List ℕ → Type 0
 SpellsCode code part = part ≡ code.0 ∷ []
 
--- a number alone: the MsgId of a PUBREC, PUBREL, PUBCOMP (5.4.14) or UNSUBACK (5.4.18), the Duration of a DISCONNECT (5.4.21)
+-- a number alone: the MsgId of a PUBREC, PUBREL, PUBCOMP (5.4.14) or UNSUBACK (5.4.18), the Duration of a
+-- DISCONNECT (5.4.21)
 pub record SpellsNumber (n : ℕ) (part : List ℕ) : Type 0 where
   pub high : ℕ
   pub low : ℕ
@@ -64,35 +68,33 @@ abbrev pub SpellsWillTopic : Option WillTopic → List ℕ → Type 0
 SpellsWillTopic None part = part ≡ []
 SpellsWillTopic (Some w) part = part ≡ flags_octet w.flags ∷ w.topic
 
--- the variable part of a REGISTER: TopicId, MsgId and TopicName (5.4.10)
-pub record SpellsRegister (r : Register) (part : List ℕ) : Type 0 where
+-- TopicId and MsgId, in front of other octets
+pub record SpellsIds (topic_id msg_id : ℕ) (behind part : List ℕ) : Type 0 where
   pub topic_high : ℕ
   pub topic_low : ℕ
-  pub topic : IsNumber r.topic_id topic_high topic_low
+  pub topic : IsNumber topic_id topic_high topic_low
   pub msg_high : ℕ
   pub msg_low : ℕ
-  pub msg : IsNumber r.msg_id msg_high msg_low
-  pub octets : part ≡ topic_high ∷ topic_low ∷ msg_high ∷ msg_low ∷ r.name
+  pub msg : IsNumber msg_id msg_high msg_low
+  pub octets : part ≡ topic_high ∷ topic_low ∷ msg_high ∷ msg_low ∷ behind
+
+-- Flags, TopicId and MsgId, in front of other octets
+pub record SpellsFlaggedIds (flags : Flags) (topic_id msg_id : ℕ) (behind part : List ℕ) : Type 0 where
+  pub ids : List ℕ
+  pub spelled : SpellsIds topic_id msg_id behind ids
+  pub octets : part ≡ flags_octet flags ∷ ids
+
+-- the variable part of a REGISTER: TopicId, MsgId and TopicName (5.4.10)
+abbrev pub SpellsRegister : Register → List ℕ → Type 0
+SpellsRegister r part = SpellsIds r.topic_id r.msg_id r.name part
 
 -- the variable part of a REGACK or PUBACK: TopicId, MsgId and ReturnCode (5.4.11, 5.4.13)
-pub record SpellsTopicAck (a : TopicAck) (part : List ℕ) : Type 0 where
-  pub topic_high : ℕ
-  pub topic_low : ℕ
-  pub topic : IsNumber a.topic_id topic_high topic_low
-  pub msg_high : ℕ
-  pub msg_low : ℕ
-  pub msg : IsNumber a.msg_id msg_high msg_low
-  pub octets : part ≡ topic_high ∷ topic_low ∷ msg_high ∷ msg_low ∷ a.code.0 ∷ []
+abbrev pub SpellsTopicAck : TopicAck → List ℕ → Type 0
+SpellsTopicAck a part = SpellsIds a.topic_id a.msg_id (a.code.0 ∷ []) part
 
 -- the variable part of a PUBLISH: Flags, TopicId, MsgId and the data (5.4.12)
-pub record SpellsPublish (p : Publish) (part : List ℕ) : Type 0 where
-  pub topic_high : ℕ
-  pub topic_low : ℕ
-  pub topic : IsNumber p.topic_id topic_high topic_low
-  pub msg_high : ℕ
-  pub msg_low : ℕ
-  pub msg : IsNumber p.msg_id msg_high msg_low
-  pub octets : part ≡ flags_octet p.flags ∷ topic_high ∷ topic_low ∷ msg_high ∷ msg_low ∷ p.payload
+abbrev pub SpellsPublish : Publish → List ℕ → Type 0
+SpellsPublish p part = SpellsFlaggedIds p.flags p.topic_id p.msg_id p.payload part
 
 -- the octets in place of a TopicId: two for a predefined id or a short name, else any (5.4.15)
 abbrev pub FitsType : TopicIdType → List ℕ → Type 0
@@ -110,14 +112,8 @@ pub record SpellsTopicRequest (r : TopicRequest) (part : List ℕ) : Type 0 wher
   pub octets : part ≡ flags_octet r.flags ∷ msg_high ∷ msg_low ∷ r.topic
 
 -- the variable part of a SUBACK: Flags, TopicId, MsgId and ReturnCode (5.4.16)
-pub record SpellsSubscribeAck (a : SubscribeAck) (part : List ℕ) : Type 0 where
-  pub topic_high : ℕ
-  pub topic_low : ℕ
-  pub topic : IsNumber a.topic_id topic_high topic_low
-  pub msg_high : ℕ
-  pub msg_low : ℕ
-  pub msg : IsNumber a.msg_id msg_high msg_low
-  pub octets : part ≡ flags_octet a.flags ∷ topic_high ∷ topic_low ∷ msg_high ∷ msg_low ∷ a.code.0 ∷ []
+abbrev pub SpellsSubscribeAck : SubscribeAck → List ℕ → Type 0
+SpellsSubscribeAck a part = SpellsFlaggedIds a.flags a.topic_id a.msg_id (a.code.0 ∷ []) part
 
 -- the variable part of a PINGREQ: nothing, or the ClientId of a client that wakes up (5.4.19)
 abbrev pub SpellsPing : Option (List ℕ) → List ℕ → Type 0
@@ -222,11 +218,35 @@ IsInRange (variants.WillMessageResponse _) = Unit {0}
 abbrev pub TopicFits : SnFrame → Type 0
 TopicFits (variants.Subscribe r) = FitsType r.flags.id_type r.topic
 TopicFits (variants.Unsubscribe r) = FitsType r.flags.id_type r.topic
-TopicFits _ = Unit {0}
+TopicFits (variants.Connect _) = Unit {0}
+TopicFits (variants.ConnectAck _) = Unit {0}
+TopicFits variants.WillTopicRequest = Unit {0}
+TopicFits (variants.WillTopic _) = Unit {0}
+TopicFits variants.WillMessageRequest = Unit {0}
+TopicFits (variants.WillMessage _) = Unit {0}
+TopicFits (variants.Register _) = Unit {0}
+TopicFits (variants.RegisterAck _) = Unit {0}
+TopicFits (variants.Publish _) = Unit {0}
+TopicFits (variants.PublishAck _) = Unit {0}
+TopicFits (variants.PublishComplete _) = Unit {0}
+TopicFits (variants.PublishReceived _) = Unit {0}
+TopicFits (variants.PublishRelease _) = Unit {0}
+TopicFits (variants.SubscribeAck _) = Unit {0}
+TopicFits (variants.UnsubscribeAck _) = Unit {0}
+TopicFits (variants.PingRequest _) = Unit {0}
+TopicFits variants.PingResponse = Unit {0}
+TopicFits (variants.Disconnect _) = Unit {0}
+TopicFits (variants.WillTopicUpdate _) = Unit {0}
+TopicFits (variants.WillTopicResponse _) = Unit {0}
+TopicFits (variants.WillMessageUpdate _) = Unit {0}
+TopicFits (variants.WillMessageResponse _) = Unit {0}
 
--- ADVERTISE 00, SEARCHGW 01 and GWINFO 02, each with a variable part of a size that the standard gives it (5.4.1 to 5.4.3)
+-- ADVERTISE, SEARCHGW and GWINFO, each with a variable part of a size that the standard gives it (5.4.1 to
+-- 5.4.3)
 abbrev pub IsDiscovery : ℕ → List ℕ → Type 0
-IsDiscovery kind part = ((kind ≡ 0) × (length part ≡ 3)) ⊎ (((kind ≡ 1) × (length part ≡ 1)) ⊎ ((kind ≡ 2) × (1 ≤ length part)))
+IsDiscovery kind part =
+    ((kind ≡ 0x00) × (length part ≡ 3))
+    ⊎ (((kind ≡ 0x01) × (length part ≡ 1)) ⊎ ((kind ≡ 0x02) × (1 ≤ length part)))
 
 -- a message of gateway discovery
 pub record SpellsDiscovery (b : List ℕ) : Type 0 where
@@ -235,20 +255,20 @@ pub record SpellsDiscovery (b : List ℕ) : Type 0 where
   pub is : IsDiscovery kind part
   pub message : SpellsMessage kind part b
 
--- forwarder encapsulation: MsgType FE behind a Length of one octet, whatever it counts (5.5)
+-- forwarder encapsulation, behind a Length of one octet, whatever it counts (5.5)
 pub record EncapsulatesShort (b : List ℕ) : Type 0 where
   pub first : ℕ
   pub rest : List ℕ
-  pub short : first ≢ 1
-  pub octets : b ≡ first ∷ 254 ∷ rest
+  pub short : first ≢ 0x01
+  pub octets : b ≡ first ∷ 0xfe ∷ rest
 
 -- and behind one of three octets
 pub record EncapsulatesLong (b : List ℕ) : Type 0 where
   pub high : ℕ
   pub low : ℕ
   pub rest : List ℕ
-  pub octets : b ≡ 1 ∷ high ∷ low ∷ 254 ∷ rest
+  pub octets : b ≡ 0x01 ∷ high ∷ low ∷ 0xfe ∷ rest
 
--- the bytes spell a message of a type that is not read
+-- the bytes spell a message of a type that is not decoded
 abbrev pub IsUnsupported : List ℕ → Type 0
 IsUnsupported b = SpellsDiscovery b ⊎ (EncapsulatesShort b ⊎ EncapsulatesLong b)

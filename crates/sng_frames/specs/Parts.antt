@@ -1,4 +1,4 @@
--- What a variable part is read as (MQTT-SN 1.2, 5.3 and 5.4).
+-- What a variable part is decoded as (MQTT-SN 1.2, 5.3 and 5.4).
 use Rattle.std.specs.Prelude.{ℕ, ◌+◌, ◌*◌, ◌==◌, Bool, true, List, [], ◌∷◌, length, if◌then◌else◌, Some, None}
 use Rattle.std.specs.Option.{option_map}
 use Rattle.std.specs.declared.option.Option.{Option}
@@ -55,7 +55,15 @@ ping_of (octet ∷ part) = option_map Some (client_id_of (octet ∷ part))
 -- Flags, ProtocolId, Duration, ClientId
 abbrev pub connect_of : List ℕ → Option Connect
 connect_of (flags ∷ protocol_id ∷ high ∷ low ∷ text) =
-    option_map (λ (client_id : List ℕ). record { flags = flags_of flags; protocol_id = protocol_id; duration = number high low; client_id = client_id }) (client_id_of text)
+    option_map
+    (λ
+    (client_id : List ℕ). record {
+      flags = flags_of flags;
+      protocol_id = protocol_id;
+      duration = number high low;
+      client_id =
+          client_id;
+    }) (client_id_of text)
 connect_of _ = None
 
 -- nothing, or Flags and a topic
@@ -65,19 +73,33 @@ will_topic_of (flags ∷ topic) = Some (record { flags = flags_of flags; topic =
 
 -- TopicId, MsgId, TopicName
 abbrev pub register_of : List ℕ → Option Register
-register_of (topic_high ∷ topic_low ∷ msg_high ∷ msg_low ∷ name) = Some (record { topic_id = number topic_high topic_low; msg_id = number msg_high msg_low; name = name })
+register_of (topic_high ∷ topic_low ∷ msg_high ∷ msg_low ∷ name) =
+    Some (record { topic_id = number topic_high topic_low; msg_id = number msg_high msg_low; name = name })
 register_of _ = None
 
 -- TopicId, MsgId, ReturnCode
 abbrev pub topic_ack_of : List ℕ → Option TopicAck
 topic_ack_of (topic_high ∷ topic_low ∷ msg_high ∷ msg_low ∷ code ∷ []) =
-    Some (record { topic_id = number topic_high topic_low; msg_id = number msg_high msg_low; code = record { 0 = code } })
+    Some
+    (record {
+      topic_id = number topic_high topic_low;
+      msg_id = number msg_high msg_low;
+      code =
+          record { 0 = code };
+    })
 topic_ack_of _ = None
 
 -- Flags, TopicId, MsgId, data
 abbrev pub publish_of : List ℕ → Option Publish
 publish_of (flags ∷ topic_high ∷ topic_low ∷ msg_high ∷ msg_low ∷ payload) =
-    Some (record { flags = flags_of flags; topic_id = number topic_high topic_low; msg_id = number msg_high msg_low; payload = payload })
+    Some
+    (record {
+      flags = flags_of flags;
+      topic_id = number topic_high topic_low;
+      msg_id =
+          number msg_high msg_low;
+      payload = payload;
+    })
 publish_of _ = None
 
 -- whether a topic is of the size that its type asks for: two octets for a predefined id and a short name
@@ -98,7 +120,14 @@ topic_request_of _ = None
 -- Flags, TopicId, MsgId, ReturnCode
 abbrev pub subscribe_ack_of : List ℕ → Option SubscribeAck
 subscribe_ack_of (flags ∷ topic_high ∷ topic_low ∷ msg_high ∷ msg_low ∷ code ∷ []) =
-    Some (record { flags = flags_of flags; topic_id = number topic_high topic_low; msg_id = number msg_high msg_low; code = record { 0 = code } })
+    Some
+    (record {
+      flags = flags_of flags;
+      topic_id = number topic_high topic_low;
+      msg_id =
+          number msg_high msg_low;
+      code = record { 0 = code };
+    })
 subscribe_ack_of _ = None
 
 -- the frame of a type and its variable part, where the part is one of the type

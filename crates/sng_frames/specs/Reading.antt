@@ -1,22 +1,27 @@
 -- Which frame a datagram is (MQTT-SN 1.2, 5.2 to 5.5).
-use Rattle.std.specs.Prelude.{◌≡◌, ℕ, ◌==◌, nat_lt, Bool, ◌&&◌, ◌||◌, ◌⊎◌, List, [], ◌∷◌, length, if◌then◌else◌, Some, None, Ok, Err}
+use Rattle.std.specs.Prelude.{◌≡◌, ℕ, ◌==◌, nat_lt, Bool, ◌&&◌, ◌||◌, ◌⊎◌, List, [], ◌∷◌, length}
+use Rattle.std.specs.Prelude.{if◌then◌else◌}
+use Rattle.std.specs.Prelude.{Some, None, Ok, Err}
 use Rattle.std.specs.Option.{option_and_then}
 use Rattle.std.specs.declared.option.Option.{Option}
 use Rattle.std.specs.declared.result.Result.{Result}
 use Rattle.sng_frames.specs.declared.fault.FrameFault.{FrameFault}
 use Rattle.sng_frames.specs.declared.fault.FrameFault.TheVariants.{Malformed, NotSupported, Memory}
 use Rattle.sng_frames.specs.declared.frame.SnFrame.{SnFrame}
+use Rattle.sng_frames.specs.declared.limits.TheConstants.{MAX_DATAGRAM}
 use Rattle.sng_frames.specs.MessageTypes.{type_of_octet}
 use Rattle.sng_frames.specs.Parts.{number, part_read}
 
--- a reader's answer to bytes that mean this, or nothing: its copies may be refused
+-- a decoder's answer to bytes that mean this, or nothing: the allocation of its copy may fail
 abbrev pub Reads : {A : Type 0} → Result A FrameFault → Option A → Type 0
 Reads (Ok x) meant = meant ≡ Some x
 Reads (Err fault) meant = (fault ≡ Memory) ⊎ ((fault ≡ Malformed) × (meant ≡ None))
 
--- ADVERTISE 00, SEARCHGW 01 and GWINFO 02, of a right size (5.4.1 to 5.4.3)
+-- ADVERTISE, SEARCHGW and GWINFO, of a right size (5.4.1 to 5.4.3)
 abbrev pub is_discovery : ℕ → List ℕ → Bool
-is_discovery kind part = ((kind == 0) && (length part == 3)) || (((kind == 1) && (length part == 1)) || ((kind == 2) && nat_lt 0 (length part)))
+is_discovery kind part =
+    ((kind == 0x00) && (length part == 3))
+    || (((kind == 0x01) && (length part == 1)) || ((kind == 0x02) && nat_lt 0 (length part)))
 
 -- where nothing is meant, the bytes are malformed
 abbrev pub or_malformed : {A : Type 0} → Option A → Result A FrameFault
@@ -31,10 +36,12 @@ message_of kind part =
     else or_malformed (option_and_then (λ t. part_read t part) (type_of_octet kind))
 
 -- what stands behind a Length, in a datagram of so many octets: MsgType and the variable part.
--- 254 is forwarder encapsulation (5.5), whose layout is another one and is not read
+-- Forwarder encapsulation (5.5) has another layout, which is not decoded
 abbrev pub behind_length : ℕ → ℕ → List ℕ → Result SnFrame FrameFault
-behind_length told size [] = Err Malformed
-behind_length told size (kind ∷ part) = if kind == 254 then Err NotSupported else (if told == size then message_of kind part else Err Malformed)
+behind_length stated size [] = Err Malformed
+behind_length stated size (kind ∷ part) =
+    if kind == 0xfe then Err NotSupported
+    else (if stated == size then message_of kind part else Err Malformed)
 
 -- a Length of three octets, behind its first one
 abbrev pub behind_one : ℕ → List ℕ → Result SnFrame FrameFault
@@ -44,8 +51,10 @@ behind_one size _ = Err Malformed
 -- the octets of a datagram of that size, from its Length on (5.2.1)
 abbrev pub octets_read : ℕ → List ℕ → Result SnFrame FrameFault
 octets_read size [] = Err Malformed
-octets_read size (first ∷ octets) = if first == 1 then behind_one size octets else behind_length first size octets
+octets_read size (first ∷ octets) =
+    if first == 0x01 then behind_one size octets else behind_length first size octets
 
--- the frame that a datagram is; none has more than 2,048 octets
+-- the frame that a datagram is; none has more than MAX_DATAGRAM octets
 abbrev pub frame_of : List ℕ → Result SnFrame FrameFault
-frame_of datagram = if nat_lt 2048 (length datagram) then Err Malformed else octets_read (length datagram) datagram
+frame_of datagram =
+    if nat_lt MAX_DATAGRAM (length datagram) then Err Malformed else octets_read (length datagram) datagram

@@ -1,5 +1,7 @@
--- The bytes of a frame with the shortest Length (MQTT-SN 1.2, 5.2 to 5.4).
-use Rattle.std.specs.Prelude.{◌≡◌, ℕ, ◌≤◌, ◌<◌, ◌⊎◌, ◌+◌, ◌/◌, ◌%◌, nat_lt, List, [], ◌∷◌, length, if◌then◌else◌, Some, None, Ok, Err, Vec}
+-- The bytes that a frame is encoded as, with the shortest Length (MQTT-SN 1.2, 5.2 to 5.4).
+use Rattle.std.specs.Prelude.{◌≡◌, ℕ, ◌≤◌, ◌<◌, ◌⊎◌, ◌+◌, ◌/◌, ◌%◌, nat_lt, List, [], ◌∷◌, length}
+use Rattle.std.specs.Prelude.{if◌then◌else◌}
+use Rattle.std.specs.Prelude.{Some, None, Ok, Err, Vec}
 use Rattle.std.specs.declared.option.Option.{Option}
 use Rattle.std.specs.Global.{Global}
 use Rattle.std.specs.declared.result.Result.{Result}
@@ -14,6 +16,7 @@ use Rattle.sng_frames.specs.declared.frame.SubscribeAck.{SubscribeAck}
 use Rattle.sng_frames.specs.declared.frame.TopicAck.{TopicAck}
 use Rattle.sng_frames.specs.declared.frame.TopicRequest.{TopicRequest}
 use Rattle.sng_frames.specs.declared.frame.WillTopic.{WillTopic}
+use Rattle.sng_frames.specs.declared.limits.TheConstants.{MAX_DATAGRAM, MAX_SHORT_LENGTH}
 use Rattle.sng_frames.specs.declared.return_code.ReturnCode.{ReturnCode}
 use Rattle.sng_frames.specs.FlagsOctet.{flags_octet}
 use Rattle.sng_frames.specs.Grammar.{Spells, TopicFits, type_of}
@@ -46,7 +49,8 @@ abbrev pub topic_request_part : TopicRequest → List ℕ
 topic_request_part r = flags_octet r.flags ∷ number_then r.msg_id r.topic
 
 abbrev pub subscribe_ack_part : SubscribeAck → List ℕ
-subscribe_ack_part a = flags_octet a.flags ∷ number_then a.topic_id (number_then a.msg_id (code_part a.code))
+subscribe_ack_part a =
+    flags_octet a.flags ∷ number_then a.topic_id (number_then a.msg_id (code_part a.code))
 
 abbrev pub ping_part : Option (List ℕ) → List ℕ
 ping_part None = []
@@ -83,28 +87,33 @@ part_of (variants.WillTopicResponse code) = code_part code
 part_of (variants.WillMessageUpdate message) = message
 part_of (variants.WillMessageResponse code) = code_part code
 
--- a message behind its Length, which has one octet up to 255 and else three (5.2.1)
+-- a message behind its Length, which has one octet as long as that can count them, and else three (5.2.1)
 abbrev pub framed : ℕ → List ℕ → List ℕ
 framed kind part =
-    if nat_lt (length part) 254
-    then (length part + 2) ∷ kind ∷ part
-    else 1 ∷ number_then (length part + 4) (kind ∷ part)
+    if nat_lt MAX_SHORT_LENGTH (length part + 2)
+    then 0x01 ∷ number_then (length part + 4) (kind ∷ part)
+    else (length part + 2) ∷ kind ∷ part
 
 abbrev pub written : SnFrame → List ℕ
 written frame = framed (octet_of (type_of frame)) (part_of frame)
 
--- a writer's answer where these octets are to be written: they are at most 2,048, and only memory can be wanting, or they are too many
+-- the answer where these octets are to be encoded: they fit a datagram and only an allocation can fail, or
+-- they are
+-- too many
 abbrev pub Writes : Result (Vec ℕ Global) FrameFault → List ℕ → Type 0
-Writes (Ok v) octets = (v.items ≡ octets) × (length octets ≤ 2048)
-Writes (Err fault) octets = ((fault ≡ TooLong) × (2048 < length octets)) ⊎ ((fault ≡ Memory) × (length octets ≤ 2048))
+Writes (Ok v) octets = (v.items ≡ octets) × (length octets ≤ MAX_DATAGRAM)
+Writes (Err fault) octets =
+    ((fault ≡ TooLong) × (MAX_DATAGRAM < length octets)) ⊎ ((fault ≡ Memory) × (length octets ≤ MAX_DATAGRAM))
 
--- why a frame is not written, before memory is asked for: it is too long, or else the octets of its topic do not fit their type
+-- why a frame is not encoded, before memory is asked for: it is too long, or else the octets of its topic do
+-- not fit
+-- their type
 abbrev pub Refuses : FrameFault → SnFrame → Type 0
 Refuses fault frame =
-    ((fault ≡ TooLong) × (2048 < length (written frame)))
-    ⊎ ((fault ≡ Malformed) × (length (written frame) ≤ 2048) × (¬ TopicFits frame))
+    ((fault ≡ TooLong) × (MAX_DATAGRAM < length (written frame)))
+    ⊎ ((fault ≡ Malformed) × (length (written frame) ≤ MAX_DATAGRAM) × (¬ TopicFits frame))
 
 -- the frame has no spelling, though its bytes would not be too many
 pub record HasNoSpelling (frame : SnFrame) : Type 0 where
-  pub short : length (written frame) ≤ 2048
+  pub short : length (written frame) ≤ MAX_DATAGRAM
   pub none : (b : List ℕ) → ¬ Spells frame b

@@ -1,4 +1,4 @@
-//! Why a datagram is no frame that is read, or a frame none that is written.
+//! Why a datagram is not decoded, or a frame not encoded.
 ghost use Rattle.std.specs.Prelude.{◌≡◌};
 
 use std::alloc::AllocError;
@@ -10,13 +10,13 @@ pub enum FrameFault {
     /// The bytes spell no message, or no bytes spell the frame (MQTT-SN 1.2, 5.2 to 5.4).
     #[error("the frame is malformed")]
     Malformed,
-    /// The message is of a type that is not read.
+    /// The message is of a type that is not decoded (MQTT-SN 1.2, 5.4.1 to 5.4.3 and 5.5).
     #[error("the message type is not supported")]
     NotSupported,
-    /// The frame has more than 2,048 bytes.
+    /// The frame has more than `MAX_DATAGRAM` octets.
     #[error("the frame is too long")]
     TooLong,
-    /// A growth was refused.
+    /// An allocation failed.
     #[error("out of memory")]
     Memory,
 }
@@ -26,7 +26,7 @@ impl From<AllocError> for FrameFault {
 
     ghost from_gives = { λ _ fault. fault ≡ Memory };
 
-    fn from(_refused: AllocError) -> FrameFault {
+    fn from(_: AllocError) -> FrameFault {
         FrameFault::Memory
     }
 }

@@ -1,6 +1,6 @@
 //! The Flags octet (MQTT-SN 1.2, 5.3.4), all eight bits of it.
 ghost use Rattle.std.specs.Prelude.{◌≡◌};
-ghost use Rattle.sng_frames.specs.FlagsOctet.{flags_of, flags_octet, qos_of, qos_bits, id_type_of, id_type_bits, bit};
+ghost use Rattle.sng_frames.specs.FlagsOctet.{qos_of, qos_bits, id_type_of, id_type_bits, bit};
 
 /// The quality of service of a PUBLISH.
 #[derive(Clone, Copy, Debug, PartialEq, Eq)]
@@ -45,30 +45,35 @@ pub struct Flags {
     pub id_type: TopicIdType,
 }
 
-/// The fields that the octet holds.
-pub fn read(octet: u8) -> Flags
-    ensures { result ≡ flags_of octet }
-{
-    Flags {
-        dup: octet / 128 % 2 == 1,
-        qos: qos_of(octet / 32 % 4),
-        retain: octet / 16 % 2 == 1,
-        will: octet / 8 % 2 == 1,
-        clean: octet / 4 % 2 == 1,
-        id_type: id_type_of(octet % 4),
-    }
-}
+impl Flags {
+    ghost use Rattle.std.specs.Prelude.{◌≡◌};
+    ghost use Rattle.sng_frames.specs.FlagsOctet.{flags_of, flags_octet};
 
-/// The octet that holds the fields.
-pub fn octet(flags: Flags) -> u8
-    ensures { result ≡ flags_octet flags }
-{
-    bit(flags.dup, 128)
-        + qos_bits(flags.qos)
-        + bit(flags.retain, 16)
-        + bit(flags.will, 8)
-        + bit(flags.clean, 4)
-        + id_type_bits(flags.id_type)
+    /// The fields that the octet holds.
+    pub fn from_octet(octet: u8) -> Flags
+        ensures { result ≡ flags_of octet }
+    {
+        Flags {
+            dup: octet / 0x80 % 2 == 1,
+            qos: qos_of(octet / 0x20 % 4),
+            retain: octet / 0x10 % 2 == 1,
+            will: octet / 0x08 % 2 == 1,
+            clean: octet / 0x04 % 2 == 1,
+            id_type: id_type_of(octet % 4),
+        }
+    }
+
+    /// The octet that holds the fields.
+    pub fn octet(self) -> u8
+        ensures { result ≡ flags_octet self }
+    {
+        bit(self.dup, 0x80)
+            + qos_bits(self.qos)
+            + bit(self.retain, 0x10)
+            + bit(self.will, 0x08)
+            + bit(self.clean, 0x04)
+            + id_type_bits(self.id_type)
+    }
 }
 
 fn qos_of(bits: u8) -> Qos
@@ -103,10 +108,10 @@ fn qos_bits(qos: Qos) -> u8
     ensures { result ≡ qos_bits qos }
 {
     match qos {
-        Qos::AtMostOnce => 0,
-        Qos::AtLeastOnce => 32,
-        Qos::ExactlyOnce => 64,
-        Qos::WithoutSession => 96,
+        Qos::AtMostOnce => 0x00,
+        Qos::AtLeastOnce => 0x20,
+        Qos::ExactlyOnce => 0x40,
+        Qos::WithoutSession => 0x60,
     }
 }
 
@@ -114,9 +119,9 @@ fn id_type_bits(id_type: TopicIdType) -> u8
     ensures { result ≡ id_type_bits id_type }
 {
     match id_type {
-        TopicIdType::Normal => 0,
-        TopicIdType::Predefined => 1,
-        TopicIdType::Short => 2,
-        TopicIdType::Reserved => 3,
+        TopicIdType::Normal => 0x00,
+        TopicIdType::Predefined => 0x01,
+        TopicIdType::Short => 0x02,
+        TopicIdType::Reserved => 0x03,
     }
 }

@@ -2,9 +2,6 @@
 use crate::{Flags, MessageType, ReturnCode};
 use sng_text::{ClientId, Octets};
 
-/// The most octets of a frame.
-pub const MOST_OCTETS: usize = 2048;
-
 /// A CONNECT (5.4.4).
 #[derive(Debug, Drop)]
 pub struct Connect {
@@ -69,7 +66,9 @@ pub struct TopicRequest {
     pub flags: Flags,
     /// The MsgId field, of any value.
     pub msg_id: u16,
-    /// The octets of a predefined id or of a short name, by the TopicIdType, of which there must be two; else the filter's bytes, which may be none and need not be a filter.
+    /// The octets of a predefined id or of a short name, by the TopicIdType, of which there must be two; else
+    /// the
+    /// filter's bytes, which may be none and need not be a filter.
     pub topic: Octets,
 }
 

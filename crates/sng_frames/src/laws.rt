@@ -1,13 +1,26 @@
-//! The laws of reading and writing. Each function here only states one: its contract is the law, and calling it does nothing.
-ghost use Rattle.sng_frames.specs.Laws.{ReadsTheGrammar, RefusesTheUnsupported, RefusesTheRest, SpellsOne, SpellsNoneUnsupported, WritesASpelling, WritesTheSpelled, WritesTheShortest, ReadsWhatIsWritten};
+//! The laws of decoding and encoding. Each function here only states one: its contract is the law, and
+//! calling it
+//! does nothing.
+ghost use Rattle.std.specs.Prelude.{◌≡◌};
+ghost use Rattle.sng_frames.specs.declared.limits.TheConstants.{MAX_DATAGRAM, MAX_SHORT_LENGTH};
+ghost use Rattle.sng_frames.specs.Laws.{ReadsTheGrammar, RefusesTheUnsupported, RefusesTheRest};
+ghost use Rattle.sng_frames.specs.Laws.{SpellsOne, SpellsNoneUnsupported};
+ghost use Rattle.sng_frames.specs.Laws.{WritesASpelling, WritesTheSpelled, WritesTheShortest};
+ghost use Rattle.sng_frames.specs.Laws.{ReadsWhatIsWritten};
 
-/// A frame is read exactly from the bytes that spell it, up to 2,048 of them.
+/// The limit of a datagram, and the bound that the standard sets a Length of one octet (MQTT-SN 1.2, 5.2.1).
+pub fn limits()
+    ensures datagram { MAX_DATAGRAM ≡ 2048 }
+    ensures short_length { MAX_SHORT_LENGTH ≡ 255 }
+{}
+
+/// A frame is decoded exactly from the bytes that spell it, up to `MAX_DATAGRAM` of them.
 pub fn reading_is_the_grammar()
     ensures { ReadsTheGrammar }
 {}
 
-/// Not supported are just gateway discovery and forwarder encapsulation, in up to 2,048 bytes.
-pub fn unsupported_is_told()
+/// Not supported are just gateway discovery and forwarder encapsulation, in up to `MAX_DATAGRAM` bytes.
+pub fn unsupported_is_reported()
     ensures { RefusesTheUnsupported }
 {}
 
@@ -26,7 +39,7 @@ pub fn unsupported_spells_no_frame()
     ensures { SpellsNoneUnsupported }
 {}
 
-/// A frame of at most 2,048 bytes whose fields fit is written as bytes that spell it.
+/// A frame of at most `MAX_DATAGRAM` bytes whose fields fit is encoded as bytes that spell it.
 pub fn what_is_written_is_spelled()
     ensures { WritesASpelling }
 {}

@@ -1,4 +1,4 @@
-//! The MsgType field (MQTT-SN 1.2, 5.2.2): the types of the frames that are read and written.
+//! The MsgType field (MQTT-SN 1.2, 5.2.2): the types of the frames that are decoded and encoded.
 
 /// The type of a message.
 #[derive(Clone, Copy, Debug, PartialEq, Eq)]
@@ -57,8 +57,8 @@ impl MessageType {
     ghost use Rattle.std.specs.Prelude.{◌≡◌};
     ghost use Rattle.sng_frames.specs.MessageTypes.{octet_of, type_of_octet};
 
-    /// The type that the octet is, where it is one.
-    pub fn read(octet: u8) -> Option<MessageType>
+    /// The type whose octet this is, where there is one.
+    pub fn from_octet(octet: u8) -> Option<MessageType>
         ensures { result ≡ type_of_octet octet }
     {
         match octet {

@@ -1,11 +1,17 @@
-//! Reading the variable part of a message (MQTT-SN 1.2, 5.3 and 5.4), layout by layout. Each function allocates at most once.
+//! Decoding the variable part of a message (MQTT-SN 1.2, 5.3 and 5.4), layout by layout. Each function
+//! allocates at
+//! most once.
 ghost use Rattle.std.specs.Prelude.{◌≡◌, Some, None};
 ghost use Rattle.sng_frames.specs.Reading.{Reads, or_malformed};
-ghost use Rattle.sng_frames.specs.Parts.{number, nothing_of, code_of, number_of, duration_of, client_id_of, ping_of, connect_of, will_topic_of, register_of, topic_ack_of, publish_of, fits_type, topic_request_of, subscribe_ack_of};
+ghost use Rattle.sng_frames.specs.Parts.{number, nothing_of, code_of, number_of, duration_of, client_id_of};
+ghost use Rattle.sng_frames.specs.Parts.{ping_of};
+ghost use Rattle.sng_frames.specs.Parts.{connect_of, will_topic_of, register_of, topic_ack_of, publish_of};
+ghost use Rattle.sng_frames.specs.Parts.{fits_type};
+ghost use Rattle.sng_frames.specs.Parts.{topic_request_of, subscribe_ack_of};
 
 use crate::{
-    Connect, FrameFault, Publish, Register, ReturnCode, SubscribeAck, TopicAck, TopicIdType,
-    TopicRequest, WillTopic, flags,
+    Connect, Flags, FrameFault, Publish, Register, ReturnCode, SubscribeAck, TopicAck, TopicIdType,
+    TopicRequest, WillTopic,
 };
 use sng_text::{ClientId, Octets, TextFault};
 use std::alloc::Global;
@@ -85,7 +91,7 @@ pub fn connect(alloc: Global, part: &[u8]) -> Result<Connect, FrameFault>
 {
     match part {
         [octet, protocol_id, high, low, text @ ..] => Ok(Connect {
-            flags: flags::read(*octet),
+            flags: Flags::from_octet(*octet),
             protocol_id: *protocol_id,
             duration: number(*high, *low),
             client_id: client_id(alloc, text)?,
@@ -108,7 +114,7 @@ pub fn will_topic(alloc: Global, part: &[u8]) -> Result<Option<WillTopic>, Frame
     match part {
         [] => Ok(None),
         [octet, topic @ ..] => Ok(Some(WillTopic {
-            flags: flags::read(*octet),
+            flags: Flags::from_octet(*octet),
             topic: octets(alloc, topic)?,
         })),
     }
@@ -155,7 +161,7 @@ pub fn publish(alloc: Global, part: &[u8]) -> Result<Publish, FrameFault>
             msg_low,
             payload @ ..,
         ] => Ok(Publish {
-            flags: flags::read(*octet),
+            flags: Flags::from_octet(*octet),
             topic_id: number(*topic_high, *topic_low),
             msg_id: number(*msg_high, *msg_low),
             payload: octets(alloc, payload)?,
@@ -170,7 +176,7 @@ pub fn topic_request(alloc: Global, part: &[u8]) -> Result<TopicRequest, FrameFa
 {
     match part {
         [octet, msg_high, msg_low, topic @ ..] => {
-            let flags = flags::read(*octet);
+            let flags = Flags::from_octet(*octet);
             if !fits_type(flags.id_type, topic) {
                 return Err(FrameFault::Malformed);
             }
@@ -200,7 +206,7 @@ pub fn subscribe_ack(part: &[u8]) -> Result<SubscribeAck, FrameFault>
 {
     match part {
         [octet, topic_high, topic_low, msg_high, msg_low, code] => Ok(SubscribeAck {
-            flags: flags::read(*octet),
+            flags: Flags::from_octet(*octet),
             topic_id: number(*topic_high, *topic_low),
             msg_id: number(*msg_high, *msg_low),
             code: ReturnCode(*code),

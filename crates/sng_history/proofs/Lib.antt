@@ -1,4 +1,4 @@
-pub mod Seen
-pub mod Left
-pub mod Sentences
+pub mod ViewLemmas
+pub mod ExitLemmas
+pub mod LawLemmas
 pub mod WorkedLemmas

@@ -3,11 +3,12 @@ use Rattle.std.proofs.Common.{◌≡◌, true, [], ◌∷◌, refl, codes, rules
 use Rattle.std.specs.Str.{is_utf8, IsAscii}
 use Rattle.std.proofs.lemmas.Str.{is_utf8-from_IsUtf8, IsUtf8-from_ascii}
 use Rattle.mqtt_frames.specs.RemainingLength.{remaining_length}
-use Rattle.sng_book.specs.declared.event.Event.TheVariants.{Datagram, Up, Take}
-use Rattle.sng_book.specs.declared.decision.Outcome.TheVariants.{Allowed, MissingPub}
-use Rattle.sng_history.specs.Present.{opening}
+use Rattle.sng_book.specs.declared.event.Event.TheVariants.{Datagram, Up, Down, Take}
+use Rattle.sng_book.specs.declared.outcome.Denial.TheVariants.{MissingPub}
+use Rattle.sng_book.specs.declared.outcome.Outcome.TheVariants.{Allowed, Denied}
+use Rattle.sng_history.specs.State.{opening}
 use Rattle.sng_history.specs.Lawful.{LawfulRow, Lawful}
-use Rattle.sng_history.specs.Examples.{source, at, publish_ab, publish_ab_long, asked_ab, forwarded, packet_ab, before_take, stored_run, unknown_source, without_up, strangers, replaced_while_waiting, waits, waits_replaced, waits_down}
+use Rattle.sng_history.specs.Examples.{source, at, publish_ab, publish_ab_long, asked_ab, forward_ab, packet_ab, before_take, stored_run, unknown_source, without_up, strangers, replaced_while_waiting, kept_while_down, waits, waits_replaced, waits_down}
 
 ab_ascii : IsAscii (97 ∷ 98 ∷ [])
 ab_ascii = search rules
@@ -43,6 +44,10 @@ answered = ((tt, record { whole = refl; exits = refl }), record { whole = refl; 
 pub replaced : Lawful opening replaced_while_waiting
 replaced = ((before_take_short, record { whole = refl; exits = refl }), record { whole = refl; exits = refl })
 
+pub kept_down : Lawful opening kept_while_down
+unfolding remaining_length
+kept_down = ((((before_take_short, record { whole = refl; exits = refl }), record { whole = refl; exits = refl }), record { whole = refl; exits = refl }), record { whole = refl; exits = refl })
+
 -- a packet without its note
 pub not_unnoted : LawfulRow waits Take (packet_ab ∷ []) → ⊥
 not_unnoted l = let e = l.whole in cc
@@ -52,17 +57,17 @@ pub not_kept_back : LawfulRow waits Take [] → ⊥
 not_kept_back l = let e = l.exits in cc
 
 -- judged when it was accepted, and not again as it leaves
-pub not_unjudged : LawfulRow waits_replaced Take (forwarded Allowed ∷ packet_ab ∷ []) → ⊥
+pub not_unjudged : LawfulRow waits_replaced Take (forward_ab Allowed ∷ packet_ab ∷ []) → ⊥
 not_unjudged l = let e = l.exits in cc
 
 -- out while the connection is down
-pub not_while_down : LawfulRow waits_down Take (forwarded Allowed ∷ packet_ab ∷ []) → ⊥
+pub not_while_down : LawfulRow waits_down Take (forward_ab Allowed ∷ packet_ab ∷ []) → ⊥
 not_while_down l = let e = l.exits in cc
 
 -- the outs of another event
-pub not_at_up : LawfulRow waits Up (forwarded Allowed ∷ packet_ab ∷ []) → ⊥
+pub not_at_up : LawfulRow waits Up (forward_ab Allowed ∷ packet_ab ∷ []) → ⊥
 not_at_up l = let e = l.whole in cc
 
 -- a denial of what is granted
-pub not_denied : LawfulRow waits (Datagram (at source) publish_ab) (asked_ab source (MissingPub (codes "ab")) ∷ []) → ⊥
+pub not_denied : LawfulRow waits (Datagram (at source) publish_ab) (asked_ab source (Denied (MissingPub (codes "ab"))) ∷ []) → ⊥
 not_denied l = let e = rw ab_utf8 at l.whole in cc

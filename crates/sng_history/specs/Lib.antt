@@ -1,8 +1,8 @@
-pub mod Present
-pub mod Judging
-pub mod Leaving
+pub mod State
+pub mod Verdicts
+pub mod Exits
 pub mod Whole
 pub mod Lawful
 pub mod Views
-pub mod Sentences
+pub mod Laws
 pub mod Examples

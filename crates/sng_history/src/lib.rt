@@ -1,4 +1,4 @@
-//! Histories of the gateway: what a reader of the audit book has to believe, and the sentences that hold in every lawful one.
+//! Histories of the gateway: what a reader of the audit book has to believe, and the laws that hold in every lawful one.
 //! The definitions stand in specs/; this crate has no code that runs. Each function here carries, as its contract, laws over
 //! all histories that the gateway's steps can make.
 #![tactic(auto)]
@@ -7,13 +7,13 @@ pub mod worked;
 
 ghost use Rattle.std.specs.Prelude.{◌≡◌, List};
 ghost use Rattle.sng_book.specs.declared.row.Row.{Row};
-ghost use Rattle.sng_history.specs.Present.{opening, state_of};
+ghost use Rattle.sng_history.specs.State.{opening, state_of};
 ghost use Rattle.sng_history.specs.Lawful.{Lawful};
 ghost use Rattle.sng_history.specs.Views.{seen};
-ghost use Rattle.sng_history.specs.Sentences.{LeavesInOrder, EachLeavesJudged, EachAnswered};
+ghost use Rattle.sng_history.specs.Laws.{LeavesInOrder, EachLeavesJudged, EachAnswered};
 
-/// The present that a history leads to is what the views show who look back through its rows.
-pub fn present_is_seen()
+/// The state that a history leads to is what the views show, which look back through its rows.
+pub fn state_is_seen()
     ensures { (h : List Row) → state_of opening h ≡ seen h }
 {}
 

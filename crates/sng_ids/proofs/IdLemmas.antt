@@ -13,7 +13,8 @@ confirmed-place (suc place) ids given = let e : suc place - 1 ≡ place = omega 
 pub set_value_at-confirmed : (ids : Ids) (place : ℕ) → set_value_at ids place true ≡ confirmed_at place ids
 set_value_at-confirmed [] place = refl
 set_value_at-confirmed (entry ∷ ids) zero = refl
-set_value_at-confirmed (entry ∷ ids) (suc place) = ap (λ rest. entry ∷ rest) (set_value_at-confirmed ids place)
+set_value_at-confirmed (entry ∷ ids) (suc place) =
+    ap (λ rest. entry ∷ rest) (set_value_at-confirmed ids place)
 
 -- a place past the end has nothing to confirm
 pub confirmed_at-past : (ids : Ids) (place : ℕ) → (place < length ids → ⊥) → confirmed_at place ids ≡ ids
@@ -23,14 +24,16 @@ confirmed_at-past (entry ∷ ids) (suc place) past =
     ap (λ rest. entry ∷ rest) (confirmed_at-past ids place (λ within. past (omega (arith, within))))
 
 -- the entry behind a list is at its length
-pub slice_get-seam : (ids : Ids) (entry : List ℕ × Bool) → slice_get (ids ++ entry ∷ []) (length ids) ≡ Some entry
+pub slice_get-seam : (ids : Ids) (entry : List ℕ × Bool)
+    → slice_get (ids ++ entry ∷ []) (length ids) ≡ Some entry
 slice_get-seam [] entry = refl
 slice_get-seam (first ∷ ids) entry = slice_get-seam ids entry
 
 -- an unconfirmed entry behind a list is taken back
 pub taken_back-new : (ids : Ids) (name : List ℕ) → taken_back (ids ++ (name, false) ∷ []) ≡ ids
 taken_back-new ids name =
-    let before : length (ids ++ (name, false) ∷ []) - 1 ≡ length ids = omega (arith, length-append ids ((name, false) ∷ [])) in
+    let before : length (ids ++ (name, false) ∷ []) - 1 ≡ length ids =
+    omega (arith, length-append ids ((name, false) ∷ [])) in
     rw (before, slice_get-seam ids (name, false)) (take-append_seam ids ((name, false) ∷ []))
 
 -- a name without an id is given the next one
@@ -38,7 +41,8 @@ pub id_for-new : (ids : Ids) (name : List ℕ) → place_of name ids ≡ None �
 id_for-new ids name absent = rw absent refl
 
 -- and goes last
-pub with_name-new : (ids : Ids) (name : List ℕ) → place_of name ids ≡ None → with_name name ids ≡ ids ++ (name, false) ∷ []
+pub with_name-new : (ids : Ids) (name : List ℕ)
+    → place_of name ids ≡ None → with_name name ids ≡ ids ++ (name, false) ∷ []
 with_name-new ids name absent = rw absent refl
 
 -- what is not some is none

@@ -11,7 +11,8 @@ use Rattle.sng_ids.specs.Laws.{IdsNameWhatTheyWereGivenFor, IdsKeepTheirNames}
 use Rattle.sng_ids.proofs.IdLemmas.{slice_get-seam}
 
 -- a place that has a name has it still once more names follow
-pub name_at-more : (ids more : Ids) (place : ℕ) (name : List ℕ) → option_map (λ entry. entry.0) (slice_get ids place) ≡ Some name
+pub name_at-more : (ids more : Ids) (place : ℕ) (name : List ℕ)
+    → option_map (λ entry. entry.0) (slice_get ids place) ≡ Some name
     → option_map (λ entry. entry.0) (slice_get (ids ++ more) place) ≡ Some name
 name_at-more [] more place name at = absurd (true≢false (sym (ap is_some at)))
 name_at-more (entry ∷ ids) more zero name at = at
@@ -45,8 +46,10 @@ name_at-place ids name place e =
     let found : Found (bytes_eq name) ids place = Found-position (bytes_eq name) ids place e in
     elim (slice_get_cases ids place).1 [
       | inl h ↦
-          let at : option_map (λ entry. entry.0) (slice_get ids place) ≡ Some h.0.0 = ap (option_map (λ entry. entry.0)) h.2 in
-          let key : lookup_key (bytes_eq name) ids ≡ Some h.0.0 = found.key ∙ slice_get-map (λ entry. entry.0) ids place ∙ at in
+          let at : option_map (λ entry. entry.0) (slice_get ids place) ≡ Some h.0.0 =
+          ap (option_map (λ entry. entry.0)) h.2 in
+          let key : lookup_key (bytes_eq name) ids ≡ Some h.0.0 =
+          found.key ∙ slice_get-map (λ entry. entry.0) ids place ∙ at in
           at ∙ ap Some (sym (lookup_key-name name h.0.0 ids key))
       | inr h ↦ absurd (omega (arith, h.0, found.within))
     ]
@@ -57,5 +60,8 @@ name_of-id_for ids name = by (place_of name ids) refl
   where
     by : (found : Option ℕ) → place_of name ids ≡ found
         → name_of (unwrap_or found (length ids) + 1) (cond (is_some found) ids (ids ++ (name, false) ∷ [])) ≡ Some name
-    by None e = let next : length ids + 1 ≡ suc (length ids) = omega arith in rw (next, slice_get-seam ids (name, false)) refl
-    by (Some place) e = let next : place + 1 ≡ suc place = omega arith in rw next (name_at-place ids name place e)
+    by None e =
+        let next : length ids + 1 ≡ suc (length ids) = omega arith in
+        rw (next, slice_get-seam ids (name, false)) refl
+    by (Some place) e =
+        let next : place + 1 ≡ suc place = omega arith in rw next (name_at-place ids name place e)

@@ -1,8 +1,10 @@
--- The topic ids of one client: a list of names, of which the first has id 1 and the k-th id k (MQTT-SN 1.2, 6.5).
+-- The topic ids of one client: a list of names, of which the first has id 1 and the k-th id k (MQTT-SN 1.2,
+-- 6.5).
 use Rattle.std.specs.Prelude.{ℕ, zero, suc, ◌+◌, ◌-◌, Bool, true, false, not, ◌&&◌, nat_le, List, [], ◌∷◌, ◌++◌, length, map, take, slice_get, position, Some, None, unwrap_or, is_some, is_none, if◌then◌else◌}
 use Rattle.std.specs.declared.option.Option.{Option}
 use Rattle.std.specs.Option.{option_map, option_and_then}
 use Rattle.std.specs.Str.{bytes_eq}
+use Rattle.sng_ids.specs.declared.limits.TheConstants.{MAX_TOPIC_IDS}
 
 -- each entry a name, and whether the client knows that the name has this id
 abbrev pub Ids : Type 0
@@ -20,9 +22,9 @@ place_of name ids = position (bytes_eq name) (names_of ids)
 abbrev pub id_for : List ℕ → Ids → ℕ
 id_for name ids = unwrap_or (place_of name ids) (length ids) + 1
 
--- the name has no id, and none is left: 128 are given
+-- the name has no id, and none is left
 abbrev pub is_full_for : List ℕ → Ids → Bool
-is_full_for name ids = is_none (place_of name ids) && nat_le 128 (length ids)
+is_full_for name ids = is_none (place_of name ids) && nat_le MAX_TOPIC_IDS (length ids)
 
 -- once the name has an id: a name without one goes last, unconfirmed
 abbrev pub with_name : List ℕ → Ids → Ids
@@ -52,7 +54,9 @@ is_unconfirmed (Some entry) = not entry.1
 -- the id of the name, where it has one that is confirmed
 abbrev pub id_of : List ℕ → Ids → Option ℕ
 id_of name ids =
-    option_and_then (λ place. if is_confirmed (slice_get ids place) then Some (place + 1) else None) (place_of name ids)
+    option_and_then
+    (λ place. if is_confirmed (slice_get ids place) then Some (place + 1) else None)
+    (place_of name ids)
 
 -- the name that has the id, confirmed or not
 abbrev pub name_of : ℕ → Ids → Option (List ℕ)

@@ -4,10 +4,10 @@ use thiserror::Error;
 /// Why a name got no topic id.
 #[derive(Clone, Copy, Debug, PartialEq, Eq, Error)]
 pub enum IdFault {
-    /// 128 names have an id, and this one has none.
+    /// `MAX_TOPIC_IDS` names have an id, and this one has none.
     #[error("no topic id is left")]
     Full,
-    /// A growth was refused.
+    /// An allocation failed.
     #[error("out of memory")]
     Memory,
 }

@@ -3,9 +3,9 @@
 
 pub mod fault;
 pub mod laws;
+pub mod limits;
 pub mod table;
-#[cfg(test)]
-mod tests;
 
 pub use fault::IdFault;
+pub use limits::MAX_TOPIC_IDS;
 pub use table::IdTable;

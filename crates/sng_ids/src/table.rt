@@ -1,20 +1,19 @@
-//! The table of a client's topic ids: an id for each name that the client was told (MQTT-SN 1.2, 6.5).
+//! The table of a client's topic ids: an id for each name that was registered or announced (MQTT-SN 1.2,
+//! 6.5).
 ghost use Rattle.std.specs.Prelude.{◌≡◌, ◌↔◌, ◌≤◌, [], length, true, None, IfOk, OnErr, IsErrOf};
 ghost use Rattle.std.specs.Option.{option_copied};
-ghost use Rattle.sng_ids.specs.declared.table.TheConstants.{MOST};
+ghost use Rattle.sng_ids.specs.declared.limits.TheConstants.{MAX_TOPIC_IDS};
 ghost use Rattle.sng_ids.specs.Ids.{id_for, place_of, is_full_for, with_name, confirmed, id_of, name_of, taken_back};
 
-use crate::IdFault;
+use crate::{IdFault, MAX_TOPIC_IDS};
 use indexmap::IndexMap;
 use sng_text::TopicName;
 use std::alloc::Global;
 use std::marker::Model;
 
-/// How many names may have an id.
-pub const MOST: usize = 128;
-
-/// The topic ids of one client. The names that were told have ids from 1 on, in order, and some of them are confirmed: the client
-/// is known to know them. Contracts see the list of the names, each with whether it is confirmed.
+/// The topic ids of one client. The names have ids from 1 on, in the order in which they were given, and some
+/// ids are confirmed: the client is known to know them. Contracts see the list of the names, each with
+/// whether it is confirmed.
 #[derive(Debug, Drop)]
 pub struct IdTable {
     names: IndexMap<TopicName, bool>,
@@ -22,13 +21,13 @@ pub struct IdTable {
 
 impl Model for IdTable {
     ghost use Rattle.std.specs.Prelude.{◌≤◌, List, ℕ, Bool, length};
-    ghost use Rattle.sng_ids.specs.declared.table.TheConstants.{MOST};
+    ghost use Rattle.sng_ids.specs.declared.limits.TheConstants.{MAX_TOPIC_IDS};
 
     ghost Value = { List (List ℕ × Bool) };
 
     ghost view = { λ t. t.names.entries };
 
-    ghost invariant = { λ t. length t.names.entries ≤ MOST };
+    ghost invariant = { λ t. length t.names.entries ≤ MAX_TOPIC_IDS };
 }
 
 impl IdTable {
@@ -41,16 +40,17 @@ impl IdTable {
         }
     }
 
-    /// How many ids are given, `MOST` at the most. Takes no memory.
+    /// How many ids are given, `MAX_TOPIC_IDS` at the most. Takes no memory.
     pub fn len(&self) -> usize
         ensures len { result ≡ length self.now }
-        ensures within { length self.now ≤ MOST }
+        ensures within { length self.now ≤ MAX_TOPIC_IDS }
     {
         self.names.len()
     }
 
-    /// The id of the name: its old one, or else the next, the number of ids plus 1, which is not confirmed then.
-    /// Full where `MOST` are given and the name has none, Memory where a growth was refused; nothing changed then.
+    /// The id of the name: its old one, or else the next, the number of ids plus 1, which is not confirmed
+    /// then. Full where `MAX_TOPIC_IDS` are given and the name has none, Memory where an allocation failed;
+    /// nothing changed then.
     pub fn give(&mut self, name: TopicName) -> Result<u16, IdFault>
         ensures ok { IfOk result (λ id. (id ≡ id_for name self.old) × (self.new ≡ with_name name self.old)) }
         ensures full { IsErrOf result IdFault.Full ↔ (is_full_for name self.old ≡ true) }
@@ -61,7 +61,7 @@ impl IdTable {
             return Ok(place as u16 + 1);
         }
         let place = self.names.len();
-        if place >= MOST {
+        if place >= MAX_TOPIC_IDS {
             return Err(IdFault::Full);
         }
         match self.names.insert(name, false) {

@@ -1,11 +1,11 @@
--- What the calls of the outbox mean, told without the way in which they are computed.
+-- What the calls of the outbox mean, stated without the way in which they are computed.
 use Rattle.std.specs.Prelude.{ℕ, zero, suc, ◌≡◌, ◌<◌, ◌≤◌, true, false, List, [], ◌∷◌, ◌++◌, length, map}
 use Rattle.std.specs.Bool.{MatchBool}
 use Rattle.sng_outbox.specs.declared.in_flight.InFlight.{InFlight}
 use Rattle.sng_outbox.specs.declared.item.Item.{Item}
 use Rattle.sng_outbox.specs.declared.item.Item.TheVariants.{Publish, Subscribe, Unsubscribe, Acknowledge, Ping}
 use Rattle.sng_outbox.specs.declared.item.Publication.{Publication}
-use Rattle.sng_outbox.specs.declared.outbox.TheConstants.{MOST_IN_FLIGHT}
+use Rattle.sng_outbox.specs.declared.limits.TheConstants.{MAX_IN_FLIGHT}
 use Rattle.sng_outbox.specs.Sending.{publishes, is_in_flight, successor, next_id, without_first}
 
 -- the packet id that is reached after so many more
@@ -15,7 +15,7 @@ after (suc count) packet_id = after count (successor packet_id)
 
 -- the next id is a packet id that is not in flight, and the ids from the last one on that were counted past are all in flight
 abbrev pub NextIdIsFree : Type 0
-NextIdIsFree = (in_flight : List InFlight) (last : ℕ) → length in_flight ≤ MOST_IN_FLIGHT → last ≤ 65535
+NextIdIsFree = (in_flight : List InFlight) (last : ℕ) → length in_flight ≤ MAX_IN_FLIGHT → last ≤ 65535
     → (1 ≤ next_id in_flight last) × (next_id in_flight last ≤ 65535) × (is_in_flight in_flight (next_id in_flight last) ≡ false)
     × ((passed : ℕ) × (next_id in_flight last ≡ after passed (successor last)) × ((k : ℕ) → k < passed → is_in_flight in_flight (after k (successor last)) ≡ true))
 

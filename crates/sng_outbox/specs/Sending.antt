@@ -1,8 +1,8 @@
 -- What leaves for the broker: a list of items that wait, and a list of publishes in flight.
 use Rattle.std.specs.Prelude.{ℕ, ◌+◌, Bool, true, false, ◌==◌, List, [], ◌∷◌, length, filter, count_by, if◌then◌else◌}
 use Rattle.std.specs.List.{list_any}
-use Rattle.sng_frames.specs.declared.flags.Qos.{Qos}
-use Rattle.sng_frames.specs.declared.flags.Qos.TheVariants.{AtMostOnce, AtLeastOnce, ExactlyOnce, WithoutSession}
+use Rattle.sng_text.specs.declared.qos.Qos.{Qos}
+use Rattle.sng_text.specs.declared.qos.Qos.TheVariants.{AtMostOnce, AtLeastOnce}
 use Rattle.sng_outbox.specs.declared.item.Item.{Item}
 use Rattle.sng_outbox.specs.declared.item.Item.TheVariants.{Publish, Subscribe, Unsubscribe, Acknowledge, Ping}
 use Rattle.sng_outbox.specs.declared.in_flight.InFlight.{InFlight}
@@ -24,10 +24,8 @@ is_publish Ping = false
 
 -- QoS 1
 abbrev pub is_at_least_once : Qos → Bool
-is_at_least_once WithoutSession = false
 is_at_least_once AtMostOnce = false
 is_at_least_once AtLeastOnce = true
-is_at_least_once ExactlyOnce = false
 
 -- a publish of QoS 1
 abbrev pub asks_for_ack : Item → Bool

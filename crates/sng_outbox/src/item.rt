@@ -3,8 +3,7 @@ ghost use Rattle.std.specs.Prelude.{◌≡◌};
 ghost use Rattle.sng_outbox.specs.Sending.{is_publish, asks_for_ack};
 
 use crate::Origin;
-use sng_frames::Qos;
-use sng_text::{Octets, TopicFilter, TopicName};
+use sng_text::{Octets, Qos, TopicFilter, TopicName};
 
 /// A publish that was allowed when it was asked for. It is judged again as it leaves.
 #[derive(Debug, Drop)]
@@ -45,7 +44,7 @@ impl Item {
     {
         match self {
             Item::Publish(publication) => publication.qos == Qos::AtLeastOnce,
-            _ => false,
+            Item::Subscribe(_) | Item::Unsubscribe(_) | Item::Acknowledge(_) | Item::Ping => false,
         }
     }
 }

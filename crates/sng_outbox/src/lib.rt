@@ -4,12 +4,12 @@
 pub mod in_flight;
 pub mod item;
 pub mod laws;
+pub mod limits;
 pub mod origin;
 pub mod outbox;
-#[cfg(test)]
-mod tests;
 
 pub use in_flight::InFlight;
 pub use item::{Item, Publication};
+pub use limits::{MAX_IN_FLIGHT, MAX_OUTBOX_ITEMS};
 pub use origin::Origin;
 pub use outbox::Outbox;

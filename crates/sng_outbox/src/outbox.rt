@@ -1,27 +1,22 @@
-//! The list of what waits for the broker, in the order in which it was asked for (MQTT 3.1.1, 4.6), and the publishes in flight (4.3.2).
+//! The list of what waits for the broker, in the order in which it was asked for (MQTT 3.1.1, 4.6), and the publishes in
+//! flight (4.3.2).
 ghost use Rattle.std.specs.Prelude.{◌≡◌, ◌+◌, ◌<◌, ◌≤◌, [], ◌∷◌, ◌++◌, false, length, nat_le, slice_get, drop, remove, IfOk, MatchResult, MatchOption};
 ghost use Rattle.std.specs.Option.{option_copied};
 ghost use Rattle.std.specs.List.{position_or_len};
 ghost use Rattle.std.specs.Iterator.Runs.{YieldsRefsInOrder, YieldsRefsInReverse};
 ghost use Rattle.std.specs.VecDeque.Iter.{deque_iter_rest, deque_iter_steps, deque_iter_steps_back};
 ghost use Rattle.sng_outbox.specs.declared.item.Item.{Item as item_type};
-ghost use Rattle.sng_outbox.specs.declared.outbox.TheConstants.{MOST, MOST_IN_FLIGHT};
+ghost use Rattle.sng_outbox.specs.declared.limits.TheConstants.{MAX_OUTBOX_ITEMS, MAX_IN_FLIGHT};
 ghost use Rattle.sng_outbox.specs.Sending.{nothing, publishes, load, has_id, is_in_flight, successor, next_id, without_first};
 
-use crate::{InFlight, Item, Publication};
+use crate::{InFlight, Item, MAX_IN_FLIGHT, MAX_OUTBOX_ITEMS, Publication};
 use std::alloc::{AllocError, Global};
 use std::collections::VecDeque;
 use std::collections::vec_deque::Iter;
 use std::marker::Model;
 
-/// How many items may wait.
-pub const MOST: usize = 512;
-
-/// How many publishes may be in flight.
-pub const MOST_IN_FLIGHT: usize = 128;
-
-/// The items that wait for the broker, the oldest first, and the publishes in flight, in the order of their sending. Room for all is made
-/// once, so no later call takes memory. Contracts see the two lists.
+/// The items that wait for the broker, the oldest first, and the publishes in flight, in the order of their sending. Room
+/// for all is made once, so no later call takes memory. Contracts see the two lists.
 #[derive(Debug, Drop)]
 pub struct Outbox {
     waiting: VecDeque<Item>,
@@ -31,14 +26,14 @@ pub struct Outbox {
 impl Model for Outbox {
     ghost use Rattle.std.specs.Prelude.{◌≤◌, vec_len, vec_capacity};
     ghost use Rattle.std.specs.VecDeque.{deque_len, deque_capacity};
-    ghost use Rattle.sng_outbox.specs.declared.outbox.TheConstants.{MOST, MOST_IN_FLIGHT};
+    ghost use Rattle.sng_outbox.specs.declared.limits.TheConstants.{MAX_OUTBOX_ITEMS, MAX_IN_FLIGHT};
     ghost use Rattle.sng_outbox.specs.Sending.{Sending};
 
     ghost Value = { Sending };
 
     ghost view = { λ o. record { waiting = o.waiting.items; in_flight = o.in_flight.items } };
 
-    ghost invariant = { λ o. (deque_len o.waiting ≤ MOST) × (MOST ≤ deque_capacity o.waiting) × (vec_len o.in_flight ≤ MOST_IN_FLIGHT) × (MOST_IN_FLIGHT ≤ vec_capacity o.in_flight) };
+    ghost invariant = { λ o. (deque_len o.waiting ≤ MAX_OUTBOX_ITEMS) × (MAX_OUTBOX_ITEMS ≤ deque_capacity o.waiting) × (vec_len o.in_flight ≤ MAX_IN_FLIGHT) × (MAX_IN_FLIGHT ≤ vec_capacity o.in_flight) };
 }
 
 impl Outbox {
@@ -47,37 +42,37 @@ impl Outbox {
         ensures { IfOk result (λ o. o ≡ nothing) }
     {
         Ok(Outbox {
-            waiting: VecDeque::with_capacity(alloc, MOST)?,
-            in_flight: Vec::with_capacity(alloc, MOST_IN_FLIGHT)?,
+            waiting: VecDeque::with_capacity(alloc, MAX_OUTBOX_ITEMS)?,
+            in_flight: Vec::with_capacity(alloc, MAX_IN_FLIGHT)?,
         })
     }
 
-    /// Adds an item behind the others. Where `MOST` wait it is given back, and nothing changes.
+    /// Adds an item behind the others. Where `MAX_OUTBOX_ITEMS` wait it is given back, and nothing changes.
     pub fn push(&mut self, item: Item) -> Result<(), Item>
         ensures { MatchResult result
-            (λ _. (length self.old.waiting < MOST) × (self.new ≡ record self.old { waiting = self.old.waiting ++ item ∷ [] }))
-            (λ refused. (MOST ≤ length self.old.waiting) × (refused ≡ item) × (self.new ≡ self.old)) }
+            (λ _. (length self.old.waiting < MAX_OUTBOX_ITEMS) × (self.new ≡ record self.old { waiting = self.old.waiting ++ item ∷ [] }))
+            (λ refused. (MAX_OUTBOX_ITEMS ≤ length self.old.waiting) × (refused ≡ item) × (self.new ≡ self.old)) }
     {
-        if self.waiting.len() >= MOST {
+        if self.waiting.len() >= MAX_OUTBOX_ITEMS {
             return Err(item);
         }
         self.waiting.push_back_reserved(item);
         Ok(())
     }
 
-    /// How many items wait, `MOST` at the most.
+    /// How many items wait, `MAX_OUTBOX_ITEMS` at the most.
     pub fn len(&self) -> usize
         ensures len { result ≡ length self.now.waiting }
-        ensures within { length self.now.waiting ≤ MOST }
+        ensures within { length self.now.waiting ≤ MAX_OUTBOX_ITEMS }
     {
         self.waiting.len()
     }
 
     /// Whether no item may be added.
     pub fn is_full(&self) -> bool
-        ensures { result ≡ nat_le MOST (length self.now.waiting) }
+        ensures { result ≡ nat_le MAX_OUTBOX_ITEMS (length self.now.waiting) }
     {
-        self.len() >= MOST
+        self.len() >= MAX_OUTBOX_ITEMS
     }
 
     /// The item at this place, the oldest being at 0.
@@ -118,16 +113,17 @@ impl Outbox {
         self.waiting.clear();
     }
 
-    /// How many publishes of QoS 1 wait or are in flight, `MOST` + `MOST_IN_FLIGHT` at the most.
+    /// How many publishes of QoS 1 wait or are in flight, `MAX_OUTBOX_ITEMS` + `MAX_IN_FLIGHT` at the most.
     pub fn load(&self) -> usize
         ensures load { result ≡ load self.now }
-        ensures within { result ≤ MOST + MOST_IN_FLIGHT }
+        ensures within { result ≤ MAX_OUTBOX_ITEMS + MAX_IN_FLIGHT }
     {
         let waiting = self.iter().filter(|item| item.asks_for_ack()).count();
         waiting + self.in_flight.len()
     }
 
-    /// The packet id for the next publish: the one after `last`, counted on past those in flight. 1 follows on 65,535; 0 is none (MQTT 3.1.1, 2.3.1).
+    /// The packet id for the next publish: the one after `last`, counted on past those in flight. 1 follows on 65,535; 0 is
+    /// no packet id (MQTT 3.1.1, 2.3.1).
     pub fn next_id(&self, last: u16) -> u16
         ensures value { result ≡ next_id self.now.in_flight last }
         ensures some { 1 ≤ result }
@@ -136,17 +132,17 @@ impl Outbox {
         next_id(&self.in_flight, last)
     }
 
-    /// How many publishes are in flight, `MOST_IN_FLIGHT` at the most.
+    /// How many publishes are in flight, `MAX_IN_FLIGHT` at the most.
     pub fn in_flight(&self) -> usize
         ensures len { result ≡ length self.now.in_flight }
-        ensures within { length self.now.in_flight ≤ MOST_IN_FLIGHT }
+        ensures within { length self.now.in_flight ≤ MAX_IN_FLIGHT }
     {
         self.in_flight.len()
     }
 
-    /// Adds a publish in flight behind the others, of which there are fewer than `MOST_IN_FLIGHT`.
+    /// Adds a publish in flight behind the others, of which there are fewer than `MAX_IN_FLIGHT`.
     pub fn track(&mut self, packet_id: u16, publication: Publication)
-        requires { length self.old.in_flight < MOST_IN_FLIGHT }
+        requires { length self.old.in_flight < MAX_IN_FLIGHT }
         ensures { self.new ≡ record self.old { in_flight = self.old.in_flight ++ record { packet_id = packet_id; publication = publication } ∷ [] } }
     {
         self.in_flight.push_reserved(InFlight {
@@ -155,8 +151,8 @@ impl Outbox {
         });
     }
 
-    /// Takes the first publish in flight with this packet id out, which its PUBACK ends (MQTT 3.1.1, 4.3.2), and tells whether there was one. Where
-    /// there was none nothing changes.
+    /// Takes the first publish in flight with this packet id out, which its PUBACK ends (MQTT 3.1.1, 4.3.2), and returns
+    /// whether there was one. Where there was none nothing changes.
     pub fn acked(&mut self, packet_id: u16) -> bool
         ensures found { result ≡ is_in_flight self.old.in_flight packet_id }
         ensures rest { self.new ≡ record self.old { in_flight = without_first self.old.in_flight packet_id } }

@@ -1,8 +1,9 @@
 -- The buffer of one client: a list of messages and at most one exchange.
 use Rattle.std.specs.Prelude.{ℕ, ◌≡◌, ◌+◌, ◌<◌, ◌≤◌, Bool, true, false, not, List, [], ◌∷◌, length, drop, slice_get, Some, None, is_none, if◌then◌else◌}
 use Rattle.std.specs.declared.option.Option.{Option}
-use Rattle.sng_frames.specs.declared.flags.TopicIdType.{TopicIdType}
-use Rattle.sng_frames.specs.declared.flags.TopicIdType.TheVariants.{Normal}
+use Rattle.sng_queue.specs.declared.kind.TopicIdKind.{TopicIdKind}
+use Rattle.sng_queue.specs.declared.kind.TopicIdKind.TheVariants.{Normal}
+use Rattle.sng_queue.specs.declared.limits.TheConstants.{MAX_TRIES}
 use Rattle.sng_queue.specs.declared.exchange.Exchange.{Exchange}
 use Rattle.sng_queue.specs.declared.waiting.Waiting.{Waiting}
 
@@ -14,10 +15,11 @@ pub record Buffer : Type 0 where
 abbrev pub nothing : Buffer
 nothing = record { waiting = []; exchange = None }
 
--- an open exchange was sent again 3 times at the most, and has a message of its own exactly where it announces none; what is announced is for the front
+-- an open exchange was sent again `MAX_TRIES` times at the most, and has a message of its own exactly where
+-- it announces none; what is announced is for the front
 abbrev pub IsExchangeOn : List Waiting → Option Exchange → Type 0
 IsExchangeOn waiting None = Unit {0}
-IsExchangeOn waiting (Some e) = (e.tries ≤ 3) × (e.announcing ≡ is_none e.message) × (e.announcing ≡ true → 0 < length waiting)
+IsExchangeOn waiting (Some e) = (e.tries ≤ MAX_TRIES) × (e.announcing ≡ is_none e.message) × (e.announcing ≡ true → 0 < length waiting)
 
 -- a message that left the front waits for its PUBACK
 abbrev pub awaits_ack : Option Exchange → Bool
@@ -37,7 +39,7 @@ abbrev pub announcement : ℕ → ℕ → ℕ → Exchange
 announcement topic_id msg_id clock = record { announcing = true; id_type = Normal; topic_id = topic_id; msg_id = msg_id; sent = clock; tries = 0; message = None }
 
 -- a message is under way, sent for the first time
-abbrev pub delivery : TopicIdType → ℕ → ℕ → ℕ → Waiting → Exchange
+abbrev pub delivery : TopicIdKind → ℕ → ℕ → ℕ → Waiting → Exchange
 delivery id_type topic_id msg_id clock front = record { announcing = false; id_type = id_type; topic_id = topic_id; msg_id = msg_id; sent = clock; tries = 0; message = Some front }
 
 -- a topic id is announced for the front, where there is one and no exchange is open
@@ -55,7 +57,7 @@ await_ack_by None (front ∷ rest) exchange_of = record { waiting = rest; exchan
 await_ack_by None [] exchange_of = record { waiting = []; exchange = None }
 await_ack_by (Some open_one) waiting exchange_of = record { waiting = waiting; exchange = Some open_one }
 
-abbrev pub await_ack : Buffer → TopicIdType → ℕ → ℕ → ℕ → Buffer
+abbrev pub await_ack : Buffer → TopicIdKind → ℕ → ℕ → ℕ → Buffer
 await_ack b id_type topic_id msg_id clock = await_ack_by b.exchange b.waiting (delivery id_type topic_id msg_id clock)
 
 -- the same exchange, sent once more
@@ -66,7 +68,7 @@ abbrev pub repeat : Option Exchange → ℕ → Option Exchange
 repeat None clock = None
 repeat (Some e) clock = Some (sent_again clock e)
 
--- an open exchange has fewer than 3 tries
+-- an open exchange was sent again fewer than `MAX_TRIES` times
 abbrev pub MayRepeat : Option Exchange → Type 0
 MayRepeat None = Unit {0}
-MayRepeat (Some e) = e.tries < 3
+MayRepeat (Some e) = e.tries < MAX_TRIES

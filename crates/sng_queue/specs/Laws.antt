@@ -2,7 +2,7 @@
 use Rattle.std.specs.Prelude.{ℕ, ◌≡◌, List, [], ◌++◌, Some, None}
 use Rattle.std.specs.Option.{option_to_list}
 use Rattle.std.specs.declared.option.Option.{Option}
-use Rattle.sng_frames.specs.declared.flags.TopicIdType.{TopicIdType}
+use Rattle.sng_queue.specs.declared.kind.TopicIdKind.{TopicIdKind}
 use Rattle.sng_queue.specs.declared.exchange.Exchange.{Exchange}
 use Rattle.sng_queue.specs.declared.waiting.Waiting.{Waiting}
 use Rattle.sng_queue.specs.Buffers.{Buffer, settled, settle, announce, await_ack, repeat}
@@ -20,5 +20,5 @@ messages b = under_way b.exchange ++ b.waiting
 abbrev pub MessagesStayInOrder : Type 0
 MessagesStayInOrder = (b : Buffer) → (option_to_list (settled b) ++ (settle b).waiting ≡ b.waiting)
     × ((topic_id msg_id clock : ℕ) → messages (announce b topic_id msg_id clock) ≡ messages b)
-    × ((id_type : TopicIdType) (topic_id msg_id clock : ℕ) → messages (await_ack b id_type topic_id msg_id clock) ≡ messages b)
+    × ((id_type : TopicIdKind) (topic_id msg_id clock : ℕ) → messages (await_ack b id_type topic_id msg_id clock) ≡ messages b)
     × ((clock : ℕ) → messages (record b { exchange = repeat b.exchange clock }) ≡ messages b)

@@ -2,12 +2,14 @@
 #![tactic(auto)]
 
 pub mod exchange;
+pub mod kind;
 pub mod laws;
+pub mod limits;
 pub mod queue;
-#[cfg(test)]
-mod tests;
 pub mod waiting;
 
 pub use exchange::Exchange;
+pub use kind::TopicIdKind;
+pub use limits::{MAX_QUEUED, MAX_TRIES};
 pub use queue::Queue;
 pub use waiting::Waiting;

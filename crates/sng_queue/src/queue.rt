@@ -1,20 +1,17 @@
 //! The messages that wait for one client, and its open exchange.
 ghost use Rattle.std.specs.Prelude.{◌≡◌, ◌<◌, ◌≤◌, [], ◌∷◌, ◌++◌, length, slice_get, None, IfOk, MatchResult};
 ghost use Rattle.std.specs.Option.{option_copied};
-ghost use Rattle.sng_queue.specs.declared.queue.TheConstants.{MOST};
+ghost use Rattle.sng_queue.specs.declared.limits.TheConstants.{MAX_QUEUED};
 ghost use Rattle.sng_queue.specs.Buffers.{nothing, IsExchangeOn, settled, settle, announce, await_ack, repeat, MayRepeat};
 
-use crate::{Exchange, Waiting};
-use sng_frames::TopicIdType;
+use crate::{Exchange, MAX_QUEUED, TopicIdKind, Waiting};
 use std::alloc::{AllocError, Global};
 use std::collections::VecDeque;
 use std::marker::Model;
 
-/// How many messages may wait. One that left the front and waits for its PUBACK is not counted.
-pub const MOST: usize = 64;
-
-/// The messages that wait for a client, the oldest first, and at most one exchange: a topic id is announced for the front, or a message
-/// that left the front waits for its PUBACK. Room for all is made once, so no later call takes memory. Contracts see the list and the exchange.
+/// The messages that wait for a client, the oldest first, and at most one exchange: a topic id is announced
+/// for the front, or a message that left the front waits for its PUBACK. Room for all is made once, so no
+/// later call takes memory. Contracts see the list and the exchange.
 #[derive(Debug, Drop)]
 pub struct Queue {
     waiting: VecDeque<Waiting>,
@@ -24,14 +21,14 @@ pub struct Queue {
 impl Model for Queue {
     ghost use Rattle.std.specs.Prelude.{◌≤◌};
     ghost use Rattle.std.specs.VecDeque.{deque_len, deque_capacity};
-    ghost use Rattle.sng_queue.specs.declared.queue.TheConstants.{MOST};
+    ghost use Rattle.sng_queue.specs.declared.limits.TheConstants.{MAX_QUEUED};
     ghost use Rattle.sng_queue.specs.Buffers.{Buffer, IsExchangeOn};
 
     ghost Value = { Buffer };
 
     ghost view = { λ q. record { waiting = q.waiting.items; exchange = q.exchange } };
 
-    ghost invariant = { λ q. (deque_len q.waiting ≤ MOST) × (MOST ≤ deque_capacity q.waiting) × IsExchangeOn q.waiting.items q.exchange };
+    ghost invariant = { λ q. (deque_len q.waiting ≤ MAX_QUEUED) × (MAX_QUEUED ≤ deque_capacity q.waiting) × IsExchangeOn q.waiting.items q.exchange };
 }
 
 impl Queue {
@@ -40,28 +37,28 @@ impl Queue {
         ensures { IfOk result (λ q. q ≡ nothing) }
     {
         Ok(Queue {
-            waiting: VecDeque::with_capacity(alloc, MOST)?,
+            waiting: VecDeque::with_capacity(alloc, MAX_QUEUED)?,
             exchange: None,
         })
     }
 
-    /// Adds a message behind the others. Where `MOST` wait it is given back, and nothing changes.
+    /// Adds a message behind the others. Where `MAX_QUEUED` wait it is given back, and nothing changes.
     pub fn push(&mut self, message: Waiting) -> Result<(), Waiting>
         ensures { MatchResult result
-            (λ _. (length self.old.waiting < MOST) × (self.new ≡ record self.old { waiting = self.old.waiting ++ message ∷ [] }))
-            (λ refused. (MOST ≤ length self.old.waiting) × (refused ≡ message) × (self.new ≡ self.old)) }
+            (λ _. (length self.old.waiting < MAX_QUEUED) × (self.new ≡ record self.old { waiting = self.old.waiting ++ message ∷ [] }))
+            (λ refused. (MAX_QUEUED ≤ length self.old.waiting) × (refused ≡ message) × (self.new ≡ self.old)) }
     {
-        if self.waiting.len() >= MOST {
+        if self.waiting.len() >= MAX_QUEUED {
             return Err(message);
         }
         self.waiting.push_back_reserved(message);
         Ok(())
     }
 
-    /// How many messages wait, `MOST` at the most.
+    /// How many messages wait, `MAX_QUEUED` at the most.
     pub fn len(&self) -> usize
         ensures len { result ≡ length self.now.waiting }
-        ensures within { length self.now.waiting ≤ MOST }
+        ensures within { length self.now.waiting ≤ MAX_QUEUED }
     {
         self.waiting.len()
     }
@@ -73,8 +70,8 @@ impl Queue {
         self.waiting.get(place)
     }
 
-    /// Takes the front out, and with it an exchange that announced it. None, and nothing changes, where nothing waits or another message
-    /// waits for its PUBACK.
+    /// Takes the front out, and with it an exchange that announced it. None, and nothing changes, where
+    /// nothing waits or another message waits for its PUBACK.
     pub fn settle(&mut self) -> Option<Waiting>
         ensures front { result ≡ settled self.old }
         ensures rest { self.new ≡ settle self.old }
@@ -88,7 +85,8 @@ impl Queue {
         self.waiting.pop_front()
     }
 
-    /// Opens the exchange by which a normal topic id is announced for the front, sent at this clock. Nothing changes where nothing waits or an exchange is open.
+    /// Opens the exchange by which a normal topic id is announced for the front, sent at this clock. Nothing
+    /// changes where nothing waits or an exchange is open.
     pub fn announce(&mut self, topic_id: u16, msg_id: u16, clock: u64)
         ensures { self.new ≡ announce self.old topic_id msg_id clock }
     {
@@ -97,7 +95,7 @@ impl Queue {
         }
         self.exchange = Some(Exchange {
             announcing: true,
-            id_type: TopicIdType::Normal,
+            id_type: TopicIdKind::Normal,
             topic_id,
             msg_id,
             sent: clock,
@@ -106,8 +104,9 @@ impl Queue {
         });
     }
 
-    /// Moves the front into an exchange that waits for its PUBACK, sent at this clock. Nothing changes where nothing waits or an exchange is open.
-    pub fn await_ack(&mut self, id_type: TopicIdType, topic_id: u16, msg_id: u16, clock: u64)
+    /// Moves the front into an exchange that waits for its PUBACK, sent at this clock. Nothing changes where
+    /// nothing waits or an exchange is open.
+    pub fn await_ack(&mut self, id_type: TopicIdKind, topic_id: u16, msg_id: u16, clock: u64)
         ensures { self.new ≡ await_ack self.old id_type topic_id msg_id clock }
     {
         if self.exchange.is_some() {
@@ -134,7 +133,8 @@ impl Queue {
         self.exchange.as_ref()
     }
 
-    /// Counts one more sending of the open exchange, at this clock, of which there were fewer than 3. Nothing changes where none is open.
+    /// Counts one more sending of the open exchange, at this clock, which was sent again fewer than
+    /// `MAX_TRIES` times. Nothing changes where none is open.
     pub fn repeat(&mut self, clock: u64)
         requires { MayRepeat self.old.exchange }
         ensures { self.new ≡ record self.old { exchange = repeat self.old.exchange clock } }

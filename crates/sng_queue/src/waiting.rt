@@ -1,6 +1,5 @@
 //! A message that waits for a client.
-use sng_frames::Qos;
-use sng_text::{Octets, TopicName};
+use sng_text::{Octets, Qos, TopicName};
 
 /// A message for one client, as it will be sent (MQTT-SN 1.2, 5.4.12).
 #[derive(Debug, Drop)]

@@ -15,7 +15,8 @@ is_connect _ = false
 -- who has no session gets one by a CONNECT, and nothing else moves it
 abbrev pub SessionsBeginByConnect : Type 0
 SessionsBeginByConnect =
-    (state : ClientState) (cue : Cue) → has_session state ≡ false → is_connect cue ≡ false → next state cue ≡ None
+    (state : ClientState) (cue : Cue)
+    → has_session state ≡ false → is_connect cue ≡ false → next state cue ≡ None
 
 -- who is awake was asleep and has just asked for what waits
 abbrev pub WakingIsFromSleep : Type 0

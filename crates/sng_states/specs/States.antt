@@ -1,4 +1,5 @@
--- The table of a client's states: for each cue the states in which it has a place, and the state that it leads to (MQTT-SN 1.2, 6.14).
+-- The table of a client's states: for each cue the states in which it has a place, and the state that it
+-- leads to (MQTT-SN 1.2, 6.14).
 use Rattle.std.specs.Prelude.{Bool, true, false, None, Some, if◌then◌else◌}
 use Rattle.std.specs.declared.option.Option.{Option}
 use Rattle.sng_states.specs.declared.state.ClientState.{ClientState}

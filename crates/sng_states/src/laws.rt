@@ -1,4 +1,7 @@
-//! What is right of the table of states (MQTT-SN 1.2, 6.14). Each function states one law: its contract is the law, and calling it does nothing.
+//! What is right of the table of states (MQTT-SN 1.2, 6.14), and the limit's number. Each function states one
+//! law: its contract is the law, and calling it does nothing.
+ghost use Rattle.std.specs.Prelude.{◌≡◌};
+ghost use Rattle.sng_states.specs.declared.limits.TheConstants.{SILENCE_MS_PER_SECOND};
 ghost use Rattle.sng_states.specs.Laws.{SessionsBeginByConnect, WakingIsFromSleep};
 
 /// A client without a session, which has left or is lost, gets one by a CONNECT, and nothing else moves it.
@@ -9,4 +12,9 @@ pub fn sessions_begin_by_connect()
 /// A client is awake only where it was asleep and has just asked for what waits.
 pub fn waking_is_from_sleep()
     ensures { WakingIsFromSleep }
+{}
+
+/// The number of the limit.
+pub fn limits()
+    ensures { SILENCE_MS_PER_SECOND ≡ 1500 }
 {}

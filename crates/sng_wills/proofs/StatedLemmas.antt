@@ -1,4 +1,4 @@
--- The will after deeds is what they stated last, deed by deed.
+-- The will after actions is what they stated last, action by action.
 use Rattle.std.proofs.Common.{◌≡◌, ℕ, Bool, true, false, List, [], ◌∷◌, Option, Some, None, is_some, ◌&&◌, unwrap_or, cond, refl, ap, ◌∙◌, true≢false}
 use Rattle.std.specs.Option.{option_map}
 use Rattle.sng_wills.specs.declared.will.Will.{Will}
@@ -6,7 +6,7 @@ use Rattle.sng_wills.specs.declared.will.StatedTopic.{StatedTopic}
 use Rattle.sng_wills.specs.declared.will.Stage.{Stage}
 use Rattle.sng_wills.specs.declared.will.Stage.TheVariants.{Closed, TopicAwaited, MessageAwaited}
 use Rattle.sng_wills.specs.Wills.{Wills, will_of, is_closed, after_topic, after_message, after_topic_update, after_message_update}
-use Rattle.sng_wills.specs.Stated.{Deed, after, after_all, later, awaited_topic, last_topic, last_message, Start, Stop, Clear, Topic, Message, UpdateTopic, UpdateMessage}
+use Rattle.sng_wills.specs.Stated.{Action, after, after_all, later, awaited_topic, last_topic, last_message, Start, Stop, Clear, Topic, Message, UpdateTopic, UpdateMessage}
 use Rattle.sng_wills.specs.Laws.{WillsAreWhatWasStatedLast}
 
 -- the will of a topic, where there is one, and a message
@@ -15,7 +15,8 @@ stated_will topic message = option_map (λ stated. will_of stated message) topic
 
 -- a WILLTOPIC leaves the will
 pub after_topic-will : (stated : StatedTopic) (stage : Stage) (will : Option Will)
-    → (unwrap_or (after_topic stated (record { stage = stage; will = will })) (record { stage = stage; will = will })).will ≡ will
+    → let wills : Wills = record { stage = stage; will = will } in
+    (unwrap_or (after_topic stated wills) wills).will ≡ will
 after_topic-will stated Closed will = refl
 after_topic-will stated TopicAwaited will = refl
 after_topic-will stated (MessageAwaited topic) will = refl
@@ -30,7 +31,8 @@ after_message-will said TopicAwaited topic message = refl
 after_message-will said (MessageAwaited stated) topic message = refl
 
 -- a WILLTOPICUPD replaces the topic, and leaves the message, which is empty before any
-pub after_topic_update-will : (stated : StatedTopic) (stage : Stage) (topic : Option StatedTopic) (message : List ℕ)
+pub after_topic_update-will : (stated : StatedTopic) (stage : Stage) (topic : Option StatedTopic)
+    (message : List ℕ)
     → (topic ≡ None → message ≡ [])
     → let wills : Wills = record { stage = stage; will = stated_will topic message } in
     (unwrap_or (after_topic_update stated wills) wills).will
@@ -41,7 +43,8 @@ after_topic_update-will stated TopicAwaited topic message empty = refl
 after_topic_update-will stated (MessageAwaited other) topic message empty = refl
 
 -- a WILLMSGUPD replaces the message of a will that is there
-pub after_message_update-will : (said : List ℕ) (stage : Stage) (topic : Option StatedTopic) (message : List ℕ)
+pub after_message_update-will : (said : List ℕ) (stage : Stage) (topic : Option StatedTopic)
+    (message : List ℕ)
     → let wills : Wills = record { stage = stage; will = stated_will topic message } in
     (unwrap_or (after_message_update said wills) wills).will
     ≡ stated_will topic (cond (is_closed stage && is_some topic) said message)
@@ -51,7 +54,7 @@ after_message_update-will said TopicAwaited topic message = refl
 after_message_update-will said (MessageAwaited other) topic message = refl
 
 -- without a topic there is no message
-pub last_message-without : (deeds : List Deed) → last_topic deeds ≡ None → last_message deeds ≡ []
+pub last_message-without : (actions : List Action) → last_topic actions ≡ None → last_message actions ≡ []
 last_message-without [] none = refl
 last_message-without (Start ∷ earlier) none = last_message-without earlier none
 last_message-without (Stop ∷ earlier) none = last_message-without earlier none
@@ -81,7 +84,8 @@ last_message-without (UpdateMessage message ∷ earlier) none =
     by false rest = rest
 
 -- a dialogue is its stage and its will
-pub with_will : (wills : Wills) (will : Option Will) → wills.will ≡ will → wills ≡ record { stage = wills.stage; will = will }
+pub with_will : (wills : Wills) (will : Option Will)
+    → wills.will ≡ will → wills ≡ record { stage = wills.stage; will = will }
 with_will wills will e = λ i. record { stage = wills.stage; will = e i }
 
 -- the will is the last topic with the last message
@@ -92,7 +96,8 @@ will-stated (Stop ∷ earlier) = will-stated earlier
 will-stated (Clear ∷ earlier) = refl
 will-stated (Topic stated ∷ earlier) =
     let wills = after_all earlier in
-    ap (λ w. (after (Topic stated) w).will) (with_will wills _ (will-stated earlier)) ∙ after_topic-will stated wills.stage _
+    ap (λ w. (after (Topic stated) w).will) (with_will wills _ (will-stated earlier))
+    ∙ after_topic-will stated wills.stage _
 will-stated (Message message ∷ earlier) =
     let wills = after_all earlier in
     ap (λ w. (after (Message message) w).will) (with_will wills _ (will-stated earlier))
@@ -100,7 +105,8 @@ will-stated (Message message ∷ earlier) =
 will-stated (UpdateTopic stated ∷ earlier) =
     let wills = after_all earlier in
     ap (λ w. (after (UpdateTopic stated) w).will) (with_will wills _ (will-stated earlier))
-    ∙ after_topic_update-will stated wills.stage (last_topic earlier) (last_message earlier) (last_message-without earlier)
+    ∙ after_topic_update-will stated wills.stage (last_topic earlier) (last_message earlier)
+    (last_message-without earlier)
 will-stated (UpdateMessage message ∷ earlier) =
     let wills = after_all earlier in
     ap (λ w. (after (UpdateMessage message) w).will) (with_will wills _ (will-stated earlier))

@@ -2,9 +2,11 @@
 use Rattle.std.specs.Prelude.{◌≡◌, List}
 use Rattle.std.specs.Option.{option_map}
 use Rattle.sng_wills.specs.Wills.{will_of}
-use Rattle.sng_wills.specs.Stated.{Deed, after_all, last_topic, last_message}
+use Rattle.sng_wills.specs.Stated.{Action, after_all, last_topic, last_message}
 
 -- whatever happened to the dialogue, the will is the last topic with the last message
 abbrev pub WillsAreWhatWasStatedLast : Type 0
 WillsAreWhatWasStatedLast =
-    (deeds : List Deed) → (after_all deeds).will ≡ option_map (λ stated. will_of stated (last_message deeds)) (last_topic deeds)
+    (actions : List Action)
+    → (after_all actions).will
+    ≡ option_map (λ stated. will_of stated (last_message actions)) (last_topic actions)

@@ -1,4 +1,4 @@
--- A client's will as what it stated last, told without stages (MQTT-SN 1.2, 6.2 and 6.4).
+-- A client's will as what it stated last, without stages (MQTT-SN 1.2, 6.2 and 6.4).
 use Rattle.std.specs.Prelude.{ℕ, List, [], ◌∷◌, Some, None, unwrap_or, is_some, ◌&&◌, if◌then◌else◌}
 use Rattle.std.specs.declared.option.Option.{Option}
 use Rattle.sng_wills.specs.declared.will.StatedTopic.{StatedTopic}
@@ -7,17 +7,17 @@ use Rattle.sng_wills.specs.declared.will.Stage.TheVariants.{Closed, TopicAwaited
 use Rattle.sng_wills.specs.Wills.{Wills, is_closed, after_topic, after_message, after_topic_update, after_message_update}
 
 -- what happens to a dialogue
-pub data Deed : Type 0 where
-  Start : Deed
-  Stop : Deed
-  Clear : Deed
-  Topic : StatedTopic → Deed
-  Message : List ℕ → Deed
-  UpdateTopic : StatedTopic → Deed
-  UpdateMessage : List ℕ → Deed
+pub data Action : Type 0 where
+  Start : Action
+  Stop : Action
+  Clear : Action
+  Topic : StatedTopic → Action
+  Message : List ℕ → Action
+  UpdateTopic : StatedTopic → Action
+  UpdateMessage : List ℕ → Action
 
--- the dialogue after a deed; a frame out of turn changes nothing
-abbrev pub after : Deed → Wills → Wills
+-- the dialogue after an action; a frame out of turn changes nothing
+abbrev pub after : Action → Wills → Wills
 after Start wills = record wills { stage = TopicAwaited }
 after Stop wills = record wills { stage = Closed }
 after Clear wills = record { stage = Closed; will = None }
@@ -26,10 +26,10 @@ after (Message message) wills = unwrap_or (after_message message wills) wills
 after (UpdateTopic stated) wills = unwrap_or (after_topic_update stated wills) wills
 after (UpdateMessage message) wills = unwrap_or (after_message_update message wills) wills
 
--- the dialogue after deeds, of which the newest stands first
-abbrev pub after_all : List Deed → Wills
+-- the dialogue after actions, of which the newest stands first
+abbrev pub after_all : List Action → Wills
 after_all [] = record { stage = Closed; will = None }
-after_all (deed ∷ earlier) = after deed (after_all earlier)
+after_all (action ∷ earlier) = after action (after_all earlier)
 
 -- the topic of which a dialogue awaits the message
 abbrev pub awaited_topic : Stage → Option StatedTopic
@@ -42,19 +42,22 @@ later None earlier = earlier
 later (Some stated) earlier = Some stated
 
 -- the last topic since the last deletion: one of a WILLTOPIC counts once the message of its dialogue came
-abbrev pub last_topic : List Deed → Option StatedTopic
+abbrev pub last_topic : List Action → Option StatedTopic
 last_topic [] = None
 last_topic (Clear ∷ earlier) = None
 last_topic (Message message ∷ earlier) = later (awaited_topic (after_all earlier).stage) (last_topic earlier)
-last_topic (UpdateTopic stated ∷ earlier) = if is_closed (after_all earlier).stage then Some stated else last_topic earlier
+last_topic (UpdateTopic stated ∷ earlier) =
+    if is_closed (after_all earlier).stage then Some stated else last_topic earlier
 last_topic (_ ∷ earlier) = last_topic earlier
 
 -- the last message since the last deletion, or else the empty one
-abbrev pub last_message : List Deed → List ℕ
+abbrev pub last_message : List Action → List ℕ
 last_message [] = []
 last_message (Clear ∷ earlier) = []
 last_message (Message message ∷ earlier) =
     if is_some (awaited_topic (after_all earlier).stage) then message else last_message earlier
 last_message (UpdateMessage message ∷ earlier) =
-    if is_closed (after_all earlier).stage && is_some (last_topic earlier) then message else last_message earlier
+    if is_closed (after_all earlier).stage && is_some (last_topic earlier)
+    then message
+    else last_message earlier
 last_message (_ ∷ earlier) = last_message earlier

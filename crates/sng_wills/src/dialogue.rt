@@ -1,17 +1,18 @@
-//! The dialogue about a client's will, and its will (MQTT-SN 1.2, 6.2: WILLTOPICREQ, WILLTOPIC, WILLMSGREQ, WILLMSG; 6.4: WILLTOPICUPD and WILLMSGUPD).
+//! The dialogue about a client's will, and its will (MQTT-SN 1.2, 6.2: WILLTOPICREQ, WILLTOPIC, WILLMSGREQ,
+//! WILLMSG; 6.4: WILLTOPICUPD and WILLMSGUPD).
 ghost use Rattle.std.specs.Prelude.{◌≡◌, None, unwrap_or};
 ghost use Rattle.std.specs.Option.{option_copied};
 ghost use Rattle.sng_wills.specs.declared.will.Stage.TheVariants.{Closed, TopicAwaited};
 ghost use Rattle.sng_wills.specs.Wills.{stated_topic, after_topic, after_message, after_topic_update, after_message_update, answer};
 
 use crate::{Stage, StatedTopic, Will, WillFault};
-use sng_frames::Qos;
-use sng_text::{Octets, TopicName};
+use sng_text::{Octets, Qos, TopicName};
 use std::alloc::Global;
 use std::marker::Model;
 use std::mem;
 
-/// A client's will, where it has one, and how far the dialogue about it has come. Contracts see the two. No call takes memory.
+/// A client's will, where it has one, and how far the dialogue about it has come. Contracts see the two. No
+/// call takes memory.
 #[derive(Debug, Drop)]
 pub struct WillDialogue {
     stage: Stage,
@@ -82,7 +83,8 @@ impl WillDialogue {
         qos: Qos,
         retain: bool,
     ) -> Result<(), WillFault<StatedTopic>>
-        ensures result { let stated = stated_topic topic qos retain in result ≡ answer stated (after_topic stated self.old) }
+        ensures result { let stated = stated_topic topic qos retain in
+            result ≡ answer stated (after_topic stated self.old) }
         ensures wills { self.new ≡ unwrap_or (after_topic (stated_topic topic qos retain) self.old) self.old }
     {
         let stated = StatedTopic { topic, qos, retain };
@@ -95,8 +97,8 @@ impl WillDialogue {
         }
     }
 
-    /// A WILLMSG: where one is awaited, the will is of it and the topic that was stated, and the dialogue is closed.
-    /// OutOfTurn elsewhere; nothing changed then.
+    /// A WILLMSG: where one is awaited, the will is of it and the topic that was stated, and the dialogue is
+    /// closed. OutOfTurn elsewhere; nothing changed then.
     pub fn message(&mut self, payload: Octets) -> Result<(), WillFault<Octets>>
         ensures result { result ≡ answer payload (after_message payload self.old) }
         ensures wills { self.new ≡ unwrap_or (after_message payload self.old) self.old }
@@ -118,16 +120,18 @@ impl WillDialogue {
         }
     }
 
-    /// A WILLTOPICUPD with a topic: replaces the will's topic, QoS and Retain, or begins a will with an empty message.
-    /// OutOfTurn while a dialogue is open; nothing changed then.
+    /// A WILLTOPICUPD with a topic: replaces the will's topic, QoS and Retain, or begins a will with an empty
+    /// message. OutOfTurn while a dialogue is open; nothing changed then.
     pub fn update_topic(
         &mut self,
         topic: TopicName,
         qos: Qos,
         retain: bool,
     ) -> Result<(), WillFault<StatedTopic>>
-        ensures result { let stated = stated_topic topic qos retain in result ≡ answer stated (after_topic_update stated self.old) }
-        ensures wills { self.new ≡ unwrap_or (after_topic_update (stated_topic topic qos retain) self.old) self.old }
+        ensures result { let stated = stated_topic topic qos retain in
+            result ≡ answer stated (after_topic_update stated self.old) }
+        ensures wills { self.new
+            ≡ unwrap_or (after_topic_update (stated_topic topic qos retain) self.old) self.old }
     {
         match self.stage {
             Stage::Closed => {

@@ -1,8 +1,10 @@
-//! What is right of a client's will (MQTT-SN 1.2, 6.2 and 6.4). The function states a law: its contract is the law, and calling it does nothing.
+//! What is right of a client's will (MQTT-SN 1.2, 6.2 and 6.4). The function states a law: its contract is
+//! the law, and calling it does nothing.
 ghost use Rattle.sng_wills.specs.Laws.{WillsAreWhatWasStatedLast};
 
-/// Whatever happened to the dialogue, the will is of the topic that was stated last since it was deleted last, and of the message
-/// that was stated last since then, or of the empty one. A WILLTOPIC counts only once the WILLMSG of its dialogue came.
+/// Whatever happened to the dialogue, the will is of the topic that was stated last since it was deleted
+/// last, and of the message that was stated last since then, or of the empty one. A WILLTOPIC counts only
+/// once the WILLMSG of its dialogue came.
 pub fn wills_are_what_was_stated_last()
     ensures { WillsAreWhatWasStatedLast }
 {}

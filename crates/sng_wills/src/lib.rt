@@ -4,8 +4,6 @@
 pub mod dialogue;
 pub mod fault;
 pub mod laws;
-#[cfg(test)]
-mod tests;
 pub mod will;
 
 pub use dialogue::WillDialogue;

@@ -1,6 +1,5 @@
 //! The will, and how far the dialogue about it has come (MQTT-SN 1.2, 6.2).
-use sng_frames::Qos;
-use sng_text::{Octets, TopicName};
+use sng_text::{Octets, Qos, TopicName};
 
 /// What is published for a client that is lost.
 #[derive(Debug, Drop)]

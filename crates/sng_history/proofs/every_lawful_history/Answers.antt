@@ -1,4 +1,4 @@
-use Rattle.sng_history.proofs.Sentences.{in_order, each_judged, each_answered}
+use Rattle.sng_history.proofs.LawLemmas.{in_order, each_judged, each_answered}
 use Rattle.sng_history.proofs.every_lawful_history.Goals as goal
 
 pub returns : goal.returns

@@ -1,0 +1,123 @@
+//! Writing packets (MQTT 3.1.1, sections 2 and 3).
+ghost use Rattle.std.specs.Prelude.{◌≡◌, ◌≢◌, ◌≤◌, ◌<◌, ◌↔◌, length, Err, IfOk, OnOk, SomeIff, ◌++◌, false, None};
+ghost use Rattle.mqtt_frames.specs.Packets.{first_byte, body, written};
+ghost use Rattle.mqtt_frames.specs.Grammar.{HasNoSpelling};
+ghost use Rattle.mqtt_frames.specs.declared.packet.Packet.TheVariants as packets;
+
+use crate::limits::MAX_PACKET;
+use crate::{
+    Packet, StreamFault, acknowledgements, connect, fields, publish, remaining, spellable,
+    subscribe, unsubscribe,
+};
+use sng_text::{Octets, TopicName};
+use std::alloc::{AllocError, Global};
+
+/// The bytes that a packet is sent as, with the shortest Remaining Length. Allocates once.
+///
+/// `TooLong`: it has more than `MAX_PACKET` bytes. `Malformed`: no bytes spell the packet. `Memory`: the allocation failed.
+pub fn encode(alloc: Global, packet: &Packet) -> Result<Vec<u8>, StreamFault>
+    ensures written { IfOk result (λ v. v.items ≡ written packet.now) }
+    ensures fits { IfOk result (λ v. length v.items ≤ MAX_PACKET) }
+    ensures too_long { (result ≡ Err StreamFault.TooLong) ↔ (MAX_PACKET < length (written packet.now)) }
+    ensures malformed { (result ≡ Err StreamFault.Malformed) ↔ HasNoSpelling packet.now }
+    ensures supported { result ≢ Err StreamFault.NotSupported }
+    ensures never_failed { result ≢ Err StreamFault.Failed }
+{
+    let Some(rest) = body_size(packet) else {
+        return Err(StreamFault::TooLong);
+    };
+    let all = 1 + remaining::size(rest) + rest;
+    if all > MAX_PACKET {
+        return Err(StreamFault::TooLong);
+    }
+    if !spellable::has_spelling(packet) {
+        return Err(StreamFault::Malformed);
+    }
+    Ok(write(alloc, packet, rest, all)?)
+}
+
+/// The bytes of a packet, of which so many stand behind the Remaining Length, and so many there are.
+fn write(alloc: Global, packet: &Packet, rest: usize, all: usize) -> Result<Vec<u8>, AllocError>
+    requires { rest ≡ length (body packet.now) }
+    ensures { IfOk result (λ v. v.items ≡ written packet.now) }
+{
+    let mut bytes = Vec::with_capacity(alloc, all)?;
+    bytes.push(first_byte(packet))?;
+    remaining::push(&mut bytes, rest)?;
+    push_body(&mut bytes, packet)?;
+    Ok(bytes)
+}
+
+/// The first byte of a packet (2.2).
+fn first_byte(packet: &Packet) -> u8
+    ensures { result ≡ first_byte packet.now }
+{
+    match packet {
+        Packet::Connect(_) => 0x10,
+        Packet::ConnectAck(_) => 0x20,
+        Packet::Publish(publish) => publish::publish_byte(publish),
+        Packet::PublishAck(_) => 0x40,
+        Packet::Subscribe(_) => 0x82,
+        Packet::SubscribeAck(_) => 0x90,
+        Packet::Unsubscribe(_) => 0xa2,
+        Packet::UnsubscribeAck(_) => 0xb0,
+        Packet::PingRequest => 0xc0,
+        Packet::PingResponse => 0xd0,
+        Packet::Disconnect => 0xe0,
+    }
+}
+
+/// How many bytes the variable header and the payload take; none where they are more than `MAX_PACKET`.
+fn body_size(packet: &Packet) -> Option<usize>
+    ensures { SomeIff result (length (body packet.now) ≤ MAX_PACKET) (length (body packet.now)) }
+{
+    match packet {
+        Packet::Connect(connect) => fields::within(connect::size(connect)),
+        Packet::ConnectAck(_) | Packet::PublishAck(_) | Packet::UnsubscribeAck(_) => {
+            Some(acknowledgements::SIZE)
+        }
+        Packet::Publish(publish) => publish::size(publish),
+        Packet::Subscribe(subscribe) => subscribe::size(subscribe.requests.as_slice()),
+        Packet::SubscribeAck(answer) => subscribe::ack_size(answer.codes.as_slice()),
+        Packet::Unsubscribe(unsubscribe) => unsubscribe::size(unsubscribe.filters.as_slice()),
+        Packet::PingRequest | Packet::PingResponse | Packet::Disconnect => Some(0),
+    }
+}
+
+/// Puts the variable header and the payload behind the other bytes. After an `Err` a part of them may be there.
+fn push_body(bytes: &mut Vec<u8>, packet: &Packet) -> Result<(), AllocError>
+    ensures { OnOk result (bytes.new.items ≡ bytes.old.items ++ body packet.now) }
+{
+    match packet {
+        Packet::Connect(connect) => connect::push(bytes, connect),
+        Packet::ConnectAck(answer) => acknowledgements::push_connect_ack(bytes, answer),
+        Packet::Publish(publish) => publish::push(bytes, publish),
+        Packet::PublishAck(packet_id) | Packet::UnsubscribeAck(packet_id) => {
+            fields::push_number(bytes, usize::from(*packet_id))
+        }
+        Packet::Subscribe(subscribe) => subscribe::push(bytes, subscribe),
+        Packet::SubscribeAck(answer) => subscribe::push_ack(bytes, answer),
+        Packet::Unsubscribe(unsubscribe) => unsubscribe::push(bytes, unsubscribe),
+        Packet::PingRequest | Packet::PingResponse | Packet::Disconnect => Ok(()),
+    }
+}
+
+/// The PUBLISH of a message at QoS 0, sent for the first time. Allocates once.
+pub fn write_publish(
+    alloc: Global,
+    name: &TopicName,
+    payload: &[u8],
+    retain: bool,
+) -> Result<Octets, AllocError>
+    ensures { IfOk result (λ o. o ≡ written (packets.Publish
+        (record { dup = false; retain = retain; packet_id = None; name = name.now; payload = payload.now }))) }
+{
+    let name = name.text();
+    let rest = 2 + name.len() + payload.len();
+    let mut bytes = Vec::with_capacity(alloc, 1 + remaining::size(rest) + rest)?;
+    bytes.push(if retain { 0x31 } else { 0x30 })?;
+    remaining::push(&mut bytes, rest)?;
+    fields::push_text(&mut bytes, name)?;
+    bytes.extend_from_slice(payload)?;
+    Ok(Octets::from(bytes))
+}

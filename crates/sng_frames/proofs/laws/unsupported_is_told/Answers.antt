@@ -1,5 +1,0 @@
-use Rattle.sng_frames.proofs.Faults.{frame_of-refuses, frame_of-unsupported}
-use Rattle.sng_frames.proofs.laws.unsupported_is_told.Goals as goal
-
-pub returns : goal.returns
-returns c = λ b are. (λ told. frame_of-refuses b are told, λ s. frame_of-unsupported b s.0 s.1)

@@ -1,0 +1,82 @@
+-- How an ask is judged as it comes, and a publish as it leaves. The first rule in this order that forbids an ask is its verdict:
+-- not a frame, not supported, no session or an unknown source, the type of the topic id, not a topic name, an id without a name,
+-- the missing grant, the broker's connection, the room.
+use Rattle.std.specs.Prelude.{ℕ, ◌/◌, ◌%◌, nat_lt, List, [], ◌∷◌, length, if◌then◌else◌, Some, None, Ok, Err}
+use Rattle.std.specs.declared.result.Result.{Result}
+use Rattle.sng_text.specs.Texts.{is_name}
+use Rattle.sng_grants.specs.declared.policy.Policy.{Policy}
+use Rattle.sng_policy.specs.Grants.{publish_grant, source_grant, lists_source}
+use Rattle.sng_policy.specs.declared.grant.Grant.{Grant}
+use Rattle.sng_policy.specs.declared.grant.Grant.TheVariants as grant
+use Rattle.sng_frames.specs.declared.frame.Publish.{Publish}
+use Rattle.sng_frames.specs.declared.flags.TopicIdType.{TopicIdType}
+use Rattle.sng_frames.specs.declared.flags.TopicIdType.TheVariants.{Normal, Predefined, Short, Reserved}
+use Rattle.sng_outbox.specs.declared.limits.TheConstants.{MAX_OUTBOX_ITEMS}
+use Rattle.sng_outbox.specs.declared.origin.Origin.{Origin}
+use Rattle.sng_outbox.specs.declared.origin.Origin.TheVariants as origin
+use Rattle.sng_book.specs.declared.decision.Decision.{Decision}
+use Rattle.sng_book.specs.declared.decision.Decision.TheVariants as note
+use Rattle.sng_book.specs.declared.decision.Who.TheVariants as who
+use Rattle.sng_book.specs.declared.outcome.IdKind.TheVariants as kind
+use Rattle.sng_book.specs.declared.outcome.Place.TheVariants as place
+use Rattle.sng_book.specs.declared.outcome.Denial.{Denial}
+use Rattle.sng_book.specs.declared.outcome.Denial.TheVariants.{NoScope, UnknownSource, BadName, IdType, UnknownId, MissingPub, MissingSub, UpstreamDown, Full}
+use Rattle.sng_book.specs.declared.outcome.Outcome.{Outcome}
+use Rattle.sng_book.specs.declared.outcome.Outcome.TheVariants.{Allowed, Denied}
+use Rattle.sng_history.specs.State.{State}
+
+-- the policy does not list who asks
+abbrev pub unlisted : Origin → Denial
+unlisted (origin.Client client) = NoScope client
+unlisted (origin.Source source) = UnknownSource
+
+-- what a policy answers about a name, as an outcome; a gap is a name for which `sub` is missing
+abbrev pub outcome_of : Origin → List ℕ → Grant → Outcome
+outcome_of asker name grant.Allowed = Allowed
+outcome_of asker name grant.NoScope = Denied (unlisted asker)
+outcome_of asker name grant.UnknownSource = Denied (unlisted asker)
+outcome_of asker name grant.MissingPub = Denied (MissingPub name)
+outcome_of asker name grant.MissingSub = Denied (MissingSub name)
+outcome_of asker name (grant.Uncovered gap) = Denied (MissingSub gap)
+
+-- what the policy says to a publish under the name, as it is asked for and again as it leaves
+abbrev pub exit : Policy → Origin → List ℕ → Outcome
+exit policy (origin.Client client) name = outcome_of (origin.Client client) name (publish_grant policy client name)
+exit policy (origin.Source source) name = outcome_of (origin.Source source) name (source_grant policy source name)
+
+-- the first of two rules that forbids
+abbrev pub and_then : Outcome → Outcome → Outcome
+and_then Allowed next = next
+and_then (Denied denial) next = Denied denial
+
+-- whether there is a connection, and room for one more
+abbrev pub room : State → Outcome
+room s = if s.up then (if nat_lt (length s.link.waiting) MAX_OUTBOX_ITEMS then Allowed else Denied (Full place.Outbox)) else Denied UpstreamDown
+
+-- a publish under the name is judged: by the policy in force, then by the connection and the room
+abbrev pub verdict : State → Origin → List ℕ → Outcome
+verdict s asker name = and_then (exit s.policy asker name) (room s)
+
+-- a number as its two octets, the high one first
+abbrev pub octets_of : ℕ → List ℕ
+octets_of n = n / 256 ∷ n % 256 ∷ []
+
+-- the name that a topic id stands for in a PUBLISH without a session, or the rule that it breaks (MQTT-SN 1.2, 5.3.11 and 6.8).
+-- A short name is the id's two octets. No topic is predefined yet.
+abbrev pub name_in : TopicIdType → ℕ → Result (List ℕ) Denial
+name_in Short id = if is_name (octets_of id) then Ok (octets_of id) else Err BadName
+name_in Predefined id = Err (UnknownId kind.Predefined id)
+name_in Normal id = Err IdType
+name_in Reserved id = Err IdType
+
+-- the note of an ask by a listed source, given the name that was read
+abbrev pub named_ask : State → List ℕ → Result (List ℕ) Denial → Decision
+named_ask s source (Ok name) = note.Publish (who.Source source) (Some name) (verdict s (origin.Source source) name)
+named_ask s source (Err rule) = note.Publish (who.Source source) None (Denied rule)
+
+-- the note of a PUBLISH without a session, of which only the sender's IPv4 address counts
+abbrev pub source_ask : State → List ℕ → Publish → Decision
+source_ask s source p =
+    if lists_source s.policy source
+    then named_ask s source (name_in p.flags.id_type p.topic_id)
+    else note.Publish (who.Source source) None (Denied UnknownSource)

@@ -1,0 +1,60 @@
+//! The table row by row, and silence at its limits, by hand.
+use sng_states::{ClientState, Cue, next, overdue};
+
+const STATES: [ClientState; 6] = [
+    ClientState::Dialogue,
+    ClientState::Active,
+    ClientState::Asleep,
+    ClientState::Awake,
+    ClientState::Disconnected,
+    ClientState::Lost,
+];
+
+#[test]
+fn each_row_of_the_table(rt: HostRuntime) {
+    let dialogue = Some(ClientState::Dialogue);
+    let active = Some(ClientState::Active);
+    let asleep = Some(ClientState::Asleep);
+    let awake = Some(ClientState::Awake);
+    let left = Some(ClientState::Disconnected);
+    let lost = Some(ClientState::Lost);
+    for (cue, wanted) in [
+        (Cue::Connect, [active; 6]),
+        (Cue::ConnectWill, [dialogue; 6]),
+        (Cue::WillDone, [active, None, None, None, None, None]),
+        (Cue::WillDenied, [left, None, None, None, None, None]),
+        (Cue::Sleep, [None, asleep, asleep, asleep, None, None]),
+        (Cue::Wake, [None, None, awake, None, None, None]),
+        (Cue::Drained, [None, None, None, asleep, None, None]),
+        (Cue::Leave, [left, left, left, left, None, None]),
+        (Cue::Lapse, [lost, lost, lost, lost, None, None]),
+    ] {
+        for (state, want) in STATES.iter().zip(wanted.iter()) {
+            assert_eq!(rt; next(*state, cue), *want, "{cue:?} in {state:?}");
+        }
+    }
+}
+
+#[test]
+fn silence_at_its_limits(rt: HostRuntime) {
+    for (duration, heard, clock, want) in [
+        (60, 0, 89_999, false),
+        (60, 0, 90_000, true),
+        (60, 1, 90_000, false),
+        (60, 1, 90_001, true),
+        (1, 10_000, 11_499, false),
+        (1, 10_000, 11_500, true),
+        (1, 10_000, 9_999, false),
+        (0, 0, u64::MAX, false),
+        (65_535, 0, 98_302_499, false),
+        (65_535, 0, 98_302_500, true),
+        (65_535, u64::MAX, 0, false),
+        (65_535, u64::MAX - 98_302_500, u64::MAX, true),
+    ] {
+        assert_eq!(rt;
+            overdue(duration, heard, clock),
+            want,
+            "{duration} s, {heard} to {clock}"
+        );
+    }
+}
