@@ -3,13 +3,16 @@
 
 pub mod covering;
 mod datagram;
+pub mod ending;
+mod input;
+pub mod laws;
+pub mod limits;
 pub mod play;
 mod player;
 mod reader;
 pub mod script;
 pub mod status;
-#[cfg(test)]
-mod tests;
 
+pub use limits::{MAX_LINE, MAX_READS};
 pub use script::{Line, line_of};
 pub use status::Status;
