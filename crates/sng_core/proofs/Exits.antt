@@ -1,7 +1,7 @@
 -- The notes with which items leave in what a step lets out are those that the step makes.
 use Rattle.std.proofs.Common.{◌≡◌, ℕ, Bool, true, false, List, [], refl, ap, ◌∙◌, Ok, Err}
 use Rattle.std.specs.declared.result.Result.{Result}
-use Rattle.sng_scope.specs.declared.policy.Policy.{Policy}
+use Rattle.sng_grants.specs.declared.policy.Policy.{Policy}
 use Rattle.sng_frames.specs.declared.fault.FrameFault.{FrameFault}
 use Rattle.sng_frames.specs.declared.flags.Qos.{Qos}
 use Rattle.sng_frames.specs.declared.flags.Qos.TheVariants.{AtMostOnce, AtLeastOnce, ExactlyOnce, WithoutSession}

@@ -8,7 +8,7 @@ use mqtt_frames::write_publish;
 use sng_book::{Decision, Out, Outcome, Outs, Who};
 use sng_outbox::{Item, Origin, Outbox};
 use sng_policy::{Grant, may_publish, source_may_publish};
-use sng_scope::Policy;
+use sng_grants::Policy;
 use sng_text::TopicName;
 use std::alloc::{AllocError, Global};
 

@@ -7,7 +7,7 @@ ghost use Rattle.sng_core.specs.Steps.{outs_of, next_of};
 use crate::leaving::leave_all;
 use sng_book::{Event, Outs};
 use sng_outbox::Outbox;
-use sng_scope::Policy;
+use sng_grants::Policy;
 use std::alloc::{AllocError, Global};
 use std::marker::Model;
 

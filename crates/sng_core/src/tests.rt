@@ -1,7 +1,7 @@
 //! A whole run against the rows that the formats' page shows.
 use crate::{Core, run};
 use sng_book::{Address, Event, print_row};
-use sng_scope::{Pair, Policy, Scope};
+use sng_grants::{Pair, Policy, Scope};
 use sng_text::{Octets, TopicFilter};
 use std::alloc::Global;
 use std::test::Fail;

@@ -2,7 +2,7 @@
 ghost use Rattle.std.specs.Prelude.{◌≡◌, true, [], codes, Ok, IfOk, OnOk};
 ghost use Rattle.std.specs.Result.{is_err};
 ghost use Rattle.sng_scope.specs.Policies.{policy_of};
-ghost use Rattle.sng_scope.specs.declared.policy.Policy.{Policy as policy_type};
+ghost use Rattle.sng_grants.specs.declared.policy.Policy.{Policy as policy_type};
 ghost use Rattle.sng_gateway.specs.Playing.{IsPlayed};
 ghost use Rattle.sng_history.specs.Present.{opening, Leads};
 

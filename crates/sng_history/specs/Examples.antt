@@ -1,6 +1,6 @@
 -- Worked rows: histories that are lawful, and rows that are not.
 use Rattle.std.specs.Prelude.{ℕ, true, false, codes, List, [], ◌∷◌, Some, None}
-use Rattle.sng_scope.specs.declared.policy.Policy.{Policy}
+use Rattle.sng_grants.specs.declared.policy.Policy.{Policy}
 use Rattle.sng_book.specs.declared.address.Address.{Address}
 use Rattle.sng_book.specs.declared.decision.Decision.TheVariants.{Publish, Forward, Frame}
 use Rattle.sng_book.specs.declared.decision.Who.TheVariants as who

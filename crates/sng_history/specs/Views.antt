@@ -1,6 +1,6 @@
 -- What a reader of the book sees who looks back through its rows. A history is the list of its rows, the newest first.
 use Rattle.std.specs.Prelude.{ℕ, Bool, true, false, ◌&&◌, List, [], ◌∷◌, ◌++◌, if◌then◌else◌}
-use Rattle.sng_scope.specs.declared.policy.Policy.{Policy}
+use Rattle.sng_grants.specs.declared.policy.Policy.{Policy}
 use Rattle.sng_outbox.specs.declared.item.Item.{Item}
 use Rattle.sng_book.specs.declared.decision.Decision.{Decision}
 use Rattle.sng_book.specs.declared.event.Event.{Event}

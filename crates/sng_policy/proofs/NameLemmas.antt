@@ -3,8 +3,8 @@ use Rattle.std.proofs.Common.{◌≡◌, ◌⊎◌, ◌↔◌, ℕ, Bool, true, 
 use Rattle.std.specs.declared.option.Option.{Option}
 use Rattle.std.proofs.lemmas.Bool.{or_right, both_ways}
 use Rattle.sng_text.specs.Matching.{matches}
-use Rattle.sng_scope.specs.Sources.{scope_of}
-use Rattle.sng_scope.specs.declared.scope.Pair.{Pair}
+use Rattle.sng_grants.specs.Sources.{scope_of}
+use Rattle.sng_grants.specs.declared.scope.Pair.{Pair}
 use Rattle.sng_policy.specs.declared.permission.Permission.{Permission}
 use Rattle.sng_policy.specs.declared.permission.Permission.TheVariants.{Publish, Subscribe}
 use Rattle.sng_policy.specs.declared.grant.Grant.{Grant}

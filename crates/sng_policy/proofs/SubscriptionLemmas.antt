@@ -12,8 +12,8 @@ use Rattle.sng_cover.specs.Gaps.{IsGap, IsRight}
 use Rattle.sng_cover.proofs.Answered.{right}
 use Rattle.sng_cover.specs.declared.answer.Cover.{Cover}
 use Rattle.sng_cover.specs.declared.answer.Cover.TheVariants as cover
-use Rattle.sng_scope.specs.Sources.{scope_of}
-use Rattle.sng_scope.specs.declared.scope.Pair.{Pair}
+use Rattle.sng_grants.specs.Sources.{scope_of}
+use Rattle.sng_grants.specs.declared.scope.Pair.{Pair}
 use Rattle.sng_policy.specs.declared.permission.Permission.TheVariants.{Subscribe}
 use Rattle.sng_policy.specs.declared.grant.Grant.{Grant}
 use Rattle.sng_policy.specs.declared.grant.Grant.TheVariants.{Uncovered}

@@ -5,10 +5,10 @@ use Rattle.sng_text.specs.Matching.{matches}
 use Rattle.sng_cover.specs.Covering.{cover_of}
 use Rattle.sng_cover.specs.declared.answer.Cover.{Cover}
 use Rattle.sng_cover.specs.declared.answer.Cover.TheVariants as cover
-use Rattle.sng_scope.specs.Sources.{scope_of}
-use Rattle.sng_scope.specs.Topics.{name_of}
-use Rattle.sng_scope.specs.declared.scope.Pair.{Pair}
-use Rattle.sng_scope.specs.declared.policy.Policy.{Policy}
+use Rattle.sng_grants.specs.Sources.{scope_of}
+use Rattle.sng_grants.specs.Topics.{name_of}
+use Rattle.sng_grants.specs.declared.scope.Pair.{Pair}
+use Rattle.sng_grants.specs.declared.policy.Policy.{Policy}
 use Rattle.sng_policy.specs.declared.permission.Permission.{Permission}
 use Rattle.sng_policy.specs.declared.permission.Permission.TheVariants.{Publish, Subscribe}
 use Rattle.sng_policy.specs.declared.grant.Grant.{Grant}

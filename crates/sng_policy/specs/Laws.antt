@@ -5,9 +5,9 @@ use Rattle.std.specs.List.{All}
 use Rattle.sng_text.specs.Texts.{is_name, is_filter}
 use Rattle.sng_text.specs.Matching.{matches}
 use Rattle.sng_cover.specs.Gaps.{IsGap}
-use Rattle.sng_scope.specs.Sources.{scope_of}
-use Rattle.sng_scope.specs.declared.scope.Pair.{Pair}
-use Rattle.sng_scope.specs.declared.policy.Policy.{Policy}
+use Rattle.sng_grants.specs.Sources.{scope_of}
+use Rattle.sng_grants.specs.declared.scope.Pair.{Pair}
+use Rattle.sng_grants.specs.declared.policy.Policy.{Policy}
 use Rattle.sng_policy.specs.declared.permission.Permission.{Permission}
 use Rattle.sng_policy.specs.declared.permission.Permission.TheVariants.{Publish, Subscribe}
 use Rattle.sng_policy.specs.declared.grant.Grant.{Grant}

@@ -3,7 +3,7 @@ ghost use Rattle.std.specs.Prelude.{◌≡◌};
 ghost use Rattle.std.specs.Option.{option_copied};
 ghost use Rattle.sng_policy.specs.Grants.{lists, lists_source, topic};
 
-use sng_scope::Policy;
+use sng_grants::Policy;
 use sng_text::{ClientId, TopicName};
 
 /// Whether the policy lists the client.

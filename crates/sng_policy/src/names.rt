@@ -5,7 +5,7 @@ ghost use Rattle.sng_policy.specs.Grants.{publish_grant, source_grant, receive_g
 
 use crate::permission::is_granted;
 use crate::{Grant, Permission};
-use sng_scope::Policy;
+use sng_grants::Policy;
 use sng_text::{ClientId, TopicName};
 
 /// What the policy says to a publish under the name by the client: Allowed, NoScope or MissingPub.

@@ -2,7 +2,7 @@
 ghost use Rattle.std.specs.Prelude.{◌≡◌};
 ghost use Rattle.sng_policy.specs.Grants.{permits, is_granted};
 
-use sng_scope::Pair;
+use sng_grants::Pair;
 use sng_text::{TopicName, matches};
 
 /// A permission for the names that a pair's filter matches.

@@ -5,7 +5,7 @@ ghost use Rattle.sng_policy.specs.Grants.{subscribe_grant, subscribed};
 
 use crate::Grant;
 use sng_cover::{Cover, Question};
-use sng_scope::{Pair, Policy};
+use sng_grants::{Pair, Policy};
 use sng_text::{ClientId, TopicFilter};
 use std::alloc::{AllocError, Global};
 

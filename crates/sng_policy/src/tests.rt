@@ -2,7 +2,7 @@
 use crate::{
     Grant, lists, lists_source, may_publish, may_receive, may_subscribe, source_may_publish, topic,
 };
-use sng_scope::{Pair, Policy, Scope};
+use sng_grants::{Pair, Policy, Scope};
 use sng_text::{ClientId, TopicFilter, TopicName};
 use std::alloc::Global;
 use std::test::Fail;

@@ -12,18 +12,19 @@ use Rattle.serde_json.specs.Events.{items_len, members_len}
 use Rattle.serde_json.specs.Find.{as_object, as_str, get}
 use Rattle.sng_text.specs.ClientIds.{is_client_id}
 use Rattle.sng_text.specs.Texts.{is_filter, is_name}
-use Rattle.sng_scope.proofs.KeyLemmas.{client_of-client, source_of-address, topic_id_of-id}
-use Rattle.sng_scope.specs.Addresses.{source_of}
-use Rattle.sng_scope.specs.Bounds.{IsScope, IsAddress, IsTopicId, AreWithin, IsPolicy, ScopesAreBounded, PoliciesAreBounded}
+use Rattle.sng_scope.proofs.KeyLemmas.{client_of-client, ipv4_of-address, topic_id_of-id}
+use Rattle.sng_text.specs.Ipv4.{IsAddress, ipv4_of}
+use Rattle.sng_grants.specs.declared.limits.TheConstants.{MAX_CLIENTS, MAX_PAIRS, MAX_SOURCES, MAX_TOPICS}
+use Rattle.sng_scope.specs.Bounds.{IsScope, IsTopicId, AreWithin, IsPolicy, ScopesAreBounded, PoliciesAreBounded}
 use Rattle.sng_scope.specs.Numerals.{topic_id_of}
 use Rattle.sng_scope.specs.Policies.{client_of, name_of_data, clients_onto, sources_onto, topics_onto, members_within, clients_of, sources_of, topics_of, is_policy_object, parts_of, policy_of_data}
 use Rattle.sng_scope.specs.Scopes.{are_texts, are_permissions, pair_parts, pair_of, pairs_of, scope_of_items}
-use Rattle.sng_scope.specs.Sources.{with_scope}
+use Rattle.sng_grants.specs.Sources.{with_scope}
 use Rattle.sng_scope.specs.Texts.{value_of, items_of_text, scope_of_encoded, scope_of_data}
-use Rattle.sng_scope.specs.Topics.{with_name}
+use Rattle.sng_grants.specs.Topics.{with_name}
 use Rattle.sng_scope.specs.Steps.{◌>>=◌}
-use Rattle.sng_scope.specs.declared.scope.Pair.{Pair}
-use Rattle.sng_scope.specs.declared.policy.Policy.{Policy}
+use Rattle.sng_grants.specs.declared.scope.Pair.{Pair}
+use Rattle.sng_grants.specs.declared.policy.Policy.{Policy}
 use Rattle.sng_scope.specs.declared.fault.PolicyFault.{PolicyFault}
 use Rattle.sng_scope.specs.declared.fault.PolicyFault.TheVariants.{Shape, BadFilter, BadPermission, BadSource, BadTopicId, TooMany}
 
@@ -72,8 +73,8 @@ if_ok_more (Err e) P Q h k = tt
 
 scope_of_items-scope : (ds : Items) → IfOk (scope_of_items ds) IsScope
 scope_of_items-scope ds =
-    within (ltb 64 (items_len ds)) (pairs_of ds) IsScope (λ few.
-    let most : items_len ds ≤ 64 = ltb-false 64 (items_len ds) few in
+    within (ltb MAX_PAIRS (items_len ds)) (pairs_of ds) IsScope (λ few.
+    let most : items_len ds ≤ MAX_PAIRS = ltb-false MAX_PAIRS (items_len ds) few in
     if_ok_more (pairs_of ds) (IsPairs (items_len ds)) IsScope (pairs_of-pairs ds) (λ pairs h. (omega (arith, h.0), h.1)))
 
 scope_of_encoded-scope : (text : List ℕ) → IfOk (scope_of_encoded text) IsScope
@@ -130,7 +131,7 @@ sources_onto-within : (ms : Members) (n : ℕ) (sources : List (List ℕ × List
     → IfOk (sources_onto sources ms) (AreWithin n IsAddress IsScope)
 sources_onto-within no_members n sources h keys values = record { few = omega arith; keys = keys; values = values }
 sources_onto-within (member name d ms) n sources h keys values =
-    after (ok_or (source_of name) BadSource) _ IsAddress (AreWithin n IsAddress IsScope) (source_of-address name) (λ source is_address.
+    after (ok_or (ipv4_of name) BadSource) _ IsAddress (AreWithin n IsAddress IsScope) (ipv4_of-address name) (λ source is_address.
     after (scope_of_data d) _ IsScope (AreWithin n IsAddress IsScope) (scope_of_data-scope d) (λ scope is_scope.
     sources_onto-within ms n (with_scope sources source scope)
     (omega (arith, length-insert_entry (slice_cmp nat_cmp) sources source scope))
@@ -155,29 +156,29 @@ few_members false most ms is = ltb-false most (members_len ms) is
 members_within-few : (most : ℕ) (d : Data) → IfOk (members_within most d) (λ ms. members_len ms ≤ most)
 members_within-few most d = after_any (ok_or (as_object d) Shape) _ (λ ms. members_len ms ≤ most) (λ ms. few_members (ltb most (members_len ms)) most ms refl)
 
-clients_of-within : (o : Option Data) → IfOk (clients_of o) (AreWithin 256 IsClient IsScope)
+clients_of-within : (o : Option Data) → IfOk (clients_of o) (AreWithin MAX_CLIENTS IsClient IsScope)
 clients_of-within None = record { few = omega arith; keys = All-nil IsClient; values = All-nil IsScope }
 clients_of-within (Some d) =
-    after (members_within 256 d) (clients_onto []) (λ ms. members_len ms ≤ 256) (AreWithin 256 IsClient IsScope) (members_within-few 256 d)
-    (λ ms few. clients_onto-within ms 256 [] (omega arith) (All-nil IsClient) (All-nil IsScope))
+    after (members_within MAX_CLIENTS d) (clients_onto []) (λ ms. members_len ms ≤ MAX_CLIENTS) (AreWithin MAX_CLIENTS IsClient IsScope) (members_within-few MAX_CLIENTS d)
+    (λ ms few. clients_onto-within ms MAX_CLIENTS [] (omega arith) (All-nil IsClient) (All-nil IsScope))
 
-sources_of-within : (o : Option Data) → IfOk (sources_of o) (AreWithin 256 IsAddress IsScope)
+sources_of-within : (o : Option Data) → IfOk (sources_of o) (AreWithin MAX_SOURCES IsAddress IsScope)
 sources_of-within None = record { few = omega arith; keys = All-nil IsAddress; values = All-nil IsScope }
 sources_of-within (Some d) =
-    after (members_within 256 d) (sources_onto []) (λ ms. members_len ms ≤ 256) (AreWithin 256 IsAddress IsScope) (members_within-few 256 d)
-    (λ ms few. sources_onto-within ms 256 [] (omega arith) (All-nil IsAddress) (All-nil IsScope))
+    after (members_within MAX_SOURCES d) (sources_onto []) (λ ms. members_len ms ≤ MAX_SOURCES) (AreWithin MAX_SOURCES IsAddress IsScope) (members_within-few MAX_SOURCES d)
+    (λ ms few. sources_onto-within ms MAX_SOURCES [] (omega arith) (All-nil IsAddress) (All-nil IsScope))
 
-topics_of-within : (o : Option Data) → IfOk (topics_of o) (AreWithin 1024 IsTopicId IsName)
+topics_of-within : (o : Option Data) → IfOk (topics_of o) (AreWithin MAX_TOPICS IsTopicId IsName)
 topics_of-within None = record { few = omega arith; keys = All-nil IsTopicId; values = All-nil IsName }
 topics_of-within (Some d) =
-    after (members_within 1024 d) (topics_onto []) (λ ms. members_len ms ≤ 1024) (AreWithin 1024 IsTopicId IsName) (members_within-few 1024 d)
-    (λ ms few. topics_onto-within ms 1024 [] (omega arith) (All-nil IsTopicId) (All-nil IsName))
+    after (members_within MAX_TOPICS d) (topics_onto []) (λ ms. members_len ms ≤ MAX_TOPICS) (AreWithin MAX_TOPICS IsTopicId IsName) (members_within-few MAX_TOPICS d)
+    (λ ms few. topics_onto-within ms MAX_TOPICS [] (omega arith) (All-nil IsTopicId) (All-nil IsName))
 
 parts_of-policy : (d : Data) → IfOk (parts_of d) IsPolicy
 parts_of-policy d =
-    after (clients_of (get (codes "clients") d)) _ (AreWithin 256 IsClient IsScope) IsPolicy (clients_of-within (get (codes "clients") d)) (λ clients c.
-    after (sources_of (get (codes "sources") d)) _ (AreWithin 256 IsAddress IsScope) IsPolicy (sources_of-within (get (codes "sources") d)) (λ sources s.
-    after (topics_of (get (codes "topics") d)) _ (AreWithin 1024 IsTopicId IsName) IsPolicy (topics_of-within (get (codes "topics") d)) (λ topics t.
+    after (clients_of (get (codes "clients") d)) _ (AreWithin MAX_CLIENTS IsClient IsScope) IsPolicy (clients_of-within (get (codes "clients") d)) (λ clients c.
+    after (sources_of (get (codes "sources") d)) _ (AreWithin MAX_SOURCES IsAddress IsScope) IsPolicy (sources_of-within (get (codes "sources") d)) (λ sources s.
+    after (topics_of (get (codes "topics") d)) _ (AreWithin MAX_TOPICS IsTopicId IsName) IsPolicy (topics_of-within (get (codes "topics") d)) (λ topics t.
     record { clients = c; sources = s; topics = t })))
 
 shaped : (b : Bool) (r : Result Policy PolicyFault) → IfOk r IsPolicy → IfOk (cond b r (Err Shape)) IsPolicy

@@ -1,15 +1,10 @@
--- Topic ids have one text each, and look-ups find what is listed.
-use Rattle.std.proofs.Common.{◌≡◌, ℕ, ◌+◌, ◌-◌, ◌*◌, ◌/◌, ◌%◌, ◌<◌, ◌≤◌, ◌^◌, ◌&&◌, ◌++◌, Bool, true, false, cond, leb, List, [], ◌∷◌, length, get_or, Ordering, Less, Equal, Greater, Some, None, refl, sym, ap, ◌∙◌, arith}
+-- Topic ids have one text each.
+use Rattle.std.proofs.Common.{◌≡◌, ℕ, ◌+◌, ◌-◌, ◌*◌, ◌/◌, ◌%◌, ◌<◌, ◌≤◌, ◌^◌, ◌&&◌, ◌++◌, Bool, true, false, cond, leb, List, [], ◌∷◌, length, get_or, Some, None, refl, sym, ap, ◌∙◌, arith}
 use Rattle.std.proofs.lemmas.Bool.{leb-true, le-leb, and_parts, and_from}
-use Rattle.std.proofs.lemmas.Cmp.{eq_by_cmp_equiv, nat_list_cmp_total, nat_cmp_total}
 use Rattle.std.proofs.lemmas.Fmt.{decimal_by_steps, decimal-digits_value, digits_value-decimal}
-use Rattle.std.proofs.lemmas.Map.Lookups.{exact_bytes, exact_unsigned}
-use Rattle.std.proofs.lemmas.Map.Views.{Contains-from_lookup, Contains-keys_from_lookup, IsSome-lookup_from_Contains}
-use Rattle.std.specs.Cmp.Lexicographic.{slice_cmp}
 use Rattle.std.specs.Fmt.{decimal}
-use Rattle.std.specs.Ordering.{nat_cmp, is_eq, eq_by_cmp}
-use Rattle.sng_scope.specs.Addresses.{is_digit, is_leading}
-use Rattle.sng_scope.specs.Laws.{TopicIdsAreDecimal, ScopesAreFound, NamesAreFound}
+use Rattle.sng_text.specs.Ipv4.{is_digit, is_leading}
+use Rattle.sng_scope.specs.Laws.{TopicIdsAreDecimal}
 use Rattle.sng_scope.specs.Numerals.{are_digits, is_numeral, number_onto, topic_id_of}
 use Rattle.sng_scope.proofs.NumeralLemmas.{numerals, numeral-digits, some_id}
 
@@ -74,32 +69,3 @@ from_decimal text id (some, fits, is) =
 
 pub topic_ids_are_decimal : TopicIdsAreDecimal
 topic_ids_are_decimal text id = (to_decimal text id, from_decimal text id)
-
-equal : (o : Ordering) → is_eq o ≡ true → o ≡ Equal
-equal Less is = absurd (cc)
-equal Equal is = refl
-equal Greater is = absurd (cc)
-
-same_key : (x y : List ℕ) → eq_by_cmp (slice_cmp nat_cmp) x y ≡ true → x ≡ y
-same_key x y is = exact_bytes x y (equal (slice_cmp nat_cmp x y) is)
-
-same_id : (x y : ℕ) → eq_by_cmp nat_cmp x y ≡ true → x ≡ y
-same_id x y is = exact_unsigned x y (equal (nat_cmp x y) is)
-
-pub scopes_are_found : ScopesAreFound
-scopes_are_found listed key = (
-  λ scope found. Contains-from_lookup {eq = eq_by_cmp (slice_cmp nat_cmp)} same_key key scope listed found,
-  (
-    λ some. Contains-keys_from_lookup {eq = eq_by_cmp (slice_cmp nat_cmp)} same_key key listed some,
-    λ among. IsSome-lookup_from_Contains (eq_by_cmp_equiv nat_list_cmp_total) key listed among,
-  ),
-)
-
-pub names_are_found : NamesAreFound
-names_are_found topics id = (
-  λ name found. Contains-from_lookup {eq = eq_by_cmp nat_cmp} same_id id name topics found,
-  (
-    λ some. Contains-keys_from_lookup {eq = eq_by_cmp nat_cmp} same_id id topics some,
-    λ among. IsSome-lookup_from_Contains (eq_by_cmp_equiv nat_cmp_total) id topics among,
-  ),
-)

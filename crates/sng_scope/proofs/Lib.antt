@@ -1,4 +1,3 @@
-pub mod PartLemmas
 pub mod PairLemmas
 pub mod JsonLemmas
 pub mod EncodedLemmas

@@ -3,7 +3,7 @@ use Rattle.std.proofs.Common.{◌≡◌, ◌<◌, List, [], ◌∷◌, ◌++◌,
 use Rattle.serde_json.specs.declared.value.Value.{Value}
 use Rattle.serde_json.specs.View.{items_view}
 use Rattle.sng_scope.specs.Scopes.{two_of}
-use Rattle.sng_scope.specs.declared.scope.Pair.{Pair}
+use Rattle.sng_grants.specs.declared.scope.Pair.{Pair}
 use Rattle.sng_scope.specs.declared.fault.PolicyFault.{PolicyFault}
 
 -- more pairs behind those that were found

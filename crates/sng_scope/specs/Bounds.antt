@@ -1,20 +1,18 @@
 -- What holds of each scope and of each policy that a text gives.
-use Rattle.std.specs.Prelude.{◌≡◌, ℕ, ◌<◌, ◌≤◌, true, List, length, All, IfOk}
+use Rattle.std.specs.Prelude.{◌≡◌, ℕ, ◌≤◌, true, List, length, All, IfOk}
 use Rattle.std.specs.Map.{keys_of, values_of}
 use Rattle.sng_text.specs.ClientIds.{is_client_id}
+use Rattle.sng_text.specs.Ipv4.{IsAddress}
 use Rattle.sng_text.specs.Texts.{is_filter, is_name}
+use Rattle.sng_grants.specs.declared.limits.TheConstants.{MAX_CLIENTS, MAX_PAIRS, MAX_SOURCES, MAX_TOPICS}
 use Rattle.sng_scope.specs.Policies.{policy_of}
 use Rattle.sng_scope.specs.Texts.{scope_of_text}
-use Rattle.sng_scope.specs.declared.scope.Pair.{Pair}
-use Rattle.sng_scope.specs.declared.policy.Policy.{Policy}
+use Rattle.sng_grants.specs.declared.scope.Pair.{Pair}
+use Rattle.sng_grants.specs.declared.policy.Policy.{Policy}
 
--- at most 64 pairs, each of a topic filter
+-- at most so many pairs as a scope may have, each of a topic filter
 abbrev pub IsScope : List Pair → Type 0
-IsScope pairs = (length pairs ≤ 64) × All (λ pair. is_filter pair.filter ≡ true) pairs
-
--- four octets
-abbrev pub IsAddress : List ℕ → Type 0
-IsAddress octets = (length octets ≡ 4) × All (λ octet. octet < 256) octets
+IsScope pairs = (length pairs ≤ MAX_PAIRS) × All (λ pair. is_filter pair.filter ≡ true) pairs
 
 -- neither of the two that are reserved
 abbrev pub IsTopicId : ℕ → Type 0
@@ -27,9 +25,9 @@ pub record AreWithin {K V : Type 0} (most : ℕ) (IsKey : K → Type 0) (IsValue
   pub values : All IsValue (values_of entries)
 
 pub record IsPolicy (policy : Policy) : Type 0 where
-  pub clients : AreWithin 256 (λ client. is_client_id client ≡ true) IsScope policy.clients
-  pub sources : AreWithin 256 IsAddress IsScope policy.sources
-  pub topics : AreWithin 1024 IsTopicId (λ name. is_name name ≡ true) policy.topics
+  pub clients : AreWithin MAX_CLIENTS (λ client. is_client_id client ≡ true) IsScope policy.clients
+  pub sources : AreWithin MAX_SOURCES IsAddress IsScope policy.sources
+  pub topics : AreWithin MAX_TOPICS IsTopicId (λ name. is_name name ≡ true) policy.topics
 
 abbrev pub ScopesAreBounded : Type 0
 ScopesAreBounded = (text : List ℕ) → IfOk (scope_of_text text) IsScope

@@ -1,22 +1,8 @@
--- Laws of topic ids as texts, and of look-ups.
-use Rattle.std.specs.Prelude.{◌≡◌, ℕ, ◌≤◌, ◌↔◌, List, Some, IsSome, Contains}
+-- The law of topic ids as texts.
+use Rattle.std.specs.Prelude.{◌≡◌, ℕ, ◌≤◌, ◌↔◌, List, Some}
 use Rattle.std.specs.Fmt.{decimal}
-use Rattle.std.specs.Map.{keys_of}
 use Rattle.sng_scope.specs.Numerals.{topic_id_of}
-use Rattle.sng_scope.specs.Sources.{scope_of}
-use Rattle.sng_scope.specs.Topics.{name_of}
-use Rattle.sng_scope.specs.declared.scope.Pair.{Pair}
 
 -- a topic id's text is the number from 1 to 65534 in decimal: each such number has one text
 abbrev pub TopicIdsAreDecimal : Type 0
 TopicIdsAreDecimal = (text : List ℕ) (id : ℕ) → (topic_id_of text ≡ Some id) ↔ ((1 ≤ id) × (id ≤ 65534) × (text ≡ decimal id))
-
--- the scope that is found is listed under that very key, and a key that is listed is found
-abbrev pub ScopesAreFound : Type 0
-ScopesAreFound = (listed : List (List ℕ × List Pair)) (key : List ℕ)
-    → ((scope : List Pair) → scope_of listed key ≡ Some scope → Contains listed (key, scope)) × (IsSome (scope_of listed key) ↔ Contains (keys_of listed) key)
-
--- and so is a topic name under its id
-abbrev pub NamesAreFound : Type 0
-NamesAreFound = (topics : List (ℕ × List ℕ)) (id : ℕ)
-    → ((name : List ℕ) → name_of topics id ≡ Some name → Contains topics (id, name)) × (IsSome (name_of topics id) ↔ Contains (keys_of topics) id)

@@ -1,8 +1,5 @@
-pub mod Sources
-pub mod Topics
 pub mod Faults
 pub mod Steps
-pub mod Addresses
 pub mod Numerals
 pub mod Scopes
 pub mod Texts

@@ -1,6 +1,6 @@
 -- Topic ids as texts: decimal numbers from 1 to 65534 without leading zeros.
 use Rattle.std.specs.Prelude.{ℕ, ◌+◌, ◌-◌, ◌*◌, Bool, true, false, ◌&&◌, nat_le, List, [], ◌∷◌, if◌then◌else◌, Option, Some, None}
-use Rattle.sng_scope.specs.Addresses.{is_digit, is_leading}
+use Rattle.sng_text.specs.Ipv4.{is_digit, is_leading}
 
 -- each byte is a digit
 abbrev pub are_digits : List ℕ → Bool

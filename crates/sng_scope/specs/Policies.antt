@@ -6,14 +6,15 @@ use Rattle.serde_json.specs.Events.{members_len}
 use Rattle.serde_json.specs.Find.{get, as_number, as_object, as_str, as_u64}
 use Rattle.sng_text.specs.ClientIds.{is_client_id}
 use Rattle.sng_text.specs.Texts.{is_name}
-use Rattle.sng_scope.specs.Addresses.{source_of}
+use Rattle.sng_text.specs.Ipv4.{ipv4_of}
+use Rattle.sng_grants.specs.declared.limits.TheConstants.{MAX_CLIENTS, MAX_SOURCES, MAX_TOPICS}
 use Rattle.sng_scope.specs.Numerals.{topic_id_of}
-use Rattle.sng_scope.specs.Sources.{with_scope}
+use Rattle.sng_grants.specs.Sources.{with_scope}
 use Rattle.sng_scope.specs.Steps.{◌>>=◌}
 use Rattle.sng_scope.specs.Texts.{value_of, scope_of_data}
-use Rattle.sng_scope.specs.Topics.{with_name}
-use Rattle.sng_scope.specs.declared.scope.Pair.{Pair}
-use Rattle.sng_scope.specs.declared.policy.Policy.{Policy}
+use Rattle.sng_grants.specs.Topics.{with_name}
+use Rattle.sng_grants.specs.declared.scope.Pair.{Pair}
+use Rattle.sng_grants.specs.declared.policy.Policy.{Policy}
 use Rattle.sng_scope.specs.declared.fault.PolicyFault.{PolicyFault}
 use Rattle.sng_scope.specs.declared.fault.PolicyFault.TheVariants.{Shape, BadClientId, BadSource, BadTopicId, TooMany}
 
@@ -56,7 +57,7 @@ clients_onto clients (member name d ms) = do
 abbrev pub sources_onto : List (List ℕ × List Pair) → Members → Result (List (List ℕ × List Pair)) PolicyFault
 sources_onto sources no_members = Ok sources
 sources_onto sources (member name d ms) = do
-  source ← ok_or (source_of name) BadSource
+  source ← ok_or (ipv4_of name) BadSource
   scope ← scope_of_data d
   sources_onto (with_scope sources source scope) ms
 
@@ -74,15 +75,15 @@ members_within most d = ok_or (as_object d) Shape >>= (λ ms. if nat_lt most (me
 -- what is absent is empty
 abbrev pub clients_of : Option Data → Result (List (List ℕ × List Pair)) PolicyFault
 clients_of None = Ok []
-clients_of (Some d) = members_within 256 d >>= clients_onto []
+clients_of (Some d) = members_within MAX_CLIENTS d >>= clients_onto []
 
 abbrev pub sources_of : Option Data → Result (List (List ℕ × List Pair)) PolicyFault
 sources_of None = Ok []
-sources_of (Some d) = members_within 256 d >>= sources_onto []
+sources_of (Some d) = members_within MAX_SOURCES d >>= sources_onto []
 
 abbrev pub topics_of : Option Data → Result (List (ℕ × List ℕ)) PolicyFault
 topics_of None = Ok []
-topics_of (Some d) = members_within 1024 d >>= topics_onto []
+topics_of (Some d) = members_within MAX_TOPICS d >>= topics_onto []
 
 -- ---- the policy
 

@@ -5,8 +5,9 @@ use Rattle.serde_json.specs.Data.{Data, Items, no_items, item}
 use Rattle.serde_json.specs.Events.{items_len}
 use Rattle.serde_json.specs.Find.{as_str, as_array}
 use Rattle.sng_text.specs.Texts.{is_filter}
+use Rattle.sng_grants.specs.declared.limits.TheConstants.{MAX_PAIRS}
 use Rattle.sng_scope.specs.Steps.{◌>>=◌}
-use Rattle.sng_scope.specs.declared.scope.Pair.{Pair}
+use Rattle.sng_grants.specs.declared.scope.Pair.{Pair}
 use Rattle.sng_scope.specs.declared.fault.PolicyFault.{PolicyFault}
 use Rattle.sng_scope.specs.declared.fault.PolicyFault.TheVariants.{Shape, BadFilter, BadPermission, TooMany}
 
@@ -69,6 +70,6 @@ pairs_of (item d ds) = do
   pairs ← pairs_of ds
   Ok (pair ∷ pairs)
 
--- at most 64 pairs
+-- at most so many pairs as a scope may have
 abbrev pub scope_of_items : Items → Result (List Pair) PolicyFault
-scope_of_items ds = if nat_lt 64 (items_len ds) then Err TooMany else pairs_of ds
+scope_of_items ds = if nat_lt MAX_PAIRS (items_len ds) then Err TooMany else pairs_of ds

@@ -8,7 +8,7 @@ use Rattle.serde_json.specs.Find.{as_array}
 use Rattle.serde_json.specs.Read.{read}
 use Rattle.sng_scope.specs.Scopes.{scope_of_items}
 use Rattle.sng_scope.specs.Steps.{◌>>=◌}
-use Rattle.sng_scope.specs.declared.scope.Pair.{Pair}
+use Rattle.sng_grants.specs.declared.scope.Pair.{Pair}
 use Rattle.sng_scope.specs.declared.fault.PolicyFault.{PolicyFault}
 use Rattle.sng_scope.specs.declared.fault.PolicyFault.TheVariants.{NotJson, Shape, BadBase64}
 

@@ -1,6 +1,6 @@
 //! Laws of the definitions that the contracts cite. Each function does nothing: its contract is the law.
 ghost use Rattle.sng_scope.specs.Bounds.{ScopesAreBounded, PoliciesAreBounded};
-ghost use Rattle.sng_scope.specs.Laws.{TopicIdsAreDecimal, ScopesAreFound, NamesAreFound};
+ghost use Rattle.sng_scope.specs.Laws.{TopicIdsAreDecimal};
 
 /// A scope that a text gives has at most 64 pairs, each of a topic filter.
 pub fn scopes_are_bounded()
@@ -15,14 +15,4 @@ pub fn policies_are_bounded()
 /// The text of a topic id is the number from 1 to 65534 in decimal, so that each id has one text (MQTT-SN 1.2, 5.3.11).
 pub fn topic_ids_are_decimal()
     ensures { TopicIdsAreDecimal }
-{}
-
-/// The scope that is found of a client or a source is listed under that very key, and what is listed is found.
-pub fn scopes_are_found()
-    ensures { ScopesAreFound }
-{}
-
-/// The topic name that is found of an id is listed under that very id, and what is listed is found.
-pub fn names_are_found()
-    ensures { NamesAreFound }
 {}

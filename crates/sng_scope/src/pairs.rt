@@ -8,10 +8,9 @@ ghost use Rattle.sng_scope.specs.Scopes.{pair_parts, pair_from, pair_of, pairs_o
 use crate::permissions::{are_permissions, are_texts, has_text};
 use crate::{Pair, PolicyFault, Scope};
 use serde_json::Value;
+use sng_grants::MAX_PAIRS;
 use sng_text::{TextFault, TopicFilter};
 use std::alloc::Global;
-
-const MOST_PAIRS: usize = 64;
 
 /// The scope of the pairs, or the first of its faults.
 pub fn scope_of_items(alloc: Global, items: &[Value]) -> Result<Scope, PolicyFault>
@@ -27,9 +26,9 @@ pub fn scope_of_items(alloc: Global, items: &[Value]) -> Result<Scope, PolicyFau
 
 /// Whether there are more pairs than a scope may have.
 fn is_over_limit(items: &[Value]) -> bool
-    ensures { result ≡ nat_lt 64 (items_len (items_view items.now)) }
+    ensures { result ≡ nat_lt MAX_PAIRS (items_len (items_view items.now)) }
 {
-    items.len() > MOST_PAIRS
+    items.len() > MAX_PAIRS
 }
 
 fn pairs_from(alloc: Global, items: &[Value]) -> Result<Scope, PolicyFault>

@@ -2,7 +2,7 @@
 ghost use Rattle.std.specs.Prelude.{◌≡◌};
 ghost use Rattle.sng_scope.specs.Numerals.{are_digits, is_numeral, topic_id_of};
 
-use crate::address::{is_digit, is_leading};
+use sng_text::ipv4::{is_digit, is_leading};
 
 const LAST_ID: u16 = 65534;
 

@@ -4,3 +4,4 @@ pub mod Utf8Lemmas
 pub mod NameLemmas
 pub mod ClientIdLemmas
 pub mod SelfLemmas
+pub mod Ipv4Lemmas

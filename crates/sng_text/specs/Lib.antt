@@ -3,4 +3,5 @@ pub mod LevelsLeft
 pub mod Texts
 pub mod Matching
 pub mod ClientIds
+pub mod Ipv4
 pub mod Laws

@@ -1,11 +1,12 @@
-//! Topic names and topic filters (MQTT 3.1.1, 4.7), client ids (MQTT-SN 1.2, 5.3.1), the quality of service as it is granted
-//! (MQTT 3.1.1, 4.3), and bytes that contracts see as their list.
+//! Topic names and topic filters (MQTT 3.1.1, 4.7), client ids (MQTT-SN 1.2, 5.3.1), IPv4 addresses as texts (RFC 3986, 3.2.2), the
+//! quality of service as it is granted (MQTT 3.1.1, 4.3), and bytes that contracts see as their list.
 #![tactic(auto)]
 
 pub mod bytes;
 pub mod client;
 pub mod fault;
 pub mod filter;
+pub mod ipv4;
 pub mod laws;
 pub mod levels;
 pub mod matching;
@@ -17,6 +18,7 @@ pub mod qos;
 pub use client::ClientId;
 pub use fault::TextFault;
 pub use filter::TopicFilter;
+pub use ipv4::read_ipv4;
 pub use levels::Levels;
 pub use matching::matches;
 pub use name::TopicName;

@@ -8,10 +8,9 @@ use super::members_within;
 use crate::scope_form::scope_from;
 use crate::{Clients, PolicyFault};
 use serde_json::{Map, Value};
+use sng_grants::MAX_CLIENTS;
 use sng_text::{ClientId, TextFault};
 use std::alloc::Global;
-
-const MOST_CLIENTS: usize = 256;
 
 /// The clients that the policy lists: none where it has no such member.
 pub fn clients_in(alloc: Global, policy: &Value) -> Result<Clients, PolicyFault>
@@ -21,7 +20,7 @@ pub fn clients_in(alloc: Global, policy: &Value) -> Result<Clients, PolicyFault>
 {
     match policy.get("clients") {
         None => Ok(Clients::new(alloc)),
-        Some(clients) => clients_of(alloc, members_within(clients, MOST_CLIENTS)?),
+        Some(clients) => clients_of(alloc, members_within(clients, MAX_CLIENTS)?),
     }
 }
 

@@ -5,13 +5,12 @@ ghost use Rattle.serde_json.specs.View.{view, members_view};
 ghost use Rattle.sng_scope.specs.Policies.{sources_of, sources_onto};
 
 use super::members_within;
-use crate::address::source_from;
 use crate::scope_form::scope_from;
 use crate::{PolicyFault, Sources};
 use serde_json::{Map, Value};
+use sng_grants::MAX_SOURCES;
+use sng_text::read_ipv4;
 use std::alloc::Global;
-
-const MOST_SOURCES: usize = 256;
 
 /// The sources that the policy lists: none where it has no such member.
 pub fn sources_in(alloc: Global, policy: &Value) -> Result<Sources, PolicyFault>
@@ -21,7 +20,7 @@ pub fn sources_in(alloc: Global, policy: &Value) -> Result<Sources, PolicyFault>
 {
     match policy.get("sources") {
         None => Ok(Sources::new(alloc)),
-        Some(sources) => sources_of(alloc, members_within(sources, MOST_SOURCES)?),
+        Some(sources) => sources_of(alloc, members_within(sources, MAX_SOURCES)?),
     }
 }
 
@@ -32,7 +31,7 @@ fn sources_of(alloc: Global, members: &Map<String, Value>) -> Result<Sources, Po
 {
     let mut sources = Sources::new(alloc);
     for (name, value) in members {
-        let Some(source) = source_from(name.as_bytes()) else {
+        let Some(source) = read_ipv4(name.as_bytes()) else {
             return Err(PolicyFault::BadSource);
         };
         let scope = scope_from(alloc, value)?;

@@ -8,10 +8,9 @@ use super::members_within;
 use crate::topic_id::topic_id_from;
 use crate::{PolicyFault, Topics};
 use serde_json::{Map, Value};
+use sng_grants::MAX_TOPICS;
 use sng_text::{TextFault, TopicName};
 use std::alloc::Global;
-
-const MOST_TOPICS: usize = 1024;
 
 /// The topics that the policy names: none where it has no such member.
 pub fn topics_in(alloc: Global, policy: &Value) -> Result<Topics, PolicyFault>
@@ -21,7 +20,7 @@ pub fn topics_in(alloc: Global, policy: &Value) -> Result<Topics, PolicyFault>
 {
     match policy.get("topics") {
         None => Ok(Topics::new(alloc)),
-        Some(topics) => topics_of(alloc, members_within(topics, MOST_TOPICS)?),
+        Some(topics) => topics_of(alloc, members_within(topics, MAX_TOPICS)?),
     }
 }
 

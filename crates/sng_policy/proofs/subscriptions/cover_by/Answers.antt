@@ -1,7 +1,7 @@
 use Rattle.std.proofs.Common.{◌≡◌, ◌+◌, ◌<◌, ◌≤◌, ℕ, List, [], ◌∷◌, ◌++◌, length, take, sym, ap, ◌∙◌}
 use Rattle.std.proofs.lemmas.List.{take_more, take_all, append-nil}
 use Rattle.sng_cover.specs.Gathered.{Gathered}
-use Rattle.sng_scope.specs.declared.scope.Pair.{Pair}
+use Rattle.sng_grants.specs.declared.scope.Pair.{Pair}
 use Rattle.sng_policy.specs.Grants.{subscribed}
 use Rattle.sng_policy.proofs.SubscriptionLemmas.{subscribed-one_more}
 use Rattle.sng_policy.proofs.subscriptions.cover_by.Goals as goal

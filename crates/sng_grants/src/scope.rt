@@ -34,7 +34,7 @@ pub struct Scope {
 
 impl Model for Scope {
     ghost use Rattle.std.specs.Prelude.{List};
-    ghost use Rattle.sng_scope.specs.declared.scope.Pair.{Pair};
+    ghost use Rattle.sng_grants.specs.declared.scope.Pair.{Pair};
 
     ghost Value = { List Pair };
 

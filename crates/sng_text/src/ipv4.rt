@@ -1,10 +1,10 @@
 //! IPv4 addresses as texts: four decimal numbers from 0 to 255 without leading zeros, parted by points (RFC 3986, 3.2.2).
 ghost use Rattle.std.specs.Prelude.{◌≡◌, ◌==◌, [], ◌∷◌, MatchOption, position};
-ghost use Rattle.sng_scope.specs.Addresses.{is_digit, is_leading, octet_of, parts_of, source_of};
+ghost use Rattle.sng_text.specs.Ipv4.{is_digit, is_leading, octet_of, parts_of, ipv4_of};
 
 /// The address that the text is, where it is one.
-pub fn source_from(text: &[u8]) -> Option<[u8; 4]>
-    ensures { result ≡ source_of text.now }
+pub fn read_ipv4(text: &[u8]) -> Option<[u8; 4]>
+    ensures { result ≡ ipv4_of text.now }
 {
     let (a, rest) = cut_at_point(text)?;
     let (b, rest) = cut_at_point(rest)?;

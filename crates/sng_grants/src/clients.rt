@@ -1,7 +1,7 @@
 //! The scopes of clients, found by client id.
 ghost use Rattle.std.specs.Prelude.{◌≡◌, [], IfOk, OnOk, OnErr};
 ghost use Rattle.std.specs.Option.{option_copied};
-ghost use Rattle.sng_scope.specs.Sources.{scope_of, with_scope};
+ghost use Rattle.sng_grants.specs.Sources.{scope_of, with_scope};
 
 use crate::Scope;
 use sng_text::ClientId;
@@ -17,7 +17,7 @@ pub struct Clients {
 
 impl Model for Clients {
     ghost use Rattle.std.specs.Prelude.{List, ℕ};
-    ghost use Rattle.sng_scope.specs.declared.scope.Pair.{Pair};
+    ghost use Rattle.sng_grants.specs.declared.scope.Pair.{Pair};
 
     ghost Value = { List (List ℕ × List Pair) };
 

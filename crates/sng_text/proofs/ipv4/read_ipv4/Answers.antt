@@ -1,7 +1,7 @@
 use Rattle.std.proofs.Common.{◌≡◌, ◌∷◌, sym}
-use Rattle.sng_scope.specs.Addresses.{parts_of}
-use Rattle.sng_scope.proofs.PartLemmas.{four_of-five}
-use Rattle.sng_scope.proofs.address.source_from.Goals as goal
+use Rattle.sng_text.specs.Ipv4.{parts_of}
+use Rattle.sng_text.proofs.Ipv4Lemmas.{four_of-five}
+use Rattle.sng_text.proofs.ipv4.read_ipv4.Goals as goal
 
 pub returns-in-Some : goal.returns-in-Some
 returns-in-Some c =

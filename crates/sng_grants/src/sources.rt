@@ -1,7 +1,7 @@
 //! The scopes of sources, found by IPv4 address.
 ghost use Rattle.std.specs.Prelude.{◌≡◌, [], IfOk, OnOk, OnErr};
 ghost use Rattle.std.specs.Option.{option_copied};
-ghost use Rattle.sng_scope.specs.Sources.{scope_of, with_scope};
+ghost use Rattle.sng_grants.specs.Sources.{scope_of, with_scope};
 
 use crate::Scope;
 use std::alloc::{AllocError, Global};
@@ -16,7 +16,7 @@ pub struct Sources {
 
 impl Model for Sources {
     ghost use Rattle.std.specs.Prelude.{List, ℕ};
-    ghost use Rattle.sng_scope.specs.declared.scope.Pair.{Pair};
+    ghost use Rattle.sng_grants.specs.declared.scope.Pair.{Pair};
 
     ghost Value = { List (List ℕ × List Pair) };
 

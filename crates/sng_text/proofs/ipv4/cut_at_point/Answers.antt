@@ -1,7 +1,7 @@
 use Rattle.std.proofs.Common.{◌≡◌, ◌+◌, ◌-◌, length, take, drop, sym, arith}
 use Rattle.std.proofs.lemmas.List.{take_all, length-drop}
-use Rattle.sng_scope.proofs.PartLemmas.{parts_of-cut, parts_of-whole}
-use Rattle.sng_scope.proofs.address.cut_at_point.Goals as goal
+use Rattle.sng_text.proofs.Ipv4Lemmas.{parts_of-cut, parts_of-whole}
+use Rattle.sng_text.proofs.ipv4.cut_at_point.Goals as goal
 
 pub returns-in_err-at : goal.returns-in_err-at
 returns-in_err-at c = rw c.from_residual.ensures (parts_of-whole c.args.text.now (sym c.in_err-at.ensures))

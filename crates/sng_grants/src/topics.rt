@@ -1,7 +1,7 @@
 //! Predefined topics, found by topic id (MQTT-SN 1.2, 6.7).
 ghost use Rattle.std.specs.Prelude.{◌≡◌, [], IfOk, OnOk, OnErr};
 ghost use Rattle.std.specs.Option.{option_copied};
-ghost use Rattle.sng_scope.specs.Topics.{name_of, with_name};
+ghost use Rattle.sng_grants.specs.Topics.{name_of, with_name};
 
 use sng_text::TopicName;
 use std::alloc::{AllocError, Global};

@@ -1,5 +1,5 @@
 -- IPv4 addresses as texts: four decimal numbers from 0 to 255 without leading zeros, parted by points (RFC 3986, 3.2.2).
-use Rattle.std.specs.Prelude.{ℕ, ◌+◌, ◌-◌, ◌*◌, Bool, ◌==◌, ◌&&◌, nat_le, List, [], ◌∷◌, if◌then◌else◌, Option, Some, None, option_and_then}
+use Rattle.std.specs.Prelude.{◌≡◌, ◌<◌, length, All, ℕ, ◌+◌, ◌-◌, ◌*◌, Bool, ◌==◌, ◌&&◌, nat_le, List, [], ◌∷◌, if◌then◌else◌, Option, Some, None, option_and_then}
 use Rattle.std.specs.List.{slice_split}
 
 infixl 10 ◌>>=◌
@@ -39,5 +39,9 @@ abbrev pub parts_of : List ℕ → List (List ℕ)
 parts_of text = slice_split (λ b. b == 46) text
 
 -- the four numbers of an address text
-abbrev pub source_of : List ℕ → Option (List ℕ)
-source_of text = four_of (parts_of text)
+abbrev pub ipv4_of : List ℕ → Option (List ℕ)
+ipv4_of text = four_of (parts_of text)
+
+-- four octets
+abbrev pub IsAddress : List ℕ → Type 0
+IsAddress octets = (length octets ≡ 4) × All (λ octet. octet < 256) octets

@@ -5,7 +5,7 @@ use Rattle.std.specs.Ordering.{nat_cmp}
 use Rattle.std.specs.Cmp.Lexicographic.{slice_cmp}
 use Rattle.std.specs.BTreeMap.{is_at, insert_entry}
 use Rattle.std.specs.Map.{lookup}
-use Rattle.sng_scope.specs.declared.scope.Pair.{Pair}
+use Rattle.sng_grants.specs.declared.scope.Pair.{Pair}
 
 -- the scope that a client or a source is listed with
 abbrev pub scope_of : List (List ℕ × List Pair) → List ℕ → Option (List Pair)
