@@ -11,8 +11,8 @@ code_of BadCommandLine = 2
 code_of OutOfMemory = 3
 code_of Failed = 4
 
--- how a command comes out whose text was lost: as a failure, unless its command line was at fault already, whose text
--- is for standard error
+-- how a command comes out whose text was lost: as a failure, unless its command line was at fault already,
+-- whose text is for standard error
 abbrev pub lost : Status → Status
 lost Done = Failed
 lost Uncovered = Failed

@@ -19,9 +19,9 @@ pub enum Answer {
     BadFilter(usize),
 }
 
-/// Prints whether the first word, as a filter, is included in the union of those that follow, and flushes: `included`,
-/// or `uncovered NAME` with the name that shows the gap, or `bad filter N` for the first word that is not a valid
-/// filter, from 1. Names are printed as in rows. `Done` is answered for `included` alone.
+/// Prints whether the first word, as a filter, is included in the union of those that follow, and flushes:
+/// `included`, or `uncovered NAME` with the name that shows the gap, or `bad filter N` for the first word
+/// that is not a valid filter, from 1. Names are printed as in rows. `Done` is answered for `included` alone.
 pub fn cover_words<W: Write + Drop>(alloc: Global, words: &[Octets], mut output: W) -> Status {
     let (printed, status) = match answer_line(alloc, words) {
         Ok((line, status)) => (output.write_all(line.as_slice()), status),

@@ -20,7 +20,8 @@ pub fn ended(status: Status, is_printed: bool) -> Status
     }
 }
 
-/// Flushes the text of a command, of which `printed` says whether it was written, and answers how the command ends.
+/// Flushes the text of a command, of which `printed` says whether it was written, and answers how the command
+/// ends.
 pub fn end<W: Write>(status: Status, printed: Result<()>, output: &mut W) -> Status
     ensures written { OnErr printed (result ≡ lost status) }
     ensures flushed { (result ≡ status) ⊎ (result ≡ lost status) }

@@ -16,8 +16,8 @@ enum Piece {
     End,
 }
 
-/// Puts the next line in `text`, without its line feed. Whether there was a line: the last one may lack its line feed.
-/// A longer line than `MAX_LINE` is unreadable, and nothing past the limit is kept.
+/// Puts the next line in `text`, without its line feed. Whether there was a line: the last one may lack its
+/// line feed. A longer line than `MAX_LINE` is unreadable, and nothing past the limit is kept.
 pub fn read_line<R: BufRead>(reader: &mut R, text: &mut Vec<u8>) -> Result<bool, Stop>
     ensures { vec_len text.new ≤ MAX_LINE }
 {

@@ -1,4 +1,5 @@
-//! The gateway as it is run: from scripts of events, one a line. Beside it, answers on inclusion for whoever writes policies.
+//! The gateway as it is run: from scripts of events, one a line. Beside it, answers on inclusion for whoever
+//! writes policies.
 #![tactic(auto)]
 
 pub mod covering;
@@ -11,6 +12,7 @@ pub mod play;
 mod player;
 mod reader;
 pub mod script;
+mod sender;
 pub mod status;
 
 pub use limits::{MAX_LINE, MAX_READS};

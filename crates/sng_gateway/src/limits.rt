@@ -1,4 +1,5 @@
-//! The limits of what a command takes from its input. What follows from the width of a number is no limit of ours.
+//! The limits of what a command takes from its input. What follows from the width of a number is no limit of
+//! ours.
 
 /// How many calls of `read` the input of a command may need.
 pub const MAX_READS: u32 = 1_000_000;

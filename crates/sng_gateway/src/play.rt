@@ -10,12 +10,13 @@ use std::io::{BufReader, BufWriter, Read, Write};
 /// How many bytes are read or written at a time.
 const BUFFER_BYTES: usize = 65536;
 
-/// Plays the script that `input` gives and prints a row for each event to `output`, which is flushed at the end.
+/// Plays the script that `input` gives and prints a row for each event to `output`, which is flushed at the
+/// end.
 ///
-/// A policy that is refused prints `refused policy N NAME` and makes no row. The first line that cannot be read, as one
-/// of more than `MAX_LINE` bytes, prints `line N: unreadable` and ends the run; a failed allocation ends it with
-/// `out of memory`. A fault of input or output prints nothing more, nor does an input that needs more than `MAX_READS`
-/// reads. What was printed before stands.
+/// A policy that is refused prints `refused policy N NAME` and makes no row. The first line that cannot be
+/// read, as one of more than `MAX_LINE` bytes, prints `line N: unreadable` and ends the run; a failed
+/// allocation ends it with `out of memory`. A fault of input or output prints nothing more, nor does an input
+/// that needs more than `MAX_READS` reads. What was printed before stands.
 pub fn play<R: Read + Drop, W: Write + Drop>(alloc: Global, input: R, mut output: W) -> Status {
     match play_buffered(alloc, input, &mut output) {
         Some(status) => status,
