@@ -1,6 +1,7 @@
 //! Names, filters and matching against the examples of MQTT 3.1.1, 4.7; client ids at the bounds of MQTT-SN 1.2, 5.3.1.
-use sng_text::{ClientId, Levels, Octets, TextFault, TopicFilter, TopicName, matches};
+use sng_text::{ClientId, Levels, Octets, TextFault, TopicFilter, TopicName, matches, read_ipv4};
 use std::cmp::Ordering;
+use std::collections::HashMap;
 use std::test::Fail;
 
 #[test]
@@ -230,4 +231,80 @@ fn names_have_clones(rt: HostRuntime) -> Result<(), Fail> {
     let name = TopicName::read(rt.alloc(), b"a/b")?;
     assert_eq!(rt; name.clone()?.text(), b"a/b".as_slice());
     Ok(())
+}
+
+#[test]
+fn octets_become_names_and_filters_or_come_back(rt: HostRuntime) -> Result<(), Fail> {
+    let octets = Octets::from(Vec::from_slice(rt.alloc(), b"a/b")?);
+    let name = match TopicName::of_octets(octets) {
+        Ok(name) => name,
+        Err(refused) => return Err(Fail::from(refused.fault)),
+    };
+    assert_eq!(rt; name.text(), b"a/b".as_slice());
+    match TopicName::of_octets(Octets::from(Vec::from_slice(rt.alloc(), b"a/+")?)) {
+        Ok(_) => assert!(rt; false, "a wildcard in a name"),
+        Err(refused) => {
+            assert_eq!(rt; refused.fault, TextFault::Wildcard);
+            assert_eq!(rt; refused.octets.into_vec().as_slice(), b"a/+".as_slice());
+        }
+    }
+    match TopicFilter::of_octets(Octets::from(Vec::from_slice(rt.alloc(), b"a/+")?)) {
+        Ok(filter) => assert_eq!(rt; filter.text(), b"a/+".as_slice()),
+        Err(_) => assert!(rt; false, "`a/+` is a filter"),
+    }
+    match TopicFilter::of_octets(Octets::from(Vec::from_slice(rt.alloc(), b"#/a")?)) {
+        Ok(_) => assert!(rt; false, "`#` before the last level"),
+        Err(refused) => {
+            assert_eq!(rt; refused.fault, TextFault::Wildcard);
+            assert_eq!(rt; refused.octets.as_slice(), b"#/a".as_slice());
+        }
+    }
+    Ok(())
+}
+
+#[test]
+fn filters_that_are_names(rt: HostRuntime) -> Result<(), Fail> {
+    for (text, want) in [("a/b", true), ("$SYS", true), ("a/+", false), ("#", false)] {
+        let filter = TopicFilter::read(rt.alloc(), text.as_bytes())?;
+        assert_eq!(rt; filter.is_name(), want, "at {text}");
+        match filter.to_name()? {
+            None => assert!(rt; !want, "no name at {text}"),
+            Some(name) => assert_eq!(rt; name.text(), text.as_bytes()),
+        }
+    }
+    Ok(())
+}
+
+#[test]
+fn filters_and_client_ids_as_keys(rt: HostRuntime) -> Result<(), Fail> {
+    let mut filters = HashMap::new(rt.alloc());
+    filters.insert(TopicFilter::read(rt.alloc(), b"a/+")?, 1)?;
+    filters.insert(TopicFilter::read(rt.alloc(), b"a/#")?, 2)?;
+    let asked = TopicFilter::read(rt.alloc(), b"a/#")?;
+    assert_eq!(rt; filters.get(&asked.clone()?).copied(), Some(2));
+    assert!(rt; filters.get(&TopicFilter::read(rt.alloc(), b"#")?).is_none());
+    let mut clients = HashMap::new(rt.alloc());
+    clients.insert(ClientId::read(rt.alloc(), b"pump")?, 1)?;
+    assert_eq!(rt; clients.get(&ClientId::read(rt.alloc(), b"pump")?).copied(), Some(1));
+    assert!(rt; clients.get(&ClientId::read(rt.alloc(), b"pumq")?).is_none());
+    Ok(())
+}
+
+#[test]
+fn texts_of_ipv4_addresses(rt: HostRuntime) {
+    for (text, want) in [
+        ("0.0.0.0", Some([0, 0, 0, 0])),
+        ("255.255.255.255", Some([255, 255, 255, 255])),
+        ("10.0.100.9", Some([10, 0, 100, 9])),
+        ("10.0.0.07", None),
+        ("10.0.0.256", None),
+        ("10.0.0.1000", None),
+        ("10.0.7", None),
+        ("10.0.0.0.7", None),
+        ("10.0..7", None),
+        (" 10.0.0.7", None),
+        ("", None),
+    ] {
+        assert_eq!(rt; read_ipv4(text.as_bytes()), want, "at {text}");
+    }
 }
