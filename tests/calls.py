@@ -1,7 +1,7 @@
 #!/usr/bin/env python3
 """calls.py [--fail-alloc N] [NAME ..]
 
-Runs the tests of public calls that no proof is paid for: each file tests/calls/NAME.rt is laid as a module of a crate `calls` beside a
+Runs the tests of public calls that no proof is paid for: each file tests/calls/NAME.rt.in is laid as a module of a crate `calls` beside a
 copy of the crates, and `rt try --test` runs its tests. It proves nothing: the crates are proved by `rt ci`, with these calls in them.
 With NAMEs only those files are laid. With --fail-alloc the N-th allocation of each test is refused; a test that meets the refusal has
 to end with an error of memory (tests/refused_memory.py does this for N from 1 on). Exit status 1 where a test fails."""
@@ -20,10 +20,10 @@ SECONDS = '60'
 
 def files(names):
     """The files with tests, by the name of their module."""
-    found = {os.path.basename(path)[:-3]: path for path in sorted(glob.glob(os.path.join(HERE, 'calls', '*.rt')))}
+    found = {os.path.basename(path)[:-len('.rt.in')]: path for path in sorted(glob.glob(os.path.join(HERE, 'calls', '*.rt.in')))}
     missing = [name for name in names if name not in found]
     if missing:
-        raise SystemExit('no such file: ' + ', '.join('tests/calls/%s.rt' % name for name in missing))
+        raise SystemExit('no such file: ' + ', '.join('tests/calls/%s.rt.in' % name for name in missing))
     return {name: found[name] for name in names} if names else found
 
 
