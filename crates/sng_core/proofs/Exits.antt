@@ -27,7 +27,7 @@ exits_in-named s source (Ok name) = refl
 exits_in-named s source (Err rule) = refl
 
 exits_in-ask : (s : State) (source : List ℕ) (p : Publish) (b : Bool) → lists_source s.policy source ≡ b → exit_of (source_ask s source p) ≡ []
-exits_in-ask s source p true is = rw is (exits_in-named s source (name_in p.flags.id_type p.topic_id))
+exits_in-ask s source p true is = rw is (exits_in-named s source (name_in s.policy p.flags.id_type p.topic_id))
 exits_in-ask s source p false is = rw is refl
 
 exits_in-publish : (s : State) (from : Address) (p : Publish) (qos : Qos) → exits_in (publish_outs s from p qos) ≡ []

@@ -4,7 +4,7 @@ use Rattle.sng_book.specs.Events.{kind_of}
 use Rattle.sng_book.specs.Printing.{row_text}
 use Rattle.sng_book.specs.declared.event.Event.{Event}
 use Rattle.sng_book.specs.declared.out.Out.{Out}
-use Rattle.sng_history.specs.Present.{State}
+use Rattle.sng_history.specs.State.{State}
 use Rattle.sng_history.specs.Lawful.{Keeps}
 
 -- the event is one step, whose row keeps every history lawful, and the text is that row printed under the

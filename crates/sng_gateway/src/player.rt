@@ -4,7 +4,7 @@ ghost use Rattle.std.specs.Result.{is_err};
 ghost use Rattle.sng_scope.specs.Policies.{policy_of};
 ghost use Rattle.sng_grants.specs.declared.policy.Policy.{Policy as policy_type};
 ghost use Rattle.sng_gateway.specs.Playing.{IsPlayed};
-ghost use Rattle.sng_history.specs.Present.{opening, Leads};
+ghost use Rattle.sng_history.specs.State.{opening, Leads};
 
 use crate::datagram::{DatagramFault, read_datagram};
 use crate::script::{Line, line_of};

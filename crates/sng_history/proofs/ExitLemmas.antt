@@ -97,7 +97,7 @@ forwards_in-named s source (Ok name) = refl
 forwards_in-named s source (Err rule) = refl
 
 forwards_in-ask : (s : State) (source : List ℕ) (p : Publish) (b : Bool) → lists_source s.policy source ≡ b → forwards_in (Note (source_ask s source p) ∷ []) ≡ []
-forwards_in-ask s source p true is = rw is (forwards_in-named s source (name_in p.flags.id_type p.topic_id))
+forwards_in-ask s source p true is = rw is (forwards_in-named s source (name_in s.policy p.flags.id_type p.topic_id))
 forwards_in-ask s source p false is = rw is refl
 
 forwards_in-publish : (s : State) (from : Address) (p : Publish) (qos : Qos) → forwards_in (publish_outs s from p qos) ≡ []
