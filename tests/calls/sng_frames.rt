@@ -1,9 +1,14 @@
 //! Datagrams and frames as the standard spells them (MQTT-SN 1.2, 5.2 to 5.5).
 use sng_frames::{
-    Connect, Flags, FrameFault, MAX_DATAGRAM, MAX_SHORT_LENGTH, Publish, Qos, Register, ReturnCode, SnFrame,
-    SubscribeAck, TopicAck, TopicIdType, TopicRequest, WillTopic, decode, encode,
+    Connect, Flags, FrameFault, FrameQos, MAX_DATAGRAM, MAX_PAYLOAD, MAX_REGISTERED_NAME, MAX_SHORT_LENGTH,
+    Publish, Register, ReturnCode, SnFrame, SubscribeAck, TopicAck, TopicIdType, TopicRequest, WillTopic,
+    decode, encode, write_connect_ack, write_disconnect, write_ping_response, write_publish,
+    write_publish_ack, write_publish_complete, write_publish_received, write_publish_release,
+    write_register, write_register_ack, write_subscribe_ack, write_unsubscribe_ack,
+    write_will_message_request, write_will_message_response, write_will_topic_request,
+    write_will_topic_response,
 };
-use sng_text::Octets;
+use sng_text::{Octets, Qos};
 use std::alloc::Global;
 use std::test::Fail;
 
@@ -13,7 +18,7 @@ const NOT_SUPPORTED: Option<FrameFault> = Some(FrameFault::NotSupported);
 
 const NO_FLAGS: Flags = Flags {
     dup: false,
-    qos: Qos::AtMostOnce,
+    qos: FrameQos::AtMostOnce,
     retain: false,
     will: false,
     clean: false,
@@ -74,7 +79,7 @@ fn connect(rt: HostRuntime) -> Result<(), Fail> {
 #[test]
 fn will_dialogue(rt: HostRuntime) -> Result<(), Fail> {
     let flags = Flags {
-        qos: Qos::AtLeastOnce,
+        qos: FrameQos::AtLeastOnce,
         retain: true,
         ..NO_FLAGS
     };
@@ -224,7 +229,7 @@ fn topic_ids(rt: HostRuntime) -> Result<(), Fail> {
 #[test]
 fn publishes(rt: HostRuntime) -> Result<(), Fail> {
     let flags = Flags {
-        qos: Qos::WithoutSession,
+        qos: FrameQos::WithoutSession,
         id_type: TopicIdType::Short,
         ..NO_FLAGS
     };
@@ -297,7 +302,7 @@ fn publish_acks(rt: HostRuntime) -> Result<(), Fail> {
 fn all_flags(rt: HostRuntime) -> Result<(), Fail> {
     let flags = Flags {
         dup: true,
-        qos: Qos::WithoutSession,
+        qos: FrameQos::WithoutSession,
         retain: true,
         will: true,
         clean: true,
@@ -320,7 +325,7 @@ fn all_flags(rt: HostRuntime) -> Result<(), Fail> {
 #[test]
 fn subscriptions(rt: HostRuntime) -> Result<(), Fail> {
     let at_least_once = Flags {
-        qos: Qos::AtLeastOnce,
+        qos: FrameQos::AtLeastOnce,
         ..NO_FLAGS
     };
     assert!(rt;
@@ -362,7 +367,7 @@ fn subscriptions(rt: HostRuntime) -> Result<(), Fail> {
 #[test]
 fn unsubscriptions(rt: HostRuntime) -> Result<(), Fail> {
     let at_least_once = Flags {
-        qos: Qos::AtLeastOnce,
+        qos: FrameQos::AtLeastOnce,
         ..NO_FLAGS
     };
     assert!(rt;
@@ -555,7 +560,7 @@ fn publish_of_size(alloc: Global, size: usize) -> Result<SnFrame, Fail> {
     Ok(SnFrame::Publish(Publish {
         flags: Flags {
             dup: true,
-            qos: Qos::AtLeastOnce,
+            qos: FrameQos::AtLeastOnce,
             retain: false,
             will: false,
             clean: false,
@@ -623,4 +628,95 @@ fn frames_that_nothing_spells(rt: HostRuntime) -> Result<(), Fail> {
         Some(FrameFault::TooLong)
     );
     Ok(())
+}
+
+#[test]
+fn writers_of_acknowledgements(rt: HostRuntime) -> Result<(), Fail> {
+    let alloc = rt.alloc();
+    let ack = TopicAck {
+        topic_id: 0x0102,
+        msg_id: 0x0304,
+        code: ReturnCode::INVALID_TOPIC_ID,
+    };
+    let subscribe_ack = SubscribeAck {
+        flags: Flags {
+            qos: FrameQos::AtLeastOnce,
+            ..NO_FLAGS
+        },
+        topic_id: 0x0102,
+        msg_id: 0x0304,
+        code: ReturnCode::ACCEPTED,
+    };
+    for (written, want) in [
+        (write_connect_ack(alloc, ReturnCode::CONGESTION)?, b"\x03\x05\x01".as_slice()),
+        (write_register_ack(alloc, ack)?, b"\x07\x0b\x01\x02\x03\x04\x02"),
+        (write_publish_ack(alloc, ack)?, b"\x07\x0d\x01\x02\x03\x04\x02"),
+        (write_publish_complete(alloc, 0x0102)?, b"\x04\x0e\x01\x02"),
+        (write_publish_received(alloc, 0x0102)?, b"\x04\x0f\x01\x02"),
+        (write_publish_release(alloc, 0x0102)?, b"\x04\x10\x01\x02"),
+        (write_subscribe_ack(alloc, subscribe_ack)?, b"\x08\x13\x20\x01\x02\x03\x04\x00"),
+        (write_unsubscribe_ack(alloc, 0x0102)?, b"\x04\x15\x01\x02"),
+    ] {
+        assert_eq!(rt; written.as_slice(), want);
+    }
+    Ok(())
+}
+
+#[test]
+fn writers_of_other_replies(rt: HostRuntime) -> Result<(), Fail> {
+    let alloc = rt.alloc();
+    for (written, want) in [
+        (write_will_topic_request(alloc)?, b"\x02\x06".as_slice()),
+        (write_will_message_request(alloc)?, b"\x02\x08"),
+        (write_will_topic_response(alloc, ReturnCode::ACCEPTED)?, b"\x03\x1b\x00"),
+        (write_will_message_response(alloc, ReturnCode::NOT_SUPPORTED)?, b"\x03\x1d\x03"),
+        (write_ping_response(alloc)?, b"\x02\x17"),
+        (write_disconnect(alloc, None)?, b"\x02\x18"),
+        (write_disconnect(alloc, Some(300))?, b"\x04\x18\x01\x2c"),
+    ] {
+        assert_eq!(rt; written.as_slice(), want);
+    }
+    Ok(())
+}
+
+#[test]
+fn writers_over_borrowed_parts(rt: HostRuntime) -> Result<(), Fail> {
+    let alloc = rt.alloc();
+    let again = Flags {
+        dup: true,
+        qos: FrameQos::AtLeastOnce,
+        ..NO_FLAGS
+    };
+    assert_eq!(rt;
+        write_publish(alloc, again, 0x0102, 0x0304, b"21")?.as_slice(),
+        b"\x09\x0c\xa0\x01\x02\x03\x04\x32\x31".as_slice()
+    );
+    assert_eq!(rt;
+        write_register(alloc, 1, 0x0102, b"t/1")?.as_slice(),
+        b"\x09\x0a\x00\x01\x01\x02\x74\x2f\x31".as_slice()
+    );
+    let longest = vec![in alloc; 0x55; MAX_PAYLOAD]?;
+    let bytes = write_publish(alloc, again, 1, 2, longest.as_slice())?;
+    assert_eq!(rt; bytes.len(), MAX_DATAGRAM);
+    assert_eq!(rt; fault_of(alloc, bytes.as_slice()), None);
+    let longest = vec![in alloc; 0x61; MAX_REGISTERED_NAME]?;
+    let bytes = write_register(alloc, 1, 2, longest.as_slice())?;
+    assert_eq!(rt; bytes.len(), MAX_DATAGRAM);
+    assert_eq!(rt; fault_of(alloc, bytes.as_slice()), None);
+    Ok(())
+}
+
+#[test]
+fn levels_that_are_granted(rt: HostRuntime) {
+    for (stated, granted) in [
+        (FrameQos::AtMostOnce, Qos::AtMostOnce),
+        (FrameQos::AtLeastOnce, Qos::AtLeastOnce),
+        (FrameQos::ExactlyOnce, Qos::AtLeastOnce),
+        (FrameQos::WithoutSession, Qos::AtMostOnce),
+    ] {
+        assert_eq!(rt; stated.granted(), granted);
+    }
+    for granted in [Qos::AtMostOnce, Qos::AtLeastOnce] {
+        assert_eq!(rt; FrameQos::from(granted).granted(), granted);
+    }
 }
