@@ -1,5 +1,5 @@
 //! Client ids (MQTT-SN 1.2, 5.3.1).
-ghost use Rattle.std.specs.Prelude.{◌≡◌, ◌⊎◌, true, Some, None, IfOk, IfErr};
+ghost use Rattle.std.specs.Prelude.{◌≡◌, ◌⊎◌, true, Err, Some, None, IfOk, IfErr};
 ghost use Rattle.sng_text.specs.ClientIds.{is_client_id, client_id_fault};
 
 use crate::reading::owned;
@@ -29,6 +29,7 @@ impl ClientId {
     pub fn read(alloc: Global, text: &[u8]) -> Result<ClientId, TextFault>
         ensures ok { IfOk result (λ i. (i ≡ text.now) × (client_id_fault text.now ≡ None)) }
         ensures err { IfErr result (λ f. (f ≡ TextFault.Memory) ⊎ (client_id_fault text.now ≡ Some f)) }
+        ensures memory { result ≡ Err TextFault.Memory → client_id_fault text.now ≡ None }
     {
         let text = owned(alloc, text, client_id_fault(text))?;
         Ok(ClientId { text })
