@@ -1,9 +1,12 @@
-//! Packets as MQTT 3.1.1 spells them (sections 3.1 to 3.14), streams of them in pieces, and what hostile bytes are answered.
+//! Packets as MQTT 3.1.1 spells them (sections 3.1 to 3.14), streams of them in pieces, and what hostile bytes are
+//! answered.
 use mqtt_frames::{
     Connect, ConnectAck, List, MAX_PACKET, Packet, Publish, Request, RequestedQos, Stream, StreamFault,
-    Subscribe, SubscribeAck, SubscribeCode, Unsubscribe, encode, write_publish,
+    Subscribe, SubscribeAck, SubscribeCode, Unsubscribe, encode, encode_connect, encode_disconnect,
+    encode_ping_request, encode_publish, encode_publish_ack, encode_subscribe, encode_unsubscribe,
+    write_publish,
 };
-use sng_text::{Octets, TopicName};
+use sng_text::{Octets, Qos, TopicFilter, TopicName};
 use std::alloc::{AllocError, Global};
 use std::test::Fail;
 
@@ -217,7 +220,8 @@ fn numbers_of_faults(rt: HostRuntime) {
     assert_eq!(rt; StreamFault::Memory.number(), 5);
 }
 
-/// What a new stream tells once the last of the bytes has come, which come one by one; none where it tells nothing, or tells something before.
+/// What a new stream reports once the last of the bytes has come, which come one by one; none where it reports nothing, or
+/// something before.
 fn told_at_the_last(alloc: Global, bytes: &[u8]) -> Option<StreamFault> {
     let mut stream = Stream::new(alloc);
     let (last, others) = bytes.split_last()?;
@@ -234,7 +238,7 @@ fn told_at_the_last(alloc: Global, bytes: &[u8]) -> Option<StreamFault> {
     stream.feed(alloc, &[*last]).err()
 }
 
-/// What a new stream tells where all the bytes come at once.
+/// What a new stream reports where all the bytes come at once.
 fn told_at_once(alloc: Global, bytes: &[u8]) -> Option<StreamFault> {
     Stream::new(alloc).feed(alloc, bytes).err()
 }
@@ -443,5 +447,74 @@ fn longest_packet(rt: HostRuntime) -> Result<(), Fail> {
         }
         _ => assert!(rt; false),
     }
+    Ok(())
+}
+
+#[test]
+fn packets_from_their_parts(rt: HostRuntime) -> Result<(), Fail> {
+    let alloc = rt.alloc();
+    let name = TopicName::read(alloc, b"a/b")?;
+    let filter = TopicFilter::read(alloc, b"a/b")?;
+    let publish = encode_publish(alloc, &name, b"hi", true, Some(10), true)?;
+    assert_eq!(rt; publish.as_slice(), SAMPLES[3]);
+    let publish = encode_publish(alloc, &name, b"", false, None, false)?;
+    assert_eq!(rt; publish.as_slice(), SAMPLES[4]);
+    let publish = encode_publish(alloc, &name, b"hi", false, Some(256), false)?;
+    assert_eq!(rt;
+        publish.as_slice(),
+        b"\x32\x09\x00\x03\x61\x2f\x62\x01\x00\x68\x69".as_slice()
+    );
+    let subscribe = encode_subscribe(alloc, 10, &filter, Qos::AtLeastOnce)?;
+    assert_eq!(rt;
+        subscribe.as_slice(),
+        b"\x82\x08\x00\x0a\x00\x03\x61\x2f\x62\x01".as_slice()
+    );
+    let unsubscribe = encode_unsubscribe(alloc, 10, &filter)?;
+    assert_eq!(rt;
+        unsubscribe.as_slice(),
+        b"\xa2\x07\x00\x0a\x00\x03\x61\x2f\x62".as_slice()
+    );
+    assert_eq!(rt; encode_connect(alloc, b"gw1", true, 60)?.as_slice(), SAMPLES[0]);
+    assert_eq!(rt; encode_connect(alloc, b"", false, 0x0102)?.as_slice(), SAMPLES[1]);
+    assert_eq!(rt; encode_publish_ack(alloc, 10)?.as_slice(), SAMPLES[5]);
+    assert_eq!(rt; encode_ping_request(alloc)?.as_slice(), SAMPLES[10]);
+    assert_eq!(rt; encode_disconnect(alloc)?.as_slice(), SAMPLES[12]);
+    Ok(())
+}
+
+#[test]
+fn empty_pieces(rt: HostRuntime) -> Result<(), Fail> {
+    let alloc = rt.alloc();
+    let mut stream = Stream::new(alloc);
+    assert!(rt; stream.feed(alloc, b"")?.is_empty());
+    assert!(rt; stream.feed(alloc, b"\x40\x02\x01")?.is_empty());
+    assert!(rt; stream.feed(alloc, b"")?.is_empty());
+    let packets = stream.feed(alloc, b"\x02\xc0")?;
+    assert_eq!(rt; packets.len(), 1);
+    assert!(rt; matches!(&packets[0], Packet::PublishAck(258)));
+    assert!(rt; stream.feed(alloc, b"")?.is_empty());
+    assert_eq!(rt; stream.feed(alloc, b"\x00")?.len(), 1);
+    Ok(())
+}
+
+/// Feeds the piece, and once more where an allocation failed.
+fn fed_again(alloc: Global, stream: &mut Stream, piece: &[u8]) -> Result<Vec<Packet>, Fail> {
+    match stream.feed(alloc, piece) {
+        Err(StreamFault::Memory) => Ok(stream.feed(alloc, piece)?),
+        answer => Ok(answer?),
+    }
+}
+
+#[test]
+fn a_refused_piece_comes_again(rt: HostRuntime) -> Result<(), Fail> {
+    let alloc = rt.alloc();
+    let mut stream = Stream::new(alloc);
+    let mut count = 0;
+    for (at, size) in [(0, 3), (3, 1), (4, 10), (14, 20)] {
+        let bytes = b"\xc0\x00\x32\x12\x00\x03a/b\x00\x0a01234567890\x40\x02\x01\x02\xd0\x00";
+        let piece = &bytes[at..bytes.len().min(at + size)];
+        count += fed_again(alloc, &mut stream, piece)?.len();
+    }
+    assert_eq!(rt; count, 4);
     Ok(())
 }

@@ -3,8 +3,8 @@ use Rattle.std.proofs.Common.{◌≡◌, ℕ, ◌+◌, ◌<◌, ◌≤◌, ◌==
 use Rattle.std.proofs.lemmas.Bool.{ltb-false, eqb-true}
 use Rattle.std.proofs.lemmas.Bool.Decides.{nat_tests}
 use Rattle.std.proofs.lemmas.List.{take-append-drop}
-use Rattle.mqtt_frames.specs.declared.fault.StreamFault.{StreamFault}
-use Rattle.mqtt_frames.specs.declared.fault.StreamFault.TheVariants.{Malformed}
+use Rattle.mqtt_frames.specs.declared.fault.PacketFault.{PacketFault}
+use Rattle.mqtt_frames.specs.declared.fault.PacketFault.TheVariants.{Malformed}
 use Rattle.mqtt_frames.specs.declared.packet.RequestedQos.{RequestedQos}
 use Rattle.mqtt_frames.specs.declared.packet.RequestedQos.TheVariants.{AtMostOnce, AtLeastOnce, ExactlyOnce}
 use Rattle.mqtt_frames.specs.declared.packet.Request.{Request}
@@ -13,32 +13,32 @@ use Rattle.mqtt_frames.specs.Reading.{◌>>=◌, number, number_at, id_at, text_
 use Rattle.mqtt_frames.proofs.Items.{Consumes}
 
 -- the value of a step that did not fail
-pub bind_ok : {A B : Type 0} (r : Result A StreamFault) (f : A → Result B StreamFault) (y : B) → (r >>= f) ≡ Ok y → (x : A) × (r ≡ Ok x) × (f x ≡ Ok y)
+pub bind_ok : {A B : Type 0} (r : Result A PacketFault) (f : A → Result B PacketFault) (y : B) → (r >>= f) ≡ Ok y → (x : A) × (r ≡ Ok x) × (f x ≡ Ok y)
 bind_ok (Ok x) f y e = (x, refl, e)
 bind_ok (Err d) f y e = absurd cc
 
 -- a test that let a value through
-pub guard_ok : {A : Type 0} (b : Bool) (d : StreamFault) (r : Result A StreamFault) (y : A) → (if b then Err d else r) ≡ Ok y → (b ≡ false) × (r ≡ Ok y)
+pub guard_ok : {A : Type 0} (b : Bool) (d : PacketFault) (r : Result A PacketFault) (y : A) → (if b then Err d else r) ≡ Ok y → (b ≡ false) × (r ≡ Ok y)
 guard_ok true d r y e = absurd cc
 guard_ok false d r y e = (refl, e)
 
 -- the same of a test that has to hold
-pub pass_ok : {A : Type 0} (b : Bool) (d : StreamFault) (r : Result A StreamFault) (y : A) → (if b then r else Err d) ≡ Ok y → (b ≡ true) × (r ≡ Ok y)
+pub pass_ok : {A : Type 0} (b : Bool) (d : PacketFault) (r : Result A PacketFault) (y : A) → (if b then r else Err d) ≡ Ok y → (b ≡ true) × (r ≡ Ok y)
 pass_ok true d r y e = (refl, e)
 pass_ok false d r y e = absurd cc
 
-abbrev pub done : {A : Type 0} → A → Result A StreamFault
+abbrev pub done : {A : Type 0} → A → Result A PacketFault
 done x = Ok x
 
 pub ok_is : {A : Type 0} (x y : A) → done x ≡ done y → x ≡ y
 ok_is x y e = cc
 
-pub either : {A : Type 0} (b : Bool) (one other : Result A StreamFault) (y : A) → (if b then one else other) ≡ Ok y → ((b ≡ true) × (one ≡ Ok y)) ⊎ ((b ≡ false) × (other ≡ Ok y))
+pub either : {A : Type 0} (b : Bool) (one other : Result A PacketFault) (y : A) → (if b then one else other) ≡ Ok y → ((b ≡ true) × (one ≡ Ok y)) ⊎ ((b ≡ false) × (other ≡ Ok y))
 either true one other y e = inl (refl, e)
 either false one other y e = inr (refl, e)
 
 -- one of several bytes, each with its meaning
-pub link : {A : Type 0} (byte n : ℕ) (x : A) (others : Result A StreamFault) (y : A) (byte_of : A → ℕ) → byte_of x ≡ n → (others ≡ Ok y → byte_of y ≡ byte) → (if byte == n then Ok x else others) ≡ Ok y → byte_of y ≡ byte
+pub link : {A : Type 0} (byte n : ℕ) (x : A) (others : Result A PacketFault) (y : A) (byte_of : A → ℕ) → byte_of x ≡ n → (others ≡ Ok y → byte_of y ≡ byte) → (if byte == n then Ok x else others) ≡ Ok y → byte_of y ≡ byte
 link byte n x others y byte_of is further e =
     elim (either (byte == n) (Ok x) others y e) [
       | inl one ↦ ap byte_of (sym (ok_is x y one.1)) ∙ is ∙ sym (eqb-true byte n one.0)

@@ -6,8 +6,8 @@ use Rattle.std.proofs.Math.Seq.{take-add}
 use Rattle.std.specs.Str.{bytes_eq}
 use Rattle.std.specs.Cmp.Lexicographic.{same_text}
 use Rattle.mqtt_frames.specs.declared.limits.TheConstants.{MAX_PACKET}
-use Rattle.mqtt_frames.specs.declared.fault.StreamFault.{StreamFault}
-use Rattle.mqtt_frames.specs.declared.fault.StreamFault.TheVariants.{Malformed, NotSupported, TooLong}
+use Rattle.mqtt_frames.specs.declared.fault.PacketFault.{PacketFault}
+use Rattle.mqtt_frames.specs.declared.fault.PacketFault.TheVariants.{Malformed, NotSupported, TooLong}
 use Rattle.mqtt_frames.specs.declared.packet.Connect.{Connect}
 use Rattle.mqtt_frames.specs.declared.packet.Publish.{Publish}
 use Rattle.mqtt_frames.specs.declared.packet.Request.{Request}
@@ -48,24 +48,24 @@ AreBytes-take n xs are = AreBytes-front (take n xs) (drop n xs) (subst AreBytes 
 
 -- the fixed header
 
-record IsLength (bytes : List ℕ) (n size : ℕ) : Type 0 where
-  groups : SpellsGroups n (take size bytes)
-  within : size ≤ length bytes
+pub record IsLength (bytes : List ℕ) (n size : ℕ) : Type 0 where
+  pub groups : SpellsGroups n (take size bytes)
+  pub within : size ≤ length bytes
 
-record IsBehind (b : ℕ) (l : Length) (n size : ℕ) : Type 0 where
-  value : ℕ
-  others : ℕ
-  told : l ≡ lengths.Known value others
-  total : n ≡ b - 128 + 128 * value
-  count : size ≡ others + 1
+pub record IsBehind (b : ℕ) (l : Length) (n size : ℕ) : Type 0 where
+  pub value : ℕ
+  pub others : ℕ
+  pub told : l ≡ lengths.Known value others
+  pub total : n ≡ b - 128 + 128 * value
+  pub count : size ≡ others + 1
 
-behind_group-told : (b : ℕ) (l : Length) (n size : ℕ) → behind_group b l ≡ lengths.Known n size → IsBehind b l n size
+pub behind_group-told : (b : ℕ) (l : Length) (n size : ℕ) → behind_group b l ≡ lengths.Known n size → IsBehind b l n size
 behind_group-told b lengths.Unfinished n size is = absurd cc
 behind_group-told b lengths.Overlong n size is = absurd cc
 behind_group-told b (lengths.Known value others) n size is =
     record { value = value; others = others; told = refl; total = cc; count = cc }
 
-length_at-spelled : (most : ℕ) (bytes : List ℕ) (n size : ℕ) → AreBytes bytes → length_at most bytes ≡ lengths.Known n size → IsLength bytes n size × (size ≤ most)
+pub length_at-spelled : (most : ℕ) (bytes : List ℕ) (n size : ℕ) → AreBytes bytes → length_at most bytes ≡ lengths.Known n size → IsLength bytes n size × (size ≤ most)
 length_at-spelled zero bytes n size are is = absurd cc
 length_at-spelled (suc most) [] n size are is = absurd cc
 length_at-spelled (suc most) (b ∷ bytes) n size are is =
@@ -87,7 +87,7 @@ length_at-spelled (suc most) (b ∷ bytes) n size are is =
     ]
 
 -- the first byte of a kind
-abbrev byte_of : Kind → ℕ
+abbrev pub byte_of : Kind → ℕ
 byte_of kinds.Connect = 16
 byte_of kinds.ConnectAck = 32
 byte_of (kinds.Publish f) = 48 + flag f.dup 8 + flag f.identified 2 + flag f.retain 1
@@ -100,12 +100,12 @@ byte_of kinds.PingRequest = 192
 byte_of kinds.PingResponse = 208
 byte_of kinds.Disconnect = 224
 
-flag-8 : (n : ℕ) → n < 2 → flag (n == 1) 8 ≡ 8 * n
+pub flag-8 : (n : ℕ) → n < 2 → flag (n == 1) 8 ≡ 8 * n
 flag-8 zero small = refl
 flag-8 (suc zero) small = refl
 flag-8 (suc (suc n)) small = absurd (omega arith)
 
-flag-1 : (n : ℕ) → n < 2 → flag (n == 1) 1 ≡ n
+pub flag-1 : (n : ℕ) → n < 2 → flag (n == 1) 1 ≡ n
 flag-1 zero small = refl
 flag-1 (suc zero) small = refl
 flag-1 (suc (suc n)) small = absurd (omega arith)
@@ -114,7 +114,7 @@ publish_byte-is : (bits : ℕ) (identified : Bool) → bits < 16 → flag identi
 publish_byte-is bits identified small qos =
     omega (arith, flag-8 (bits / 8) (omega arith), flag-1 (bits % 2) (omega arith))
 
-not_ok : {A : Type 0} (fault : StreamFault) (x : A) → Err fault ≡ done x → ⊥
+not_ok : {A : Type 0} (fault : PacketFault) (x : A) → Err fault ≡ done x → ⊥
 not_ok fault x is = cc
 
 publish_kind-reads : (bits : ℕ) (kind : Kind) → bits < 16 → publish_kind bits ≡ Ok kind → byte_of kind ≡ 48 + bits
@@ -129,7 +129,7 @@ publish_kind-reads bits kind small is =
       ]
     ]
 
-kind_of-reads : (first : ℕ) (kind : Kind) → kind_of first ≡ Ok kind → byte_of kind ≡ first
+pub kind_of-reads : (first : ℕ) (kind : Kind) → kind_of first ≡ Ok kind → byte_of kind ≡ first
 kind_of-reads first kind is =
     link first 16 kinds.Connect _ kind byte_of refl (λ a.
     link first 32 kinds.ConnectAck _ kind byte_of refl (λ b.
@@ -248,7 +248,7 @@ codes-spelled (byte ∷ bytes) codes is =
     ap (λ b. b ∷ bytes) (sym (code_of-reads byte code.0 code.1)) ∙ ap (λ (bs : List ℕ). code_byte code.0 ∷ bs) (codes-spelled bytes others.0 others.1) ∙ ap codes_bytes (ok_is (code.0 ∷ others.0) codes others.2)
 
 -- there are bytes, and what they are all read as
-some_of-is : {A : Type 0} (all_of : List ℕ → Result (List A) StreamFault) (bytes : List ℕ) (xs : List A) → some_of all_of bytes ≡ Ok xs → (bytes ≢ []) × (all_of bytes ≡ Ok xs)
+some_of-is : {A : Type 0} (all_of : List ℕ → Result (List A) PacketFault) (bytes : List ℕ) (xs : List A) → some_of all_of bytes ≡ Ok xs → (bytes ≢ []) × (all_of bytes ≡ Ok xs)
 some_of-is all_of [] xs is = absurd cc
 some_of-is all_of (b ∷ bytes) xs is = (λ none. cc, is)
 
@@ -444,34 +444,34 @@ body-spelled kinds.Disconnect body p are is = empty-spelled kinds.Disconnect var
 
 -- the whole packet
 
-record IsHeader (first : ℕ) (bytes : List ℕ) (kind : Kind) (start rest : ℕ) : Type 0 where
-  size : ℕ
-  told : length_at 4 bytes ≡ lengths.Known rest size
-  kind_is : kind_of first ≡ Ok kind
-  begins : start ≡ 1 + size
+pub record IsHeader (first : ℕ) (bytes : List ℕ) (kind : Kind) (start rest : ℕ) : Type 0 where
+  pub size : ℕ
+  pub told : length_at 4 bytes ≡ lengths.Known rest size
+  pub kind_is : kind_of first ≡ Ok kind
+  pub begins : start ≡ 1 + size
 
-with_kind-told : (r : Result Kind StreamFault) (size value : ℕ) (kind : Kind) (start rest : ℕ) → with_kind r size value ≡ headers.Known kind start rest → (r ≡ Ok kind) × (size ≡ start) × (value ≡ rest)
+with_kind-told : (r : Result Kind PacketFault) (size value : ℕ) (kind : Kind) (start rest : ℕ) → with_kind r size value ≡ headers.Known kind start rest → (r ≡ Ok kind) × (size ≡ start) × (value ≡ rest)
 with_kind-told (Ok found) size value kind start rest is = (ap Ok cc, cc, cc)
 with_kind-told (Err fault) size value kind start rest is = absurd cc
 
-with_length-told : (first : ℕ) (l : Length) (bytes : List ℕ) (kind : Kind) (start rest : ℕ) → length_at 4 bytes ≡ l → with_length first l ≡ headers.Known kind start rest → IsHeader first bytes kind start rest
+pub with_length-told : (first : ℕ) (l : Length) (bytes : List ℕ) (kind : Kind) (start rest : ℕ) → length_at 4 bytes ≡ l → with_length first l ≡ headers.Known kind start rest → IsHeader first bytes kind start rest
 with_length-told first lengths.Unfinished bytes kind start rest l is = absurd cc
 with_length-told first lengths.Overlong bytes kind start rest l is = absurd cc
 with_length-told first (lengths.Known value size) bytes kind start rest l is =
     let k = with_kind-told (kind_of first) (1 + size) value kind start rest is in
     record { size = size; told = l ∙ ap (λ (n : ℕ). lengths.Known n size) k.2; kind_is = k.0; begins = sym k.1 }
 
-sized-told : (n size : ℕ) (r : Result Packet StreamFault) (p : Packet) → sized n r ≡ fronts.Whole p size → (r ≡ Ok p) × (n ≡ size)
+sized-told : (n size : ℕ) (r : Result Packet PacketFault) (p : Packet) → sized n r ≡ fronts.Whole p size → (r ≡ Ok p) × (n ≡ size)
 sized-told n size (Ok packet) p is = (ap Ok cc, cc)
 sized-told n size (Err fault) p is = absurd cc
 
-record IsBehindHeader (kind : Kind) (start rest : ℕ) (bytes : List ℕ) (p : Packet) (size : ℕ) : Type 0 where
-  total : start + rest ≡ size
-  short : start + rest ≤ MAX_PACKET
-  enough : start + rest ≤ length bytes
-  body : body_of kind (take rest (drop start bytes)) ≡ Ok p
+pub record IsBehindHeader (kind : Kind) (start rest : ℕ) (bytes : List ℕ) (p : Packet) (size : ℕ) : Type 0 where
+  pub total : start + rest ≡ size
+  pub short : start + rest ≤ MAX_PACKET
+  pub enough : start + rest ≤ length bytes
+  pub body : body_of kind (take rest (drop start bytes)) ≡ Ok p
 
-behind_header-told : (kind : Kind) (start rest : ℕ) (bytes : List ℕ) (p : Packet) (size : ℕ) → behind_header (headers.Known kind start rest) bytes ≡ fronts.Whole p size → IsBehindHeader kind start rest bytes p size
+pub behind_header-told : (kind : Kind) (start rest : ℕ) (bytes : List ℕ) (p : Packet) (size : ℕ) → behind_header (headers.Known kind start rest) bytes ≡ fronts.Whole p size → IsBehindHeader kind start rest bytes p size
 behind_header-told kind start rest bytes p size is =
     elim (cases_lt MAX_PACKET (start + rest)) [
       | inl long ↦ absurd (let e : fronts.Faulty TooLong ≡ fronts.Whole p size = rw (lt-ltb MAX_PACKET (start + rest) long) at is in cc)

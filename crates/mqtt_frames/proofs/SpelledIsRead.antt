@@ -5,7 +5,7 @@ use Rattle.std.proofs.lemmas.Bool.Decides.{nat_tests}
 use Rattle.std.proofs.lemmas.List.{take_all, append-nil}
 use Rattle.std.proofs.Math.Seq.{take-append_seam, drop-append_seam}
 use Rattle.mqtt_frames.specs.declared.limits.TheConstants.{MAX_PACKET}
-use Rattle.mqtt_frames.specs.declared.fault.StreamFault.{StreamFault}
+use Rattle.mqtt_frames.specs.declared.fault.PacketFault.{PacketFault}
 use Rattle.mqtt_frames.specs.declared.packet.RequestedQos.{RequestedQos}
 use Rattle.mqtt_frames.specs.declared.packet.RequestedQos.TheVariants.{AtMostOnce, AtLeastOnce, ExactlyOnce}
 use Rattle.mqtt_frames.specs.declared.packet.Connect.{Connect}
@@ -33,7 +33,7 @@ use Rattle.mqtt_frames.proofs.StreamLemmas.{body-more}
 
 -- the fixed header
 
-groups-read : (most n : ℕ) (bytes more : List ℕ) → SpellsGroups n bytes → length bytes ≤ most → length_at most (bytes ++ more) ≡ lengths.Known n (length bytes)
+pub groups-read : (most n : ℕ) (bytes more : List ℕ) → SpellsGroups n bytes → length bytes ≤ most → length_at most (bytes ++ more) ≡ lengths.Known n (length bytes)
 groups-read most n [] more s fits = absurd s
 groups-read zero n (b ∷ bytes) more s fits = absurd (omega arith)
 groups-read (suc most) n (b ∷ bytes) more (inl last) fits =
@@ -124,15 +124,15 @@ requests-read : (requests : List Request) (b : List ℕ) → SpellsRequests requ
 requests-read [] b s = rw s refl
 requests-read (r ∷ requests) b s =
     let first : request_at b ≡ Ok (r, s.1) = ap request_at s.4 ∙ request-read r s.0 s.1 s.2 in
-    items_of-next request_at Consumes-request_at b r s.1 first ∙ ap (λ (x : Result (List Request) StreamFault). x >>= λ items. Ok (r ∷ items)) (requests-read requests s.1 s.3)
+    items_of-next request_at Consumes-request_at b r s.1 first ∙ ap (λ (x : Result (List Request) PacketFault). x >>= λ items. Ok (r ∷ items)) (requests-read requests s.1 s.3)
 
 filters-read : (filters : List (List ℕ)) (b : List ℕ) → SpellsFilters filters b → items_of text_at b ≡ Ok filters
 filters-read [] b s = rw s refl
 filters-read (f ∷ filters) b s =
     let first : text_at b ≡ Ok (f, s.1) = ap text_at s.4 ∙ text-read f s.0 s.1 s.2 in
-    items_of-next text_at Consumes-text_at b f s.1 first ∙ ap (λ (x : Result (List (List ℕ)) StreamFault). x >>= λ items. Ok (f ∷ items)) (filters-read filters s.1 s.3)
+    items_of-next text_at Consumes-text_at b f s.1 first ∙ ap (λ (x : Result (List (List ℕ)) PacketFault). x >>= λ items. Ok (f ∷ items)) (filters-read filters s.1 s.3)
 
-some-read : {A : Type 0} (all_of : List ℕ → Result (List A) StreamFault) (xs : List A) (b : List ℕ) → all_of [] ≡ Ok [] → xs ≢ [] → all_of b ≡ Ok xs → some_of all_of b ≡ Ok xs
+some-read : {A : Type 0} (all_of : List ℕ → Result (List A) PacketFault) (xs : List A) (b : List ℕ) → all_of [] ≡ Ok [] → xs ≢ [] → all_of b ≡ Ok xs → some_of all_of b ≡ Ok xs
 some-read all_of xs [] none some is = absurd (some (let e : Ok xs ≡ Ok [] = sym is ∙ none in cc))
 some-read all_of xs (x ∷ b) none some is = is
 
@@ -191,7 +191,7 @@ behind-is p b s =
     let count : 1 + length s.remaining ≡ length (first_byte p ∷ s.remaining) = omega arith in
     ap (λ n. drop n b) count ∙ ap (drop (length (first_byte p ∷ s.remaining))) s.bytes ∙ drop-append_seam (first_byte p ∷ s.remaining) s.behind
 
-size-is : (p : Packet) (b : List ℕ) (s : Spells p b) → 1 + length s.remaining + length s.behind ≡ length b
+pub size-is : (p : Packet) (b : List ℕ) (s : Spells p b) → 1 + length s.remaining + length s.behind ≡ length b
 size-is p b s = omega (arith, ap length s.bytes, length-append s.remaining s.behind)
 
 pub front-read : (p : Packet) (b more : List ℕ) → Spells p b → length b ≤ MAX_PACKET → decode (b ++ more) ≡ fronts.Whole p (length b)

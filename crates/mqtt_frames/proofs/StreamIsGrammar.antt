@@ -3,7 +3,8 @@ use Rattle.std.proofs.Common.{◌≡◌, ℕ, zero, suc, ◌<◌, ◌≤◌, tru
 use Rattle.std.proofs.lemmas.List.{take-append-drop, append-nil}
 use Rattle.std.proofs.Math.Seq.{drop-append_seam}
 use Rattle.mqtt_frames.specs.declared.limits.TheConstants.{MAX_PACKET}
-use Rattle.mqtt_frames.specs.declared.fault.StreamFault.{StreamFault}
+use Rattle.mqtt_frames.specs.declared.fault.PacketFault.{PacketFault}
+use Rattle.mqtt_frames.specs.Faults.{stream_fault}
 use Rattle.mqtt_frames.specs.declared.packet.Packet.{Packet}
 use Rattle.mqtt_frames.specs.declared.wire.decode.Front.{Front}
 use Rattle.mqtt_frames.specs.declared.wire.decode.Front.TheVariants as fronts
@@ -55,7 +56,7 @@ stands-within (suc most) bytes fits are = stands-behind (decode bytes) bytes are
 pub stream-stands : (bytes : List ℕ) → AreBytes bytes → (rest : List ℕ) × SpellsStream (read_all bytes).packets bytes rest × EndsAt rest (read_all bytes).ending
 stream-stands bytes are = stands-within (length bytes) bytes (omega arith) are
 
-pub no_packet : (bytes more b rest : List ℕ) (fault : StreamFault) (p : Packet) → decode bytes ≡ fronts.Faulty fault → Spells p b → length b ≤ MAX_PACKET → bytes ++ more ≡ b ++ rest → ⊥
+pub no_packet : (bytes more b rest : List ℕ) (fault : PacketFault) (p : Packet) → decode bytes ≡ fronts.Faulty fault → Spells p b → length b ≤ MAX_PACKET → bytes ++ more ≡ b ++ rest → ⊥
 no_packet bytes more b rest fault p is s short same =
     let whole = front-read p b rest s short in
     elim (decode-more bytes more) [
@@ -69,11 +70,11 @@ failed-silent : (pieces : List (List ℕ)) → (story_of Failed pieces).packets 
 failed-silent [] = refl
 failed-silent (piece ∷ pieces) = failed-silent pieces
 
-kept-silent : (fault : StreamFault) (pieces : List (List ℕ)) → (story_of (Kept fault) pieces).packets ≡ []
+kept-silent : (fault : PacketFault) (pieces : List (List ℕ)) → (story_of (Kept fault) pieces).packets ≡ []
 kept-silent fault [] = refl
 kept-silent fault (piece ∷ pieces) = failed-silent pieces
 
-kept-known : (fault : StreamFault) (pieces : List (List ℕ)) → known_fault (story_of (Kept fault) pieces).reported (story_of (Kept fault) pieces).state ≡ Some fault
+kept-known : (fault : PacketFault) (pieces : List (List ℕ)) → known_fault (story_of (Kept fault) pieces).reported (story_of (Kept fault) pieces).state ≡ Some (stream_fault fault)
 kept-known fault [] = refl
 kept-known fault (piece ∷ pieces) = refl
 

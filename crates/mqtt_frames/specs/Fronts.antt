@@ -2,8 +2,8 @@
 use Rattle.std.specs.Prelude.{ℕ, ◌+◌, ◌<◌, ◌≤◌, nat_lt, List, length, take, drop, if◌then◌else◌, Ok, Err}
 use Rattle.std.specs.declared.result.Result.{Result}
 use Rattle.mqtt_frames.specs.declared.limits.TheConstants.{MAX_PACKET}
-use Rattle.mqtt_frames.specs.declared.fault.StreamFault.{StreamFault}
-use Rattle.mqtt_frames.specs.declared.fault.StreamFault.TheVariants.{TooLong}
+use Rattle.mqtt_frames.specs.declared.fault.PacketFault.{PacketFault}
+use Rattle.mqtt_frames.specs.declared.fault.PacketFault.TheVariants.{TooLong}
 use Rattle.mqtt_frames.specs.declared.packet.Packet.{Packet}
 use Rattle.mqtt_frames.specs.declared.header.Header.{Header}
 use Rattle.mqtt_frames.specs.declared.header.Header.TheVariants as header
@@ -13,7 +13,7 @@ use Rattle.mqtt_frames.specs.Reading.{body_of}
 use Rattle.mqtt_frames.specs.Headers.{header_at}
 
 -- a packet of so many bytes
-abbrev pub sized : ℕ → Result Packet StreamFault → Front
+abbrev pub sized : ℕ → Result Packet PacketFault → Front
 sized size (Ok packet) = front.Whole packet size
 sized size (Err fault) = front.Faulty fault
 

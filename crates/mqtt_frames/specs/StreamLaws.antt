@@ -3,9 +3,11 @@ use Rattle.std.specs.Prelude.{◌≡◌, ℕ, ◌≤◌, List, [], ◌∷◌, �
 use Rattle.std.specs.declared.option.Option.{Option}
 use Rattle.std.specs.declared.result.Result.{Result}
 use Rattle.mqtt_frames.specs.declared.limits.TheConstants.{MAX_PACKET}
+use Rattle.mqtt_frames.specs.declared.fault.PacketFault.{PacketFault}
 use Rattle.mqtt_frames.specs.declared.fault.StreamFault.{StreamFault}
 use Rattle.mqtt_frames.specs.declared.packet.Packet.{Packet}
 use Rattle.mqtt_frames.specs.declared.wire.decode.Front.TheVariants as fronts
+use Rattle.mqtt_frames.specs.Faults.{stream_fault}
 use Rattle.mqtt_frames.specs.Grammar.{Spells}
 use Rattle.mqtt_frames.specs.Fronts.{decode}
 use Rattle.mqtt_frames.specs.Streams.{End, Rest, Fault, Read, with_packets, read_all, State, Reading, Kept, fed}
@@ -31,7 +33,7 @@ ReadsWhatStands = (bytes : List ℕ) → AreBytes bytes → (rest : List ℕ) ×
 
 -- where a fault is reported no packet of at most MAX_PACKET bytes stands, whatever follows
 abbrev pub FaultIsNoPacket : Type 0
-FaultIsNoPacket = (bytes more b rest : List ℕ) (fault : StreamFault) (p : Packet) → decode bytes ≡ fronts.Faulty fault → Spells p b → length b ≤ MAX_PACKET → bytes ++ more ≡ b ++ rest → ⊥
+FaultIsNoPacket = (bytes more b rest : List ℕ) (fault : PacketFault) (p : Packet) → decode bytes ≡ fronts.Faulty fault → Spells p b → length b ≤ MAX_PACKET → bytes ++ more ≡ b ++ rest → ⊥
 
 -- what a stream answered in all, the first fault that it reported, and its state then
 pub record Story : Type 0 where
@@ -57,12 +59,12 @@ joined (piece ∷ pieces) = piece ++ joined pieces
 -- the fault that was reported, or is kept
 abbrev pub known_fault : Option StreamFault → State → Option StreamFault
 known_fault (Some fault) state = Some fault
-known_fault None (Kept fault) = Some fault
+known_fault None (Kept fault) = Some (stream_fault fault)
 known_fault None _ = None
 
 abbrev pub fault_at : End → Option StreamFault
 fault_at (Rest bytes) = None
-fault_at (Fault fault) = Some fault
+fault_at (Fault fault) = Some (stream_fault fault)
 
 -- the bytes of an unfinished packet are held
 abbrev pub IsHeld : End → State → Type 0
