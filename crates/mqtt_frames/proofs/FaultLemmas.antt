@@ -1,6 +1,8 @@
 -- Which faults the reading of a packet's parts answers.
-use Rattle.std.proofs.Common.{◌≡◌, ◌≢◌, ℕ, zero, suc, ◌+◌, ◌/◌, ◌%◌, ◌<◌, ◌==◌, ◌||◌, Bool, true, false, List, [], ◌∷◌, ◌++◌}
-use Rattle.std.proofs.Common.{length, take, drop, nat_lt, if◌then◌else◌, Option, Some, None, inl, inr, ◌⊎◌, Result, Ok, Err, refl, ap, sym, subst, ◌∙◌, arith}
+use Rattle.std.proofs.Common.{◌≡◌, ◌≢◌, ℕ, zero, suc, ◌+◌, ◌/◌, ◌%◌, ◌<◌, ◌==◌, ◌||◌, Bool, true, false, List}
+use Rattle.std.proofs.Common.{[], ◌∷◌, ◌++◌}
+use Rattle.std.proofs.Common.{length, take, drop, nat_lt, if◌then◌else◌, Option, Some, None, inl, inr, ◌⊎◌}
+use Rattle.std.proofs.Common.{Result, Ok, Err, refl, ap, sym, subst, ◌∙◌, arith}
 use Rattle.std.proofs.lemmas.Bool.{eqb-true}
 use Rattle.std.proofs.lemmas.Bool.Decides.{nat_tests}
 use Rattle.std.proofs.lemmas.List.{take-append-drop}
@@ -19,9 +21,12 @@ use Rattle.mqtt_frames.specs.declared.kind.Kind.{Kind}
 use Rattle.mqtt_frames.specs.declared.kind.Kind.TheVariants as kinds
 use Rattle.mqtt_frames.specs.Packets.{flag, protocol}
 use Rattle.mqtt_frames.specs.Kinds.{publish_flags, publish_kind, is_of_qos_2, kind_of}
-use Rattle.mqtt_frames.specs.Reading.{◌>>=◌, number_at, id_at, text_at, at_end, connect_of, connect_behind, connect_rest, session_of}
-use Rattle.mqtt_frames.specs.Reading.{connect_ack_of, optional_id_at, publish_of, whole_id, qos_of, qos_behind, request_at}
-use Rattle.mqtt_frames.specs.Reading.{items_within, items_of, code_of, codes_of, some_of, subscribe_of, subscribe_ack_of}
+use Rattle.mqtt_frames.specs.Reading.{◌>>=◌, number_at, id_at, text_at, at_end, connect_of, connect_behind}
+use Rattle.mqtt_frames.specs.Reading.{connect_rest, session_of}
+use Rattle.mqtt_frames.specs.Reading.{connect_ack_of, optional_id_at, publish_of, whole_id, qos_of}
+use Rattle.mqtt_frames.specs.Reading.{qos_behind, request_at}
+use Rattle.mqtt_frames.specs.Reading.{items_within, items_of, code_of, codes_of, some_of, subscribe_of}
+use Rattle.mqtt_frames.specs.Reading.{subscribe_ack_of}
 use Rattle.mqtt_frames.specs.Reading.{unsubscribe_of, body_of}
 use Rattle.mqtt_frames.specs.Standing.{IsPublishAtQos2, IsOfQos2, HasOtherFlags}
 use Rattle.mqtt_frames.proofs.ReadIsSpelled.{flag-8, flag-1}
@@ -42,11 +47,13 @@ ok_only x e is = absurd cc
 fault_only : {A : Type 0} → OnlyMalformed {A = A} (Err Malformed)
 fault_only e is = cc
 
-bind_only : {A B : Type 0} (r : Result A PacketFault) (f : A → Result B PacketFault) → OnlyMalformed r → ((x : A) → OnlyMalformed (f x)) → OnlyMalformed (r >>= f)
+bind_only : {A B : Type 0} (r : Result A PacketFault) (f : A → Result B PacketFault) → OnlyMalformed r
+    → ((x : A) → OnlyMalformed (f x)) → OnlyMalformed (r >>= f)
 bind_only (Ok x) f first next e is = next x e is
 bind_only (Err d) f first next e is = let same : d ≡ e = cc in first e (ap Err same)
 
-if_only : {A : Type 0} (b : Bool) (one other : Result A PacketFault) → OnlyMalformed one → OnlyMalformed other → OnlyMalformed (if b then one else other)
+if_only : {A : Type 0} (b : Bool) (one other : Result A PacketFault) → OnlyMalformed one
+    → OnlyMalformed other → OnlyMalformed (if b then one else other)
 if_only true one other first second e is = first e is
 if_only false one other first second e is = second e is
 
@@ -106,7 +113,9 @@ qos_behind-only filter (byte ∷ rest) e is =
 request_only : (bytes : List ℕ) → OnlyMalformed (request_at bytes)
 request_only bytes = bind_only (text_at bytes) (λ filter. qos_behind filter.0 filter.1) (text_only bytes) (λ filter. qos_behind-only filter.0 filter.1)
 
-items_only : {A : Type 0} (item_at : List ℕ → Result (A × List ℕ) PacketFault) → ((bytes : List ℕ) → OnlyMalformed (item_at bytes)) → (most : ℕ) (bytes : List ℕ) → OnlyMalformed (items_within item_at most bytes)
+items_only : {A : Type 0} (item_at : List ℕ → Result (A × List ℕ) PacketFault)
+    → ((bytes : List ℕ) → OnlyMalformed (item_at bytes)) → (most : ℕ) (bytes : List ℕ)
+    → OnlyMalformed (items_within item_at most bytes)
 items_only item_at each zero [] e is = absurd cc
 items_only item_at each (suc most) [] e is = absurd cc
 items_only item_at each zero (b ∷ bytes) e is = cc
@@ -125,7 +134,9 @@ codes_only (byte ∷ bytes) e is =
     bind_only (code_of byte) (λ code. codes_of bytes >>= λ codes. Ok (code ∷ codes)) (code_only byte)
     (λ code. bind_only (codes_of bytes) (λ codes. Ok (code ∷ codes)) (codes_only bytes) (λ codes. ok_only (code ∷ codes))) e is
 
-some_only : {A : Type 0} (all_of : List ℕ → Result (List A) PacketFault) → ((bytes : List ℕ) → OnlyMalformed (all_of bytes)) → (bytes : List ℕ) → OnlyMalformed (some_of all_of bytes)
+some_only : {A : Type 0} (all_of : List ℕ → Result (List A) PacketFault)
+    → ((bytes : List ℕ) → OnlyMalformed (all_of bytes)) → (bytes : List ℕ)
+    → OnlyMalformed (some_of all_of bytes)
 some_only all_of each [] e is = cc
 some_only all_of each (b ∷ bytes) e is = each (b ∷ bytes) e is
 
@@ -162,11 +173,13 @@ differs : (a b : ℕ) → (a == b) ≡ false → a ≢ b
 differs a b is same = let other : (b == b) ≡ false = subst (λ (n : ℕ). (n == b) ≡ false) same is in grind (arith, nat_tests)
 
 -- which branch gave the fault
-either_fault : {A : Type 0} (b : Bool) (one other : Result A PacketFault) (e : PacketFault) → (if b then one else other) ≡ Err e → ((b ≡ true) × (one ≡ Err e)) ⊎ ((b ≡ false) × (other ≡ Err e))
+either_fault : {A : Type 0} (b : Bool) (one other : Result A PacketFault) (e : PacketFault)
+    → (if b then one else other) ≡ Err e → ((b ≡ true) × (one ≡ Err e)) ⊎ ((b ≡ false) × (other ≡ Err e))
 either_fault true one other e is = inl (refl, is)
 either_fault false one other e is = inr (refl, is)
 
-connect_behind-fault : (bytes : List ℕ) (e : PacketFault) → connect_behind bytes ≡ Err e → (e ≡ Malformed) ⊎ ((e ≡ NotSupported) × IsOther bytes)
+connect_behind-fault : (bytes : List ℕ) (e : PacketFault) → connect_behind bytes ≡ Err e
+    → (e ≡ Malformed) ⊎ ((e ≡ NotSupported) × IsOther bytes)
 connect_behind-fault [] e is = inl cc
 connect_behind-fault (flags ∷ rest) e is =
     elim (either_fault (flags == 0) (connect_rest false rest) (if flags == 2 then connect_rest true rest else Err NotSupported) e is) [
@@ -178,7 +191,8 @@ connect_behind-fault (flags ∷ rest) e is =
       ]
     ]
 
-connect_fault : (body : List ℕ) (e : PacketFault) → connect_of body ≡ Err e → (e ≡ Malformed) ⊎ ((e ≡ NotSupported) × HasOtherFlags body)
+connect_fault : (body : List ℕ) (e : PacketFault) → connect_of body ≡ Err e
+    → (e ≡ Malformed) ⊎ ((e ≡ NotSupported) × HasOtherFlags body)
 connect_fault body e is =
     elim (either_fault (bytes_eq (take 7 body) protocol) (connect_behind (drop 7 body)) (Err Malformed) e is) [
       | inl same ↦ elim (connect_behind-fault (drop 7 body) e same.1) [
@@ -192,14 +206,16 @@ connect_fault body e is =
                 rest = o.rest;
                 not_none = o.not_none;
                 not_clean = o.not_clean;
-                bytes = sym (take-append-drop 7 body) ∙ ap (λ (x : List ℕ). x ++ drop 7 body) front ∙ ap (λ (x : List ℕ). protocol ++ x) o.is;
+                bytes = sym (take-append-drop 7 body) ∙ ap (λ (x : List ℕ). x ++ drop 7 body) front
+                    ∙ ap (λ (x : List ℕ). protocol ++ x) o.is;
               },
             ))
       ]
       | inr none ↦ inl (sym (err_is {A = Packet} Malformed e none.1))
     ]
 
-connect_flagged : (flags : ℕ) (rest : List ℕ) → (flags == 0) ≡ false → (flags == 2) ≡ false → connect_of (protocol ++ (flags ∷ rest)) ≡ Err NotSupported
+connect_flagged : (flags : ℕ) (rest : List ℕ) → (flags == 0) ≡ false → (flags == 2) ≡ false
+    → connect_of (protocol ++ (flags ∷ rest)) ≡ Err NotSupported
 connect_flagged flags rest none clean = rw (none, clean) refl
 
 pub connect_other : (body : List ℕ) → HasOtherFlags body → connect_of body ≡ Err NotSupported
@@ -212,7 +228,8 @@ connect_other body h =
 abbrev pub BodyFault : Kind → List ℕ → PacketFault → Type 0
 BodyFault kind body e = (e ≡ Malformed) ⊎ ((e ≡ NotSupported) × (kind ≡ kinds.Connect) × HasOtherFlags body)
 
-pub body_fault : (kind : Kind) (body : List ℕ) (e : PacketFault) → body_of kind body ≡ Err e → BodyFault kind body e
+pub body_fault : (kind : Kind) (body : List ℕ) (e : PacketFault) → body_of kind body ≡ Err e
+    → BodyFault kind body e
 body_fault kinds.Connect body e is =
     elim (connect_fault body e is) [ inl malformed ↦ inl malformed | inr other ↦ inr (other.0, refl, other.1) ]
 body_fault kinds.ConnectAck body e is = inl (connect_ack-only body e is)
@@ -228,14 +245,17 @@ body_fault kinds.Disconnect body e is = inl (end_only variants.Disconnect body e
 
 -- the first byte
 
-skip : {A : Type 0} (b : Bool) (x : A) (others : Result A PacketFault) (e : PacketFault) → (if b then Ok x else others) ≡ Err e → others ≡ Err e
+skip : {A : Type 0} (b : Bool) (x : A) (others : Result A PacketFault) (e : PacketFault)
+    → (if b then Ok x else others) ≡ Err e → others ≡ Err e
 skip true x others e is = absurd cc
 skip false x others e is = is
 
-publish_byte-at_2 : (bits : ℕ) → bits < 16 → bits / 2 % 4 ≡ 2 → 48 + bits ≡ 48 + flag (bits / 8 == 1) 8 + 4 + flag (bits % 2 == 1) 1
+publish_byte-at_2 : (bits : ℕ) → bits < 16 → bits / 2 % 4 ≡ 2
+    → 48 + bits ≡ 48 + flag (bits / 8 == 1) 8 + 4 + flag (bits % 2 == 1) 1
 publish_byte-at_2 bits small two = omega (arith, flag-8 (bits / 8) (omega arith), flag-1 (bits % 2) (omega arith))
 
-publish_kind-fault : (bits : ℕ) (e : PacketFault) → publish_kind bits ≡ Err e → ((e ≡ NotSupported) × (bits / 2 % 4 ≡ 2)) ⊎ (e ≡ Malformed)
+publish_kind-fault : (bits : ℕ) (e : PacketFault) → publish_kind bits ≡ Err e
+    → ((e ≡ NotSupported) × (bits / 2 % 4 ≡ 2)) ⊎ (e ≡ Malformed)
 publish_kind-fault bits e is =
     let one = skip (bits / 2 % 4 == 0) (kinds.Publish (publish_flags bits false)) _ e is in
     let two = skip (bits / 2 % 4 == 1) (kinds.Publish (publish_flags bits true)) _ e one in
@@ -258,7 +278,8 @@ of_qos_2 first is =
       | inr completed ↦ inr (inr (inr (eqb-true first 112 completed)))
     ]
 
-pub kind_fault : (first : ℕ) (e : PacketFault) → kind_of first ≡ Err e → ((e ≡ NotSupported) × IsOfQos2 first) ⊎ (e ≡ Malformed)
+pub kind_fault : (first : ℕ) (e : PacketFault) → kind_of first ≡ Err e
+    → ((e ≡ NotSupported) × IsOfQos2 first) ⊎ (e ≡ Malformed)
 kind_fault first e is =
     let a = skip (first == 16) kinds.Connect _ e is in
     let b = skip (first == 32) kinds.ConnectAck _ e a in

@@ -1,8 +1,11 @@
 -- A piece behind the bytes of an unfinished packet.
-use Rattle.std.proofs.Common.{◌≡◌, ℕ, zero, suc, ◌+◌, ◌*◌, ◌<◌, ◌≤◌, List, [], ◌∷◌, ◌++◌, length, take, drop, append_assoc}
-use Rattle.std.proofs.Common.{length-append, length-drop, inl, inr, Option, Some, None, Result, Ok, Err, refl, ap, sym, subst, ◌∙◌, arith}
+use Rattle.std.proofs.Common.{◌≡◌, ℕ, zero, suc, ◌+◌, ◌*◌, ◌<◌, ◌≤◌, List, [], ◌∷◌, ◌++◌, length, take, drop}
+use Rattle.std.proofs.Common.{append_assoc}
+use Rattle.std.proofs.Common.{length-append, length-drop, inl, inr, Option, Some, None, Result, Ok, Err, refl}
+use Rattle.std.proofs.Common.{ap, sym, subst, ◌∙◌, arith}
 use Rattle.std.proofs.lemmas.Bool.{cases_lt, lt-ltb, le-ltb}
-use Rattle.std.proofs.lemmas.List.{take-append-drop, take_all, drop_all, drop-append-le, length-take-le, append-nil}
+use Rattle.std.proofs.lemmas.List.{take-append-drop, take_all, drop_all, drop-append-le, length-take-le}
+use Rattle.std.proofs.lemmas.List.{append-nil}
 use Rattle.mqtt_frames.specs.declared.limits.TheConstants.{MAX_PACKET}
 use Rattle.mqtt_frames.specs.declared.fault.PacketFault.{PacketFault}
 use Rattle.mqtt_frames.specs.declared.fault.PacketFault.TheVariants.{TooLong}
@@ -20,14 +23,18 @@ use Rattle.mqtt_frames.specs.Kinds.{kind_of}
 use Rattle.mqtt_frames.specs.Reading.{body_of}
 use Rattle.mqtt_frames.specs.Headers.{behind_group, length_at, with_kind, with_length, header_at}
 use Rattle.mqtt_frames.specs.Fronts.{sized, behind_header, decode}
-use Rattle.mqtt_frames.specs.Streams.{End, Rest, Fault, Read, with_packets, read_all, behind_body, read_of, IsReady}
+use Rattle.mqtt_frames.specs.Streams.{End, Rest, Fault, Read, with_packets, read_all, behind_body, read_of}
+use Rattle.mqtt_frames.specs.Streams.{IsReady}
 use Rattle.mqtt_frames.proofs.ReadIsSpelled.{behind_group-told, with_length-told, behind_header-told}
-use Rattle.mqtt_frames.proofs.StreamLemmas.{header_at-more, header_at-positive, body-more, decode-within, alone, not_sized}
-use Rattle.mqtt_frames.proofs.StreamLemmas.{read_all-waiting, read_all-faulty, read_all-whole, WaitsAt, read_all-waits}
+use Rattle.mqtt_frames.proofs.StreamLemmas.{header_at-more, header_at-positive, body-more, decode-within}
+use Rattle.mqtt_frames.proofs.StreamLemmas.{alone, not_sized}
+use Rattle.mqtt_frames.proofs.StreamLemmas.{read_all-waiting, read_all-faulty, read_all-whole, WaitsAt}
+use Rattle.mqtt_frames.proofs.StreamLemmas.{read_all-waits}
 
 -- a fixed header that is not whole: its bytes are fewer than it has in the end
 
-length_at-positive : (most : ℕ) (bytes : List ℕ) (value size : ℕ) → length_at most bytes ≡ lengths.Known value size → 0 < size
+length_at-positive : (most : ℕ) (bytes : List ℕ) (value size : ℕ)
+    → length_at most bytes ≡ lengths.Known value size → 0 < size
 length_at-positive zero bytes value size is = absurd cc
 length_at-positive (suc most) [] value size is = absurd cc
 length_at-positive (suc most) (b ∷ bytes) value size is =
@@ -39,7 +46,8 @@ length_at-positive (suc most) (b ∷ bytes) value size is =
           omega (arith, next.count))
     ]
 
-pub behind_group-unfinished : (b : ℕ) (l : Length) → behind_group b l ≡ lengths.Unfinished → l ≡ lengths.Unfinished
+pub behind_group-unfinished : (b : ℕ) (l : Length) → behind_group b l ≡ lengths.Unfinished
+    → l ≡ lengths.Unfinished
 behind_group-unfinished b lengths.Unfinished is = refl
 behind_group-unfinished b lengths.Overlong is = absurd cc
 behind_group-unfinished b (lengths.Known value size) is = absurd cc
@@ -56,16 +64,19 @@ length_at-cut (suc most) (b ∷ bytes) more value size waits is =
           omega (arith, next.count, length_at-cut most bytes more next.value next.others others next.told))
     ]
 
-with_kind-finished : (r : Result Kind PacketFault) (size value : ℕ) → with_kind r size value ≡ headers.Unfinished → ⊥
+with_kind-finished : (r : Result Kind PacketFault) (size value : ℕ)
+    → with_kind r size value ≡ headers.Unfinished → ⊥
 with_kind-finished (Ok kind) size value is = cc
 with_kind-finished (Err fault) size value is = cc
 
-with_length-unfinished : (first : ℕ) (l : Length) → with_length first l ≡ headers.Unfinished → l ≡ lengths.Unfinished
+with_length-unfinished : (first : ℕ) (l : Length) → with_length first l ≡ headers.Unfinished
+    → l ≡ lengths.Unfinished
 with_length-unfinished first lengths.Unfinished is = refl
 with_length-unfinished first lengths.Overlong is = absurd cc
 with_length-unfinished first (lengths.Known value size) is = absurd (with_kind-finished (kind_of first) (1 + size) value is)
 
-pub header_at-cut : (bytes more : List ℕ) (kind : Kind) (start rest : ℕ) → header_at bytes ≡ headers.Unfinished
+pub header_at-cut : (bytes more : List ℕ) (kind : Kind) (start rest : ℕ)
+    → header_at bytes ≡ headers.Unfinished
     → header_at (bytes ++ more) ≡ headers.Known kind start rest → length bytes < start
 header_at-cut [] more kind start rest waits is = header_at-positive more kind start rest is
 header_at-cut (first ∷ bytes) more kind start rest waits is =
@@ -75,7 +86,8 @@ header_at-cut (first ∷ bytes) more kind start rest waits is =
 
 -- five bytes have a whole one, or a fault
 
-length_at-done : (most : ℕ) (bytes : List ℕ) → most ≤ length bytes → length_at most bytes ≡ lengths.Unfinished → ⊥
+length_at-done : (most : ℕ) (bytes : List ℕ) → most ≤ length bytes
+    → length_at most bytes ≡ lengths.Unfinished → ⊥
 length_at-done zero bytes enough is = cc
 length_at-done (suc most) [] enough is = omega arith
 length_at-done (suc most) (b ∷ bytes) enough is =
@@ -104,7 +116,8 @@ header_at-few held piece =
 
 -- bytes that wait are fewer than the packet that they begin
 
-waits_short : (bytes : List ℕ) (kind : Kind) (start rest : ℕ) → decode bytes ≡ fronts.Waiting → header_at bytes ≡ headers.Known kind start rest
+waits_short : (bytes : List ℕ) (kind : Kind) (start rest : ℕ) → decode bytes ≡ fronts.Waiting
+    → header_at bytes ≡ headers.Known kind start rest
     → start + rest ≤ MAX_PACKET → length bytes < start + rest
 waits_short bytes kind start rest waits told short =
     let is : behind_header (headers.Known kind start rest) bytes ≡ fronts.Waiting = rw told at waits in
@@ -114,7 +127,8 @@ waits_short bytes kind start rest waits told short =
     ]
 
 pub is_part : (held piece : List ℕ) (kind : Kind) (start rest : ℕ) → decode held ≡ fronts.Waiting
-    → header_at (held ++ piece) ≡ headers.Known kind start rest → start + rest ≤ MAX_PACKET → length held < start + rest
+    → header_at (held ++ piece) ≡ headers.Known kind start rest → start + rest ≤ MAX_PACKET
+    → length held < start + rest
 is_part held piece kind start rest waits told short =
     elim (header_at-more held piece) [
       | inl cut ↦ omega (arith, header_at-cut held piece kind start rest cut told)
@@ -123,27 +137,33 @@ is_part held piece kind start rest waits told short =
 
 -- what is read then
 
-pub unfinished-read : (bytes : List ℕ) → header_at bytes ≡ headers.Unfinished → read_all bytes ≡ alone (Rest bytes)
+pub unfinished-read : (bytes : List ℕ) → header_at bytes ≡ headers.Unfinished
+    → read_all bytes ≡ alone (Rest bytes)
 unfinished-read bytes is = read_all-waiting bytes (rw is refl)
 
-pub faulty-read : (bytes : List ℕ) (fault : PacketFault) → header_at bytes ≡ headers.Faulty fault → read_all bytes ≡ alone (Fault fault)
+pub faulty-read : (bytes : List ℕ) (fault : PacketFault) → header_at bytes ≡ headers.Faulty fault
+    → read_all bytes ≡ alone (Fault fault)
 faulty-read bytes fault is = read_all-faulty bytes fault (rw is refl)
 
-pub too_long-read : (bytes : List ℕ) (kind : Kind) (start rest : ℕ) → header_at bytes ≡ headers.Known kind start rest → MAX_PACKET < start + rest
+pub too_long-read : (bytes : List ℕ) (kind : Kind) (start rest : ℕ)
+    → header_at bytes ≡ headers.Known kind start rest → MAX_PACKET < start + rest
     → read_all bytes ≡ alone (Fault TooLong)
 too_long-read bytes kind start rest told long =
     read_all-faulty bytes TooLong (rw (told, lt-ltb MAX_PACKET (start + rest) long) refl)
 
-pub part-read : (bytes : List ℕ) (kind : Kind) (start rest : ℕ) → header_at bytes ≡ headers.Known kind start rest → start + rest ≤ MAX_PACKET
+pub part-read : (bytes : List ℕ) (kind : Kind) (start rest : ℕ)
+    → header_at bytes ≡ headers.Known kind start rest → start + rest ≤ MAX_PACKET
     → length bytes < start + rest → read_all bytes ≡ alone (Rest bytes)
 part-read bytes kind start rest told short part =
     read_all-waiting bytes (rw (told, le-ltb MAX_PACKET (start + rest) short, lt-ltb (length bytes) (start + rest) part) refl)
 
-sized-read : (bytes : List ℕ) (size : ℕ) (r : Result Packet PacketFault) → decode bytes ≡ sized size r → read_all bytes ≡ behind_body r (drop size bytes)
+sized-read : (bytes : List ℕ) (size : ℕ) (r : Result Packet PacketFault) → decode bytes ≡ sized size r
+    → read_all bytes ≡ behind_body r (drop size bytes)
 sized-read bytes size (Ok packet) is = read_all-whole bytes packet size is
 sized-read bytes size (Err fault) is = read_all-faulty bytes fault is
 
-pub whole-read : (held part behind : List ℕ) (kind : Kind) (start rest : ℕ) → header_at (held ++ (part ++ behind)) ≡ headers.Known kind start rest
+pub whole-read : (held part behind : List ℕ) (kind : Kind) (start rest : ℕ)
+    → header_at (held ++ (part ++ behind)) ≡ headers.Known kind start rest
     → start + rest ≤ MAX_PACKET → length (held ++ part) ≡ start + rest
     → read_all (held ++ (part ++ behind)) ≡ behind_body (body_of kind (drop start (held ++ part))) behind
 whole-read held part behind kind start rest told short size =
@@ -156,9 +176,11 @@ whole-read held part behind kind start rest told short size =
     let front : decode (held ++ (part ++ behind)) ≡ sized (start + rest) (body_of kind (drop start (held ++ part))) =
     rw (told, le-ltb MAX_PACKET (start + rest) short, le-ltb (length (held ++ (part ++ behind))) (start + rest) enough) (ap (λ b. sized (start + rest) (body_of kind b)) body) in
     let left : drop (start + rest) (held ++ (part ++ behind)) ≡ behind =
-    ap (drop (start + rest)) (sym (append_assoc held part behind)) ∙ drop-append-le (start + rest) (held ++ part) behind (omega arith)
+    ap (drop (start + rest)) (sym (append_assoc held part behind))
+    ∙ drop-append-le (start + rest) (held ++ part) behind (omega arith)
     ∙ ap (λ (b : List ℕ). b ++ behind) (drop_all (start + rest) (held ++ part) (omega arith)) in
-    sized-read all (start + rest) (body_of kind (drop start (held ++ part))) front ∙ ap (behind_body (body_of kind (drop start (held ++ part)))) left
+    sized-read all (start + rest) (body_of kind (drop start (held ++ part))) front
+    ∙ ap (behind_body (body_of kind (drop start (held ++ part)))) left
 
 -- a packet has two bytes or more, and so few packets come of a piece
 
@@ -170,14 +192,16 @@ record IsKnown (h : Header) (size : ℕ) : Type 0 where
   total : start + rest ≡ size
   short : start + rest ≤ MAX_PACKET
 
-behind_header-known : (h : Header) (bytes : List ℕ) (p : Packet) (size : ℕ) → behind_header h bytes ≡ fronts.Whole p size → IsKnown h size
+behind_header-known : (h : Header) (bytes : List ℕ) (p : Packet) (size : ℕ)
+    → behind_header h bytes ≡ fronts.Whole p size → IsKnown h size
 behind_header-known headers.Unfinished bytes p size is = absurd cc
 behind_header-known (headers.Faulty fault) bytes p size is = absurd cc
 behind_header-known (headers.Known kind start rest) bytes p size is =
     let b = behind_header-told kind start rest bytes p size is in
     record { kind = kind; start = start; rest = rest; is = refl; total = b.total; short = b.short }
 
-header_at-two : (bytes : List ℕ) (kind : Kind) (start rest : ℕ) → header_at bytes ≡ headers.Known kind start rest → 2 ≤ start
+header_at-two : (bytes : List ℕ) (kind : Kind) (start rest : ℕ)
+    → header_at bytes ≡ headers.Known kind start rest → 2 ≤ start
 header_at-two [] kind start rest is = absurd cc
 header_at-two (first ∷ bytes) kind start rest is =
     let h = with_length-told first (length_at 4 bytes) bytes kind start rest refl is in
@@ -198,7 +222,8 @@ few-behind (fronts.Whole packet size) bytes is few =
     let others = few (drop size bytes) (omega (arith, length-drop size bytes)) in
     omega (arith, ap (λ (r : Read). length r.packets) (read_all-whole bytes packet size is), decode-two bytes packet size is, length-drop size bytes)
 
-few-within : (most : ℕ) (bytes : List ℕ) → length bytes ≤ most → 2 * length (read_all bytes).packets ≤ length bytes
+few-within : (most : ℕ) (bytes : List ℕ) → length bytes ≤ most
+    → 2 * length (read_all bytes).packets ≤ length bytes
 few-within zero [] fits = omega arith
 few-within zero (b ∷ bytes) fits = absurd (omega arith)
 few-within (suc most) bytes fits = few-behind (decode bytes) bytes refl (λ others less. few-within most others (omega arith))
@@ -214,32 +239,38 @@ few-held (fronts.Whole packet size) held piece waits is =
     let others = few-within (length (drop size all)) (drop size all) (omega arith) in
     omega (arith, ap (λ (r : Read). length r.packets) (read_all-whole all packet size is), h.total, length-drop size all, length-append held piece)
 
-pub few_packets : (held piece : List ℕ) → decode held ≡ fronts.Waiting → 2 * length (read_all (held ++ piece)).packets ≤ 2 + length piece
+pub few_packets : (held piece : List ℕ) → decode held ≡ fronts.Waiting
+    → 2 * length (read_all (held ++ piece)).packets ≤ 2 + length piece
 few_packets held piece waits = few-held (decode (held ++ piece)) held piece waits refl
 
 -- what the stream knows of a piece that was taken
 
-read_of-packets : (packets : List Packet) (fault : Option PacketFault) (held : List ℕ) → (read_of packets fault held).packets ≡ packets
+read_of-packets : (packets : List Packet) (fault : Option PacketFault) (held : List ℕ)
+    → (read_of packets fault held).packets ≡ packets
 read_of-packets packets None held = refl
 read_of-packets packets (Some fault) held = refl
 
-pub few_taken : (held piece : List ℕ) (packets : List Packet) (fault : Option PacketFault) (after : List ℕ) → decode held ≡ fronts.Waiting
+pub few_taken : (held piece : List ℕ) (packets : List Packet) (fault : Option PacketFault) (after : List ℕ)
+    → decode held ≡ fronts.Waiting
     → read_all (held ++ piece) ≡ read_of packets fault after → 2 * length packets ≤ 2 + length piece
 few_taken held piece packets fault after waits is =
     let same : (read_all (held ++ piece)).packets ≡ packets = ap (λ (r : Read). r.packets) is ∙ read_of-packets packets fault after in
     omega (arith, few_packets held piece waits, ap length same)
 
-pub waits_then : (bytes : List ℕ) (packets : List Packet) (fault : Option PacketFault) (after : List ℕ) → read_all bytes ≡ read_of packets fault after
+pub waits_then : (bytes : List ℕ) (packets : List Packet) (fault : Option PacketFault) (after : List ℕ)
+    → read_all bytes ≡ read_of packets fault after
     → fault ≡ None → decode after ≡ fronts.Waiting
 waits_then bytes packets fault after is none =
     subst WaitsAt (ap (λ (r : Read). r.ending) (is ∙ ap (λ (f : Option PacketFault). read_of packets f after) none)) (read_all-waits bytes)
 
-pub ready_from : (s : Status) (held : List ℕ) → s ≡ statuses.Reading → decode held ≡ fronts.Waiting → IsReady s held
+pub ready_from : (s : Status) (held : List ℕ) → s ≡ statuses.Reading → decode held ≡ fronts.Waiting
+    → IsReady s held
 ready_from statuses.Reading held reads waits = waits
 ready_from (statuses.Kept fault) held reads waits = absurd cc
 ready_from statuses.Failed held reads waits = absurd cc
 
-pub waits_ready : (s : Status) (held : List ℕ) → s ≡ statuses.Reading → IsReady s held → decode held ≡ fronts.Waiting
+pub waits_ready : (s : Status) (held : List ℕ) → s ≡ statuses.Reading → IsReady s held
+    → decode held ≡ fronts.Waiting
 waits_ready statuses.Reading held reads ready = ready
 waits_ready (statuses.Kept fault) held reads ready = absurd cc
 waits_ready statuses.Failed held reads ready = absurd cc

@@ -1,16 +1,20 @@
 -- The written spelling is the shortest.
-use Rattle.std.proofs.Common.{◌≡◌, ℕ, ◌+◌, ◌*◌, ◌/◌, ◌%◌, ◌<◌, ◌≤◌, List, [], ◌∷◌, ◌++◌, length, Option, Some, None, inl, inr, ◌⊎◌}
+use Rattle.std.proofs.Common.{◌≡◌, ℕ, ◌+◌, ◌*◌, ◌/◌, ◌%◌, ◌<◌, ◌≤◌, List, [], ◌∷◌, ◌++◌, length, Option, Some}
+use Rattle.std.proofs.Common.{None, inl, inr, ◌⊎◌}
 use Rattle.std.proofs.Common.{refl, ap, sym, ◌∙◌, arith}
 use Rattle.std.proofs.lemmas.Bool.{cases_lt}
 use Rattle.mqtt_frames.specs.declared.packet.Request.{Request}
 use Rattle.mqtt_frames.specs.declared.packet.Packet.{Packet}
 use Rattle.mqtt_frames.specs.declared.packet.Packet.TheVariants as variants
 use Rattle.mqtt_frames.specs.RemainingLength.{remaining_length}
-use Rattle.mqtt_frames.specs.Packets.{flag, protocol, qos_byte, number_bytes, text_bytes, id_bytes, requests_bytes, filters_bytes}
+use Rattle.mqtt_frames.specs.Packets.{flag, protocol, qos_byte, number_bytes, text_bytes, id_bytes}
+use Rattle.mqtt_frames.specs.Packets.{requests_bytes, filters_bytes}
 use Rattle.mqtt_frames.specs.Packets.{first_byte, body, written}
-use Rattle.mqtt_frames.specs.Grammar.{SpellsNumber, SpellsId, SpellsText, SpellsGroups, SpellsOptionalId, SpellsRequests}
+use Rattle.mqtt_frames.specs.Grammar.{SpellsNumber, SpellsId, SpellsText, SpellsGroups, SpellsOptionalId}
+use Rattle.mqtt_frames.specs.Grammar.{SpellsRequests}
 use Rattle.mqtt_frames.specs.Grammar.{SpellsFilters, SpellsBody, Spells}
-use Rattle.mqtt_frames.proofs.Groups.{remaining_length-last, remaining_length-next, length-remaining_length-last, length-remaining_length-next}
+use Rattle.mqtt_frames.proofs.Groups.{remaining_length-last, remaining_length-next}
+use Rattle.mqtt_frames.proofs.Groups.{length-remaining_length-last, length-remaining_length-next}
 use Rattle.mqtt_frames.proofs.Spelling.{length-written}
 use Rattle.mqtt_frames.proofs.SpelledIsRead.{size-is}
 
@@ -29,7 +33,8 @@ optional_id-unique : (id : Option ℕ) (b : List ℕ) → SpellsOptionalId id b 
 optional_id-unique None b s = s
 optional_id-unique (Some id) b s = number_unique id b s.number
 
-requests_unique : (requests : List Request) (b : List ℕ) → SpellsRequests requests b → b ≡ requests_bytes requests
+requests_unique : (requests : List Request) (b : List ℕ) → SpellsRequests requests b
+    → b ≡ requests_bytes requests
 requests_unique [] b s = s
 requests_unique (r ∷ requests) b s =
     s.4 ∙ ap (λ (x : List ℕ). x ++ (qos_byte r.qos ∷ s.1)) (text_unique r.filter s.0 s.2)
@@ -38,7 +43,8 @@ requests_unique (r ∷ requests) b s =
 filters_unique : (filters : List (List ℕ)) (b : List ℕ) → SpellsFilters filters b → b ≡ filters_bytes filters
 filters_unique [] b s = s
 filters_unique (f ∷ filters) b s =
-    s.4 ∙ ap (λ (x : List ℕ). x ++ s.1) (text_unique f s.0 s.2) ∙ ap (λ (x : List ℕ). text_bytes f ++ x) (filters_unique filters s.1 s.3)
+    s.4 ∙ ap (λ (x : List ℕ). x ++ s.1) (text_unique f s.0 s.2)
+    ∙ ap (λ (x : List ℕ). text_bytes f ++ x) (filters_unique filters s.1 s.3)
 
 body_unique : (p : Packet) (b : List ℕ) → SpellsBody p b → b ≡ body p
 body_unique (variants.Connect c) b s =
@@ -70,7 +76,8 @@ groups_some : (n : ℕ) (bytes : List ℕ) → SpellsGroups n bytes → 0 < leng
 groups_some n [] s = absurd s
 groups_some n (b ∷ bytes) s = omega arith
 
-groups_shortest : (n : ℕ) (bytes : List ℕ) → SpellsGroups n bytes → (bytes ≡ remaining_length n) ⊎ (length (remaining_length n) < length bytes)
+groups_shortest : (n : ℕ) (bytes : List ℕ) → SpellsGroups n bytes
+    → (bytes ≡ remaining_length n) ⊎ (length (remaining_length n) < length bytes)
 groups_shortest n [] s = absurd s
 groups_shortest n (b ∷ bytes) (inl last) =
     inl (ap (λ (x : List ℕ). b ∷ x) last.2 ∙ ap (λ (x : ℕ). x ∷ []) (sym last.1) ∙ sym (remaining_length-last n (omega (arith, last.0, last.1))))

@@ -1,6 +1,8 @@
 -- Between what stands at the front of bytes and what is answered to them.
-use Rattle.std.proofs.Common.{◌≡◌, ℕ, zero, suc, ◌+◌, ◌<◌, ◌≤◌, Bool, true, false, List, [], ◌∷◌, ◌++◌, length, take, drop}
-use Rattle.std.proofs.Common.{length-append, nat_lt, Option, Some, None, inl, inr, ◌⊎◌, Result, Ok, Err, refl, ap, sym, subst, ◌∙◌, arith}
+use Rattle.std.proofs.Common.{◌≡◌, ℕ, zero, suc, ◌+◌, ◌<◌, ◌≤◌, Bool, true, false, List, [], ◌∷◌, ◌++◌}
+use Rattle.std.proofs.Common.{length, take, drop}
+use Rattle.std.proofs.Common.{length-append, nat_lt, Option, Some, None, inl, inr, ◌⊎◌, Result, Ok, Err, refl}
+use Rattle.std.proofs.Common.{ap, sym, subst, ◌∙◌, arith}
 use Rattle.std.proofs.lemmas.Bool.{cases_lt, lt-ltb, le-ltb}
 use Rattle.std.proofs.lemmas.List.{take-append-drop, length-take, length-take-le}
 use Rattle.mqtt_frames.specs.declared.limits.TheConstants.{MAX_PACKET}
@@ -22,7 +24,8 @@ use Rattle.mqtt_frames.specs.Reading.{body_of}
 use Rattle.mqtt_frames.specs.Headers.{length_at, with_kind, with_length, header_at}
 use Rattle.mqtt_frames.specs.Fronts.{sized, behind_header, decode}
 use Rattle.mqtt_frames.specs.Laws.{AreBytes}
-use Rattle.mqtt_frames.specs.Standing.{BeginsWith, AreMarked, IsHeaderCut, IsFirst, IsOfQos2, IsOtherConnect, IsPartOf, IsLonger}
+use Rattle.mqtt_frames.specs.Standing.{BeginsWith, AreMarked, IsHeaderCut, IsFirst, IsOfQos2, IsOtherConnect}
+use Rattle.mqtt_frames.specs.Standing.{IsPartOf, IsLonger}
 use Rattle.mqtt_frames.specs.Standing.{Begins, IsUnfinished, IsTooLong, IsUnsupported}
 use Rattle.mqtt_frames.specs.FrontLaws.{Stands, IsNothing}
 use Rattle.mqtt_frames.proofs.SpelledIsRead.{groups-read, kind_for, kind_of-first, front-read}
@@ -75,12 +78,15 @@ first_kind first f = ap kind_of (sym f.is) ∙ kind_of-first f.packet
 
 -- the fixed header
 
-header_at-begins : (first start value : ℕ) (b : List ℕ) → BeginsWith first start value b → header_at b ≡ with_kind (kind_of first) start value
+header_at-begins : (first start value : ℕ) (b : List ℕ) → BeginsWith first start value b
+    → header_at b ≡ with_kind (kind_of first) start value
 header_at-begins first start value b w =
     let known : length_at 4 (w.remaining ++ w.behind) ≡ lengths.Known value (length w.remaining) = groups-read 4 value w.remaining w.behind w.spelled.groups w.spelled.most in
-    ap header_at w.bytes ∙ ap (with_length first) known ∙ ap (λ (n : ℕ). with_kind (kind_of first) n value) (sym w.count)
+    ap header_at w.bytes ∙ ap (with_length first) known
+    ∙ ap (λ (n : ℕ). with_kind (kind_of first) n value) (sym w.count)
 
-begins : (first : ℕ) (bytes : List ℕ) (value size : ℕ) → AreBytes bytes → length_at 4 bytes ≡ lengths.Known value size → BeginsWith first (1 + size) value (first ∷ bytes)
+begins : (first : ℕ) (bytes : List ℕ) (value size : ℕ) → AreBytes bytes
+    → length_at 4 bytes ≡ lengths.Known value size → BeginsWith first (1 + size) value (first ∷ bytes)
 begins first bytes value size are is =
     let l = length_at-spelled 4 bytes value size are is in
     record {
@@ -91,7 +97,8 @@ begins first bytes value size are is =
       bytes = ap (λ (x : List ℕ). first ∷ x) (sym (take-append-drop size bytes));
     }
 
-marked : (most : ℕ) (bytes : List ℕ) → length_at most bytes ≡ lengths.Unfinished → AreMarked bytes × (length bytes < most)
+marked : (most : ℕ) (bytes : List ℕ) → length_at most bytes ≡ lengths.Unfinished
+    → AreMarked bytes × (length bytes < most)
 marked zero bytes is = absurd cc
 marked (suc most) [] is = (tt, omega arith)
 marked (suc most) (b ∷ bytes) is =
@@ -101,7 +108,8 @@ marked (suc most) (b ∷ bytes) is =
           ((large, others.0), omega (arith, others.1)))
     ]
 
-marked_cut : (most : ℕ) (bytes : List ℕ) → AreMarked bytes → length bytes < most → length_at most bytes ≡ lengths.Unfinished
+marked_cut : (most : ℕ) (bytes : List ℕ) → AreMarked bytes → length bytes < most
+    → length_at most bytes ≡ lengths.Unfinished
 marked_cut zero bytes are less = absurd (omega arith)
 marked_cut (suc most) [] are less = refl
 marked_cut (suc most) (b ∷ bytes) are less = rw (le-ltb b 128 are.0, marked_cut most bytes are.1 (omega arith)) refl
@@ -121,12 +129,14 @@ HeaderFact b headers.Unfinished = IsHeaderCut b
 HeaderFact b (headers.Faulty fault) = (fault ≡ Malformed) ⊎ Begins (λ first start value. kind_of first ≡ Err fault) b
 HeaderFact b (headers.Known kind start value) = Knows kind start value b
 
-fact-kind : (first : ℕ) (rest : List ℕ) (value size : ℕ) (r : Result Kind PacketFault) → BeginsWith first (1 + size) value (first ∷ rest) → kind_of first ≡ r
+fact-kind : (first : ℕ) (rest : List ℕ) (value size : ℕ) (r : Result Kind PacketFault)
+    → BeginsWith first (1 + size) value (first ∷ rest) → kind_of first ≡ r
     → HeaderFact (first ∷ rest) (with_kind r (1 + size) value)
 fact-kind first rest value size (Ok kind) header is = record { first = first; header = header; is = is }
 fact-kind first rest value size (Err fault) header is = inr (record { first = first; start = 1 + size; value = value; header = header; has = is })
 
-fact-length : (first : ℕ) (rest : List ℕ) (l : Length) → AreBytes rest → length_at 4 rest ≡ l → HeaderFact (first ∷ rest) (with_length first l)
+fact-length : (first : ℕ) (rest : List ℕ) (l : Length) → AreBytes rest → length_at 4 rest ≡ l
+    → HeaderFact (first ∷ rest) (with_length first l)
 fact-length first rest lengths.Unfinished are is = marked 4 rest is
 fact-length first rest lengths.Overlong are is = inl refl
 fact-length first rest (lengths.Known value size) are is = fact-kind first rest value size (kind_of first) (begins first rest value size are is) refl
@@ -146,7 +156,8 @@ Cases kind start value b f =
     ((MAX_PACKET < start + value) × (f ≡ fronts.Faulty TooLong))
     ⊎ (((start + value ≤ MAX_PACKET) × (length b < start + value) × (f ≡ fronts.Waiting)) ⊎ IsCase kind start value b f)
 
-cases_of : (kind : Kind) (start value : ℕ) (b : List ℕ) (f : Front) → behind_header (headers.Known kind start value) b ≡ f → Cases kind start value b f
+cases_of : (kind : Kind) (start value : ℕ) (b : List ℕ) (f : Front)
+    → behind_header (headers.Known kind start value) b ≡ f → Cases kind start value b f
 cases_of kind start value b f is =
     elim (cases_lt MAX_PACKET (start + value)) [
       | inl long ↦ inl (long, sym (rw (lt-ltb MAX_PACKET (start + value) long) at is))
@@ -156,7 +167,8 @@ cases_of kind start value b f is =
       ]
     ]
 
-sized_fault : (size : ℕ) (r : Result Packet PacketFault) (e : PacketFault) → sized size r ≡ fronts.Faulty e → r ≡ Err e
+sized_fault : (size : ℕ) (r : Result Packet PacketFault) (e : PacketFault) → sized size r ≡ fronts.Faulty e
+    → r ≡ Err e
 sized_fault size (Ok p) e is = absurd cc
 sized_fault size (Err d) e is = ap Err cc
 
@@ -213,7 +225,8 @@ longer_of b t =
 other_first : (first : ℕ) (kind : Kind) → kind_of first ≡ Ok kind → kind ≡ kinds.Connect → first ≡ 16
 other_first first kind is connect = sym (kind_of-reads first kind is) ∙ ap byte_of connect
 
-unsupported_is : (h : Header) (b : List ℕ) → HeaderFact b h → behind_header h b ≡ fronts.Faulty NotSupported → IsUnsupported b
+unsupported_is : (h : Header) (b : List ℕ) → HeaderFact b h → behind_header h b ≡ fronts.Faulty NotSupported
+    → IsUnsupported b
 unsupported_is headers.Unfinished b fact is = absurd cc
 unsupported_is (headers.Faulty fault) b (inl malformed) is = absurd (let e : fault ≡ NotSupported = cc in cc)
 unsupported_is (headers.Faulty fault) b (inr begun) is =
@@ -241,7 +254,8 @@ unsupported_is (headers.Known kind start value) b fact is =
 pub unsupported_of : (b : List ℕ) → AreBytes b → decode b ≡ fronts.Faulty NotSupported → IsUnsupported b
 unsupported_of b are is = unsupported_is (header_at b) b (header_fact b are) is
 
-refused : (b : List ℕ) (first start value : ℕ) → BeginsWith first start value b → IsOfQos2 first ⊎ IsOtherConnect first start value b → decode b ≡ fronts.Faulty NotSupported
+refused : (b : List ℕ) (first start value : ℕ) → BeginsWith first start value b
+    → IsOfQos2 first ⊎ IsOtherConnect first start value b → decode b ≡ fronts.Faulty NotSupported
 refused b first start value header (inl qos_2) =
     let faulty = header_at-begins first start value b header ∙ ap (λ (r : Result Kind PacketFault). with_kind r start value) (kind_of-qos_2 first qos_2) in
     ap (λ (h : Header). behind_header h b) faulty
@@ -255,7 +269,8 @@ refused_of b u = refused b u.first u.start u.value u.header u.has
 
 -- a packet
 
-pub stands_of : (b : List ℕ) (p : Packet) (size : ℕ) → AreBytes b → decode b ≡ fronts.Whole p size → Stands p size b
+pub stands_of : (b : List ℕ) (p : Packet) (size : ℕ) → AreBytes b → decode b ≡ fronts.Whole p size
+    → Stands p size b
 stands_of b p size are is =
     let spelled = front-spelled p b size are is in
     record { spelled = spelled.0; short = spelled.1; within = (decode-within b p size is).1 }
@@ -263,7 +278,8 @@ stands_of b p size are is =
 pub whole_of : (b : List ℕ) (p : Packet) (size : ℕ) → Stands p size b → decode b ≡ fronts.Whole p size
 whole_of b p size s =
     let count : length (take size b) ≡ size = length-take-le size b s.within in
-    ap decode (sym (take-append-drop size b)) ∙ front-read p (take size b) (drop size b) s.spelled (omega arith) ∙ ap (fronts.Whole p) count
+    ap decode (sym (take-append-drop size b))
+    ∙ front-read p (take size b) (drop size b) s.spelled (omega arith) ∙ ap (fronts.Whole p) count
 
 -- the rest
 

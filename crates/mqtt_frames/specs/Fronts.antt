@@ -17,14 +17,17 @@ abbrev pub sized : ℕ → Result Packet PacketFault → Front
 sized size (Ok packet) = front.Whole packet size
 sized size (Err fault) = front.Faulty fault
 
--- a packet has at most MAX_PACKET bytes, of which its header tells; all other faults are reported with the packet's last byte
+-- a packet has at most MAX_PACKET bytes, of which its header tells; all other faults are reported with the
+-- packet's last byte
 abbrev pub behind_header : Header → List ℕ → Front
 behind_header header.Unfinished bytes = front.Waiting
 behind_header (header.Faulty fault) bytes = front.Faulty fault
 behind_header (header.Known kind start rest) bytes =
     if nat_lt MAX_PACKET (start + rest)
     then front.Faulty TooLong
-    else (if nat_lt (length bytes) (start + rest) then front.Waiting else sized (start + rest) (body_of kind (take rest (drop start bytes))))
+    else (if nat_lt (length bytes) (start + rest)
+    then front.Waiting
+    else sized (start + rest) (body_of kind (take rest (drop start bytes))))
 
 abbrev pub decode : List ℕ → Front
 decode bytes = behind_header (header_at bytes) bytes

@@ -1,5 +1,6 @@
 -- The fixed header at the front of bytes (MQTT 3.1.1, 2.2): first byte and Remaining Length.
-use Rattle.std.specs.Prelude.{ℕ, zero, suc, ◌+◌, ◌-◌, ◌*◌, ◌<◌, ◌≤◌, nat_lt, List, [], ◌∷◌, if◌then◌else◌, Ok, Err}
+use Rattle.std.specs.Prelude.{ℕ, zero, suc, ◌+◌, ◌-◌, ◌*◌, ◌<◌, ◌≤◌, nat_lt, List, [], ◌∷◌, if◌then◌else◌, Ok}
+use Rattle.std.specs.Prelude.{Err}
 use Rattle.std.specs.declared.result.Result.{Result}
 use Rattle.mqtt_frames.specs.declared.limits.TheConstants.{MAX_REMAINING}
 use Rattle.mqtt_frames.specs.declared.fault.PacketFault.{PacketFault}
@@ -21,7 +22,8 @@ behind_group byte (lengths.Known value size) = lengths.Known (byte - 128 + 128 *
 abbrev pub length_at : ℕ → List ℕ → Length
 length_at zero bytes = lengths.Overlong
 length_at (suc most) [] = lengths.Unfinished
-length_at (suc most) (byte ∷ bytes) = if nat_lt byte 128 then lengths.Known byte 1 else behind_group byte (length_at most bytes)
+length_at (suc most) (byte ∷ bytes) =
+    if nat_lt byte 128 then lengths.Known byte 1 else behind_group byte (length_at most bytes)
 
 abbrev pub with_kind : Result Kind PacketFault → ℕ → ℕ → Header
 with_kind (Ok kind) size value = header.Known kind size value

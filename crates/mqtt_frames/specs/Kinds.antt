@@ -8,9 +8,11 @@ use Rattle.mqtt_frames.specs.declared.kind.Kind.{Kind}
 use Rattle.mqtt_frames.specs.declared.kind.Kind.TheVariants as kinds
 
 abbrev pub publish_flags : ℕ → Bool → PublishFlags
-publish_flags bits identified = record { dup = bits / 8 == 1; identified = identified; retain = bits % 2 == 1 }
+publish_flags bits identified =
+    record { dup = bits / 8 == 1; identified = identified; retain = bits % 2 == 1 }
 
--- a PUBLISH by its low four bits, DUP, two of QoS, RETAIN (3.3.1). Of QoS 0 and 1 it is read, QoS 2 is not supported, and 3 is none
+-- a PUBLISH by its low four bits, DUP, two of QoS, RETAIN (3.3.1). Of QoS 0 and 1 it is read, QoS 2 is not
+-- supported, and 3 is none
 abbrev pub publish_kind : ℕ → Result Kind PacketFault
 publish_kind bits =
     if bits / 2 % 4 == 0

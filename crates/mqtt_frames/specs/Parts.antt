@@ -16,7 +16,13 @@ connect_of_parts client_id clean_session keep_alive =
 -- a PUBLISH: at QoS 1 with a packet identifier, and else at QoS 0 (3.3)
 abbrev pub publish_of_parts : List ℕ → List ℕ → Bool → Option ℕ → Bool → Packet
 publish_of_parts name payload retain packet_id dup =
-    packets.Publish (record { dup = dup; retain = retain; packet_id = packet_id; name = name; payload = payload })
+    packets.Publish (record {
+      dup = dup;
+      retain = retain;
+      packet_id = packet_id;
+      name = name;
+      payload = payload;
+    })
 
 -- the level that is asked for where this one is wanted
 abbrev pub requested_qos : Qos → RequestedQos
@@ -26,7 +32,10 @@ requested_qos granted.AtLeastOnce = AtLeastOnce
 -- a SUBSCRIBE of one filter (3.8)
 abbrev pub subscribe_of_parts : ℕ → List ℕ → Qos → Packet
 subscribe_of_parts packet_id filter qos =
-    packets.Subscribe (record { packet_id = packet_id; requests = record { filter = filter; qos = requested_qos qos } ∷ [] })
+    packets.Subscribe (record {
+      packet_id = packet_id;
+      requests = record { filter = filter; qos = requested_qos qos } ∷ [];
+    })
 
 -- an UNSUBSCRIBE of one filter (3.10)
 abbrev pub unsubscribe_of_parts : ℕ → List ℕ → Packet

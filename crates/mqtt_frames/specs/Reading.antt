@@ -1,5 +1,6 @@
 -- Which packet the bytes behind a Remaining Length are (MQTT 3.1.1, section 3).
-use Rattle.std.specs.Prelude.{◌≡◌, ℕ, zero, suc, ◌+◌, ◌*◌, ◌==◌, nat_lt, Bool, true, false, List, [], ◌∷◌, length, take, drop, if◌then◌else◌, Some, None, Ok, Err}
+use Rattle.std.specs.Prelude.{◌≡◌, ℕ, zero, suc, ◌+◌, ◌*◌, ◌==◌, nat_lt, Bool, true, false, List, [], ◌∷◌}
+use Rattle.std.specs.Prelude.{length, take, drop, if◌then◌else◌, Some, None, Ok, Err}
 use Rattle.std.specs.declared.option.Option.{Option}
 use Rattle.std.specs.declared.result.Result.{Result}
 use Rattle.std.specs.Str.{bytes_eq}
@@ -72,10 +73,13 @@ connect_rest clean_session bytes = do
   client_id ← text_at keep_alive.1
   at_end (variants.Connect (record { clean_session = clean_session; keep_alive = keep_alive.0; client_id = client_id.0 })) client_id.1
 
--- the flags of a CONNECT: those with a will, a user name or a password, and reserved ones, are not supported (3.1.2.3)
+-- the flags of a CONNECT: those with a will, a user name or a password, and reserved ones, are not supported
+-- (3.1.2.3)
 abbrev pub connect_behind : List ℕ → Result Packet PacketFault
 connect_behind [] = Err Malformed
-connect_behind (flags ∷ rest) = if flags == 0 then connect_rest false rest else (if flags == 2 then connect_rest true rest else Err NotSupported)
+connect_behind (flags ∷ rest) =
+    if flags == 0 then connect_rest false rest
+    else (if flags == 2 then connect_rest true rest else Err NotSupported)
 
 -- a CONNECT begins with the protocol's name and level (3.1.2)
 abbrev pub connect_of : List ℕ → Result Packet PacketFault
@@ -113,7 +117,9 @@ whole_id body = do
 
 -- a level (3.8.3.1)
 abbrev pub qos_of : ℕ → Result RequestedQos PacketFault
-qos_of byte = if byte == 0 then Ok AtMostOnce else (if byte == 1 then Ok AtLeastOnce else (if byte == 2 then Ok ExactlyOnce else Err Malformed))
+qos_of byte =
+    if byte == 0 then Ok AtMostOnce
+    else (if byte == 1 then Ok AtLeastOnce else (if byte == 2 then Ok ExactlyOnce else Err Malformed))
 
 -- the level behind a topic filter
 abbrev pub qos_behind : List ℕ → List ℕ → Result (Request × List ℕ) PacketFault
@@ -129,7 +135,8 @@ request_at bytes = do
   qos_behind filter.0 filter.1
 
 -- items up to the last byte, of which there are at most so many
-abbrev pub items_within : {A : Type 0} → (List ℕ → Result (A × List ℕ) PacketFault) → ℕ → List ℕ → Result (List A) PacketFault
+abbrev pub items_within : {A : Type 0} → (List ℕ → Result (A × List ℕ) PacketFault) → ℕ → List ℕ
+    → Result (List A) PacketFault
 items_within item_at most [] = Ok []
 items_within item_at zero (b ∷ bytes) = Err Malformed
 items_within item_at (suc most) (b ∷ bytes) = do
@@ -138,7 +145,8 @@ items_within item_at (suc most) (b ∷ bytes) = do
   Ok (item.0 ∷ items)
 
 -- each item has a byte or more
-abbrev pub items_of : {A : Type 0} → (List ℕ → Result (A × List ℕ) PacketFault) → List ℕ → Result (List A) PacketFault
+abbrev pub items_of : {A : Type 0} → (List ℕ → Result (A × List ℕ) PacketFault) → List ℕ
+    → Result (List A) PacketFault
 items_of item_at bytes = items_within item_at (length bytes) bytes
 
 -- an answer to a request (3.9.3)
@@ -153,7 +161,8 @@ codes_of (byte ∷ bytes) = do
   Ok (code ∷ codes)
 
 -- there is one thing at least (3.8.3, 3.9.3 and 3.10.3)
-abbrev pub some_of : {A : Type 0} → (List ℕ → Result (List A) PacketFault) → List ℕ → Result (List A) PacketFault
+abbrev pub some_of : {A : Type 0} → (List ℕ → Result (List A) PacketFault) → List ℕ
+    → Result (List A) PacketFault
 some_of all_of [] = Err Malformed
 some_of all_of (b ∷ bytes) = all_of (b ∷ bytes)
 

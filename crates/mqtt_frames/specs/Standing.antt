@@ -1,11 +1,13 @@
--- What stands at the front of bytes where no packet is read, in the standard's words (MQTT 3.1.1, sections 2 and 3).
+-- What stands at the front of bytes where no packet is read, in the standard's words (MQTT 3.1.1, sections 2
+-- and 3).
 use Rattle.std.specs.Prelude.{◌≡◌, ◌≢◌, ℕ, ◌+◌, ◌<◌, ◌≤◌, ◌⊎◌, Bool, List, [], ◌∷◌, ◌++◌, length, take, drop}
 use Rattle.mqtt_frames.specs.declared.limits.TheConstants.{MAX_PACKET}
 use Rattle.mqtt_frames.specs.declared.packet.Packet.{Packet}
 use Rattle.mqtt_frames.specs.Packets.{flag, protocol, first_byte}
 use Rattle.mqtt_frames.specs.Grammar.{SpellsLength}
 
--- the bytes begin with a whole fixed header of so many bytes: a first byte, and a Remaining Length of that value (2.2)
+-- the bytes begin with a whole fixed header of so many bytes: a first byte, and a Remaining Length of that
+-- value (2.2)
 pub record BeginsWith (first start value : ℕ) (b : List ℕ) : Type 0 where
   pub remaining : List ℕ
   pub behind : List ℕ
@@ -18,7 +20,8 @@ abbrev pub AreMarked : List ℕ → Type 0
 AreMarked [] = Unit {0}
 AreMarked (b ∷ bytes) = (128 ≤ b) × AreMarked bytes
 
--- the fixed header is not whole: fewer than four bytes of a Remaining Length, and another one follows the last
+-- the fixed header is not whole: fewer than four bytes of a Remaining Length, and another one follows the
+-- last
 abbrev pub IsHeaderCut : List ℕ → Type 0
 IsHeaderCut [] = Unit {0}
 IsHeaderCut (first ∷ rest) = AreMarked rest × (length rest < 4)

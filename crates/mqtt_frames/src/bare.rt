@@ -1,4 +1,5 @@
-//! The packets that have neither a variable header nor a payload (MQTT 3.1.1, 3.12 to 3.14): reading and writing.
+//! The packets that have neither a variable header nor a payload (MQTT 3.1.1, 3.12 to 3.14): reading and
+//! writing.
 ghost use Rattle.std.specs.Prelude.{◌≡◌, IfOk};
 ghost use Rattle.mqtt_frames.specs.Packets.{written};
 ghost use Rattle.mqtt_frames.specs.Reading.{Gives, at_end};

@@ -16,7 +16,8 @@ pub enum Length {
     Known(usize, usize),
 }
 
-/// The Remaining Length at the front of the bytes (2.2.3): one to four bytes, the shortest spelling or a longer
+/// The Remaining Length at the front of the bytes (2.2.3): one to four bytes, the shortest spelling or a
+/// longer
 /// one.
 pub fn length_at(bytes: &[u8]) -> Length
     ensures value { result ≡ length_at 4 bytes.now }
@@ -55,7 +56,8 @@ pub enum Header {
     Known(Kind, usize, usize),
 }
 
-/// The fixed header at the front of the bytes. A fault of the first byte is reported once the Remaining Length
+/// The fixed header at the front of the bytes. A fault of the first byte is reported once the Remaining
+/// Length
 /// is whole.
 pub fn header_at(bytes: &[u8]) -> Header
     ensures value { result ≡ header_at bytes.now }

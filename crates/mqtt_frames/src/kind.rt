@@ -44,7 +44,8 @@ pub struct PublishFlags {
 
 /// The kind of packet that begins with the byte.
 ///
-/// `NotSupported`: a PUBLISH of QoS 2, or one of the three packets that only go with it. `Malformed`: no packet begins so.
+/// `NotSupported`: a PUBLISH of QoS 2, or one of the three packets that only go with it. `Malformed`: no
+/// packet begins so.
 pub fn kind_of(first: u8) -> Result<Kind, PacketFault>
     ensures { result ≡ kind_of first }
 {

@@ -27,7 +27,8 @@ pub struct Taken {
     pub fault: Option<PacketFault>,
 }
 
-/// Takes the next piece. Where no fault comes of it, the bytes of the packet that is unfinished then are held; where an
+/// Takes the next piece. Where no fault comes of it, the bytes of the packet that is unfinished then are
+/// held; where an
 /// allocation failed, those of before.
 pub fn take(alloc: Global, held: &mut Vec<u8>, piece: &[u8]) -> Result<Taken, AllocError>
     requires { decode held.old.items ≡ fronts.Waiting }
@@ -81,7 +82,8 @@ fn first_bytes(piece: &[u8]) -> &[u8]
     piece.split_at(LONGEST_HEADER).0
 }
 
-/// Takes a piece behind bytes that begin a packet of that kind, whose header has `start` bytes, and `rest` stand behind
+/// Takes a piece behind bytes that begin a packet of that kind, whose header has `start` bytes, and `rest`
+/// stand behind
 /// the header.
 fn complete(
     alloc: Global,
@@ -225,7 +227,8 @@ fn read_all(
     }
 }
 
-/// How many packets are whole at the front of the bytes by their fixed headers alone: as many answers need room at most.
+/// How many packets are whole at the front of the bytes by their fixed headers alone: as many answers need
+/// room at most.
 fn whole_packets(bytes: &[u8]) -> usize
     ensures { 2 * result ≤ length bytes.now }
 {

@@ -1,6 +1,7 @@
 //! PUBLISH at QoS 0 and 1 (MQTT 3.1.1, 3.3): reading, size and writing.
 ghost use Rattle.std.specs.Prelude.{◌≡◌, ◌≤◌, ◌<◌, ◌+◌, ◌^◌, ◌++◌, true, length, IfOk, OnOk, SomeIff};
-ghost use Rattle.mqtt_frames.specs.Packets.{flag, qos_bits, publish_byte, body, text_bytes, id_bytes, written};
+ghost use Rattle.mqtt_frames.specs.Packets.{flag, qos_bits, publish_byte, body, text_bytes, id_bytes};
+ghost use Rattle.mqtt_frames.specs.Packets.{written};
 ghost use Rattle.mqtt_frames.specs.Spellable.{is_optional_id};
 ghost use Rattle.mqtt_frames.specs.Parts.{publish_of_parts};
 ghost use Rattle.mqtt_frames.specs.Reading.{Gives, publish_of};
@@ -47,7 +48,8 @@ fn flags_byte(dup: bool, packet_id: Option<u16>, retain: bool) -> u8
 
 /// How many bytes `push` puts; none where they are more than `MAX_PACKET`.
 pub fn size(publish: &Publish) -> Option<usize>
-    ensures { SomeIff result (length (body (Packet.Publish publish.now)) ≤ MAX_PACKET) (length (body (Packet.Publish publish.now))) }
+    ensures { SomeIff result (length (body (Packet.Publish publish.now)) ≤ MAX_PACKET)
+        (length (body (Packet.Publish publish.now))) }
 {
     let payload = publish.payload.as_slice().len();
     if payload > MAX_PACKET {
@@ -93,7 +95,8 @@ fn push_parts(
     bytes.extend_from_slice(payload)
 }
 
-/// The PUBLISH of a message: at QoS 1 with a packet identifier, which is not 0, and else at QoS 0. Allocates once, and
+/// The PUBLISH of a message: at QoS 1 with a packet identifier, which is not 0, and else at QoS 0. Allocates
+/// once, and
 /// copies the name and the payload once.
 pub fn encode_publish(
     alloc: Global,

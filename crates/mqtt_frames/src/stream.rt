@@ -19,7 +19,8 @@ pub enum Status {
     Failed,
 }
 
-/// A stream of packets, cut into pieces anyhow. It holds the bytes of an unfinished packet, and no others. Contracts see
+/// A stream of packets, cut into pieces anyhow. It holds the bytes of an unfinished packet, and no others.
+/// Contracts see
 /// those bytes, or that a fault is kept, or that one was reported.
 #[derive(Debug, Drop)]
 pub struct Stream {
@@ -49,19 +50,25 @@ impl Stream {
         }
     }
 
-    /// Takes the next piece, and answers the packets that are whole now, in order: at most one, and one more for every
+    /// Takes the next piece, and answers the packets that are whole now, in order: at most one, and one more
+    /// for every
     /// two bytes of the piece.
     ///
-    /// A fault behind packets is kept and reported by the next call; where no packet stands before it, this call reports
-    /// it. `Malformed`: the bytes spell no packet. `NotSupported`: a packet of a kind that is not read. `TooLong`: a
-    /// packet of more than `MAX_PACKET` bytes. `Failed`: one of the three was reported before. After these every call
-    /// answers `Failed`. `Memory`: an allocation failed, and the stream is as it was; the same piece may come again.
+    /// A fault behind packets is kept and reported by the next call; where no packet stands before it, this
+    /// call reports
+    /// it. `Malformed`: the bytes spell no packet. `NotSupported`: a packet of a kind that is not read.
+    /// `TooLong`: a
+    /// packet of more than `MAX_PACKET` bytes. `Failed`: one of the three was reported before. After these
+    /// every call
+    /// answers `Failed`. `Memory`: an allocation failed, and the stream is as it was; the same piece may come
+    /// again.
     pub fn feed(&mut self, alloc: Global, piece: &[u8]) -> Result<Vec<Packet>, StreamFault>
         ensures ok { IfOk result (λ packets. fed self.old piece.now ≡ (Ok packets.items, self.new)) }
         ensures most { IfOk result (λ packets. 2 * length packets.items ≤ 2 + length piece.now) }
         ensures err { IfErr result (λ fault.
             fault ≢ StreamFault.Memory → fed self.old piece.now ≡ (Err fault, self.new)) }
-        ensures memory { result ≡ Err StreamFault.Memory → (self.new ≡ self.old) × TakesMemory self.old piece.now }
+        ensures memory { result ≡ Err StreamFault.Memory
+            → (self.new ≡ self.old) × TakesMemory self.old piece.now }
         ensures kept { (fault : PacketFault) → self.old ≡ Kept fault
             → (result ≡ Err (stream_fault fault)) × (self.new ≡ Failed) }
         ensures failed { self.old ≡ Failed → (result ≡ Err StreamFault.Failed) × (self.new ≡ Failed) }

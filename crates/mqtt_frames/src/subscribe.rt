@@ -85,7 +85,8 @@ fn qos_byte(qos: RequestedQos) -> u8
 
 /// How many bytes a packet identifier takes with these requests; none where they are more than `MAX_PACKET`.
 pub fn size(requests: &[Request]) -> Option<usize>
-    ensures { SomeIff result (2 + length (requests_bytes requests.now) ≤ MAX_PACKET) (2 + length (requests_bytes requests.now)) }
+    ensures { SomeIff result (2 + length (requests_bytes requests.now) ≤ MAX_PACKET)
+        (2 + length (requests_bytes requests.now)) }
 {
     let mut size = 2;
     for request in requests {
@@ -189,7 +190,8 @@ fn code_byte(code: SubscribeCode) -> u8
 
 /// How many bytes a packet identifier takes with these answers; none where they are more than `MAX_PACKET`.
 pub fn ack_size(codes: &[SubscribeCode]) -> Option<usize>
-    ensures { SomeIff result (2 + length (codes_bytes codes.now) ≤ MAX_PACKET) (2 + length (codes_bytes codes.now)) }
+    ensures { SomeIff result (2 + length (codes_bytes codes.now) ≤ MAX_PACKET)
+        (2 + length (codes_bytes codes.now)) }
 {
     fields::within(2 + codes.len())
 }

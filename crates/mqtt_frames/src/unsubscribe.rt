@@ -51,7 +51,8 @@ fn filter_at(alloc: Global, bytes: &[u8]) -> Result<(Octets, &[u8]), ReadFault>
 
 /// How many bytes a packet identifier takes with these filters; none where they are more than `MAX_PACKET`.
 pub fn size(filters: &[Octets]) -> Option<usize>
-    ensures { SomeIff result (2 + length (filters_bytes filters.now) ≤ MAX_PACKET) (2 + length (filters_bytes filters.now)) }
+    ensures { SomeIff result (2 + length (filters_bytes filters.now) ≤ MAX_PACKET)
+        (2 + length (filters_bytes filters.now)) }
 {
     let mut size = 2;
     for filter in filters {

@@ -1,8 +1,9 @@
 //! Writing packets (MQTT 3.1.1, sections 2 and 3).
-ghost use Rattle.std.specs.Prelude.{◌≡◌, ◌≢◌, ◌≤◌, ◌<◌, ◌↔◌, length, Err, IfOk, OnOk, SomeIff, ◌++◌, false, None};
+ghost use Rattle.std.specs.Prelude.{◌≡◌, ◌≢◌, ◌≤◌, ◌<◌, ◌↔◌, length, Err, IfOk, OnOk, SomeIff, ◌++◌, false};
+ghost use Rattle.std.specs.Prelude.{None};
 ghost use Rattle.mqtt_frames.specs.Packets.{first_byte, body, written};
-ghost use Rattle.mqtt_frames.specs.Grammar.{HasNoSpelling};
-ghost use Rattle.mqtt_frames.specs.declared.packet.Packet.TheVariants as packets;
+ghost use Rattle.mqtt_frames.specs.Grammar.{Spells, HasNoSpelling};
+ghost use Rattle.mqtt_frames.specs.Parts.{publish_of_parts};
 
 use crate::limits::MAX_PACKET;
 use crate::{
@@ -14,9 +15,11 @@ use std::alloc::{AllocError, Global};
 
 /// The bytes that a packet is sent as, with the shortest Remaining Length. Allocates once.
 ///
-/// `TooLong`: it has more than `MAX_PACKET` bytes. `Malformed`: no bytes spell the packet. `Memory`: the allocation failed.
+/// `TooLong`: it has more than `MAX_PACKET` bytes. `Malformed`: no bytes spell the packet. `Memory`: the
+/// allocation failed.
 pub fn encode(alloc: Global, packet: &Packet) -> Result<Vec<u8>, StreamFault>
     ensures written { IfOk result (λ v. v.items ≡ written packet.now) }
+    ensures spelled { IfOk result (λ v. Spells packet.now v.items) }
     ensures fits { IfOk result (λ v. length v.items ≤ MAX_PACKET) }
     ensures too_long { (result ≡ Err StreamFault.TooLong) ↔ (MAX_PACKET < length (written packet.now)) }
     ensures malformed { (result ≡ Err StreamFault.Malformed) ↔ HasNoSpelling packet.now }
@@ -83,7 +86,8 @@ fn body_size(packet: &Packet) -> Option<usize>
     }
 }
 
-/// Puts the variable header and the payload behind the other bytes. After an `Err` a part of them may be there.
+/// Puts the variable header and the payload behind the other bytes. After an `Err` a part of them may be
+/// there.
 fn push_body(bytes: &mut Vec<u8>, packet: &Packet) -> Result<(), AllocError>
     ensures { OnOk result (bytes.new.items ≡ bytes.old.items ++ body packet.now) }
 {
@@ -108,8 +112,7 @@ pub fn write_publish(
     payload: &[u8],
     retain: bool,
 ) -> Result<Octets, AllocError>
-    ensures { IfOk result (λ o. o ≡ written (packets.Publish
-        (record { dup = false; retain = retain; packet_id = None; name = name.now; payload = payload.now }))) }
+    ensures { IfOk result (λ o. o ≡ written (publish_of_parts name.now payload.now retain None false)) }
 {
     let name = name.text();
     let rest = 2 + name.len() + payload.len();

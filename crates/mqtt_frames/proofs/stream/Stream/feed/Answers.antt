@@ -6,7 +6,7 @@ pub invariant_of-self-in-None : goal.invariant_of-self-in-None
 invariant_of-self-in-None c =
     let held = c.self.inside.held.items in
     let taken = c.in_ok-packets-in-Reading in
-    let none : taken.field-0.fault ≡ None = cc (taken.fault-is, c.in-None.is) in
+    let none : taken.field-0.fault ≡ None = cc c.in-None.is in
     ready_from c.self.inside.status c.take.new.held.items c.in-Reading.is
     (waits_then (held ++ c.args.piece.now) taken.field-0.packets.items taken.field-0.fault c.take.new.held.items taken.ensures.ok none)
 
