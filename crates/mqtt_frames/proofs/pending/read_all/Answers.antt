@@ -1,7 +1,7 @@
 use Rattle.std.proofs.Common.{◌∷◌, [], drop, sym, ap, ◌∙◌}
 use Rattle.mqtt_frames.specs.Streams.{read_all, with_packets}
 use Rattle.mqtt_frames.proofs.StreamLemmas.{read_all-whole, with_packets-both}
-use Rattle.mqtt_frames.proofs.stream.read_all.Goals as goal
+use Rattle.mqtt_frames.proofs.pending.read_all.Goals as goal
 
 pub loop-packets-preserved : goal.loop-packets-preserved
 loop-packets-preserved c =
