@@ -1,23 +1,23 @@
 //! The queue of one client on its happy path and at its limits.
-use sng_queue::{MAX_QUEUED, MAX_TRIES, Queue, TopicIdKind, Waiting};
+use sng_queue::{
+    Exchange, MAX_QUEUED, MAX_TRIES, MAX_WAITING_NAME, MAX_WAITING_PAYLOAD, Queue, TopicIdKind,
+    Waiting,
+};
 use sng_text::{Octets, Qos, TopicName};
 use std::alloc::Global;
 use std::test::Fail;
 
 fn message(alloc: Global, name: &[u8], payload: &[u8]) -> Result<Waiting, Fail> {
-    Ok(Waiting {
-        name: TopicName::read(alloc, name)?,
-        payload: Octets::from(Vec::from_slice(alloc, payload)?),
-        qos: Qos::AtLeastOnce,
-        retain: false,
-    })
+    let name = TopicName::read(alloc, name)?;
+    let payload = Octets::from(Vec::from_slice(alloc, payload)?);
+    Ok(Waiting::new(name, payload, Qos::AtLeastOnce, false))
 }
 
 /// Whether the message is there, with this payload.
 fn has_payload(found: Option<&Waiting>, payload: &[u8]) -> bool {
     match found {
         None => false,
-        Some(waiting) => waiting.payload.as_slice() == payload,
+        Some(waiting) => waiting.payload().as_slice() == payload,
     }
 }
 
@@ -26,7 +26,7 @@ fn has_payload(found: Option<&Waiting>, payload: &[u8]) -> bool {
 fn is_repeated(queue: &mut Queue, clock: u64) -> bool {
     let may_repeat = match queue.exchange() {
         None => false,
-        Some(exchange) => exchange.tries < MAX_TRIES,
+        Some(exchange) => exchange.sending().tries < MAX_TRIES,
     };
     if may_repeat {
         queue.repeat(clock);
@@ -49,6 +49,12 @@ fn messages_leave_in_order(rt: HostRuntime) -> Result<(), Fail> {
     assert_eq!(rt; queue.len(), 2);
     assert!(rt; has_payload(queue.at(1), b"y"));
     assert!(rt; queue.at(2).is_none());
+    for (waiting, payload) in queue.iter().zip([b"x", b"y"]) {
+        assert_eq!(rt; waiting.name().text(), b"a/b".as_slice());
+        assert_eq!(rt; waiting.payload().as_slice(), payload.as_slice());
+        assert_eq!(rt; (waiting.qos(), waiting.retain()), (Qos::AtLeastOnce, false));
+    }
+    assert_eq!(rt; queue.iter().count(), 2);
     assert!(rt; has_payload(queue.settle().as_ref(), b"x"));
     assert!(rt; has_payload(queue.settle().as_ref(), b"y"));
     assert!(rt; queue.settle().is_none());
@@ -62,13 +68,11 @@ fn the_front_is_announced(rt: HostRuntime) -> Result<(), Fail> {
     queue.announce(2, 8, 110);
     assert_eq!(rt; queue.len(), 2);
     match queue.exchange() {
-        None => assert!(rt; false),
-        Some(exchange) => {
-            assert!(rt; exchange.announcing && exchange.message.is_none());
-            assert_eq!(rt; exchange.id_type, TopicIdKind::Normal);
-            assert_eq!(rt; (exchange.topic_id, exchange.msg_id), (1, 7));
-            assert_eq!(rt; (exchange.sent, exchange.tries), (100, 0));
+        Some(Exchange::Announcing(sending)) => {
+            assert_eq!(rt; (sending.topic_id, sending.msg_id), (1, 7));
+            assert_eq!(rt; (sending.sent, sending.tries), (100, 0));
         }
+        Some(Exchange::Acknowledging(_, _, _)) | None => assert!(rt; false, "the front is announced"),
     }
     queue.close();
     assert!(rt; queue.exchange().is_none());
@@ -77,20 +81,16 @@ fn the_front_is_announced(rt: HostRuntime) -> Result<(), Fail> {
 }
 
 #[test]
-fn the_front_is_under_way(rt: HostRuntime) -> Result<(), Fail> {
+fn the_front_is_handed_over(rt: HostRuntime) -> Result<(), Fail> {
     let mut queue = two_waiting(rt.alloc())?;
     queue.await_ack(TopicIdKind::Predefined, 1, 8, 150);
     assert!(rt; has_payload(queue.at(0), b"y"));
     match queue.exchange() {
-        None => assert!(rt; false),
-        Some(exchange) => {
-            assert!(rt; !exchange.announcing);
-            assert_eq!(rt;
-                (exchange.id_type, exchange.msg_id),
-                (TopicIdKind::Predefined, 8)
-            );
-            assert!(rt; has_payload(exchange.message.as_ref(), b"x"));
+        Some(Exchange::Acknowledging(sending, kind, message)) => {
+            assert_eq!(rt; (*kind, sending.topic_id, sending.msg_id), (TopicIdKind::Predefined, 1, 8));
+            assert!(rt; has_payload(Some(message), b"x"));
         }
+        Some(Exchange::Announcing(_)) | None => assert!(rt; false, "a PUBACK is awaited"),
     }
     // Nothing else is settled meanwhile.
     assert!(rt; queue.settle().is_none());
@@ -102,6 +102,7 @@ fn the_front_is_under_way(rt: HostRuntime) -> Result<(), Fail> {
 #[test]
 fn with_nothing_waiting_nothing_begins(rt: HostRuntime) -> Result<(), Fail> {
     let mut queue = Queue::new(rt.alloc())?;
+    assert!(rt; queue.is_empty());
     queue.announce(2, 10, 170);
     assert!(rt; queue.exchange().is_none());
     queue.await_ack(TopicIdKind::Normal, 2, 10, 170);
@@ -121,10 +122,11 @@ fn a_settled_front_ends_its_announcement(rt: HostRuntime) -> Result<(), Fail> {
     }
     match queue.exchange() {
         None => assert!(rt; false),
-        Some(exchange) => assert_eq!(rt;
-            (exchange.sent, exchange.tries, exchange.msg_id),
-            (u64::from(MAX_TRIES), MAX_TRIES, 1)
-        ),
+        Some(exchange) => {
+            let sending = exchange.sending();
+            assert_eq!(rt; (sending.sent, sending.tries), (u64::from(MAX_TRIES), MAX_TRIES));
+            assert_eq!(rt; sending.msg_id, 1);
+        }
     }
     assert!(rt; !is_repeated(&mut queue, 40_000));
     assert!(rt; has_payload(queue.settle().as_ref(), b"x"));
@@ -133,12 +135,14 @@ fn a_settled_front_ends_its_announcement(rt: HostRuntime) -> Result<(), Fail> {
 }
 
 #[test]
-fn as_many_wait_as_may_besides_the_one_under_way(rt: HostRuntime) -> Result<(), Fail> {
+fn as_many_wait_as_may_besides_the_one_that_left(rt: HostRuntime) -> Result<(), Fail> {
     let alloc = rt.alloc();
     let mut queue = Queue::new(alloc)?;
     for _ in 0..MAX_QUEUED {
+        assert!(rt; !queue.is_full());
         assert!(rt; queue.push(message(alloc, b"a/b", b"x")?).is_ok());
     }
+    assert!(rt; queue.is_full());
     assert_eq!(rt; queue.len(), MAX_QUEUED);
     match queue.push(message(alloc, b"a/b", b"late")?) {
         Ok(()) => assert!(rt; false),
@@ -151,5 +155,20 @@ fn as_many_wait_as_may_besides_the_one_under_way(rt: HostRuntime) -> Result<(), 
     queue.empty();
     assert_eq!(rt; queue.len(), 0);
     assert!(rt; queue.exchange().is_none());
+    Ok(())
+}
+
+#[test]
+fn a_datagram_bounds_what_may_wait(rt: HostRuntime) -> Result<(), Fail> {
+    let alloc = rt.alloc();
+    for (name_len, payload_len, want) in [
+        (MAX_WAITING_NAME, MAX_WAITING_PAYLOAD, true),
+        (MAX_WAITING_NAME + 1, 0, false),
+        (1, MAX_WAITING_PAYLOAD + 1, false),
+    ] {
+        let name = TopicName::read(alloc, vec![in alloc; b'a'; name_len]?.as_slice())?;
+        let payload = Octets::from(vec![in alloc; 0; payload_len]?);
+        assert_eq!(rt; Waiting::is_sendable(&name, &payload), want, "{name_len} and {payload_len}");
+    }
     Ok(())
 }
