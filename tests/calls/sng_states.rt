@@ -58,3 +58,15 @@ fn silence_at_its_limits(rt: HostRuntime) {
         );
     }
 }
+
+#[test]
+fn who_gets_messages(rt: HostRuntime) {
+    let has_session = [true, true, true, true, false, false];
+    let is_due = [false, true, true, true, false, false];
+    let takes = [false, true, false, true, false, false];
+    for (place, state) in STATES.iter().enumerate() {
+        assert_eq!(rt; state.has_session(), has_session[place], "{state:?}");
+        assert_eq!(rt; state.is_due_messages(), is_due[place], "{state:?}");
+        assert_eq!(rt; state.takes_messages(), takes[place], "{state:?}");
+    }
+}

@@ -15,7 +15,8 @@ front_and_rest (front ∷ rest) = refl
 
 -- what is settled and what is left, where a message waits for its PUBACK and where none does
 settled_by : (b : Buffer) (acknowledging : Bool)
-    → let left : Buffer = if acknowledging then b else record { waiting = drop 1 b.waiting; exchange = None } in
+    → let left : Buffer =
+    if acknowledging then b else record { waiting = drop 1 b.waiting; exchange = None } in
     option_to_list (if acknowledging then None else slice_get b.waiting 0) ++ left.waiting ≡ b.waiting
 settled_by b true = refl
 settled_by b false = front_and_rest b.waiting

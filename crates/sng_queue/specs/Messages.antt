@@ -14,4 +14,5 @@ message name payload qos retain = record { name = name; payload = payload; qos =
 
 -- a PUBLISH with the payload is no longer than a datagram, and neither is a REGISTER with the name
 abbrev pub is_sendable : List ℕ → List ℕ → Bool
-is_sendable name payload = nat_le (length name) MAX_WAITING_NAME && nat_le (length payload) MAX_WAITING_PAYLOAD
+is_sendable name payload =
+    nat_le (length name) MAX_WAITING_NAME && nat_le (length payload) MAX_WAITING_PAYLOAD

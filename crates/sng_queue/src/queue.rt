@@ -50,7 +50,9 @@ impl Queue {
         ensures { MatchResult result
             (λ _. (length self.old.waiting < MAX_QUEUED)
             × (self.new ≡ record self.old { waiting = self.old.waiting ++ message ∷ [] }))
-            (λ refused. (MAX_QUEUED ≤ length self.old.waiting) × (refused ≡ message) × (self.new ≡ self.old)) }
+            (λ refused. (MAX_QUEUED ≤ length self.old.waiting)
+            × (refused ≡ message)
+            × (self.new ≡ self.old)) }
     {
         self.waiting.try_push_back(message)
     }
