@@ -18,10 +18,12 @@ fn numbered(alloc: Global, number: usize) -> Result<TopicName, Fail> {
 fn ids_in_order(rt: HostRuntime) -> Result<(), Fail> {
     let alloc = rt.alloc();
     let mut ids = IdTable::new(alloc);
-    assert_eq!(rt; ids.len(), 0);
-    assert_eq!(rt; ids.give(name(alloc, b"t/1")?), Ok(1));
-    assert_eq!(rt; ids.give(name(alloc, b"t/2")?), Ok(2));
-    assert_eq!(rt; ids.give(name(alloc, b"t/1")?), Ok(1));
+    assert!(rt; ids.is_empty());
+    assert_eq!(rt; ids.give(name(alloc, b"t/1")?)?, 1);
+    assert_eq!(rt; ids.id_for(&name(alloc, b"t/1")?), 1);
+    assert_eq!(rt; ids.id_for(&name(alloc, b"t/2")?), 2);
+    assert_eq!(rt; ids.give(name(alloc, b"t/2")?)?, 2);
+    assert_eq!(rt; ids.give(name(alloc, b"t/1")?)?, 1);
     assert_eq!(rt; ids.len(), 2);
     assert_eq!(rt; ids.id_of(&name(alloc, b"t/1")?), None);
     ids.confirm(1);
@@ -42,7 +44,7 @@ fn ids_in_order(rt: HostRuntime) -> Result<(), Fail> {
     ids.take_back();
     assert_eq!(rt; ids.len(), 1);
     assert_eq!(rt; ids.id_of(&name(alloc, b"t/1")?), Some(1));
-    assert_eq!(rt; ids.give(name(alloc, b"t/3")?), Ok(2));
+    assert_eq!(rt; ids.give(name(alloc, b"t/3")?)?, 2);
     ids.clear();
     ids.take_back();
     assert_eq!(rt; ids.len(), 0);
@@ -55,23 +57,25 @@ fn full_at_the_limit(rt: HostRuntime) -> Result<(), Fail> {
     let alloc = rt.alloc();
     let mut ids = IdTable::new(alloc);
     for number in 1..=MAX_TOPIC_IDS {
-        assert_eq!(rt; ids.give(numbered(alloc, number)?), Ok(number as u16));
+        assert_eq!(rt; ids.give(numbered(alloc, number)?)?, number as u16);
     }
     let last = MAX_TOPIC_IDS as u16;
+    assert!(rt; ids.is_full_for(&name(alloc, b"one/more")?));
+    assert!(rt; !ids.is_full_for(&numbered(alloc, MAX_TOPIC_IDS)?));
     assert_eq!(rt; ids.give(name(alloc, b"one/more")?), Err(IdFault::Full));
     assert_eq!(rt; ids.len(), MAX_TOPIC_IDS);
-    assert_eq!(rt; ids.give(numbered(alloc, MAX_TOPIC_IDS - 1)?), Ok(last - 1));
+    assert_eq!(rt; ids.give(numbered(alloc, MAX_TOPIC_IDS - 1)?)?, last - 1);
     ids.confirm(last - 1);
     assert_eq!(rt; ids.id_of(&numbered(alloc, MAX_TOPIC_IDS - 1)?), Some(last - 1));
     ids.take_back();
     assert_eq!(rt; ids.len(), MAX_TOPIC_IDS - 1);
-    assert_eq!(rt; ids.give(name(alloc, b"one/more")?), Ok(last));
+    assert_eq!(rt; ids.give(name(alloc, b"one/more")?)?, last);
     assert_eq!(rt; ids.give(name(alloc, b"and/another")?), Err(IdFault::Full));
     Ok(())
 }
 
 #[test]
-fn a_refused_growth_changes_nothing(rt: HostRuntime) -> Result<(), Fail> {
+fn a_failed_allocation_changes_nothing(rt: HostRuntime) -> Result<(), Fail> {
     let alloc = rt.alloc();
     let mut ids = IdTable::new(alloc);
     for text in [b"t/1".as_slice(), b"t/2", b"t/3", b"t/4", b"t/5"] {
@@ -84,6 +88,19 @@ fn a_refused_growth_changes_nothing(rt: HostRuntime) -> Result<(), Fail> {
                 assert_eq!(rt; ids.give(name(alloc, text)?), Ok(before as u16 + 1));
             }
         }
+    }
+    Ok(())
+}
+
+#[test]
+fn in_room_ids_are_given(rt: HostRuntime) -> Result<(), Fail> {
+    let alloc = rt.alloc();
+    let mut ids = IdTable::new(alloc);
+    for text in [b"t/1".as_slice(), b"t/2", b"t/3", b"t/4", b"t/5"] {
+        let name = name(alloc, text)?;
+        let wanted = ids.id_for(&name);
+        ids.room(1)?;
+        assert_eq!(rt; ids.give(name)?, wanted);
     }
     Ok(())
 }
