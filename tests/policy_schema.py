@@ -1,11 +1,11 @@
 #!/usr/bin/env python3
 """policy_schema.py
 
-Checks docs/policy.schema.json, which editors can use, against the policy texts of tests/policy_texts.py: it accepts
-each text that the program accepts, and refuses each that the program refuses, but for what no schema sees: what is
-not JSON, what a scope given as a text stands for, a version written as 1.0, and half of a surrogate pair. It needs a
-validator, the Python package jsonschema (Debian: python3-jsonschema), version 4 or later; where that is missing it
-says so, checks nothing, and ends with status 0."""
+Checks docs/policy.schema.json, which editors can use, against the policy texts of tests/policy_texts.py:
+it accepts each text that the program accepts, and refuses each that the program refuses, but for what no
+schema sees: what is not JSON, what a scope given as a text stands for, a version written as 1.0, and half
+of a surrogate pair. It needs a validator, the Python package jsonschema (Debian: python3-jsonschema),
+version 4 or later; where that is missing it says so, checks nothing, and ends with status 0."""
 import json
 import os
 import sys
