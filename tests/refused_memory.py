@@ -3,7 +3,8 @@
 
 Refuses allocations of the tests of public calls, by tests/calls.py: of every test the N-th, for N from 1 on,
 until two turns in a row refuse none or TURNS are made. A test that meets the refusal has to end with an error
-of memory; where one ends otherwise, its name is printed with how it ended, and the exit status is 1.
+of memory, or at a comparison whose left side is one; where it ends otherwise, what is said of it is printed,
+and the exit status is 1.
 
 NAMEs are those of the files in tests/calls; without any it takes them all, in one build a turn. A turn
 takes half a minute for one file and some two minutes for all, so the gate leaves this out."""
@@ -14,11 +15,11 @@ sys.dont_write_bytecode = True
 import calls
 
 TURNS = 60
-OF_MEMORY = re.compile(r'error: (AllocError|AllocFailed \{.*\}|OutOfMemory|(\w+::)?Memory)$')
+OF_MEMORY = re.compile(r'(error: |left: Err\()(AllocError|AllocFailed \{.*\}|OutOfMemory|(\w+::)?Memory)\)?$')
 
 
 def turn(names, number):
-    """The tests that failed where their allocation of this number was refused, each with its error."""
+    """The tests that failed where their allocation of this number was refused, with what is said of each."""
     _, printed = calls.run(names, ['--fail-alloc', str(number)])
     if 'test result:' not in printed:
         raise SystemExit('the tests were not run\n' + printed[-2000:])
@@ -28,9 +29,9 @@ def turn(names, number):
         if found:
             name = found[1] if found[2] == 'FAILED' else None
             if name:
-                failed[name] = ''
-        elif name and not failed[name]:
-            failed[name] = line.strip()
+                failed[name] = []
+        elif name:
+            failed[name].append(line.strip())
     return failed
 
 
@@ -39,10 +40,10 @@ def refuse(names):
     is_right, quiet = True, 0
     for number in range(1, TURNS + 1):
         failed = turn(names, number)
-        wrong = {name: how for name, how in failed.items() if not OF_MEMORY.match(how)}
+        wrong = {name: said for name, said in failed.items() if not any(map(OF_MEMORY.match, said))}
         print('allocation %d: %d tests met the refusal' % (number, len(failed)), flush=True)
-        for name, how in wrong.items():
-            print('  %s ends with: %s' % (name, how), flush=True)
+        for name, said in wrong.items():
+            print('  %s: %s' % (name, ' '.join(said)), flush=True)
         is_right = is_right and not wrong
         quiet = 0 if failed else quiet + 1
         if quiet == 2:
