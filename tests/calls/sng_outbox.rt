@@ -1,5 +1,5 @@
 //! The outbox on its happy path and at its limits.
-use sng_outbox::{Item, MAX_IN_FLIGHT, MAX_OUTBOX_ITEMS, Origin, Outbox, Publication};
+use sng_outbox::{Item, MAX_IN_FLIGHT, MAX_OUTBOX_ITEMS, Origin, Outbox, PacketIds, Publication};
 use sng_text::{ClientId, Octets, Qos, TopicFilter, TopicName};
 use std::alloc::Global;
 use std::test::Fail;
@@ -42,7 +42,7 @@ fn in_flight(alloc: Global, packet_ids: &[u16]) -> Result<Outbox, Fail> {
 /// Whether there was room for one more in flight, which is added then.
 fn is_tracked(alloc: Global, outbox: &mut Outbox, packet_id: u16) -> Result<bool, Fail> {
     let sent = publication(alloc, b"x", Qos::AtLeastOnce)?;
-    if outbox.in_flight() >= MAX_IN_FLIGHT {
+    if outbox.load() >= MAX_IN_FLIGHT {
         return Ok(false);
     }
     outbox.track(packet_id, sent);
@@ -161,9 +161,15 @@ fn as_many_are_in_flight_as_may(rt: HostRuntime) -> Result<(), Fail> {
     }
     assert!(rt; !is_tracked(alloc, &mut outbox, most + 1)?);
     assert_eq!(rt; (outbox.in_flight(), outbox.load()), (MAX_IN_FLIGHT, MAX_IN_FLIGHT));
-    assert_eq!(rt; (outbox.next_id(65_535), outbox.next_id(0)), (most + 1, most + 1));
+    // A publish of QoS 1 finds no room then, and any other item does.
+    let more = publish(alloc, b"x", Qos::AtLeastOnce)?;
+    assert!(rt; !outbox.has_room(&more));
+    assert!(rt; outbox.push(more).is_err());
+    assert!(rt; outbox.push(publish(alloc, b"x", Qos::AtMostOnce)?).is_ok());
     assert!(rt; outbox.acked(100));
-    assert_eq!(rt; (outbox.next_id(65_535), outbox.in_flight()), (100, MAX_IN_FLIGHT - 1));
+    assert_eq!(rt; outbox.in_flight(), MAX_IN_FLIGHT - 1);
+    assert!(rt; outbox.push(publish(alloc, b"x", Qos::AtLeastOnce)?).is_ok());
+    assert_eq!(rt; outbox.load(), MAX_IN_FLIGHT);
     assert_eq!(rt;
         (packet_id_at(&outbox, 98), packet_id_at(&outbox, 99)),
         (99, 101)
@@ -172,15 +178,78 @@ fn as_many_are_in_flight_as_may(rt: HostRuntime) -> Result<(), Fail> {
 }
 
 #[test]
+fn a_publish_is_settled_and_tracked(rt: HostRuntime) -> Result<(), Fail> {
+    let alloc = rt.alloc();
+    let mut outbox = all_kinds(alloc)?;
+    let mut ids = PacketIds::new(alloc)?;
+    let mut given = Vec::new(alloc);
+    while let Some(item) = outbox.settle() {
+        match item {
+            Item::Publish(sent) => {
+                if sent.qos == Qos::AtLeastOnce {
+                    let packet_id = ids.give();
+                    given.push(packet_id)?;
+                    outbox.track(packet_id, sent);
+                }
+            }
+            Item::Subscribe(_) => given.push(ids.give())?,
+            Item::Unsubscribe(_) => given.push(ids.pass())?,
+            Item::Acknowledge(_) | Item::Ping => {}
+        }
+    }
+    assert_eq!(rt; given.as_slice(), [1, 2, 3].as_slice());
+    assert_eq!(rt; (outbox.len(), outbox.in_flight(), outbox.load()), (0, 1, 1));
+    assert!(rt; outbox.acked(1));
+    ids.free(1);
+    assert!(rt; !ids.is_used(1) && ids.is_used(2) && !ids.is_used(3));
+    Ok(())
+}
+
+/// Packet ids of which these are in use, counted on from this one.
+fn ids_in_use(alloc: Global, used: &[u16], last: u16) -> Result<PacketIds, Fail> {
+    let mut ids = PacketIds::new(alloc)?;
+    for packet_id in used {
+        ids.take(*packet_id);
+    }
+    ids.count_from(last);
+    Ok(ids)
+}
+
+#[test]
 fn ids_go_round(rt: HostRuntime) -> Result<(), Fail> {
     let alloc = rt.alloc();
-    let none = in_flight(alloc, &[])?;
-    assert_eq!(rt; (none.next_id(0), none.next_id(7)), (1, 8));
-    assert_eq!(rt; (none.next_id(65_534), none.next_id(65_535)), (65_535, 1));
-    let some = in_flight(alloc, &[1, 65_535, 2, 9])?;
-    assert_eq!(rt; (some.next_id(65_533), some.next_id(65_534)), (65_534, 3));
-    assert_eq!(rt; (some.next_id(65_535), some.next_id(0)), (3, 3));
-    assert_eq!(rt; (some.next_id(7), some.next_id(8)), (8, 10));
+    for (used, last, next) in [
+        ([].as_slice(), 0, 1),
+        (&[], 7, 8),
+        (&[], 65_534, 65_535),
+        (&[], 65_535, 1),
+        (&[1, 65_535, 2, 9], 65_533, 65_534),
+        (&[1, 65_535, 2, 9], 65_534, 3),
+        (&[1, 65_535, 2, 9], 65_535, 3),
+        (&[1, 65_535, 2, 9], 0, 3),
+        (&[1, 65_535, 2, 9], 7, 8),
+        (&[1, 65_535, 2, 9], 8, 10),
+    ] {
+        let mut ids = ids_in_use(alloc, used, last)?;
+        assert_eq!(rt; ids.next(), next, "after {last} past {used:?}");
+        assert_eq!(rt; ids.give(), next, "after {last} past {used:?}");
+        assert_eq!(rt; ids.last(), next);
+        assert!(rt; ids.is_used(next));
+    }
+    Ok(())
+}
+
+#[test]
+fn one_id_is_left(rt: HostRuntime) -> Result<(), Fail> {
+    let mut ids = PacketIds::new(rt.alloc())?;
+    for packet_id in 1..=u16::MAX {
+        ids.take(packet_id);
+    }
+    ids.free(300);
+    for last in [0, 299, 300, 301, 65_535] {
+        ids.count_from(last);
+        assert_eq!(rt; ids.next(), 300);
+    }
     Ok(())
 }
 
