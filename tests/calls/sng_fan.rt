@@ -1,11 +1,19 @@
-//! Who holds what, on small tables and at the limits.
+//! Which filter stands for whom, on small tables and at the limits.
 use sng_fan::{FanFault, Holder, MAX_SUBSCRIPTIONS, Standing};
 use sng_text::{Qos, TopicFilter, TopicName};
 use std::alloc::Global;
 use std::test::Fail;
 
-fn standing_of(alloc: Global, subscriptions: &[(u16, &[u8], Qos)]) -> Result<Standing, Fail> {
+/// As many clients as these, with these filters in this order.
+fn standing_of(
+    alloc: Global,
+    clients: u16,
+    subscriptions: &[(u16, &[u8], Qos)],
+) -> Result<Standing, Fail> {
     let mut standing = Standing::new(alloc);
+    for _ in 0..clients {
+        standing.join(alloc)?;
+    }
     for (client, filter, qos) in subscriptions {
         standing.add(*client, TopicFilter::read(alloc, *filter)?, *qos)?;
     }
@@ -37,10 +45,22 @@ fn are_holders(
 }
 
 #[test]
+fn clients_are_numbered(rt: HostRuntime) -> Result<(), Fail> {
+    let alloc = rt.alloc();
+    let mut standing = Standing::new(alloc);
+    assert_eq!(rt; (standing.join(alloc)?, standing.join(alloc)?), (0, 1));
+    assert_eq!(rt; standing.len(), 2);
+    assert_eq!(rt; standing.room(1), MAX_SUBSCRIPTIONS);
+    assert!(rt; standing.filters(1).is_empty());
+    Ok(())
+}
+
+#[test]
 fn each_client_holds_once_at_the_greatest(rt: HostRuntime) -> Result<(), Fail> {
     let alloc = rt.alloc();
     let standing = standing_of(
         alloc,
+        8,
         &[
             (7, b"a/#", Qos::AtMostOnce),
             (2, b"a/b", Qos::AtMostOnce),
@@ -64,6 +84,9 @@ fn each_client_holds_once_at_the_greatest(rt: HostRuntime) -> Result<(), Fail> {
         )?
     );
     assert!(rt; are_holders(alloc, &standing, b"$SYS/b", &[])?);
+    let filter = TopicFilter::read(alloc, b"a/b")?;
+    let holders = standing.filter_holders(alloc, &filter)?;
+    assert_eq!(rt; holders.as_slice(), [2, 7].as_slice());
     Ok(())
 }
 
@@ -73,6 +96,7 @@ fn a_filter_ends_for_its_client_alone(rt: HostRuntime) -> Result<(), Fail> {
     let filter = TopicFilter::read(alloc, b"a/b")?;
     let mut standing = standing_of(
         alloc,
+        4,
         &[
             (1, b"a/b", Qos::AtMostOnce),
             (2, b"a/b", Qos::AtLeastOnce),
@@ -81,13 +105,15 @@ fn a_filter_ends_for_its_client_alone(rt: HostRuntime) -> Result<(), Fail> {
     )?;
     assert!(rt; !standing.end(3, &filter));
     assert!(rt; standing.end_where(3, &filter).is_none());
+    assert!(rt; standing.others_hold(1, &filter) && standing.others_hold(3, &filter));
     assert_eq!(rt; standing.end_where(1, &filter), Some(true));
-    assert!(rt; standing.held(&filter));
+    assert!(rt; standing.held(&filter) && !standing.stands(1, &filter));
     assert!(rt; are_holders(alloc, &standing, b"a/b", &[(2, Qos::AtLeastOnce)])?);
+    assert!(rt; !standing.others_hold(2, &filter));
     assert_eq!(rt; standing.end_where(2, &filter), Some(false));
     assert!(rt; !standing.held(&filter));
     assert!(rt; standing.end(1, &TopicFilter::read(alloc, b"c")?));
-    assert!(rt; standing.subscriptions().is_empty());
+    assert!(rt; standing.filters(1).is_empty());
     Ok(())
 }
 
@@ -96,6 +122,7 @@ fn a_client_ends_with_all_its_filters(rt: HostRuntime) -> Result<(), Fail> {
     let alloc = rt.alloc();
     let mut standing = standing_of(
         alloc,
+        3,
         &[
             (1, b"a", Qos::AtMostOnce),
             (2, b"a", Qos::AtMostOnce),
@@ -103,7 +130,7 @@ fn a_client_ends_with_all_its_filters(rt: HostRuntime) -> Result<(), Fail> {
         ],
     )?;
     standing.end_client(1);
-    assert_eq!(rt; standing.subscriptions().len(), 1);
+    assert_eq!(rt; (standing.filters(1).len(), standing.filters(2).len()), (0, 1));
     assert!(rt; are_holders(alloc, &standing, b"a", &[(2, Qos::AtMostOnce)])?);
     assert!(rt; are_holders(alloc, &standing, b"b", &[])?);
     Ok(())
@@ -112,7 +139,7 @@ fn a_client_ends_with_all_its_filters(rt: HostRuntime) -> Result<(), Fail> {
 #[test]
 fn as_many_filters_stand_as_may(rt: HostRuntime) -> Result<(), Fail> {
     let alloc = rt.alloc();
-    let mut standing = Standing::new(alloc);
+    let mut standing = standing_of(alloc, 6, &[])?;
     for letter in 0..MAX_SUBSCRIPTIONS as u8 {
         standing.add(
             4,
@@ -125,15 +152,15 @@ fn as_many_filters_stand_as_may(rt: HostRuntime) -> Result<(), Fail> {
         standing.add(4, more.copy()?, Qos::AtMostOnce),
         Err(FanFault::Full)
     );
-    assert_eq!(rt; standing.subscriptions().len(), MAX_SUBSCRIPTIONS);
+    assert_eq!(rt; (standing.filters(4).len(), standing.room(4)), (MAX_SUBSCRIPTIONS, 0));
     // Another client, and a filter that stands, are not refused.
     assert_eq!(rt; standing.add(5, more, Qos::AtMostOnce), Ok(()));
     assert_eq!(rt;
         standing.add(4, TopicFilter::read(alloc, b"A")?, Qos::AtLeastOnce),
         Ok(())
     );
-    assert_eq!(rt; standing.subscriptions().len(), MAX_SUBSCRIPTIONS + 1);
+    assert_eq!(rt; (standing.filters(4).len(), standing.filters(5).len()), (MAX_SUBSCRIPTIONS, 1));
     // The filter keeps its place.
-    assert_eq!(rt; standing.subscriptions()[0].qos, Qos::AtLeastOnce);
+    assert_eq!(rt; standing.filters(4)[0].qos, Qos::AtLeastOnce);
     Ok(())
 }
