@@ -8,10 +8,10 @@ ghost use Rattle.sng_history.specs.Whole.{frame_outs, frame_denied, publish_outs
 use crate::Core;
 use crate::verdict::name_in;
 use sng_book::{Address, Decision, Denial, Out, Outcome, Outs, Who};
-use sng_frames::{FrameFault, Publish, Qos, SnFrame, decode, encode};
+use sng_frames::{FrameFault, FrameQos, Publish, SnFrame, decode, write_disconnect};
 use sng_outbox::{Item, Origin, Publication};
 use sng_policy::lists_source;
-use sng_text::{Octets, TopicName};
+use sng_text::{Octets, Qos, TopicName};
 use std::alloc::{AllocError, Global};
 
 impl Core {
@@ -90,9 +90,9 @@ impl Core {
         ensures err { OnErr result (self.new ≡ self.old) }
     {
         match publish.flags.qos {
-            Qos::WithoutSession => self.source_ask(alloc, from.ip, publish),
-            Qos::ExactlyOnce => publish_denied(alloc, Who::Address(from), Denial::NotSupported),
-            Qos::AtMostOnce | Qos::AtLeastOnce => no_session(alloc, from),
+            FrameQos::WithoutSession => self.source_ask(alloc, from.ip, publish),
+            FrameQos::ExactlyOnce => publish_denied(alloc, Who::Address(from), Denial::NotSupported),
+            FrameQos::AtMostOnce | FrameQos::AtLeastOnce => no_session(alloc, from),
         }
     }
 
@@ -142,7 +142,7 @@ impl Core {
                 origin,
                 name,
                 payload,
-                qos: sng_text::Qos::AtMostOnce,
+                qos: Qos::AtMostOnce,
                 retain,
             });
             if self.outbox.push(item).is_err() {
@@ -210,6 +210,6 @@ fn no_session(alloc: Global, from: Address) -> Result<Outs, AllocError>
 fn dismissed(alloc: Global, from: Address) -> Result<Out, AllocError>
     ensures { IfOk result (λ out. out ≡ dismissed from) }
 {
-    let disconnect = encode(alloc, &SnFrame::Disconnect(None)).map_err(|_| AllocError)?;
+    let disconnect = write_disconnect(alloc, None)?;
     Ok(Out::Send(from, Octets::from(disconnect)))
 }
