@@ -10,15 +10,20 @@ import sys
 import time
 
 HERE = os.path.dirname(os.path.abspath(__file__))
-STREAM_BYTES = 4096 * 32
 JOBS = [
     ('cover-deep', 20_000, 'a filter of 100 levels against 64 of 100 levels'),
     ('cover-all', 20_000, '`#` against 64 of 100 levels'),
     ('decode', 5_000_000, 'read a small PUBLISH'),
     ('encode', 5_000_000, 'write a small PUBLISH'),
-    ('feed-1', 100, 'a stream in pieces of 1 byte'),
-    ('feed-16', 400, 'a stream in pieces of 16 bytes'),
-    ('feed-4096', 1_000, 'a stream in pieces of 4,096 bytes'),
+]
+
+# a stream of so many bytes, taken so many times over
+STREAMS = [
+    ('feed-small-1', 100, 4096 * 33, 'packets of 33 bytes in pieces of 1 byte'),
+    ('feed-small', 1_000, 4096 * 33, 'packets of 33 bytes in pieces of 4,096'),
+    ('feed-medium', 5_000, 128 * 1027, 'packets of 1,027 bytes in pieces of 4,096'),
+    ('feed-large', 5_000, 4 * 65_003, 'packets of 65,003 bytes in pieces of 4,096'),
+    ('feed-subscribe', 200, 70_000, 'a SUBSCRIBE of 70,000 bytes in pieces of 4,096'),
 ]
 
 
@@ -33,10 +38,10 @@ def main(arguments):
     start = seconds([bench])
     for job, times, what in JOBS:
         took = seconds([bench, job, str(times)]) - start
-        if job.startswith('feed'):
-            print('%-50s %8.1f megabytes a second' % (what, STREAM_BYTES * times / took / 1e6))
-        else:
-            print('%-50s %8.0f ns each, %10.0f a second' % (what, took / times * 1e9, times / took))
+        print('%-50s %8.0f ns each, %10.0f a second' % (what, took / times * 1e9, times / took))
+    for job, times, size, what in STREAMS:
+        took = seconds([bench, job, str(times)]) - start
+        print('%-50s %8.1f megabytes a second' % (what, size * times / took / 1e6))
 
 
 main(sys.argv[1:])

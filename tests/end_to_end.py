@@ -1,22 +1,34 @@
 #!/usr/bin/env python3
 """end_to_end.py
 
-Runs each script of tests/scripts through `sng play` and compares its whole output and exit status with those that stand beside it
-(NAME.expected; NAME.status, where it is not 0), asks `sng cover` each line of tests/cover.table, gives it words that are no filters,
-tries a command line that is none, and has a search over names (cover_search.py) answer the table too. Uses the proved program where one lies in
-crates/sng/out that is newer than every source. Else the toolchain's build without proof runs them, which compares the output of
-all of them in one go, and the status of those that do not end with 0."""
+Runs the program over everything that a text can show: each script of tests/scripts through `sng play`, with its whole
+output and exit status (NAME.expected; NAME.status, where it is not 0); the lines of tests/lines.table, which cannot be
+read; the policy texts of policy_texts.py; the questions of tests/cover.table; command lines, good and bad; output that
+cannot be written; a line without end under a limit of memory. A search over names (cover_search.py) answers the table of
+questions too. Uses the proved program where one lies in crates/sng/out that is newer than every source, and else one
+build without proof, which runs all but the last case."""
+import collections
 import glob
+import json
 import os
+import re
+import resource
 import subprocess
 import sys
 import tempfile
+
+import policy_texts
 
 HERE = os.path.dirname(os.path.abspath(__file__))
 ROOT = os.path.dirname(HERE)
 CRATE = os.path.join(ROOT, 'crates', 'sng')
 PROVED = os.path.join(CRATE, 'out', 'sng')
 SECONDS = 600
+MAX_LINE = 64 * 1024 * 1024
+MEMORY = 512 * 1024 * 1024
+
+# A run of the program: standard input, the exit status, and standard output, where it is compared
+Case = collections.namedtuple('Case', 'name words given status expected')
 
 
 def is_current():
@@ -34,62 +46,146 @@ def read(path, otherwise=None):
         return file.read()
 
 
-def cases():
-    """Each case: its name, the words of the command line, standard input, the exit status, standard output."""
+def rows(name):
+    """The rows of a table that are no comments, with their numbers."""
+    for number, line in enumerate(read(os.path.join(HERE, name)).decode().split('\n')[:-1], 1):
+        if not line.startswith('#'):
+            yield '%s:%d' % (name, number), line
+
+
+def scripts():
     for path in sorted(glob.glob(os.path.join(HERE, 'scripts', '*.script'))):
         stem = path[:-len('.script')]
-        yield os.path.basename(stem), ['play'], read(path), int(read(stem + '.status', b'0')), read(stem + '.expected')
-    for number, line in enumerate(read(os.path.join(HERE, 'cover.table')).decode().splitlines(), 1):
-        if not line.startswith('#'):
-            status, printed, words = line.split('|')
-            yield 'cover.table:%d' % number, ['cover'] + words.split(' '), b'', int(status), printed.encode() + b'\n'
+        status = int(read(stem + '.status', b'0'))
+        yield Case(os.path.basename(stem), ['play'], read(path), status, read(stem + '.expected'))
+    for name, line in rows('lines.table'):
+        yield Case(name, ['play'], json.loads(line).encode() + b'\n', 1, b'line 1: unreadable\n')
+    yield Case('the-policies', ['play'], *plays(policy_texts.all_texts()))
+    yield Case('the-longest-line', ['play'], b'policy ' + b' ' * (MAX_LINE - 7) + b'\n', 0,
+               b'refused policy 1 NotJson\n')
+    yield Case('a-line-that-is-too-long', ['play'], b'\npolicy ' + b' ' * (MAX_LINE - 6) + b'\nup\n', 1,
+               b'line 2: unreadable\n')
+
+
+def plays(texts):
+    given, printed = policy_texts.script(texts)
+    return given, 0, printed
+
+
+def questions():
+    for name, line in rows('cover.table'):
+        status, printed, words = line.split('|')
+        yield Case(name, ['cover'] + words.split(' '), b'', int(status), printed.encode() + b'\n')
     for name, word in (('empty', b''), ('of-201-bytes', b'a' * 201), ('not-utf8', b'a/\xff')):
-        yield 'cover-a-filter-' + name, ['cover', 'a', word, '#'], b'', 1, b'bad filter 2\n'
-    yield 'cover-a-name-with-a-space', ['cover', 'a b/%'], b'', 1, b'uncovered a%20b/%25\n'
-    yield 'cover-a-filter-after-the-escape', ['cover', '--', '-x/+', '-x/a'], b'', 1, b'uncovered -x/x\n'
-    yield 'cover-nothing', ['cover'], b'', 2, b''
-    yield 'no-such-command', ['nonsense'], b'', 2, b''
+        yield Case('cover-a-filter-' + name, ['cover', 'a', word, '#'], b'', 1, b'bad filter 2\n')
+    yield Case('cover-a-name-with-a-space', ['cover', 'a b/%'], b'', 1, b'uncovered a%20b/%25\n')
+    yield Case('cover-a-filter-after-the-escape', ['cover', '--', '-x/+', '-x/a'], b'', 1, b'uncovered -x/x\n')
+    yield Case('cover-an-escape-as-a-filter', ['cover', '--', '--', '#'], b'', 0, b'included\n')
+    yield Case('cover-an-escape-behind-a-filter', ['cover', '#', '--', '--'], b'', 1, b'uncovered x\n')
 
 
-def run(command, given):
-    """The exit status and the output of a command."""
-    done = subprocess.run(command, cwd=CRATE, input=given, stdout=subprocess.PIPE, stderr=subprocess.DEVNULL, timeout=SECONDS)
-    return done.returncode, done.stdout
+def command_lines():
+    for name, words in (('nothing', []), ('no-such-command', ['nonsense']), ('cover-nothing', ['cover']),
+                        ('play-with-a-word', ['play', 'x']), ('no-such-option', ['cover', '--x', 'a'])):
+        yield Case('command-line-' + name, words, b'', 2, b'')
+    for words in (['--help'], ['cover', '--help'], ['help']):
+        yield Case('-'.join(words).replace('--', ''), words, b'', 0, None)
 
 
-def run_together(scripts):
-    """Which of the scripts' outputs the build without proof gives, built once."""
+def cases():
+    yield from scripts()
+    yield from questions()
+    yield from command_lines()
+
+
+def lost():
+    """Commands whose output is lost: each ends with status 4."""
+    yield Case('help-that-is-lost', ['--help'], b'', 4, None)
+    yield Case('an-answer-that-is-lost', ['cover', 'a', '#'], b'', 4, None)
+    yield Case('a-row-that-is-lost', ['play'], b'up\n', 4, None)
+
+
+def is_as_wanted(case, status, printed):
+    if status == case.status and case.expected in (None, printed):
+        return True
+    print('  %s wanted' % case.name, case.status, (case.expected or b'')[:500], '\n  found', status, printed[:500])
+    return False
+
+
+def run_proved(case, output=subprocess.PIPE, before=None):
+    """The exit status and the output of the proved program."""
+    done = subprocess.run([PROVED] + case.words, cwd=CRATE, input=case.given, stdout=output, stderr=subprocess.DEVNULL,
+                          timeout=SECONDS, preexec_fn=before)
+    return done.returncode, done.stdout or b''
+
+
+def limit_memory():
+    resource.setrlimit(resource.RLIMIT_AS, (MEMORY, MEMORY))
+
+
+def by_the_proved_program():
+    """Each case's name, and whether the proved program does as wanted."""
+    for case in cases():
+        yield case.name, is_as_wanted(case, *run_proved(case))
+    for case in lost():
+        with open('/dev/full', 'wb') as full:
+            yield case.name, is_as_wanted(case, *run_proved(case, output=full))
+    endless = Case('a-line-without-end', ['play'], None, 1, b'line 1: unreadable\n')
+    with open('/dev/zero', 'rb') as zero:
+        done = subprocess.run([PROVED, 'play'], cwd=CRATE, stdin=zero, stdout=subprocess.PIPE,
+                              stderr=subprocess.DEVNULL, timeout=SECONDS, preexec_fn=limit_memory)
+    yield endless.name, is_as_wanted(endless, done.returncode, done.stdout)
+
+
+def lay(folder, listed):
+    """Writes the cases as files for `rt try --cases`."""
+    for number, case in enumerate(listed):
+        stem = os.path.join(folder, 'c%04d' % number)
+        words = [word if isinstance(word, bytes) else word.encode() for word in case.words]
+        files = [(stem, case.given), (stem + '.args', b''.join(word + b'\n' for word in words))]
+        if case.expected is not None:
+            files.append((stem + '.stdout', case.expected))
+        for path, text in files:
+            with open(path, 'wb') as file:
+                file.write(text)
+
+
+def by_the_build_without_proof():
+    """Each case's name, and whether the build without proof, built once, does as wanted."""
+    listed = list(cases())
     with tempfile.TemporaryDirectory() as folder:
-        for name, _, given, _, expected in scripts:
-            for path, text in ((name, given), (name + '.stdout', expected)):
-                with open(os.path.join(folder, path), 'wb') as file:
-                    file.write(text)
-        status, told = run(['rt', 'try', '--cases', folder, '--', 'play'], b'')
-        if status != 0:
-            print(told.decode(errors='replace'))
-        return status == 0
+        lay(folder, listed)
+        done = subprocess.run(['rt', 'try', '--cases', folder], cwd=CRATE, stdout=subprocess.PIPE,
+                              stderr=subprocess.STDOUT, stdin=subprocess.DEVNULL)
+    said = done.stdout.decode(errors='replace')
+    found = {int(n): line for line in said.splitlines() for n in re.findall(r'^case=c(\d+) ', line)}
+    if not found:
+        print(said[-3000:])
+    for number, case in enumerate(listed):
+        line = found.get(number, 'not run')
+        good = ' status=%d ' % case.status in line and (case.expected is None or ' output=expected ' in line)
+        if not good:
+            print('  %s wanted' % case.name, case.status, (case.expected or b'')[:500], '\n  found', line)
+        yield case.name, good
+    for case in lost():
+        done = subprocess.run(['rt', 'try', '--fail-io', '1', '--'] + case.words, cwd=CRATE, input=case.given,
+                              stdout=subprocess.PIPE, stderr=subprocess.DEVNULL)
+        yield case.name, is_as_wanted(case, done.returncode, done.stdout)
 
 
 def main():
     proved = is_current()
     print('end to end, by', 'the proved program' if proved else 'the build without proof')
-    results = []
-    if not proved:
-        scripts = [case for case in cases() if case[1] == ['play']]
-        results.append(('the output of %d scripts' % len(scripts), run_together(scripts)))
-    for name, words, given, status, expected in cases():
-        if proved or status != 0:
-            found = run(([PROVED] if proved else ['rt', 'try', '--']) + words, given)
-            results.append((name, found == (status, expected)))
-            if found != (status, expected):
-                print('  wanted', status, expected, '\n  found', *found)
+    results = list(by_the_proved_program() if proved else by_the_build_without_proof())
     search = subprocess.run([sys.executable, os.path.join(HERE, 'cover_search.py')], timeout=SECONDS)
     results.append(('cover.table-by-a-search-over-names', search.returncode == 0))
     for name, good in results:
-        print('pass' if good else 'FAIL', name)
+        if not good:
+            print('FAIL', name)
     failed = sum(not good for _, good in results)
     print('%d passed, %d failed' % (len(results) - failed, failed))
     return 1 if failed else 0
 
 
-sys.exit(main())
+if __name__ == '__main__':
+    sys.exit(main())

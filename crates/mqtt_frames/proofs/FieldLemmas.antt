@@ -1,44 +1,53 @@
 -- Between the fields of a packet and their bytes, one way and the other.
-use Rattle.std.proofs.Common.{◌≡◌, ℕ, ◌+◌, ◌<◌, ◌≤◌, ◌==◌, Bool, true, false, List, [], ◌∷◌, ◌++◌, length, take, drop, length-append, length-drop, nat_lt, if◌then◌else◌, Result, Ok, Err, refl, ap, sym, subst, ◌∙◌, ◌⊎◌, inl, inr, arith}
+use Rattle.std.proofs.Common.{◌≡◌, ℕ, ◌+◌, ◌<◌, ◌≤◌, ◌==◌, Bool, true, false, List, [], ◌∷◌, ◌++◌, length}
+use Rattle.std.proofs.Common.{take, drop, length-append, length-drop, nat_lt, if◌then◌else◌, Result, Ok, Err}
+use Rattle.std.proofs.Common.{refl, ap, sym, subst, ◌∙◌, ◌⊎◌, inl, inr, arith}
 use Rattle.std.proofs.lemmas.Bool.{ltb-false, eqb-true}
 use Rattle.std.proofs.lemmas.Bool.Decides.{nat_tests}
 use Rattle.std.proofs.lemmas.List.{take-append-drop}
-use Rattle.mqtt_frames.specs.declared.fault.StreamFault.{StreamFault}
-use Rattle.mqtt_frames.specs.declared.fault.StreamFault.TheVariants.{Malformed}
+use Rattle.mqtt_frames.specs.declared.fault.PacketFault.{PacketFault}
+use Rattle.mqtt_frames.specs.declared.fault.PacketFault.TheVariants.{Malformed}
 use Rattle.mqtt_frames.specs.declared.packet.RequestedQos.{RequestedQos}
 use Rattle.mqtt_frames.specs.declared.packet.RequestedQos.TheVariants.{AtMostOnce, AtLeastOnce, ExactlyOnce}
 use Rattle.mqtt_frames.specs.declared.packet.Request.{Request}
 use Rattle.mqtt_frames.specs.Packets.{qos_byte}
-use Rattle.mqtt_frames.specs.Reading.{◌>>=◌, number, number_at, id_at, text_at, qos_of, qos_behind, request_at}
+use Rattle.mqtt_frames.specs.Reading.{◌>>=◌, number, number_at, id_at, text_at, qos_of, qos_behind}
+use Rattle.mqtt_frames.specs.Reading.{request_at}
 use Rattle.mqtt_frames.proofs.Items.{Consumes}
 
 -- the value of a step that did not fail
-pub bind_ok : {A B : Type 0} (r : Result A StreamFault) (f : A → Result B StreamFault) (y : B) → (r >>= f) ≡ Ok y → (x : A) × (r ≡ Ok x) × (f x ≡ Ok y)
+pub bind_ok : {A B : Type 0} (r : Result A PacketFault) (f : A → Result B PacketFault) (y : B)
+    → (r >>= f) ≡ Ok y → (x : A) × (r ≡ Ok x) × (f x ≡ Ok y)
 bind_ok (Ok x) f y e = (x, refl, e)
 bind_ok (Err d) f y e = absurd cc
 
 -- a test that let a value through
-pub guard_ok : {A : Type 0} (b : Bool) (d : StreamFault) (r : Result A StreamFault) (y : A) → (if b then Err d else r) ≡ Ok y → (b ≡ false) × (r ≡ Ok y)
+pub guard_ok : {A : Type 0} (b : Bool) (d : PacketFault) (r : Result A PacketFault) (y : A)
+    → (if b then Err d else r) ≡ Ok y → (b ≡ false) × (r ≡ Ok y)
 guard_ok true d r y e = absurd cc
 guard_ok false d r y e = (refl, e)
 
 -- the same of a test that has to hold
-pub pass_ok : {A : Type 0} (b : Bool) (d : StreamFault) (r : Result A StreamFault) (y : A) → (if b then r else Err d) ≡ Ok y → (b ≡ true) × (r ≡ Ok y)
+pub pass_ok : {A : Type 0} (b : Bool) (d : PacketFault) (r : Result A PacketFault) (y : A)
+    → (if b then r else Err d) ≡ Ok y → (b ≡ true) × (r ≡ Ok y)
 pass_ok true d r y e = (refl, e)
 pass_ok false d r y e = absurd cc
 
-abbrev pub done : {A : Type 0} → A → Result A StreamFault
+abbrev pub done : {A : Type 0} → A → Result A PacketFault
 done x = Ok x
 
 pub ok_is : {A : Type 0} (x y : A) → done x ≡ done y → x ≡ y
 ok_is x y e = cc
 
-pub either : {A : Type 0} (b : Bool) (one other : Result A StreamFault) (y : A) → (if b then one else other) ≡ Ok y → ((b ≡ true) × (one ≡ Ok y)) ⊎ ((b ≡ false) × (other ≡ Ok y))
+pub either : {A : Type 0} (b : Bool) (one other : Result A PacketFault) (y : A)
+    → (if b then one else other) ≡ Ok y → ((b ≡ true) × (one ≡ Ok y)) ⊎ ((b ≡ false) × (other ≡ Ok y))
 either true one other y e = inl (refl, e)
 either false one other y e = inr (refl, e)
 
 -- one of several bytes, each with its meaning
-pub link : {A : Type 0} (byte n : ℕ) (x : A) (others : Result A StreamFault) (y : A) (byte_of : A → ℕ) → byte_of x ≡ n → (others ≡ Ok y → byte_of y ≡ byte) → (if byte == n then Ok x else others) ≡ Ok y → byte_of y ≡ byte
+pub link : {A : Type 0} (byte n : ℕ) (x : A) (others : Result A PacketFault) (y : A) (byte_of : A → ℕ)
+    → byte_of x ≡ n → (others ≡ Ok y → byte_of y ≡ byte) → (if byte == n then Ok x else others) ≡ Ok y
+    → byte_of y ≡ byte
 link byte n x others y byte_of is further e =
     elim (either (byte == n) (Ok x) others y e) [
       | inl one ↦ ap byte_of (sym (ok_is x y one.1)) ∙ is ∙ sym (eqb-true byte n one.0)
@@ -92,7 +101,8 @@ text_at-reads bytes x is =
       parts = split.parts ∙ ap (λ (t : List ℕ). split.high ∷ split.low ∷ t) (sym whole);
     })
 
-length-text : (bytes text rest : List ℕ) → IsText bytes text rest → length bytes ≡ 2 + length text + length rest
+length-text : (bytes text rest : List ℕ) → IsText bytes text rest
+    → length bytes ≡ 2 + length text + length rest
 length-text bytes text rest t = ap length t.parts ∙ simp length-append (omega arith)
 
 pub Consumes-text_at : Consumes text_at
@@ -110,14 +120,16 @@ pub record IsRequest (bytes : List ℕ) (r : Request) (rest : List ℕ) : Type 0
   pub filter : IsText bytes r.filter behind
   pub parts : behind ≡ qos_byte r.qos ∷ rest
 
-qos_behind-reads : (filter bytes : List ℕ) (x : Request × List ℕ) → qos_behind filter bytes ≡ Ok x → (x.0.filter ≡ filter) × (bytes ≡ qos_byte x.0.qos ∷ x.1)
+qos_behind-reads : (filter bytes : List ℕ) (x : Request × List ℕ) → qos_behind filter bytes ≡ Ok x
+    → (x.0.filter ≡ filter) × (bytes ≡ qos_byte x.0.qos ∷ x.1)
 qos_behind-reads filter [] x is = absurd cc
 qos_behind-reads filter (byte ∷ rest) x is =
     let qos = bind_ok (qos_of byte) (λ qos. Ok (record { filter = filter; qos = qos }, rest)) x is in
     let same : (record { filter = filter; qos = qos.0 }, rest) ≡ x = ok_is (record { filter = filter; qos = qos.0 }, rest) x qos.2 in
     subst (λ (y : Request × List ℕ). (y.0.filter ≡ filter) × (byte ∷ rest ≡ qos_byte y.0.qos ∷ y.1)) same (refl, ap (λ b. b ∷ rest) (sym (qos_of-reads byte qos.0 qos.1)))
 
-pub request_at-reads : (bytes : List ℕ) (x : Request × List ℕ) → request_at bytes ≡ Ok x → IsRequest bytes x.0 x.1
+pub request_at-reads : (bytes : List ℕ) (x : Request × List ℕ) → request_at bytes ≡ Ok x
+    → IsRequest bytes x.0 x.1
 request_at-reads bytes x is =
     let text = bind_ok (text_at bytes) (λ filter. qos_behind filter.0 filter.1) x is in
     let behind = qos_behind-reads text.0.0 text.0.1 x text.2 in

@@ -1,5 +1,6 @@
 -- A number's bytes, one after another (MQTT 3.1.1, 2.2.3).
-use Rattle.std.proofs.Common.{◌≡◌, ℕ, ◌+◌, ◌/◌, ◌%◌, ◌<◌, ◌≤◌, List, [], ◌∷◌, ◌++◌, append_assoc, length, zero, suc, refl, ap, sym, ◌∙◌, inl, inr, arith}
+use Rattle.std.proofs.Common.{◌≡◌, ℕ, ◌+◌, ◌/◌, ◌%◌, ◌<◌, ◌≤◌, List, [], ◌∷◌, ◌++◌, append_assoc, length}
+use Rattle.std.proofs.Common.{zero, suc, refl, ap, sym, ◌∙◌, inl, inr, arith}
 use Rattle.std.proofs.lemmas.Bool.{cases_lt, lt-ltb, le-ltb}
 use Rattle.mqtt_frames.specs.RemainingLength.{groups, remaining_length}
 
@@ -17,7 +18,9 @@ groups-room (suc most) zero n fits below = groups-last (suc most) n (omega arith
 groups-room (suc most) (suc least) n fits below =
     elim (cases_lt n 128) [
       | inl small ↦ groups-last (suc most) n small ∙ sym (groups-last (suc least) n small)
-      | inr large ↦ groups-next most n large ∙ ap (λ bytes. (n % 128 + 128) ∷ bytes) (groups-room most least (n / 128) (omega arith) (omega arith)) ∙ sym (groups-next least n large)
+      | inr large ↦ groups-next most n large
+          ∙ ap (λ bytes. (n % 128 + 128) ∷ bytes) (groups-room most least (n / 128) (omega arith) (omega arith))
+          ∙ sym (groups-next least n large)
     ]
 
 -- a number below 128 is its own only byte
@@ -26,7 +29,8 @@ unfolding remaining_length
 remaining_length-last n small = groups-last n n small
 
 -- a larger one is the low seven bits, and the bytes of the others
-pub remaining_length-next : (n : ℕ) → 128 ≤ n → remaining_length n ≡ (n % 128 + 128) ∷ remaining_length (n / 128)
+pub remaining_length-next : (n : ℕ) → 128 ≤ n
+    → remaining_length n ≡ (n % 128 + 128) ∷ remaining_length (n / 128)
 unfolding remaining_length
 remaining_length-next zero large = absurd (omega arith)
 remaining_length-next (suc n) large = groups-next n (suc n) large ∙ ap (λ bytes. (suc n % 128 + 128) ∷ bytes) (groups-room n (suc n / 128) (suc n / 128) (omega arith) (omega arith))
@@ -49,11 +53,13 @@ length-remaining_length n =
     ]
 
 -- one byte after another, in a count and behind other bytes
-pub length-remaining_length-next : (n : ℕ) → 128 ≤ n → length (remaining_length n) ≡ length (remaining_length (n / 128)) + 1
+pub length-remaining_length-next : (n : ℕ) → 128 ≤ n
+    → length (remaining_length n) ≡ length (remaining_length (n / 128)) + 1
 length-remaining_length-next n large = rw (remaining_length-next n large) (omega arith)
 
 pub length-remaining_length-last : (n : ℕ) → n < 128 → length (remaining_length n) ≡ 1
 length-remaining_length-last n small = rw (remaining_length-last n small) (omega arith)
 
-pub append-remaining_length-next : (front : List ℕ) (n : ℕ) → 128 ≤ n → (front ++ (n % 128 + 128) ∷ []) ++ remaining_length (n / 128) ≡ front ++ remaining_length n
+pub append-remaining_length-next : (front : List ℕ) (n : ℕ) → 128 ≤ n
+    → (front ++ (n % 128 + 128) ∷ []) ++ remaining_length (n / 128) ≡ front ++ remaining_length n
 append-remaining_length-next front n large = rw (remaining_length-next n large, append_assoc) refl

@@ -5,4 +5,8 @@ pub mod Spelling
 pub mod StreamLemmas
 pub mod SpelledIsRead
 pub mod ReadIsSpelled
+pub mod PieceLemmas
+pub mod FaultLemmas
+pub mod StandingLemmas
+pub mod ShortestLemmas
 pub mod StreamIsGrammar

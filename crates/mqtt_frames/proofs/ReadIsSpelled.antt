@@ -1,13 +1,16 @@
 -- What is read is spelled by the grammar.
-use Rattle.std.proofs.Common.{◌≡◌, ◌≢◌, ℕ, zero, suc, ◌+◌, ◌-◌, ◌*◌, ◌/◌, ◌%◌, ◌<◌, ◌≤◌, ◌==◌, Bool, true, false, List, [], ◌∷◌, ◌++◌, length, take, drop, length-drop, if◌then◌else◌, Option, Some, None, is_some, inl, inr, Result, Ok, Err, refl, ap, sym, subst, ◌∙◌, arith}
+use Rattle.std.proofs.Common.{◌≡◌, ◌≢◌, ℕ, zero, suc, ◌+◌, ◌-◌, ◌*◌, ◌/◌, ◌%◌, ◌<◌, ◌≤◌, ◌==◌, Bool, true}
+use Rattle.std.proofs.Common.{false, List, [], ◌∷◌, ◌++◌, length, take, drop, length-drop, if◌then◌else◌}
+use Rattle.std.proofs.Common.{Option, Some, None, is_some, inl, inr, Result, Ok, Err, refl, ap, sym, subst}
+use Rattle.std.proofs.Common.{◌∙◌, arith}
 use Rattle.std.proofs.lemmas.Bool.{cases_lt, lt-ltb, le-ltb, eqb-true}
 use Rattle.std.proofs.lemmas.List.{take-append-drop, append-nil, length-take, length-take-le}
 use Rattle.std.proofs.Math.Seq.{take-add}
 use Rattle.std.specs.Str.{bytes_eq}
 use Rattle.std.specs.Cmp.Lexicographic.{same_text}
 use Rattle.mqtt_frames.specs.declared.limits.TheConstants.{MAX_PACKET}
-use Rattle.mqtt_frames.specs.declared.fault.StreamFault.{StreamFault}
-use Rattle.mqtt_frames.specs.declared.fault.StreamFault.TheVariants.{Malformed, NotSupported, TooLong}
+use Rattle.mqtt_frames.specs.declared.fault.PacketFault.{PacketFault}
+use Rattle.mqtt_frames.specs.declared.fault.PacketFault.TheVariants.{Malformed, NotSupported, TooLong}
 use Rattle.mqtt_frames.specs.declared.packet.Connect.{Connect}
 use Rattle.mqtt_frames.specs.declared.packet.Publish.{Publish}
 use Rattle.mqtt_frames.specs.declared.packet.Request.{Request}
@@ -24,13 +27,19 @@ use Rattle.mqtt_frames.specs.declared.header.Header.{Header}
 use Rattle.mqtt_frames.specs.declared.header.Header.TheVariants as headers
 use Rattle.mqtt_frames.specs.declared.wire.decode.Front.TheVariants as fronts
 use Rattle.mqtt_frames.specs.Packets.{flag, qos_bits, first_byte, code_byte, codes_bytes, protocol}
-use Rattle.mqtt_frames.specs.Grammar.{SpellsNumber, SpellsId, SpellsText, SpellsGroups, SpellsOptionalId, SpellsRequests, SpellsFilters, SpellsBody, Spells}
+use Rattle.mqtt_frames.specs.Grammar.{SpellsNumber, SpellsId, SpellsText, SpellsGroups, SpellsOptionalId}
+use Rattle.mqtt_frames.specs.Grammar.{SpellsRequests, SpellsFilters, SpellsBody, Spells}
 use Rattle.mqtt_frames.specs.Kinds.{publish_flags, publish_kind, is_of_qos_2, kind_of}
-use Rattle.mqtt_frames.specs.Reading.{◌>>=◌, number_at, id_at, text_at, at_end, connect_of, connect_behind, connect_rest, session_of, connect_ack_of, optional_id_at, publish_of, whole_id, qos_of, request_at, items_within, items_of, code_of, codes_of, some_of, subscribe_of, subscribe_ack_of, unsubscribe_of, body_of}
+use Rattle.mqtt_frames.specs.Reading.{◌>>=◌, number_at, id_at, text_at, at_end, connect_of, connect_behind}
+use Rattle.mqtt_frames.specs.Reading.{connect_rest, session_of, connect_ack_of, optional_id_at, publish_of}
+use Rattle.mqtt_frames.specs.Reading.{whole_id, qos_of, request_at, items_within, items_of, code_of, codes_of}
+use Rattle.mqtt_frames.specs.Reading.{some_of, subscribe_of, subscribe_ack_of, unsubscribe_of, body_of}
 use Rattle.mqtt_frames.specs.Headers.{behind_group, length_at, with_kind, with_length, header_at}
 use Rattle.mqtt_frames.specs.Fronts.{sized, behind_header, decode}
 use Rattle.mqtt_frames.specs.Laws.{AreBytes}
-use Rattle.mqtt_frames.proofs.FieldLemmas.{bind_ok, guard_ok, pass_ok, either, link, done, ok_is, IsText, number_at-reads, id_at-reads, text_at-reads, request_at-reads, qos_of-reads}
+use Rattle.mqtt_frames.proofs.FieldLemmas.{bind_ok, guard_ok, pass_ok, either, link, done, ok_is, IsText}
+use Rattle.mqtt_frames.proofs.FieldLemmas.{number_at-reads, id_at-reads, text_at-reads, request_at-reads}
+use Rattle.mqtt_frames.proofs.FieldLemmas.{qos_of-reads}
 
 AreBytes-behind : (xs ys : List ℕ) → AreBytes (xs ++ ys) → AreBytes ys
 AreBytes-behind [] ys are = are
@@ -48,24 +57,26 @@ AreBytes-take n xs are = AreBytes-front (take n xs) (drop n xs) (subst AreBytes 
 
 -- the fixed header
 
-record IsLength (bytes : List ℕ) (n size : ℕ) : Type 0 where
-  groups : SpellsGroups n (take size bytes)
-  within : size ≤ length bytes
+pub record IsLength (bytes : List ℕ) (n size : ℕ) : Type 0 where
+  pub groups : SpellsGroups n (take size bytes)
+  pub within : size ≤ length bytes
 
-record IsBehind (b : ℕ) (l : Length) (n size : ℕ) : Type 0 where
-  value : ℕ
-  others : ℕ
-  told : l ≡ lengths.Known value others
-  total : n ≡ b - 128 + 128 * value
-  count : size ≡ others + 1
+pub record IsBehind (b : ℕ) (l : Length) (n size : ℕ) : Type 0 where
+  pub value : ℕ
+  pub others : ℕ
+  pub told : l ≡ lengths.Known value others
+  pub total : n ≡ b - 128 + 128 * value
+  pub count : size ≡ others + 1
 
-behind_group-told : (b : ℕ) (l : Length) (n size : ℕ) → behind_group b l ≡ lengths.Known n size → IsBehind b l n size
+pub behind_group-told : (b : ℕ) (l : Length) (n size : ℕ) → behind_group b l ≡ lengths.Known n size
+    → IsBehind b l n size
 behind_group-told b lengths.Unfinished n size is = absurd cc
 behind_group-told b lengths.Overlong n size is = absurd cc
 behind_group-told b (lengths.Known value others) n size is =
     record { value = value; others = others; told = refl; total = cc; count = cc }
 
-length_at-spelled : (most : ℕ) (bytes : List ℕ) (n size : ℕ) → AreBytes bytes → length_at most bytes ≡ lengths.Known n size → IsLength bytes n size × (size ≤ most)
+pub length_at-spelled : (most : ℕ) (bytes : List ℕ) (n size : ℕ) → AreBytes bytes
+    → length_at most bytes ≡ lengths.Known n size → IsLength bytes n size × (size ≤ most)
 length_at-spelled zero bytes n size are is = absurd cc
 length_at-spelled (suc most) [] n size are is = absurd cc
 length_at-spelled (suc most) (b ∷ bytes) n size are is =
@@ -87,7 +98,7 @@ length_at-spelled (suc most) (b ∷ bytes) n size are is =
     ]
 
 -- the first byte of a kind
-abbrev byte_of : Kind → ℕ
+abbrev pub byte_of : Kind → ℕ
 byte_of kinds.Connect = 16
 byte_of kinds.ConnectAck = 32
 byte_of (kinds.Publish f) = 48 + flag f.dup 8 + flag f.identified 2 + flag f.retain 1
@@ -100,24 +111,26 @@ byte_of kinds.PingRequest = 192
 byte_of kinds.PingResponse = 208
 byte_of kinds.Disconnect = 224
 
-flag-8 : (n : ℕ) → n < 2 → flag (n == 1) 8 ≡ 8 * n
+pub flag-8 : (n : ℕ) → n < 2 → flag (n == 1) 8 ≡ 8 * n
 flag-8 zero small = refl
 flag-8 (suc zero) small = refl
 flag-8 (suc (suc n)) small = absurd (omega arith)
 
-flag-1 : (n : ℕ) → n < 2 → flag (n == 1) 1 ≡ n
+pub flag-1 : (n : ℕ) → n < 2 → flag (n == 1) 1 ≡ n
 flag-1 zero small = refl
 flag-1 (suc zero) small = refl
 flag-1 (suc (suc n)) small = absurd (omega arith)
 
-publish_byte-is : (bits : ℕ) (identified : Bool) → bits < 16 → flag identified 2 ≡ 2 * (bits / 2 % 4) → byte_of (kinds.Publish (publish_flags bits identified)) ≡ 48 + bits
+publish_byte-is : (bits : ℕ) (identified : Bool) → bits < 16 → flag identified 2 ≡ 2 * (bits / 2 % 4)
+    → byte_of (kinds.Publish (publish_flags bits identified)) ≡ 48 + bits
 publish_byte-is bits identified small qos =
     omega (arith, flag-8 (bits / 8) (omega arith), flag-1 (bits % 2) (omega arith))
 
-not_ok : {A : Type 0} (fault : StreamFault) (x : A) → Err fault ≡ done x → ⊥
+not_ok : {A : Type 0} (fault : PacketFault) (x : A) → Err fault ≡ done x → ⊥
 not_ok fault x is = cc
 
-publish_kind-reads : (bits : ℕ) (kind : Kind) → bits < 16 → publish_kind bits ≡ Ok kind → byte_of kind ≡ 48 + bits
+publish_kind-reads : (bits : ℕ) (kind : Kind) → bits < 16 → publish_kind bits ≡ Ok kind
+    → byte_of kind ≡ 48 + bits
 publish_kind-reads bits kind small is =
     elim (either (bits / 2 % 4 == 0) _ _ kind is) [
       | inl none ↦ (let bits_are : bits / 2 % 4 ≡ 0 = eqb-true (bits / 2 % 4) 0 none.0 in
@@ -129,7 +142,7 @@ publish_kind-reads bits kind small is =
       ]
     ]
 
-kind_of-reads : (first : ℕ) (kind : Kind) → kind_of first ≡ Ok kind → byte_of kind ≡ first
+pub kind_of-reads : (first : ℕ) (kind : Kind) → kind_of first ≡ Ok kind → byte_of kind ≡ first
 kind_of-reads first kind is =
     link first 16 kinds.Connect _ kind byte_of refl (λ a.
     link first 32 kinds.ConnectAck _ kind byte_of refl (λ b.
@@ -154,7 +167,8 @@ record Took (SpellsIt : List ℕ → Type 0) (bytes rest : List ℕ) : Type 0 wh
   parts : bytes ≡ taken ++ rest
   others : AreBytes rest
 
-number-took : (bytes : List ℕ) (x : ℕ × List ℕ) → AreBytes bytes → number_at bytes ≡ Ok x → Took (SpellsNumber x.0) bytes x.1
+number-took : (bytes : List ℕ) (x : ℕ × List ℕ) → AreBytes bytes → number_at bytes ≡ Ok x
+    → Took (SpellsNumber x.0) bytes x.1
 number-took bytes x are is =
     let s = number_at-reads bytes x is in
     let all = subst AreBytes s.parts are in
@@ -165,7 +179,8 @@ number-took bytes x are is =
       others = all.1.1;
     }
 
-id-took : (bytes : List ℕ) (x : ℕ × List ℕ) → AreBytes bytes → id_at bytes ≡ Ok x → Took (SpellsId x.0) bytes x.1
+id-took : (bytes : List ℕ) (x : ℕ × List ℕ) → AreBytes bytes → id_at bytes ≡ Ok x
+    → Took (SpellsId x.0) bytes x.1
 id-took bytes x are is =
     let r = id_at-reads bytes x is in
     let s = r.1 in
@@ -177,7 +192,8 @@ id-took bytes x are is =
       others = all.1.1;
     }
 
-is_text-took : (bytes text rest : List ℕ) → AreBytes bytes → IsText bytes text rest → Took (SpellsText text) bytes rest
+is_text-took : (bytes text rest : List ℕ) → AreBytes bytes → IsText bytes text rest
+    → Took (SpellsText text) bytes rest
 is_text-took bytes text rest are t =
     let all = subst AreBytes t.parts are in
     record {
@@ -191,10 +207,13 @@ is_text-took bytes text rest are t =
       others = AreBytes-behind text rest all.1.1;
     }
 
-text-took : (bytes : List ℕ) (x : List ℕ × List ℕ) → AreBytes bytes → text_at bytes ≡ Ok x → Took (SpellsText x.0) bytes x.1
+text-took : (bytes : List ℕ) (x : List ℕ × List ℕ) → AreBytes bytes → text_at bytes ≡ Ok x
+    → Took (SpellsText x.0) bytes x.1
 text-took bytes x are is = is_text-took bytes x.0 x.1 are (text_at-reads bytes x is)
 
-optional_id-took : (identified : Bool) (bytes : List ℕ) (x : Option ℕ × List ℕ) → AreBytes bytes → optional_id_at identified bytes ≡ Ok x → Took (SpellsOptionalId x.0) bytes x.1 × (is_some x.0 ≡ identified)
+optional_id-took : (identified : Bool) (bytes : List ℕ) (x : Option ℕ × List ℕ) → AreBytes bytes
+    → optional_id_at identified bytes ≡ Ok x
+    → Took (SpellsOptionalId x.0) bytes x.1 × (is_some x.0 ≡ identified)
 optional_id-took false bytes x are is =
     let same : (None, bytes) ≡ x = ok_is (None, bytes) x is in
     subst (λ (y : Option ℕ × List ℕ). Took (SpellsOptionalId y.0) bytes y.1 × (is_some y.0 ≡ false)) same (record { taken = []; spelled = refl; parts = refl; others = are }, refl)
@@ -210,7 +229,8 @@ at_end-is x y (b ∷ rest) is = absurd cc
 
 -- lists
 
-requests-spelled : (most : ℕ) (bytes : List ℕ) (requests : List Request) → AreBytes bytes → items_within request_at most bytes ≡ Ok requests → SpellsRequests requests bytes
+requests-spelled : (most : ℕ) (bytes : List ℕ) (requests : List Request) → AreBytes bytes
+    → items_within request_at most bytes ≡ Ok requests → SpellsRequests requests bytes
 requests-spelled zero [] requests are is = subst (λ (rs : List Request). SpellsRequests rs []) (ok_is [] requests is) refl
 requests-spelled (suc most) [] requests are is = subst (λ (rs : List Request). SpellsRequests rs []) (ok_is [] requests is) refl
 requests-spelled zero (b ∷ bytes) requests are is = absurd cc
@@ -223,7 +243,8 @@ requests-spelled (suc most) (b ∷ bytes) requests are is =
     subst (λ (rs : List Request). SpellsRequests rs (b ∷ bytes)) (ok_is (item.0.0 ∷ others.0) requests others.2)
     (t.taken, item.0.1, t.spelled, requests-spelled most item.0.1 others.0 behind.1 others.1, t.parts ∙ ap (λ (x : List ℕ). t.taken ++ x) r.parts)
 
-filters-spelled : (most : ℕ) (bytes : List ℕ) (filters : List (List ℕ)) → AreBytes bytes → items_within text_at most bytes ≡ Ok filters → SpellsFilters filters bytes
+filters-spelled : (most : ℕ) (bytes : List ℕ) (filters : List (List ℕ)) → AreBytes bytes
+    → items_within text_at most bytes ≡ Ok filters → SpellsFilters filters bytes
 filters-spelled zero [] filters are is = subst (λ (fs : List (List ℕ)). SpellsFilters fs []) (ok_is [] filters is) refl
 filters-spelled (suc most) [] filters are is = subst (λ (fs : List (List ℕ)). SpellsFilters fs []) (ok_is [] filters is) refl
 filters-spelled zero (b ∷ bytes) filters are is = absurd cc
@@ -240,15 +261,19 @@ code_of-reads byte code is =
     let qos = bind_ok (qos_of byte) (λ qos. Ok (Granted qos)) code others in
     ap code_byte (sym (ok_is (Granted qos.0) code qos.2)) ∙ qos_of-reads byte qos.0 qos.1) is
 
-codes-spelled : (bytes : List ℕ) (codes : List SubscribeCode) → codes_of bytes ≡ Ok codes → bytes ≡ codes_bytes codes
+codes-spelled : (bytes : List ℕ) (codes : List SubscribeCode) → codes_of bytes ≡ Ok codes
+    → bytes ≡ codes_bytes codes
 codes-spelled [] codes is = ap codes_bytes (ok_is [] codes is)
 codes-spelled (byte ∷ bytes) codes is =
     let code = bind_ok (code_of byte) (λ code. codes_of bytes >>= λ codes. Ok (code ∷ codes)) codes is in
     let others = bind_ok (codes_of bytes) (λ codes. Ok (code.0 ∷ codes)) codes code.2 in
-    ap (λ b. b ∷ bytes) (sym (code_of-reads byte code.0 code.1)) ∙ ap (λ (bs : List ℕ). code_byte code.0 ∷ bs) (codes-spelled bytes others.0 others.1) ∙ ap codes_bytes (ok_is (code.0 ∷ others.0) codes others.2)
+    ap (λ b. b ∷ bytes) (sym (code_of-reads byte code.0 code.1))
+    ∙ ap (λ (bs : List ℕ). code_byte code.0 ∷ bs) (codes-spelled bytes others.0 others.1)
+    ∙ ap codes_bytes (ok_is (code.0 ∷ others.0) codes others.2)
 
 -- there are bytes, and what they are all read as
-some_of-is : {A : Type 0} (all_of : List ℕ → Result (List A) StreamFault) (bytes : List ℕ) (xs : List A) → some_of all_of bytes ≡ Ok xs → (bytes ≢ []) × (all_of bytes ≡ Ok xs)
+some_of-is : {A : Type 0} (all_of : List ℕ → Result (List A) PacketFault) (bytes : List ℕ) (xs : List A)
+    → some_of all_of bytes ≡ Ok xs → (bytes ≢ []) × (all_of bytes ≡ Ok xs)
 some_of-is all_of [] xs is = absurd cc
 some_of-is all_of (b ∷ bytes) xs is = (λ none. cc, is)
 
@@ -267,7 +292,8 @@ record IsConnect (clean_session : Bool) (bytes : List ℕ) (p : Packet) : Type 0
   client_id_text : SpellsText connect.client_id client_id
   parts : bytes ≡ keep_alive ++ client_id
 
-connect_rest-spelled : (clean_session : Bool) (bytes : List ℕ) (p : Packet) → AreBytes bytes → connect_rest clean_session bytes ≡ Ok p → IsConnect clean_session bytes p
+connect_rest-spelled : (clean_session : Bool) (bytes : List ℕ) (p : Packet) → AreBytes bytes
+    → connect_rest clean_session bytes ≡ Ok p → IsConnect clean_session bytes p
 connect_rest-spelled clean_session bytes p are is =
     let keep = bind_ok (number_at bytes) (λ keep_alive. text_at keep_alive.1 >>= λ client_id. at_end (variants.Connect (record { clean_session = clean_session; keep_alive = keep_alive.0; client_id = client_id.0 })) client_id.1) p is in
     let k = number-took bytes keep.0 are keep.1 in
@@ -282,7 +308,8 @@ connect_rest-spelled clean_session bytes p are is =
       keep_alive_number = k.spelled;
       client_id = t.taken;
       client_id_text = t.spelled;
-      parts = k.parts ∙ ap (λ (x : List ℕ). k.taken ++ x) (t.parts ∙ ap (λ (x : List ℕ). t.taken ++ x) end.0 ∙ append-nil t.taken);
+      parts = k.parts
+          ∙ ap (λ (x : List ℕ). k.taken ++ x) (t.parts ∙ ap (λ (x : List ℕ). t.taken ++ x) end.0 ∙ append-nil t.taken);
     }
 
 record IsFlagged (bytes : List ℕ) (p : Packet) : Type 0 where
@@ -291,7 +318,8 @@ record IsFlagged (bytes : List ℕ) (p : Packet) : Type 0 where
   parts : bytes ≡ flag clean_session 2 ∷ rest
   connect : IsConnect clean_session rest p
 
-connect_behind-spelled : (bytes : List ℕ) (p : Packet) → AreBytes bytes → connect_behind bytes ≡ Ok p → IsFlagged bytes p
+connect_behind-spelled : (bytes : List ℕ) (p : Packet) → AreBytes bytes → connect_behind bytes ≡ Ok p
+    → IsFlagged bytes p
 connect_behind-spelled [] p are is = absurd cc
 connect_behind-spelled (flags ∷ rest) p are is =
     elim (either (flags == 0) (connect_rest false rest) (if flags == 2 then connect_rest true rest else Err NotSupported) p is) [
@@ -300,7 +328,8 @@ connect_behind-spelled (flags ∷ rest) p are is =
           record { clean_session = true; rest = rest; parts = ap (λ f. f ∷ rest) (eqb-true flags 2 two.0); connect = connect_rest-spelled true rest p are.1 two.1 })
     ]
 
-connect-spelled : (body : List ℕ) (p : Packet) → AreBytes body → connect_of body ≡ Ok p → IsBody kinds.Connect body p
+connect-spelled : (body : List ℕ) (p : Packet) → AreBytes body → connect_of body ≡ Ok p
+    → IsBody kinds.Connect body p
 connect-spelled body p are is =
     let t = pass_ok (bytes_eq (take 7 body) protocol) Malformed (connect_behind (drop 7 body)) p is in
     let front : take 7 body ≡ protocol = same_text (take 7 body) protocol (sym t.0) in
@@ -333,11 +362,13 @@ ack-spelled (flags ∷ code ∷ []) p is =
     (ap (λ f. f ∷ code ∷ []) (sym (session_of-reads flags present.0 present.1)), refl)
 ack-spelled (a ∷ b ∷ c ∷ d) p is = absurd cc
 
-identified-bits : (id : Option ℕ) (identified : Bool) → is_some id ≡ identified → qos_bits id ≡ flag identified 2
+identified-bits : (id : Option ℕ) (identified : Bool) → is_some id ≡ identified
+    → qos_bits id ≡ flag identified 2
 identified-bits None identified is = ap (λ b. flag b 2) is
 identified-bits (Some id) identified is = ap (λ b. flag b 2) is
 
-publish-spelled : (f : PublishFlags) (body : List ℕ) (p : Packet) → AreBytes body → publish_of f body ≡ Ok p → IsBody (kinds.Publish f) body p
+publish-spelled : (f : PublishFlags) (body : List ℕ) (p : Packet) → AreBytes body → publish_of f body ≡ Ok p
+    → IsBody (kinds.Publish f) body p
 publish-spelled f body p are is =
     let name = bind_ok (text_at body) (λ name. optional_id_at f.identified name.1 >>= λ id. Ok (variants.Publish (record { dup = f.dup; retain = f.retain; packet_id = id.0; name = name.0; payload = id.1 }))) p is in
     let n = text-took body name.0 are name.1 in
@@ -363,7 +394,8 @@ whole_id-spelled body id are is =
     let whole : t.taken ≡ body = sym (append-nil t.taken) ∙ ap (λ (y : List ℕ). t.taken ++ y) (sym end.0) ∙ sym t.parts in
     subst (λ (n : ℕ). SpellsId n body) end.1 (subst (SpellsId x.0.0) whole t.spelled)
 
-subscribe-spelled : (body : List ℕ) (p : Packet) → AreBytes body → subscribe_of body ≡ Ok p → IsBody kinds.Subscribe body p
+subscribe-spelled : (body : List ℕ) (p : Packet) → AreBytes body → subscribe_of body ≡ Ok p
+    → IsBody kinds.Subscribe body p
 subscribe-spelled body p are is =
     let id = bind_ok (id_at body) (λ id. some_of (items_of request_at) id.1 >>= λ requests. Ok (variants.Subscribe (record { packet_id = id.0; requests = requests }))) p is in
     let t = id-took body id.0 are id.1 in
@@ -382,7 +414,8 @@ subscribe-spelled body p are is =
       refl,
     )
 
-unsubscribe-spelled : (body : List ℕ) (p : Packet) → AreBytes body → unsubscribe_of body ≡ Ok p → IsBody kinds.Unsubscribe body p
+unsubscribe-spelled : (body : List ℕ) (p : Packet) → AreBytes body → unsubscribe_of body ≡ Ok p
+    → IsBody kinds.Unsubscribe body p
 unsubscribe-spelled body p are is =
     let id = bind_ok (id_at body) (λ id. some_of (items_of text_at) id.1 >>= λ filters. Ok (variants.Unsubscribe (record { packet_id = id.0; filters = filters }))) p is in
     let t = id-took body id.0 are id.1 in
@@ -401,7 +434,8 @@ unsubscribe-spelled body p are is =
       refl,
     )
 
-subscribe_ack-spelled : (body : List ℕ) (p : Packet) → AreBytes body → subscribe_ack_of body ≡ Ok p → IsBody kinds.SubscribeAck body p
+subscribe_ack-spelled : (body : List ℕ) (p : Packet) → AreBytes body → subscribe_ack_of body ≡ Ok p
+    → IsBody kinds.SubscribeAck body p
 subscribe_ack-spelled body p are is =
     let id = bind_ok (id_at body) (λ id. some_of codes_of id.1 >>= λ codes. Ok (variants.SubscribeAck (record { packet_id = id.0; codes = codes }))) p is in
     let t = id-took body id.0 are id.1 in
@@ -420,12 +454,14 @@ subscribe_ack-spelled body p are is =
       refl,
     )
 
-empty-spelled : (kind : Kind) (packet p : Packet) (body : List ℕ) → IsBody kind [] packet → at_end packet body ≡ Ok p → IsBody kind body p
+empty-spelled : (kind : Kind) (packet p : Packet) (body : List ℕ) → IsBody kind [] packet
+    → at_end packet body ≡ Ok p → IsBody kind body p
 empty-spelled kind packet p body spelled is =
     let end = at_end-is packet p body is in
     subst (IsBody kind body) end.1 (subst (λ (b : List ℕ). IsBody kind b packet) (sym end.0) spelled)
 
-body-spelled : (kind : Kind) (body : List ℕ) (p : Packet) → AreBytes body → body_of kind body ≡ Ok p → IsBody kind body p
+body-spelled : (kind : Kind) (body : List ℕ) (p : Packet) → AreBytes body → body_of kind body ≡ Ok p
+    → IsBody kind body p
 body-spelled kinds.Connect body p are is = connect-spelled body p are is
 body-spelled kinds.ConnectAck body p are is = ack-spelled body p is
 body-spelled (kinds.Publish f) body p are is = publish-spelled f body p are is
@@ -444,34 +480,40 @@ body-spelled kinds.Disconnect body p are is = empty-spelled kinds.Disconnect var
 
 -- the whole packet
 
-record IsHeader (first : ℕ) (bytes : List ℕ) (kind : Kind) (start rest : ℕ) : Type 0 where
-  size : ℕ
-  told : length_at 4 bytes ≡ lengths.Known rest size
-  kind_is : kind_of first ≡ Ok kind
-  begins : start ≡ 1 + size
+pub record IsHeader (first : ℕ) (bytes : List ℕ) (kind : Kind) (start rest : ℕ) : Type 0 where
+  pub size : ℕ
+  pub told : length_at 4 bytes ≡ lengths.Known rest size
+  pub kind_is : kind_of first ≡ Ok kind
+  pub begins : start ≡ 1 + size
 
-with_kind-told : (r : Result Kind StreamFault) (size value : ℕ) (kind : Kind) (start rest : ℕ) → with_kind r size value ≡ headers.Known kind start rest → (r ≡ Ok kind) × (size ≡ start) × (value ≡ rest)
+with_kind-told : (r : Result Kind PacketFault) (size value : ℕ) (kind : Kind) (start rest : ℕ)
+    → with_kind r size value ≡ headers.Known kind start rest → (r ≡ Ok kind) × (size ≡ start) × (value ≡ rest)
 with_kind-told (Ok found) size value kind start rest is = (ap Ok cc, cc, cc)
 with_kind-told (Err fault) size value kind start rest is = absurd cc
 
-with_length-told : (first : ℕ) (l : Length) (bytes : List ℕ) (kind : Kind) (start rest : ℕ) → length_at 4 bytes ≡ l → with_length first l ≡ headers.Known kind start rest → IsHeader first bytes kind start rest
+pub with_length-told : (first : ℕ) (l : Length) (bytes : List ℕ) (kind : Kind) (start rest : ℕ)
+    → length_at 4 bytes ≡ l → with_length first l ≡ headers.Known kind start rest
+    → IsHeader first bytes kind start rest
 with_length-told first lengths.Unfinished bytes kind start rest l is = absurd cc
 with_length-told first lengths.Overlong bytes kind start rest l is = absurd cc
 with_length-told first (lengths.Known value size) bytes kind start rest l is =
     let k = with_kind-told (kind_of first) (1 + size) value kind start rest is in
     record { size = size; told = l ∙ ap (λ (n : ℕ). lengths.Known n size) k.2; kind_is = k.0; begins = sym k.1 }
 
-sized-told : (n size : ℕ) (r : Result Packet StreamFault) (p : Packet) → sized n r ≡ fronts.Whole p size → (r ≡ Ok p) × (n ≡ size)
+sized-told : (n size : ℕ) (r : Result Packet PacketFault) (p : Packet) → sized n r ≡ fronts.Whole p size
+    → (r ≡ Ok p) × (n ≡ size)
 sized-told n size (Ok packet) p is = (ap Ok cc, cc)
 sized-told n size (Err fault) p is = absurd cc
 
-record IsBehindHeader (kind : Kind) (start rest : ℕ) (bytes : List ℕ) (p : Packet) (size : ℕ) : Type 0 where
-  total : start + rest ≡ size
-  short : start + rest ≤ MAX_PACKET
-  enough : start + rest ≤ length bytes
-  body : body_of kind (take rest (drop start bytes)) ≡ Ok p
+pub record IsBehindHeader (kind : Kind) (start rest : ℕ) (bytes : List ℕ) (p : Packet) (size : ℕ) : Type 0 where
+  pub total : start + rest ≡ size
+  pub short : start + rest ≤ MAX_PACKET
+  pub enough : start + rest ≤ length bytes
+  pub body : body_of kind (take rest (drop start bytes)) ≡ Ok p
 
-behind_header-told : (kind : Kind) (start rest : ℕ) (bytes : List ℕ) (p : Packet) (size : ℕ) → behind_header (headers.Known kind start rest) bytes ≡ fronts.Whole p size → IsBehindHeader kind start rest bytes p size
+pub behind_header-told : (kind : Kind) (start rest : ℕ) (bytes : List ℕ) (p : Packet) (size : ℕ)
+    → behind_header (headers.Known kind start rest) bytes ≡ fronts.Whole p size
+    → IsBehindHeader kind start rest bytes p size
 behind_header-told kind start rest bytes p size is =
     elim (cases_lt MAX_PACKET (start + rest)) [
       | inl long ↦ absurd (let e : fronts.Faulty TooLong ≡ fronts.Whole p size = rw (lt-ltb MAX_PACKET (start + rest) long) at is in cc)
@@ -482,7 +524,9 @@ behind_header-told kind start rest bytes p size is =
       ]
     ]
 
-told-spelled : (first : ℕ) (bytes : List ℕ) (kind : Kind) (start rest : ℕ) (p : Packet) (size : ℕ) → AreBytes (first ∷ bytes) → IsHeader first bytes kind start rest → IsBehindHeader kind start rest (first ∷ bytes) p size
+told-spelled : (first : ℕ) (bytes : List ℕ) (kind : Kind) (start rest : ℕ) (p : Packet) (size : ℕ)
+    → AreBytes (first ∷ bytes) → IsHeader first bytes kind start rest
+    → IsBehindHeader kind start rest (first ∷ bytes) p size
     → Spells p (take size (first ∷ bytes)) × (size ≤ MAX_PACKET)
 told-spelled first bytes kind start rest p size are h b =
     let n = h.size in
@@ -499,17 +543,22 @@ told-spelled first bytes kind start rest p size are h b =
         variable = s.0;
         remaining = take n bytes;
         total = record { groups = subst (λ (v : ℕ). SpellsGroups v (take n bytes)) (sym count) l.0.groups; most = omega (arith, length-take n bytes, l.1) };
-        bytes = ap (λ (k : ℕ). take k (first ∷ bytes)) total ∙ ap (λ (x : List ℕ). first ∷ x) (take-add n rest bytes) ∙ ap (λ (f : ℕ). f ∷ (take n bytes ++ behind)) (sym byte);
+        bytes = ap (λ (k : ℕ). take k (first ∷ bytes)) total
+            ∙ ap (λ (x : List ℕ). first ∷ x) (take-add n rest bytes)
+            ∙ ap (λ (f : ℕ). f ∷ (take n bytes ++ behind)) (sym byte);
       },
       omega (arith, b.total, b.short),
     )
 
-front-spelled-at : (h : Header) (bytes : List ℕ) (p : Packet) (size : ℕ) → AreBytes bytes → header_at bytes ≡ h → behind_header h bytes ≡ fronts.Whole p size → Spells p (take size bytes) × (size ≤ MAX_PACKET)
+front-spelled-at : (h : Header) (bytes : List ℕ) (p : Packet) (size : ℕ) → AreBytes bytes
+    → header_at bytes ≡ h → behind_header h bytes ≡ fronts.Whole p size
+    → Spells p (take size bytes) × (size ≤ MAX_PACKET)
 front-spelled-at headers.Unfinished bytes p size are told is = absurd cc
 front-spelled-at (headers.Faulty fault) bytes p size are told is = absurd cc
 front-spelled-at (headers.Known kind start rest) [] p size are told is = absurd cc
 front-spelled-at (headers.Known kind start rest) (first ∷ bytes) p size are told is =
     told-spelled first bytes kind start rest p size are (with_length-told first (length_at 4 bytes) bytes kind start rest refl told) (behind_header-told kind start rest (first ∷ bytes) p size is)
 
-pub front-spelled : (p : Packet) (bytes : List ℕ) (size : ℕ) → AreBytes bytes → decode bytes ≡ fronts.Whole p size → Spells p (take size bytes) × (size ≤ MAX_PACKET)
+pub front-spelled : (p : Packet) (bytes : List ℕ) (size : ℕ) → AreBytes bytes
+    → decode bytes ≡ fronts.Whole p size → Spells p (take size bytes) × (size ≤ MAX_PACKET)
 front-spelled p bytes size are is = front-spelled-at (header_at bytes) bytes p size are refl is

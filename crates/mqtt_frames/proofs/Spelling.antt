@@ -1,5 +1,7 @@
 -- What is written is spelled.
-use Rattle.std.proofs.Common.{◌≡◌, ◌≢◌, ℕ, zero, suc, ◌+◌, ◌^◌, ◌/◌, ◌%◌, ◌<◌, ◌≤◌, ◌==◌, ◌&&◌, not, Bool, true, false, List, [], ◌∷◌, length, length-append, Option, Some, None, refl, inl, inr, sym, subst, arith}
+use Rattle.std.proofs.Common.{◌≡◌, ◌≢◌, ℕ, zero, suc, ◌+◌, ◌^◌, ◌/◌, ◌%◌, ◌<◌, ◌≤◌, ◌==◌, ◌&&◌, not, Bool}
+use Rattle.std.proofs.Common.{true, false, List, [], ◌∷◌, length, length-append, Option, Some, None, refl}
+use Rattle.std.proofs.Common.{inl, inr, sym, subst, arith}
 use Rattle.std.proofs.lemmas.Bool.{cases_lt, ltb-true}
 use Rattle.std.proofs.lemmas.Bool.Decides.{nat_tests}
 use Rattle.mqtt_frames.specs.declared.limits.TheConstants.{MAX_PACKET, MAX_REMAINING}
@@ -7,10 +9,15 @@ use Rattle.mqtt_frames.specs.declared.packet.Request.{Request}
 use Rattle.mqtt_frames.specs.declared.packet.Packet.{Packet}
 use Rattle.mqtt_frames.specs.declared.packet.Packet.TheVariants as variants
 use Rattle.mqtt_frames.specs.RemainingLength.{groups, remaining_length}
-use Rattle.mqtt_frames.specs.Packets.{number_bytes, text_bytes, id_bytes, requests_bytes, filters_bytes, body, written}
-use Rattle.mqtt_frames.specs.Spellable.{is_text, is_id, is_optional_id, are_requests, are_filters, has_spelling}
-use Rattle.mqtt_frames.specs.Grammar.{SpellsNumber, SpellsId, SpellsText, SpellsGroups, SpellsLength, SpellsOptionalId, SpellsRequests, SpellsFilters, SpellsBody, Spells, IsOptionalInRange, IsInRange}
-use Rattle.mqtt_frames.proofs.Groups.{groups-last, groups-next, length-remaining_length-last, length-remaining_length-next}
+use Rattle.mqtt_frames.specs.Packets.{number_bytes, text_bytes, id_bytes, requests_bytes, filters_bytes, body}
+use Rattle.mqtt_frames.specs.Packets.{written}
+use Rattle.mqtt_frames.specs.Spellable.{is_text, is_id, is_optional_id, are_requests, are_filters}
+use Rattle.mqtt_frames.specs.Spellable.{has_spelling}
+use Rattle.mqtt_frames.specs.Grammar.{SpellsNumber, SpellsId, SpellsText, SpellsGroups, SpellsLength}
+use Rattle.mqtt_frames.specs.Grammar.{SpellsOptionalId, SpellsRequests, SpellsFilters, SpellsBody, Spells}
+use Rattle.mqtt_frames.specs.Grammar.{IsOptionalInRange, IsInRange}
+use Rattle.mqtt_frames.proofs.Groups.{groups-last, groups-next, length-remaining_length-last}
+use Rattle.mqtt_frames.proofs.Groups.{length-remaining_length-next}
 
 both : (a b : Bool) → (a && b) ≡ true → (a ≡ true) × (b ≡ true)
 both true b is = (refl, is)
@@ -74,17 +81,20 @@ SpellsText-written text is = record {
   bytes = refl;
 }
 
-SpellsOptionalId-written : (packet_id : Option ℕ) → IsOptionalInRange packet_id → is_optional_id packet_id ≡ true → SpellsOptionalId packet_id (id_bytes packet_id)
+SpellsOptionalId-written : (packet_id : Option ℕ) → IsOptionalInRange packet_id
+    → is_optional_id packet_id ≡ true → SpellsOptionalId packet_id (id_bytes packet_id)
 SpellsOptionalId-written None fits is = refl
 SpellsOptionalId-written (Some id) fits is = SpellsId-written id (omega arith) is
 
-SpellsRequests-written : (requests : List Request) → are_requests requests ≡ true → SpellsRequests requests (requests_bytes requests)
+SpellsRequests-written : (requests : List Request) → are_requests requests ≡ true
+    → SpellsRequests requests (requests_bytes requests)
 SpellsRequests-written [] are = refl
 SpellsRequests-written (r ∷ requests) are =
     let parts = both (is_text r.filter) (are_requests requests) are in
     (text_bytes r.filter, requests_bytes requests, SpellsText-written r.filter parts.0, SpellsRequests-written requests parts.1, refl)
 
-SpellsFilters-written : (filters : List (List ℕ)) → are_filters filters ≡ true → SpellsFilters filters (filters_bytes filters)
+SpellsFilters-written : (filters : List (List ℕ)) → are_filters filters ≡ true
+    → SpellsFilters filters (filters_bytes filters)
 SpellsFilters-written [] are = refl
 SpellsFilters-written (f ∷ filters) are =
     let parts = both (is_text f) (are_filters filters) are in
@@ -151,7 +161,8 @@ SpellsBody-written variants.PingResponse fits is = refl
 SpellsBody-written variants.Disconnect fits is = refl
 
 -- a packet whose texts, identifiers and lists have a spelling is written as bytes that spell it
-pub Spells-written : (p : Packet) → IsInRange p → has_spelling p ≡ true → length (body p) ≤ MAX_REMAINING → Spells p (written p)
+pub Spells-written : (p : Packet) → IsInRange p → has_spelling p ≡ true → length (body p) ≤ MAX_REMAINING
+    → Spells p (written p)
 Spells-written p fits is short = record {
   behind = body p;
   variable = SpellsBody-written p fits is;
@@ -160,10 +171,12 @@ Spells-written p fits is short = record {
   bytes = refl;
 }
 
-pub length-written : (p : Packet) → length (written p) ≡ 1 + length (remaining_length (length (body p))) + length (body p)
+pub length-written : (p : Packet)
+    → length (written p) ≡ 1 + length (remaining_length (length (body p))) + length (body p)
 length-written p = simp length-append (omega arith)
 
-pub Spells-short : (p : Packet) → IsInRange p → has_spelling p ≡ true → length (written p) ≤ MAX_PACKET → Spells p (written p)
+pub Spells-short : (p : Packet) → IsInRange p → has_spelling p ≡ true → length (written p) ≤ MAX_PACKET
+    → Spells p (written p)
 Spells-short p fits is short = Spells-written p fits is (omega (arith, length-written p))
 
 -- the other way: what is spelled has such texts, identifiers and lists
@@ -176,11 +189,13 @@ is_text-spelled text b s =
     let below : length text < 2 ^ 16 = omega (arith, s.number.is.value, s.number.is.high_fits, s.number.is.low_fits) in
     grind (arith, nat_tests)
 
-are_requests-spelled : (requests : List Request) (b : List ℕ) → SpellsRequests requests b → are_requests requests ≡ true
+are_requests-spelled : (requests : List Request) (b : List ℕ) → SpellsRequests requests b
+    → are_requests requests ≡ true
 are_requests-spelled [] b s = refl
 are_requests-spelled (r ∷ requests) b s = rw (is_text-spelled r.filter s.0 s.2) (are_requests-spelled requests s.1 s.3)
 
-are_filters-spelled : (filters : List (List ℕ)) (b : List ℕ) → SpellsFilters filters b → are_filters filters ≡ true
+are_filters-spelled : (filters : List (List ℕ)) (b : List ℕ) → SpellsFilters filters b
+    → are_filters filters ≡ true
 are_filters-spelled [] b s = refl
 are_filters-spelled (f ∷ filters) b s = rw (is_text-spelled f s.0 s.2) (are_filters-spelled filters s.1 s.3)
 
@@ -188,7 +203,8 @@ has_items : {A : Type 0} (xs : List A) → xs ≢ [] → not (length xs == 0) �
 has_items [] some = absurd (some refl)
 has_items (x ∷ xs) some = let above : 0 < length (x ∷ xs) = omega arith in grind (arith, nat_tests)
 
-is_optional_id-spelled : (packet_id : Option ℕ) (b : List ℕ) → SpellsOptionalId packet_id b → is_optional_id packet_id ≡ true
+is_optional_id-spelled : (packet_id : Option ℕ) (b : List ℕ) → SpellsOptionalId packet_id b
+    → is_optional_id packet_id ≡ true
 is_optional_id-spelled None b s = refl
 is_optional_id-spelled (Some id) b s = is_id-positive id s.positive
 

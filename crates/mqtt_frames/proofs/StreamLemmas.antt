@@ -1,10 +1,12 @@
--- What stands at the front of bytes stays there when more bytes come, and so the packets of a stream do not depend on its pieces.
-use Rattle.std.proofs.Common.{◌≡◌, ℕ, zero, suc, ◌+◌, ◌-◌, ◌<◌, ◌≤◌, true, false, List, [], ◌∷◌, ◌++◌, length, take, drop, length-append, length-drop, nat_lt, if◌then◌else◌, ◌⊎◌, inl, inr, Result, Ok, Err, refl, ap, sym, subst, ◌∙◌, append_assoc, arith}
+-- What stands at the front of bytes stays there when more bytes come, and so the packets of a stream do not
+-- depend on its pieces.
+use Rattle.std.proofs.Common.{◌≡◌, ℕ, zero, suc, ◌+◌, ◌-◌, ◌<◌, ◌≤◌, true, false, List, [], ◌∷◌, ◌++◌, length}
+use Rattle.std.proofs.Common.{take, drop, length-append, length-drop, nat_lt, if◌then◌else◌, ◌⊎◌, inl, inr}
+use Rattle.std.proofs.Common.{Result, Ok, Err, refl, ap, sym, subst, ◌∙◌, append_assoc, arith}
 use Rattle.std.proofs.lemmas.Bool.{cases_lt, lt-ltb, le-ltb}
 use Rattle.std.proofs.lemmas.List.{take-append-le, drop-append-le, take_all, drop_all}
 use Rattle.mqtt_frames.specs.declared.limits.TheConstants.{MAX_PACKET}
-use Rattle.mqtt_frames.specs.declared.fault.StreamFault.{StreamFault}
-use Rattle.mqtt_frames.specs.declared.fault.StreamFault.TheVariants as faults
+use Rattle.mqtt_frames.specs.declared.fault.PacketFault.{PacketFault}
 use Rattle.mqtt_frames.specs.declared.packet.Packet.{Packet}
 use Rattle.mqtt_frames.specs.declared.kind.Kind.{Kind}
 use Rattle.mqtt_frames.specs.declared.header.Length.{Length}
@@ -13,16 +15,16 @@ use Rattle.mqtt_frames.specs.declared.header.Header.{Header}
 use Rattle.mqtt_frames.specs.declared.header.Header.TheVariants as headers
 use Rattle.mqtt_frames.specs.declared.wire.decode.Front.{Front}
 use Rattle.mqtt_frames.specs.declared.wire.decode.Front.TheVariants as fronts
-use Rattle.mqtt_frames.specs.declared.stream.Status.{Status}
-use Rattle.mqtt_frames.specs.declared.stream.Status.TheVariants as statuses
 use Rattle.mqtt_frames.specs.Kinds.{kind_of}
-use Rattle.mqtt_frames.specs.Reading.{Fails, body_of}
+use Rattle.mqtt_frames.specs.Reading.{body_of}
 use Rattle.mqtt_frames.specs.Headers.{behind_group, length_at, with_kind, with_length, header_at}
 use Rattle.mqtt_frames.specs.Fronts.{sized, behind_header, decode, IsWithin}
-use Rattle.mqtt_frames.specs.Streams.{End, Rest, Fault, Read, with_packets, behind_front, read_within, read_all, State, Failed, settled, fed, state_of, IsReady}
+use Rattle.mqtt_frames.specs.Streams.{End, Rest, Fault, Read, with_packets, behind_front, read_within}
+use Rattle.mqtt_frames.specs.Streams.{read_all}
 
 -- a Remaining Length that is told, or too long, is so whatever follows
-length_at-more : (most : ℕ) (bytes more : List ℕ) → (length_at most bytes ≡ lengths.Unfinished) ⊎ (length_at most (bytes ++ more) ≡ length_at most bytes)
+length_at-more : (most : ℕ) (bytes more : List ℕ)
+    → (length_at most bytes ≡ lengths.Unfinished) ⊎ (length_at most (bytes ++ more) ≡ length_at most bytes)
 length_at-more zero bytes more = inr refl
 length_at-more (suc most) [] more = inl refl
 length_at-more (suc most) (b ∷ bytes) more =
@@ -33,18 +35,21 @@ length_at-more (suc most) (b ∷ bytes) more =
       | false ↦ elim (length_at-more most bytes more) [ inl waits ↦ inl (ap (behind_group b) waits) | inr same ↦ inr (ap (behind_group b) same) ]
     ]
 
-pub header_at-more : (bytes more : List ℕ) → (header_at bytes ≡ headers.Unfinished) ⊎ (header_at (bytes ++ more) ≡ header_at bytes)
+pub header_at-more : (bytes more : List ℕ)
+    → (header_at bytes ≡ headers.Unfinished) ⊎ (header_at (bytes ++ more) ≡ header_at bytes)
 header_at-more [] more = inl refl
 header_at-more (first ∷ rest) more =
     elim (length_at-more 4 rest more) [ inl waits ↦ inl (ap (with_length first) waits) | inr same ↦ inr (ap (with_length first) same) ]
 
-pub body-more : (start rest : ℕ) (bytes more : List ℕ) → start + rest ≤ length bytes → take rest (drop start (bytes ++ more)) ≡ take rest (drop start bytes)
+pub body-more : (start rest : ℕ) (bytes more : List ℕ) → start + rest ≤ length bytes
+    → take rest (drop start (bytes ++ more)) ≡ take rest (drop start bytes)
 body-more start rest bytes more fits =
     let first : start ≤ length bytes = omega arith in
     let second : rest ≤ length (drop start bytes) = omega (arith, length-drop start bytes) in
     rw (drop-append-le start bytes more first) (take-append-le rest (drop start bytes) more second)
 
-behind_header-more : (h : Header) (bytes more : List ℕ) → (behind_header h bytes ≡ fronts.Waiting) ⊎ (behind_header h (bytes ++ more) ≡ behind_header h bytes)
+behind_header-more : (h : Header) (bytes more : List ℕ)
+    → (behind_header h bytes ≡ fronts.Waiting) ⊎ (behind_header h (bytes ++ more) ≡ behind_header h bytes)
 behind_header-more headers.Unfinished bytes more = inl refl
 behind_header-more (headers.Faulty fault) bytes more = inr refl
 behind_header-more (headers.Known kind start rest) bytes more =
@@ -57,7 +62,8 @@ behind_header-more (headers.Known kind start rest) bytes more =
       ]
     ]
 
-pub decode-more : (bytes more : List ℕ) → (decode bytes ≡ fronts.Waiting) ⊎ (decode (bytes ++ more) ≡ decode bytes)
+pub decode-more : (bytes more : List ℕ)
+    → (decode bytes ≡ fronts.Waiting) ⊎ (decode (bytes ++ more) ≡ decode bytes)
 decode-more bytes more =
     elim (header_at-more bytes more) [
       | inl waits ↦ inl (rw waits refl)
@@ -66,24 +72,30 @@ decode-more bytes more =
 
 -- a packet takes a byte or more, and no more than there are
 
-with_kind-positive : (r : Result Kind StreamFault) (size value : ℕ) (kind : Kind) (start rest : ℕ) → with_kind r (1 + size) value ≡ headers.Known kind start rest → 0 < start
+with_kind-positive : (r : Result Kind PacketFault) (size value : ℕ) (kind : Kind) (start rest : ℕ)
+    → with_kind r (1 + size) value ≡ headers.Known kind start rest → 0 < start
 with_kind-positive (Ok found) size value kind start rest is = let e : 1 + size ≡ start = cc in omega arith
 with_kind-positive (Err fault) size value kind start rest is = absurd cc
 
-with_length-positive : (first : ℕ) (l : Length) (kind : Kind) (start rest : ℕ) → with_length first l ≡ headers.Known kind start rest → 0 < start
+with_length-positive : (first : ℕ) (l : Length) (kind : Kind) (start rest : ℕ)
+    → with_length first l ≡ headers.Known kind start rest → 0 < start
 with_length-positive first lengths.Unfinished kind start rest is = absurd cc
 with_length-positive first lengths.Overlong kind start rest is = absurd cc
 with_length-positive first (lengths.Known value size) kind start rest is = with_kind-positive (kind_of first) size value kind start rest is
 
-header_at-positive : (bytes : List ℕ) (kind : Kind) (start rest : ℕ) → header_at bytes ≡ headers.Known kind start rest → 0 < start
+pub header_at-positive : (bytes : List ℕ) (kind : Kind) (start rest : ℕ)
+    → header_at bytes ≡ headers.Known kind start rest → 0 < start
 header_at-positive [] kind start rest is = absurd cc
 header_at-positive (first ∷ bytes) kind start rest is = with_length-positive first (length_at 4 bytes) kind start rest is
 
-sized-within : (most size : ℕ) (r : Result Packet StreamFault) → 0 < size → size ≤ most → IsWithin most (sized size r)
+sized-within : (most size : ℕ) (r : Result Packet PacketFault) → 0 < size → size ≤ most
+    → IsWithin most (sized size r)
 sized-within most size (Ok packet) above below = (above, below)
 sized-within most size (Err fault) above below = tt
 
-behind_header-within : (h : Header) (bytes : List ℕ) → ((kind : Kind) (start rest : ℕ) → h ≡ headers.Known kind start rest → 0 < start) → IsWithin (length bytes) (behind_header h bytes)
+behind_header-within : (h : Header) (bytes : List ℕ)
+    → ((kind : Kind) (start rest : ℕ) → h ≡ headers.Known kind start rest → 0 < start)
+    → IsWithin (length bytes) (behind_header h bytes)
 behind_header-within headers.Unfinished bytes positive = tt
 behind_header-within (headers.Faulty fault) bytes positive = tt
 behind_header-within (headers.Known kind start rest) bytes positive =
@@ -96,12 +108,14 @@ behind_header-within (headers.Known kind start rest) bytes positive =
       ]
     ]
 
-pub decode-within : (bytes : List ℕ) (packet : Packet) (size : ℕ) → decode bytes ≡ fronts.Whole packet size → (0 < size) × (size ≤ length bytes)
+pub decode-within : (bytes : List ℕ) (packet : Packet) (size : ℕ) → decode bytes ≡ fronts.Whole packet size
+    → (0 < size) × (size ≤ length bytes)
 decode-within bytes packet size is = subst (IsWithin (length bytes)) is (behind_header-within (header_at bytes) bytes (header_at-positive bytes))
 
 -- one packet after another
 
-behind_front-same : (f : Front) (bytes : List ℕ) (one other : List ℕ → Read) → decode bytes ≡ f → ((rest : List ℕ) → length rest < length bytes → one rest ≡ other rest)
+behind_front-same : (f : Front) (bytes : List ℕ) (one other : List ℕ → Read) → decode bytes ≡ f
+    → ((rest : List ℕ) → length rest < length bytes → one rest ≡ other rest)
     → behind_front f bytes one ≡ behind_front f bytes other
 behind_front-same fronts.Waiting bytes one other is same = refl
 behind_front-same (fronts.Faulty fault) bytes one other is same = refl
@@ -110,7 +124,8 @@ behind_front-same (fronts.Whole packet size) bytes one other is same =
     ap (with_packets (packet ∷ [])) (same (drop size bytes) (omega (arith, length-drop size bytes)))
 
 -- room for more packets than there are changes nothing
-read_within-room : (most least : ℕ) (bytes : List ℕ) → length bytes ≤ least → least ≤ most → read_within most bytes ≡ read_within least bytes
+read_within-room : (most least : ℕ) (bytes : List ℕ) → length bytes ≤ least → least ≤ most
+    → read_within most bytes ≡ read_within least bytes
 read_within-room zero zero bytes fits below = refl
 read_within-room zero (suc least) bytes fits below = absurd (omega arith)
 read_within-room (suc most) zero [] fits below = refl
@@ -125,17 +140,20 @@ pub read_all-waiting : (bytes : List ℕ) → decode bytes ≡ fronts.Waiting �
 read_all-waiting [] is = refl
 read_all-waiting (b ∷ bytes) is = rw is refl
 
-pub read_all-faulty : (bytes : List ℕ) (fault : StreamFault) → decode bytes ≡ fronts.Faulty fault → read_all bytes ≡ alone (Fault fault)
+pub read_all-faulty : (bytes : List ℕ) (fault : PacketFault) → decode bytes ≡ fronts.Faulty fault
+    → read_all bytes ≡ alone (Fault fault)
 read_all-faulty [] fault is = absurd cc
 read_all-faulty (b ∷ bytes) fault is = rw is refl
 
-pub read_all-whole : (bytes : List ℕ) (packet : Packet) (size : ℕ) → decode bytes ≡ fronts.Whole packet size → read_all bytes ≡ with_packets (packet ∷ []) (read_all (drop size bytes))
+pub read_all-whole : (bytes : List ℕ) (packet : Packet) (size : ℕ) → decode bytes ≡ fronts.Whole packet size
+    → read_all bytes ≡ with_packets (packet ∷ []) (read_all (drop size bytes))
 read_all-whole [] packet size is = absurd cc
 read_all-whole (b ∷ bytes) packet size is =
     let within = decode-within (b ∷ bytes) packet size is in
     rw is (ap (with_packets (packet ∷ [])) (read_within-room (length bytes) (length (drop size (b ∷ bytes))) (drop size (b ∷ bytes)) (omega arith) (omega (arith, length-drop size (b ∷ bytes)))))
 
-pub with_packets-both : (first second : List Packet) (read : Read) → with_packets first (with_packets second read) ≡ with_packets (first ++ second) read
+pub with_packets-both : (first second : List Packet) (read : Read)
+    → with_packets first (with_packets second read) ≡ with_packets (first ++ second) read
 with_packets-both first second read = ap (λ (packets : List Packet). record { packets = packets; ending = read.ending }) (sym (append_assoc first second read.packets))
 
 -- what is left waits for more
@@ -144,7 +162,9 @@ abbrev pub WaitsAt : End → Type 0
 WaitsAt (Rest bytes) = decode bytes ≡ fronts.Waiting
 WaitsAt (Fault fault) = Unit {0}
 
-waits-behind : (f : Front) (bytes : List ℕ) → decode bytes ≡ f → ((rest : List ℕ) → length rest < length bytes → WaitsAt (read_all rest).ending) → WaitsAt (read_all bytes).ending
+waits-behind : (f : Front) (bytes : List ℕ) → decode bytes ≡ f
+    → ((rest : List ℕ) → length rest < length bytes → WaitsAt (read_all rest).ending)
+    → WaitsAt (read_all bytes).ending
 waits-behind fronts.Waiting bytes is others = subst (λ (r : Read). WaitsAt r.ending) (sym (read_all-waiting bytes is)) is
 waits-behind (fronts.Faulty fault) bytes is others = subst (λ (r : Read). WaitsAt r.ending) (sym (read_all-faulty bytes fault is)) tt
 waits-behind (fronts.Whole packet size) bytes is others =
@@ -168,17 +188,20 @@ continued_from packets (Fault fault) more = record { packets = packets; ending =
 abbrev pub continued : Read → List ℕ → Read
 continued read more = continued_from read.packets read.ending more
 
-continued-both : (packets others : List Packet) (e : End) (more : List ℕ) → continued_from (packets ++ others) e more ≡ with_packets packets (continued_from others e more)
+continued-both : (packets others : List Packet) (e : End) (more : List ℕ)
+    → continued_from (packets ++ others) e more ≡ with_packets packets (continued_from others e more)
 continued-both packets others (Rest bytes) more = sym (with_packets-both packets others (read_all (bytes ++ more)))
 continued-both packets others (Fault fault) more = refl
 
-append-behind : (f : Front) (bytes more : List ℕ) → decode bytes ≡ f → ((rest : List ℕ) → length rest < length bytes → read_all (rest ++ more) ≡ continued (read_all rest) more)
+append-behind : (f : Front) (bytes more : List ℕ) → decode bytes ≡ f
+    → ((rest : List ℕ) → length rest < length bytes → read_all (rest ++ more) ≡ continued (read_all rest) more)
     → read_all (bytes ++ more) ≡ continued (read_all bytes) more
 append-behind fronts.Waiting bytes more is others = sym (ap (λ (r : Read). continued r more) (read_all-waiting bytes is))
 append-behind (fronts.Faulty fault) bytes more is others =
     elim (decode-more bytes more) [
       | inl waits ↦ absurd (let e : fronts.Faulty fault ≡ fronts.Waiting = sym is ∙ waits in cc)
-      | inr same ↦ read_all-faulty (bytes ++ more) fault (same ∙ is) ∙ sym (ap (λ (r : Read). continued r more) (read_all-faulty bytes fault is))
+      | inr same ↦ read_all-faulty (bytes ++ more) fault (same ∙ is)
+          ∙ sym (ap (λ (r : Read). continued r more) (read_all-faulty bytes fault is))
     ]
 append-behind (fronts.Whole packet size) bytes more is others =
     elim (decode-more bytes more) [
@@ -192,7 +215,8 @@ append-behind (fronts.Whole packet size) bytes more is others =
           ∙ sym (ap (λ (r : Read). continued r more) (read_all-whole bytes packet size is)))
     ]
 
-read_all-append-within : (most : ℕ) (bytes more : List ℕ) → length bytes ≤ most → read_all (bytes ++ more) ≡ continued (read_all bytes) more
+read_all-append-within : (most : ℕ) (bytes more : List ℕ) → length bytes ≤ most
+    → read_all (bytes ++ more) ≡ continued (read_all bytes) more
 read_all-append-within zero [] more fits = refl
 read_all-append-within zero (b ∷ bytes) more fits = absurd (omega arith)
 read_all-append-within (suc most) bytes more fits = append-behind (decode bytes) bytes more refl (λ rest less. read_all-append-within most rest more (omega arith))
@@ -200,106 +224,12 @@ read_all-append-within (suc most) bytes more fits = append-behind (decode bytes)
 pub read_all-append : (bytes more : List ℕ) → read_all (bytes ++ more) ≡ continued (read_all bytes) more
 read_all-append bytes more = read_all-append-within (length bytes) bytes more (omega arith)
 
--- a piece behind held bytes whose header is known
-
-not_sized : (size : ℕ) (r : Result Packet StreamFault) → sized size r ≡ fronts.Waiting → ⊥
+-- a packet or a fault is no waiting
+pub not_sized : (size : ℕ) (r : Result Packet PacketFault) → sized size r ≡ fronts.Waiting → ⊥
 not_sized size (Ok packet) is = cc
 not_sized size (Err fault) is = cc
 
--- it does not make the packet whole
-pub record IsPart (bytes : List ℕ) (kind : Kind) (start rest : ℕ) : Type 0 where
-  pub told : header_at bytes ≡ headers.Known kind start rest
-  pub most : start + rest ≤ MAX_PACKET
-  pub part : length bytes < start + rest
-
-pub waiting-told : (bytes : List ℕ) (kind : Kind) (start rest : ℕ) → decode bytes ≡ fronts.Waiting → header_at bytes ≡ headers.Known kind start rest → IsPart bytes kind start rest
-waiting-told bytes kind start rest waits told =
-    let is : behind_header (headers.Known kind start rest) bytes ≡ fronts.Waiting = rw told at waits in
-    elim (cases_lt MAX_PACKET (start + rest)) [
-      | inl long ↦ absurd (let e : fronts.Faulty _ ≡ fronts.Waiting = rw (lt-ltb MAX_PACKET (start + rest) long) at is in cc)
-      | inr short ↦ elim (cases_lt (length bytes) (start + rest)) [
-        | inl part ↦ record { told = told; most = short; part = part }
-        | inr whole ↦ absurd (not_sized (start + rest) (body_of kind (take rest (drop start bytes))) (rw (le-ltb MAX_PACKET (start + rest) short, le-ltb (length bytes) (start + rest) whole) at is))
-      ]
-    ]
-
-told-more : (bytes more : List ℕ) (kind : Kind) (start rest : ℕ) → header_at bytes ≡ headers.Known kind start rest → header_at (bytes ++ more) ≡ headers.Known kind start rest
-told-more bytes more kind start rest told =
-    elim (header_at-more bytes more) [
-      | inl waits ↦ absurd (let e : headers.Known kind start rest ≡ headers.Unfinished = sym told ∙ waits in cc)
-      | inr same ↦ same ∙ told
-    ]
-
-pub still_waits : (bytes more : List ℕ) (kind : Kind) (start rest : ℕ) → IsPart bytes kind start rest → length (bytes ++ more) < start + rest
-    → (decode (bytes ++ more) ≡ fronts.Waiting) × (header_at (bytes ++ more) ≡ headers.Known kind start rest)
-still_waits bytes more kind start rest p short =
-    let told = told-more bytes more kind start rest p.told in
-    (rw (told, le-ltb MAX_PACKET (start + rest) p.most, lt-ltb (length (bytes ++ more)) (start + rest) short) refl, told)
-
--- it makes the packet whole
-pub is_whole : (held part behind : List ℕ) (kind : Kind) (start rest : ℕ) → IsPart held kind start rest → length (held ++ part) ≡ start + rest
-    → decode (held ++ (part ++ behind)) ≡ sized (start + rest) (body_of kind (drop start (held ++ part)))
-is_whole held part behind kind start rest p size =
-    let told = told-more held (part ++ behind) kind start rest p.told in
-    let enough : start + rest ≤ length (held ++ (part ++ behind)) = omega (arith, length-append held (part ++ behind), length-append part behind, length-append held part) in
-    let body : take rest (drop start (held ++ (part ++ behind))) ≡ drop start (held ++ part) =
-    ap (λ (b : List ℕ). take rest (drop start b)) (sym (append_assoc held part behind))
-    ∙ body-more start rest (held ++ part) behind (omega arith)
-    ∙ take_all rest (drop start (held ++ part)) (omega (arith, length-drop start (held ++ part))) in
-    rw (told, le-ltb MAX_PACKET (start + rest) p.most, le-ltb (length (held ++ (part ++ behind))) (start + rest) enough) (ap (λ b. sized (start + rest) (body_of kind b)) body)
-
-pub read_all-completed : (held part behind : List ℕ) (kind : Kind) (start rest : ℕ) (packet : Packet) → IsPart held kind start rest → length (held ++ part) ≡ start + rest
-    → body_of kind (drop start (held ++ part)) ≡ Ok packet → read_all (held ++ (part ++ behind)) ≡ with_packets (packet ∷ []) (read_all behind)
-read_all-completed held part behind kind start rest packet p size is =
-    let front : decode (held ++ (part ++ behind)) ≡ fronts.Whole packet (start + rest) = is_whole held part behind kind start rest p size ∙ ap (sized (start + rest)) is in
-    let left : drop (start + rest) (held ++ (part ++ behind)) ≡ behind =
-    ap (drop (start + rest)) (sym (append_assoc held part behind)) ∙ drop-append-le (start + rest) (held ++ part) behind (omega arith)
-    ∙ ap (λ (b : List ℕ). b ++ behind) (drop_all (start + rest) (held ++ part) (omega arith)) in
-    read_all-whole (held ++ (part ++ behind)) packet (start + rest) front ∙ ap (λ (b : List ℕ). with_packets (packet ∷ []) (read_all b)) left
-
-pub read_all-broken : (held part behind : List ℕ) (kind : Kind) (start rest : ℕ) (fault : StreamFault) → IsPart held kind start rest → length (held ++ part) ≡ start + rest
-    → body_of kind (drop start (held ++ part)) ≡ Err fault → read_all (held ++ (part ++ behind)) ≡ alone (Fault fault)
-read_all-broken held part behind kind start rest fault p size is =
-    read_all-faulty (held ++ (part ++ behind)) fault (is_whole held part behind kind start rest p size ∙ ap (sized (start + rest)) is)
-
 -- what the code knows
-
-pub waits_after : (packets all : List Packet) (bytes : List ℕ) (e : End) → with_packets packets (read_all bytes) ≡ record { packets = all; ending = e } → WaitsAt e
+pub waits_after : (packets all : List Packet) (bytes : List ℕ) (e : End)
+    → with_packets packets (read_all bytes) ≡ record { packets = all; ending = e } → WaitsAt e
 waits_after packets all bytes e is = subst WaitsAt (ap (λ (r : Read). r.ending) is) (read_all-waits bytes)
-
-pub ready_part : (s : Status) (held : List ℕ) (h : Header) (kind : Kind) (start rest : ℕ) → IsReady s held h → s ≡ statuses.Reading → h ≡ headers.Known kind start rest → IsPart held kind start rest
-ready_part statuses.Reading held h kind start rest ready reads told = waiting-told held kind start rest ready.0 (ready.1 ∙ told)
-ready_part (statuses.Kept fault) held h kind start rest ready reads told = absurd cc
-ready_part statuses.Failed held h kind start rest ready reads told = absurd cc
-
-pub ready_from : (s : Status) (held : List ℕ) (h : Header) → s ≡ statuses.Reading → decode held ≡ fronts.Waiting → header_at held ≡ h → IsReady s held h
-ready_from statuses.Reading held h reads waits told = (waits, told)
-ready_from (statuses.Kept fault) held h reads waits told = tt
-ready_from statuses.Failed held h reads waits told = tt
-
-pub fed_reading : (state : State) (s : Status) (held piece : List ℕ) → state ≡ state_of s held → s ≡ statuses.Reading → fed state piece ≡ settled (read_all (held ++ piece))
-fed_reading state s held piece view reads = ap (λ (x : State). fed x piece) (view ∙ ap (λ (t : Status). state_of t held) reads)
-
-pub fed_completed : (state : State) (s : Status) (held piece part behind : List ℕ) (kind : Kind) (start rest : ℕ) (packet : Packet) (packets : List Packet) → state ≡ state_of s held → s ≡ statuses.Reading
-    → IsPart held kind start rest → piece ≡ part ++ behind → length part ≡ start + rest - length held → body_of kind (drop start (held ++ part)) ≡ Ok packet → packets ≡ packet ∷ []
-    → fed state piece ≡ settled (with_packets packets (read_all behind))
-fed_completed state s held piece part behind kind start rest packet packets view reads p parts size is one =
-    fed_reading state s held piece view reads
-    ∙ ap (λ (b : List ℕ). settled (read_all (held ++ b))) parts
-    ∙ ap settled (read_all-completed held part behind kind start rest packet p (omega (arith, length-append held part, p.part)) is)
-    ∙ ap (λ (ps : List Packet). settled (with_packets ps (read_all behind))) (sym one)
-
-told_fault : {A : Type 0} (fault : StreamFault) (r : Result A StreamFault) → Fails fault r → (fault ≡ faults.Memory → ⊥) → r ≡ Err fault
-told_fault faults.Malformed r fails other = fails
-told_fault faults.NotSupported r fails other = fails
-told_fault faults.TooLong r fails other = fails
-told_fault faults.Failed r fails other = fails
-told_fault faults.Memory r fails other = absurd (other refl)
-
-pub fed_broken : (state : State) (s : Status) (held piece part behind : List ℕ) (kind : Kind) (start rest : ℕ) (fault : StreamFault) → state ≡ state_of s held → s ≡ statuses.Reading
-    → IsPart held kind start rest → piece ≡ part ++ behind → length part ≡ start + rest - length held → Fails fault (body_of kind (drop start (held ++ part))) → (fault ≡ faults.Memory → ⊥)
-    → fed state piece ≡ (Err fault, Failed)
-fed_broken state s held piece part behind kind start rest fault view reads p parts size fails other =
-    fed_reading state s held piece view reads
-    ∙ ap (λ (b : List ℕ). settled (read_all (held ++ b))) parts
-    ∙ ap settled (read_all-broken held part behind kind start rest fault p (omega (arith, length-append held part, p.part)) (told_fault fault (body_of kind (drop start (held ++ part))) fails other))

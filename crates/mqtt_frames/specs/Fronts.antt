@@ -2,8 +2,8 @@
 use Rattle.std.specs.Prelude.{ℕ, ◌+◌, ◌<◌, ◌≤◌, nat_lt, List, length, take, drop, if◌then◌else◌, Ok, Err}
 use Rattle.std.specs.declared.result.Result.{Result}
 use Rattle.mqtt_frames.specs.declared.limits.TheConstants.{MAX_PACKET}
-use Rattle.mqtt_frames.specs.declared.fault.StreamFault.{StreamFault}
-use Rattle.mqtt_frames.specs.declared.fault.StreamFault.TheVariants.{TooLong}
+use Rattle.mqtt_frames.specs.declared.fault.PacketFault.{PacketFault}
+use Rattle.mqtt_frames.specs.declared.fault.PacketFault.TheVariants.{TooLong}
 use Rattle.mqtt_frames.specs.declared.packet.Packet.{Packet}
 use Rattle.mqtt_frames.specs.declared.header.Header.{Header}
 use Rattle.mqtt_frames.specs.declared.header.Header.TheVariants as header
@@ -13,18 +13,21 @@ use Rattle.mqtt_frames.specs.Reading.{body_of}
 use Rattle.mqtt_frames.specs.Headers.{header_at}
 
 -- a packet of so many bytes
-abbrev pub sized : ℕ → Result Packet StreamFault → Front
+abbrev pub sized : ℕ → Result Packet PacketFault → Front
 sized size (Ok packet) = front.Whole packet size
 sized size (Err fault) = front.Faulty fault
 
--- a packet has at most MAX_PACKET bytes, of which its header tells; all other faults are reported with the packet's last byte
+-- a packet has at most MAX_PACKET bytes, of which its header tells; all other faults are reported with the
+-- packet's last byte
 abbrev pub behind_header : Header → List ℕ → Front
 behind_header header.Unfinished bytes = front.Waiting
 behind_header (header.Faulty fault) bytes = front.Faulty fault
 behind_header (header.Known kind start rest) bytes =
     if nat_lt MAX_PACKET (start + rest)
     then front.Faulty TooLong
-    else (if nat_lt (length bytes) (start + rest) then front.Waiting else sized (start + rest) (body_of kind (take rest (drop start bytes))))
+    else (if nat_lt (length bytes) (start + rest)
+    then front.Waiting
+    else sized (start + rest) (body_of kind (take rest (drop start bytes))))
 
 abbrev pub decode : List ℕ → Front
 decode bytes = behind_header (header_at bytes) bytes

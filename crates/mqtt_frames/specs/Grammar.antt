@@ -1,5 +1,7 @@
--- Which bytes spell which packet (MQTT 3.1.1, sections 1.5, 2 and 3), apart from how they are read or written.
-use Rattle.std.specs.Prelude.{◌≡◌, ◌≢◌, ℕ, ◌+◌, ◌*◌, ◌^◌, ◌<◌, ◌≤◌, ◌⊎◌, List, [], ◌∷◌, ◌++◌, length, Some, None}
+-- Which bytes spell which packet (MQTT 3.1.1, sections 1.5, 2 and 3), apart from how they are read or
+-- written.
+use Rattle.std.specs.Prelude.{◌≡◌, ◌≢◌, ℕ, ◌+◌, ◌*◌, ◌^◌, ◌<◌, ◌≤◌, ◌⊎◌, List, [], ◌∷◌, ◌++◌, length, Some}
+use Rattle.std.specs.Prelude.{None}
 use Rattle.std.specs.declared.option.Option.{Option}
 use Rattle.mqtt_frames.specs.declared.limits.TheConstants.{MAX_PACKET}
 use Rattle.mqtt_frames.specs.declared.packet.Connect.{Connect}
@@ -37,14 +39,18 @@ pub record SpellsText (text b : List ℕ) : Type 0 where
 -- groups of seven bits, the low ones first; each byte that another one follows has 128 more (2.2.3)
 abbrev pub SpellsGroups : ℕ → List ℕ → Type 0
 SpellsGroups n [] = ⊥
-SpellsGroups n (b ∷ bytes) = ((b < 128) × (n ≡ b) × (bytes ≡ [])) ⊎ ((128 ≤ b) × (b < 256) × ((rest : ℕ) × (n + 128 ≡ b + 128 * rest) × SpellsGroups rest bytes))
+SpellsGroups n (b ∷ bytes) =
+    ((b < 128) × (n ≡ b) × (bytes ≡ []))
+    ⊎ ((128 ≤ b) × (b < 256) × ((rest : ℕ) × (n + 128 ≡ b + 128 * rest) × SpellsGroups rest bytes))
 
--- a Remaining Length: any one to four bytes of the value, the shortest and those with empty groups at their end
+-- a Remaining Length: any one to four bytes of the value, the shortest and those with empty groups at their
+-- end
 pub record SpellsLength (n : ℕ) (bytes : List ℕ) : Type 0 where
   pub groups : SpellsGroups n bytes
   pub most : length bytes ≤ 4
 
--- the variable header and the payload of a CONNECT without a will, a user name and a password: its flags have CleanSession alone, of weight 2 (3.1)
+-- the variable header and the payload of a CONNECT without a will, a user name and a password: its flags have
+-- CleanSession alone, of weight 2 (3.1)
 pub record SpellsConnect (c : Connect) (b : List ℕ) : Type 0 where
   pub keep_alive : List ℕ
   pub keep_alive_number : SpellsNumber c.keep_alive keep_alive
@@ -68,12 +74,16 @@ pub record SpellsPublish (p : Publish) (b : List ℕ) : Type 0 where
 -- topic filters, each with the byte of its level (3.8.3)
 abbrev pub SpellsRequests : List Request → List ℕ → Type 0
 SpellsRequests [] b = b ≡ []
-SpellsRequests (r ∷ requests) b = (filter : List ℕ) × (rest : List ℕ) × SpellsText r.filter filter × SpellsRequests requests rest × (b ≡ filter ++ (qos_byte r.qos ∷ rest))
+SpellsRequests (r ∷ requests) b =
+    (filter : List ℕ) × (rest : List ℕ) × SpellsText r.filter filter × SpellsRequests requests rest
+    × (b ≡ filter ++ (qos_byte r.qos ∷ rest))
 
 -- topic filters (3.10.3)
 abbrev pub SpellsFilters : List (List ℕ) → List ℕ → Type 0
 SpellsFilters [] b = b ≡ []
-SpellsFilters (f ∷ filters) b = (filter : List ℕ) × (rest : List ℕ) × SpellsText f filter × SpellsFilters filters rest × (b ≡ filter ++ rest)
+SpellsFilters (f ∷ filters) b =
+    (filter : List ℕ) × (rest : List ℕ) × SpellsText f filter × SpellsFilters filters rest
+    × (b ≡ filter ++ rest)
 
 -- a packet identifier, and behind it one thing or more of a kind (3.8, 3.9 and 3.10)
 pub record SpellsListed {A : Type 0} (SpellsItems : List A → List ℕ → Type 0) (id : ℕ) (items : List A) (b : List ℕ) : Type 0 where

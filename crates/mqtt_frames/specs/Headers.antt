@@ -1,9 +1,10 @@
 -- The fixed header at the front of bytes (MQTT 3.1.1, 2.2): first byte and Remaining Length.
-use Rattle.std.specs.Prelude.{ℕ, zero, suc, ◌+◌, ◌-◌, ◌*◌, ◌<◌, ◌≤◌, nat_lt, List, [], ◌∷◌, if◌then◌else◌, Ok, Err}
+use Rattle.std.specs.Prelude.{ℕ, zero, suc, ◌+◌, ◌-◌, ◌*◌, ◌<◌, ◌≤◌, nat_lt, List, [], ◌∷◌, if◌then◌else◌, Ok}
+use Rattle.std.specs.Prelude.{Err}
 use Rattle.std.specs.declared.result.Result.{Result}
 use Rattle.mqtt_frames.specs.declared.limits.TheConstants.{MAX_REMAINING}
-use Rattle.mqtt_frames.specs.declared.fault.StreamFault.{StreamFault}
-use Rattle.mqtt_frames.specs.declared.fault.StreamFault.TheVariants.{Malformed}
+use Rattle.mqtt_frames.specs.declared.fault.PacketFault.{PacketFault}
+use Rattle.mqtt_frames.specs.declared.fault.PacketFault.TheVariants.{Malformed}
 use Rattle.mqtt_frames.specs.declared.kind.Kind.{Kind}
 use Rattle.mqtt_frames.specs.declared.header.Length.{Length}
 use Rattle.mqtt_frames.specs.declared.header.Length.TheVariants as lengths
@@ -21,9 +22,10 @@ behind_group byte (lengths.Known value size) = lengths.Known (byte - 128 + 128 *
 abbrev pub length_at : ℕ → List ℕ → Length
 length_at zero bytes = lengths.Overlong
 length_at (suc most) [] = lengths.Unfinished
-length_at (suc most) (byte ∷ bytes) = if nat_lt byte 128 then lengths.Known byte 1 else behind_group byte (length_at most bytes)
+length_at (suc most) (byte ∷ bytes) =
+    if nat_lt byte 128 then lengths.Known byte 1 else behind_group byte (length_at most bytes)
 
-abbrev pub with_kind : Result Kind StreamFault → ℕ → ℕ → Header
+abbrev pub with_kind : Result Kind PacketFault → ℕ → ℕ → Header
 with_kind (Ok kind) size value = header.Known kind size value
 with_kind (Err fault) size value = header.Faulty fault
 

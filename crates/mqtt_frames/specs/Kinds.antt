@@ -1,17 +1,19 @@
 -- What the first byte of a packet says (MQTT 3.1.1, 2.2): its type and its flags.
 use Rattle.std.specs.Prelude.{ℕ, ◌/◌, ◌%◌, ◌==◌, ◌||◌, Bool, true, false, if◌then◌else◌, Ok, Err}
 use Rattle.std.specs.declared.result.Result.{Result}
-use Rattle.mqtt_frames.specs.declared.fault.StreamFault.{StreamFault}
-use Rattle.mqtt_frames.specs.declared.fault.StreamFault.TheVariants.{Malformed, NotSupported}
+use Rattle.mqtt_frames.specs.declared.fault.PacketFault.{PacketFault}
+use Rattle.mqtt_frames.specs.declared.fault.PacketFault.TheVariants.{Malformed, NotSupported}
 use Rattle.mqtt_frames.specs.declared.kind.PublishFlags.{PublishFlags}
 use Rattle.mqtt_frames.specs.declared.kind.Kind.{Kind}
 use Rattle.mqtt_frames.specs.declared.kind.Kind.TheVariants as kinds
 
 abbrev pub publish_flags : ℕ → Bool → PublishFlags
-publish_flags bits identified = record { dup = bits / 8 == 1; identified = identified; retain = bits % 2 == 1 }
+publish_flags bits identified =
+    record { dup = bits / 8 == 1; identified = identified; retain = bits % 2 == 1 }
 
--- a PUBLISH by its low four bits, DUP, two of QoS, RETAIN (3.3.1). Of QoS 0 and 1 it is read, QoS 2 is not supported, and 3 is none
-abbrev pub publish_kind : ℕ → Result Kind StreamFault
+-- a PUBLISH by its low four bits, DUP, two of QoS, RETAIN (3.3.1). Of QoS 0 and 1 it is read, QoS 2 is not
+-- supported, and 3 is none
+abbrev pub publish_kind : ℕ → Result Kind PacketFault
 publish_kind bits =
     if bits / 2 % 4 == 0
     then Ok (kinds.Publish (publish_flags bits false))
@@ -24,7 +26,7 @@ abbrev pub is_of_qos_2 : ℕ → Bool
 is_of_qos_2 first = (first == 80) || (first == 98) || (first == 112)
 
 -- the kind of packet that begins with the byte (2.2.1 and 2.2.2)
-abbrev pub kind_of : ℕ → Result Kind StreamFault
+abbrev pub kind_of : ℕ → Result Kind PacketFault
 kind_of first =
     if first == 16 then Ok kinds.Connect
     else (if first == 32 then Ok kinds.ConnectAck

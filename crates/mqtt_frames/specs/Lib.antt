@@ -1,6 +1,7 @@
 pub mod Faults
 pub mod RemainingLength
 pub mod Packets
+pub mod Parts
 pub mod Spellable
 pub mod Grammar
 pub mod Kinds
@@ -9,4 +10,6 @@ pub mod Headers
 pub mod Fronts
 pub mod Streams
 pub mod Laws
+pub mod Standing
+pub mod FrontLaws
 pub mod StreamLaws

@@ -80,9 +80,11 @@ abbrev pub codes_bytes : List SubscribeCode → List ℕ
 codes_bytes [] = []
 codes_bytes (code ∷ codes) = code_byte code ∷ codes_bytes codes
 
--- the variable header and the payload (2.3 and 2.4). Of the flags of a CONNECT only CleanSession is ever set, of weight 2 (3.1.2.3)
+-- the variable header and the payload (2.3 and 2.4). Of the flags of a CONNECT only CleanSession is ever set,
+-- of weight 2 (3.1.2.3)
 abbrev pub body : Packet → List ℕ
-body (variants.Connect c) = protocol ++ (flag c.clean_session 2 ∷ (number_bytes c.keep_alive ++ text_bytes c.client_id))
+body (variants.Connect c) =
+    protocol ++ (flag c.clean_session 2 ∷ (number_bytes c.keep_alive ++ text_bytes c.client_id))
 body (variants.ConnectAck a) = flag a.session_present 1 ∷ a.code ∷ []
 body (variants.Publish p) = text_bytes p.name ++ (id_bytes p.packet_id ++ p.payload)
 body (variants.PublishAck id) = number_bytes id

@@ -29,8 +29,10 @@ abbrev pub has_spelling : Packet → Bool
 has_spelling (variants.Connect c) = is_text c.client_id
 has_spelling (variants.Publish p) = is_optional_id p.packet_id && is_text p.name
 has_spelling (variants.PublishAck id) = is_id id
-has_spelling (variants.Subscribe s) = is_id s.packet_id && not (length s.requests == 0) && are_requests s.requests
+has_spelling (variants.Subscribe s) =
+    is_id s.packet_id && not (length s.requests == 0) && are_requests s.requests
 has_spelling (variants.SubscribeAck a) = is_id a.packet_id && not (length a.codes == 0)
-has_spelling (variants.Unsubscribe u) = is_id u.packet_id && not (length u.filters == 0) && are_filters u.filters
+has_spelling (variants.Unsubscribe u) =
+    is_id u.packet_id && not (length u.filters == 0) && are_filters u.filters
 has_spelling (variants.UnsubscribeAck id) = is_id id
 has_spelling _ = true

@@ -1,17 +1,18 @@
 -- Which packets a stream of bytes is, and what is answered when it comes in pieces (MQTT 3.1.1, 4.2 and 4.8).
-use Rattle.std.specs.Prelude.{◌≡◌, ℕ, zero, suc, List, [], ◌∷◌, ◌++◌, length, drop, Ok, Err}
+use Rattle.std.specs.Prelude.{◌≡◌, ℕ, zero, suc, List, [], ◌∷◌, ◌++◌, length, drop, Some, None, Ok, Err}
+use Rattle.std.specs.declared.option.Option.{Option}
 use Rattle.std.specs.declared.result.Result.{Result}
+use Rattle.mqtt_frames.specs.declared.fault.PacketFault.{PacketFault}
 use Rattle.mqtt_frames.specs.declared.fault.StreamFault.{StreamFault}
 use Rattle.mqtt_frames.specs.declared.fault.StreamFault.TheVariants as faults
 use Rattle.mqtt_frames.specs.declared.packet.Packet.{Packet}
-use Rattle.mqtt_frames.specs.declared.header.Header.{Header}
 use Rattle.mqtt_frames.specs.declared.wire.decode.Front.{Front}
 use Rattle.mqtt_frames.specs.declared.wire.decode.Front.TheVariants as front
 use Rattle.mqtt_frames.specs.declared.stream.Status.{Status}
 use Rattle.mqtt_frames.specs.declared.stream.Status.TheVariants as status
-use Rattle.mqtt_frames.specs.declared.stream.Ending.{Ending}
-use Rattle.mqtt_frames.specs.declared.stream.Ending.TheVariants as ending
-use Rattle.mqtt_frames.specs.Headers.{header_at}
+use Rattle.mqtt_frames.specs.declared.pending.Ending.{Ending}
+use Rattle.mqtt_frames.specs.declared.pending.Ending.TheVariants as ending
+use Rattle.mqtt_frames.specs.Faults.{stream_fault}
 use Rattle.mqtt_frames.specs.Fronts.{decode}
 
 -- what stands behind the packets of a stream
@@ -19,7 +20,7 @@ pub data End : Type 0 where
   -- the bytes of an unfinished packet, or none
   Rest : List ℕ → End
   -- a fault
-  Fault : StreamFault → End
+  Fault : PacketFault → End
 
 pub record Read : Type 0 where
   pub packets : List Packet
@@ -49,14 +50,14 @@ pub data State : Type 0 where
   -- the bytes of an unfinished packet were taken, or none
   Reading : List ℕ → State
   -- a fault stands behind the packets that were answered
-  Kept : StreamFault → State
+  Kept : PacketFault → State
   -- a fault was reported
   Failed : State
 
 -- where packets stand before a fault they are answered, and the fault is kept
 abbrev pub settled_of : List Packet → End → Result (List Packet) StreamFault × State
 settled_of packets (Rest bytes) = (Ok packets, Reading bytes)
-settled_of [] (Fault fault) = (Err fault, Failed)
+settled_of [] (Fault fault) = (Err (stream_fault fault), Failed)
 settled_of (packet ∷ packets) (Fault fault) = (Ok (packet ∷ packets), Kept fault)
 
 abbrev pub settled : Read → Result (List Packet) StreamFault × State
@@ -65,7 +66,7 @@ settled read = settled_of read.packets read.ending
 -- what is answered to a piece, and the state after it
 abbrev pub fed : State → List ℕ → Result (List Packet) StreamFault × State
 fed (Reading held) piece = settled (read_all (held ++ piece))
-fed (Kept fault) piece = (Err fault, Failed)
+fed (Kept fault) piece = (Err (stream_fault fault), Failed)
 fed Failed piece = (Err faults.Failed, Failed)
 
 -- the state that a stream stands for
@@ -74,10 +75,26 @@ state_of status.Reading held = Reading held
 state_of (status.Kept fault) held = Kept fault
 state_of status.Failed held = Failed
 
--- what is held is no whole packet, and its header is known
-abbrev pub IsReady : Status → List ℕ → Header → Type 0
-IsReady status.Reading held header = (decode held ≡ front.Waiting) × (header_at held ≡ header)
-IsReady _ held header = Unit {0}
+-- what is held is no whole packet; after a fault nothing is held
+abbrev pub IsReady : Status → List ℕ → Type 0
+IsReady status.Reading held = decode held ≡ front.Waiting
+IsReady (status.Kept fault) held = held ≡ []
+IsReady status.Failed held = held ≡ []
+
+-- an allocation can fail where a stream that reads is fed a byte or more
+abbrev pub TakesMemory : State → List ℕ → Type 0
+TakesMemory (Reading held) (b ∷ piece) = Unit {0}
+TakesMemory _ _ = ⊥
+
+-- what stands behind a packet that is whole, or the fault that its bytes have
+abbrev pub behind_body : Result Packet PacketFault → List ℕ → Read
+behind_body (Ok packet) behind = with_packets (packet ∷ []) (read_all behind)
+behind_body (Err fault) behind = record { packets = []; ending = Fault fault }
+
+-- packets, and behind them a fault, or the bytes that are held
+abbrev pub read_of : List Packet → Option PacketFault → List ℕ → Read
+read_of packets None held = record { packets = packets; ending = Rest held }
+read_of packets (Some fault) held = record { packets = packets; ending = Fault fault }
 
 abbrev pub ending_of : Ending → End
 ending_of (ending.Rest bytes) = Rest bytes.now

@@ -1,36 +1,40 @@
 //! CONNACK (MQTT 3.1.1, 3.2), and what PUBACK (3.4) and UNSUBACK (3.11) share: reading and writing.
-ghost use Rattle.std.specs.Prelude.{◌≡◌, ◌++◌, OnOk};
-ghost use Rattle.mqtt_frames.specs.Packets.{body};
-ghost use Rattle.mqtt_frames.specs.Reading.{Gives, session_of, connect_ack_of, whole_id};
+ghost use Rattle.std.specs.Prelude.{◌≡◌, ◌<◌, ◌++◌, IfOk, OnOk};
+ghost use Rattle.mqtt_frames.specs.Packets.{body, written};
+ghost use Rattle.mqtt_frames.specs.Reading.{session_of, connect_ack_of, whole_id};
 
 use crate::fields::{self, flag};
-use crate::{ConnectAck, Packet, StreamFault};
-use std::alloc::AllocError;
+use crate::{ConnectAck, Packet, PacketFault, remaining};
+use sng_text::Octets;
+use std::alloc::{AllocError, Global};
+
+/// The first byte of a PUBACK: packet type 4 (3.4.1).
+pub const PUBLISH_ACK_FIRST: u8 = 0x40;
 
 /// How many bytes each of the three takes behind its Remaining Length.
 pub const SIZE: usize = 2;
 
 /// A CONNACK by its variable header.
-pub fn connect_ack_of(body: &[u8]) -> Result<Packet, StreamFault>
-    ensures { Gives (λ packet. packet) result (connect_ack_of body.now) }
+pub fn connect_ack_of(body: &[u8]) -> Result<Packet, PacketFault>
+    ensures { result ≡ connect_ack_of body.now }
 {
     match body {
         [flags, code] => Ok(Packet::ConnectAck(ConnectAck {
             session_present: session_of(*flags)?,
             code: *code,
         })),
-        _ => Err(StreamFault::Malformed),
+        _ => Err(PacketFault::Malformed),
     }
 }
 
 /// Whether there is a session, as the one flag that may be set (3.2.2.2).
-fn session_of(flags: u8) -> Result<bool, StreamFault>
-    ensures { Gives (λ present. present) result (session_of flags) }
+fn session_of(flags: u8) -> Result<bool, PacketFault>
+    ensures { result ≡ session_of flags }
 {
     match flags {
         0 => Ok(false),
         1 => Ok(true),
-        _ => Err(StreamFault::Malformed),
+        _ => Err(PacketFault::Malformed),
     }
 }
 
@@ -44,12 +48,22 @@ pub fn push_connect_ack(bytes: &mut Vec<u8>, answer: &ConnectAck) -> Result<(), 
 }
 
 /// A packet identifier and nothing behind it: a PUBACK or an UNSUBACK.
-pub fn whole_id(bytes: &[u8]) -> Result<u16, StreamFault>
-    ensures { Gives (λ id. id) result (whole_id bytes.now) }
+pub fn whole_id(bytes: &[u8]) -> Result<u16, PacketFault>
+    ensures { result ≡ whole_id bytes.now }
 {
     let (packet_id, rest) = fields::id_at(bytes)?;
     match rest {
         [] => Ok(packet_id),
-        _ => Err(StreamFault::Malformed),
+        _ => Err(PacketFault::Malformed),
     }
+}
+
+/// The PUBACK of a packet identifier that is not 0. Allocates once.
+pub fn encode_publish_ack(alloc: Global, packet_id: u16) -> Result<Octets, AllocError>
+    requires { 0 < packet_id }
+    ensures { IfOk result (λ o. o ≡ written (Packet.PublishAck packet_id)) }
+{
+    let mut bytes = remaining::front(alloc, PUBLISH_ACK_FIRST, SIZE)?;
+    fields::push_number(&mut bytes, usize::from(packet_id))?;
+    Ok(Octets::from(bytes))
 }

@@ -1,10 +1,21 @@
 //! Why bytes are not read as packets, and why a packet is not written.
 ghost use Rattle.std.specs.Prelude.{◌≡◌};
-ghost use Rattle.mqtt_frames.specs.Faults.{number_of};
+ghost use Rattle.mqtt_frames.specs.Faults.{number_of, stream_fault};
 ghost use Rattle.mqtt_frames.specs.declared.fault.StreamFault.TheVariants.{Memory};
 
 use std::alloc::{AllocError, AllocFailed};
 use thiserror::Error;
+
+/// Why the bytes of a connection are not read as a packet. After one of these faults a stream has failed.
+#[derive(Clone, Copy, Debug, PartialEq, Eq)]
+pub enum PacketFault {
+    /// The bytes spell no packet (MQTT 3.1.1, 4.8).
+    Malformed,
+    /// The packet is of a kind that is not read.
+    NotSupported,
+    /// The packet has more than `MAX_PACKET` bytes.
+    TooLong,
+}
 
 /// The fault of a stream of packets, or of a packet that is to be written.
 #[derive(Clone, Copy, Debug, PartialEq, Eq, Error)]
@@ -41,18 +52,22 @@ impl StreamFault {
     }
 }
 
+impl From<PacketFault> for StreamFault {
+    ghost from_gives = { λ packet fault. fault ≡ stream_fault packet };
+
+    fn from(fault: PacketFault) -> StreamFault {
+        match fault {
+            PacketFault::Malformed => StreamFault::Malformed,
+            PacketFault::NotSupported => StreamFault::NotSupported,
+            PacketFault::TooLong => StreamFault::TooLong,
+        }
+    }
+}
+
 impl From<AllocError> for StreamFault {
     ghost from_gives = { λ _ fault. fault ≡ Memory };
 
     fn from(_error: AllocError) -> StreamFault {
-        StreamFault::Memory
-    }
-}
-
-impl<T: Drop> From<AllocFailed<T>> for StreamFault {
-    ghost from_gives = { λ _ fault. fault ≡ Memory };
-
-    fn from(_error: AllocFailed<T>) -> StreamFault {
         StreamFault::Memory
     }
 }

@@ -2,7 +2,7 @@
 ghost use Rattle.std.specs.Prelude.{◌≡◌, ◌-◌};
 ghost use Rattle.mqtt_frames.specs.Headers.{length_at, header_at, IsSmall, IsBrief};
 
-use crate::StreamFault;
+use crate::PacketFault;
 use crate::kind::{self, Kind};
 
 /// A Remaining Length at the front of bytes.
@@ -16,7 +16,9 @@ pub enum Length {
     Known(usize, usize),
 }
 
-/// The Remaining Length at the front of the bytes (2.2.3): one to four bytes, the shortest spelling or a longer one.
+/// The Remaining Length at the front of the bytes (2.2.3): one to four bytes, the shortest spelling or a
+/// longer
+/// one.
 pub fn length_at(bytes: &[u8]) -> Length
     ensures value { result ≡ length_at 4 bytes.now }
     ensures small { IsSmall result }
@@ -49,13 +51,14 @@ pub enum Header {
     /// The Remaining Length is not whole.
     Unfinished,
     /// The Remaining Length or the first byte has that fault.
-    Faulty(StreamFault),
+    Faulty(PacketFault),
     /// The kind of packet, the size of the header and the Remaining Length, in bytes.
     Known(Kind, usize, usize),
 }
 
-/// The fixed header at the front of the bytes. A fault of the first byte is reported once the Remaining Length is
-/// whole.
+/// The fixed header at the front of the bytes. A fault of the first byte is reported once the Remaining
+/// Length
+/// is whole.
 pub fn header_at(bytes: &[u8]) -> Header
     ensures value { result ≡ header_at bytes.now }
     ensures brief { IsBrief result }
@@ -65,7 +68,7 @@ pub fn header_at(bytes: &[u8]) -> Header
     };
     match length_at(rest) {
         Length::Unfinished => Header::Unfinished,
-        Length::Overlong => Header::Faulty(StreamFault::Malformed),
+        Length::Overlong => Header::Faulty(PacketFault::Malformed),
         Length::Known(value, size) => match kind::kind_of(*first) {
             Ok(kind) => Header::Known(kind, 1 + size, value),
             Err(fault) => Header::Faulty(fault),

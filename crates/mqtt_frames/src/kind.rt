@@ -2,7 +2,7 @@
 ghost use Rattle.std.specs.Prelude.{◌≡◌};
 ghost use Rattle.mqtt_frames.specs.Kinds.{kind_of, publish_kind};
 
-use crate::StreamFault;
+use crate::PacketFault;
 
 /// The kinds of packets that are read.
 #[derive(Clone, Copy, Debug)]
@@ -44,15 +44,16 @@ pub struct PublishFlags {
 
 /// The kind of packet that begins with the byte.
 ///
-/// `NotSupported`: a PUBLISH of QoS 2, or one of the three packets that only go with it. `Malformed`: no packet begins so.
-pub fn kind_of(first: u8) -> Result<Kind, StreamFault>
+/// `NotSupported`: a PUBLISH of QoS 2, or one of the three packets that only go with it. `Malformed`: no
+/// packet begins so.
+pub fn kind_of(first: u8) -> Result<Kind, PacketFault>
     ensures { result ≡ kind_of first }
 {
     match first {
         0x10 => Ok(Kind::Connect),
         0x20 => Ok(Kind::ConnectAck),
         0x40 => Ok(Kind::PublishAck),
-        0x50 | 0x62 | 0x70 => Err(StreamFault::NotSupported),
+        0x50 | 0x62 | 0x70 => Err(PacketFault::NotSupported),
         0x82 => Ok(Kind::Subscribe),
         0x90 => Ok(Kind::SubscribeAck),
         0xa2 => Ok(Kind::Unsubscribe),
@@ -64,14 +65,14 @@ pub fn kind_of(first: u8) -> Result<Kind, StreamFault>
             if first / 16 == 3 {
                 publish_kind(first % 16)
             } else {
-                Err(StreamFault::Malformed)
+                Err(PacketFault::Malformed)
             }
         }
     }
 }
 
 /// A PUBLISH with those low four bits.
-fn publish_kind(bits: u8) -> Result<Kind, StreamFault>
+fn publish_kind(bits: u8) -> Result<Kind, PacketFault>
     ensures { result ≡ publish_kind bits }
 {
     let dup = bits / 8 == 1;
@@ -87,7 +88,7 @@ fn publish_kind(bits: u8) -> Result<Kind, StreamFault>
             identified: true,
             retain,
         })),
-        2 => Err(StreamFault::NotSupported),
-        _ => Err(StreamFault::Malformed),
+        2 => Err(PacketFault::NotSupported),
+        _ => Err(PacketFault::Malformed),
     }
 }

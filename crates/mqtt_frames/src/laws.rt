@@ -1,6 +1,11 @@
-//! The laws of writing and reading. Each function here only states one: its contract is the law, and calling it does nothing.
+//! The laws of writing and reading. Each function here only states one: its contract is the law, and calling
+//! it does nothing.
 ghost use Rattle.std.specs.Prelude.{◌≡◌};
-ghost use Rattle.mqtt_frames.specs.Laws.{WritesASpelling, SpellsOne, ReadsASpelling, ReadsWhatIsSpelled, ReadsWhatIsWritten};
+ghost use Rattle.mqtt_frames.specs.Laws.{WritesASpelling, SpellsOne, ReadsASpelling, ReadsWhatIsSpelled};
+ghost use Rattle.mqtt_frames.specs.Laws.{ReadsWhatIsWritten};
+ghost use Rattle.mqtt_frames.specs.Laws.{WritesTheShortest};
+ghost use Rattle.mqtt_frames.specs.FrontLaws.{ReadsWhatStandsThere, WaitsForTheUnfinished, RefusesTheTooLong};
+ghost use Rattle.mqtt_frames.specs.FrontLaws.{RefusesTheUnsupported, RefusesTheRest};
 ghost use Rattle.mqtt_frames.specs.StreamLaws.{ReadsTheStream, ReadsWhatStands, FaultIsNoPacket, IsCutAnyhow};
 
 use crate::limits::{MAX_PACKET, MAX_REMAINING};
@@ -11,7 +16,9 @@ pub fn limits()
     ensures most_that_remains { MAX_REMAINING ≡ 268435455 }
 {}
 
-/// A packet that has a spelling is written as bytes that spell it, up to `MAX_PACKET` of them.
+/// A packet that has a spelling is written as bytes that spell it, where `MAX_REMAINING` bytes at most stand
+/// behind its
+/// Remaining Length.
 pub fn what_is_written_is_spelled()
     ensures { WritesASpelling }
 {}
@@ -41,7 +48,8 @@ pub fn a_spelled_stream_is_read()
     ensures { ReadsTheStream }
 {}
 
-/// The packets that are read from bytes are spelled, one behind the other, up to an unfinished packet or a fault.
+/// The packets that are read from bytes are spelled, one behind the other, up to an unfinished packet or a
+/// fault.
 pub fn a_stream_is_what_stands()
     ensures { ReadsWhatStands }
 {}
@@ -51,8 +59,41 @@ pub fn a_fault_is_no_packet()
     ensures { FaultIsNoPacket }
 {}
 
-/// However the bytes are cut, the packets that were answered, the fault that was reported or is kept, and what is held, are those of all
+/// However the bytes are cut, the packets that were answered, the fault that was reported or is kept, and
+/// what is held, are those of all
 /// the bytes.
 pub fn a_stream_is_cut_anyhow()
     ensures { IsCutAnyhow }
+{}
+
+/// What is written is the shortest spelling, and the only one of its length.
+pub fn the_shortest_is_written()
+    ensures { WritesTheShortest }
+{}
+
+/// A packet is read exactly where the first bytes spell it, at most `MAX_PACKET` of them. With the next four
+/// this parts
+/// all bytes by what stands at their front.
+pub fn a_packet_stands()
+    ensures { ReadsWhatStandsThere }
+{}
+
+/// More bytes are waited for exactly where a packet is not finished.
+pub fn the_unfinished_waits()
+    ensures { WaitsForTheUnfinished }
+{}
+
+/// Too long are just the packets of more than `MAX_PACKET` bytes.
+pub fn the_too_long_is_refused()
+    ensures { RefusesTheTooLong }
+{}
+
+/// Not supported are just the packets of QoS 2, and a CONNECT of other flags than CleanSession.
+pub fn the_unsupported_is_refused()
+    ensures { RefusesTheUnsupported }
+{}
+
+/// Malformed are all other bytes.
+pub fn the_rest_is_malformed()
+    ensures { RefusesTheRest }
 {}

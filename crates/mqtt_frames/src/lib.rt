@@ -2,6 +2,7 @@
 #![tactic(auto)]
 
 mod acknowledgements;
+mod bare;
 mod connect;
 mod copying;
 pub mod fault;
@@ -12,7 +13,9 @@ pub mod laws;
 pub mod limits;
 pub mod list;
 pub mod packet;
+mod pending;
 mod publish;
+mod read_fault;
 pub mod remaining;
 mod spellable;
 mod stream;
@@ -20,12 +23,18 @@ mod subscribe;
 mod unsubscribe;
 pub mod wire;
 
-pub use fault::StreamFault;
+pub use acknowledgements::encode_publish_ack;
+pub use bare::{encode_disconnect, encode_ping_request};
+pub use connect::encode_connect;
+pub use fault::{PacketFault, StreamFault};
 pub use limits::{MAX_PACKET, MAX_REMAINING};
 pub use list::List;
 pub use packet::{
     Connect, ConnectAck, Packet, Publish, Request, RequestedQos, Subscribe, SubscribeAck,
     SubscribeCode, Unsubscribe,
 };
+pub use publish::encode_publish;
 pub use stream::Stream;
+pub use subscribe::encode_subscribe;
+pub use unsubscribe::encode_unsubscribe;
 pub use wire::encode::{encode, write_publish};

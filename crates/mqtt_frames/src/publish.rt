@@ -1,16 +1,21 @@
 //! PUBLISH at QoS 0 and 1 (MQTT 3.1.1, 3.3): reading, size and writing.
-ghost use Rattle.std.specs.Prelude.{◌≡◌, ◌≤◌, ◌++◌, length, OnOk, SomeIff};
-ghost use Rattle.mqtt_frames.specs.Packets.{publish_byte, body, id_bytes};
+ghost use Rattle.std.specs.Prelude.{◌≡◌, ◌≤◌, ◌<◌, ◌+◌, ◌^◌, ◌++◌, true, length, IfOk, OnOk, SomeIff};
+ghost use Rattle.mqtt_frames.specs.Packets.{flag, qos_bits, publish_byte, body, text_bytes, id_bytes};
+ghost use Rattle.mqtt_frames.specs.Packets.{written};
+ghost use Rattle.mqtt_frames.specs.Spellable.{is_optional_id};
+ghost use Rattle.mqtt_frames.specs.Parts.{publish_of_parts};
 ghost use Rattle.mqtt_frames.specs.Reading.{Gives, publish_of};
 
 use crate::fields::{self, flag};
 use crate::kind::PublishFlags;
-use crate::limits::MAX_PACKET;
-use crate::{Packet, Publish, StreamFault};
+use crate::limits::{MAX_PACKET, MAX_REMAINING};
+use crate::read_fault::ReadFault;
+use crate::{Packet, Publish, remaining};
+use sng_text::{Octets, TopicName};
 use std::alloc::{AllocError, Global};
 
 /// A PUBLISH by its flags, its variable header and its payload.
-pub fn publish_of(alloc: Global, flags: PublishFlags, body: &[u8]) -> Result<Packet, StreamFault>
+pub fn publish_of(alloc: Global, flags: PublishFlags, body: &[u8]) -> Result<Packet, ReadFault>
     ensures { Gives (λ packet. packet) result (publish_of flags body.now) }
 {
     let (name, rest) = fields::text_at(body)?;
@@ -28,16 +33,23 @@ pub fn publish_of(alloc: Global, flags: PublishFlags, body: &[u8]) -> Result<Pac
 pub fn publish_byte(publish: &Publish) -> u8
     ensures { result ≡ publish_byte publish.now }
 {
-    let qos = match publish.packet_id {
+    flags_byte(publish.dup, publish.packet_id, publish.retain)
+}
+
+fn flags_byte(dup: bool, packet_id: Option<u16>, retain: bool) -> u8
+    ensures { result ≡ 48 + flag dup 8 + qos_bits packet_id + flag retain 1 }
+{
+    let qos = match packet_id {
         None => 0,
         Some(_) => 2,
     };
-    0x30 + flag(publish.dup, 8) + qos + flag(publish.retain, 1)
+    0x30 + flag(dup, 8) + qos + flag(retain, 1)
 }
 
 /// How many bytes `push` puts; none where they are more than `MAX_PACKET`.
 pub fn size(publish: &Publish) -> Option<usize>
-    ensures { SomeIff result (length (body (Packet.Publish publish.now)) ≤ MAX_PACKET) (length (body (Packet.Publish publish.now))) }
+    ensures { SomeIff result (length (body (Packet.Publish publish.now)) ≤ MAX_PACKET)
+        (length (body (Packet.Publish publish.now))) }
 {
     let payload = publish.payload.as_slice().len();
     if payload > MAX_PACKET {
@@ -59,9 +71,49 @@ fn id_size(packet_id: Option<u16>) -> usize
 pub fn push(bytes: &mut Vec<u8>, publish: &Publish) -> Result<(), AllocError>
     ensures { OnOk result (bytes.new.items ≡ bytes.old.items ++ body (Packet.Publish publish.now)) }
 {
-    fields::push_text(bytes, publish.name.as_slice())?;
-    if let Some(packet_id) = publish.packet_id {
+    push_parts(
+        bytes,
+        publish.name.as_slice(),
+        publish.packet_id,
+        publish.payload.as_slice(),
+    )
+}
+
+fn push_parts(
+    bytes: &mut Vec<u8>,
+    name: &[u8],
+    packet_id: Option<u16>,
+    payload: &[u8],
+) -> Result<(), AllocError>
+    ensures { OnOk result (bytes.new.items
+        ≡ bytes.old.items ++ (text_bytes name.now ++ (id_bytes packet_id ++ payload.now))) }
+{
+    fields::push_text(bytes, name)?;
+    if let Some(packet_id) = packet_id {
         fields::push_number(bytes, usize::from(packet_id))?;
     }
-    bytes.extend_from_slice(publish.payload.as_slice())
+    bytes.extend_from_slice(payload)
+}
+
+/// The PUBLISH of a message: at QoS 1 with a packet identifier, which is not 0, and else at QoS 0. Allocates
+/// once, and
+/// copies the name and the payload once.
+pub fn encode_publish(
+    alloc: Global,
+    name: &TopicName,
+    payload: &[u8],
+    retain: bool,
+    packet_id: Option<u16>,
+    dup: bool,
+) -> Result<Octets, AllocError>
+    requires identified { is_optional_id packet_id ≡ true }
+    requires short { length name.now + length payload.now + 4 ≤ MAX_REMAINING }
+    ensures { IfOk result (λ o.
+        o ≡ written (publish_of_parts name.now payload.now retain packet_id dup)) }
+{
+    let name = name.text();
+    let rest = 2 + name.len() + id_size(packet_id) + payload.len();
+    let mut bytes = remaining::front(alloc, flags_byte(dup, packet_id, retain), rest)?;
+    push_parts(&mut bytes, name, packet_id, payload)?;
+    Ok(Octets::from(bytes))
 }

@@ -1,8 +1,10 @@
-//! The Remaining Length of a packet (MQTT 3.1.1, 2.2.3): seven bits to a byte, the low ones first, and 128 more in each byte but the last.
-ghost use Rattle.std.specs.Prelude.{◌≡◌, ◌++◌, OnOk, ◌≤◌, ◌+◌, ◌/◌, length};
+//! The Remaining Length of a packet (MQTT 3.1.1, 2.2.3): seven bits to a byte, the low ones first, and 128
+//! more in each
+//! byte but the last.
+ghost use Rattle.std.specs.Prelude.{◌≡◌, ◌∷◌, ◌++◌, IfOk, OnOk, ◌<◌, ◌≤◌, ◌+◌, ◌/◌, ◌^◌, length};
 ghost use Rattle.mqtt_frames.specs.RemainingLength.{remaining_length};
 
-use std::alloc::AllocError;
+use std::alloc::{AllocError, Global};
 
 /// How many bytes spell the number.
 pub fn size(number: usize) -> usize
@@ -16,6 +18,17 @@ pub fn size(number: usize) -> usize
         bytes += 1;
     }
     bytes
+}
+
+/// The front of a packet: its first byte and its Remaining Length, with room for so many bytes behind them.
+pub fn front(alloc: Global, first: u8, rest: usize) -> Result<Vec<u8>, AllocError>
+    requires { rest + rest / 128 + 3 < 2 ^ 64 }
+    ensures { IfOk result (λ v. v.items ≡ first ∷ remaining_length rest) }
+{
+    let mut bytes = Vec::with_capacity(alloc, 1 + size(rest) + rest)?;
+    bytes.push(first)?;
+    push(&mut bytes, rest)?;
+    Ok(bytes)
 }
 
 /// Puts the bytes that spell the number behind the others. After an `Err` some of them may be there.

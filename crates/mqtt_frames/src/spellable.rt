@@ -1,6 +1,7 @@
 //! Which packets some bytes spell (MQTT 3.1.1, 1.5.3, 2.3.1, 3.8.3, 3.9.3 and 3.10.3).
 ghost use Rattle.std.specs.Prelude.{◌≡◌};
-ghost use Rattle.mqtt_frames.specs.Spellable.{is_text, is_id, is_optional_id, are_requests, are_filters, has_spelling};
+ghost use Rattle.mqtt_frames.specs.Spellable.{is_text, is_id, is_optional_id, are_requests, are_filters};
+ghost use Rattle.mqtt_frames.specs.Spellable.{has_spelling};
 ghost use Rattle.mqtt_frames.specs.Grammar.{IsInRange, IsOptionalInRange};
 
 use crate::{Packet, Request};

@@ -1,23 +1,29 @@
 //! SUBSCRIBE and its SUBACK (MQTT 3.1.1, 3.8 and 3.9): reading, size and writing.
-ghost use Rattle.std.specs.Prelude.{◌≡◌, ◌+◌, ◌≤◌, ◌++◌, length, OnOk, SomeIff};
-ghost use Rattle.mqtt_frames.specs.Packets.{body, qos_byte, code_byte, requests_bytes, codes_bytes};
+ghost use Rattle.std.specs.Prelude.{◌≡◌, ◌+◌, ◌<◌, ◌≤◌, ◌++◌, length, IfOk, OnOk, SomeIff};
+ghost use Rattle.mqtt_frames.specs.Parts.{requested_qos, subscribe_of_parts};
+ghost use Rattle.mqtt_frames.specs.Packets.{body, written, qos_byte, code_byte, requests_bytes, codes_bytes};
 ghost use Rattle.mqtt_frames.specs.Reading.{Gives, qos_of, code_of, codes_of, items_of, request_at};
 ghost use Rattle.mqtt_frames.specs.Reading.{subscribe_of, subscribe_ack_of};
 
 use crate::limits::MAX_PACKET;
+use crate::read_fault::ReadFault;
 use crate::{
-    List, Packet, Request, RequestedQos, StreamFault, Subscribe, SubscribeAck, SubscribeCode,
-    fields,
+    List, Packet, PacketFault, Request, RequestedQos, Subscribe, SubscribeAck, SubscribeCode,
+    fields, remaining,
 };
+use sng_text::{Octets, Qos, TopicFilter};
 use std::alloc::{AllocError, Global};
 
+/// The first byte of a SUBSCRIBE: packet type 8, and the flags that it must have (3.8.1).
+pub const FIRST: u8 = 0x82;
+
 /// A SUBSCRIBE by its variable header and payload.
-pub fn subscribe_of(alloc: Global, body: &[u8]) -> Result<Packet, StreamFault>
+pub fn subscribe_of(alloc: Global, body: &[u8]) -> Result<Packet, ReadFault>
     ensures { Gives (λ packet. packet) result (subscribe_of body.now) }
 {
     let (packet_id, rest) = fields::id_at(body)?;
     if rest.is_empty() {
-        return Err(StreamFault::Malformed);
+        return Err(ReadFault::Packet(PacketFault::Malformed));
     }
     let requests = requests_of(alloc, rest)?;
     Ok(Packet::Subscribe(Subscribe {
@@ -27,7 +33,7 @@ pub fn subscribe_of(alloc: Global, body: &[u8]) -> Result<Packet, StreamFault>
 }
 
 /// Topic filters, each with its level, up to the last byte (3.8.3).
-fn requests_of(alloc: Global, bytes: &[u8]) -> Result<Vec<Request>, StreamFault>
+fn requests_of(alloc: Global, bytes: &[u8]) -> Result<Vec<Request>, ReadFault>
     ensures { Gives (λ v. v.items) result (items_of request_at bytes.now) }
 {
     let mut requests = Vec::new(alloc);
@@ -40,12 +46,12 @@ fn requests_of(alloc: Global, bytes: &[u8]) -> Result<Vec<Request>, StreamFault>
     Ok(requests)
 }
 
-fn request_at(alloc: Global, bytes: &[u8]) -> Result<(Request, &[u8]), StreamFault>
+fn request_at(alloc: Global, bytes: &[u8]) -> Result<(Request, &[u8]), ReadFault>
     ensures { Gives (λ x. (x.0, x.1.now)) result (request_at bytes.now) }
 {
     let (filter, rest) = fields::text_at(bytes)?;
     match rest {
-        [] => Err(StreamFault::Malformed),
+        [] => Err(ReadFault::Packet(PacketFault::Malformed)),
         [byte, rest @ ..] => {
             let qos = qos_of(*byte)?;
             let filter = fields::octets_of(alloc, filter)?;
@@ -55,14 +61,14 @@ fn request_at(alloc: Global, bytes: &[u8]) -> Result<(Request, &[u8]), StreamFau
 }
 
 /// A level by its byte (3.8.3.1).
-fn qos_of(byte: u8) -> Result<RequestedQos, StreamFault>
-    ensures { Gives (λ qos. qos) result (qos_of byte) }
+fn qos_of(byte: u8) -> Result<RequestedQos, PacketFault>
+    ensures { result ≡ qos_of byte }
 {
     match byte {
         0 => Ok(RequestedQos::AtMostOnce),
         1 => Ok(RequestedQos::AtLeastOnce),
         2 => Ok(RequestedQos::ExactlyOnce),
-        _ => Err(StreamFault::Malformed),
+        _ => Err(PacketFault::Malformed),
     }
 }
 
@@ -79,7 +85,8 @@ fn qos_byte(qos: RequestedQos) -> u8
 
 /// How many bytes a packet identifier takes with these requests; none where they are more than `MAX_PACKET`.
 pub fn size(requests: &[Request]) -> Option<usize>
-    ensures { SomeIff result (2 + length (requests_bytes requests.now) ≤ MAX_PACKET) (2 + length (requests_bytes requests.now)) }
+    ensures { SomeIff result (2 + length (requests_bytes requests.now) ≤ MAX_PACKET)
+        (2 + length (requests_bytes requests.now)) }
 {
     let mut size = 2;
     for request in requests {
@@ -109,13 +116,40 @@ fn push_requests(bytes: &mut Vec<u8>, requests: &[Request]) -> Result<(), AllocE
     Ok(())
 }
 
+/// A SUBSCRIBE of one filter, under a packet identifier that is not 0. Allocates once.
+pub fn encode_subscribe(
+    alloc: Global,
+    packet_id: u16,
+    filter: &TopicFilter,
+    qos: Qos,
+) -> Result<Octets, AllocError>
+    requires { 0 < packet_id }
+    ensures { IfOk result (λ o. o ≡ written (subscribe_of_parts packet_id filter.now qos)) }
+{
+    let filter = filter.text();
+    let mut bytes = remaining::front(alloc, FIRST, 5 + filter.len())?;
+    fields::push_number(&mut bytes, usize::from(packet_id))?;
+    fields::push_text(&mut bytes, filter)?;
+    bytes.push(qos_byte(requested_qos(qos)))?;
+    Ok(Octets::from(bytes))
+}
+
+fn requested_qos(qos: Qos) -> RequestedQos
+    ensures { result ≡ requested_qos qos }
+{
+    match qos {
+        Qos::AtMostOnce => RequestedQos::AtMostOnce,
+        Qos::AtLeastOnce => RequestedQos::AtLeastOnce,
+    }
+}
+
 /// A SUBACK by its variable header and payload.
-pub fn subscribe_ack_of(alloc: Global, body: &[u8]) -> Result<Packet, StreamFault>
+pub fn subscribe_ack_of(alloc: Global, body: &[u8]) -> Result<Packet, ReadFault>
     ensures { Gives (λ packet. packet) result (subscribe_ack_of body.now) }
 {
     let (packet_id, rest) = fields::id_at(body)?;
     if rest.is_empty() {
-        return Err(StreamFault::Malformed);
+        return Err(ReadFault::Packet(PacketFault::Malformed));
     }
     let codes = codes_of(alloc, rest)?;
     Ok(Packet::SubscribeAck(SubscribeAck {
@@ -125,7 +159,7 @@ pub fn subscribe_ack_of(alloc: Global, body: &[u8]) -> Result<Packet, StreamFaul
 }
 
 /// Answers to requests, up to the last byte (3.9.3).
-fn codes_of(alloc: Global, bytes: &[u8]) -> Result<Vec<SubscribeCode>, StreamFault>
+fn codes_of(alloc: Global, bytes: &[u8]) -> Result<Vec<SubscribeCode>, ReadFault>
     ensures { Gives (λ v. v.items) result (codes_of bytes.now) }
 {
     let mut codes = Vec::with_capacity(alloc, bytes.len())?;
@@ -135,8 +169,8 @@ fn codes_of(alloc: Global, bytes: &[u8]) -> Result<Vec<SubscribeCode>, StreamFau
     Ok(codes)
 }
 
-fn code_of(byte: u8) -> Result<SubscribeCode, StreamFault>
-    ensures { Gives (λ code. code) result (code_of byte) }
+fn code_of(byte: u8) -> Result<SubscribeCode, PacketFault>
+    ensures { result ≡ code_of byte }
 {
     if byte == 0x80 {
         return Ok(SubscribeCode::Refused);
@@ -156,7 +190,8 @@ fn code_byte(code: SubscribeCode) -> u8
 
 /// How many bytes a packet identifier takes with these answers; none where they are more than `MAX_PACKET`.
 pub fn ack_size(codes: &[SubscribeCode]) -> Option<usize>
-    ensures { SomeIff result (2 + length (codes_bytes codes.now) ≤ MAX_PACKET) (2 + length (codes_bytes codes.now)) }
+    ensures { SomeIff result (2 + length (codes_bytes codes.now) ≤ MAX_PACKET)
+        (2 + length (codes_bytes codes.now)) }
 {
     fields::within(2 + codes.len())
 }

@@ -1,20 +1,25 @@
 //! UNSUBSCRIBE (MQTT 3.1.1, 3.10): reading, size and writing.
-ghost use Rattle.std.specs.Prelude.{◌≡◌, ◌+◌, ◌≤◌, ◌++◌, length, OnOk, SomeIff};
-ghost use Rattle.mqtt_frames.specs.Packets.{body, filters_bytes};
+ghost use Rattle.std.specs.Prelude.{◌≡◌, ◌+◌, ◌<◌, ◌≤◌, ◌++◌, length, IfOk, OnOk, SomeIff};
+ghost use Rattle.mqtt_frames.specs.Packets.{body, written, filters_bytes};
+ghost use Rattle.mqtt_frames.specs.Parts.{unsubscribe_of_parts};
 ghost use Rattle.mqtt_frames.specs.Reading.{Gives, text_at, items_of, unsubscribe_of};
 
 use crate::limits::MAX_PACKET;
-use crate::{List, Packet, StreamFault, Unsubscribe, fields};
-use sng_text::Octets;
+use crate::read_fault::ReadFault;
+use crate::{List, Packet, PacketFault, Unsubscribe, fields, remaining};
+use sng_text::{Octets, TopicFilter};
 use std::alloc::{AllocError, Global};
 
+/// The first byte: packet type 10, and the flags that it must have (3.10.1).
+pub const FIRST: u8 = 0xa2;
+
 /// An UNSUBSCRIBE by its variable header and payload.
-pub fn unsubscribe_of(alloc: Global, body: &[u8]) -> Result<Packet, StreamFault>
+pub fn unsubscribe_of(alloc: Global, body: &[u8]) -> Result<Packet, ReadFault>
     ensures { Gives (λ packet. packet) result (unsubscribe_of body.now) }
 {
     let (packet_id, rest) = fields::id_at(body)?;
     if rest.is_empty() {
-        return Err(StreamFault::Malformed);
+        return Err(ReadFault::Packet(PacketFault::Malformed));
     }
     let filters = filters_of(alloc, rest)?;
     Ok(Packet::Unsubscribe(Unsubscribe {
@@ -24,7 +29,7 @@ pub fn unsubscribe_of(alloc: Global, body: &[u8]) -> Result<Packet, StreamFault>
 }
 
 /// Topic filters, up to the last byte (3.10.3).
-fn filters_of(alloc: Global, bytes: &[u8]) -> Result<Vec<Octets>, StreamFault>
+fn filters_of(alloc: Global, bytes: &[u8]) -> Result<Vec<Octets>, ReadFault>
     ensures { Gives (λ v. v.items) result (items_of text_at bytes.now) }
 {
     let mut filters = Vec::new(alloc);
@@ -37,7 +42,7 @@ fn filters_of(alloc: Global, bytes: &[u8]) -> Result<Vec<Octets>, StreamFault>
     Ok(filters)
 }
 
-fn filter_at(alloc: Global, bytes: &[u8]) -> Result<(Octets, &[u8]), StreamFault>
+fn filter_at(alloc: Global, bytes: &[u8]) -> Result<(Octets, &[u8]), ReadFault>
     ensures { Gives (λ x. (x.0, x.1.now)) result (text_at bytes.now) }
 {
     let (filter, rest) = fields::text_at(bytes)?;
@@ -46,7 +51,8 @@ fn filter_at(alloc: Global, bytes: &[u8]) -> Result<(Octets, &[u8]), StreamFault
 
 /// How many bytes a packet identifier takes with these filters; none where they are more than `MAX_PACKET`.
 pub fn size(filters: &[Octets]) -> Option<usize>
-    ensures { SomeIff result (2 + length (filters_bytes filters.now) ≤ MAX_PACKET) (2 + length (filters_bytes filters.now)) }
+    ensures { SomeIff result (2 + length (filters_bytes filters.now) ≤ MAX_PACKET)
+        (2 + length (filters_bytes filters.now)) }
 {
     let mut size = 2;
     for filter in filters {
@@ -73,4 +79,20 @@ fn push_filters(bytes: &mut Vec<u8>, filters: &[Octets]) -> Result<(), AllocErro
         fields::push_text(bytes, filter.as_slice())?;
     }
     Ok(())
+}
+
+/// An UNSUBSCRIBE of one filter, under a packet identifier that is not 0. Allocates once.
+pub fn encode_unsubscribe(
+    alloc: Global,
+    packet_id: u16,
+    filter: &TopicFilter,
+) -> Result<Octets, AllocError>
+    requires { 0 < packet_id }
+    ensures { IfOk result (λ o. o ≡ written (unsubscribe_of_parts packet_id filter.now)) }
+{
+    let filter = filter.text();
+    let mut bytes = remaining::front(alloc, FIRST, 4 + filter.len())?;
+    fields::push_number(&mut bytes, usize::from(packet_id))?;
+    fields::push_text(&mut bytes, filter)?;
+    Ok(Octets::from(bytes))
 }

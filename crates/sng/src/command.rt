@@ -1,7 +1,8 @@
 //! The command line.
-ghost use Rattle.std.specs.Prelude.{◌≡◌, ◌≢◌, true};
+ghost use Rattle.std.specs.Prelude.{◌≡◌, ◌≢◌, ◌⊎◌, drop, position};
 ghost use Rattle.clap.specs.Values.{kind_of};
 ghost use Rattle.clap.specs.declared.error.ErrorKind.TheVariants.{DisplayHelp, DisplayVersion};
+ghost use Rattle.sng.specs.Words.{filters_of, is_escape};
 
 use clap::{Arg, ArgAction, Command, Error};
 use sng_gateway::Status;
@@ -17,7 +18,8 @@ pub enum Chosen {
     Cover,
 }
 
-/// What the words ask for, of which the first is the program's name. An `Err` is what is wrong with them, or the help that they ask for.
+/// What the words ask for, of which the first is the program's name. An `Err` is what is wrong with them, or
+/// the help that they ask for.
 pub fn read_command(alloc: Global, words: &[String]) -> Result<Chosen, Error> {
     let play = Command::new(alloc, "play").about("Plays a script of events from standard input");
     let command = Command::new(alloc, "sng")
@@ -47,31 +49,51 @@ fn cover_command<'a>(alloc: Global) -> Result<Command<'a>, AllocError> {
         .arg(granted)
 }
 
-/// The filters among the words of `sng cover ..`, as they came: all but the first two, and but the first `--`, after which a word
-/// that begins with a dash is a filter too. Only memory can fail.
-pub fn filters_among(alloc: Global, words: Vec<Octets>) -> Result<Vec<Octets>, AllocError> {
-    let mut filters = Vec::with_capacity(alloc, words.len())?;
-    let mut is_escaped = false;
-    for (place, word) in words.into_iter().enumerate() {
-        if !is_escaped && word.as_slice() == b"--".as_slice() {
-            is_escaped = true;
-        } else if place >= 2 {
-            filters.push(word)?;
-        }
+/// The filters among the words of `sng cover ..`, as they came: all but the first two, and but the first `--`
+/// among those, after which a word that begins with a dash is a filter too.
+pub fn filters_among(mut words: Vec<Octets>) -> Vec<Octets>
+    ensures { result.items ≡ filters_of words.items }
+{
+    drop_first(&mut words);
+    drop_first(&mut words);
+    if let Some(at) = place_of_escape(words.as_slice()) {
+        let _escape = words.remove(at);
     }
-    Ok(filters)
+    words
 }
 
-/// The exit status of a command line that starts nothing: 0 for help that was printed, 2 for a fault, 4 where help could not be printed.
-pub fn exit_status(error: &Error, is_printed: bool) -> u8
-    ensures fault { kind_of error.now ≢ DisplayHelp → kind_of error.now ≢ DisplayVersion → result ≡ 2 }
-    ensures help { kind_of error.now ≡ DisplayHelp → is_printed ≡ true → result ≡ 0 }
+/// Drops the first word, where there is one.
+fn drop_first(words: &mut Vec<Octets>)
+    ensures { words.new.items ≡ drop 1 words.old.items }
+{
+    if !words.is_empty() {
+        let _first = words.remove(0);
+    }
+}
+
+/// The place of the first `--`, where there is one.
+fn place_of_escape(words: &[Octets]) -> Option<usize>
+    ensures { result ≡ position is_escape words.now }
+{
+    words.iter().position(|word| is_escape(word.as_slice()))
+}
+
+fn is_escape(word: &[u8]) -> bool
+    ensures { result ≡ is_escape word.now }
+{
+    word == b"--".as_slice()
+}
+
+/// What a command line comes to that starts nothing: help that was asked for, or a fault.
+pub fn status_of(error: &Error) -> Status
+    ensures help { (kind_of error.now ≡ DisplayHelp) ⊎ (kind_of error.now ≡ DisplayVersion)
+        → result ≡ Status.Done }
+    ensures fault { kind_of error.now ≢ DisplayHelp → kind_of error.now ≢ DisplayVersion
+        → result ≡ Status.BadCommandLine }
 {
     if error.use_stderr() {
-        2
-    } else if is_printed {
-        Status::Done.code()
+        Status::BadCommandLine
     } else {
-        Status::Failed.code()
+        Status::Done
     }
 }

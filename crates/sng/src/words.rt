@@ -1,4 +1,5 @@
-//! The words of the command line as they came, which need not be UTF-8: a filter that is none is told by its place.
+//! The words of the command line as they came, which need not be UTF-8: of a word that is not a valid filter
+//! the place is reported.
 
 use sng_text::Octets;
 use std::alloc::{AllocError, Global};

@@ -1,8 +1,8 @@
 //! The jobs, each over inputs that are made once.
-use mqtt_frames::Stream;
+use mqtt_frames::{List, Packet, Request, RequestedQos, Stream, Subscribe, encode as encode_packet, write_publish};
 use sng_cover::{Cover, cover};
 use sng_frames::{Flags, Publish, Qos, SnFrame, TopicIdType, decode, encode};
-use sng_text::{Octets, TopicFilter};
+use sng_text::{Octets, TopicFilter, TopicName};
 use std::alloc::Global;
 
 /// Why a job could not be done: memory, or input that is none.
@@ -20,8 +20,21 @@ pub enum Job {
     Decode,
     /// Writing it.
     Encode,
-    /// Taking the PUBLISHes of a long stream of MQTT, in pieces of so many bytes.
-    Feed(usize),
+    /// Taking a long stream of such packets of MQTT, in pieces of so many bytes.
+    Feed(Packets, usize),
+}
+
+/// The packets of a stream of MQTT.
+#[derive(Clone, Copy, Debug, PartialEq, Eq)]
+pub enum Packets {
+    /// 4,096 PUBLISHes of 33 bytes.
+    Small,
+    /// 128 PUBLISHes of 1,027 bytes, so that pieces of 4,096 cut them.
+    Medium,
+    /// Four PUBLISHes of 65,003 bytes.
+    Large,
+    /// A SUBSCRIBE of 70,000 bytes, the most that is read: 17,498 filters.
+    Subscribe,
 }
 
 impl Job {
@@ -32,9 +45,11 @@ impl Job {
             "cover-all" => Some(Job::CoverAll),
             "decode" => Some(Job::Decode),
             "encode" => Some(Job::Encode),
-            "feed-1" => Some(Job::Feed(1)),
-            "feed-16" => Some(Job::Feed(16)),
-            "feed-4096" => Some(Job::Feed(4096)),
+            "feed-small-1" => Some(Job::Feed(Packets::Small, 1)),
+            "feed-small" => Some(Job::Feed(Packets::Small, 4096)),
+            "feed-medium" => Some(Job::Feed(Packets::Medium, 4096)),
+            "feed-large" => Some(Job::Feed(Packets::Large, 4096)),
+            "feed-subscribe" => Some(Job::Feed(Packets::Subscribe, 4096)),
             _ => None,
         }
     }
@@ -46,7 +61,7 @@ impl Job {
             Job::CoverAll => cover_times(alloc, b"#", times),
             Job::Decode => decode_times(alloc, times),
             Job::Encode => encode_times(alloc, times),
-            Job::Feed(size) => feed_times(alloc, size, times),
+            Job::Feed(packets, size) => feed_times(alloc, packets, size, times),
         }
     }
 }
@@ -118,14 +133,57 @@ fn encode_times(alloc: Global, times: u32) -> Result<u64, NotDone> {
     Ok(total)
 }
 
-/// A stream of 4,096 PUBLISHes of 32 bytes each, so many times over, in pieces of one byte at least.
-fn feed_times(alloc: Global, size: usize, times: u32) -> Result<u64, NotDone> {
+/// The bytes of the packets.
+fn stream_of(alloc: Global, packets: Packets) -> Result<Vec<u8>, NotDone> {
+    match packets {
+        // behind the payload of each: first byte, Remaining Length of 1, 2 or 3 bytes, and 5 bytes of name
+        Packets::Small => publishes(alloc, 26, 4096),
+        Packets::Medium => publishes(alloc, 1019, 128),
+        Packets::Large => publishes(alloc, 64994, 4),
+        Packets::Subscribe => subscribe(alloc),
+    }
+}
+
+/// So many PUBLISHes with a payload of that size.
+fn publishes(alloc: Global, payload: usize, count: u32) -> Result<Vec<u8>, NotDone> {
+    let name = TopicName::read(alloc, b"a/b").map_err(|_| NotDone)?;
+    let payload = vec![in alloc; 0x55; payload].map_err(|_| NotDone)?;
+    let packet =
+        write_publish(alloc, &name, payload.as_slice(), false).map_err(|_| NotDone)?;
     let mut bytes = Vec::new(alloc);
-    for _ in 0..4096 {
+    for _ in 0..count {
         bytes
-            .extend_from_slice(b"\x30\x1e\x00\x03a/b0123456789012345678901234")
+            .extend_from_slice(packet.as_slice())
             .map_err(|_| NotDone)?;
     }
+    Ok(bytes)
+}
+
+/// A SUBSCRIBE of 17,497 filters of one byte and one of three.
+fn subscribe(alloc: Global) -> Result<Vec<u8>, NotDone> {
+    let mut requests = Vec::new(alloc);
+    for _ in 0..17497 {
+        requests.push(request(alloc, b"a")?).map_err(|_| NotDone)?;
+    }
+    requests.push(request(alloc, b"a/b")?).map_err(|_| NotDone)?;
+    let packet = Packet::Subscribe(Subscribe {
+        packet_id: 1,
+        requests: List::from(requests),
+    });
+    encode_packet(alloc, &packet).map_err(|_| NotDone)
+}
+
+fn request(alloc: Global, filter: &[u8]) -> Result<Request, NotDone> {
+    let filter = Vec::from_slice(alloc, filter).map_err(|_| NotDone)?;
+    Ok(Request {
+        filter: Octets::from(filter),
+        qos: RequestedQos::AtLeastOnce,
+    })
+}
+
+/// The stream, so many times over, in pieces of one byte at least.
+fn feed_times(alloc: Global, packets: Packets, size: usize, times: u32) -> Result<u64, NotDone> {
+    let bytes = stream_of(alloc, packets)?;
     let size = if size == 0 { 1 } else { size };
     let mut stream = Stream::new(alloc);
     let mut total: u64 = 0;

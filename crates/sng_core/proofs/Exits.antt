@@ -4,9 +4,9 @@ use Rattle.std.specs.declared.result.Result.{Result}
 use Rattle.sng_grants.specs.declared.policy.Policy.{Policy}
 use Rattle.sng_policy.specs.Grants.{lists_source}
 use Rattle.sng_frames.specs.declared.fault.FrameFault.{FrameFault}
-use Rattle.sng_frames.specs.declared.flags.Qos.{Qos}
-use Rattle.sng_frames.specs.declared.flags.Qos.TheVariants.{AtMostOnce, AtLeastOnce, ExactlyOnce, WithoutSession}
-use Rattle.sng_frames.specs.declared.frame.Publish.{Publish}
+use Rattle.sng_frames.specs.declared.qos.FrameQos.{FrameQos}
+use Rattle.sng_frames.specs.declared.qos.FrameQos.TheVariants.{AtMostOnce, AtLeastOnce, ExactlyOnce, WithoutSession}
+use Rattle.sng_frames.specs.declared.messages.publish.Publish.{Publish}
 use Rattle.sng_frames.specs.declared.frame.SnFrame.{SnFrame}
 use Rattle.sng_frames.specs.declared.frame.SnFrame.TheVariants as frame
 use Rattle.sng_outbox.specs.declared.item.Item.{Item}
@@ -27,10 +27,10 @@ exits_in-named s source (Ok name) = refl
 exits_in-named s source (Err rule) = refl
 
 exits_in-ask : (s : State) (source : List ℕ) (p : Publish) (b : Bool) → lists_source s.policy source ≡ b → exit_of (source_ask s source p) ≡ []
-exits_in-ask s source p true is = rw is (exits_in-named s source (name_in p.flags.id_type p.topic_id))
+exits_in-ask s source p true is = rw is (exits_in-named s source (name_in s.policy p.flags.id_type p.topic_id))
 exits_in-ask s source p false is = rw is refl
 
-exits_in-publish : (s : State) (from : Address) (p : Publish) (qos : Qos) → exits_in (publish_outs s from p qos) ≡ []
+exits_in-publish : (s : State) (from : Address) (p : Publish) (qos : FrameQos) → exits_in (publish_outs s from p qos) ≡ []
 exits_in-publish s from p WithoutSession = rw (exits_in-ask s from.ip p (lists_source s.policy from.ip) refl) refl
 exits_in-publish s from p AtMostOnce = refl
 exits_in-publish s from p AtLeastOnce = refl

@@ -8,10 +8,10 @@ ghost use Rattle.sng_history.specs.Whole.{frame_outs, frame_denied, publish_outs
 use crate::Core;
 use crate::verdict::name_in;
 use sng_book::{Address, Decision, Denial, Out, Outcome, Outs, Who};
-use sng_frames::{FrameFault, Publish, Qos, SnFrame, decode, encode};
+use sng_frames::{FrameFault, FrameQos, Publish, SnFrame, decode, write_disconnect};
 use sng_outbox::{Item, Origin, Publication};
 use sng_policy::lists_source;
-use sng_text::{Octets, TopicName};
+use sng_text::{Octets, Qos, TopicName};
 use std::alloc::{AllocError, Global};
 
 impl Core {
@@ -28,37 +28,52 @@ impl Core {
         ensures err { OnErr result (self.new ≡ self.old) }
     {
         match decode(alloc, datagram) {
-            Ok(SnFrame::Publish(publish)) => self.publish_outs(alloc, from, publish),
-            Ok(SnFrame::Connect(_))
-            | Ok(SnFrame::ConnectAck(_))
-            | Ok(SnFrame::WillTopicRequest)
-            | Ok(SnFrame::WillTopic(_))
-            | Ok(SnFrame::WillMessageRequest)
-            | Ok(SnFrame::WillMessage(_))
-            | Ok(SnFrame::Register(_))
-            | Ok(SnFrame::RegisterAck(_))
-            | Ok(SnFrame::PublishAck(_))
-            | Ok(SnFrame::PublishComplete(_))
-            | Ok(SnFrame::PublishReceived(_))
-            | Ok(SnFrame::PublishRelease(_))
-            | Ok(SnFrame::Subscribe(_))
-            | Ok(SnFrame::SubscribeAck(_))
-            | Ok(SnFrame::Unsubscribe(_))
-            | Ok(SnFrame::UnsubscribeAck(_))
-            | Ok(SnFrame::PingRequest(_))
-            | Ok(SnFrame::PingResponse)
-            | Ok(SnFrame::Disconnect(_))
-            | Ok(SnFrame::WillTopicUpdate(_))
-            | Ok(SnFrame::WillTopicResponse(_))
-            | Ok(SnFrame::WillMessageUpdate(_))
-            | Ok(SnFrame::WillMessageResponse(_))
-            | Err(FrameFault::NotSupported) => {
-                frame_denied(alloc, Who::Address(from), Denial::NotSupported)
-            }
-            Err(FrameFault::Malformed) | Err(FrameFault::TooLong) => {
-                frame_denied(alloc, Who::Address(from), Denial::Malformed)
-            }
+            Ok(frame) => self.message_outs(alloc, from, frame),
+            Err(FrameFault::NotSupported) => not_supported(alloc, from),
+            Err(FrameFault::Malformed) => malformed(alloc, from),
+            Err(FrameFault::TooLong) => malformed(alloc, from),
             Err(FrameFault::Memory) => Err(AllocError),
+        }
+    }
+
+    /// What a message from this address lets out.
+    fn message_outs(
+        &mut self,
+        alloc: Global,
+        from: Address,
+        frame: SnFrame,
+    ) -> Result<Outs, AllocError>
+        ensures outs { IfOk result (λ outs. outs ≡ frame_outs self.old from (Ok frame)) }
+        ensures next { OnOk result (self.new ≡ joined self.old
+            (asked_with (Ok frame) (frame_outs self.old from (Ok frame)))) }
+        ensures err { OnErr result (self.new ≡ self.old) }
+    {
+        // An arm for each message: a new one is not passed over, and each closes without a proof.
+        match frame {
+            SnFrame::Publish(publish) => self.publish_outs(alloc, from, publish),
+            SnFrame::Connect(_) => not_supported(alloc, from),
+            SnFrame::ConnectAck(_) => not_supported(alloc, from),
+            SnFrame::WillTopicRequest => not_supported(alloc, from),
+            SnFrame::WillTopic(_) => not_supported(alloc, from),
+            SnFrame::WillMessageRequest => not_supported(alloc, from),
+            SnFrame::WillMessage(_) => not_supported(alloc, from),
+            SnFrame::Register(_) => not_supported(alloc, from),
+            SnFrame::RegisterAck(_) => not_supported(alloc, from),
+            SnFrame::PublishAck(_) => not_supported(alloc, from),
+            SnFrame::PublishComplete(_) => not_supported(alloc, from),
+            SnFrame::PublishReceived(_) => not_supported(alloc, from),
+            SnFrame::PublishRelease(_) => not_supported(alloc, from),
+            SnFrame::Subscribe(_) => not_supported(alloc, from),
+            SnFrame::SubscribeAck(_) => not_supported(alloc, from),
+            SnFrame::Unsubscribe(_) => not_supported(alloc, from),
+            SnFrame::UnsubscribeAck(_) => not_supported(alloc, from),
+            SnFrame::PingRequest(_) => not_supported(alloc, from),
+            SnFrame::PingResponse => not_supported(alloc, from),
+            SnFrame::Disconnect(_) => not_supported(alloc, from),
+            SnFrame::WillTopicUpdate(_) => not_supported(alloc, from),
+            SnFrame::WillTopicResponse(_) => not_supported(alloc, from),
+            SnFrame::WillMessageUpdate(_) => not_supported(alloc, from),
+            SnFrame::WillMessageResponse(_) => not_supported(alloc, from),
         }
     }
 
@@ -75,9 +90,9 @@ impl Core {
         ensures err { OnErr result (self.new ≡ self.old) }
     {
         match publish.flags.qos {
-            Qos::WithoutSession => self.source_ask(alloc, from.ip, publish),
-            Qos::ExactlyOnce => publish_denied(alloc, Who::Address(from), Denial::NotSupported),
-            Qos::AtMostOnce | Qos::AtLeastOnce => no_session(alloc, from),
+            FrameQos::WithoutSession => self.source_ask(alloc, from.ip, publish),
+            FrameQos::ExactlyOnce => publish_denied(alloc, Who::Address(from), Denial::NotSupported),
+            FrameQos::AtMostOnce | FrameQos::AtLeastOnce => no_session(alloc, from),
         }
     }
 
@@ -96,7 +111,7 @@ impl Core {
         if !lists_source(&self.policy, source) {
             return publish_denied(alloc, Who::Source(source), Denial::UnknownSource);
         }
-        match name_in(alloc, publish.flags.id_type, publish.topic_id)? {
+        match name_in(alloc, &self.policy, publish.flags.id_type, publish.topic_id)? {
             Ok(name) => self.named_ask(alloc, source, name, publish),
             Err(rule) => publish_denied(alloc, Who::Source(source), rule),
         }
@@ -127,7 +142,7 @@ impl Core {
                 origin,
                 name,
                 payload,
-                qos: sng_text::Qos::AtMostOnce,
+                qos: Qos::AtMostOnce,
                 retain,
             });
             if self.outbox.push(item).is_err() {
@@ -167,6 +182,20 @@ pub(crate) fn frame_denied(alloc: Global, from: Who, rule: Denial) -> Result<Out
     )
 }
 
+/// A frame that is not taken.
+fn not_supported(alloc: Global, from: Address) -> Result<Outs, AllocError>
+    ensures { IfOk result (λ outs. outs ≡ frame_denied (Who.Address from) Denial.NotSupported) }
+{
+    frame_denied(alloc, Who::Address(from), Denial::NotSupported)
+}
+
+/// A datagram that is not a frame.
+fn malformed(alloc: Global, from: Address) -> Result<Outs, AllocError>
+    ensures { IfOk result (λ outs. outs ≡ frame_denied (Who.Address from) Denial.Malformed) }
+{
+    frame_denied(alloc, Who::Address(from), Denial::Malformed)
+}
+
 /// A publish of a session comes from an address that has none: it is noted, and answered by DISCONNECT.
 fn no_session(alloc: Global, from: Address) -> Result<Outs, AllocError>
     ensures { IfOk result (λ outs. outs ≡
@@ -181,6 +210,6 @@ fn no_session(alloc: Global, from: Address) -> Result<Outs, AllocError>
 fn dismissed(alloc: Global, from: Address) -> Result<Out, AllocError>
     ensures { IfOk result (λ out. out ≡ dismissed from) }
 {
-    let disconnect = encode(alloc, &SnFrame::Disconnect(None)).map_err(|_| AllocError)?;
+    let disconnect = write_disconnect(alloc, None)?;
     Ok(Out::Send(from, Octets::from(disconnect)))
 }

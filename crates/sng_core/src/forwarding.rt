@@ -23,12 +23,7 @@ pub fn leaving(alloc: Global, policy: &Policy, outbox: &Outbox) -> Result<Outs, 
 }
 
 /// One item leaves.
-fn leaves(
-    alloc: Global,
-    policy: &Policy,
-    item: &Item,
-    outs: &mut Outs,
-) -> Result<(), AllocError>
+fn leaves(alloc: Global, policy: &Policy, item: &Item, outs: &mut Outs) -> Result<(), AllocError>
     ensures { OnOk result (outs.new ≡ outs.old ++ leaves policy.now item.now) }
 {
     match item {

@@ -7,8 +7,8 @@ ghost use Rattle.sng_core.specs.Steps.{outs_of, next_of};
 use crate::datagram::frame_denied;
 use crate::forwarding::leaving;
 use sng_book::{Denial, Event, Outs, Who};
-use sng_outbox::Outbox;
 use sng_grants::Policy;
+use sng_outbox::Outbox;
 use std::alloc::{AllocError, Global};
 use std::marker::Model;
 

@@ -6,7 +6,9 @@ use crate::Core;
 use crate::exit::exit;
 use sng_book::{Denial, IdKind, Outcome, Place};
 use sng_frames::TopicIdType;
+use sng_grants::Policy;
 use sng_outbox::Origin;
+use sng_policy::topic;
 use sng_text::{TextFault, TopicName};
 use std::alloc::{AllocError, Global};
 
@@ -38,10 +40,11 @@ impl Core {
 /// The name that a topic id stands for in a PUBLISH without a session, or the rule that it breaks. The outer `Err` is a failed allocation.
 pub fn name_in(
     alloc: Global,
+    policy: &Policy,
     id_type: TopicIdType,
     id: u16,
 ) -> Result<Result<TopicName, Denial>, AllocError>
-    ensures { IfOk result (λ named. named ≡ name_in id_type id) }
+    ensures { IfOk result (λ named. named ≡ name_in policy.now id_type id) }
 {
     match id_type {
         TopicIdType::Short => match TopicName::read(alloc, id.to_be_bytes().as_slice()) {
@@ -49,7 +52,10 @@ pub fn name_in(
             Err(TextFault::Memory) => Err(AllocError),
             Err(_) => Ok(Err(Denial::BadName)),
         },
-        TopicIdType::Predefined => Ok(Err(Denial::UnknownId(IdKind::Predefined, id))),
+        TopicIdType::Predefined => match topic(policy, id) {
+            Some(name) => Ok(Ok(name.copy()?)),
+            None => Ok(Err(Denial::UnknownId(IdKind::Predefined, id))),
+        },
         TopicIdType::Normal | TopicIdType::Reserved => Ok(Err(Denial::IdType)),
     }
 }

@@ -3,6 +3,7 @@ use Rattle.std.proofs.Common.{◌≡◌, ◌≤◌, ◌<◌, ◌+◌, ◌↔◌,
 use Rattle.std.specs.declared.option.Option.{Option}
 use Rattle.std.specs.Str.{bytes_eq}
 use Rattle.std.proofs.lemmas.Bool.{and_parts, both_ways, not-true, cases_lt, cases_order}
+use Rattle.sng_text.specs.declared.limits.TheConstants.{MAX_FILTER}
 use Rattle.sng_text.specs.Levels.{levels_of}
 use Rattle.sng_text.specs.Texts.{is_filter, is_name}
 use Rattle.sng_text.specs.Matching.{matches}
@@ -25,11 +26,11 @@ shows_parts asked granted name shows =
     let parts = and_parts (matches asked name) (not (is_granted granted name)) shows in (parts.0, not-true (is_granted granted name) parts.1)
 
 -- the most levels before `#`
-pub longest_few : (filters : List (List ℕ)) → AreFilters filters → longest_fixed filters ≤ 201
+pub longest_few : (filters : List (List ℕ)) → AreFilters filters → longest_fixed filters ≤ (MAX_FILTER + 1)
 longest_few [] are = omega arith
 longest_few (filter ∷ filters) are =
-    let here : fixed_part filter < 202 = few_of filter are.0 in
-    let more : longest_fixed filters ≤ 201 = longest_few filters are.1 in omega arith
+    let here : fixed_part filter < (MAX_FILTER + 2) = few_of filter are.0 in
+    let more : longest_fixed filters ≤ (MAX_FILTER + 1) = longest_few filters are.1 in omega arith
 
 -- nothing is open: every name is granted
 included : (asked : List ℕ) (granted : List (List ℕ)) → is_filter asked ≡ true → AreFilters granted
@@ -67,7 +68,7 @@ pub first_is_gap : (asked : List ℕ) (granted : List (List ℕ)) (depth : ℕ) 
 first_is_gap asked granted depth filter are found =
     let some : 1 ≤ depth = found.0 in
     let below : depth < 1 + suc (longest_fixed (asked ∷ granted)) = found.1 in
-    let few : longest_fixed (asked ∷ granted) ≤ 201 = longest_few (asked ∷ granted) (filter, are) in
+    let few : longest_fixed (asked ∷ granted) ≤ (MAX_FILTER + 1) = longest_few (asked ∷ granted) (filter, are) in
     let fresh = fresh_is granted are in
     let is : fresh_level granted ≡ run fresh.0 = fresh.1.2 in
     let facts = candidate_facts asked granted depth fresh.0 some is in

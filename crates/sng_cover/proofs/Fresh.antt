@@ -5,6 +5,7 @@ use Rattle.std.specs.Str.{bytes_eq, IsUtf8, IsAscii}
 use Rattle.std.proofs.lemmas.Str.{IsUtf8-from_ascii, IsUtf8-append, IsUtf8-nil}
 use Rattle.std.proofs.lemmas.Slice.Eq.{bytes_eq-Decides}
 use Rattle.std.proofs.lemmas.Bool.{or_from, not-true, not-false, false_from_ne_true, both_ways, eq-eqb, eqb-true}
+use Rattle.sng_text.specs.declared.limits.TheConstants.{MAX_FILTER}
 use Rattle.sng_text.specs.Levels.{levels_of}
 use Rattle.sng_text.specs.Texts.{has_byte}
 use Rattle.sng_cover.specs.Candidates.{run, run_of, has_level, is_taken, fresh_level}
@@ -47,26 +48,26 @@ not_among most count (level ∷ levels) long short =
     let here : length level ≤ most = short.0 in
     or_from (bytes_eq (run count) level) (has_level (run count) levels) (longer_run count level (omega arith)) (not_among most count levels long short.1)
 
-not_taken : (count : ℕ) (granted : List (List ℕ)) → 200 < count → AreFilters granted → is_taken granted (run count) ≡ false
+not_taken : (count : ℕ) (granted : List (List ℕ)) → MAX_FILTER < count → AreFilters granted → is_taken granted (run count) ≡ false
 not_taken count [] long are = refl
 not_taken count (filter ∷ granted) long are =
     or_from (has_level (run count) (levels_of filter)) (is_taken granted (run count))
-    (not_among 200 count (levels_of filter) long (short_of filter are.0))
+    (not_among MAX_FILTER count (levels_of filter) long (short_of filter are.0))
     (not_taken count granted long are.1)
 
 -- the shortest run that is no level of a granted filter, as its length
 abbrev pub FreshIs : List (List ℕ) → List ℕ → Type 0
-FreshIs granted fresh = (count : ℕ) × (IsShortest granted count × (count ≤ 201) × (fresh ≡ run count))
+FreshIs granted fresh = (count : ℕ) × (IsShortest granted count × (count ≤ (MAX_FILTER + 1)) × (fresh ≡ run count))
 
-fresh_by : (granted : List (List ℕ)) → AreFilters granted → (found : Option ℕ) → Searched (λ count. not (is_taken granted (run count))) 200 1 found → FreshIs granted (run_of found)
+fresh_by : (granted : List (List ℕ)) → AreFilters granted → (found : Option ℕ) → Searched (λ count. not (is_taken granted (run count))) MAX_FILTER 1 found → FreshIs granted (run_of found)
 fresh_by granted are None none =
-    (201, ((omega arith, not_taken 201 granted (omega arith) are, λ less from below. not-false (is_taken granted (run less)) (none less from below)), omega arith, refl))
+    ((MAX_FILTER + 1), ((omega arith, not_taken (MAX_FILTER + 1) granted (omega arith) are, λ less from below. not-false (is_taken granted (run less)) (none less from below)), omega arith, refl))
 fresh_by granted are (Some count) found =
-    let below : count < 1 + 200 = found.1 in
+    let below : count < 1 + MAX_FILTER = found.1 in
     (count, ((found.0, not-true (is_taken granted (run count)) found.2, λ less from small. not-false (is_taken granted (run less)) (found.3 less from small)), omega arith, refl))
 
 pub fresh_is : (granted : List (List ℕ)) → AreFilters granted → FreshIs granted (fresh_level granted)
-fresh_is granted are = fresh_by granted are _ (searched (λ (count : ℕ). not (is_taken granted (run count))) 200 1)
+fresh_is granted are = fresh_by granted are _ (searched (λ (count : ℕ). not (is_taken granted (run count))) MAX_FILTER 1)
 
 -- a run is one level of its own length alone
 pub run_level : (count : ℕ) (level : List ℕ) → bytes_eq (run (length level)) level ≡ true → bytes_eq (run count) level ≡ (count == length level)

@@ -5,6 +5,7 @@ use Rattle.std.specs.Str.{bytes_eq, IsUtf8, IsAscii, is_utf8}
 use Rattle.std.proofs.lemmas.Str.{IsUtf8-from_ascii, IsUtf8-append, IsUtf8-nil, IsUtf8-take, IsUtf8-drop, IsCharBoundary-before_ascii, IsCharBoundary-after_ascii, IsUtf8-from_is_utf8, is_utf8-from_IsUtf8}
 use Rattle.std.proofs.lemmas.Bool.{and_parts, or_parts, not-true, le-ltb, both_ways, or_cases}
 use Rattle.std.proofs.lemmas.List.{append-nil, length-append, take_at, drop_at, get_or_at, append_assoc, length_push}
+use Rattle.sng_text.specs.declared.limits.TheConstants.{MAX_FILTER, MAX_NAME}
 use Rattle.sng_text.specs.declared.fault.TextFault.TheVariants.{Empty, TooLong, NotUtf8, Null, Wildcard}
 use Rattle.sng_text.specs.Levels.{levels_of}
 use Rattle.sng_text.specs.Texts.{has_byte, is_filter, is_name, is_plain, is_plus, is_hash, is_in_place, is_ordinary}
@@ -120,18 +121,18 @@ second_part P Q [] all = tt
 second_part P Q (level ∷ levels) all = (all.0.1, second_part P Q levels all.1)
 
 -- how long the text is at most
-further_short : (levels : List (List ℕ)) → AreShort 201 levels → length (further levels) ≤ length levels * 202
+further_short : (levels : List (List ℕ)) → AreShort (MAX_FILTER + 1) levels → length (further levels) ≤ length levels * (MAX_FILTER + 2)
 further_short [] short = omega arith
 further_short (level ∷ levels) short =
-    let here : length level ≤ 201 = short.0 in
-    let more : length (further levels) ≤ length levels * 202 = further_short levels short.1 in
+    let here : length level ≤ (MAX_FILTER + 1) = short.0 in
+    let more : length (further levels) ≤ length levels * (MAX_FILTER + 2) = further_short levels short.1 in
     let whole : length (level ++ further levels) ≡ length level + length (further levels) = length-append level (further levels) in omega arith
 
-joined_short : (levels : List (List ℕ)) → AreShort 201 levels → length (joined levels) ≤ length levels * 202
+joined_short : (levels : List (List ℕ)) → AreShort (MAX_FILTER + 1) levels → length (joined levels) ≤ length levels * (MAX_FILTER + 2)
 joined_short [] short = omega arith
 joined_short (level ∷ levels) short =
-    let here : length level ≤ 201 = short.0 in
-    let more : length (further levels) ≤ length levels * 202 = further_short levels short.1 in
+    let here : length level ≤ (MAX_FILTER + 1) = short.0 in
+    let more : length (further levels) ≤ length levels * (MAX_FILTER + 2) = further_short levels short.1 in
     let whole : length (level ++ further levels) ≡ length level + length (further levels) = length-append level (further levels) in omega arith
 
 pub length_candidate : (depth : ℕ) (asked : List (List ℕ)) (fresh : List ℕ) → length (candidate_levels depth asked fresh) ≡ depth
@@ -159,26 +160,26 @@ not_empty [] some = let e : true ≡ false = some in cc
 not_empty (b ∷ text) some = search (rules, tests)
 
 -- a candidate that has a text is a name
-pub candidate_is_name : (asked : List ℕ) (depth count : ℕ) → is_filter asked ≡ true → depth ≤ 202 → count ≤ 201
+pub candidate_is_name : (asked : List ℕ) (depth count : ℕ) → is_filter asked ≡ true → depth ≤ (MAX_FILTER + 2) → count ≤ (MAX_FILTER + 1)
     → bytes_eq (joined (candidate_levels depth (levels_of asked) (run count))) [] ≡ false
     → is_name (joined (candidate_levels depth (levels_of asked) (run count))) ≡ true
 candidate_is_name asked depth count is few short some =
     let facts = filter_facts asked is in
-    let size : length asked ≤ 200 = facts.0 in
+    let size : length asked ≤ MAX_FILTER = facts.0 in
     let levels = candidate_levels depth (levels_of asked) (run count) in
-    let lengths : AreShort 201 levels =
-    candidate_all (λ (level : List ℕ). length level ≤ 201) depth (levels_of asked) (run count)
-    (own_from_all (λ (level : List ℕ). length level ≤ 201) (levels_of asked) (longer (length asked) 201 (levels_of asked) (omega arith) (short_levels asked))) (rw length_run short) in
+    let lengths : AreShort (MAX_FILTER + 1) levels =
+    candidate_all (λ (level : List ℕ). length level ≤ (MAX_FILTER + 1)) depth (levels_of asked) (run count)
+    (own_from_all (λ (level : List ℕ). length level ≤ (MAX_FILTER + 1)) (levels_of asked) (longer (length asked) (MAX_FILTER + 1) (levels_of asked) (omega arith) (short_levels asked))) (rw length_run short) in
     let utf8 : AllOf IsUtf8 levels =
     candidate_all IsUtf8 depth (levels_of asked) (run count)
     (own_from_all IsUtf8 (levels_of asked) (text_levels_utf8 asked (IsUtf8-from_is_utf8 asked facts.1))) (run_utf8 count) in
     let plain : AllOf Plain levels =
     candidate_all Plain depth (levels_of asked) (run count) (own_plain (levels_of asked) facts.3) (run_lacks 43 count refl, run_lacks 35 count refl) in
-    let most : length (joined levels) ≤ length levels * 202 = joined_short levels lengths in
+    let most : length (joined levels) ≤ length levels * (MAX_FILTER + 2) = joined_short levels lengths in
     let depth_is : length levels ≡ depth = length_candidate depth (levels_of asked) (run count) in
-    let within : length (joined levels) ≤ 65535 = omega arith in
+    let within : length (joined levels) ≤ MAX_NAME = omega arith in
     let no_plus : has_byte 43 (joined levels) ≡ false = joined_lacks 43 levels refl (first_part _ _ levels plain) in
     let no_hash : has_byte 35 (joined levels) ≡ false = joined_lacks 35 levels refl (second_part _ _ levels plain) in
-    no_fault (length (joined levels) == 0) (nat_lt 65535 (length (joined levels))) (is_utf8 (joined levels)) (has_byte 0 (joined levels)) (is_plain (joined levels))
-    (not_empty (joined levels) some) (le-ltb 65535 (length (joined levels)) within) (is_utf8-from_IsUtf8 (joined levels) (joined_utf8 levels utf8))
+    no_fault (length (joined levels) == 0) (nat_lt MAX_NAME (length (joined levels))) (is_utf8 (joined levels)) (has_byte 0 (joined levels)) (is_plain (joined levels))
+    (not_empty (joined levels) some) (le-ltb MAX_NAME (length (joined levels)) within) (is_utf8-from_IsUtf8 (joined levels) (joined_utf8 levels utf8))
     (joined_lacks 0 levels refl (asked_lacks 0 asked facts.2 refl depth count)) (rw (no_plus, no_hash) refl)

@@ -1,7 +1,8 @@
 -- For each depth one name, the candidate: it shows a gap where any name of that depth does (MQTT 3.1.1, 4.7).
-use Rattle.std.specs.Prelude.{ℕ, zero, suc, Bool, false, ◌||◌, not, List, [], ◌∷◌, ◌++◌, if◌then◌else◌, Some, None}
+use Rattle.std.specs.Prelude.{◌+◌, ℕ, zero, suc, Bool, false, ◌||◌, not, List, [], ◌∷◌, ◌++◌, if◌then◌else◌, Some, None}
 use Rattle.std.specs.declared.option.Option.{Option}
 use Rattle.std.specs.Str.{bytes_eq}
+use Rattle.sng_text.specs.declared.limits.TheConstants.{MAX_FILTER}
 use Rattle.sng_text.specs.Levels.{levels_of}
 use Rattle.sng_text.specs.Texts.{is_plus, is_hash}
 use Rattle.sng_cover.specs.Search.{least}
@@ -31,14 +32,14 @@ abbrev pub is_taken : List (List ℕ) → List ℕ → Bool
 is_taken [] level = false
 is_taken (filter ∷ granted) level = has_level level (levels_of filter) || is_taken granted level
 
--- no level of a filter has more than 200 bytes, so a run of 201 is a level of none
+-- no level of a filter has more bytes than a filter, so a longer run is a level of none
 abbrev pub run_of : Option ℕ → List ℕ
-run_of None = run 201
+run_of None = run (MAX_FILTER + 1)
 run_of (Some count) = run count
 
 -- the shortest run of `x`, of at least one, that is no level of a granted filter
 abbrev pub fresh_level : List (List ℕ) → List ℕ
-fresh_level granted = run_of (least (λ count. not (is_taken granted (run count))) 200 1)
+fresh_level granted = run_of (least (λ count. not (is_taken granted (run count))) MAX_FILTER 1)
 
 -- the level stands for others: `+` for one, `#` for all that follow
 abbrev pub is_wild : List ℕ → Bool

@@ -7,9 +7,9 @@ ghost use Rattle.sng_cover.specs.Reaches.{kept_reaches};
 ghost use Rattle.sng_cover.specs.Gathered.{ReachedBy};
 ghost use Rattle.sng_cover.specs.Reached.{is_reached, begins_empty};
 
-use crate::marks::Marks;
+use crate::marks::{MARKS, Marks};
 use crate::reach::Reach;
-use sng_text::TopicFilter;
+use sng_text::{MAX_FILTER, TopicFilter};
 use std::cmp;
 
 /// The depths whose candidate some granted filter matches.
@@ -42,17 +42,17 @@ pub fn gap_depth(asked: &TopicFilter, reached: &Reached) -> Option<usize>
 
 /// One level more than the longest fixed part: past it only filters with `#` match, and they match at every depth.
 fn last_depth(own: &Reach, reached: &Reached) -> usize
-    requires own_few { own.now.fixed < 202 }
-    requires granted_few { reached.now.longest < 202 }
+    requires own_few { own.now.fixed < MAX_FILTER + 2 }
+    requires granted_few { reached.now.longest < MAX_FILTER + 2 }
     ensures value { result ≡ max own.now.fixed reached.now.longest + 1 }
-    ensures few { result < 203 }
+    ensures few { result < MARKS }
 {
     cmp::max(own.fixed, reached.longest) + 1
 }
 
 /// Whether the asked filter reaches the depth, with a candidate that has a text, and no granted filter does.
 fn is_left(asked: &TopicFilter, own: &Reach, reached: &Reached, depth: usize) -> bool
-    requires { depth < 203 }
+    requires { depth < MARKS }
     ensures { result ≡ ((kept_reaches own.now depth && not ((depth == 1) && begins_empty asked.now)) && not (is_reached reached.now depth)) }
 {
     own.reaches(depth) && !(depth == 1 && begins_empty(asked)) && !reached.has(depth)
@@ -83,7 +83,7 @@ impl Reached {
 
     /// Adds the depths of one granted filter.
     pub fn add(&mut self, reach: Reach)
-        requires { reach.fixed < 202 }
+        requires { reach.fixed < MAX_FILTER + 2 }
         ensures depths { (depth : ℕ) → is_reached self.new depth ≡ (kept_reaches reach depth || is_reached self.old depth) }
         ensures longest { self.new.longest ≡ max reach.fixed self.old.longest }
     {
@@ -102,7 +102,7 @@ impl Reached {
 
     /// Whether the depth is reached.
     fn has(&self, depth: usize) -> bool
-        requires { depth < 203 }
+        requires { depth < MARKS }
         ensures { result ≡ is_reached self.now depth }
     {
         match self.rest_from {

@@ -1,12 +1,12 @@
 //! The candidate of a depth, as a name (MQTT 3.1.1, 4.7).
-ghost use Rattle.std.specs.Prelude.{◌≡◌, ◌<◌, true, length, IfOk};
+ghost use Rattle.std.specs.Prelude.{◌≡◌, ◌≤◌, true, length, IfOk};
 ghost use Rattle.sng_text.specs.Levels.{levels_of};
 ghost use Rattle.sng_text.specs.Texts.{is_name};
 ghost use Rattle.sng_cover.specs.Candidates.{joined, candidate_levels};
 ghost use Rattle.sng_cover.specs.Left.{levels_left};
 
 use sng_text::bytes::{is_hash, is_plus};
-use sng_text::{Levels, TopicFilter, TopicName};
+use sng_text::{Levels, MAX_NAME, TopicFilter, TopicName};
 use std::alloc::{AllocError, Global};
 
 /// The levels of a candidate that are left to give.
@@ -60,7 +60,7 @@ pub fn gap_name(
 
 /// The text with these levels, in memory of its very size.
 fn text_of(alloc: Global, levels: Candidate) -> Result<Vec<u8>, AllocError>
-    requires { length (joined (levels_left levels)) < 65536 }
+    requires { length (joined (levels_left levels)) ≤ MAX_NAME }
     ensures { IfOk result (λ text. text.items ≡ joined (levels_left levels.entry)) }
 {
     let mut text = Vec::with_capacity(alloc, size_of(levels))?;
@@ -77,7 +77,7 @@ fn text_of(alloc: Global, levels: Candidate) -> Result<Vec<u8>, AllocError>
 
 /// How many bytes the text with these levels has.
 fn size_of(levels: Candidate) -> usize
-    requires { length (joined (levels_left levels)) < 65536 }
+    requires { length (joined (levels_left levels)) ≤ MAX_NAME }
     ensures { result ≡ length (joined (levels_left levels.entry)) }
 {
     let mut levels = levels;

@@ -11,8 +11,6 @@ mod marks;
 pub mod question;
 mod reach;
 mod runs;
-#[cfg(test)]
-mod tests;
 
 pub use answer::Cover;
 pub use inclusion::{cover, shows_gap};

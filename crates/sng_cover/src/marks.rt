@@ -2,8 +2,10 @@
 ghost use Rattle.std.specs.Prelude.{ℕ, ◌≡◌, ◌==◌, ◌||◌, ◌<◌, false};
 ghost use Rattle.sng_cover.specs.Marks.{is_marked};
 
-/// One more than the greatest number that a filter of at most 200 bytes can ask for: its 201 levels, and one.
-pub const MARKS: usize = 203;
+use sng_text::MAX_FILTER;
+
+/// One more than the greatest number that a filter can ask for: its levels, of which it has at most one more than bytes, and one.
+pub const MARKS: usize = MAX_FILTER + 3;
 
 /// The numbers below `MARKS` that were marked.
 #[derive(Drop)]
@@ -23,7 +25,7 @@ impl Marks {
 
     /// Marks the number.
     pub fn mark(&mut self, number: usize)
-        requires { number < 203 }
+        requires { number < MARKS }
         ensures { (other : ℕ) → is_marked self.new other ≡ ((other == number) || is_marked self.old other) }
     {
         self.marks[number] = true;
@@ -31,7 +33,7 @@ impl Marks {
 
     /// Whether the number was marked.
     pub fn has(&self, number: usize) -> bool
-        requires { number < 203 }
+        requires { number < MARKS }
         ensures { result ≡ is_marked self.now number }
     {
         self.marks[number]

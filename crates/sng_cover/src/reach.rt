@@ -1,6 +1,6 @@
 //! Which candidates one granted filter matches, read off the two filters alone (MQTT 3.1.1, 4.7): a candidate has the asked
 //! filter's literal levels, and elsewhere a level that no granted filter names, so there only a wildcard can match.
-ghost use Rattle.std.specs.Prelude.{◌≡◌, ◌<◌, true};
+ghost use Rattle.std.specs.Prelude.{◌≡◌, ◌+◌, ◌<◌, true};
 ghost use Rattle.sng_text.specs.Levels.{levels_of};
 ghost use Rattle.sng_text.specs.Texts.{is_filter};
 ghost use Rattle.sng_text.specs.Matching.{has_rest};
@@ -9,7 +9,7 @@ ghost use Rattle.sng_cover.specs.Reaches.{fits, kept_reaches, begins_with, found
 
 use sng_text::bytes::{is_hash, is_plus};
 use sng_text::matching::{begins_wild, is_reserved};
-use sng_text::{Levels, TopicFilter};
+use sng_text::{Levels, MAX_FILTER, TopicFilter};
 
 /// What decides which candidates a filter matches.
 #[derive(Clone, Copy)]
@@ -29,7 +29,7 @@ impl Reach {
         ensures fixed { result.fixed ≡ fixed_part granted.now }
         ensures has_rest { result.has_rest ≡ has_rest (levels_of granted.now) }
         ensures fits { result.fits ≡ fits asked.now granted.now }
-        ensures few { result.fixed < 202 }
+        ensures few { result.fixed < MAX_FILTER + 2 }
         ensures asked_is { is_filter asked.now ≡ true }
         ensures granted_is { is_filter granted.now ≡ true }
     {

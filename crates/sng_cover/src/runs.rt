@@ -7,10 +7,12 @@ ghost use Rattle.sng_cover.specs.Gathered.{AreRunsOf};
 ghost use Rattle.sng_cover.specs.Marks.{is_marked};
 
 use crate::marks::Marks;
-use sng_text::{Levels, TopicFilter};
+use sng_text::{Levels, MAX_FILTER, TopicFilter};
 
-/// As many `x` as may be asked for: one more than a filter has bytes.
-const LONGEST: [u8; 201] = [b'x'; 201];
+/// The most `x` that may be asked for: one more than a filter has bytes.
+const LONGEST_RUN: usize = MAX_FILTER + 1;
+
+const LONGEST: [u8; LONGEST_RUN] = [b'x'; LONGEST_RUN];
 
 /// The shortest run of `x`, of at least one, that is no level of a granted filter, by the lengths of the runs that are.
 pub fn fresh_level(runs: &Marks) -> &'static [u8]
@@ -22,14 +24,14 @@ pub fn fresh_level(runs: &Marks) -> &'static [u8]
 /// How long that run is.
 fn fresh_count(runs: &Marks) -> usize
     ensures value { (granted : List (List ℕ)) → AreRunsOf runs.now granted → run result ≡ fresh_level granted }
-    ensures few { result ≤ 201 }
+    ensures few { result ≤ LONGEST_RUN }
 {
-    for count in 1..201 {
+    for count in 1..LONGEST_RUN {
         if !runs.has(count) {
             return count;
         }
     }
-    201
+    LONGEST_RUN
 }
 
 /// Marks the lengths of the runs of `x` among the filter's levels.

@@ -1,4 +1,4 @@
-pub mod GrantLemmas
+pub mod GreatestLemmas
+pub mod HeldLemmas
 pub mod HolderLemmas
 pub mod PlaceLemmas
-pub mod TableLemmas

@@ -1,33 +1,51 @@
--- Who gets a message: the clients that hold a filter that matches its name.
-use Rattle.std.specs.Prelude.{ℕ, ◌==◌, nat_lt, List, [], ◌∷◌, if◌then◌else◌}
-use Rattle.std.specs.List.{prefix_len}
+-- Who gets a message: the clients for which a filter stands that matches its name.
+use Rattle.std.specs.Prelude.{ℕ, ◌+◌, List, [], ◌∷◌, if◌then◌else◌, Some, None}
+use Rattle.std.specs.declared.option.Option.{Option}
 use Rattle.sng_text.specs.Matching.{matches}
 use Rattle.sng_text.specs.declared.qos.Qos.{Qos}
 use Rattle.sng_text.specs.declared.qos.Qos.TheVariants.{AtMostOnce, AtLeastOnce}
+use Rattle.sng_fan.specs.declared.held.Held.{Held}
 use Rattle.sng_fan.specs.declared.holder.Holder.{Holder}
-use Rattle.sng_fan.specs.declared.subscription.Subscription.{Subscription}
+use Rattle.sng_fan.specs.Subscriptions.{stands}
 
 -- the greater of two levels of QoS, 0 and 1
 abbrev pub greater : Qos → Qos → Qos
 greater AtMostOnce b = b
 greater AtLeastOnce b = AtLeastOnce
 
--- where the client may stand in order of number: behind the clients below it
-abbrev pub place_of : List Holder → ℕ → ℕ
-place_of holders client = prefix_len (λ h. nat_lt h.client client) holders
+-- the greatest QoS so far, with one more
+abbrev pub raised : Option Qos → Qos → Qos
+raised None qos = qos
+raised (Some greatest) qos = greater greatest qos
 
--- the holders with one more grant: the client stands once, in order of number, at the greatest QoS
-abbrev pub with_grant : List Holder → ℕ → Qos → List Holder
-with_grant [] client qos = record { client = client; qos = qos } ∷ []
-with_grant (h ∷ holders) client qos =
-    if nat_lt h.client client then h ∷ with_grant holders client qos
-    else (if h.client == client then record h { qos = greater h.qos qos } ∷ holders else record { client = client; qos = qos } ∷ h ∷ holders)
+-- the greatest QoS among this one and the filters that match the name
+abbrev pub greatest_from : Option Qos → List Held → List ℕ → Option Qos
+greatest_from greatest [] name = greatest
+greatest_from greatest (h ∷ held) name =
+    greatest_from (if matches h.filter name then Some (raised greatest h.qos) else greatest) held name
 
--- the holders with the grants of the subscriptions that match the name
-abbrev pub with_grants : List Holder → List Subscription → List ℕ → List Holder
-with_grants holders [] name = holders
-with_grants holders (s ∷ subscriptions) name =
-    with_grants (if matches s.filter name then with_grant holders s.client s.qos else holders) subscriptions name
+-- the greatest QoS among the filters that match the name, where one matches
+abbrev pub greatest_qos : List Held → List ℕ → Option Qos
+greatest_qos held name = greatest_from None held name
 
-abbrev pub holders_of : List Subscription → List ℕ → List Holder
-holders_of subscriptions name = with_grants [] subscriptions name
+-- the client in front, where it holds the name
+abbrev pub with_holder : ℕ → Option Qos → List Holder → List Holder
+with_holder client None holders = holders
+with_holder client (Some qos) holders = record { client = client; qos = qos } ∷ holders
+
+-- the holders of the name among these clients, the first of which has this number
+abbrev pub holders_from : ℕ → List (List Held) → List ℕ → List Holder
+holders_from client [] name = []
+holders_from client (held ∷ clients) name = with_holder client (greatest_qos held name) (holders_from (client + 1) clients name)
+
+abbrev pub holders_of : List (List Held) → List ℕ → List Holder
+holders_of clients name = holders_from 0 clients name
+
+-- the numbers of the clients for which the filter itself stands, the first of which has this number
+abbrev pub filter_holders_from : ℕ → List (List Held) → List ℕ → List ℕ
+filter_holders_from client [] text = []
+filter_holders_from client (held ∷ clients) text =
+    if stands held text then client ∷ filter_holders_from (client + 1) clients text else filter_holders_from (client + 1) clients text
+
+abbrev pub filter_holders : List (List Held) → List ℕ → List ℕ
+filter_holders clients text = filter_holders_from 0 clients text

@@ -1,26 +1,12 @@
 -- What the holders of a name are, stated for each client by itself.
-use Rattle.std.specs.Prelude.{ℕ, ◌≡◌, ◌+◌, ◌≤◌, ◌==◌, ◌&&◌, List, [], ◌∷◌, if◌then◌else◌, Some, None}
+use Rattle.std.specs.Prelude.{ℕ, ◌≡◌, ◌+◌, ◌≤◌, ◌==◌, true, false, List, [], ◌∷◌, ◌++◌, if◌then◌else◌, Some, None}
 use Rattle.std.specs.declared.option.Option.{Option}
 use Rattle.sng_text.specs.Matching.{matches}
 use Rattle.sng_text.specs.declared.qos.Qos.{Qos}
+use Rattle.sng_fan.specs.declared.held.Held.{Held}
 use Rattle.sng_fan.specs.declared.holder.Holder.{Holder}
-use Rattle.sng_fan.specs.declared.subscription.Subscription.{Subscription}
-use Rattle.sng_fan.specs.Holders.{greater, holders_of}
-
--- the greatest QoS with one more
-abbrev pub raised : Option Qos → Qos → Qos
-raised None qos = qos
-raised (Some greatest) qos = greater greatest qos
-
--- the greatest QoS among these and the client's subscriptions that match the name
-abbrev pub greatest_from : Option Qos → List Subscription → ℕ → List ℕ → Option Qos
-greatest_from greatest [] client name = greatest
-greatest_from greatest (s ∷ subscriptions) client name =
-    greatest_from (if (s.client == client) && matches s.filter name then Some (raised greatest s.qos) else greatest) subscriptions client name
-
--- the greatest QoS at which the client holds a filter that matches the name, where it holds one
-abbrev pub greatest_qos : List Subscription → ℕ → List ℕ → Option Qos
-greatest_qos subscriptions client name = greatest_from None subscriptions client name
+use Rattle.sng_fan.specs.Subscriptions.{filters_of}
+use Rattle.sng_fan.specs.Holders.{greater, greatest_qos, holders_of}
 
 -- the QoS of a client among holders
 abbrev pub qos_of : List Holder → ℕ → Option Qos
@@ -32,7 +18,26 @@ abbrev pub RiseFrom : ℕ → List Holder → Type 0
 RiseFrom least [] = Unit {0}
 RiseFrom least (h ∷ holders) = (least ≤ h.client) × RiseFrom (h.client + 1) holders
 
--- the holders are the clients with a subscription that matches, each once, in order of number, with the greatest QoS
+-- the holders are the clients with a filter that matches, each once, in order of number, with the greatest QoS
 abbrev pub HoldersAreMatching : Type 0
-HoldersAreMatching = (subscriptions : List Subscription) (name : List ℕ) → RiseFrom 0 (holders_of subscriptions name)
-    × ((client : ℕ) → qos_of (holders_of subscriptions name) client ≡ greatest_qos subscriptions client name)
+HoldersAreMatching = (clients : List (List Held)) (name : List ℕ) → RiseFrom 0 (holders_of clients name)
+    × ((client : ℕ) → qos_of (holders_of clients name) client ≡ greatest_qos (filters_of clients client) name)
+
+-- no filter among these matches the name
+abbrev pub NoneMatches : List Held → List ℕ → Type 0
+NoneMatches [] name = Unit {0}
+NoneMatches (h ∷ held) name = (matches h.filter name ≡ false) × NoneMatches held name
+
+-- none of these that match the name is greater
+abbrev pub NoneIsGreater : Qos → List Held → List ℕ → Type 0
+NoneIsGreater qos [] name = Unit {0}
+NoneIsGreater qos (h ∷ held) name = (matches h.filter name ≡ true → greater qos h.qos ≡ qos) × NoneIsGreater qos held name
+
+-- there is a greatest QoS exactly where a filter matches, and it is that of one which matches
+abbrev pub IsGreatest : Option Qos → List Held → List ℕ → Type 0
+IsGreatest None held name = NoneMatches held name
+IsGreatest (Some qos) held name = NoneIsGreater qos held name
+    × ((before : List Held) × (h : Held) × (later : List Held) × (held ≡ before ++ h ∷ later) × (matches h.filter name ≡ true) × (h.qos ≡ qos))
+
+abbrev pub GreatestIsGreatest : Type 0
+GreatestIsGreatest = (held : List Held) (name : List ℕ) → IsGreatest (greatest_qos held name) held name

@@ -7,7 +7,4 @@ pub enum FanFault {
     /// As many other filters stand for the client as may.
     #[error("too many filters stand for the client")]
     Full,
-    /// An allocation failed.
-    #[error("out of memory")]
-    Memory,
 }

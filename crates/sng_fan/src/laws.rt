@@ -1,6 +1,6 @@
 //! The laws of the fan. The functions here only state them: a contract is the law, and a call does nothing.
 ghost use Rattle.std.specs.Prelude.{◌≡◌};
-ghost use Rattle.sng_fan.specs.Laws.{HoldersAreMatching};
+ghost use Rattle.sng_fan.specs.Laws.{HoldersAreMatching, GreatestIsGreatest};
 
 use crate::MAX_SUBSCRIPTIONS;
 
@@ -9,7 +9,13 @@ pub fn limits()
     ensures { MAX_SUBSCRIPTIONS ≡ 32 }
 {}
 
-/// The holders of a name are the clients with a subscription that matches, each once, in order of number, with the greatest QoS.
+/// The holders of a name are the clients with a filter that matches it, each once, in order of number, at the greatest QoS.
 pub fn holders_are_matching()
     ensures { HoldersAreMatching }
+{}
+
+/// Where no filter of a client matches a name there is no greatest QoS; else it is that of a filter that matches, and no other
+/// that matches has a greater one.
+pub fn greatest_is_greatest()
+    ensures { GreatestIsGreatest }
 {}

@@ -1,108 +1,150 @@
-//! The filters that stand.
-ghost use Rattle.std.specs.Prelude.{◌≡◌, ◌↔◌, ◌⊎◌, ℕ, List, [], true, false, Ok, Err, IfOk, OnOk, IfErr};
-ghost use Rattle.std.specs.List.{position_or_len};
+//! The filters that stand, for each client by its number.
+ghost use Rattle.std.specs.Prelude.{◌≡◌, ◌+◌, ◌-◌, ◌<◌, ◌≤◌, [], ◌∷◌, ◌++◌, true, false, length, set, IfOk, OnOk, OnErr};
 ghost use Rattle.sng_fan.specs.declared.limits.TheConstants.{MAX_SUBSCRIPTIONS};
-ghost use Rattle.sng_fan.specs.declared.subscription.Subscription.{Subscription as subscription_type};
-ghost use Rattle.sng_fan.specs.Holders.{holders_of};
-ghost use Rattle.sng_fan.specs.Subscriptions.{is_of, is_held, is_full, stands, filter_count, with_filter, without_filter, without_client, still_held, IsTable};
+ghost use Rattle.sng_fan.specs.Subscriptions.{filters_of, stands, is_held, others_hold, is_full, with_filter, without_filter};
+ghost use Rattle.sng_fan.specs.Subscriptions.{still_held, IsOneClients};
+ghost use Rattle.sng_fan.specs.Holders.{holders_of, holders_from, filter_holders, filter_holders_from};
 
-use crate::holder::add_grant;
-use crate::{FanFault, Holder, MAX_SUBSCRIPTIONS, Subscription};
-use sng_text::{Qos, TopicFilter, TopicName, matches};
+use crate::{FanFault, Held, Holder, MAX_SUBSCRIPTIONS, Subscriptions};
+use sng_text::{Qos, TopicFilter, TopicName};
 use std::alloc::{AllocError, Global};
 use std::marker::Model;
 
-/// Who holds which filter at which QoS. Contracts see the list of subscriptions, in the order in which they first stood: a
-/// client has a filter once, and `MAX_SUBSCRIPTIONS` filters at the most.
+/// Which filter stands for which client at which QoS. Contracts see a list for each client, by its number, of the filters that
+/// stand for it, in order of first standing.
 #[derive(Debug, Drop)]
 pub struct Standing {
-    subscriptions: Vec<Subscription>,
+    clients: Vec<Subscriptions>,
 }
 
 impl Model for Standing {
-    ghost use Rattle.std.specs.Prelude.{List};
-    ghost use Rattle.sng_fan.specs.declared.subscription.Subscription.{Subscription};
-    ghost use Rattle.sng_fan.specs.declared.limits.TheConstants.{MAX_SUBSCRIPTIONS};
-    ghost use Rattle.sng_fan.specs.Subscriptions.{IsTable};
+    ghost use Rattle.std.specs.Prelude.{◌≤◌, List, length};
+    ghost use Rattle.sng_fan.specs.declared.held.Held.{Held};
 
-    ghost Value = { List Subscription };
+    ghost Value = { List (List Held) };
 
-    ghost view = { λ s. s.subscriptions.items };
+    ghost view = { λ s. s.clients.items };
 
-    ghost invariant = { λ s. IsTable MAX_SUBSCRIPTIONS s.subscriptions.items };
+    ghost invariant = { λ s. length s.clients.items ≤ 65536 };
 }
 
 impl Standing {
-    /// Nothing stands. Takes no memory.
+    /// No client is there. Takes no memory.
     pub fn new(alloc: Global) -> Standing
         ensures { result ≡ [] }
     {
         Standing {
-            subscriptions: Vec::new(alloc),
+            clients: Vec::new(alloc),
         }
     }
 
-    /// Lets the filter stand for the client at this QoS. Where it stood it keeps its place, and no memory is taken. Full
-    /// exactly where `MAX_SUBSCRIPTIONS` filters stand for the client and this one does not; an `Err` leaves all as it was.
-    pub fn add(&mut self, client: u16, filter: TopicFilter, qos: Qos) -> Result<(), FanFault>
-        ensures ok { OnOk result ((is_full MAX_SUBSCRIPTIONS self.old client filter ≡ false) × (self.new ≡ with_filter self.old client filter qos)) }
-        ensures err { IfErr result (λ fault. (self.new ≡ self.old) × ((fault ≡ FanFault.Full) ↔ (is_full MAX_SUBSCRIPTIONS self.old client filter ≡ true))) }
+    /// A client more, for which nothing stands, with its number: those before it have the numbers below. Room for its
+    /// filters is made here, so that no later call for it takes memory. An `Err` changes nothing.
+    pub fn join(&mut self, alloc: Global) -> Result<u16, AllocError>
+        requires { length self.old < 65536 }
+        ensures ok { IfOk result (λ client. (client ≡ length self.old) × (self.new ≡ self.old ++ [] ∷ [])) }
+        ensures err { OnErr result (self.new ≡ self.old) }
     {
-        let place = place_of(&self.subscriptions, client, &filter);
-        if place < self.subscriptions.len() {
-            let subscription = &mut self.subscriptions[place];
-            subscription.qos = qos;
-            return Ok(());
-        }
-        if filter_count(&self.subscriptions, client) >= MAX_SUBSCRIPTIONS {
-            return Err(FanFault::Full);
-        }
-        let subscription = Subscription {
-            client,
-            filter,
-            qos,
-        };
-        match self.subscriptions.push(subscription) {
-            Ok(()) => Ok(()),
-            Err(_) => Err(FanFault::Memory),
-        }
+        let client = self.clients.len() as u16;
+        let subscriptions = Subscriptions::new(alloc)?;
+        self.clients.push(subscriptions)?;
+        Ok(client)
+    }
+
+    /// How many clients there are.
+    pub fn len(&self) -> usize
+        ensures len { result ≡ length self.now }
+        ensures within { length self.now ≤ 65536 }
+    {
+        self.clients.len()
+    }
+
+    /// The filters that stand for the client, in order of first standing.
+    pub fn filters(&self, client: u16) -> &[Held]
+        requires { client < length self.now }
+        ensures value { result.now ≡ filters_of self.now client }
+        ensures once { IsOneClients (filters_of self.now client) }
+    {
+        let subscriptions = &self.clients[usize::from(client)];
+        subscriptions.filters()
+    }
+
+    /// How many more filters may stand for the client.
+    pub fn room(&self, client: u16) -> usize
+        requires { client < length self.now }
+        ensures { result + length (filters_of self.now client) ≡ MAX_SUBSCRIPTIONS }
+    {
+        MAX_SUBSCRIPTIONS - self.filters(client).len()
+    }
+
+    /// Whether the filter stands for the client.
+    pub fn stands(&self, client: u16, filter: &TopicFilter) -> bool
+        requires { client < length self.now }
+        ensures { result ≡ stands (filters_of self.now client) filter.now }
+    {
+        let subscriptions = &self.clients[usize::from(client)];
+        subscriptions.stands(filter)
+    }
+
+    /// Lets the filter stand for the client at this QoS. Where it stood it keeps its place. Full exactly where
+    /// `MAX_SUBSCRIPTIONS` others stand for the client; nothing changes then. Takes no memory.
+    pub fn add(&mut self, client: u16, filter: TopicFilter, qos: Qos) -> Result<(), FanFault>
+        requires { client < length self.old }
+        ensures ok { OnOk result ((is_full (filters_of self.old client) filter ≡ false)
+            × (self.new ≡ set self.old client (with_filter (filters_of self.old client) filter qos))) }
+        ensures err { OnErr result ((is_full (filters_of self.old client) filter ≡ true) × (self.new ≡ self.old)) }
+    {
+        let subscriptions = &mut self.clients[usize::from(client)];
+        subscriptions.add(filter, qos)
     }
 
     /// Ends the client's subscription to the filter, and returns whether there was one. Takes no memory.
     pub fn end(&mut self, client: u16, filter: &TopicFilter) -> bool
-        ensures stood { result ≡ stands self.old client filter.now }
-        ensures rest { self.new ≡ without_filter self.old client filter.now }
+        requires { client < length self.old }
+        ensures stood { result ≡ stands (filters_of self.old client) filter.now }
+        ensures rest { self.new ≡ set self.old client (without_filter (filters_of self.old client) filter.now) }
     {
-        let stood = stands(&self.subscriptions, client, filter);
-        self.subscriptions.retain(|s| !s.is_of(client, filter));
-        stood
-    }
-
-    /// Ends every subscription of the client. Takes no memory.
-    pub fn end_client(&mut self, client: u16)
-        ensures { self.new ≡ without_client self.old client }
-    {
-        self.subscriptions.retain(|s| s.client != client);
+        let subscriptions = &mut self.clients[usize::from(client)];
+        subscriptions.end(filter)
     }
 
     /// Ends the client's subscription to the filter, and returns whether somebody else still holds it; None where it did not
     /// stand. Takes no memory.
     pub fn end_where(&mut self, client: u16, filter: &TopicFilter) -> Option<bool>
+        requires { client < length self.old }
         ensures others { result ≡ still_held self.old client filter.now }
-        ensures rest { self.new ≡ without_filter self.old client filter.now }
+        ensures rest { self.new ≡ set self.old client (without_filter (filters_of self.old client) filter.now) }
     {
         if self.end(client, filter) {
-            Some(self.held(filter))
+            Some(self.others_hold(client, filter))
         } else {
             None
         }
+    }
+
+    /// Ends every subscription of the client. Takes no memory.
+    pub fn end_client(&mut self, client: u16)
+        requires { client < length self.old }
+        ensures { self.new ≡ set self.old client [] }
+    {
+        let subscriptions = &mut self.clients[usize::from(client)];
+        subscriptions.clear();
     }
 
     /// Whether somebody holds the filter. Takes no memory.
     pub fn held(&self, filter: &TopicFilter) -> bool
         ensures { result ≡ is_held self.now filter.now }
     {
-        is_held(&self.subscriptions, filter)
+        is_held(&self.clients, filter)
+    }
+
+    /// Whether a client other than this one holds the filter. Takes no memory.
+    pub fn others_hold(&self, client: u16, filter: &TopicFilter) -> bool
+        requires { client < length self.now }
+        ensures { result ≡ others_hold self.now client filter.now }
+    {
+        let place = usize::from(client);
+        is_held(&self.clients[..place], filter) || is_held(&self.clients[place + 1..], filter)
     }
 
     /// The clients that hold a filter that matches the name, each once, in order of number, with the greatest QoS among those
@@ -110,63 +152,62 @@ impl Standing {
     pub fn holders(&self, alloc: Global, name: &TopicName) -> Result<Vec<Holder>, AllocError>
         ensures { IfOk result (λ holders. holders.items ≡ holders_of self.now name.now) }
     {
-        holders_of(alloc, &self.subscriptions, name)
+        holders_of(alloc, &self.clients, name)
     }
 
-    /// The subscriptions, in the order in which they first stood.
-    pub fn subscriptions(&self) -> &[Subscription]
-        ensures value { result.now ≡ self.now }
-        ensures table { IsTable MAX_SUBSCRIPTIONS self.now }
+    /// The clients that hold this very filter, in order of number. Only memory can fail.
+    pub fn filter_holders(
+        &self,
+        alloc: Global,
+        filter: &TopicFilter,
+    ) -> Result<Vec<u16>, AllocError>
+        ensures { IfOk result (λ clients. clients.items ≡ filter_holders self.now filter.now) }
     {
-        self.subscriptions.as_slice()
+        filter_holders(alloc, &self.clients, filter)
     }
 }
 
-/// Where the client's subscription to the filter is, or how many subscriptions there are.
-fn place_of(subscriptions: &[Subscription], client: u16, filter: &TopicFilter) -> usize
-    ensures { result ≡ position_or_len (is_of client filter.now) subscriptions.now }
+/// Whether one of these clients holds the filter.
+fn is_held(clients: &[Subscriptions], filter: &TopicFilter) -> bool
+    ensures { result ≡ is_held clients.now filter.now }
 {
-    subscriptions
+    clients
         .iter()
-        .take_while(|s| !s.is_of(client, filter))
-        .count()
+        .any(|subscriptions| subscriptions.stands(filter))
 }
 
-/// Whether the filter stands for the client.
-fn stands(subscriptions: &[Subscription], client: u16, filter: &TopicFilter) -> bool
-    ensures { result ≡ stands subscriptions.now client filter.now }
-{
-    subscriptions.iter().any(|s| s.is_of(client, filter))
-}
-
-/// How many filters stand for the client.
-fn filter_count(subscriptions: &[Subscription], client: u16) -> usize
-    ensures { result ≡ filter_count subscriptions.now client }
-{
-    subscriptions.iter().filter(|s| s.client == client).count()
-}
-
-/// Whether the filter stands for somebody.
-fn is_held(subscriptions: &[Subscription], filter: &TopicFilter) -> bool
-    ensures { result ≡ is_held subscriptions.now filter.now }
-{
-    subscriptions
-        .iter()
-        .any(|s| s.filter.text() == filter.text())
-}
-
-/// The holders of the filters that match the name.
+/// The holders of the filters that match the name: a walk over the clients in order of number.
 fn holders_of(
     alloc: Global,
-    subscriptions: &[Subscription],
+    clients: &[Subscriptions],
     name: &TopicName,
 ) -> Result<Vec<Holder>, AllocError>
-    ensures { IfOk result (λ holders. holders.items ≡ holders_of subscriptions.now name.now) }
+    requires { length clients.now ≤ 65536 }
+    ensures { IfOk result (λ holders. holders.items ≡ holders_of clients.now name.now) }
 {
     let mut holders = Vec::new(alloc);
-    for subscription in subscriptions {
-        if matches(&subscription.filter, name) {
-            add_grant(&mut holders, subscription.client, subscription.qos)?;
+    for (number, subscriptions) in clients.iter().enumerate() {
+        if let Some(qos) = subscriptions.greatest(name) {
+            let client = number as u16;
+            holders.push(Holder { client, qos })?;
+        }
+    }
+    Ok(holders)
+}
+
+/// The holders of the filter itself.
+fn filter_holders(
+    alloc: Global,
+    clients: &[Subscriptions],
+    filter: &TopicFilter,
+) -> Result<Vec<u16>, AllocError>
+    requires { length clients.now ≤ 65536 }
+    ensures { IfOk result (λ holders. holders.items ≡ filter_holders clients.now filter.now) }
+{
+    let mut holders = Vec::new(alloc);
+    for (number, subscriptions) in clients.iter().enumerate() {
+        if subscriptions.stands(filter) {
+            holders.push(number as u16)?;
         }
     }
     Ok(holders)

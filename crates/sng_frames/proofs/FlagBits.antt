@@ -2,9 +2,9 @@
 use Rattle.std.proofs.Common.{◌≡◌, ℕ, zero, suc, ◌+◌, ◌*◌, ◌/◌, ◌%◌, ◌<◌, ◌==◌, Bool, true, false, refl, ap}
 use Rattle.std.proofs.Common.{◌∙◌, arith}
 use Rattle.sng_frames.specs.declared.flags.Flags.{Flags}
-use Rattle.sng_frames.specs.declared.flags.Qos.{Qos}
-use Rattle.sng_frames.specs.declared.flags.Qos.TheVariants.{AtMostOnce, AtLeastOnce, ExactlyOnce}
-use Rattle.sng_frames.specs.declared.flags.Qos.TheVariants.{WithoutSession}
+use Rattle.sng_frames.specs.declared.qos.FrameQos.{FrameQos}
+use Rattle.sng_frames.specs.declared.qos.FrameQos.TheVariants.{AtMostOnce, AtLeastOnce, ExactlyOnce}
+use Rattle.sng_frames.specs.declared.qos.FrameQos.TheVariants.{WithoutSession}
 use Rattle.sng_frames.specs.declared.flags.TopicIdType.{TopicIdType}
 use Rattle.sng_frames.specs.declared.flags.TopicIdType.TheVariants.{Normal, Predefined, Short, Reserved}
 use Rattle.sng_frames.specs.FlagsOctet.{bit, qos_bits, id_type_bits, flags_octet, qos_of, id_type_of}
@@ -19,7 +19,7 @@ abbrev value_of : Bool → ℕ
 value_of true = 1
 value_of false = 0
 
-abbrev level_of : Qos → ℕ
+abbrev level_of : FrameQos → ℕ
 level_of AtMostOnce = 0
 level_of AtLeastOnce = 1
 level_of ExactlyOnce = 2
@@ -29,7 +29,7 @@ value-fits : (b : Bool) → value_of b < 2
 value-fits true = omega arith
 value-fits false = omega arith
 
-level-fits : (q : Qos) → level_of q < 4
+level-fits : (q : FrameQos) → level_of q < 4
 level-fits AtMostOnce = omega arith
 level-fits AtLeastOnce = omega arith
 level-fits ExactlyOnce = omega arith
@@ -45,7 +45,7 @@ bit-value : (b : Bool) (weight : ℕ) → bit b weight ≡ value_of b * weight
 bit-value true weight = omega arith
 bit-value false weight = omega arith
 
-qos_bits-level : (q : Qos) → qos_bits q ≡ level_of q * 32
+qos_bits-level : (q : FrameQos) → qos_bits q ≡ level_of q * 32
 qos_bits-level AtMostOnce = refl
 qos_bits-level AtLeastOnce = refl
 qos_bits-level ExactlyOnce = refl
@@ -99,7 +99,7 @@ test-value : (b : Bool) → (value_of b == 1) ≡ b
 test-value true = refl
 test-value false = refl
 
-qos_of-level : (q : Qos) → qos_of (level_of q) ≡ q
+qos_of-level : (q : FrameQos) → qos_of (level_of q) ≡ q
 qos_of-level AtMostOnce = refl
 qos_of-level AtLeastOnce = refl
 qos_of-level ExactlyOnce = refl

@@ -4,5 +4,6 @@ pub mod PartReading
 pub mod FrameReading
 pub mod Parsing
 pub mod PartWriting
+pub mod Topics
 pub mod Spelling
 pub mod Faults

@@ -8,13 +8,13 @@ use Rattle.sng_text.specs.ClientIds.{is_client_id}
 use Rattle.sng_frames.specs.declared.flags.Flags.{Flags}
 use Rattle.sng_frames.specs.declared.flags.TopicIdType.{TopicIdType}
 use Rattle.sng_frames.specs.declared.flags.TopicIdType.TheVariants.{Normal, Predefined, Short, Reserved}
-use Rattle.sng_frames.specs.declared.frame.Connect.{Connect}
-use Rattle.sng_frames.specs.declared.frame.Publish.{Publish}
-use Rattle.sng_frames.specs.declared.frame.Register.{Register}
-use Rattle.sng_frames.specs.declared.frame.SubscribeAck.{SubscribeAck}
-use Rattle.sng_frames.specs.declared.frame.TopicAck.{TopicAck}
-use Rattle.sng_frames.specs.declared.frame.TopicRequest.{TopicRequest}
-use Rattle.sng_frames.specs.declared.frame.WillTopic.{WillTopic}
+use Rattle.sng_frames.specs.declared.messages.connect.Connect.{Connect}
+use Rattle.sng_frames.specs.declared.messages.publish.Publish.{Publish}
+use Rattle.sng_frames.specs.declared.messages.register.Register.{Register}
+use Rattle.sng_frames.specs.declared.messages.acks.SubscribeAck.{SubscribeAck}
+use Rattle.sng_frames.specs.declared.messages.acks.TopicAck.{TopicAck}
+use Rattle.sng_frames.specs.declared.messages.subscribe.TopicRequest.{TopicRequest}
+use Rattle.sng_frames.specs.declared.messages.will.WillTopic.{WillTopic}
 use Rattle.sng_frames.specs.declared.return_code.ReturnCode.{ReturnCode}
 use Rattle.sng_frames.specs.FlagsOctet.{flags_of, flags_octet}
 use Rattle.sng_frames.specs.Grammar.{IsNumber, SpellsIds, SpellsFlaggedIds, SpellsConnect, SpellsCode}
@@ -83,7 +83,8 @@ ids-are : (topic_high topic_low msg_high msg_low : ℕ) (behind : List ℕ)
     → SpellsIds (number topic_high topic_low) (number msg_high msg_low) behind
     (topic_high ∷ topic_low ∷ msg_high ∷ msg_low ∷ behind)
 ids-are topic_high topic_low msg_high msg_low behind are =
-    let from_low : AreOctets (topic_low ∷ msg_high ∷ msg_low ∷ behind) = tail topic_high (topic_low ∷ msg_high ∷ msg_low ∷ behind) are in
+    let from_low : AreOctets (topic_low ∷ msg_high ∷ msg_low ∷ behind) =
+    tail topic_high (topic_low ∷ msg_high ∷ msg_low ∷ behind) are in
     record {
       topic_high = topic_high;
       topic_low = topic_low;

@@ -2,15 +2,15 @@
 use Rattle.std.proofs.Common.{◌≡◌, ℕ, ◌/◌, ◌%◌, ◌^◌, ◌<◌, List, [], ◌∷◌, Option, Some, None, refl, ap, ◌∙◌}
 use Rattle.std.proofs.Common.{arith}
 use Rattle.sng_frames.specs.declared.flags.Flags.{Flags}
-use Rattle.sng_frames.specs.declared.frame.Connect.{Connect}
-use Rattle.sng_frames.specs.declared.frame.Publish.{Publish}
-use Rattle.sng_frames.specs.declared.frame.Register.{Register}
+use Rattle.sng_frames.specs.declared.messages.connect.Connect.{Connect}
+use Rattle.sng_frames.specs.declared.messages.publish.Publish.{Publish}
+use Rattle.sng_frames.specs.declared.messages.register.Register.{Register}
 use Rattle.sng_frames.specs.declared.frame.SnFrame.{SnFrame}
 use Rattle.sng_frames.specs.declared.frame.SnFrame.TheVariants as variants
-use Rattle.sng_frames.specs.declared.frame.SubscribeAck.{SubscribeAck}
-use Rattle.sng_frames.specs.declared.frame.TopicAck.{TopicAck}
-use Rattle.sng_frames.specs.declared.frame.TopicRequest.{TopicRequest}
-use Rattle.sng_frames.specs.declared.frame.WillTopic.{WillTopic}
+use Rattle.sng_frames.specs.declared.messages.acks.SubscribeAck.{SubscribeAck}
+use Rattle.sng_frames.specs.declared.messages.acks.TopicAck.{TopicAck}
+use Rattle.sng_frames.specs.declared.messages.subscribe.TopicRequest.{TopicRequest}
+use Rattle.sng_frames.specs.declared.messages.will.WillTopic.{WillTopic}
 use Rattle.sng_frames.specs.FlagsOctet.{flags_octet}
 use Rattle.sng_frames.specs.Grammar.{IsNumber, SpellsIds, SpellsFlaggedIds, SpellsConnect, SpellsNumber}
 use Rattle.sng_frames.specs.Grammar.{SpellsWillTopic, SpellsRegister}

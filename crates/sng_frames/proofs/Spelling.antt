@@ -103,3 +103,20 @@ none-spelled frame short unfit =
 -- one whose parts fit has one, unless it is too long
 pub some-spelled : (frame : SnFrame) → IsInRange frame → TopicFits frame → HasNoSpelling frame → ⊥
 some-spelled frame fits topic lacks = lacks.none (written frame) (Spells-written frame fits topic lacks.short)
+
+framed-fits : (kind : ℕ) (part : List ℕ) → length part + 4 ≤ MAX_DATAGRAM
+    → length (framed kind part) ≤ MAX_DATAGRAM
+framed-fits kind part fits =
+    elim (cases_lt MAX_SHORT_LENGTH (length part + 2)) [
+      | inr short ↦ (let two : length (framed kind part) ≡ length part + 2 =
+          ap length (framed-short kind part short) ∙ omega arith in
+          omega (arith, two))
+      | inl long ↦ (let four : length (framed kind part) ≡ length part + 4 =
+          ap length (framed-long kind part long) ∙ omega arith in
+          omega (arith, four))
+    ]
+
+-- how many octets a frame is written as, by those of its variable part
+pub written-short : (frame : SnFrame) → length (part_of frame) + 4 ≤ MAX_DATAGRAM
+    → length (written frame) ≤ MAX_DATAGRAM
+written-short frame fits = framed-fits (octet_of (type_of frame)) (part_of frame) fits

@@ -1,9 +1,9 @@
 -- The Flags octet (MQTT-SN 1.2, 5.3.4).
 use Rattle.std.specs.Prelude.{ℕ, ◌+◌, ◌/◌, ◌%◌, ◌==◌, Bool, if◌then◌else◌}
 use Rattle.sng_frames.specs.declared.flags.Flags.{Flags}
-use Rattle.sng_frames.specs.declared.flags.Qos.{Qos}
-use Rattle.sng_frames.specs.declared.flags.Qos.TheVariants.{AtMostOnce, AtLeastOnce, ExactlyOnce}
-use Rattle.sng_frames.specs.declared.flags.Qos.TheVariants.{WithoutSession}
+use Rattle.sng_frames.specs.declared.qos.FrameQos.{FrameQos}
+use Rattle.sng_frames.specs.declared.qos.FrameQos.TheVariants.{AtMostOnce, AtLeastOnce, ExactlyOnce}
+use Rattle.sng_frames.specs.declared.qos.FrameQos.TheVariants.{WithoutSession}
 use Rattle.sng_frames.specs.declared.flags.TopicIdType.{TopicIdType}
 use Rattle.sng_frames.specs.declared.flags.TopicIdType.TheVariants.{Normal, Predefined, Short, Reserved}
 
@@ -12,7 +12,7 @@ abbrev pub bit : Bool → ℕ → ℕ
 bit is_set weight = if is_set then weight else 0
 
 -- bits 6 and 5: level 0, 1, 2 and -1
-abbrev pub qos_bits : Qos → ℕ
+abbrev pub qos_bits : FrameQos → ℕ
 qos_bits AtMostOnce = 0x00
 qos_bits AtLeastOnce = 0x20
 qos_bits ExactlyOnce = 0x40
@@ -32,7 +32,7 @@ flags_octet f =
     f.id_type
 
 -- the level that a number of two bits means
-abbrev pub qos_of : ℕ → Qos
+abbrev pub qos_of : ℕ → FrameQos
 qos_of bits =
     if bits == 0 then AtMostOnce
     else (if bits == 1 then AtLeastOnce else (if bits == 2 then ExactlyOnce else WithoutSession))

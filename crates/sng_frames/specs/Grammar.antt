@@ -5,15 +5,15 @@ use Rattle.sng_text.specs.ClientIds.{is_client_id}
 use Rattle.sng_frames.specs.declared.flags.Flags.{Flags}
 use Rattle.sng_frames.specs.declared.flags.TopicIdType.{TopicIdType}
 use Rattle.sng_frames.specs.declared.flags.TopicIdType.TheVariants.{Normal, Predefined, Short, Reserved}
-use Rattle.sng_frames.specs.declared.frame.Connect.{Connect}
-use Rattle.sng_frames.specs.declared.frame.Publish.{Publish}
-use Rattle.sng_frames.specs.declared.frame.Register.{Register}
+use Rattle.sng_frames.specs.declared.messages.connect.Connect.{Connect}
+use Rattle.sng_frames.specs.declared.messages.publish.Publish.{Publish}
+use Rattle.sng_frames.specs.declared.messages.register.Register.{Register}
 use Rattle.sng_frames.specs.declared.frame.SnFrame.{SnFrame}
 use Rattle.sng_frames.specs.declared.frame.SnFrame.TheVariants as variants
-use Rattle.sng_frames.specs.declared.frame.SubscribeAck.{SubscribeAck}
-use Rattle.sng_frames.specs.declared.frame.TopicAck.{TopicAck}
-use Rattle.sng_frames.specs.declared.frame.TopicRequest.{TopicRequest}
-use Rattle.sng_frames.specs.declared.frame.WillTopic.{WillTopic}
+use Rattle.sng_frames.specs.declared.messages.acks.SubscribeAck.{SubscribeAck}
+use Rattle.sng_frames.specs.declared.messages.acks.TopicAck.{TopicAck}
+use Rattle.sng_frames.specs.declared.messages.subscribe.TopicRequest.{TopicRequest}
+use Rattle.sng_frames.specs.declared.messages.will.WillTopic.{WillTopic}
 use Rattle.sng_frames.specs.declared.limits.TheConstants.{MAX_SHORT_LENGTH}
 use Rattle.sng_frames.specs.declared.message_type.MessageType.{MessageType}
 use Rattle.sng_frames.specs.declared.message_type.MessageType.TheVariants as types

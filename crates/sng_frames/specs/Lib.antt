@@ -1,4 +1,5 @@
 pub mod FlagsOctet
+pub mod Levels
 pub mod MessageTypes
 pub mod Grammar
 pub mod Parts

@@ -5,15 +5,15 @@ use Rattle.std.specs.declared.option.Option.{Option}
 use Rattle.sng_text.specs.ClientIds.{is_client_id}
 use Rattle.sng_frames.specs.declared.flags.TopicIdType.{TopicIdType}
 use Rattle.sng_frames.specs.declared.flags.TopicIdType.TheVariants.{Normal, Predefined, Short, Reserved}
-use Rattle.sng_frames.specs.declared.frame.Connect.{Connect}
-use Rattle.sng_frames.specs.declared.frame.Publish.{Publish}
-use Rattle.sng_frames.specs.declared.frame.Register.{Register}
+use Rattle.sng_frames.specs.declared.messages.connect.Connect.{Connect}
+use Rattle.sng_frames.specs.declared.messages.publish.Publish.{Publish}
+use Rattle.sng_frames.specs.declared.messages.register.Register.{Register}
 use Rattle.sng_frames.specs.declared.frame.SnFrame.{SnFrame}
 use Rattle.sng_frames.specs.declared.frame.SnFrame.TheVariants as variants
-use Rattle.sng_frames.specs.declared.frame.SubscribeAck.{SubscribeAck}
-use Rattle.sng_frames.specs.declared.frame.TopicAck.{TopicAck}
-use Rattle.sng_frames.specs.declared.frame.TopicRequest.{TopicRequest}
-use Rattle.sng_frames.specs.declared.frame.WillTopic.{WillTopic}
+use Rattle.sng_frames.specs.declared.messages.acks.SubscribeAck.{SubscribeAck}
+use Rattle.sng_frames.specs.declared.messages.acks.TopicAck.{TopicAck}
+use Rattle.sng_frames.specs.declared.messages.subscribe.TopicRequest.{TopicRequest}
+use Rattle.sng_frames.specs.declared.messages.will.WillTopic.{WillTopic}
 use Rattle.sng_frames.specs.declared.message_type.MessageType.{MessageType}
 use Rattle.sng_frames.specs.declared.message_type.MessageType.TheVariants as types
 use Rattle.sng_frames.specs.declared.return_code.ReturnCode.{ReturnCode}
@@ -108,6 +108,33 @@ fits_type Normal topic = true
 fits_type Predefined topic = length topic == 2
 fits_type Short topic = length topic == 2
 fits_type Reserved topic = true
+
+-- whether the topic of a frame is of that size, where it has one
+abbrev pub topic_fits : SnFrame → Bool
+topic_fits (variants.Subscribe r) = fits_type r.flags.id_type r.topic
+topic_fits (variants.Unsubscribe r) = fits_type r.flags.id_type r.topic
+topic_fits (variants.Connect _) = true
+topic_fits (variants.ConnectAck _) = true
+topic_fits variants.WillTopicRequest = true
+topic_fits (variants.WillTopic _) = true
+topic_fits variants.WillMessageRequest = true
+topic_fits (variants.WillMessage _) = true
+topic_fits (variants.Register _) = true
+topic_fits (variants.RegisterAck _) = true
+topic_fits (variants.Publish _) = true
+topic_fits (variants.PublishAck _) = true
+topic_fits (variants.PublishComplete _) = true
+topic_fits (variants.PublishReceived _) = true
+topic_fits (variants.PublishRelease _) = true
+topic_fits (variants.SubscribeAck _) = true
+topic_fits (variants.UnsubscribeAck _) = true
+topic_fits (variants.PingRequest _) = true
+topic_fits variants.PingResponse = true
+topic_fits (variants.Disconnect _) = true
+topic_fits (variants.WillTopicUpdate _) = true
+topic_fits (variants.WillTopicResponse _) = true
+topic_fits (variants.WillMessageUpdate _) = true
+topic_fits (variants.WillMessageResponse _) = true
 
 -- Flags, MsgId, TopicName or TopicId
 abbrev pub topic_request_of : List ℕ → Option TopicRequest

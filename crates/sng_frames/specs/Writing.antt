@@ -7,15 +7,15 @@ use Rattle.std.specs.Global.{Global}
 use Rattle.std.specs.declared.result.Result.{Result}
 use Rattle.sng_frames.specs.declared.fault.FrameFault.{FrameFault}
 use Rattle.sng_frames.specs.declared.fault.FrameFault.TheVariants.{Malformed, TooLong, Memory}
-use Rattle.sng_frames.specs.declared.frame.Connect.{Connect}
-use Rattle.sng_frames.specs.declared.frame.Publish.{Publish}
-use Rattle.sng_frames.specs.declared.frame.Register.{Register}
+use Rattle.sng_frames.specs.declared.messages.connect.Connect.{Connect}
+use Rattle.sng_frames.specs.declared.messages.publish.Publish.{Publish}
+use Rattle.sng_frames.specs.declared.messages.register.Register.{Register}
 use Rattle.sng_frames.specs.declared.frame.SnFrame.{SnFrame}
 use Rattle.sng_frames.specs.declared.frame.SnFrame.TheVariants as variants
-use Rattle.sng_frames.specs.declared.frame.SubscribeAck.{SubscribeAck}
-use Rattle.sng_frames.specs.declared.frame.TopicAck.{TopicAck}
-use Rattle.sng_frames.specs.declared.frame.TopicRequest.{TopicRequest}
-use Rattle.sng_frames.specs.declared.frame.WillTopic.{WillTopic}
+use Rattle.sng_frames.specs.declared.messages.acks.SubscribeAck.{SubscribeAck}
+use Rattle.sng_frames.specs.declared.messages.acks.TopicAck.{TopicAck}
+use Rattle.sng_frames.specs.declared.messages.subscribe.TopicRequest.{TopicRequest}
+use Rattle.sng_frames.specs.declared.messages.will.WillTopic.{WillTopic}
 use Rattle.sng_frames.specs.declared.limits.TheConstants.{MAX_DATAGRAM, MAX_SHORT_LENGTH}
 use Rattle.sng_frames.specs.declared.return_code.ReturnCode.{ReturnCode}
 use Rattle.sng_frames.specs.FlagsOctet.{flags_octet}
@@ -96,22 +96,6 @@ framed kind part =
 
 abbrev pub written : SnFrame → List ℕ
 written frame = framed (octet_of (type_of frame)) (part_of frame)
-
--- the answer where these octets are to be encoded: they fit a datagram and only an allocation can fail, or
--- they are
--- too many
-abbrev pub Writes : Result (Vec ℕ Global) FrameFault → List ℕ → Type 0
-Writes (Ok v) octets = (v.items ≡ octets) × (length octets ≤ MAX_DATAGRAM)
-Writes (Err fault) octets =
-    ((fault ≡ TooLong) × (MAX_DATAGRAM < length octets)) ⊎ ((fault ≡ Memory) × (length octets ≤ MAX_DATAGRAM))
-
--- why a frame is not encoded, before memory is asked for: it is too long, or else the octets of its topic do
--- not fit
--- their type
-abbrev pub Refuses : FrameFault → SnFrame → Type 0
-Refuses fault frame =
-    ((fault ≡ TooLong) × (MAX_DATAGRAM < length (written frame)))
-    ⊎ ((fault ≡ Malformed) × (length (written frame) ≤ MAX_DATAGRAM) × (¬ TopicFits frame))
 
 -- the frame has no spelling, though its bytes would not be too many
 pub record HasNoSpelling (frame : SnFrame) : Type 0 where

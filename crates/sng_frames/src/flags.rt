@@ -2,18 +2,7 @@
 ghost use Rattle.std.specs.Prelude.{◌≡◌};
 ghost use Rattle.sng_frames.specs.FlagsOctet.{qos_of, qos_bits, id_type_of, id_type_bits, bit};
 
-/// The quality of service of a PUBLISH.
-#[derive(Clone, Copy, Debug, PartialEq, Eq)]
-pub enum Qos {
-    /// Level 0, bits 00.
-    AtMostOnce,
-    /// Level 1, bits 01.
-    AtLeastOnce,
-    /// Level 2, bits 10.
-    ExactlyOnce,
-    /// Level -1, bits 11: a PUBLISH without a connection.
-    WithoutSession,
-}
+use crate::FrameQos;
 
 /// What a TopicId field holds.
 #[derive(Clone, Copy, Debug, PartialEq, Eq)]
@@ -34,7 +23,7 @@ pub struct Flags {
     /// Whether the message is sent again; bit 7.
     pub dup: bool,
     /// Bits 6 and 5.
-    pub qos: Qos,
+    pub qos: FrameQos,
     /// Whether the message is kept; bit 4.
     pub retain: bool,
     /// Whether a will is asked for; bit 3.
@@ -76,14 +65,14 @@ impl Flags {
     }
 }
 
-fn qos_of(bits: u8) -> Qos
+fn qos_of(bits: u8) -> FrameQos
     ensures { result ≡ qos_of bits }
 {
     match bits {
-        0 => Qos::AtMostOnce,
-        1 => Qos::AtLeastOnce,
-        2 => Qos::ExactlyOnce,
-        _ => Qos::WithoutSession,
+        0 => FrameQos::AtMostOnce,
+        1 => FrameQos::AtLeastOnce,
+        2 => FrameQos::ExactlyOnce,
+        _ => FrameQos::WithoutSession,
     }
 }
 
@@ -104,14 +93,14 @@ fn bit(is_set: bool, weight: u8) -> u8
     if is_set { weight } else { 0 }
 }
 
-fn qos_bits(qos: Qos) -> u8
+fn qos_bits(qos: FrameQos) -> u8
     ensures { result ≡ qos_bits qos }
 {
     match qos {
-        Qos::AtMostOnce => 0x00,
-        Qos::AtLeastOnce => 0x20,
-        Qos::ExactlyOnce => 0x40,
-        Qos::WithoutSession => 0x60,
+        FrameQos::AtMostOnce => 0x00,
+        FrameQos::AtLeastOnce => 0x20,
+        FrameQos::ExactlyOnce => 0x40,
+        FrameQos::WithoutSession => 0x60,
     }
 }
 

@@ -1,16 +1,19 @@
-//! The laws of decoding and encoding. Each function here only states one: its contract is the law, and
-//! calling it
+//! The laws of decoding and encoding. Each function here only states one: its contract is the law, and calling it
 //! does nothing.
-ghost use Rattle.std.specs.Prelude.{◌≡◌};
-ghost use Rattle.sng_frames.specs.declared.limits.TheConstants.{MAX_DATAGRAM, MAX_SHORT_LENGTH};
+ghost use Rattle.std.specs.Prelude.{◌≡◌, ◌+◌};
+ghost use Rattle.sng_frames.specs.declared.limits.TheConstants.{MAX_DATAGRAM, MAX_PAYLOAD};
+ghost use Rattle.sng_frames.specs.declared.limits.TheConstants.{MAX_REGISTERED_NAME, MAX_SHORT_LENGTH};
 ghost use Rattle.sng_frames.specs.Laws.{ReadsTheGrammar, RefusesTheUnsupported, RefusesTheRest};
 ghost use Rattle.sng_frames.specs.Laws.{SpellsOne, SpellsNoneUnsupported};
 ghost use Rattle.sng_frames.specs.Laws.{WritesASpelling, WritesTheSpelled, WritesTheShortest};
 ghost use Rattle.sng_frames.specs.Laws.{ReadsWhatIsWritten};
 
-/// The limit of a datagram, and the bound that the standard sets a Length of one octet (MQTT-SN 1.2, 5.2.1).
+/// The limit of a datagram, what follows for its parts, and the bound that the standard sets a Length of one octet
+/// (MQTT-SN 1.2, 5.2.1).
 pub fn limits()
     ensures datagram { MAX_DATAGRAM ≡ 2048 }
+    ensures payload { MAX_PAYLOAD + 9 ≡ MAX_DATAGRAM }
+    ensures registered_name { MAX_REGISTERED_NAME + 8 ≡ MAX_DATAGRAM }
     ensures short_length { MAX_SHORT_LENGTH ≡ 255 }
 {}
 

@@ -3,54 +3,104 @@
 /// The type of a message.
 #[derive(Clone, Copy, Debug, PartialEq, Eq)]
 pub enum MessageType {
-    /// CONNECT, 04.
+    /// CONNECT (5.4.4).
     Connect,
-    /// CONNACK, 05.
+    /// CONNACK (5.4.5).
     ConnectAck,
-    /// WILLTOPICREQ, 06.
+    /// WILLTOPICREQ (5.4.6).
     WillTopicRequest,
-    /// WILLTOPIC, 07.
+    /// WILLTOPIC (5.4.7).
     WillTopic,
-    /// WILLMSGREQ, 08.
+    /// WILLMSGREQ (5.4.8).
     WillMessageRequest,
-    /// WILLMSG, 09.
+    /// WILLMSG (5.4.9).
     WillMessage,
-    /// REGISTER, 0A.
+    /// REGISTER (5.4.10).
     Register,
-    /// REGACK, 0B.
+    /// REGACK (5.4.11).
     RegisterAck,
-    /// PUBLISH, 0C.
+    /// PUBLISH (5.4.12).
     Publish,
-    /// PUBACK, 0D.
+    /// PUBACK (5.4.13).
     PublishAck,
-    /// PUBCOMP, 0E.
+    /// PUBCOMP (5.4.14).
     PublishComplete,
-    /// PUBREC, 0F.
+    /// PUBREC (5.4.14).
     PublishReceived,
-    /// PUBREL, 10.
+    /// PUBREL (5.4.14).
     PublishRelease,
-    /// SUBSCRIBE, 12.
+    /// SUBSCRIBE (5.4.15).
     Subscribe,
-    /// SUBACK, 13.
+    /// SUBACK (5.4.16).
     SubscribeAck,
-    /// UNSUBSCRIBE, 14.
+    /// UNSUBSCRIBE (5.4.17).
     Unsubscribe,
-    /// UNSUBACK, 15.
+    /// UNSUBACK (5.4.18).
     UnsubscribeAck,
-    /// PINGREQ, 16.
+    /// PINGREQ (5.4.19).
     PingRequest,
-    /// PINGRESP, 17.
+    /// PINGRESP (5.4.20).
     PingResponse,
-    /// DISCONNECT, 18.
+    /// DISCONNECT (5.4.21).
     Disconnect,
-    /// WILLTOPICUPD, 1A.
+    /// WILLTOPICUPD (5.4.22).
     WillTopicUpdate,
-    /// WILLTOPICRESP, 1B.
+    /// WILLTOPICRESP (5.4.24).
     WillTopicResponse,
-    /// WILLMSGUPD, 1C.
+    /// WILLMSGUPD (5.4.23).
     WillMessageUpdate,
-    /// WILLMSGRESP, 1D.
+    /// WILLMSGRESP (5.4.25).
     WillMessageResponse,
+}
+
+/// The one table of octets and types: each row becomes an arm of a `match`, by the macro that is named.
+macro_rules! each_type {
+    ($arms:ident, $value:expr) => {
+        $arms! {
+            $value;
+            0x04 Connect,
+            0x05 ConnectAck,
+            0x06 WillTopicRequest,
+            0x07 WillTopic,
+            0x08 WillMessageRequest,
+            0x09 WillMessage,
+            0x0a Register,
+            0x0b RegisterAck,
+            0x0c Publish,
+            0x0d PublishAck,
+            0x0e PublishComplete,
+            0x0f PublishReceived,
+            0x10 PublishRelease,
+            0x12 Subscribe,
+            0x13 SubscribeAck,
+            0x14 Unsubscribe,
+            0x15 UnsubscribeAck,
+            0x16 PingRequest,
+            0x17 PingResponse,
+            0x18 Disconnect,
+            0x1a WillTopicUpdate,
+            0x1b WillTopicResponse,
+            0x1c WillMessageUpdate,
+            0x1d WillMessageResponse,
+        }
+    };
+}
+
+macro_rules! type_of {
+    ($octet:expr; $($code:literal $name:ident,)*) => {
+        match $octet {
+            $($code => Some(MessageType::$name),)*
+            _ => None,
+        }
+    };
+}
+
+macro_rules! octet_of {
+    ($kind:expr; $($code:literal $name:ident,)*) => {
+        match $kind {
+            $(MessageType::$name => $code,)*
+        }
+    };
 }
 
 impl MessageType {
@@ -61,64 +111,13 @@ impl MessageType {
     pub fn from_octet(octet: u8) -> Option<MessageType>
         ensures { result ≡ type_of_octet octet }
     {
-        match octet {
-            0x04 => Some(MessageType::Connect),
-            0x05 => Some(MessageType::ConnectAck),
-            0x06 => Some(MessageType::WillTopicRequest),
-            0x07 => Some(MessageType::WillTopic),
-            0x08 => Some(MessageType::WillMessageRequest),
-            0x09 => Some(MessageType::WillMessage),
-            0x0a => Some(MessageType::Register),
-            0x0b => Some(MessageType::RegisterAck),
-            0x0c => Some(MessageType::Publish),
-            0x0d => Some(MessageType::PublishAck),
-            0x0e => Some(MessageType::PublishComplete),
-            0x0f => Some(MessageType::PublishReceived),
-            0x10 => Some(MessageType::PublishRelease),
-            0x12 => Some(MessageType::Subscribe),
-            0x13 => Some(MessageType::SubscribeAck),
-            0x14 => Some(MessageType::Unsubscribe),
-            0x15 => Some(MessageType::UnsubscribeAck),
-            0x16 => Some(MessageType::PingRequest),
-            0x17 => Some(MessageType::PingResponse),
-            0x18 => Some(MessageType::Disconnect),
-            0x1a => Some(MessageType::WillTopicUpdate),
-            0x1b => Some(MessageType::WillTopicResponse),
-            0x1c => Some(MessageType::WillMessageUpdate),
-            0x1d => Some(MessageType::WillMessageResponse),
-            _ => None,
-        }
+        each_type!(type_of, octet)
     }
 
     /// The octet of the type.
     pub fn octet(self) -> u8
         ensures { result ≡ octet_of self }
     {
-        match self {
-            MessageType::Connect => 0x04,
-            MessageType::ConnectAck => 0x05,
-            MessageType::WillTopicRequest => 0x06,
-            MessageType::WillTopic => 0x07,
-            MessageType::WillMessageRequest => 0x08,
-            MessageType::WillMessage => 0x09,
-            MessageType::Register => 0x0a,
-            MessageType::RegisterAck => 0x0b,
-            MessageType::Publish => 0x0c,
-            MessageType::PublishAck => 0x0d,
-            MessageType::PublishComplete => 0x0e,
-            MessageType::PublishReceived => 0x0f,
-            MessageType::PublishRelease => 0x10,
-            MessageType::Subscribe => 0x12,
-            MessageType::SubscribeAck => 0x13,
-            MessageType::Unsubscribe => 0x14,
-            MessageType::UnsubscribeAck => 0x15,
-            MessageType::PingRequest => 0x16,
-            MessageType::PingResponse => 0x17,
-            MessageType::Disconnect => 0x18,
-            MessageType::WillTopicUpdate => 0x1a,
-            MessageType::WillTopicResponse => 0x1b,
-            MessageType::WillMessageUpdate => 0x1c,
-            MessageType::WillMessageResponse => 0x1d,
-        }
+        each_type!(octet_of, self)
     }
 }

@@ -1,3 +1,4 @@
-//! Frames as datagrams and datagrams as frames (MQTT-SN 1.2, 5.2).
+//! Frames from datagrams and datagrams from frames (MQTT-SN 1.2, 5.2).
 pub mod decode;
 pub mod encode;
+pub mod framing;

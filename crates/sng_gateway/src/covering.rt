@@ -3,6 +3,7 @@ ghost use Rattle.std.specs.Prelude.{◌≡◌, ◌++◌, IfOk, OnOk};
 ghost use Rattle.sng_gateway.specs.Covers.{answer_of, answer_text, status_of};
 
 use crate::Status;
+use crate::ending::end;
 use sng_book::print::{push_decimal, push_name};
 use sng_cover::{Cover, cover};
 use sng_text::{Octets, TextFault, TopicFilter};
@@ -14,22 +15,19 @@ use std::io::Write;
 pub enum Answer {
     /// All are filters; whether those after the first cover it.
     Covered(Cover),
-    /// The word at this place, from 1, is no filter; no word before it is none.
+    /// The word at this place, from 1, is not a valid filter, and each word before it is one.
     BadFilter(usize),
 }
 
-/// Prints whether the first word, as a filter, is included in the union of those that follow, and flushes: `included`,
-/// or `uncovered NAME` with the name that shows the gap, or `bad filter N` for the first word that is no filter, from 1.
-/// Names are printed as in rows. `Done` is answered for `included` alone.
+/// Prints whether the first word, as a filter, is included in the union of those that follow, and flushes:
+/// `included`, or `uncovered NAME` with the name that shows the gap, or `bad filter N` for the first word
+/// that is not a valid filter, from 1. Names are printed as in rows. `Done` is answered for `included` alone.
 pub fn cover_words<W: Write + Drop>(alloc: Global, words: &[Octets], mut output: W) -> Status {
     let (printed, status) = match answer_line(alloc, words) {
         Ok((line, status)) => (output.write_all(line.as_slice()), status),
         Err(AllocError) => (output.write_all(b"out of memory\n"), Status::OutOfMemory),
     };
-    match printed.and_then(|_| output.flush()) {
-        Ok(()) => status,
-        Err(_) => Status::Failed,
-    }
+    end(status, printed, &mut output)
 }
 
 /// The line that is printed for the words, and how that run comes out. Only memory can fail.
@@ -90,6 +88,3 @@ fn status(answer: &Answer) -> Status
         Answer::BadFilter(_) => Status::Unreadable,
     }
 }
-
-#[cfg(test)]
-mod tests;

@@ -6,12 +6,12 @@ use hex::FromHexError;
 use sng_text::Octets;
 use std::alloc::Global;
 
-/// What keeps a word from being a datagram.
+/// What is wrong with a word that is not a datagram.
 #[derive(Clone, Copy, Debug, PartialEq, Eq)]
 pub enum DatagramFault {
-    /// It has no digit, an odd number of them, or a byte that is none.
+    /// It has no digit, an odd number of them, or a byte that is not one.
     Unreadable,
-    /// A growth was refused.
+    /// Allocation failed.
     Memory,
 }
 

@@ -1,15 +1,20 @@
-//! The gateway as it is run: from scripts of events, one a line. Beside it, answers on inclusion for whoever writes policies.
+//! The gateway as it is run: from scripts of events, one a line. Beside it, answers on inclusion for whoever
+//! writes policies.
 #![tactic(auto)]
 
 pub mod covering;
 mod datagram;
+pub mod ending;
+mod input;
+pub mod laws;
+pub mod limits;
 pub mod play;
 mod player;
 mod reader;
 pub mod script;
+mod sender;
 pub mod status;
-#[cfg(test)]
-mod tests;
 
+pub use limits::{MAX_LINE, MAX_READS};
 pub use script::{Line, line_of};
 pub use status::Status;

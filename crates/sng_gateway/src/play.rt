@@ -1,17 +1,22 @@
 //! Plays a script: each line is an event, and what the gateway does about it is printed as a row.
 use crate::Status;
+use crate::ending::end;
+use crate::input::read_line;
 use crate::player::{Player, Stop};
 use crate::reader::CountedReader;
-use crate::script::trim_line_feed;
 use std::alloc::Global;
-use std::io::{BufRead, BufReader, BufWriter, ErrorKind, Read, Write};
+use std::io::{BufReader, BufWriter, Read, Write};
 
 /// How many bytes are read or written at a time.
 const BUFFER_BYTES: usize = 65536;
 
-/// Plays the script that `input` gives and prints a row for each event to `output`, which is flushed at the end.
+/// Plays the script that `input` gives and prints a row for each event to `output`, which is flushed at the
+/// end.
 ///
-/// A policy that is refused prints `refused policy N NAME` and makes no row. The first line that cannot be read prints `line N: unreadable` and ends the run, and so does want of memory, with `out of memory`. A fault of input or output prints nothing more, nor does an input that needs over a million reads. What was printed before stands.
+/// A policy that is refused prints `refused policy N NAME` and makes no row. The first line that cannot be
+/// read, as one of more than `MAX_LINE` bytes, prints `line N: unreadable` and ends the run; a failed
+/// allocation ends it with `out of memory`. A fault of input or output prints nothing more, nor does an input
+/// that needs more than `MAX_READS` reads. What was printed before stands.
 pub fn play<R: Read + Drop, W: Write + Drop>(alloc: Global, input: R, mut output: W) -> Status {
     match play_buffered(alloc, input, &mut output) {
         Some(status) => status,
@@ -31,7 +36,7 @@ fn play_buffered<R: Read + Drop, W: Write>(
     Some(finish(played, line, &mut writer))
 }
 
-/// Plays line by line. `line` is left as the number of the last line that was read, from 1.
+/// Plays line by line. `line` is left as the number of the last line that was begun, from 1.
 fn play_lines<R: Read + Drop, W: Write>(
     alloc: Global,
     input: R,
@@ -46,28 +51,16 @@ fn play_lines<R: Read + Drop, W: Write>(
     let mut player = Player::new(alloc)?;
     let mut text = Vec::new(alloc);
     for number in 1..u64::MAX {
-        text.clear();
+        *line = number;
         if !read_line(&mut reader, &mut text)? {
             return Ok(());
         }
-        *line = number;
-        player.play(trim_line_feed(text.as_slice()), output)?;
+        player.play(text.as_slice(), output)?;
     }
     Err(Stop::Failed)
 }
 
-/// Appends the next line with its line feed, if it has one. Whether there was a line.
-fn read_line<R: BufRead>(reader: &mut R, text: &mut Vec<u8>) -> Result<bool, Stop> {
-    match reader.read_until(b'\n', text) {
-        Ok(count) => Ok(count > 0),
-        Err(error) => match error.kind() {
-            ErrorKind::OutOfMemory => Err(Stop::OutOfMemory),
-            _ => Err(Stop::Failed),
-        },
-    }
-}
-
-/// Prints why the run ended, where that is printed, and flushes.
+/// Prints why the script ended, where that is printed, and ends the command.
 fn finish<W: Write>(played: Result<(), Stop>, line: u64, output: &mut W) -> Status {
     let (status, printed) = match played {
         Ok(()) => (Status::Done, Ok(())),
@@ -78,8 +71,5 @@ fn finish<W: Write>(played: Result<(), Stop>, line: u64, output: &mut W) -> Stat
         Err(Stop::OutOfMemory) => (Status::OutOfMemory, output.write_all(b"out of memory\n")),
         Err(Stop::Failed) => (Status::Failed, Ok(())),
     };
-    match printed.and_then(|_| output.flush()) {
-        Ok(()) => status,
-        Err(_) => Status::Failed,
-    }
+    end(status, printed, output)
 }

@@ -4,7 +4,7 @@ ghost use Rattle.std.specs.Result.{is_err};
 ghost use Rattle.sng_scope.specs.Policies.{policy_of};
 ghost use Rattle.sng_grants.specs.declared.policy.Policy.{Policy as policy_type};
 ghost use Rattle.sng_gateway.specs.Playing.{IsPlayed};
-ghost use Rattle.sng_history.specs.Present.{opening, Leads};
+ghost use Rattle.sng_history.specs.State.{opening, Leads};
 
 use crate::datagram::{DatagramFault, read_datagram};
 use crate::script::{Line, line_of};
@@ -19,7 +19,7 @@ use std::io::Write;
 pub enum Stop {
     /// The line could not be read.
     Unreadable,
-    /// A growth was refused.
+    /// Allocation failed.
     OutOfMemory,
     /// Input or output failed.
     Failed,
@@ -61,9 +61,11 @@ impl Player {
     /// Plays one line, without its line feed, and prints what comes of it.
     pub fn play<W: Write>(&mut self, line: &[u8], output: &mut W) -> Result<(), Stop>
         ensures up { line.now ≡ codes "up"
-            → OnOk result (IsPlayed self.old.core Event.Up self.new.core self.new.rows self.new.text.items) }
+            → OnOk result
+            (IsPlayed self.old.core Event.Up self.new.core self.new.rows self.new.text.items) }
         ensures taken { line.now ≡ codes "take"
-            → OnOk result (IsPlayed self.old.core Event.Take self.new.core self.new.rows self.new.text.items) }
+            → OnOk result
+            (IsPlayed self.old.core Event.Take self.new.core self.new.rows self.new.text.items) }
         ensures empty { line.now ≡ [] → (result ≡ Ok tt) × (self.new.core ≡ self.old.core) }
     {
         match line_of(line) {
@@ -80,7 +82,8 @@ impl Player {
     fn replace<W: Write>(&mut self, text: &[u8], output: &mut W) -> Result<(), Stop>
         ensures refused { is_err (policy_of text.now) ≡ true → self.new.core ≡ self.old.core }
         ensures accepted { (policy : policy_type) → policy_of text.now ≡ Ok policy
-            → OnOk result (IsPlayed self.old.core (Event.Replace policy) self.new.core self.new.rows self.new.text.items) }
+            → OnOk result (IsPlayed self.old.core (Event.Replace policy)
+            self.new.core self.new.rows self.new.text.items) }
     {
         match read_policy(self.alloc, text) {
             Ok(policy) => self.step(Event::Replace(policy), output),

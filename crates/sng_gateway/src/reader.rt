@@ -1,11 +1,9 @@
 //! A reader that gives up on an input that never ends.
 ghost use Rattle.std.specs.Prelude.{◌≡◌};
-ghost use Rattle.sng_gateway.specs.declared.reader.TheConstants.{MOST_READS};
+ghost use Rattle.sng_gateway.specs.declared.limits.TheConstants.{MAX_READS};
 
+use crate::limits::MAX_READS;
 use std::io::{Error, Read, Result};
-
-/// How many calls of `read` an input may need.
-pub const MOST_READS: u32 = 1_000_000;
 
 /// Passes reads on, as many as are left. From then on each one fails.
 #[derive(Drop)]
@@ -15,13 +13,13 @@ pub struct CountedReader<R> {
 }
 
 impl<R: Read> CountedReader<R> {
-    /// A reader with `MOST_READS` calls left.
+    /// A reader with `MAX_READS` calls left.
     pub fn new(inner: R) -> CountedReader<R>
-        ensures { result.left ≡ MOST_READS }
+        ensures { result.left ≡ MAX_READS }
     {
         CountedReader {
             inner,
-            left: MOST_READS,
+            left: MAX_READS,
         }
     }
 }

@@ -1,3 +1,4 @@
+pub mod Scopes
 pub mod Sources
 pub mod Topics
 pub mod Laws

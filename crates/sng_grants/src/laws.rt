@@ -1,6 +1,6 @@
 //! Laws of policies as values. Each function here only states one: its contract is the law, and calling it does nothing.
 ghost use Rattle.std.specs.Prelude.{◌≡◌};
-ghost use Rattle.sng_grants.specs.Laws.{ScopesAreFound, NamesAreFound};
+ghost use Rattle.sng_grants.specs.Laws.{ScopesAreFound, NamesAreFound, IdsAreLeast};
 
 use crate::{MAX_CLIENTS, MAX_PAIRS, MAX_SOURCES, MAX_TOPICS};
 
@@ -12,12 +12,17 @@ pub fn limits()
     ensures pairs { MAX_PAIRS ≡ 64 }
 {}
 
-/// The scope that is found of a client or a source is listed under that very key, and what is listed is found.
+/// A client or a source is listed with a scope exactly where its look-up gives that scope.
 pub fn scopes_are_found()
     ensures { ScopesAreFound }
 {}
 
-/// The topic name that is found of an id is listed under that very id, and what is listed is found.
+/// A topic id is listed with a name exactly where its look-up gives that name.
 pub fn names_are_found()
     ensures { NamesAreFound }
+{}
+
+/// The id that is found of a name is the least under which the name is listed, and a name that is listed has one.
+pub fn ids_are_least()
+    ensures { IdsAreLeast }
 {}

@@ -2,17 +2,15 @@
 //! look-ups. `sng_scope` reads them from texts.
 #![tactic(auto)]
 
-pub mod clients;
 pub mod laws;
 pub mod limits;
+pub mod listed;
 pub mod policy;
 pub mod scope;
-pub mod sources;
 pub mod topics;
 
-pub use clients::Clients;
 pub use limits::{MAX_CLIENTS, MAX_PAIRS, MAX_SOURCES, MAX_TOPICS};
-pub use policy::Policy;
+pub use listed::Listed;
+pub use policy::{Clients, Policy, Sources};
 pub use scope::{Pair, Scope};
-pub use sources::Sources;
-pub use topics::Topics;
+pub use topics::{Names, Topics};

@@ -1,6 +1,8 @@
 //! A scope: pairs of a topic filter and what it permits (RFC 9431, 2.3; RFC 9237, 2).
-ghost use Rattle.std.specs.Prelude.{◌≡◌, [], ◌∷◌, ◌++◌, IfOk, OnOk, OnErr};
+ghost use Rattle.std.specs.Prelude.{◌≡◌, ◌<◌, ◌≤◌, ◌↔◌, true, [], ◌∷◌, ◌++◌, length, All, IsTrue, IfOk, OnOk, OnErr};
+ghost use Rattle.sng_text.specs.Texts.{is_filter};
 
+use crate::MAX_PAIRS;
 use sng_text::TopicFilter;
 use std::alloc::{AllocError, AllocFailed, Global};
 use std::marker::Model;
@@ -26,7 +28,7 @@ impl Clone for Pair {
     }
 }
 
-/// What is granted to one client or source. Contracts see its pairs, in order.
+/// What is granted to one client or source: at most `MAX_PAIRS` pairs. Contracts see them, in order.
 #[derive(Debug, Drop)]
 pub struct Scope {
     pairs: Vec<Pair>,
@@ -35,10 +37,13 @@ pub struct Scope {
 impl Model for Scope {
     ghost use Rattle.std.specs.Prelude.{List};
     ghost use Rattle.sng_grants.specs.declared.scope.Pair.{Pair};
+    ghost use Rattle.sng_grants.specs.Scopes.{IsScope};
 
     ghost Value = { List Pair };
 
     ghost view = { λ s. s.pairs.items };
+
+    ghost invariant = { λ s. IsScope s.pairs.items };
 }
 
 impl Scope {
@@ -51,17 +56,30 @@ impl Scope {
         }
     }
 
+    /// Whether there is no place for one more pair.
+    pub fn is_full(&self) -> bool
+        ensures full { IsTrue result ↔ (length self.now ≡ MAX_PAIRS) }
+        ensures room { length self.now ≤ MAX_PAIRS }
+    {
+        self.pairs.len() == MAX_PAIRS
+    }
+
     /// One more pair, behind those that are there. An `Err` leaves the scope as it was.
     pub fn push(&mut self, pair: Pair) -> Result<(), AllocFailed<Pair>>
+        requires { length self.old < MAX_PAIRS }
         ensures ok { OnOk result (self.new ≡ self.old ++ pair ∷ []) }
         ensures err { OnErr result (self.new ≡ self.old) }
     {
+        // `text` says that the filter is one
+        let _text = pair.filter.text();
         self.pairs.push(pair)
     }
 
     /// The pairs, in order.
     pub fn pairs(&self) -> &[Pair]
-        ensures { result.now ≡ self.now }
+        ensures value { result.now ≡ self.now }
+        ensures few { length self.now ≤ MAX_PAIRS }
+        ensures filters { All (λ pair. is_filter pair.filter ≡ true) self.now }
     {
         self.pairs.as_slice()
     }
@@ -71,16 +89,7 @@ impl Clone for Scope {
     ghost is_clone = { λ scope copy. copy ≡ scope };
 
     fn clone(&self) -> Result<Scope, AllocError> {
-        copy_pairs(*self.pairs.allocator(), self.pairs())
+        let pairs = self.pairs.clone()?;
+        Ok(Scope { pairs })
     }
-}
-
-fn copy_pairs(alloc: Global, pairs: &[Pair]) -> Result<Scope, AllocError>
-    ensures { IfOk result (λ s. s ≡ pairs.now) }
-{
-    let mut copies = Vec::with_capacity(alloc, pairs.len())?;
-    for pair in pairs {
-        copies.push(pair.clone()?)?;
-    }
-    Ok(Scope { pairs: copies })
 }

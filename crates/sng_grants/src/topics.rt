@@ -1,25 +1,38 @@
-//! Predefined topics, found by topic id (MQTT-SN 1.2, 6.7).
-ghost use Rattle.std.specs.Prelude.{◌≡◌, [], IfOk, OnOk, OnErr};
+//! Predefined topics, found by topic id and by name (MQTT-SN 1.2, 6.7).
+ghost use Rattle.std.specs.Prelude.{◌≡◌, ◌≤◌, ℕ, List, [], length, IfOk};
+ghost use Rattle.std.specs.HashMap.{get};
 ghost use Rattle.std.specs.Option.{option_copied};
-ghost use Rattle.sng_grants.specs.Topics.{name_of, with_name};
+ghost use Rattle.std.specs.Str.{bytes_eq};
+ghost use Rattle.sng_grants.specs.Topics.{name_of, id_of};
 
+use crate::{Listed, MAX_TOPICS};
 use sng_text::TopicName;
 use std::alloc::{AllocError, Global};
-use std::collections::BTreeMap;
+use std::collections::HashMap;
 use std::marker::Model;
 
-/// The topic name of each predefined topic id. Contracts see the list of ids with their names, in the order of the ids.
+/// Topic names by predefined topic id.
+pub type Names = Listed<u16, TopicName, MAX_TOPICS>;
+
+/// The topic name of each predefined topic id, with an index by name. Contracts see the list of ids with their names, in the order of
+/// the ids.
 #[derive(Debug, Drop)]
 pub struct Topics {
-    names: BTreeMap<u16, TopicName>,
+    names: Names,
+    ids: HashMap<TopicName, u16>,
 }
 
 impl Model for Topics {
-    ghost use Rattle.std.specs.Prelude.{List, ℕ};
+    ghost use Rattle.std.specs.Prelude.{List, ℕ, ◌≡◌};
+    ghost use Rattle.std.specs.HashMap.{get};
+    ghost use Rattle.std.specs.Str.{bytes_eq};
+    ghost use Rattle.sng_grants.specs.Topics.{id_of};
 
     ghost Value = { List (ℕ × List ℕ) };
 
-    ghost view = { λ t. t.names.entries };
+    ghost view = { λ t. t.names };
+
+    ghost invariant = { λ t. (name : List ℕ) → get bytes_eq t.ids name ≡ id_of t.names name };
 }
 
 impl Topics {
@@ -28,8 +41,17 @@ impl Topics {
         ensures { result ≡ [] }
     {
         Topics {
-            names: BTreeMap::new(alloc),
+            names: Names::new(alloc),
+            ids: HashMap::new(alloc),
         }
+    }
+
+    /// The topics with these names. Only memory can fail.
+    pub fn of(alloc: Global, names: Names) -> Result<Topics, AllocError>
+        ensures { IfOk result (λ t. t ≡ names) }
+    {
+        let ids = ids_of(alloc, &names)?;
+        Ok(Topics { names, ids })
     }
 
     /// The topic name of the id, where it is predefined. Takes no memory.
@@ -39,13 +61,11 @@ impl Topics {
         self.names.get(&id)
     }
 
-    /// Gives the id its name, in the place of one that it had. An `Err` leaves all as it was.
-    pub fn insert(&mut self, id: u16, name: TopicName) -> Result<(), AllocError>
-        ensures ok { OnOk result (self.new ≡ with_name self.old id name) }
-        ensures err { OnErr result (self.new ≡ self.old) }
+    /// The least id of the name, where it has one. Takes no memory.
+    pub fn id_of(&self, name: &TopicName) -> Option<u16>
+        ensures { result ≡ id_of self.now name.now }
     {
-        self.names.insert(id, name)?;
-        Ok(())
+        self.ids.get(name).copied()
     }
 
     /// Equal topics, in memory of their own. Only memory can fail.
@@ -53,6 +73,20 @@ impl Topics {
         ensures { IfOk result (λ t. t ≡ self.now) }
     {
         let names = self.names.clone()?;
-        Ok(Topics { names })
+        let ids = self.ids.clone()?;
+        Ok(Topics { names, ids })
     }
+}
+
+/// The least id of each name.
+fn ids_of(alloc: Global, names: &Names) -> Result<HashMap<TopicName, u16>, AllocError>
+    ensures { IfOk result (λ ids. (name : List ℕ) → get bytes_eq ids name ≡ id_of names.now name) }
+{
+    let mut ids = HashMap::new(alloc);
+    for (id, name) in names.iter() {
+        if !ids.contains_key(name) {
+            ids.insert(name.copy()?, *id)?;
+        }
+    }
+    Ok(ids)
 }

@@ -4,9 +4,9 @@ use Rattle.std.specs.List.{flat_map}
 use Rattle.std.specs.declared.result.Result.{Result}
 use Rattle.sng_grants.specs.declared.policy.Policy.{Policy}
 use Rattle.sng_frames.specs.declared.fault.FrameFault.{FrameFault}
-use Rattle.sng_frames.specs.declared.flags.Qos.{Qos}
-use Rattle.sng_frames.specs.declared.flags.Qos.TheVariants.{AtMostOnce, AtLeastOnce, ExactlyOnce, WithoutSession}
-use Rattle.sng_frames.specs.declared.frame.Publish.{Publish}
+use Rattle.sng_frames.specs.declared.qos.FrameQos.{FrameQos}
+use Rattle.sng_frames.specs.declared.qos.FrameQos.TheVariants.{AtMostOnce, AtLeastOnce, ExactlyOnce, WithoutSession}
+use Rattle.sng_frames.specs.declared.messages.publish.Publish.{Publish}
 use Rattle.sng_frames.specs.declared.frame.SnFrame.{SnFrame}
 use Rattle.sng_frames.specs.declared.frame.SnFrame.TheVariants as frame
 use Rattle.sng_outbox.specs.Sending.{publishes}
@@ -80,7 +80,7 @@ about-publishes (item.Acknowledge packet_id ∷ items) = about-publishes items
 about-publishes (item.Ping ∷ items) = about-publishes items
 
 -- no frame makes a packet at once
-wires_in-publish : (s : State) (from : Address) (p : Publish) (qos : Qos) → wires_in (publish_outs s from p qos) ≡ []
+wires_in-publish : (s : State) (from : Address) (p : Publish) (qos : FrameQos) → wires_in (publish_outs s from p qos) ≡ []
 wires_in-publish s from p WithoutSession = refl
 wires_in-publish s from p AtMostOnce = refl
 wires_in-publish s from p AtLeastOnce = refl
@@ -97,10 +97,10 @@ forwards_in-named s source (Ok name) = refl
 forwards_in-named s source (Err rule) = refl
 
 forwards_in-ask : (s : State) (source : List ℕ) (p : Publish) (b : Bool) → lists_source s.policy source ≡ b → forwards_in (Note (source_ask s source p) ∷ []) ≡ []
-forwards_in-ask s source p true is = rw is (forwards_in-named s source (name_in p.flags.id_type p.topic_id))
+forwards_in-ask s source p true is = rw is (forwards_in-named s source (name_in s.policy p.flags.id_type p.topic_id))
 forwards_in-ask s source p false is = rw is refl
 
-forwards_in-publish : (s : State) (from : Address) (p : Publish) (qos : Qos) → forwards_in (publish_outs s from p qos) ≡ []
+forwards_in-publish : (s : State) (from : Address) (p : Publish) (qos : FrameQos) → forwards_in (publish_outs s from p qos) ≡ []
 forwards_in-publish s from p WithoutSession = forwards_in-ask s from.ip p (lists_source s.policy from.ip) refl
 forwards_in-publish s from p AtMostOnce = refl
 forwards_in-publish s from p AtLeastOnce = refl

@@ -6,7 +6,7 @@ use Rattle.sng_text.specs.declared.qos.Qos.TheVariants.{AtMostOnce}
 use Rattle.sng_grants.specs.declared.policy.Policy.{Policy}
 use Rattle.sng_frames.specs.Reading.{frame_of}
 use Rattle.sng_frames.specs.declared.fault.FrameFault.{FrameFault}
-use Rattle.sng_frames.specs.declared.frame.Publish.{Publish}
+use Rattle.sng_frames.specs.declared.messages.publish.Publish.{Publish}
 use Rattle.sng_frames.specs.declared.frame.SnFrame.{SnFrame}
 use Rattle.sng_frames.specs.declared.frame.SnFrame.TheVariants as frame
 use Rattle.sng_outbox.specs.Sending.{publishes}

@@ -1,14 +1,14 @@
 -- How an ask is judged as it comes, and a publish as it leaves. The first rule in this order that forbids an ask is its verdict:
 -- not a frame, not supported, no session or an unknown source, the type of the topic id, not a topic name, an id without a name,
 -- the missing grant, the broker's connection, the room.
-use Rattle.std.specs.Prelude.{ℕ, ◌/◌, ◌%◌, nat_lt, List, [], ◌∷◌, length, if◌then◌else◌, Some, None, Ok, Err}
+use Rattle.std.specs.Prelude.{ℕ, ◌/◌, ◌%◌, nat_lt, List, [], ◌∷◌, length, if◌then◌else◌, Option, Some, None, Ok, Err}
 use Rattle.std.specs.declared.result.Result.{Result}
 use Rattle.sng_text.specs.Texts.{is_name}
 use Rattle.sng_grants.specs.declared.policy.Policy.{Policy}
-use Rattle.sng_policy.specs.Grants.{publish_grant, source_grant, lists_source}
+use Rattle.sng_policy.specs.Grants.{publish_grant, source_grant, lists_source, topic}
 use Rattle.sng_policy.specs.declared.grant.Grant.{Grant}
 use Rattle.sng_policy.specs.declared.grant.Grant.TheVariants as grant
-use Rattle.sng_frames.specs.declared.frame.Publish.{Publish}
+use Rattle.sng_frames.specs.declared.messages.publish.Publish.{Publish}
 use Rattle.sng_frames.specs.declared.flags.TopicIdType.{TopicIdType}
 use Rattle.sng_frames.specs.declared.flags.TopicIdType.TheVariants.{Normal, Predefined, Short, Reserved}
 use Rattle.sng_outbox.specs.declared.limits.TheConstants.{MAX_OUTBOX_ITEMS}
@@ -61,13 +61,18 @@ verdict s asker name = and_then (exit s.policy asker name) (room s)
 abbrev pub octets_of : ℕ → List ℕ
 octets_of n = n / 256 ∷ n % 256 ∷ []
 
--- the name that a topic id stands for in a PUBLISH without a session, or the rule that it breaks (MQTT-SN 1.2, 5.3.11 and 6.8).
--- A short name is the id's two octets. No topic is predefined yet.
-abbrev pub name_in : TopicIdType → ℕ → Result (List ℕ) Denial
-name_in Short id = if is_name (octets_of id) then Ok (octets_of id) else Err BadName
-name_in Predefined id = Err (UnknownId kind.Predefined id)
-name_in Normal id = Err IdType
-name_in Reserved id = Err IdType
+-- the name of a predefined topic id, where the policy gives it one
+abbrev pub predefined_name : ℕ → Option (List ℕ) → Result (List ℕ) Denial
+predefined_name id None = Err (UnknownId kind.Predefined id)
+predefined_name id (Some name) = Ok name
+
+-- the name that a topic id stands for in a PUBLISH without a session, or the rule that it breaks (MQTT-SN 1.2, 5.3.11, 6.7 and 6.8).
+-- A short name is the id's two octets, and a predefined id has the name that the policy in force gives it
+abbrev pub name_in : Policy → TopicIdType → ℕ → Result (List ℕ) Denial
+name_in policy Short id = if is_name (octets_of id) then Ok (octets_of id) else Err BadName
+name_in policy Predefined id = predefined_name id (topic policy id)
+name_in policy Normal id = Err IdType
+name_in policy Reserved id = Err IdType
 
 -- the note of an ask by a listed source, given the name that was read
 abbrev pub named_ask : State → List ℕ → Result (List ℕ) Denial → Decision
@@ -78,5 +83,5 @@ named_ask s source (Err rule) = note.Publish (who.Source source) None (Denied ru
 abbrev pub source_ask : State → List ℕ → Publish → Decision
 source_ask s source p =
     if lists_source s.policy source
-    then named_ask s source (name_in p.flags.id_type p.topic_id)
+    then named_ask s source (name_in s.policy p.flags.id_type p.topic_id)
     else note.Publish (who.Source source) None (Denied UnknownSource)

@@ -5,9 +5,9 @@ use Rattle.sng_frames.specs.Reading.{frame_of}
 use Rattle.sng_frames.specs.Writing.{written}
 use Rattle.sng_frames.specs.declared.fault.FrameFault.{FrameFault}
 use Rattle.sng_frames.specs.declared.fault.FrameFault.TheVariants as fault
-use Rattle.sng_frames.specs.declared.flags.Qos.{Qos}
-use Rattle.sng_frames.specs.declared.flags.Qos.TheVariants.{AtMostOnce, AtLeastOnce, ExactlyOnce, WithoutSession}
-use Rattle.sng_frames.specs.declared.frame.Publish.{Publish}
+use Rattle.sng_frames.specs.declared.qos.FrameQos.{FrameQos}
+use Rattle.sng_frames.specs.declared.qos.FrameQos.TheVariants.{AtMostOnce, AtLeastOnce, ExactlyOnce, WithoutSession}
+use Rattle.sng_frames.specs.declared.messages.publish.Publish.{Publish}
 use Rattle.sng_frames.specs.declared.frame.SnFrame.{SnFrame}
 use Rattle.sng_frames.specs.declared.frame.SnFrame.TheVariants as frame
 use Rattle.sng_book.specs.declared.address.Address.{Address}
@@ -51,7 +51,7 @@ abbrev pub dismissed : Address → Out
 dismissed from = Send from (written (frame.Disconnect None))
 
 -- a PUBLISH from an address at which no client is: without a session it is the ask of a source, which nothing answers
-abbrev pub publish_outs : State → Address → Publish → Qos → List Out
+abbrev pub publish_outs : State → Address → Publish → FrameQos → List Out
 publish_outs s from p WithoutSession = Note (source_ask s from.ip p) ∷ []
 publish_outs s from p ExactlyOnce = Note (note.Publish (who.Address from) None (Denied NotSupported)) ∷ []
 publish_outs s from p AtMostOnce = Note (note.Publish (who.Address from) None (Denied NoSession)) ∷ dismissed from ∷ []

@@ -24,7 +24,8 @@ name_of-with_name ids zero name later at = absurd (true≢false (sym (ap is_some
 name_of-with_name ids (suc place) name later at = by (is_some (place_of later ids))
   where
     by : (known : Bool)
-        → option_map (λ entry. entry.0) (slice_get (cond known ids (ids ++ (later, false) ∷ [])) place) ≡ Some name
+        → let more : Ids = cond known ids (ids ++ (later, false) ∷ []) in
+        option_map (λ entry. entry.0) (slice_get more place) ≡ Some name
     by true = at
     by false = name_at-more ids ((later, false) ∷ []) place name at
 
@@ -59,7 +60,8 @@ pub name_of-id_for : IdsNameWhatTheyWereGivenFor
 name_of-id_for ids name = by (place_of name ids) refl
   where
     by : (found : Option ℕ) → place_of name ids ≡ found
-        → name_of (unwrap_or found (length ids) + 1) (cond (is_some found) ids (ids ++ (name, false) ∷ [])) ≡ Some name
+        → let more : Ids = cond (is_some found) ids (ids ++ (name, false) ∷ []) in
+        name_of (unwrap_or found (length ids) + 1) more ≡ Some name
     by None e =
         let next : length ids + 1 ≡ suc (length ids) = omega arith in
         rw (next, slice_get-seam ids (name, false)) refl

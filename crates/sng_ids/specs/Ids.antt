@@ -10,6 +10,11 @@ use Rattle.sng_ids.specs.declared.limits.TheConstants.{MAX_TOPIC_IDS}
 abbrev pub Ids : Type 0
 Ids = List (List ℕ × Bool)
 
+-- the ids, and for how many more names there is room at least
+pub record Table : Type 0 where
+  pub ids : Ids
+  pub spare : ℕ
+
 -- the names, in the order of their ids
 abbrev pub names_of : Ids → List (List ℕ)
 names_of ids = map (λ entry. entry.0) ids

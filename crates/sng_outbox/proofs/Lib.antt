@@ -1,3 +1,5 @@
 pub mod IdLemmas
 pub mod ItemLemmas
+pub mod LoadLemmas
+pub mod MarkLemmas
 pub mod PlaceLemmas

@@ -1,2 +1,3 @@
 pub mod Laws
+pub mod PacketIds
 pub mod Sending

@@ -1,11 +1,12 @@
 -- What leaves for the broker: a list of items that wait, and a list of publishes in flight.
-use Rattle.std.specs.Prelude.{ℕ, ◌+◌, Bool, true, false, ◌==◌, List, [], ◌∷◌, length, filter, count_by, if◌then◌else◌}
+use Rattle.std.specs.Prelude.{ℕ, ◌+◌, Bool, true, false, ◌==◌, ◌&&◌, not, nat_lt, nat_le, List, [], ◌∷◌, length, filter, count_by, if◌then◌else◌}
 use Rattle.std.specs.List.{list_any}
 use Rattle.sng_text.specs.declared.qos.Qos.{Qos}
 use Rattle.sng_text.specs.declared.qos.Qos.TheVariants.{AtMostOnce, AtLeastOnce}
 use Rattle.sng_outbox.specs.declared.item.Item.{Item}
 use Rattle.sng_outbox.specs.declared.item.Item.TheVariants.{Publish, Subscribe, Unsubscribe, Acknowledge, Ping}
 use Rattle.sng_outbox.specs.declared.in_flight.InFlight.{InFlight}
+use Rattle.sng_outbox.specs.declared.limits.TheConstants.{MAX_OUTBOX_ITEMS, MAX_IN_FLIGHT}
 
 -- the items that wait, the oldest first, and the publishes in flight, in the order of their sending
 pub record Sending : Type 0 where
@@ -43,6 +44,10 @@ publishes waiting = filter is_publish waiting
 abbrev pub load : Sending → ℕ
 load s = count_by asks_for_ack s.waiting + length s.in_flight
 
+-- the item may be added: fewer items wait than may, and of publishes of QoS 1 fewer wait or are in flight than may
+abbrev pub has_room : Sending → Item → Bool
+has_room s item = not (asks_for_ack item && nat_le MAX_IN_FLIGHT (load s)) && nat_lt (length s.waiting) MAX_OUTBOX_ITEMS
+
 -- it was sent with this packet id
 abbrev pub has_id : ℕ → InFlight → Bool
 has_id packet_id sent = sent.packet_id == packet_id
@@ -50,20 +55,6 @@ has_id packet_id sent = sent.packet_id == packet_id
 -- a publish is in flight with this packet id
 abbrev pub is_in_flight : List InFlight → ℕ → Bool
 is_in_flight in_flight packet_id = list_any (has_id packet_id) in_flight
-
--- the packet id that follows: 0 is none
-abbrev pub successor : ℕ → ℕ
-successor packet_id = if packet_id == 65535 then 1 else packet_id + 1
-
--- counted on from this id while it is in flight, once for each of the turns at the most
-abbrev pub counted_on : List InFlight → List InFlight → ℕ → ℕ
-counted_on in_flight [] packet_id = packet_id
-counted_on in_flight (turn ∷ turns) packet_id =
-    if is_in_flight in_flight packet_id then counted_on in_flight turns (successor packet_id) else packet_id
-
--- the id after the last one, counted on past those in flight: there are as many turns as publishes in flight
-abbrev pub next_id : List InFlight → ℕ → ℕ
-next_id in_flight last = counted_on in_flight in_flight (successor last)
 
 -- all but the first with this packet id
 abbrev pub without_first : List InFlight → ℕ → List InFlight

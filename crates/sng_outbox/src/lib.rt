@@ -7,9 +7,11 @@ pub mod laws;
 pub mod limits;
 pub mod origin;
 pub mod outbox;
+pub mod packet_ids;
 
 pub use in_flight::InFlight;
 pub use item::{Item, Publication};
 pub use limits::{MAX_IN_FLIGHT, MAX_OUTBOX_ITEMS};
 pub use origin::Origin;
 pub use outbox::Outbox;
+pub use packet_ids::PacketIds;

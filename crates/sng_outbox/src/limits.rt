@@ -3,5 +3,5 @@
 /// How many items may wait.
 pub const MAX_OUTBOX_ITEMS: usize = 512;
 
-/// How many publishes may be in flight.
+/// How many publishes of QoS 1 may wait and be in flight together.
 pub const MAX_IN_FLIGHT: usize = 128;

@@ -1,13 +1,14 @@
 //! The list of what waits for the broker, in the order in which it was asked for (MQTT 3.1.1, 4.6), and the publishes in
 //! flight (4.3.2).
-ghost use Rattle.std.specs.Prelude.{◌≡◌, ◌+◌, ◌<◌, ◌≤◌, [], ◌∷◌, ◌++◌, false, length, nat_le, slice_get, drop, remove, IfOk, MatchResult, MatchOption};
+ghost use Rattle.std.specs.Prelude.{◌≡◌, ◌+◌, ◌<◌, ◌≤◌, [], ◌∷◌, ◌++◌, true, false, length, nat_le, slice_get, drop, remove};
+ghost use Rattle.std.specs.Prelude.{IfOk, IfSome, MatchResult, MatchOption};
 ghost use Rattle.std.specs.Option.{option_copied};
 ghost use Rattle.std.specs.List.{position_or_len};
 ghost use Rattle.std.specs.Iterator.Runs.{YieldsRefsInOrder, YieldsRefsInReverse};
 ghost use Rattle.std.specs.VecDeque.Iter.{deque_iter_rest, deque_iter_steps, deque_iter_steps_back};
 ghost use Rattle.sng_outbox.specs.declared.item.Item.{Item as item_type};
 ghost use Rattle.sng_outbox.specs.declared.limits.TheConstants.{MAX_OUTBOX_ITEMS, MAX_IN_FLIGHT};
-ghost use Rattle.sng_outbox.specs.Sending.{nothing, publishes, load, has_id, is_in_flight, successor, next_id, without_first};
+ghost use Rattle.sng_outbox.specs.Sending.{nothing, publishes, asks_for_ack, load, has_room, has_id, is_in_flight, without_first};
 
 use crate::{InFlight, Item, MAX_IN_FLIGHT, MAX_OUTBOX_ITEMS, Publication};
 use std::alloc::{AllocError, Global};
@@ -15,25 +16,30 @@ use std::collections::VecDeque;
 use std::collections::vec_deque::Iter;
 use std::marker::Model;
 
-/// The items that wait for the broker, the oldest first, and the publishes in flight, in the order of their sending. Room
-/// for all is made once, so no later call takes memory. Contracts see the two lists.
+/// The items that wait for the broker, the oldest first, and the publishes in flight, in the order of their sending. Of
+/// publishes of QoS 1 no more than `MAX_IN_FLIGHT` wait or are in flight. Room for all is made once, so no later call takes
+/// memory. Contracts see the two lists.
 #[derive(Debug, Drop)]
 pub struct Outbox {
     waiting: VecDeque<Item>,
+    /// How many of those that wait are publishes of QoS 1.
+    acks_waiting: usize,
     in_flight: Vec<InFlight>,
 }
 
 impl Model for Outbox {
-    ghost use Rattle.std.specs.Prelude.{◌≤◌, vec_len, vec_capacity};
-    ghost use Rattle.std.specs.VecDeque.{deque_len, deque_capacity};
+    ghost use Rattle.std.specs.Prelude.{◌≡◌, ◌+◌, ◌≤◌, length, count_by, vec_capacity};
+    ghost use Rattle.std.specs.VecDeque.{deque_capacity};
     ghost use Rattle.sng_outbox.specs.declared.limits.TheConstants.{MAX_OUTBOX_ITEMS, MAX_IN_FLIGHT};
-    ghost use Rattle.sng_outbox.specs.Sending.{Sending};
+    ghost use Rattle.sng_outbox.specs.Sending.{Sending, asks_for_ack};
 
     ghost Value = { Sending };
 
     ghost view = { λ o. record { waiting = o.waiting.items; in_flight = o.in_flight.items } };
 
-    ghost invariant = { λ o. (deque_len o.waiting ≤ MAX_OUTBOX_ITEMS) × (MAX_OUTBOX_ITEMS ≤ deque_capacity o.waiting) × (vec_len o.in_flight ≤ MAX_IN_FLIGHT) × (MAX_IN_FLIGHT ≤ vec_capacity o.in_flight) };
+    ghost invariant = { λ o. (length o.waiting.items ≤ MAX_OUTBOX_ITEMS) × (MAX_OUTBOX_ITEMS ≤ deque_capacity o.waiting)
+        × (o.acks_waiting ≡ count_by asks_for_ack o.waiting.items)
+        × (o.acks_waiting + length o.in_flight.items ≤ MAX_IN_FLIGHT) × (MAX_IN_FLIGHT ≤ vec_capacity o.in_flight) };
 }
 
 impl Outbox {
@@ -43,21 +49,34 @@ impl Outbox {
     {
         Ok(Outbox {
             waiting: VecDeque::with_capacity(alloc, MAX_OUTBOX_ITEMS)?,
+            acks_waiting: 0,
             in_flight: Vec::with_capacity(alloc, MAX_IN_FLIGHT)?,
         })
     }
 
-    /// Adds an item behind the others. Where `MAX_OUTBOX_ITEMS` wait it is given back, and nothing changes.
+    /// Adds an item behind the others. Where `MAX_OUTBOX_ITEMS` wait it is given back, and nothing changes; so is a publish of
+    /// QoS 1 where `MAX_IN_FLIGHT` of them wait or are in flight.
     pub fn push(&mut self, item: Item) -> Result<(), Item>
         ensures { MatchResult result
-            (λ _. (length self.old.waiting < MAX_OUTBOX_ITEMS) × (self.new ≡ record self.old { waiting = self.old.waiting ++ item ∷ [] }))
-            (λ refused. (MAX_OUTBOX_ITEMS ≤ length self.old.waiting) × (refused ≡ item) × (self.new ≡ self.old)) }
+            (λ _. (has_room self.old item ≡ true) × (self.new ≡ record self.old { waiting = self.old.waiting ++ item ∷ [] }))
+            (λ refused. (has_room self.old item ≡ false) × (refused ≡ item) × (self.new ≡ self.old)) }
     {
-        if self.waiting.len() >= MAX_OUTBOX_ITEMS {
+        if !self.has_room(&item) {
             return Err(item);
+        }
+        if item.asks_for_ack() {
+            self.acks_waiting += 1;
         }
         self.waiting.push_back_reserved(item);
         Ok(())
+    }
+
+    /// Whether the item may be added: fewer than `MAX_OUTBOX_ITEMS` wait, and where it is a publish of QoS 1 fewer than
+    /// `MAX_IN_FLIGHT` of them wait or are in flight.
+    pub fn has_room(&self, item: &Item) -> bool
+        ensures { result ≡ has_room self.now item.now }
+    {
+        !(item.asks_for_ack() && self.load() >= MAX_IN_FLIGHT) && !self.is_full()
     }
 
     /// How many items wait, `MAX_OUTBOX_ITEMS` at the most.
@@ -91,12 +110,18 @@ impl Outbox {
         self.waiting.iter()
     }
 
-    /// Takes the oldest item out. None, and nothing changes, where nothing waits.
+    /// Takes the oldest item out. None, and nothing changes, where nothing waits. Behind a publish of QoS 1 there is room to
+    /// track it.
     pub fn settle(&mut self) -> Option<Item>
         ensures front { result ≡ slice_get self.old.waiting 0 }
         ensures rest { self.new ≡ record self.old { waiting = drop 1 self.old.waiting } }
+        ensures room { IfSome result (λ item. asks_for_ack item ≡ true → load self.new < MAX_IN_FLIGHT) }
     {
-        self.waiting.pop_front()
+        let item = self.waiting.pop_front()?;
+        if item.asks_for_ack() {
+            self.acks_waiting -= 1;
+        }
+        Some(item)
     }
 
     /// Takes every item out but the publishes, which stay in order.
@@ -111,25 +136,15 @@ impl Outbox {
         ensures { self.new ≡ record self.old { waiting = [] } }
     {
         self.waiting.clear();
+        self.acks_waiting = 0;
     }
 
-    /// How many publishes of QoS 1 wait or are in flight, `MAX_OUTBOX_ITEMS` + `MAX_IN_FLIGHT` at the most.
+    /// How many publishes of QoS 1 wait or are in flight, `MAX_IN_FLIGHT` at the most.
     pub fn load(&self) -> usize
         ensures load { result ≡ load self.now }
-        ensures within { result ≤ MAX_OUTBOX_ITEMS + MAX_IN_FLIGHT }
+        ensures within { load self.now ≤ MAX_IN_FLIGHT }
     {
-        let waiting = self.iter().filter(|item| item.asks_for_ack()).count();
-        waiting + self.in_flight.len()
-    }
-
-    /// The packet id for the next publish: the one after `last`, counted on past those in flight. 1 follows on 65,535; 0 is
-    /// no packet id (MQTT 3.1.1, 2.3.1).
-    pub fn next_id(&self, last: u16) -> u16
-        ensures value { result ≡ next_id self.now.in_flight last }
-        ensures some { 1 ≤ result }
-        ensures free { is_in_flight self.now.in_flight result ≡ false }
-    {
-        next_id(&self.in_flight, last)
+        self.acks_waiting + self.in_flight.len()
     }
 
     /// How many publishes are in flight, `MAX_IN_FLIGHT` at the most.
@@ -140,9 +155,9 @@ impl Outbox {
         self.in_flight.len()
     }
 
-    /// Adds a publish in flight behind the others, of which there are fewer than `MAX_IN_FLIGHT`.
+    /// Adds a publish in flight behind the others, where fewer than `MAX_IN_FLIGHT` of QoS 1 wait or are in flight.
     pub fn track(&mut self, packet_id: u16, publication: Publication)
-        requires { length self.old.in_flight < MAX_IN_FLIGHT }
+        requires { load self.old < MAX_IN_FLIGHT }
         ensures { self.new ≡ record self.old { in_flight = self.old.in_flight ++ record { packet_id = packet_id; publication = publication } ∷ [] } }
     {
         self.in_flight.push_reserved(InFlight {
@@ -185,24 +200,6 @@ impl Outbox {
     }
 }
 
-/// The packet id that follows on this one: 1 on 65,535, since 0 is none.
-fn successor(packet_id: u16) -> u16
-    ensures { result ≡ successor packet_id }
-{
-    if packet_id == u16::MAX {
-        1
-    } else {
-        packet_id + 1
-    }
-}
-
-/// Whether a publish is in flight with this packet id.
-fn is_in_flight(in_flight: &[InFlight], packet_id: u16) -> bool
-    ensures { result ≡ is_in_flight in_flight.now packet_id }
-{
-    in_flight.iter().any(|sent| sent.packet_id == packet_id)
-}
-
 /// Where the first publish with this packet id is, or how many are in flight.
 fn place_of(in_flight: &[InFlight], packet_id: u16) -> usize
     ensures { result ≡ position_or_len (has_id packet_id) in_flight.now }
@@ -211,18 +208,4 @@ fn place_of(in_flight: &[InFlight], packet_id: u16) -> usize
         .iter()
         .take_while(|sent| sent.packet_id != packet_id)
         .count()
-}
-
-/// The id after the last one, counted on past those in flight. No more can be counted past than are in flight.
-fn next_id(in_flight: &[InFlight], last: u16) -> u16
-    ensures { result ≡ next_id in_flight.now last }
-{
-    let mut packet_id = successor(last);
-    for _turn in in_flight {
-        if !is_in_flight(in_flight, packet_id) {
-            return packet_id;
-        }
-        packet_id = successor(packet_id);
-    }
-    packet_id
 }

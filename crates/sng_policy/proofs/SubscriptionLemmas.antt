@@ -1,9 +1,10 @@
 -- The answers of a policy on subscriptions against what they say.
-use Rattle.std.proofs.Common.{◌≡◌, ◌↔◌, ℕ, Bool, true, false, ◌&&◌, ◌||◌, List, [], ◌∷◌, ◌++◌, map, Some, None, refl, sym, ap, ◌∙◌, inl, inr, if◌then◌else◌}
+use Rattle.std.proofs.Common.{◌≡◌, ◌↔◌, ℕ, Bool, true, false, ◌&&◌, ◌||◌, List, [], ◌∷◌, ◌++◌, not, Some, None, refl, sym, ap, subst, ◌∙◌, inl, inr, if◌then◌else◌}
 use Rattle.std.specs.declared.option.Option.{Option}
-use Rattle.std.proofs.lemmas.List.Elements.{recursion_from_All}
-use Rattle.std.specs.List.{AllByRecursion as AllOf}
-use Rattle.sng_text.specs.Texts.{is_filter}
+use Rattle.std.proofs.lemmas.Bool.{and_parts}
+use Rattle.std.proofs.lemmas.List.Elements.{All-from_recursion, recursion_from_All}
+use Rattle.std.specs.List.{All, AllByRecursion as AllOf}
+use Rattle.sng_text.specs.Texts.{is_filter, is_name}
 use Rattle.sng_text.specs.Matching.{matches}
 use Rattle.sng_cover.specs.Inclusion.{Included}
 use Rattle.sng_cover.specs.Inclusion as inclusion
@@ -13,12 +14,13 @@ use Rattle.sng_cover.proofs.Answered.{right}
 use Rattle.sng_cover.specs.declared.answer.Cover.{Cover}
 use Rattle.sng_cover.specs.declared.answer.Cover.TheVariants as cover
 use Rattle.sng_grants.specs.Sources.{scope_of}
+use Rattle.sng_grants.specs.declared.policy.Policy.{Policy}
 use Rattle.sng_grants.specs.declared.scope.Pair.{Pair}
 use Rattle.sng_policy.specs.declared.permission.Permission.TheVariants.{Subscribe}
 use Rattle.sng_policy.specs.declared.grant.Grant.{Grant}
-use Rattle.sng_policy.specs.declared.grant.Grant.TheVariants.{Uncovered}
-use Rattle.sng_policy.specs.Grants.{is_granted, subscribed, grant_of_cover, subscribe_by}
-use Rattle.sng_policy.specs.Laws.{SaysOfFilter, HasFilters, SubscriptionsAreExact}
+use Rattle.sng_policy.specs.declared.grant.Grant.TheVariants.{Allowed, NoScope, MissingSub, Uncovered}
+use Rattle.sng_policy.specs.Grants.{is_granted, grant_by, subscribed, grant_of_cover, subscribe_by, subscribe_grant}
+use Rattle.sng_policy.specs.Laws.{EachIsGranted, SaysOfFilter, HasFilters, SubscriptionsAreExact, JoinsReceiving, SubscribingIsReceiving}
 use Rattle.sng_policy.proofs.NameLemmas.{granted, by_grants}
 
 -- one more pair
@@ -51,9 +53,13 @@ filters_by : (pair : Pair) (pairs : List Pair) (b : Bool) → is_filter pair.fil
 filters_by pair pairs true is more = (is, more)
 filters_by pair pairs false is more = more
 
-filters_of : (pairs : List Pair) → AllOf (λ filter. is_filter filter ≡ true) (map (λ pair. pair.filter) pairs) → AllOf (λ filter. is_filter filter ≡ true) (subscribed pairs)
+filters_of : (pairs : List Pair) → AllOf (λ pair. is_filter pair.filter ≡ true) pairs → AllOf (λ filter. is_filter filter ≡ true) (subscribed pairs)
 filters_of [] are = tt
 filters_of (pair ∷ pairs) are = filters_by pair pairs pair.subscribes are.0 (filters_of pairs are.1)
+
+pub scope-has_filters : (pairs : List Pair) → All (λ pair. is_filter pair.filter ≡ true) pairs → HasFilters (Some pairs)
+scope-has_filters pairs are =
+    All-from_recursion (λ (filter : List ℕ). is_filter filter ≡ true) (subscribed pairs) (filters_of pairs (recursion_from_All (λ (pair : Pair). is_filter pair.filter ≡ true) pairs are))
 
 -- the gap in an answer
 gap_in : Grant → List ℕ
@@ -83,11 +89,66 @@ exact_by pairs filter grant (cover.Uncovered gap) is right =
       ],
     )
 
-exact : (scope : Option (List Pair)) (filter : List ℕ) (grant : Grant) → is_filter filter ≡ true → HasFilters scope → (subscribe_by scope filter ≡ grant) ↔ SaysOfFilter scope filter grant
+pub exact : (scope : Option (List Pair)) (filter : List ℕ) (grant : Grant) → is_filter filter ≡ true → HasFilters scope → (subscribe_by scope filter ≡ grant) ↔ SaysOfFilter scope filter grant
 exact None filter grant is have = (λ answer. sym answer, λ says. sym says)
 exact (Some pairs) filter grant is have =
-    let are = filters_of pairs (recursion_from_All (λ (filter : List ℕ). is_filter filter ≡ true) (map (λ (pair : Pair). pair.filter) pairs) have) in
+    let are = recursion_from_All (λ (filter : List ℕ). is_filter filter ≡ true) (subscribed pairs) have in
     exact_by pairs filter grant (cover_of filter (subscribed pairs)) refl (right filter (subscribed pairs) is are)
 
 pub subscriptions_are_exact : SubscriptionsAreExact
 subscriptions_are_exact policy client filter grant is have = exact (scope_of policy.clients client) filter grant is have
+
+-- ---- subscribing and receiving
+
+not_true : (b : Bool) → not b ≡ true → b ≡ false
+not_true true is = absurd (cc)
+not_true false is = refl
+
+-- what a scope says to a message with the name
+abbrev received : Option (List Pair) → List ℕ → Grant
+received scope name = grant_by Subscribe NoScope MissingSub scope name
+
+each : (pairs : List Pair) (filter : List ℕ) → SaysOfFilter (Some pairs) filter Allowed → EachIsGranted pairs filter
+each pairs filter (inl allowed) = allowed.1
+each pairs filter (inr uncovered) = let no : Allowed ≡ Uncovered uncovered.0 = uncovered.1.0 in absurd (cc)
+
+allowed_names : (scope : Option (List Pair)) (filter : List ℕ) → is_filter filter ≡ true → HasFilters scope → subscribe_by scope filter ≡ Allowed
+    → (name : List ℕ) → is_name name ≡ true → matches filter name ≡ true → received scope name ≡ Allowed
+allowed_names None filter is have allowed name named matching = absurd (cc)
+allowed_names (Some pairs) filter is have allowed name named matching =
+    let says : SaysOfFilter (Some pairs) filter Allowed = (exact (Some pairs) filter Allowed is have).0 allowed in
+    rw (by_grants Subscribe pairs name (each pairs filter says name named matching)) refl
+
+gap_of : (pairs : List Pair) (filter gap : List ℕ) → SaysOfFilter (Some pairs) filter (Uncovered gap) → IsGap filter (subscribed pairs) gap
+unfolding gap_in
+gap_of pairs filter gap (inl allowed) = let no : Uncovered gap ≡ Allowed = allowed.0 in absurd (cc)
+gap_of pairs filter gap (inr uncovered) =
+    let same : gap ≡ uncovered.0 = ap gap_in uncovered.1.0 in
+    rw same uncovered.1.1
+
+uncovered_gap : (scope : Option (List Pair)) (filter : List ℕ) → is_filter filter ≡ true → HasFilters scope → (gap : List ℕ) → subscribe_by scope filter ≡ Uncovered gap
+    → (is_name gap ≡ true) × (matches filter gap ≡ true) × (received scope gap ≡ MissingSub)
+uncovered_gap None filter is have gap uncovered = absurd (cc)
+uncovered_gap (Some pairs) filter is have gap uncovered =
+    let gap_is : IsGap filter (subscribed pairs) gap = gap_of pairs filter gap ((exact (Some pairs) filter (Uncovered gap) is have).0 uncovered) in
+    let shown = and_parts (matches filter gap) (not (inclusion.is_granted (subscribed pairs) gap)) gap_is.1 in
+    let missing : is_granted Subscribe pairs gap ≡ false = sym (same_granted pairs gap) ∙ not_true (inclusion.is_granted (subscribed pairs) gap) shown.1 in
+    (gap_is.0, shown.0, rw missing refl)
+
+pub subscribing_is_receiving : SubscribingIsReceiving
+subscribing_is_receiving policy client filter is have = record {
+  allowed = allowed_names (scope_of policy.clients client) filter is have;
+  uncovered = uncovered_gap (scope_of policy.clients client) filter is have;
+}
+
+-- what a grant by the pairs of a client's scope says
+pub grant-says : (policy : Policy) (client filter : List ℕ) (pairs : List Pair) (grant : Grant) → is_filter filter ≡ true → All (λ pair. is_filter pair.filter ≡ true) pairs
+    → Some pairs ≡ scope_of policy.clients client → grant ≡ grant_of_cover (cover_of filter (subscribed pairs))
+    → SaysOfFilter (scope_of policy.clients client) filter grant × JoinsReceiving policy client filter grant
+grant-says policy client filter pairs grant is are listed answer =
+    let have : HasFilters (scope_of policy.clients client) = rw (← listed) (scope-has_filters pairs are) in
+    let same : subscribe_grant policy client filter ≡ grant = rw (← listed) (sym answer) in
+    let P : Grant → Type 0 = λ g. JoinsReceiving policy client filter g in (
+      (subscriptions_are_exact policy client filter grant is have).0 same,
+      subst P same (subscribing_is_receiving policy client filter is have),
+    )

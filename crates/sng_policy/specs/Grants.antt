@@ -6,7 +6,7 @@ use Rattle.sng_cover.specs.Covering.{cover_of}
 use Rattle.sng_cover.specs.declared.answer.Cover.{Cover}
 use Rattle.sng_cover.specs.declared.answer.Cover.TheVariants as cover
 use Rattle.sng_grants.specs.Sources.{scope_of}
-use Rattle.sng_grants.specs.Topics.{name_of}
+use Rattle.sng_grants.specs.Topics.{name_of, id_of}
 use Rattle.sng_grants.specs.declared.scope.Pair.{Pair}
 use Rattle.sng_grants.specs.declared.policy.Policy.{Policy}
 use Rattle.sng_policy.specs.declared.permission.Permission.{Permission}
@@ -25,6 +25,10 @@ lists_source policy source = is_some (scope_of policy.sources source)
 -- the name that the policy gives to a predefined topic id
 abbrev pub topic : Policy → ℕ → Option (List ℕ)
 topic policy id = name_of policy.topics id
+
+-- the least topic id that the policy gives to the name
+abbrev pub topic_id : Policy → List ℕ → Option ℕ
+topic_id policy name = id_of policy.topics name
 
 -- the pair has the permission
 abbrev pub permits : Permission → Pair → Bool

@@ -1,5 +1,5 @@
 -- What each answer of a policy says, in the words of RFC 9431, 2.3, and MQTT 3.1.1, 4.7.
-use Rattle.std.specs.Prelude.{ℕ, ◌≡◌, ◌⊎◌, ◌↔◌, true, List, [], ◌∷◌, Some, None, map}
+use Rattle.std.specs.Prelude.{ℕ, ◌≡◌, ◌⊎◌, ◌↔◌, true, List, [], ◌∷◌, Some, None}
 use Rattle.std.specs.declared.option.Option.{Option}
 use Rattle.std.specs.List.{All}
 use Rattle.sng_text.specs.Texts.{is_name, is_filter}
@@ -40,12 +40,21 @@ abbrev pub SaysOfFilter : Option (List Pair) → List ℕ → Grant → Type 0
 SaysOfFilter None filter grant = grant ≡ NoScope
 SaysOfFilter (Some pairs) filter grant = ((grant ≡ Allowed) × EachIsGranted pairs filter) ⊎ ((gap : List ℕ) × ((grant ≡ Uncovered gap) × IsGap filter (subscribed pairs) gap))
 
--- the texts of a scope's filters are filters, as those of each policy that was read are
+-- the filters of a scope's pairs with `sub` are filters, as each `Scope` has them
 abbrev pub HasFilters : Option (List Pair) → Type 0
 HasFilters None = Unit {0}
-HasFilters (Some pairs) = All (λ filter. is_filter filter ≡ true) (map (λ pair. pair.filter) pairs)
+HasFilters (Some pairs) = All (λ filter. is_filter filter ≡ true) (subscribed pairs)
 
 -- the answers on subscriptions
 abbrev pub SubscriptionsAreExact : Type 0
 SubscriptionsAreExact = (policy : Policy) (client filter : List ℕ) (grant : Grant) → is_filter filter ≡ true → HasFilters (scope_of policy.clients client)
     → (subscribe_grant policy client filter ≡ grant) ↔ SaysOfFilter (scope_of policy.clients client) filter grant
+
+-- a grant of a subscription and what may be received: allowed where each name that the filter matches may be, and a gap is a name that the filter matches and that may not be
+pub record JoinsReceiving (policy : Policy) (client filter : List ℕ) (grant : Grant) : Type 0 where
+  pub allowed : grant ≡ Allowed → (name : List ℕ) → is_name name ≡ true → matches filter name ≡ true → receive_grant policy client name ≡ Allowed
+  pub uncovered : (gap : List ℕ) → grant ≡ Uncovered gap → (is_name gap ≡ true) × (matches filter gap ≡ true) × (receive_grant policy client gap ≡ MissingSub)
+
+abbrev pub SubscribingIsReceiving : Type 0
+SubscribingIsReceiving = (policy : Policy) (client filter : List ℕ) → is_filter filter ≡ true → HasFilters (scope_of policy.clients client)
+    → JoinsReceiving policy client filter (subscribe_grant policy client filter)

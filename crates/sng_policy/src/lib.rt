@@ -7,11 +7,9 @@ pub mod listed;
 pub mod names;
 pub mod permission;
 pub mod subscriptions;
-#[cfg(test)]
-mod tests;
 
 pub use grant::Grant;
-pub use listed::{lists, lists_source, topic};
+pub use listed::{lists, lists_source, topic, topic_id};
 pub use names::{may_publish, may_receive, source_may_publish};
 pub use permission::Permission;
 pub use subscriptions::may_subscribe;

@@ -1,7 +1,9 @@
 //! What a policy says about a subscription: whether each name that the filter matches is granted (MQTT 3.1.1, 4.7).
 ghost use Rattle.std.specs.Prelude.{◌≡◌, IfOk};
 ghost use Rattle.sng_cover.specs.Covering.{cover_of};
+ghost use Rattle.sng_grants.specs.Sources.{scope_of};
 ghost use Rattle.sng_policy.specs.Grants.{subscribe_grant, subscribed};
+ghost use Rattle.sng_policy.specs.Laws.{SaysOfFilter, JoinsReceiving};
 
 use crate::Grant;
 use sng_cover::{Cover, Question};
@@ -9,17 +11,22 @@ use sng_grants::{Pair, Policy};
 use sng_text::{ClientId, TopicFilter};
 use std::alloc::{AllocError, Global};
 
-/// What the policy says to a subscription of the client by the filter: Allowed, NoScope, or Uncovered with the gap over the client's
-/// filters with `sub`. Memory is taken for the gap's name alone.
+/// What the policy says to a subscription of the client by the filter: Allowed where each name that the filter matches is granted to it for
+/// subscribing, and so may be received, NoScope, or Uncovered with the gap over the client's filters with `sub`. Memory is taken for the
+/// gap's name alone.
 pub fn may_subscribe(
     alloc: Global,
     policy: &Policy,
     client: &ClientId,
     filter: &TopicFilter,
 ) -> Result<Grant, AllocError>
-    ensures { IfOk result (λ grant. grant ≡ subscribe_grant policy.now client.now filter.now) }
+    ensures value { IfOk result (λ grant. grant ≡ subscribe_grant policy.now client.now filter.now) }
+    ensures meaning { IfOk result (SaysOfFilter (scope_of policy.now.clients client.now) filter.now) }
+    ensures joins { IfOk result (JoinsReceiving policy.now client.now filter.now) }
 {
-    match policy.clients.scope(client) {
+    // `text` says that the filter is one
+    let _text = filter.text();
+    match policy.clients.get(client) {
         None => Ok(Grant::NoScope),
         Some(scope) => match cover_by(alloc, filter, scope.pairs())? {
             Cover::Included => Ok(Grant::Allowed),

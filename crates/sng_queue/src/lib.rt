@@ -8,8 +8,8 @@ pub mod limits;
 pub mod queue;
 pub mod waiting;
 
-pub use exchange::Exchange;
+pub use exchange::{Exchange, Sending};
 pub use kind::TopicIdKind;
-pub use limits::{MAX_QUEUED, MAX_TRIES};
+pub use limits::{MAX_QUEUED, MAX_TRIES, MAX_WAITING_NAME, MAX_WAITING_PAYLOAD};
 pub use queue::Queue;
 pub use waiting::Waiting;

@@ -1,12 +1,15 @@
 //! The messages that wait for one client, and its open exchange.
-ghost use Rattle.std.specs.Prelude.{◌≡◌, ◌<◌, ◌≤◌, [], ◌∷◌, ◌++◌, length, slice_get, None, IfOk, MatchResult};
+ghost use Rattle.std.specs.Prelude.{◌≡◌, ◌<◌, ◌≤◌, ◌==◌, [], ◌∷◌, ◌++◌, length, slice_get, nat_le, None, IfOk, MatchResult};
+ghost use Rattle.std.specs.Map.Iter.{ShowsInOrder, deref};
 ghost use Rattle.std.specs.Option.{option_copied};
 ghost use Rattle.sng_queue.specs.declared.limits.TheConstants.{MAX_QUEUED};
-ghost use Rattle.sng_queue.specs.Buffers.{nothing, IsExchangeOn, settled, settle, announce, await_ack, repeat, MayRepeat};
+ghost use Rattle.sng_queue.specs.Messages.{Message};
+ghost use Rattle.sng_queue.specs.Exchanges.{IsExchangeOn, repeat, MayRepeat};
+ghost use Rattle.sng_queue.specs.Buffers.{nothing, settled, settle, announce, await_ack};
 
-use crate::{Exchange, MAX_QUEUED, TopicIdKind, Waiting};
+use crate::{Exchange, MAX_QUEUED, Sending, TopicIdKind, Waiting};
+use circular_buffer::{HeapCircularBuffer, Iter};
 use std::alloc::{AllocError, Global};
-use std::collections::VecDeque;
 use std::marker::Model;
 
 /// The messages that wait for a client, the oldest first, and at most one exchange: a topic id is announced
@@ -14,21 +17,21 @@ use std::marker::Model;
 /// later call takes memory. Contracts see the list and the exchange.
 #[derive(Debug, Drop)]
 pub struct Queue {
-    waiting: VecDeque<Waiting>,
+    waiting: HeapCircularBuffer<Waiting>,
     exchange: Option<Exchange>,
 }
 
 impl Model for Queue {
-    ghost use Rattle.std.specs.Prelude.{◌≤◌};
-    ghost use Rattle.std.specs.VecDeque.{deque_len, deque_capacity};
+    ghost use Rattle.std.specs.Prelude.{◌≡◌};
     ghost use Rattle.sng_queue.specs.declared.limits.TheConstants.{MAX_QUEUED};
-    ghost use Rattle.sng_queue.specs.Buffers.{Buffer, IsExchangeOn};
+    ghost use Rattle.sng_queue.specs.Exchanges.{IsExchangeOn};
+    ghost use Rattle.sng_queue.specs.Buffers.{Buffer};
 
     ghost Value = { Buffer };
 
     ghost view = { λ q. record { waiting = q.waiting.items; exchange = q.exchange } };
 
-    ghost invariant = { λ q. (deque_len q.waiting ≤ MAX_QUEUED) × (MAX_QUEUED ≤ deque_capacity q.waiting) × IsExchangeOn q.waiting.items q.exchange };
+    ghost invariant = { λ q. (q.waiting.capacity ≡ MAX_QUEUED) × IsExchangeOn q.waiting.items q.exchange };
 }
 
 impl Queue {
@@ -37,7 +40,7 @@ impl Queue {
         ensures { IfOk result (λ q. q ≡ nothing) }
     {
         Ok(Queue {
-            waiting: VecDeque::with_capacity(alloc, MAX_QUEUED)?,
+            waiting: HeapCircularBuffer::with_capacity(alloc, MAX_QUEUED)?,
             exchange: None,
         })
     }
@@ -45,14 +48,13 @@ impl Queue {
     /// Adds a message behind the others. Where `MAX_QUEUED` wait it is given back, and nothing changes.
     pub fn push(&mut self, message: Waiting) -> Result<(), Waiting>
         ensures { MatchResult result
-            (λ _. (length self.old.waiting < MAX_QUEUED) × (self.new ≡ record self.old { waiting = self.old.waiting ++ message ∷ [] }))
-            (λ refused. (MAX_QUEUED ≤ length self.old.waiting) × (refused ≡ message) × (self.new ≡ self.old)) }
+            (λ _. (length self.old.waiting < MAX_QUEUED)
+            × (self.new ≡ record self.old { waiting = self.old.waiting ++ message ∷ [] }))
+            (λ refused. (MAX_QUEUED ≤ length self.old.waiting)
+            × (refused ≡ message)
+            × (self.new ≡ self.old)) }
     {
-        if self.waiting.len() >= MAX_QUEUED {
-            return Err(message);
-        }
-        self.waiting.push_back_reserved(message);
-        Ok(())
+        self.waiting.try_push_back(message)
     }
 
     /// How many messages wait, `MAX_QUEUED` at the most.
@@ -63,11 +65,33 @@ impl Queue {
         self.waiting.len()
     }
 
+    /// Whether `MAX_QUEUED` messages wait.
+    pub fn is_full(&self) -> bool
+        ensures { result ≡ nat_le MAX_QUEUED (length self.now.waiting) }
+    {
+        self.len() >= MAX_QUEUED
+    }
+
+    /// Whether no message waits.
+    pub fn is_empty(&self) -> bool
+        ensures { result ≡ (length self.now.waiting == 0) }
+    {
+        self.waiting.is_empty()
+    }
+
     /// The message at this place, the front being at 0.
     pub fn at(&self, place: usize) -> Option<&Waiting>
         ensures { option_copied result ≡ slice_get self.now.waiting place }
     {
         self.waiting.get(place)
+    }
+
+    /// The messages, the oldest first.
+    pub fn iter(&self) -> Iter<'_, Waiting>
+        ensures messages { result ≡ self.now.waiting }
+        ensures order { ShowsInOrder (deref {X = Message}) }
+    {
+        self.waiting.iter()
     }
 
     /// Takes the front out, and with it an exchange that announced it. None, and nothing changes, where
@@ -76,13 +100,13 @@ impl Queue {
         ensures front { result ≡ settled self.old }
         ensures rest { self.new ≡ settle self.old }
     {
-        if let Some(exchange) = &self.exchange {
-            if !exchange.announcing {
-                return None;
+        match self.exchange {
+            Some(Exchange::Acknowledging(_, _, _)) => None,
+            Some(Exchange::Announcing(_)) | None => {
+                self.close();
+                self.waiting.pop_front()
             }
         }
-        self.close();
-        self.waiting.pop_front()
     }
 
     /// Opens the exchange by which a normal topic id is announced for the front, sent at this clock. Nothing
@@ -93,35 +117,21 @@ impl Queue {
         if self.exchange.is_some() || self.waiting.is_empty() {
             return;
         }
-        self.exchange = Some(Exchange {
-            announcing: true,
-            id_type: TopicIdKind::Normal,
-            topic_id,
-            msg_id,
-            sent: clock,
-            tries: 0,
-            message: None,
-        });
+        let sending = Sending::first(topic_id, msg_id, clock);
+        self.exchange = Some(Exchange::Announcing(sending));
     }
 
     /// Moves the front into an exchange that waits for its PUBACK, sent at this clock. Nothing changes where
     /// nothing waits or an exchange is open.
-    pub fn await_ack(&mut self, id_type: TopicIdKind, topic_id: u16, msg_id: u16, clock: u64)
-        ensures { self.new ≡ await_ack self.old id_type topic_id msg_id clock }
+    pub fn await_ack(&mut self, kind: TopicIdKind, topic_id: u16, msg_id: u16, clock: u64)
+        ensures { self.new ≡ await_ack self.old kind topic_id msg_id clock }
     {
         if self.exchange.is_some() {
             return;
         }
         if let Some(front) = self.waiting.pop_front() {
-            self.exchange = Some(Exchange {
-                announcing: false,
-                id_type,
-                topic_id,
-                msg_id,
-                sent: clock,
-                tries: 0,
-                message: Some(front),
-            });
+            let sending = Sending::first(topic_id, msg_id, clock);
+            self.exchange = Some(Exchange::Acknowledging(sending, kind, front));
         }
     }
 
@@ -140,8 +150,7 @@ impl Queue {
         ensures { self.new ≡ record self.old { exchange = repeat self.old.exchange clock } }
     {
         if let Some(exchange) = &mut self.exchange {
-            exchange.sent = clock;
-            exchange.tries += 1;
+            exchange.repeat(clock);
         }
     }
 

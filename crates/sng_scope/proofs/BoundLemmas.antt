@@ -15,7 +15,8 @@ use Rattle.sng_text.specs.Texts.{is_filter, is_name}
 use Rattle.sng_scope.proofs.KeyLemmas.{client_of-client, ipv4_of-address, topic_id_of-id}
 use Rattle.sng_text.specs.Ipv4.{IsAddress, ipv4_of}
 use Rattle.sng_grants.specs.declared.limits.TheConstants.{MAX_CLIENTS, MAX_PAIRS, MAX_SOURCES, MAX_TOPICS}
-use Rattle.sng_scope.specs.Bounds.{IsScope, IsTopicId, AreWithin, IsPolicy, ScopesAreBounded, PoliciesAreBounded}
+use Rattle.sng_scope.specs.Bounds.{IsTopicId, AreWithin, IsPolicy, ScopesAreBounded, PoliciesAreBounded}
+use Rattle.sng_grants.specs.Scopes.{IsScope}
 use Rattle.sng_scope.specs.Numerals.{topic_id_of}
 use Rattle.sng_scope.specs.Policies.{client_of, name_of_data, clients_onto, sources_onto, topics_onto, members_within, clients_of, sources_of, topics_of, is_policy_object, parts_of, policy_of_data}
 use Rattle.sng_scope.specs.Scopes.{are_texts, are_permissions, pair_parts, pair_of, pairs_of, scope_of_items}

@@ -3,16 +3,13 @@ use Rattle.std.specs.Prelude.{◌≡◌, ℕ, ◌≤◌, true, List, length, All
 use Rattle.std.specs.Map.{keys_of, values_of}
 use Rattle.sng_text.specs.ClientIds.{is_client_id}
 use Rattle.sng_text.specs.Ipv4.{IsAddress}
-use Rattle.sng_text.specs.Texts.{is_filter, is_name}
-use Rattle.sng_grants.specs.declared.limits.TheConstants.{MAX_CLIENTS, MAX_PAIRS, MAX_SOURCES, MAX_TOPICS}
+use Rattle.sng_text.specs.Texts.{is_name}
+use Rattle.sng_grants.specs.declared.limits.TheConstants.{MAX_CLIENTS, MAX_SOURCES, MAX_TOPICS}
+use Rattle.sng_grants.specs.Scopes.{IsScope}
 use Rattle.sng_scope.specs.Policies.{policy_of}
 use Rattle.sng_scope.specs.Texts.{scope_of_text}
 use Rattle.sng_grants.specs.declared.scope.Pair.{Pair}
 use Rattle.sng_grants.specs.declared.policy.Policy.{Policy}
-
--- at most so many pairs as a scope may have, each of a topic filter
-abbrev pub IsScope : List Pair → Type 0
-IsScope pairs = (length pairs ≤ MAX_PAIRS) × All (λ pair. is_filter pair.filter ≡ true) pairs
 
 -- neither of the two that are reserved
 abbrev pub IsTopicId : ℕ → Type 0

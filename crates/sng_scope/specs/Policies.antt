@@ -1,4 +1,5 @@
--- Policy texts: a JSON object (RFC 8259) with the version, the scopes of clients and of sources, and the predefined topics.
+-- Policy texts: a JSON object (RFC 8259) with the version, the scopes of clients and of sources, and the
+-- predefined topics.
 use Rattle.std.specs.Prelude.{ℕ, Bool, true, false, ◌==◌, ◌&&◌, ◌||◌, nat_lt, List, [], if◌then◌else◌, Option, Some, None, option_map, option_and_then, unwrap_or, ok_or, Result, Ok, Err, codes}
 use Rattle.std.specs.Str.{bytes_eq}
 use Rattle.serde_json.specs.Data.{Data, Members, no_members, member}
@@ -45,7 +46,8 @@ client_of text = if is_client_id text then Ok text else Err BadClientId
 abbrev pub name_of_data : Data → Result (List ℕ) PolicyFault
 name_of_data d = ok_or (as_str d) Shape >>= (λ text. if is_name text then Ok text else Err BadTopicId)
 
--- ---- clients, sources and topics: their members are taken in the byte order of their names, in which an object has them, and in each the name is judged before the value
+-- ---- clients, sources and topics: their members are taken in the byte order of their names, in which an
+-- object has them, and in each the name is judged before the value
 
 abbrev pub clients_onto : List (List ℕ × List Pair) → Members → Result (List (List ℕ × List Pair)) PolicyFault
 clients_onto clients no_members = Ok clients

@@ -1,37 +1,39 @@
-//! What keeps a text from being a policy or a scope.
+//! What is wrong with a text that is not a policy or a scope.
 use thiserror::Error;
 
-/// The fault of a policy text or of the text of a scope. Its number and its name are what a log shows of it, and its sentence tells an operator what to mend.
+/// The fault of a policy text or of the text of a scope. Its number and its name are what a log shows of it,
+/// and its sentence tells an operator what to mend.
 #[derive(Clone, Copy, Debug, PartialEq, Eq, Error)]
 pub enum PolicyFault {
-    /// The bytes are no UTF-8, or no JSON (RFC 8259).
+    /// The bytes are not UTF-8, or not JSON (RFC 8259).
     #[error("the text is not JSON in UTF-8, or a scope given as a text does not decode to such JSON")]
     NotJson,
     /// The JSON is not of the shape of a policy or of a scope.
     #[error("the text is JSON, but not of the shape of a policy of version 1 or of a scope")]
     Shape,
-    /// A text that is no topic filter (MQTT 3.1.1, 4.7).
-    #[error("a filter in a scope is not a topic filter of 1 to 200 bytes")]
+    /// A text that is not a topic filter (MQTT 3.1.1, 4.7).
+    #[error("a filter in a scope is not a valid topic filter, or is too long")]
     BadFilter,
     /// A permission other than `pub` and `sub` (RFC 9431, 2.3).
     #[error("a permission in a scope is neither `pub` nor `sub`")]
     BadPermission,
-    /// A scope given as a text that is no unpadded base64url (RFC 4648, 5).
+    /// A scope given as a text that is not unpadded base64url (RFC 4648, 5).
     #[error("a scope given as a text is not base64url without padding")]
     BadBase64,
-    /// A name under `clients` that is no client id (MQTT-SN 1.2, 5.3.1).
-    #[error("a name under `clients` is not a client id of 1 to 23 characters")]
+    /// A name under `clients` that is not a client id (MQTT-SN 1.2, 5.3.1).
+    #[error("a name under `clients` is not a client id: it is empty, too long or has U+0000")]
     BadClientId,
-    /// A name under `sources` that is no IPv4 address.
+    /// A name under `sources` that is not an IPv4 address.
     #[error("a name under `sources` is not an IPv4 address in decimal without leading zeros")]
     BadSource,
-    /// A name under `topics` that is no topic id, or its value no topic name (MQTT-SN 1.2, 5.3.11).
-    #[error("under `topics` a name is not a topic id from 1 to 65534 without leading zeros, or its text is not a topic name")]
+    /// A name under `topics` that is not a topic id, or whose value is not a topic name (MQTT-SN 1.2,
+    /// 5.3.11).
+    #[error("under `topics` a name is not a topic id without leading zeros, or its text is not a topic name")]
     BadTopicId,
-    /// More clients or sources than 256, more topics than 1,024, or more pairs in a scope than 64.
-    #[error("there are more than 256 clients, 256 sources, 1024 topics or 64 pairs in a scope")]
+    /// More clients, sources or topics than a policy lists, or more pairs than a scope has.
+    #[error("there are more clients, sources, topics or pairs in a scope than a policy may have")]
     TooMany,
-    /// A growth was refused.
+    /// Allocation failed.
     #[error("out of memory")]
     Memory,
 }

@@ -1,5 +1,5 @@
-//! Scopes and policies from their texts (RFC 9237, RFC 9431: the list of pairs of AIF-MQTT). What they are as values stands in
-//! `sng_grants`.
+//! Scopes and policies from their texts (RFC 9237, RFC 9431: the list of pairs of AIF-MQTT). What they are as
+//! values stands in `sng_grants`.
 #![tactic(auto)]
 
 pub mod fault;

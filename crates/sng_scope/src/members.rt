@@ -1,5 +1,5 @@
 //! The members of a policy object: the version, the clients, the sources and the topics.
-ghost use Rattle.std.specs.Prelude.{◌≡◌, ◌⊎◌, IfOk, IfErr, Ok, Err, MatchResult, nat_lt};
+ghost use Rattle.std.specs.Prelude.{◌≡◌, ◌⊎◌, IfOk, IfErr, Ok, Err, MatchResult, nat_lt, length, ◌≤◌};
 ghost use Rattle.serde_json.specs.Events.{members_len};
 ghost use Rattle.serde_json.specs.View.{view, members_view};
 ghost use Rattle.sng_scope.specs.Policies.{is_known, are_known, is_version_one, is_policy_object, members_within, parts_of, policy_of_data};
@@ -82,9 +82,10 @@ fn is_known(name: &str) -> bool
 
 /// The members of an object that has no more of them than `most`.
 fn members_within(value: &Value, most: usize) -> Result<&Map<String, Value>, PolicyFault>
-    ensures { MatchResult result
+    ensures value { MatchResult result
         (λ ms. members_within most (view value.now) ≡ Ok (members_view ms.now.entries))
         (λ e. members_within most (view value.now) ≡ Err e) }
+    ensures few { IfOk result (λ ms. length ms.now.entries ≤ most) }
 {
     let Some(members) = value.as_object() else {
         return Err(PolicyFault::Shape);
@@ -97,7 +98,8 @@ fn members_within(value: &Value, most: usize) -> Result<&Map<String, Value>, Pol
 
 /// Whether there are more members than `most`.
 fn is_over(members: &Map<String, Value>, most: usize) -> bool
-    ensures { result ≡ nat_lt most (members_len (members_view members.now.entries)) }
+    ensures value { result ≡ nat_lt most (members_len (members_view members.now.entries)) }
+    ensures few { result ≡ nat_lt most (length members.now.entries) }
 {
     members.len() > most
 }

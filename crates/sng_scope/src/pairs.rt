@@ -1,5 +1,6 @@
-//! Scopes in JSON: the list of pairs of a topic filter and the permissions on it (RFC 9237, 2; RFC 9431, 2.3).
-ghost use Rattle.std.specs.Prelude.{◌≡◌, ◌⊎◌, true, false, IfOk, IfErr, Ok, Err, option_map, nat_lt};
+//! Scopes in JSON: the list of pairs of a topic filter and the permissions on it (RFC 9237, 2; RFC 9431,
+//! 2.3).
+ghost use Rattle.std.specs.Prelude.{◌≡◌, ◌≤◌, ◌⊎◌, true, false, IfOk, IfErr, Ok, Err, option_map, nat_lt, length};
 ghost use Rattle.serde_json.specs.Events.{items_len};
 ghost use Rattle.serde_json.specs.View.{view, items_view};
 ghost use Rattle.sng_text.specs.Texts.{is_filter};
@@ -26,12 +27,14 @@ pub fn scope_of_items(alloc: Global, items: &[Value]) -> Result<Scope, PolicyFau
 
 /// Whether there are more pairs than a scope may have.
 fn is_over_limit(items: &[Value]) -> bool
-    ensures { result ≡ nat_lt MAX_PAIRS (items_len (items_view items.now)) }
+    ensures value { result ≡ nat_lt MAX_PAIRS (items_len (items_view items.now)) }
+    ensures few { result ≡ nat_lt MAX_PAIRS (length items.now) }
 {
     items.len() > MAX_PAIRS
 }
 
 fn pairs_from(alloc: Global, items: &[Value]) -> Result<Scope, PolicyFault>
+    requires { length items.now ≤ MAX_PAIRS }
     ensures ok { IfOk result (λ s. pairs_of (items_view items.now) ≡ Ok s) }
     ensures err { IfErr result (λ e. (e ≡ PolicyFault.Memory)
         ⊎ (pairs_of (items_view items.now) ≡ Err e)) }

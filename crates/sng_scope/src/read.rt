@@ -9,7 +9,10 @@ use crate::scope_form::scope_from;
 use crate::{Policy, PolicyFault, Scope};
 use std::alloc::Global;
 
-/// The policy that the text is, or the first of its faults. A policy text is an object with `version`, the number 1, and as wanted `clients` (scopes by client id), `sources` (scopes by IPv4 address) and `topics` (topic names by topic id): at most 256, 256 and 1,024 of them. `docs/policy.md` has the form and the order of faults.
+/// The policy that the text is, or the first of its faults. A policy text is an object with `version`, the
+/// number 1, and as wanted `clients` (scopes by client id), `sources` (scopes by IPv4 address) and `topics`
+/// (topic names by topic id): at most `MAX_CLIENTS`, `MAX_SOURCES` and `MAX_TOPICS` of them. `docs/policy.md`
+/// has the form and the order of faults.
 pub fn read_policy(alloc: Global, text: &[u8]) -> Result<Policy, PolicyFault>
     ensures ok { IfOk result (λ p. policy_of text.now ≡ Ok p) }
     ensures err { IfErr result (λ e. (e ≡ PolicyFault.Memory) ⊎ (policy_of text.now ≡ Err e)) }
@@ -18,7 +21,9 @@ pub fn read_policy(alloc: Global, text: &[u8]) -> Result<Policy, PolicyFault>
     policy_from(alloc, &value)
 }
 
-/// The scope that the JSON text is, or the first of its faults: an array of at most 64 pairs of a topic filter and an array of permissions, each `pub` or `sub` (RFC 9431, 2.3), or a text that is unpadded base64url of such an array.
+/// The scope that the JSON text is, or the first of its faults: an array of at most `MAX_PAIRS` pairs of a
+/// topic filter and an array of permissions, each `pub` or `sub` (RFC 9431, 2.3), or a text that is unpadded
+/// base64url of such an array.
 pub fn read_scope(alloc: Global, text: &[u8]) -> Result<Scope, PolicyFault>
     ensures ok { IfOk result (λ s. scope_of_text text.now ≡ Ok s) }
     ensures err { IfErr result (λ e. (e ≡ PolicyFault.Memory) ⊎ (scope_of_text text.now ≡ Err e)) }
@@ -26,6 +31,3 @@ pub fn read_scope(alloc: Global, text: &[u8]) -> Result<Scope, PolicyFault>
     let value = value_from(alloc, text)?;
     scope_from(alloc, &value)
 }
-
-#[cfg(test)]
-mod tests;

@@ -1,4 +1,5 @@
-//! The two forms of a scope in JSON: an array of pairs, or a text that is unpadded base64url of such an array (RFC 4648, 5).
+//! The two forms of a scope in JSON: an array of pairs, or a text that is unpadded base64url of such an array
+//! (RFC 4648, 5).
 ghost use Rattle.std.specs.Prelude.{◌≡◌, ◌⊎◌, IfOk, IfErr, Ok, Err};
 ghost use Rattle.serde_json.specs.View.{view};
 ghost use Rattle.sng_scope.specs.Texts.{bytes_of, scope_of_encoded, scope_of_data};

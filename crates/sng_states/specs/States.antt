@@ -26,12 +26,18 @@ has_session Disconnected = false
 has_session Lost = false
 has_session _ = true
 
--- there is a session, and no dialogue is open
-abbrev pub has_settled : ClientState → Bool
-has_settled Active = true
-has_settled Asleep = true
-has_settled Awake = true
-has_settled _ = false
+-- the broker's messages for the client wait for it: there is a session, and no dialogue is open
+abbrev pub is_due_messages : ClientState → Bool
+is_due_messages Active = true
+is_due_messages Asleep = true
+is_due_messages Awake = true
+is_due_messages _ = false
+
+-- messages that wait are handed over
+abbrev pub takes_messages : ClientState → Bool
+takes_messages Active = true
+takes_messages Awake = true
+takes_messages _ = false
 
 -- the cue has a place in the state
 abbrev pub has_place : Cue → ClientState → Bool
@@ -39,7 +45,7 @@ has_place Connect state = true
 has_place ConnectWill state = true
 has_place WillDone state = in_dialogue state
 has_place WillDenied state = in_dialogue state
-has_place Sleep state = has_settled state
+has_place Sleep state = is_due_messages state
 has_place Wake state = is_asleep state
 has_place Drained state = is_awake state
 has_place Leave state = has_session state

@@ -2,7 +2,7 @@
 //! law: its contract is the law, and calling it does nothing.
 ghost use Rattle.std.specs.Prelude.{◌≡◌};
 ghost use Rattle.sng_states.specs.declared.limits.TheConstants.{SILENCE_MS_PER_SECOND};
-ghost use Rattle.sng_states.specs.Laws.{SessionsBeginByConnect, WakingIsFromSleep};
+ghost use Rattle.sng_states.specs.Laws.{SessionsBeginByConnect, WakingIsFromSleep, MessagesNeedASession, SleepKeepsMessages};
 
 /// A client without a session, which has left or is lost, gets one by a CONNECT, and nothing else moves it.
 pub fn sessions_begin_by_connect()
@@ -12,6 +12,16 @@ pub fn sessions_begin_by_connect()
 /// A client is awake only where it was asleep and has just asked for what waits.
 pub fn waking_is_from_sleep()
     ensures { WakingIsFromSleep }
+{}
+
+/// Messages are handed over only to a client that is due them, and such a client has a session.
+pub fn messages_need_a_session()
+    ensures { MessagesNeedASession }
+{}
+
+/// A client that falls asleep, wakes up or has got all that waited was due messages and still is.
+pub fn sleep_keeps_messages()
+    ensures { SleepKeepsMessages }
 {}
 
 /// The number of the limit.

@@ -1,4 +1,5 @@
 //! The states of a client and the cues that move it (MQTT-SN 1.2, 6.14).
+ghost use Rattle.std.specs.Prelude.{◌≡◌};
 
 /// How a client stands with the gateway.
 #[derive(Clone, Copy, Debug, PartialEq, Eq)]
@@ -15,6 +16,46 @@ pub enum ClientState {
     Disconnected,
     /// It was silent for too long.
     Lost,
+}
+
+impl ClientState {
+    ghost use Rattle.sng_states.specs.States.{has_session, is_due_messages, takes_messages};
+
+    /// Whether the gateway holds a session with the client at its address.
+    pub fn has_session(self) -> bool
+        ensures { result ≡ has_session self }
+    {
+        match self {
+            ClientState::Dialogue
+            | ClientState::Active
+            | ClientState::Asleep
+            | ClientState::Awake => true,
+            ClientState::Disconnected | ClientState::Lost => false,
+        }
+    }
+
+    /// Whether the broker's messages for the client wait for it: it has a session, and no dialogue is open.
+    pub fn is_due_messages(self) -> bool
+        ensures { result ≡ is_due_messages self }
+    {
+        match self {
+            ClientState::Active | ClientState::Asleep | ClientState::Awake => true,
+            ClientState::Dialogue | ClientState::Disconnected | ClientState::Lost => false,
+        }
+    }
+
+    /// Whether messages that wait are handed over to the client: it is due messages and does not sleep.
+    pub fn takes_messages(self) -> bool
+        ensures { result ≡ takes_messages self }
+    {
+        match self {
+            ClientState::Active | ClientState::Awake => true,
+            ClientState::Dialogue
+            | ClientState::Asleep
+            | ClientState::Disconnected
+            | ClientState::Lost => false,
+        }
+    }
 }
 
 /// What moves a client.

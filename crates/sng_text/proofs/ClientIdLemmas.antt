@@ -7,6 +7,7 @@ use Rattle.std.specs.Str.{is_utf8, chars}
 use Rattle.sng_text.specs.ClientIds.{is_client_id}
 use Rattle.sng_text.specs.Laws.{SpellsClientId}
 use Rattle.sng_text.specs.Texts.{has_byte}
+use Rattle.sng_text.specs.declared.limits.TheConstants.{MAX_CLIENT_ID}
 use Rattle.sng_text.specs.declared.fault.TextFault.{TextFault}
 
 has_byte-append : (b : ℕ) (xs ys : List ℕ) → has_byte b (xs ++ ys) ≡ (has_byte b xs || has_byte b ys)
@@ -55,11 +56,11 @@ some_characters (c ∷ cs) text is some = omega arith
 
 pub spells-client_id : (text : List ℕ) → is_client_id text ≡ true → SpellsClientId text
 spells-client_id text is =
-    let f = no_fault (length text == 0) (is_utf8 text) (has_byte 0 text) (nat_lt 23 (length (chars text))) _ _ _ _ is in
+    let f = no_fault (length text == 0) (is_utf8 text) (has_byte 0 text) (nat_lt MAX_CLIENT_ID (length (chars text))) _ _ _ _ is in
     let u = IsUtf8-from_is_utf8 text f.1 in
     let e = encodes-chars text u in
     let zero : has_byte 0 (chars text) ≡ false = sym (has_byte-encodes (chars text)) ∙ ap (has_byte 0) e ∙ f.2 in
-    (chars text, scalars-chars text u, e, some_characters (chars text) text e f.0, ltb-false 23 (length (chars text)) f.3, zero)
+    (chars text, scalars-chars text u, e, some_characters (chars text) text e f.0, ltb-false MAX_CLIENT_ID (length (chars text)) f.3, zero)
 
 pub client_id-spells : (text : List ℕ) → SpellsClientId text → is_client_id text ≡ true
 client_id-spells text (cs, scalar, is, some, short, zero) =
@@ -67,5 +68,5 @@ client_id-spells text (cs, scalar, is, some, short, zero) =
     let utf8 : is_utf8 text ≡ true = is_utf8-from_IsUtf8 text (cs, (scalar, is)) in
     let none : has_byte 0 text ≡ false = ap (has_byte 0) (sym is) ∙ has_byte-encodes cs ∙ zero in
     let count : chars text ≡ cs = ap chars (sym is) ∙ chars-encodes cs scalar in
-    let fits : nat_lt 23 (length (chars text)) ≡ false = rw count (le-ltb 23 (length cs) short) in
+    let fits : nat_lt MAX_CLIENT_ID (length (chars text)) ≡ false = rw count (le-ltb MAX_CLIENT_ID (length cs) short) in
     rw (some_bytes, utf8, none, fits) refl

@@ -2,6 +2,7 @@
 use Rattle.std.proofs.Common.{◌≡◌, ℕ, ◌≤◌, ◌==◌, ◌&&◌, Bool, true, false, List, [], ◌∷◌, length, None, refl, arith}
 use Rattle.std.proofs.lemmas.Grind.{common_steps}
 use Rattle.sng_text.specs.Levels.{lengthen, levels_of}
+use Rattle.sng_text.specs.declared.limits.TheConstants.{MAX_FILTER}
 use Rattle.sng_text.specs.Texts.{is_plain, is_ordinary, is_in_place, is_name, filter_fault}
 
 -- no level has a wildcard
@@ -28,8 +29,8 @@ pub all_plain-levels_of : (text : List ℕ) → is_plain text ≡ true → all_p
 all_plain-levels_of [] is = refl
 all_plain-levels_of (b ∷ text) is = grind (arith, common_steps, all_plain-levels_of text, all_plain-lengthen b (levels_of text))
 
--- a name of at most 200 bytes is a filter
-pub name-filter : (text : List ℕ) → is_name text ≡ true → length text ≤ 200 → filter_fault text ≡ None
+-- a name that is not too long is a filter
+pub name-filter : (text : List ℕ) → is_name text ≡ true → length text ≤ MAX_FILTER → filter_fault text ≡ None
 name-filter text is short = grind (arith, common_steps, all_plain-levels_of text, all_plain-in_place (levels_of text))
 
 pub name-plain : (text : List ℕ) → is_name text ≡ true → is_plain text ≡ true

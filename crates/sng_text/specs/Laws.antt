@@ -4,10 +4,11 @@ use Rattle.std.specs.Str.{all_scalars, encode_utf8_all}
 use Rattle.sng_text.specs.ClientIds.{is_client_id}
 use Rattle.sng_text.specs.Matching.{matches}
 use Rattle.sng_text.specs.Texts.{has_byte, is_name}
+use Rattle.sng_text.specs.declared.limits.TheConstants.{MAX_CLIENT_ID}
 
--- the bytes are the UTF-8 of 1 to 23 Unicode scalar values, none of them U+0000
+-- the bytes are the UTF-8 of at least one Unicode scalar value and not too many, none of them U+0000
 abbrev pub SpellsClientId : List ℕ → Type 0
-SpellsClientId text = (characters : List ℕ) × (all_scalars characters ≡ true) × (encode_utf8_all characters ≡ text) × (0 < length characters) × (length characters ≤ 23)
+SpellsClientId text = (characters : List ℕ) × (all_scalars characters ≡ true) × (encode_utf8_all characters ≡ text) × (0 < length characters) × (length characters ≤ MAX_CLIENT_ID)
     × (has_byte 0 characters ≡ false)
 
 -- those bytes, and no others, are a client id

@@ -3,6 +3,7 @@ use Rattle.std.specs.Prelude.{ℕ, Bool, true, false, ◌==◌, ◌&&◌, ◌||�
 use Rattle.std.specs.declared.option.Option.{Option}
 use Rattle.std.specs.Str.{is_utf8, bytes_eq}
 use Rattle.sng_text.specs.Levels.{levels_of}
+use Rattle.sng_text.specs.declared.limits.TheConstants.{MAX_FILTER, MAX_NAME}
 use Rattle.sng_text.specs.declared.fault.TextFault.{TextFault}
 use Rattle.sng_text.specs.declared.fault.TextFault.TheVariants.{Empty, TooLong, NotUtf8, Null, Wildcard}
 
@@ -44,13 +45,13 @@ text_fault most text wildcards_fit =
     then Some NotUtf8
     else (if has_byte 0 text then Some Null else (if wildcards_fit then None else Some Wildcard))))
 
--- a name has 1 to 65,535 bytes and no wildcard
+-- a name has at least one byte and no wildcard
 abbrev pub name_fault : List ℕ → Option TextFault
-name_fault text = text_fault 65535 text (is_plain text)
+name_fault text = text_fault MAX_NAME text (is_plain text)
 
--- a filter has 1 to 200 bytes, and its wildcards are in place
+-- a filter has at least one byte, and its wildcards are in place
 abbrev pub filter_fault : List ℕ → Option TextFault
-filter_fault text = text_fault 200 text (is_in_place (levels_of text))
+filter_fault text = text_fault MAX_FILTER text (is_in_place (levels_of text))
 
 -- the bytes are a topic name
 abbrev pub is_name : List ℕ → Bool

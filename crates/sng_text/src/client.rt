@@ -1,15 +1,13 @@
 //! Client ids (MQTT-SN 1.2, 5.3.1).
-ghost use Rattle.std.specs.Prelude.{◌≡◌, ◌⊎◌, true, Some, None, IfOk, IfErr};
+ghost use Rattle.std.specs.Prelude.{◌≡◌, ◌⊎◌, true, Err, Some, None, IfOk, IfErr};
 ghost use Rattle.sng_text.specs.ClientIds.{is_client_id, client_id_fault};
 
-use crate::{TextFault, bytes};
+use crate::reading::owned;
+use crate::{MAX_CLIENT_ID, TextFault, bytes};
 use std::alloc::{AllocError, Global};
 use std::marker::Model;
 
-/// The most characters of a client id.
-const MOST_CHARACTERS: usize = 23;
-
-/// A client id: 1 to 23 characters (Unicode scalar values) of UTF-8 without U+0000, of at most 92 bytes then. Contracts see its text.
+/// A client id: 1 to `MAX_CLIENT_ID` characters (Unicode scalar values) of UTF-8 without U+0000. Contracts see its text.
 #[derive(Debug, Drop)]
 pub struct ClientId {
     text: Vec<u8>,
@@ -31,11 +29,9 @@ impl ClientId {
     pub fn read(alloc: Global, text: &[u8]) -> Result<ClientId, TextFault>
         ensures ok { IfOk result (λ i. (i ≡ text.now) × (client_id_fault text.now ≡ None)) }
         ensures err { IfErr result (λ f. (f ≡ TextFault.Memory) ⊎ (client_id_fault text.now ≡ Some f)) }
+        ensures memory { result ≡ Err TextFault.Memory → client_id_fault text.now ≡ None }
     {
-        if let Some(fault) = client_id_fault(text) {
-            return Err(fault);
-        }
-        let text = Vec::from_slice(alloc, text).map_err(|_| TextFault::Memory)?;
+        let text = owned(alloc, text, client_id_fault(text))?;
         Ok(ClientId { text })
     }
 
@@ -75,7 +71,7 @@ fn client_id_fault(text: &[u8]) -> Option<TextFault>
         Some(count) => {
             if bytes::has_byte(0, text) {
                 Some(TextFault::Null)
-            } else if count > MOST_CHARACTERS {
+            } else if count > MAX_CLIENT_ID {
                 Some(TextFault::TooLong)
             } else {
                 None

@@ -1,13 +1,21 @@
 //! Topic filters (MQTT 3.1.1, 4.7).
-ghost use Rattle.std.specs.Prelude.{◌≡◌, ◌<◌, ◌≤◌, ◌⊎◌, true, Some, None, IfOk, IfErr, length};
+ghost use Rattle.std.specs.Prelude.{◌≡◌, ◌<◌, ◌≤◌, ◌⊎◌, true, Some, None, IfOk, IfErr, length, if◌then◌else◌};
+ghost use Rattle.std.specs.Cmp.{partial_equiv_from_equiv};
+ghost use Rattle.std.specs.Cmp.Lexicographic.{nat_list_eq_equiv};
+ghost use Rattle.std.specs.Cmp.Rules.{hashing};
+ghost use Rattle.std.specs.Hash as fed;
+ghost use Rattle.std.specs.Str.{bytes_eq};
+ghost use Rattle.std.proofs.Common.{rules};
 ghost use Rattle.sng_text.specs.Levels.{levels_of};
-ghost use Rattle.sng_text.specs.Texts.{is_filter, filter_fault, is_in_place};
+ghost use Rattle.sng_text.specs.Texts.{is_filter, is_name, filter_fault, is_in_place};
 
-use crate::{Levels, TextFault, TopicName, bytes};
+use crate::reading::{bytes_fault, owned};
+use crate::{Levels, MAX_FILTER, Octets, RefusedText, TextFault, TopicName, bytes};
 use std::alloc::{AllocError, Global};
+use std::hash::{Hash, Hasher};
 use std::marker::Model;
 
-/// A topic filter: 1 to 200 bytes of UTF-8 without U+0000, in which `+` is a level of its own and `#` the last level. Contracts see its text.
+/// A topic filter: 1 to `MAX_FILTER` bytes of UTF-8 without U+0000, in which `+` is a level of its own and `#` the last level. Contracts see its text.
 #[derive(Debug, Drop)]
 pub struct TopicFilter {
     text: Vec<u8>,
@@ -30,19 +38,29 @@ impl TopicFilter {
         ensures ok { IfOk result (λ f. (f ≡ text.now) × (filter_fault text.now ≡ None)) }
         ensures err { IfErr result (λ e. (e ≡ TextFault.Memory) ⊎ (filter_fault text.now ≡ Some e)) }
     {
-        if let Some(fault) = filter_fault(text) {
-            return Err(fault);
-        }
-        let text = Vec::from_slice(alloc, text).map_err(|_| TextFault::Memory)?;
+        let text = owned(alloc, text, filter_fault(text))?;
         Ok(TopicFilter { text })
     }
 
-    /// The filter whose text is the name's: no level of a name is a wildcard. A name of more than 200 bytes is TooLong.
-    pub fn of_name(alloc: Global, name: &TopicName) -> Result<TopicFilter, TextFault>
-        ensures ok { IfOk result (λ f. (f ≡ name.now) × (length name.now ≤ 200)) }
-        ensures err { IfErr result (λ e. (e ≡ TextFault.Memory) ⊎ ((e ≡ TextFault.TooLong) × (200 < length name.now))) }
+    /// The filter that the octets are, in their memory, or the octets with the first of their faults.
+    pub fn of_octets(octets: Octets) -> Result<TopicFilter, RefusedText>
+        ensures ok { IfOk result (λ f. (f ≡ octets) × (filter_fault octets ≡ None)) }
+        ensures err { IfErr result (λ r. (filter_fault octets ≡ Some r.fault) × (r.octets ≡ octets)) }
     {
-        if name.text().len() > 200 {
+        match filter_fault(octets.as_slice()) {
+            Some(fault) => Err(RefusedText { fault, octets }),
+            None => Ok(TopicFilter {
+                text: octets.into_vec(),
+            }),
+        }
+    }
+
+    /// The filter whose text is the name's: no level of a name is a wildcard. A name of more than `MAX_FILTER` bytes is TooLong.
+    pub fn of_name(alloc: Global, name: &TopicName) -> Result<TopicFilter, TextFault>
+        ensures ok { IfOk result (λ f. (f ≡ name.now) × (length name.now ≤ MAX_FILTER)) }
+        ensures err { IfErr result (λ e. (e ≡ TextFault.Memory) ⊎ ((e ≡ TextFault.TooLong) × (MAX_FILTER < length name.now))) }
+    {
+        if name.text().len() > MAX_FILTER {
             return Err(TextFault::TooLong);
         }
         let text = Vec::from_slice(alloc, name.text()).map_err(|_| TextFault::Memory)?;
@@ -57,6 +75,24 @@ impl TopicFilter {
         self.text.as_slice()
     }
 
+    /// Whether the filter is a topic name: none of its levels is a wildcard.
+    pub fn is_name(&self) -> bool
+        ensures { result ≡ is_name self.now }
+    {
+        bytes::is_plain(self.text())
+    }
+
+    /// The name with the filter's text, where it is one. Only memory can fail.
+    pub fn to_name(&self) -> Result<Option<TopicName>, AllocError>
+        ensures { IfOk result (λ name. name ≡ (if is_name self.now then Some self.now else None)) }
+    {
+        if !self.is_name() {
+            return Ok(None);
+        }
+        let text = self.text.clone()?;
+        Ok(Some(TopicName::of_text(text)))
+    }
+
     /// An equal filter, in memory of its own. Only memory can fail.
     pub fn copy(&self) -> Result<TopicFilter, AllocError>
         ensures { IfOk result (λ f. f ≡ self.now) }
@@ -66,21 +102,45 @@ impl TopicFilter {
     }
 }
 
+impl Clone for TopicFilter {
+    ghost is_clone = { λ filter copy. copy ≡ filter };
+
+    fn clone(&self) -> Result<TopicFilter, AllocError> {
+        self.copy()
+    }
+}
+
+impl PartialEq for TopicFilter {
+    ghost eq = { bytes_eq };
+
+    ghost laws = { partial_equiv_from_equiv nat_list_eq_equiv };
+
+    fn eq(&self, other: &TopicFilter) -> bool {
+        self.text() == other.text()
+    }
+}
+
+impl Eq for TopicFilter {
+    ghost laws = { nat_list_eq_equiv };
+}
+
+impl Hash for TopicFilter {
+    ghost hash_input = { fed.slice fed.u8 };
+
+    ghost respects_eq = { Prim.search (hashing, rules) };
+
+    fn hash<H: Hasher>(&self, state: &mut H) {
+        self.text().hash(state);
+    }
+}
+
 fn filter_fault(text: &[u8]) -> Option<TextFault>
     ensures { result ≡ filter_fault text.now }
 {
-    if text.is_empty() {
-        Some(TextFault::Empty)
-    } else if text.len() > 200 {
-        Some(TextFault::TooLong)
-    } else if !bytes::is_utf8(text) {
-        Some(TextFault::NotUtf8)
-    } else if bytes::has_byte(0, text) {
-        Some(TextFault::Null)
-    } else if !is_in_place(text) {
-        Some(TextFault::Wildcard)
-    } else {
-        None
+    match bytes_fault(MAX_FILTER, text) {
+        Some(fault) => Some(fault),
+        None if is_in_place(text) => None,
+        None => Some(TextFault::Wildcard),
     }
 }
 

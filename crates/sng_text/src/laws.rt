@@ -1,7 +1,17 @@
 //! The laws of texts. Each function here only states one: its contract is the law, and calling it does nothing.
+ghost use Rattle.std.specs.Prelude.{◌≡◌};
 ghost use Rattle.sng_text.specs.Laws.{ClientIdsAreCharacters, NamesMatchThemselves};
 
-/// The client ids are the UTF-8 of 1 to 23 characters without U+0000 (MQTT-SN 1.2, 5.3.1).
+use crate::{MAX_CLIENT_ID, MAX_FILTER, MAX_NAME};
+
+/// The limits of texts: bytes of a name and of a filter, characters of a client id.
+pub fn limits()
+    ensures name { MAX_NAME ≡ 65535 }
+    ensures filter { MAX_FILTER ≡ 200 }
+    ensures client_id { MAX_CLIENT_ID ≡ 23 }
+{}
+
+/// The client ids are the UTF-8 of 1 to `MAX_CLIENT_ID` characters without U+0000 (MQTT-SN 1.2, 5.3.1).
 pub fn client_ids_are_characters()
     ensures { ClientIdsAreCharacters }
 {}

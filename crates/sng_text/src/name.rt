@@ -8,12 +8,13 @@ ghost use Rattle.std.specs.Str.{bytes_eq};
 ghost use Rattle.std.proofs.Common.{rules};
 ghost use Rattle.sng_text.specs.Texts.{is_name, name_fault};
 
-use crate::{TextFault, bytes};
+use crate::reading::{bytes_fault, owned};
+use crate::{MAX_NAME, Octets, RefusedText, TextFault, bytes};
 use std::alloc::{AllocError, Global};
 use std::hash::{Hash, Hasher};
 use std::marker::Model;
 
-/// A topic name: 1 to 65,535 bytes of UTF-8 without U+0000, `+` and `#`. Contracts see its text.
+/// A topic name: 1 to `MAX_NAME` bytes of UTF-8 without U+0000, `+` and `#`. Contracts see its text.
 #[derive(Debug, Drop)]
 pub struct TopicName {
     text: Vec<u8>,
@@ -36,11 +37,21 @@ impl TopicName {
         ensures ok { IfOk result (λ n. (n ≡ text.now) × (name_fault text.now ≡ None)) }
         ensures err { IfErr result (λ f. (f ≡ TextFault.Memory) ⊎ (name_fault text.now ≡ Some f)) }
     {
-        if let Some(fault) = name_fault(text) {
-            return Err(fault);
-        }
-        let text = Vec::from_slice(alloc, text).map_err(|_| TextFault::Memory)?;
+        let text = owned(alloc, text, name_fault(text))?;
         Ok(TopicName { text })
+    }
+
+    /// The name that the octets are, in their memory, or the octets with the first of their faults.
+    pub fn of_octets(octets: Octets) -> Result<TopicName, RefusedText>
+        ensures ok { IfOk result (λ n. (n ≡ octets) × (name_fault octets ≡ None)) }
+        ensures err { IfErr result (λ r. (name_fault octets ≡ Some r.fault) × (r.octets ≡ octets)) }
+    {
+        match name_fault(octets.as_slice()) {
+            Some(fault) => Err(RefusedText { fault, octets }),
+            None => Ok(TopicName {
+                text: octets.into_vec(),
+            }),
+        }
     }
 
     /// The name with this text, which the caller has shown to be one. Takes no memory.
@@ -103,17 +114,9 @@ impl Hash for TopicName {
 fn name_fault(text: &[u8]) -> Option<TextFault>
     ensures { result ≡ name_fault text.now }
 {
-    if text.is_empty() {
-        Some(TextFault::Empty)
-    } else if text.len() > 65535 {
-        Some(TextFault::TooLong)
-    } else if !bytes::is_utf8(text) {
-        Some(TextFault::NotUtf8)
-    } else if bytes::has_byte(0, text) {
-        Some(TextFault::Null)
-    } else if !bytes::is_plain(text) {
-        Some(TextFault::Wildcard)
-    } else {
-        None
+    match bytes_fault(MAX_NAME, text) {
+        Some(fault) => Some(fault),
+        None if bytes::is_plain(text) => None,
+        None => Some(TextFault::Wildcard),
     }
 }

@@ -48,6 +48,13 @@ impl Octets {
         self.bytes.is_empty()
     }
 
+    /// The bytes in their memory, which is given back.
+    pub fn into_vec(self) -> Vec<u8>
+        ensures { result.items ≡ self }
+    {
+        self.bytes
+    }
+
     /// An equal value, in memory of its own. Only memory can fail.
     pub fn copy(&self) -> Result<Octets, AllocError>
         ensures { IfOk result (λ o. o ≡ self.now) }

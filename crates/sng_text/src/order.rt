@@ -1,11 +1,15 @@
-//! Client ids by their bytes: equal where these are, and in their order, so that client ids are keys of maps.
+//! Client ids by their bytes: equal where these are, in their order, and hashed by them, so that client ids are keys of maps.
 ghost use Rattle.std.specs.Prelude.{Some, nat_eq, refl};
+ghost use Rattle.std.proofs.Common.{rules};
+ghost use Rattle.std.specs.Cmp.Rules.{hashing};
+ghost use Rattle.std.specs.Hash as fed;
 ghost use Rattle.std.specs.Ordering.{nat_cmp};
 ghost use Rattle.std.specs.Cmp.{partial_equiv_from_equiv};
 ghost use Rattle.std.specs.Cmp.Lexicographic.{pointwise, slice_cmp, nat_list_eq_equiv, nat_list_cmp_total, texts_ties, texts_po};
 
 use crate::ClientId;
 use std::cmp::Ordering;
+use std::hash::{Hash, Hasher};
 
 impl PartialEq for ClientId {
     ghost eq = { λ i j. pointwise nat_eq i j };
@@ -42,5 +46,15 @@ impl Ord for ClientId {
 
     fn cmp(&self, other: &ClientId) -> Ordering {
         self.text().cmp(other.text())
+    }
+}
+
+impl Hash for ClientId {
+    ghost hash_input = { fed.slice fed.u8 };
+
+    ghost respects_eq = { Prim.search (hashing, rules) };
+
+    fn hash<H: Hasher>(&self, state: &mut H) {
+        self.text().hash(state);
     }
 }

@@ -47,7 +47,8 @@ impl WillDialogue {
         self.stage = Stage::TopicAwaited;
     }
 
-    /// Closes the dialogue, and forgets a topic that it stated. The will stays.
+    /// Closes the dialogue as the client leaves or is lost, and forgets a topic that it stated. The will
+    /// stays.
     pub fn stop(&mut self)
         ensures { self.new ≡ record self.old { stage = Closed } }
     {

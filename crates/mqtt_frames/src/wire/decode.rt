@@ -1,13 +1,16 @@
 //! Reading the packet at the front of a stream of bytes (MQTT 3.1.1, sections 2 and 3).
-ghost use Rattle.std.specs.Prelude.{◌≡◌, ◌≤◌, ◌<◌, length, IfOk, IfErr};
+ghost use Rattle.std.specs.Prelude.{◌≡◌, ◌≤◌, ◌<◌, length, IfOk};
 ghost use Rattle.mqtt_frames.specs.Fronts.{decode, IsWithin};
-ghost use Rattle.mqtt_frames.specs.Reading.{Gives, body_of, at_end};
+ghost use Rattle.mqtt_frames.specs.Reading.{Gives, body_of};
 
 use crate::header::{self, Header};
 use crate::kind::Kind;
 use crate::limits::MAX_PACKET;
-use crate::{Packet, StreamFault, acknowledgements, connect, publish, subscribe, unsubscribe};
-use std::alloc::Global;
+use crate::read_fault::ReadFault;
+use crate::{
+    Packet, PacketFault, acknowledgements, bare, connect, publish, subscribe, unsubscribe,
+};
+use std::alloc::{AllocError, Global};
 
 /// What stands at the front of bytes.
 #[derive(Debug, Drop)]
@@ -15,23 +18,22 @@ pub enum Front {
     /// Less than a packet, nothing at least.
     Waiting,
     /// A fault.
-    Faulty(StreamFault),
+    Faulty(PacketFault),
     /// A packet, and how many bytes spell it.
     Whole(Packet, usize),
 }
 
-/// The packet or the fault at the front of the bytes. The only error is `Memory`.
-pub fn decode(alloc: Global, bytes: &[u8]) -> Result<Front, StreamFault>
+/// The packet or the fault at the front of the bytes. The only error is that an allocation failed.
+pub fn decode(alloc: Global, bytes: &[u8]) -> Result<Front, AllocError>
     ensures value { IfOk result (λ front. front ≡ decode bytes.now) }
     ensures within { IfOk result (λ front. IsWithin (length bytes.now) front) }
-    ensures memory { IfErr result (λ fault. fault ≡ StreamFault.Memory) }
 {
     match header::header_at(bytes) {
         Header::Unfinished => Ok(Front::Waiting),
         Header::Faulty(fault) => Ok(Front::Faulty(fault)),
         Header::Known(kind, start, rest) => {
             if start + rest > MAX_PACKET {
-                return Ok(Front::Faulty(StreamFault::TooLong));
+                return Ok(Front::Faulty(PacketFault::TooLong));
             }
             if bytes.len() < start + rest {
                 return Ok(Front::Waiting);
@@ -40,43 +42,34 @@ pub fn decode(alloc: Global, bytes: &[u8]) -> Result<Front, StreamFault>
             let (body, _) = behind.split_at(rest);
             match body_of(alloc, kind, body) {
                 Ok(packet) => Ok(Front::Whole(packet, start + rest)),
-                Err(fault) => match fault {
-                    StreamFault::Memory => Err(fault),
-                    _ => Ok(Front::Faulty(fault)),
-                },
+                Err(ReadFault::Packet(fault)) => Ok(Front::Faulty(fault)),
+                Err(ReadFault::Memory) => Err(AllocError),
             }
         }
     }
 }
 
-/// The packet of the kind whose variable header and payload the bytes are. Allocates a copy of each variable part, and nothing else.
+/// The packet of the kind whose variable header and payload the bytes are. Allocates a copy of each variable
+/// part, and
+/// nothing else.
 ///
-/// `NotSupported`: a CONNECT with other flags than CleanSession. `Malformed`: the bytes are those of no packet of the kind. `Memory`: an
-/// allocation failed.
-pub fn body_of(alloc: Global, kind: Kind, body: &[u8]) -> Result<Packet, StreamFault>
+/// `NotSupported`: a CONNECT with other flags than CleanSession. `Malformed`: the bytes are those of no
+/// packet of the
+/// kind. `Memory`: an allocation failed.
+pub fn body_of(alloc: Global, kind: Kind, body: &[u8]) -> Result<Packet, ReadFault>
     ensures { Gives (λ packet. packet) result (body_of kind body.now) }
 {
     match kind {
         Kind::Connect => connect::connect_of(alloc, body),
-        Kind::ConnectAck => acknowledgements::connect_ack_of(body),
+        Kind::ConnectAck => Ok(acknowledgements::connect_ack_of(body)?),
         Kind::Publish(flags) => publish::publish_of(alloc, flags, body),
         Kind::PublishAck => Ok(Packet::PublishAck(acknowledgements::whole_id(body)?)),
         Kind::Subscribe => subscribe::subscribe_of(alloc, body),
         Kind::SubscribeAck => subscribe::subscribe_ack_of(alloc, body),
         Kind::Unsubscribe => unsubscribe::unsubscribe_of(alloc, body),
         Kind::UnsubscribeAck => Ok(Packet::UnsubscribeAck(acknowledgements::whole_id(body)?)),
-        Kind::PingRequest => at_end(Packet::PingRequest, body),
-        Kind::PingResponse => at_end(Packet::PingResponse, body),
-        Kind::Disconnect => at_end(Packet::Disconnect, body),
-    }
-}
-
-/// A packet that has neither a variable header nor a payload (3.12 to 3.14).
-fn at_end(packet: Packet, body: &[u8]) -> Result<Packet, StreamFault>
-    ensures { Gives (λ packet. packet) result (at_end packet body.now) }
-{
-    match body {
-        [] => Ok(packet),
-        _ => Err(StreamFault::Malformed),
+        Kind::PingRequest => bare::at_end(Packet::PingRequest, body),
+        Kind::PingResponse => bare::at_end(Packet::PingResponse, body),
+        Kind::Disconnect => bare::at_end(Packet::Disconnect, body),
     }
 }

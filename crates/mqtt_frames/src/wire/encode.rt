@@ -1,12 +1,13 @@
 //! Writing packets (MQTT 3.1.1, sections 2 and 3).
-ghost use Rattle.std.specs.Prelude.{◌≡◌, ◌≢◌, ◌≤◌, ◌<◌, ◌↔◌, length, Err, IfOk, OnOk, SomeIff, ◌++◌, false, None};
+ghost use Rattle.std.specs.Prelude.{◌≡◌, ◌≢◌, ◌≤◌, ◌<◌, ◌↔◌, length, Err, IfOk, OnOk, SomeIff, ◌++◌, false};
+ghost use Rattle.std.specs.Prelude.{None};
 ghost use Rattle.mqtt_frames.specs.Packets.{first_byte, body, written};
-ghost use Rattle.mqtt_frames.specs.Grammar.{HasNoSpelling};
-ghost use Rattle.mqtt_frames.specs.declared.packet.Packet.TheVariants as packets;
+ghost use Rattle.mqtt_frames.specs.Grammar.{Spells, HasNoSpelling};
+ghost use Rattle.mqtt_frames.specs.Parts.{publish_of_parts};
 
 use crate::limits::MAX_PACKET;
 use crate::{
-    Packet, StreamFault, acknowledgements, connect, fields, publish, remaining, spellable,
+    Packet, StreamFault, acknowledgements, bare, connect, fields, publish, remaining, spellable,
     subscribe, unsubscribe,
 };
 use sng_text::{Octets, TopicName};
@@ -14,9 +15,11 @@ use std::alloc::{AllocError, Global};
 
 /// The bytes that a packet is sent as, with the shortest Remaining Length. Allocates once.
 ///
-/// `TooLong`: it has more than `MAX_PACKET` bytes. `Malformed`: no bytes spell the packet. `Memory`: the allocation failed.
+/// `TooLong`: it has more than `MAX_PACKET` bytes. `Malformed`: no bytes spell the packet. `Memory`: the
+/// allocation failed.
 pub fn encode(alloc: Global, packet: &Packet) -> Result<Vec<u8>, StreamFault>
     ensures written { IfOk result (λ v. v.items ≡ written packet.now) }
+    ensures spelled { IfOk result (λ v. Spells packet.now v.items) }
     ensures fits { IfOk result (λ v. length v.items ≤ MAX_PACKET) }
     ensures too_long { (result ≡ Err StreamFault.TooLong) ↔ (MAX_PACKET < length (written packet.now)) }
     ensures malformed { (result ≡ Err StreamFault.Malformed) ↔ HasNoSpelling packet.now }
@@ -33,17 +36,16 @@ pub fn encode(alloc: Global, packet: &Packet) -> Result<Vec<u8>, StreamFault>
     if !spellable::has_spelling(packet) {
         return Err(StreamFault::Malformed);
     }
-    Ok(write(alloc, packet, rest, all)?)
+    Ok(write(alloc, packet, rest)?)
 }
 
-/// The bytes of a packet, of which so many stand behind the Remaining Length, and so many there are.
-fn write(alloc: Global, packet: &Packet, rest: usize, all: usize) -> Result<Vec<u8>, AllocError>
-    requires { rest ≡ length (body packet.now) }
+/// The bytes of a packet, of which so many stand behind the Remaining Length.
+fn write(alloc: Global, packet: &Packet, rest: usize) -> Result<Vec<u8>, AllocError>
+    requires counted { rest ≡ length (body packet.now) }
+    requires short { rest ≤ MAX_PACKET }
     ensures { IfOk result (λ v. v.items ≡ written packet.now) }
 {
-    let mut bytes = Vec::with_capacity(alloc, all)?;
-    bytes.push(first_byte(packet))?;
-    remaining::push(&mut bytes, rest)?;
+    let mut bytes = remaining::front(alloc, first_byte(packet), rest)?;
     push_body(&mut bytes, packet)?;
     Ok(bytes)
 }
@@ -53,17 +55,17 @@ fn first_byte(packet: &Packet) -> u8
     ensures { result ≡ first_byte packet.now }
 {
     match packet {
-        Packet::Connect(_) => 0x10,
+        Packet::Connect(_) => connect::FIRST,
         Packet::ConnectAck(_) => 0x20,
         Packet::Publish(publish) => publish::publish_byte(publish),
-        Packet::PublishAck(_) => 0x40,
-        Packet::Subscribe(_) => 0x82,
+        Packet::PublishAck(_) => acknowledgements::PUBLISH_ACK_FIRST,
+        Packet::Subscribe(_) => subscribe::FIRST,
         Packet::SubscribeAck(_) => 0x90,
-        Packet::Unsubscribe(_) => 0xa2,
+        Packet::Unsubscribe(_) => unsubscribe::FIRST,
         Packet::UnsubscribeAck(_) => 0xb0,
-        Packet::PingRequest => 0xc0,
+        Packet::PingRequest => bare::PING_REQUEST_FIRST,
         Packet::PingResponse => 0xd0,
-        Packet::Disconnect => 0xe0,
+        Packet::Disconnect => bare::DISCONNECT_FIRST,
     }
 }
 
@@ -84,7 +86,8 @@ fn body_size(packet: &Packet) -> Option<usize>
     }
 }
 
-/// Puts the variable header and the payload behind the other bytes. After an `Err` a part of them may be there.
+/// Puts the variable header and the payload behind the other bytes. After an `Err` a part of them may be
+/// there.
 fn push_body(bytes: &mut Vec<u8>, packet: &Packet) -> Result<(), AllocError>
     ensures { OnOk result (bytes.new.items ≡ bytes.old.items ++ body packet.now) }
 {
@@ -109,14 +112,11 @@ pub fn write_publish(
     payload: &[u8],
     retain: bool,
 ) -> Result<Octets, AllocError>
-    ensures { IfOk result (λ o. o ≡ written (packets.Publish
-        (record { dup = false; retain = retain; packet_id = None; name = name.now; payload = payload.now }))) }
+    ensures { IfOk result (λ o. o ≡ written (publish_of_parts name.now payload.now retain None false)) }
 {
     let name = name.text();
     let rest = 2 + name.len() + payload.len();
-    let mut bytes = Vec::with_capacity(alloc, 1 + remaining::size(rest) + rest)?;
-    bytes.push(if retain { 0x31 } else { 0x30 })?;
-    remaining::push(&mut bytes, rest)?;
+    let mut bytes = remaining::front(alloc, if retain { 0x31 } else { 0x30 }, rest)?;
     fields::push_text(&mut bytes, name)?;
     bytes.extend_from_slice(payload)?;
     Ok(Octets::from(bytes))

@@ -1,10 +1,12 @@
 //! Decoding a datagram as a frame (MQTT-SN 1.2, 5.2 to 5.5).
-ghost use Rattle.std.specs.Prelude.{◌≡◌, ◌⊎◌, ◌<◌, Ok, Err, IfOk, IfErr};
+ghost use Rattle.std.specs.Prelude.{◌≡◌, ◌≢◌, ◌↔◌, ◌∷◌, Ok, Err, IfOk, IsOkAnd};
 ghost use Rattle.sng_frames.specs.Parts.{part_read};
-ghost use Rattle.sng_frames.specs.Reading.{Reads, frame_of, octets_read, behind_length, message_of};
-ghost use Rattle.sng_frames.specs.Reading.{is_discovery};
+ghost use Rattle.sng_frames.specs.Reading.{Decodes, HoldsBytes, frame_of, octets_read, behind_length, message_of};
+ghost use Rattle.sng_frames.specs.Reading.{is_discovery, or_malformed};
 
-use crate::{FrameFault, MAX_DATAGRAM, MessageType, SnFrame, parts};
+use crate::messages::{acks, connect, disconnect, part, ping, publish, register, subscribe, will};
+use crate::wire::framing;
+use crate::{FrameFault, MAX_DATAGRAM, MessageType, SnFrame};
 use std::alloc::Global;
 
 /// The MsgType of an ADVERTISE (5.4.1).
@@ -21,13 +23,16 @@ const ENCAPSULATED: u8 = 0xfe;
 
 /// The frame that a datagram is. Allocates the copy of the variable part's text or data, and nothing else.
 ///
-/// `Malformed`: it has more than `MAX_DATAGRAM` octets, or its Length is not its size, or its variable part
-/// does not
+/// `Malformed`: it has more than `MAX_DATAGRAM` octets, or its Length is not its size, or its variable part does not
 /// fit its type. `NotSupported`: it is an ADVERTISE, SEARCHGW or GWINFO, or its MsgType is that of forwarder
-/// encapsulation, whatever its Length. `Memory`: the allocation of the copy failed.
+/// encapsulation, whatever its Length. `Memory`: it is a frame with text or data, and the allocation of their copy
+/// failed.
 pub fn decode(alloc: Global, datagram: &[u8]) -> Result<SnFrame, FrameFault>
     ensures ok { IfOk result (λ f. frame_of datagram.now ≡ Ok f) }
-    ensures err { IfErr result (λ e. (e ≡ FrameFault.Memory) ⊎ (frame_of datagram.now ≡ Err e)) }
+    ensures malformed { (result ≡ Err FrameFault.Malformed) ↔ (frame_of datagram.now ≡ Err FrameFault.Malformed) }
+    ensures not_supported { (result ≡ Err FrameFault.NotSupported) ↔ (frame_of datagram.now ≡ Err FrameFault.NotSupported) }
+    ensures memory { result ≡ Err FrameFault.Memory → IsOkAnd (frame_of datagram.now) HoldsBytes }
+    ensures never_too_long { result ≢ Err FrameFault.TooLong }
 {
     if datagram.len() > MAX_DATAGRAM {
         return Err(FrameFault::Malformed);
@@ -37,18 +42,17 @@ pub fn decode(alloc: Global, datagram: &[u8]) -> Result<SnFrame, FrameFault>
 
 /// A datagram of that size, from its Length on.
 fn decode_octets(alloc: Global, size: usize, octets: &[u8]) -> Result<SnFrame, FrameFault>
-    ensures ok { IfOk result (λ f. octets_read size octets.now ≡ Ok f) }
-    ensures err { IfErr result (λ e. (e ≡ FrameFault.Memory) ⊎ (octets_read size octets.now ≡ Err e)) }
+    ensures { Decodes result (octets_read size octets.now) }
 {
     match octets {
         [] => Err(FrameFault::Malformed),
-        [1, high, low, message @ ..] => decode_message(
+        [0x01, high, low, message @ ..] => decode_message(
             alloc,
-            usize::from(parts::number(*high, *low)),
+            usize::from(framing::number(*high, *low)),
             size,
             message,
         ),
-        [1, ..] => Err(FrameFault::Malformed),
+        [0x01, ..] => Err(FrameFault::Malformed),
         [stated, message @ ..] => decode_message(alloc, usize::from(*stated), size, message),
     }
 }
@@ -60,28 +64,36 @@ fn decode_message(
     size: usize,
     message: &[u8],
 ) -> Result<SnFrame, FrameFault>
-    ensures ok { IfOk result (λ f. behind_length stated size message.now ≡ Ok f) }
-    ensures err { IfErr result (λ e. (e ≡ FrameFault.Memory)
-        ⊎ (behind_length stated size message.now ≡ Err e)) }
+    ensures { Decodes result (behind_length stated size message.now) }
 {
     match message {
         [] => Err(FrameFault::Malformed),
-        [kind, part @ ..] => {
-            if *kind == ENCAPSULATED {
-                Err(FrameFault::NotSupported)
-            } else if stated != size {
-                Err(FrameFault::Malformed)
-            } else {
-                decode_typed(alloc, *kind, part)
-            }
-        }
+        [kind, part @ ..] => decode_counted(alloc, stated, size, *kind, part),
     }
+}
+
+/// A MsgType and its variable part, behind a Length that states so many octets.
+fn decode_counted(
+    alloc: Global,
+    stated: usize,
+    size: usize,
+    kind: u8,
+    part: &[u8],
+) -> Result<SnFrame, FrameFault>
+    ensures { Decodes result (behind_length stated size (kind ∷ part.now)) }
+{
+    if kind == ENCAPSULATED {
+        return Err(FrameFault::NotSupported);
+    }
+    if stated != size {
+        return Err(FrameFault::Malformed);
+    }
+    decode_typed(alloc, kind, part)
 }
 
 /// A MsgType and its variable part.
 fn decode_typed(alloc: Global, kind: u8, part: &[u8]) -> Result<SnFrame, FrameFault>
-    ensures ok { IfOk result (λ f. message_of kind part.now ≡ Ok f) }
-    ensures err { IfErr result (λ e. (e ≡ FrameFault.Memory) ⊎ (message_of kind part.now ≡ Err e)) }
+    ensures { Decodes result (message_of kind part.now) }
 {
     if is_discovery(kind, part) {
         return Err(FrameFault::NotSupported);
@@ -103,45 +115,45 @@ fn is_discovery(kind: u8, part: &[u8]) -> bool
 
 /// The variable part of a message of that type.
 fn decode_part(alloc: Global, message_type: MessageType, part: &[u8]) -> Result<SnFrame, FrameFault>
-    ensures { Reads result (part_read message_type part.now) }
+    ensures { Decodes result (or_malformed (part_read message_type part.now)) }
 {
     match message_type {
-        MessageType::Connect => Ok(SnFrame::Connect(parts::connect(alloc, part)?)),
-        MessageType::ConnectAck => Ok(SnFrame::ConnectAck(parts::code(part)?)),
+        MessageType::Connect => Ok(SnFrame::Connect(connect::decode(alloc, part)?)),
+        MessageType::ConnectAck => Ok(SnFrame::ConnectAck(part::code(part)?)),
         MessageType::WillTopicRequest => {
-            parts::nothing(part)?;
+            part::nothing(part)?;
             Ok(SnFrame::WillTopicRequest)
         }
-        MessageType::WillTopic => Ok(SnFrame::WillTopic(parts::will_topic(alloc, part)?)),
+        MessageType::WillTopic => Ok(SnFrame::WillTopic(will::decode_topic(alloc, part)?)),
         MessageType::WillMessageRequest => {
-            parts::nothing(part)?;
+            part::nothing(part)?;
             Ok(SnFrame::WillMessageRequest)
         }
-        MessageType::WillMessage => Ok(SnFrame::WillMessage(parts::octets(alloc, part)?)),
-        MessageType::Register => Ok(SnFrame::Register(parts::register(alloc, part)?)),
-        MessageType::RegisterAck => Ok(SnFrame::RegisterAck(parts::topic_ack(part)?)),
-        MessageType::Publish => Ok(SnFrame::Publish(parts::publish(alloc, part)?)),
-        MessageType::PublishAck => Ok(SnFrame::PublishAck(parts::topic_ack(part)?)),
-        MessageType::PublishComplete => Ok(SnFrame::PublishComplete(parts::msg_id(part)?)),
-        MessageType::PublishReceived => Ok(SnFrame::PublishReceived(parts::msg_id(part)?)),
-        MessageType::PublishRelease => Ok(SnFrame::PublishRelease(parts::msg_id(part)?)),
-        MessageType::Subscribe => Ok(SnFrame::Subscribe(parts::topic_request(alloc, part)?)),
-        MessageType::SubscribeAck => Ok(SnFrame::SubscribeAck(parts::subscribe_ack(part)?)),
-        MessageType::Unsubscribe => Ok(SnFrame::Unsubscribe(parts::topic_request(alloc, part)?)),
-        MessageType::UnsubscribeAck => Ok(SnFrame::UnsubscribeAck(parts::msg_id(part)?)),
-        MessageType::PingRequest => Ok(SnFrame::PingRequest(parts::ping(alloc, part)?)),
+        MessageType::WillMessage => Ok(SnFrame::WillMessage(part::octets(alloc, part)?)),
+        MessageType::Register => Ok(SnFrame::Register(register::decode(alloc, part)?)),
+        MessageType::RegisterAck => Ok(SnFrame::RegisterAck(acks::decode_topic_ack(part)?)),
+        MessageType::Publish => Ok(SnFrame::Publish(publish::decode(alloc, part)?)),
+        MessageType::PublishAck => Ok(SnFrame::PublishAck(acks::decode_topic_ack(part)?)),
+        MessageType::PublishComplete => Ok(SnFrame::PublishComplete(part::msg_id(part)?)),
+        MessageType::PublishReceived => Ok(SnFrame::PublishReceived(part::msg_id(part)?)),
+        MessageType::PublishRelease => Ok(SnFrame::PublishRelease(part::msg_id(part)?)),
+        MessageType::Subscribe => Ok(SnFrame::Subscribe(subscribe::decode(alloc, part)?)),
+        MessageType::SubscribeAck => Ok(SnFrame::SubscribeAck(acks::decode_subscribe_ack(part)?)),
+        MessageType::Unsubscribe => Ok(SnFrame::Unsubscribe(subscribe::decode(alloc, part)?)),
+        MessageType::UnsubscribeAck => Ok(SnFrame::UnsubscribeAck(part::msg_id(part)?)),
+        MessageType::PingRequest => Ok(SnFrame::PingRequest(ping::decode(alloc, part)?)),
         MessageType::PingResponse => {
-            parts::nothing(part)?;
+            part::nothing(part)?;
             Ok(SnFrame::PingResponse)
         }
-        MessageType::Disconnect => Ok(SnFrame::Disconnect(parts::duration(part)?)),
-        MessageType::WillTopicUpdate => Ok(SnFrame::WillTopicUpdate(parts::will_topic(
+        MessageType::Disconnect => Ok(SnFrame::Disconnect(disconnect::decode(part)?)),
+        MessageType::WillTopicUpdate => {
+            Ok(SnFrame::WillTopicUpdate(will::decode_topic(alloc, part)?))
+        }
+        MessageType::WillTopicResponse => Ok(SnFrame::WillTopicResponse(part::code(part)?)),
+        MessageType::WillMessageUpdate => Ok(SnFrame::WillMessageUpdate(part::octets(
             alloc, part,
         )?)),
-        MessageType::WillTopicResponse => Ok(SnFrame::WillTopicResponse(parts::code(part)?)),
-        MessageType::WillMessageUpdate => Ok(SnFrame::WillMessageUpdate(parts::octets(
-            alloc, part,
-        )?)),
-        MessageType::WillMessageResponse => Ok(SnFrame::WillMessageResponse(parts::code(part)?)),
+        MessageType::WillMessageResponse => Ok(SnFrame::WillMessageResponse(part::code(part)?)),
     }
 }

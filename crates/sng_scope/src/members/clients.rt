@@ -1,5 +1,5 @@
 //! The member `clients`: an object of scopes by client id (MQTT-SN 1.2, 5.3.1).
-ghost use Rattle.std.specs.Prelude.{◌≡◌, ◌⊎◌, [], IfOk, IfErr, Ok, Err, codes};
+ghost use Rattle.std.specs.Prelude.{◌≡◌, ◌⊎◌, [], IfOk, IfErr, Ok, Err, codes, length, ◌≤◌};
 ghost use Rattle.serde_json.specs.Find.{get};
 ghost use Rattle.serde_json.specs.View.{view, members_view};
 ghost use Rattle.sng_scope.specs.Policies.{client_of, clients_of, clients_onto};
@@ -25,6 +25,7 @@ pub fn clients_in(alloc: Global, policy: &Value) -> Result<Clients, PolicyFault>
 }
 
 fn clients_of(alloc: Global, members: &Map<String, Value>) -> Result<Clients, PolicyFault>
+    requires { length members.now.entries ≤ MAX_CLIENTS }
     ensures ok { IfOk result (λ c. clients_onto [] (members_view members.now.entries) ≡ Ok c) }
     ensures err { IfErr result (λ e. (e ≡ PolicyFault.Memory)
         ⊎ (clients_onto [] (members_view members.now.entries) ≡ Err e)) }

@@ -1,5 +1,5 @@
 //! The member `sources`: an object of scopes by IPv4 address.
-ghost use Rattle.std.specs.Prelude.{◌≡◌, ◌⊎◌, [], IfOk, IfErr, Ok, Err, codes};
+ghost use Rattle.std.specs.Prelude.{◌≡◌, ◌⊎◌, [], IfOk, IfErr, Ok, Err, codes, length, ◌≤◌};
 ghost use Rattle.serde_json.specs.Find.{get};
 ghost use Rattle.serde_json.specs.View.{view, members_view};
 ghost use Rattle.sng_scope.specs.Policies.{sources_of, sources_onto};
@@ -25,6 +25,7 @@ pub fn sources_in(alloc: Global, policy: &Value) -> Result<Sources, PolicyFault>
 }
 
 fn sources_of(alloc: Global, members: &Map<String, Value>) -> Result<Sources, PolicyFault>
+    requires { length members.now.entries ≤ MAX_SOURCES }
     ensures ok { IfOk result (λ s. sources_onto [] (members_view members.now.entries) ≡ Ok s) }
     ensures err { IfErr result (λ e. (e ≡ PolicyFault.Memory)
         ⊎ (sources_onto [] (members_view members.now.entries) ≡ Err e)) }

@@ -1,5 +1,5 @@
 //! The member `topics`: an object of topic names by predefined topic id (MQTT-SN 1.2, 6.7).
-ghost use Rattle.std.specs.Prelude.{◌≡◌, ◌⊎◌, [], IfOk, IfErr, Ok, Err, codes};
+ghost use Rattle.std.specs.Prelude.{◌≡◌, ◌⊎◌, [], IfOk, IfErr, Ok, Err, codes, length, ◌≤◌};
 ghost use Rattle.serde_json.specs.Find.{get};
 ghost use Rattle.serde_json.specs.View.{view, members_view};
 ghost use Rattle.sng_scope.specs.Policies.{name_of_data, topics_of, topics_onto};
@@ -8,7 +8,7 @@ use super::members_within;
 use crate::topic_id::topic_id_from;
 use crate::{PolicyFault, Topics};
 use serde_json::{Map, Value};
-use sng_grants::MAX_TOPICS;
+use sng_grants::{MAX_TOPICS, Names};
 use sng_text::{TextFault, TopicName};
 use std::alloc::Global;
 
@@ -25,19 +25,20 @@ pub fn topics_in(alloc: Global, policy: &Value) -> Result<Topics, PolicyFault>
 }
 
 fn topics_of(alloc: Global, members: &Map<String, Value>) -> Result<Topics, PolicyFault>
+    requires { length members.now.entries ≤ MAX_TOPICS }
     ensures ok { IfOk result (λ t. topics_onto [] (members_view members.now.entries) ≡ Ok t) }
     ensures err { IfErr result (λ e. (e ≡ PolicyFault.Memory)
         ⊎ (topics_onto [] (members_view members.now.entries) ≡ Err e)) }
 {
-    let mut topics = Topics::new(alloc);
+    let mut names = Names::new(alloc);
     for (name, value) in members {
         let Some(id) = topic_id_from(name.as_str()) else {
             return Err(PolicyFault::BadTopicId);
         };
         let topic = name_from(alloc, value)?;
-        topics.insert(id, topic).map_err(|_| PolicyFault::Memory)?;
+        names.insert(id, topic).map_err(|_| PolicyFault::Memory)?;
     }
-    Ok(topics)
+    Topics::of(alloc, names).map_err(|_| PolicyFault::Memory)
 }
 
 fn name_from(alloc: Global, value: &Value) -> Result<TopicName, PolicyFault>

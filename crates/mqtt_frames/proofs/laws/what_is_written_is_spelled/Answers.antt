@@ -1,5 +1,5 @@
-use Rattle.mqtt_frames.proofs.Spelling.{Spells-short}
+use Rattle.mqtt_frames.proofs.Spelling.{Spells-written}
 use Rattle.mqtt_frames.proofs.laws.what_is_written_is_spelled.Goals as goal
 
 pub returns : goal.returns
-returns c = λ p fits is short. Spells-short p fits is short
+returns c = λ p fits is short. Spells-written p fits is short

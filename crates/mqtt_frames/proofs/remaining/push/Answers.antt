@@ -7,7 +7,8 @@ pub loop-rest-preserved : goal.loop-rest-preserved
 loop-rest-preserved c =
     let rest = c.loop-rest.rest in
     let pushed : c.push.new.self.items ≡ c.loop-rest.bytes.items ++ (rest % 128 + 128) ∷ [] = rw c.in_ok-push.was at c.push.ensures.items in
-    ap (λ bytes. bytes ++ remaining_length (rest / 128)) pushed ∙ append-remaining_length-next c.loop-rest.bytes.items rest c.loop-rest-test.true ∙ c.loop-rest.invariant
+    ap (λ bytes. bytes ++ remaining_length (rest / 128)) pushed
+    ∙ append-remaining_length-next c.loop-rest.bytes.items rest c.loop-rest-test.true ∙ c.loop-rest.invariant
 
 pub returns : goal.returns
 returns c =

@@ -1,5 +1,6 @@
 use Rattle.std.proofs.Common.{arith}
-use Rattle.mqtt_frames.proofs.Groups.{length-remaining_length, length-remaining_length-next, length-remaining_length-last}
+use Rattle.mqtt_frames.proofs.Groups.{length-remaining_length, length-remaining_length-next}
+use Rattle.mqtt_frames.proofs.Groups.{length-remaining_length-last}
 use Rattle.mqtt_frames.proofs.remaining.size.Goals as goal
 
 pub overflow_add-bytes : goal.overflow_add-bytes

@@ -1,5 +1,6 @@
 use Rattle.std.proofs.Common.{ℕ, ◌≡◌, ◌+◌, ◌<◌, ◌≤◌, ◌==◌, ◌&&◌, not, Bool, true, false, List, ◌∷◌, suc, max, sym, ◌∙◌, arith, inl, inr, subst, Some}
 use Rattle.std.proofs.Math.Nat.{eq-or-lt_of_le}
+use Rattle.sng_text.specs.declared.limits.TheConstants.{MAX_FILTER}
 use Rattle.sng_text.specs.Levels.{levels_of}
 use Rattle.sng_text.specs.Texts.{is_name}
 use Rattle.sng_text.specs.Matching.{has_rest}
@@ -32,7 +33,7 @@ test_of asked granted own reached depth by some fixed rest fit =
 pub last_depth-last-requires-clause-granted_few : goal.last_depth-last-requires-clause-granted_few
 last_depth-last-requires-clause-granted_few c =
     let by = c.requires.1 in
-    let few : longest_fixed c.requires.0 ≤ 201 = longest_few c.requires.0 (filters_from_all c.requires.0 by.are) in
+    let few : longest_fixed c.requires.0 ≤ (MAX_FILTER + 1) = longest_few c.requires.0 (filters_from_all c.requires.0 by.are) in
     let longest : c.args.reached.now.longest ≡ longest_fixed c.requires.0 = by.longest in omega arith
 
 pub loop-depth-preserved : goal.loop-depth-preserved

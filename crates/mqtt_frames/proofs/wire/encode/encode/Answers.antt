@@ -1,4 +1,5 @@
-use Rattle.std.proofs.Common.{◌≡◌, ◌≤◌, ℕ, ◌+◌, true, false, length, refl, ap, sym, Result, Ok, Err, IsErrAnd, arith}
+use Rattle.std.proofs.Common.{◌≡◌, ◌≤◌, ℕ, ◌+◌, true, false, length, refl, ap, sym, subst, Result, Ok, Err}
+use Rattle.std.proofs.Common.{IsErrAnd, arith}
 use Rattle.mqtt_frames.specs.declared.limits.TheConstants.{MAX_PACKET}
 use Rattle.mqtt_frames.specs.declared.fault.StreamFault.{StreamFault}
 use Rattle.mqtt_frames.specs.declared.fault.StreamFault.TheVariants.{Malformed, Memory}
@@ -6,7 +7,7 @@ use Rattle.mqtt_frames.specs.declared.packet.Packet.{Packet}
 use Rattle.mqtt_frames.specs.Packets.{body, written}
 use Rattle.mqtt_frames.specs.RemainingLength.{remaining_length}
 use Rattle.mqtt_frames.specs.Spellable.{has_spelling}
-use Rattle.mqtt_frames.specs.Grammar.{IsInRange, HasNoSpelling}
+use Rattle.mqtt_frames.specs.Grammar.{IsInRange, Spells, HasNoSpelling}
 use Rattle.mqtt_frames.proofs.Spelling.{length-written, Spells-short, has_spelling-spelled}
 use Rattle.mqtt_frames.proofs.wire.encode.encode.Goals as goal
 
@@ -19,7 +20,8 @@ not_spelled : (p : Packet) → IsInRange p → has_spelling p ≡ true → HasNo
 not_spelled p fits is lacks = lacks.none (written p) (Spells-short p fits is lacks.short)
 
 -- what was measured is the size of what is written
-short : (p : Packet) (rest size : ℕ) → rest ≡ length (body p) → size ≡ length (remaining_length rest) → 1 + size + rest ≤ MAX_PACKET → length (written p) ≤ MAX_PACKET
+short : (p : Packet) (rest size : ℕ) → rest ≡ length (body p) → size ≡ length (remaining_length rest)
+    → 1 + size + rest ≤ MAX_PACKET → length (written p) ≤ MAX_PACKET
 short p rest size is count fits = omega (arith, length-written p, ap (λ n. length (remaining_length n)) is)
 
 not_malformed : {A : Type 0} (r : Result A StreamFault) → IsErrAnd r (λ e. e ≡ Memory) → r ≡ Err Malformed → ⊥
@@ -40,3 +42,9 @@ returns-in_err-write-clause-malformed c = (
 pub returns-clause-malformed : goal.returns-clause-malformed
 returns-clause-malformed c =
     (λ is. cc, λ lacks. absurd (not_spelled c.args.packet.now c.has_spelling.ensures.in_range (sym c.if-not-has_spelling.ensures.value) lacks))
+
+pub returns-clause-spelled : goal.returns-clause-spelled
+returns-clause-spelled c =
+    let p = c.args.packet.now in
+    let fits = short p c.in-Some.rest c.size.result (c.in-Some.ensures.1) c.size.ensures.value c.if-all-gt-MAX_PACKET.false in
+    subst (Spells p) (sym c.in_ok-write.ensures) (Spells-short p c.has_spelling.ensures.in_range (sym c.if-not-has_spelling.ensures.value) fits)

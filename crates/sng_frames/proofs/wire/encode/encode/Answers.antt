@@ -1,21 +1,24 @@
-use Rattle.std.proofs.Common.{◌≡◌, ℕ, List, Err, Ok, Result, Vec, inl, inr}
-use Rattle.std.specs.Global.{Global}
-use Rattle.sng_frames.specs.declared.fault.FrameFault.{FrameFault}
-use Rattle.sng_frames.specs.declared.fault.FrameFault.TheVariants.{Malformed}
-use Rattle.sng_frames.specs.Writing.{Writes}
+use Rattle.std.proofs.Common.{◌≡◌, true, sym, ◌∙◌, arith}
+use Rattle.sng_frames.specs.Parts.{topic_fits}
 use Rattle.sng_frames.proofs.Spelling.{some-spelled}
+use Rattle.sng_frames.proofs.Topics.{TopicFits-fits}
 use Rattle.sng_frames.proofs.wire.encode.encode.Goals as goal
 
--- a writer does not find a frame malformed
-not_malformed : (r : Result (Vec ℕ Global) FrameFault) (octets : List ℕ) → Writes r octets
-    → r ≡ Err Malformed → ⊥
-not_malformed (Ok v) octets writes is = cc
-not_malformed (Err fault) octets (inl long) is = (let other = long.0 in cc)
-not_malformed (Err fault) octets (inr refused) is = (let other = refused.0 in cc)
+pub returns-in_err-write-clause-malformed : goal.returns-in_err-write-clause-malformed
+returns-in_err-write-clause-malformed c =
+    let fits : topic_fits c.args.frame.now ≡ true = sym c.topic_fits.ensures ∙ c.if-not-topic_fits.false in
+    let failed = c.from_residual.ensures in (
+      λ is. absurd (grind (arith, is, failed)),
+      λ lacks. absurd
+          (some-spelled c.args.frame.now c.write.ensures.in_range
+          (TopicFits-fits c.args.frame.now fits) lacks),
+    )
 
 pub returns-clause-malformed : goal.returns-clause-malformed
-returns-clause-malformed c = (
-  λ is. absurd (not_malformed _ _ c.encode_frame.ensures.answer is),
-  λ lacks. absurd
-      (some-spelled c.args.frame.now c.encode_frame.ensures.in_range (c.in_ok-check_topic.ensures).ok lacks),
-)
+returns-clause-malformed c =
+    let fits : topic_fits c.args.frame.now ≡ true = sym c.topic_fits.ensures ∙ c.if-not-topic_fits.false in (
+      λ is. absurd (let other = is in cc),
+      λ lacks. absurd
+          (some-spelled c.args.frame.now c.write.ensures.in_range
+          (TopicFits-fits c.args.frame.now fits) lacks),
+    )

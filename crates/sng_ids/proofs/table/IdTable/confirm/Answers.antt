@@ -8,15 +8,23 @@ use Rattle.sng_ids.proofs.table.IdTable.confirm.Goals.{in-Some, in_default}
 pub invariant_of-self : goal.invariant_of-self
 invariant_of-self c =
     elim c.match-get_index_mut.branch [
-      | in-Some w ↦ rw w.self-inside-is (omega (arith, length-set_value_at c.self.inside.names.entries (c.from-place.result - 1) true, c.self.invariant))
+      | in-Some w ↦
+          let entries = c.self.inside.names.entries in
+          let place = c.from-place.result - 1 in
+          rw w.self-inside-is (omega (arith, length-set_value_at entries place true, c.self.invariant))
       | in_default w ↦ rw w.self-inside-is c.self.invariant
     ]
 
-pub returns : goal.returns
-returns c =
+pub returns-clause-ids : goal.returns-clause-ids
+returns-clause-ids c =
+    let given = c.if-id-eq0.false in
     elim c.match-get_index_mut.branch [
-      | in-Some w ↦ rw (w.self-inside-is, ← c.self.view_is, confirmed-place _ _ c.if-id-eq0.false, ← c.from-place.ensures) (set_value_at-confirmed _ _)
+      | in-Some w ↦
+          rw (w.self-inside-is, ← c.self.view_is, confirmed-place _ _ given, ← c.from-place.ensures)
+          (set_value_at-confirmed _ _)
       | in_default w ↦
-          rw (w.self-inside-is, ← c.self.view_is, confirmed-place _ _ c.if-id-eq0.false, ← c.from-place.ensures) (
-          sym (confirmed_at-past _ _ (λ within. true≢false (sym (c.get_index_mut.ensures.found.1 within) ∙ ap is_some w.in_default.is))))
+          rw (w.self-inside-is, ← c.self.view_is, confirmed-place _ _ given, ← c.from-place.ensures)
+          (sym (confirmed_at-past _ _
+          (λ within. true≢false
+          (sym (c.get_index_mut.ensures.found.1 within) ∙ ap is_some w.in_default.is))))
     ]

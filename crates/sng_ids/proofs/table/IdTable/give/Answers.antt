@@ -15,10 +15,14 @@ pub returns-clause-ok : goal.returns-clause-ok
 returns-clause-ok c =
     elim c.match-insert.branch [
       | in-Ok w ↦
-          let absent : place_of c.args.name c.self.inside.names.entries ≡ None = sym c.get_index_of.ensures.index ∙ c.in_default.is in
+          let names = c.self.inside.names in
+          let absent : place_of c.args.name names.entries ≡ None =
+          sym c.get_index_of.ensures.index ∙ c.in_default.is in
           rw (w.result-is, ← c.self.view_is) (
             ap (λ n. n + 1) c.len-place.ensures.len ∙ sym (id_for-new _ _ absent),
-            w.in-Ok.ensures.entries ∙ insert_entry-new bytes_eq c.self.inside.names c.args.name false (none_of c) ∙ sym (with_name-new _ _ absent),
+            w.in-Ok.ensures.entries
+                ∙ insert_entry-new bytes_eq names c.args.name false (none_of c)
+                ∙ sym (with_name-new _ _ absent),
           )
       | in-Err w ↦ rw w.result-is tt
     ]

@@ -1,0 +1,83 @@
+//! Reads lines of at most `MAX_LINE` bytes.
+ghost use Rattle.std.specs.Prelude.{◌≡◌, ◌++◌, ◌≤◌, vec_len, OnOk, OnErr};
+ghost use Rattle.sng_gateway.specs.declared.limits.TheConstants.{MAX_LINE};
+
+use crate::limits::MAX_LINE;
+use crate::player::Stop;
+use std::io::{BufRead, Error, ErrorKind};
+
+/// What a piece of the input leaves of its line.
+enum Piece {
+    /// The line goes on.
+    Front,
+    /// The line ended with its line feed.
+    Whole,
+    /// The input ended.
+    End,
+}
+
+/// Puts the next line in `text`, without its line feed. Whether there was a line: the last one may lack its
+/// line feed. A longer line than `MAX_LINE` is unreadable, and nothing past the limit is kept.
+pub fn read_line<R: BufRead>(reader: &mut R, text: &mut Vec<u8>) -> Result<bool, Stop>
+    ensures { vec_len text.new ≤ MAX_LINE }
+{
+    text.clear();
+    for _ in 0..u64::MAX {
+        match read_piece(reader, text)? {
+            Piece::Front => {}
+            Piece::Whole => return Ok(true),
+            Piece::End => return Ok(!text.is_empty()),
+        }
+    }
+    Err(Stop::Failed)
+}
+
+/// Appends what the reader has of the line.
+fn read_piece<R: BufRead>(reader: &mut R, text: &mut Vec<u8>) -> Result<Piece, Stop>
+    requires { vec_len text.old ≤ MAX_LINE }
+    ensures { vec_len text.new ≤ MAX_LINE }
+{
+    let bytes = match reader.fill_buf() {
+        Ok(bytes) => bytes,
+        Err(error) => return stop_of(&error),
+    };
+    let count = bytes.len();
+    if count == 0 {
+        return Ok(Piece::End);
+    }
+    match bytes.iter().position(|byte| *byte == b'\n') {
+        Some(at) => {
+            keep(text, &bytes[..at])?;
+            reader.consume(at + 1);
+            Ok(Piece::Whole)
+        }
+        None => {
+            keep(text, bytes)?;
+            reader.consume(count);
+            Ok(Piece::Front)
+        }
+    }
+}
+
+/// Why a read that failed ends the script, unless it is to be tried again.
+fn stop_of(error: &Error) -> Result<Piece, Stop> {
+    match error.kind() {
+        ErrorKind::Interrupted => Ok(Piece::Front),
+        ErrorKind::OutOfMemory => Err(Stop::OutOfMemory),
+        _ => Err(Stop::Failed),
+    }
+}
+
+/// Appends a piece of a line that stays within its limit.
+fn keep(text: &mut Vec<u8>, piece: &[u8]) -> Result<(), Stop>
+    requires { vec_len text.old ≤ MAX_LINE }
+    ensures ok { OnOk result (text.new.items ≡ text.old.items ++ piece.now) }
+    ensures err { OnErr result (text.new.items ≡ text.old.items) }
+    ensures within { vec_len text.new ≤ MAX_LINE }
+{
+    if piece.len() > MAX_LINE - text.len() {
+        return Err(Stop::Unreadable);
+    }
+    text.extend_from_slice(piece)?;
+    Ok(())
+}

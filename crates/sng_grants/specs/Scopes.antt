@@ -1,0 +1,9 @@
+-- What holds of each scope.
+use Rattle.std.specs.Prelude.{◌≡◌, ◌≤◌, true, List, length, All}
+use Rattle.sng_text.specs.Texts.{is_filter}
+use Rattle.sng_grants.specs.declared.limits.TheConstants.{MAX_PAIRS}
+use Rattle.sng_grants.specs.declared.scope.Pair.{Pair}
+
+-- at most so many pairs as a scope may have, each of a topic filter
+abbrev pub IsScope : List Pair → Type 0
+IsScope pairs = (length pairs ≤ MAX_PAIRS) × All (λ pair. is_filter pair.filter ≡ true) pairs
