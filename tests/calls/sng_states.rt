@@ -1,5 +1,5 @@
 //! The table row by row, and silence at its limits, by hand.
-use sng_states::{ClientState, Cue, next, overdue};
+use sng_states::{ClientState, Cue, SILENCE_MS_PER_SECOND, next, overdue};
 
 const STATES: [ClientState; 6] = [
     ClientState::Dialogue,
@@ -37,19 +37,21 @@ fn each_row_of_the_table(rt: HostRuntime) {
 
 #[test]
 fn silence_at_its_limits(rt: HostRuntime) {
+    let second = SILENCE_MS_PER_SECOND;
+    let longest = 65_535 * second;
     for (duration, heard, clock, want) in [
-        (60, 0, 89_999, false),
-        (60, 0, 90_000, true),
-        (60, 1, 90_000, false),
-        (60, 1, 90_001, true),
-        (1, 10_000, 11_499, false),
-        (1, 10_000, 11_500, true),
+        (60, 0, 60 * second - 1, false),
+        (60, 0, 60 * second, true),
+        (60, 1, 60 * second, false),
+        (60, 1, 60 * second + 1, true),
+        (1, 10_000, 9_999 + second, false),
+        (1, 10_000, 10_000 + second, true),
         (1, 10_000, 9_999, false),
         (0, 0, u64::MAX, false),
-        (65_535, 0, 98_302_499, false),
-        (65_535, 0, 98_302_500, true),
+        (65_535, 0, longest - 1, false),
+        (65_535, 0, longest, true),
         (65_535, u64::MAX, 0, false),
-        (65_535, u64::MAX - 98_302_500, u64::MAX, true),
+        (65_535, u64::MAX - longest, u64::MAX, true),
     ] {
         assert_eq!(rt;
             overdue(duration, heard, clock),
