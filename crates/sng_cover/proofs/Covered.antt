@@ -1,13 +1,11 @@
 -- Filters that reach each depth that the asked one reaches cover it, whatever else is granted.
 use Rattle.std.proofs.Common.{◌≡◌, ◌<◌, ◌≤◌, ◌+◌, ◌==◌, ℕ, suc, Bool, true, false, ◌&&◌, ◌||◌, not, List, [], ◌∷◌, ◌++◌}
-use Rattle.std.proofs.Common.{Option, Some, None, nat_lt, if◌then◌else◌, cond, refl, sym, ap, subst, arith, ◌∙◌}
+use Rattle.std.proofs.Common.{Option, Some, None, nat_lt, if◌then◌else◌, refl, sym, ap, arith, ◌∙◌}
 use Rattle.std.proofs.lemmas.Bool.{and_parts, or_right, eqb-true, ltb-false, le-ltb, not-true}
 use Rattle.std.proofs.lemmas.List.Elements.{All-append}
 use Rattle.std.specs.List.{All}
-use Rattle.sng_text.specs.Levels.{levels_of}
-use Rattle.sng_text.specs.Matching.{has_rest}
 use Rattle.sng_text.specs.Texts.{is_filter}
-use Rattle.sng_cover.specs.Covering.{is_open, gap_depth, answer_at, cover_of, fixed_part, longest_fixed}
+use Rattle.sng_cover.specs.Covering.{is_open, answer_at, cover_of, longest_fixed}
 use Rattle.sng_cover.specs.Gathered.{ReachedBy, IsReach}
 use Rattle.sng_cover.specs.Marks.{is_marked}
 use Rattle.sng_cover.specs.Reached.{is_from, is_reached, begins_empty}
