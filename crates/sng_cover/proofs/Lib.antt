@@ -11,3 +11,4 @@ pub mod Named
 pub mod Opened
 pub mod Right
 pub mod Answered
+pub mod Covered

@@ -15,7 +15,8 @@ use Rattle.sng_cover.proofs.Short.{AreShort, short_levels, longer}
 use Rattle.sng_cover.proofs.Filters.{filter_facts}
 use Rattle.sng_cover.proofs.Fresh.{length_run, run_lacks, run_utf8}
 
--- what holds of the asked filter's own levels, where they stand, and of the fresh one, holds of all levels of a candidate
+-- what holds of the asked filter's own levels, where they stand, and of the fresh one, holds of all levels of
+-- a candidate
 candidate_place : (P : List ℕ → Type 0) (level fresh : List ℕ) (b : Bool) → is_wild level ≡ b → (is_wild level ≡ false → P level) → P fresh → P (if b then fresh else level)
 candidate_place P level fresh true wild own new = new
 candidate_place P level fresh false wild own new = own wild

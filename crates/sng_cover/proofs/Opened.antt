@@ -1,4 +1,5 @@
--- The candidate of a depth is open exactly where the asked filter reaches the depth, no granted one does, and it has a text.
+-- The candidate of a depth is open exactly where the asked filter reaches the depth, no granted one does, and
+-- it has a text.
 use Rattle.std.proofs.Common.{◌≡◌, ◌≤◌, ◌==◌, ℕ, zero, suc, Bool, true, false, not, ◌||◌, ◌&&◌, List, [], ◌∷◌, length, refl, ap, ◌∙◌, sym, arith, if◌then◌else◌, rules, tests}
 use Rattle.std.specs.Str.{bytes_eq}
 use Rattle.std.proofs.lemmas.Bool.{or_parts, and_right}

@@ -1,4 +1,5 @@
--- Names that begin with `$`: a candidate does where the asked filter does, and so does a name that it matches.
+-- Names that begin with `$`: a candidate does where the asked filter does, and so does a name that it
+-- matches.
 use Rattle.std.proofs.Common.{◌≡◌, ℕ, suc, Bool, true, false, ◌&&◌, not, List, [], ◌∷◌, refl, sym, ap, if◌then◌else◌, ◌∙◌, inl, inr, subst}
 use Rattle.std.specs.Str.{bytes_eq}
 use Rattle.std.proofs.lemmas.Slice.Eq.{bytes_eq-Decides}

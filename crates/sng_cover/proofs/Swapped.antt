@@ -1,5 +1,5 @@
--- A granted filter that fits the candidates matches each name of a depth that it reaches which the asked filter matches: where
--- the granted one names a level, so does the asked one, and it is the same.
+-- A granted filter that fits the candidates matches each name of a depth that it reaches which the asked
+-- filter matches: where the granted one names a level, so does the asked one, and it is the same.
 use Rattle.std.proofs.Common.{◌≡◌, ℕ, zero, suc, Bool, true, false, ◌&&◌, ◌||◌, List, [], ◌∷◌, length, refl, sym, arith, ◌∙◌, eqb-true, inl, inr}
 use Rattle.std.specs.Str.{bytes_eq}
 use Rattle.std.proofs.lemmas.Slice.Eq.{bytes_eq-Decides}

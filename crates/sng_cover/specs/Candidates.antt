@@ -1,5 +1,6 @@
 -- For each depth one name, the candidate: it shows a gap where any name of that depth does (MQTT 3.1.1, 4.7).
-use Rattle.std.specs.Prelude.{◌+◌, ℕ, zero, suc, Bool, false, ◌||◌, not, List, [], ◌∷◌, ◌++◌, if◌then◌else◌, Some, None}
+use Rattle.std.specs.Prelude.{◌+◌, ℕ, zero, suc, Bool, false, ◌||◌, not, List, [], ◌∷◌, ◌++◌, if◌then◌else◌}
+use Rattle.std.specs.Prelude.{Some, None}
 use Rattle.std.specs.declared.option.Option.{Option}
 use Rattle.std.specs.Str.{bytes_eq}
 use Rattle.sng_text.specs.declared.limits.TheConstants.{MAX_FILTER}
@@ -45,11 +46,13 @@ fresh_level granted = run_of (least (λ count. not (is_taken granted (run count)
 abbrev pub is_wild : List ℕ → Bool
 is_wild level = is_plus level || is_hash level
 
--- the levels of the candidate of a depth: the asked filter's own at each place where it names one, the fresh one elsewhere
+-- the levels of the candidate of a depth: the asked filter's own at each place where it names one, the fresh
+-- one elsewhere
 abbrev pub candidate_levels : ℕ → List (List ℕ) → List ℕ → List (List ℕ)
 candidate_levels zero asked fresh = []
 candidate_levels (suc depth) [] fresh = fresh ∷ candidate_levels depth [] fresh
-candidate_levels (suc depth) (level ∷ asked) fresh = (if is_wild level then fresh else level) ∷ candidate_levels depth asked fresh
+candidate_levels (suc depth) (level ∷ asked) fresh =
+    (if is_wild level then fresh else level) ∷ candidate_levels depth asked fresh
 
 -- the candidate of a depth, for the asked filter and the granted ones
 abbrev pub candidate : List ℕ → List (List ℕ) → ℕ → List ℕ

@@ -24,7 +24,8 @@ abbrev pub longest_fixed : List (List ℕ) → ℕ
 longest_fixed [] = 0
 longest_fixed (filter ∷ filters) = max (fixed_part filter) (longest_fixed filters)
 
--- the least depth with an open candidate; past one level more than the longest fixed part nothing new can come
+-- the least depth with an open candidate; past one level more than the longest fixed part nothing new can
+-- come
 abbrev pub gap_depth : List ℕ → List (List ℕ) → Option ℕ
 gap_depth asked granted = least (is_open asked granted) (suc (longest_fixed (asked ∷ granted))) 1
 

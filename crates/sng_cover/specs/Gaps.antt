@@ -15,16 +15,19 @@ depth_of name = length (levels_of name)
 -- so many `x` are the shortest run that is no level of a granted filter
 abbrev pub IsShortest : List (List ℕ) → ℕ → Type 0
 IsShortest granted count =
-    (1 ≤ count) × (is_taken granted (run count) ≡ false) × ((less : ℕ) → 1 ≤ less → less < count → is_taken granted (run less) ≡ true)
+    (1 ≤ count) × (is_taken granted (run count) ≡ false)
+    × ((less : ℕ) → 1 ≤ less → less < count → is_taken granted (run less) ≡ true)
 
--- the gap: a name that shows one, of the least depth, with the asked filter's literal at each literal place and the shortest
--- run of `x` that is no level of a granted filter at every other place
+-- the gap: a name that shows one, of the least depth, with the asked filter's literal at each literal place
+-- and the shortest run of `x` that is no level of a granted filter at every other place
 abbrev pub IsGap : List ℕ → List (List ℕ) → List ℕ → Type 0
 IsGap asked granted name =
     (is_name name ≡ true)
     × (shows_gap asked granted name ≡ true)
-    × ((other : List ℕ) → is_name other ≡ true → shows_gap asked granted other ≡ true → depth_of name ≤ depth_of other)
-    × ((count : ℕ) × (IsShortest granted count × (levels_of name ≡ candidate_levels (depth_of name) (levels_of asked) (run count))))
+    × ((other : List ℕ) → is_name other ≡ true → shows_gap asked granted other ≡ true
+    → depth_of name ≤ depth_of other)
+    × ((count : ℕ) × (IsShortest granted count
+    × (levels_of name ≡ candidate_levels (depth_of name) (levels_of asked) (run count))))
 
 -- the filters that an answer speaks of
 abbrev pub AreFilters : List ℕ → List (List ℕ) → Type 0

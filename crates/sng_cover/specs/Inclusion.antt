@@ -14,4 +14,5 @@ shows_gap asked granted name = matches asked name && not (is_granted granted nam
 
 -- every topic name that the asked filter matches is matched by a granted filter
 abbrev pub Included : List ℕ → List (List ℕ) → Type 0
-Included asked granted = (name : List ℕ) → is_name name ≡ true → matches asked name ≡ true → is_granted granted name ≡ true
+Included asked granted = (name : List ℕ) → is_name name ≡ true → matches asked name ≡ true
+    → is_granted granted name ≡ true

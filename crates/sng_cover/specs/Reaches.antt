@@ -1,5 +1,6 @@
 -- Which candidates one granted filter matches, read off the two filters alone.
-use Rattle.std.specs.Prelude.{ℕ, Bool, true, false, ◌==◌, ◌&&◌, ◌||◌, not, nat_lt, List, [], ◌∷◌, if◌then◌else◌, Some, None}
+use Rattle.std.specs.Prelude.{ℕ, Bool, true, false, ◌==◌, ◌&&◌, ◌||◌, not, nat_lt, List, [], ◌∷◌}
+use Rattle.std.specs.Prelude.{if◌then◌else◌, Some, None}
 use Rattle.std.specs.declared.option.Option.{Option}
 use Rattle.std.specs.Borrow.{Bor}
 use Rattle.std.specs.Str.{bytes_eq}
@@ -32,7 +33,8 @@ fits_levels asked (level ∷ granted) =
 
 -- a granted filter with a wildcard first keeps off names that begin with `$`, as the asked filter's may
 abbrev pub keeps_off : List ℕ → List ℕ → Bool
-keeps_off asked granted = begins_wild (items_of (levels_of granted)) (has_rest (levels_of granted)) && is_reserved asked
+keeps_off asked granted = begins_wild (items_of (levels_of granted)) (has_rest (levels_of granted))
+    && is_reserved asked
 
 -- a filter of so many levels, and a rest or not, reaches the depth
 abbrev pub reaches_depth : ℕ → Bool → ℕ → Bool
@@ -43,7 +45,8 @@ fits asked granted = not (keeps_off asked granted) && fits_levels (levels_of ask
 
 -- the granted filter matches the asked filter's candidate of the depth
 abbrev pub reaches : List ℕ → List ℕ → ℕ → Bool
-reaches asked granted depth = fits asked granted && reaches_depth (fixed_part granted) (has_rest (levels_of granted)) depth
+reaches asked granted depth = fits asked granted
+    && reaches_depth (fixed_part granted) (has_rest (levels_of granted)) depth
 
 -- some granted filter does
 abbrev pub any_reaches : List ℕ → List (List ℕ) → ℕ → Bool

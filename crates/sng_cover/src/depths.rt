@@ -5,7 +5,7 @@ ghost use Rattle.sng_cover.specs.Candidates.{candidate};
 ghost use Rattle.sng_cover.specs.Covering.{gap_depth};
 ghost use Rattle.sng_cover.specs.Reaches.{kept_reaches};
 ghost use Rattle.sng_cover.specs.Gathered.{ReachedBy};
-ghost use Rattle.sng_cover.specs.Reached.{is_reached, begins_empty};
+ghost use Rattle.sng_cover.specs.Reached.{is_reached, is_from, begins_empty};
 
 use crate::marks::{MARKS, Marks};
 use crate::reach::Reach;
@@ -26,7 +26,8 @@ pub struct Reached {
 /// The least depth whose candidate is a name that shows a gap, where there is one.
 pub fn gap_depth(asked: &TopicFilter, reached: &Reached) -> Option<usize>
     requires { (granted : List (List ℕ)) × ReachedBy reached.now asked.now granted }
-    ensures value { (granted : List (List ℕ)) → ReachedBy reached.now asked.now granted → result ≡ gap_depth asked.now granted }
+    ensures value { (granted : List (List ℕ)) → ReachedBy reached.now asked.now granted
+        → result ≡ gap_depth asked.now granted }
     ensures named { (granted : List (List ℕ)) → ReachedBy reached.now asked.now granted
         → IfSome result (λ depth. is_name (candidate asked.now granted depth) ≡ true) }
 {
@@ -40,7 +41,8 @@ pub fn gap_depth(asked: &TopicFilter, reached: &Reached) -> Option<usize>
     None
 }
 
-/// One level more than the longest fixed part: past it only filters with `#` match, and they match at every depth.
+/// One level more than the longest fixed part: past it only filters with `#` match, and they match at every
+/// depth.
 fn last_depth(own: &Reach, reached: &Reached) -> usize
     requires own_few { own.now.fixed < MAX_FILTER + 2 }
     requires granted_few { reached.now.longest < MAX_FILTER + 2 }
@@ -53,7 +55,8 @@ fn last_depth(own: &Reach, reached: &Reached) -> usize
 /// Whether the asked filter reaches the depth, with a candidate that has a text, and no granted filter does.
 fn is_left(asked: &TopicFilter, own: &Reach, reached: &Reached, depth: usize) -> bool
     requires { depth < MARKS }
-    ensures { result ≡ ((kept_reaches own.now depth && not ((depth == 1) && begins_empty asked.now)) && not (is_reached reached.now depth)) }
+    ensures { result ≡ ((kept_reaches own.now depth && not ((depth == 1) && begins_empty asked.now))
+        && not (is_reached reached.now depth)) }
 {
     own.reaches(depth) && !(depth == 1 && begins_empty(asked)) && !reached.has(depth)
 }
@@ -84,7 +87,8 @@ impl Reached {
     /// Adds the depths of one granted filter.
     pub fn add(&mut self, reach: Reach)
         requires { reach.fixed < MAX_FILTER + 2 }
-        ensures depths { (depth : ℕ) → is_reached self.new depth ≡ (kept_reaches reach depth || is_reached self.old depth) }
+        ensures depths { (depth : ℕ)
+            → is_reached self.new depth ≡ (kept_reaches reach depth || is_reached self.old depth) }
         ensures longest { self.new.longest ≡ max reach.fixed self.old.longest }
     {
         self.longest = cmp::max(reach.fixed, self.longest);
@@ -100,14 +104,21 @@ impl Reached {
         }
     }
 
+    /// Whether a filter with `#` reaches the depth, and so each greater one.
+    pub fn is_from(&self, depth: usize) -> bool
+        ensures { result ≡ is_from self.now.rest_from depth }
+    {
+        match self.rest_from {
+            None => false,
+            Some(from) => depth >= from,
+        }
+    }
+
     /// Whether the depth is reached.
-    fn has(&self, depth: usize) -> bool
+    pub fn has(&self, depth: usize) -> bool
         requires { depth < MARKS }
         ensures { result ≡ is_reached self.now depth }
     {
-        match self.rest_from {
-            Some(from) if depth >= from => true,
-            _ => self.ends.has(depth),
-        }
+        self.is_from(depth) || self.ends.has(depth)
     }
 }

@@ -1,5 +1,5 @@
-//! Inclusion: whether every topic name that one filter matches is matched by some of others, and if not, which name shows it
-//! (MQTT 3.1.1, 4.7).
+//! Inclusion: whether every topic name that one filter matches is matched by some of others, and if not,
+//! which name shows it (MQTT 3.1.1, 4.7).
 #![tactic(auto)]
 
 pub mod answer;

@@ -4,7 +4,8 @@ ghost use Rattle.sng_cover.specs.Marks.{is_marked};
 
 use sng_text::MAX_FILTER;
 
-/// One more than the greatest number that a filter can ask for: its levels, of which it has at most one more than bytes, and one.
+/// One more than the greatest number that a filter can ask for: its levels, of which it has at most one more
+/// than bytes, and one.
 pub const MARKS: usize = MAX_FILTER + 3;
 
 /// The numbers below `MARKS` that were marked.

@@ -1,4 +1,5 @@
-//! A question of inclusion, to which granted filters are added one by one, wherever they stand (MQTT 3.1.1, 4.7).
+//! A question of inclusion, to which granted filters are added one by one, wherever they stand (MQTT 3.1.1,
+//! 4.7).
 use crate::answer::Cover;
 use crate::depths::Reached;
 use crate::marks::Marks;
@@ -7,17 +8,20 @@ use crate::{depths, gap, runs};
 use sng_text::TopicFilter;
 use std::alloc::{AllocError, Global};
 
-/// Whether every name that the asked filter matches is matched by one of the filters that were added. Of these only the depths that they
-/// reach and the runs of `x` among their levels are kept, in tables of fixed size. `specs/Gathered` says what a question is of.
+/// Whether every name that the asked filter matches is matched by one of the filters that were added. Of
+/// these only the depths that they reach and the runs of `x` among their levels are kept, in tables of fixed
+/// size. `specs/Gathered` says what a question is of.
 #[derive(Drop)]
 pub struct Question<'a> {
     asked: &'a TopicFilter,
+    own: Reach,
     reached: Reached,
     runs: Marks,
 }
 
 impl<'a> Question<'a> {
-    ghost use Rattle.std.specs.Prelude.{ℕ, ◌≡◌, ◌++◌, ◌∷◌, [], List, IfOk};
+    ghost use Rattle.std.specs.Prelude.{ℕ, ◌≡◌, ◌++◌, ◌∷◌, [], true, List, All, IfOk};
+    ghost use Rattle.sng_text.specs.Texts.{is_filter};
     ghost use Rattle.sng_cover.specs.Covering.{cover_of};
     ghost use Rattle.sng_cover.specs.Gathered.{Gathered};
 
@@ -27,6 +31,7 @@ impl<'a> Question<'a> {
     {
         Question {
             asked,
+            own: Reach::of(asked, asked),
             reached: Reached::new(),
             runs: Marks::new(),
         }
@@ -34,16 +39,34 @@ impl<'a> Question<'a> {
 
     /// Adds a granted filter. Takes no memory, and time by the filter's length.
     pub fn add(&mut self, filter: &TopicFilter)
-        ensures { (asked : List ℕ) (granted : List (List ℕ)) → Gathered self.old asked granted → Gathered self.new asked (granted ++ filter.now ∷ []) }
+        ensures { (asked : List ℕ) (granted : List (List ℕ)) → Gathered self.old asked granted
+            → Gathered self.new asked (granted ++ filter.now ∷ []) }
     {
         self.reached.add(Reach::of(self.asked, filter));
         runs::mark_runs(&mut self.runs, filter);
     }
 
-    /// The answer on the filters that were added: included, or the gap. Memory is taken for the gap's name alone.
+    /// Whether the filters that were added match each name that the asked one matches. What else is granted changes no answer
+    /// then: it is included. Takes no memory, and no walk over a filter.
+    pub fn is_covered(&self) -> bool
+        requires { (asked : List ℕ) × ((granted : List (List ℕ)) × Gathered self.now asked granted) }
+        ensures { (asked : List ℕ) (granted more : List (List ℕ)) → Gathered self.now asked granted
+            → All (λ filter. is_filter filter ≡ true) more → result ≡ true
+            → cover_of asked (granted ++ more) ≡ Cover.Included }
+    {
+        if self.own.has_rest {
+            self.reached.is_from(self.own.fixed)
+        } else {
+            self.reached.has(self.own.fixed)
+        }
+    }
+
+    /// The answer on the filters that were added: included, or the gap. Memory is taken for the gap's name
+    /// alone.
     pub fn answer(&self, alloc: Global) -> Result<Cover, AllocError>
         requires { (asked : List ℕ) × ((granted : List (List ℕ)) × Gathered self.now asked granted) }
-        ensures { (asked : List ℕ) (granted : List (List ℕ)) → Gathered self.now asked granted → IfOk result (λ answer. answer ≡ cover_of asked granted) }
+        ensures { (asked : List ℕ) (granted : List (List ℕ)) → Gathered self.now asked granted
+            → IfOk result (λ answer. answer ≡ cover_of asked granted) }
     {
         match depths::gap_depth(self.asked, &self.reached) {
             None => Ok(Cover::Included),

@@ -1,5 +1,6 @@
-//! Which candidates one granted filter matches, read off the two filters alone (MQTT 3.1.1, 4.7): a candidate has the asked
-//! filter's literal levels, and elsewhere a level that no granted filter names, so there only a wildcard can match.
+//! Which candidates one granted filter matches, read off the two filters alone (MQTT 3.1.1, 4.7): a candidate
+//! has the asked filter's literal levels, and elsewhere a level that no granted filter names, so there only a
+//! wildcard can match.
 ghost use Rattle.std.specs.Prelude.{◌≡◌, ◌+◌, ◌<◌, true};
 ghost use Rattle.sng_text.specs.Levels.{levels_of};
 ghost use Rattle.sng_text.specs.Texts.{is_filter};

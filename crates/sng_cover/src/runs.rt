@@ -14,7 +14,8 @@ const LONGEST_RUN: usize = MAX_FILTER + 1;
 
 const LONGEST: [u8; LONGEST_RUN] = [b'x'; LONGEST_RUN];
 
-/// The shortest run of `x`, of at least one, that is no level of a granted filter, by the lengths of the runs that are.
+/// The shortest run of `x`, of at least one, that is no level of a granted filter, by the lengths of the runs
+/// that are.
 pub fn fresh_level(runs: &Marks) -> &'static [u8]
     ensures { (granted : List (List ℕ)) → AreRunsOf runs.now granted → result.now ≡ fresh_level granted }
 {
@@ -23,7 +24,8 @@ pub fn fresh_level(runs: &Marks) -> &'static [u8]
 
 /// How long that run is.
 fn fresh_count(runs: &Marks) -> usize
-    ensures value { (granted : List (List ℕ)) → AreRunsOf runs.now granted → run result ≡ fresh_level granted }
+    ensures value { (granted : List (List ℕ)) → AreRunsOf runs.now granted
+        → run result ≡ fresh_level granted }
     ensures few { result ≤ LONGEST_RUN }
 {
     for count in 1..LONGEST_RUN {
@@ -37,7 +39,8 @@ fn fresh_count(runs: &Marks) -> usize
 /// Marks the lengths of the runs of `x` among the filter's levels.
 #[tactic(auto, using(crate::proofs::Filters::short_of))]
 pub fn mark_runs(runs: &mut Marks, filter: &TopicFilter)
-    ensures { (count : ℕ) → is_marked runs.new count ≡ (has_level (run count) (levels_of filter.now) || is_marked runs.old count) }
+    ensures { (count : ℕ) → is_marked runs.new count
+        ≡ (has_level (run count) (levels_of filter.now) || is_marked runs.old count) }
 {
     for level in Levels::of(filter.text()) {
         if is_run(level) {

@@ -28,7 +28,8 @@ NamesAreFound = (topics : List (ℕ × List ℕ)) (id : ℕ) (name : List ℕ) �
 
 -- the id that is found of a name is the least that it is listed under
 abbrev pub IsLeastId : List (ℕ × List ℕ) → List ℕ → ℕ → Type 0
-IsLeastId topics name id = Contains topics (id, name) × ((other : ℕ) → Contains topics (other, name) → id ≤ other)
+IsLeastId topics name id = Contains topics (id, name)
+    × ((other : ℕ) → Contains topics (other, name) → id ≤ other)
 
 abbrev pub IdsAreLeast : Type 0
 IdsAreLeast = (topics : List (ℕ × List ℕ)) (name : List ℕ) (id : ℕ) → AreIdsInOrder topics

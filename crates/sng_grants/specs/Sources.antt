@@ -1,4 +1,5 @@
--- The scopes of clients and of sources, each under its key, in the order of the keys: client ids, and IPv4 addresses of four numbers.
+-- The scopes of clients and of sources, each under its key, in the order of the keys: client ids, and IPv4
+-- addresses of four numbers.
 use Rattle.std.specs.Prelude.{ℕ, List}
 use Rattle.std.specs.declared.option.Option.{Option}
 use Rattle.std.specs.Ordering.{nat_cmp}

@@ -1,4 +1,5 @@
-//! Laws of policies as values. Each function here only states one: its contract is the law, and calling it does nothing.
+//! Laws of policies as values. Each function here only states one: its contract is the law, and calling it
+//! does nothing.
 ghost use Rattle.std.specs.Prelude.{◌≡◌};
 ghost use Rattle.sng_grants.specs.Laws.{ScopesAreFound, NamesAreFound, IdsAreLeast};
 
@@ -22,7 +23,8 @@ pub fn names_are_found()
     ensures { NamesAreFound }
 {}
 
-/// The id that is found of a name is the least under which the name is listed, and a name that is listed has one.
+/// The id that is found of a name is the least under which the name is listed, and a name that is listed has
+/// one.
 pub fn ids_are_least()
     ensures { IdsAreLeast }
 {}

@@ -1,5 +1,5 @@
-//! Scopes and policies as values: who may publish and subscribe to what (RFC 9237, RFC 9431: the list of pairs of AIF-MQTT), and their
-//! look-ups. `sng_scope` reads them from texts.
+//! Scopes and policies as values: who may publish and subscribe to what (RFC 9237, RFC 9431: the list of
+//! pairs of AIF-MQTT), and their look-ups. `sng_scope` reads them from texts.
 #![tactic(auto)]
 
 pub mod laws;

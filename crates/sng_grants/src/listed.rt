@@ -10,7 +10,8 @@ use std::collections::BTreeMap;
 use std::collections::btree_map::Iter;
 use std::marker::Model;
 
-/// Values by key, at most so many. Contracts see the list of keys with their values, in the order of the keys.
+/// Values by key, at most so many. Contracts see the list of keys with their values, in the order of the
+/// keys.
 #[derive(Debug, Drop)]
 pub struct Listed<K: Ord, V, const MOST: usize> {
     entries: BTreeMap<K, V>,
@@ -25,7 +26,8 @@ impl<K: Ord, V, const MOST: usize> Model for Listed<K, V, MOST> {
 
     ghost view = { λ l. l.entries.entries };
 
-    ghost invariant = { λ l. (length l.entries.entries ≤ MOST) × IsStrictlySortedBy K.cmp (keys_of l.entries.entries) };
+    ghost invariant = { λ l. (length l.entries.entries ≤ MOST)
+        × IsStrictlySortedBy K.cmp (keys_of l.entries.entries) };
 }
 
 impl<K: Ord + Drop, V: Drop, const MOST: usize> Listed<K, V, MOST> {

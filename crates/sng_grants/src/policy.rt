@@ -5,11 +5,12 @@ use crate::{Listed, MAX_CLIENTS, MAX_SOURCES, Scope, Topics};
 use sng_text::ClientId;
 use std::alloc::{AllocError, Global};
 
-/// The scope of each client that a policy lists, by client id. Contracts see the list of client ids with their scopes, in the byte order
-/// of the ids.
+/// The scope of each client that a policy lists, by client id. Contracts see the list of client ids with
+/// their scopes, in the byte order of the ids.
 pub type Clients = Listed<ClientId, Scope, MAX_CLIENTS>;
 
-/// The scope of each source that a policy lists, by IPv4 address. Contracts see the list of addresses with their scopes, in their order.
+/// The scope of each source that a policy lists, by IPv4 address. Contracts see the list of addresses with
+/// their scopes, in their order.
 pub type Sources = Listed<[u8; 4], Scope, MAX_SOURCES>;
 
 /// Who may do what: clients and sources, each with its scope, and the names of predefined topic ids.

@@ -14,8 +14,8 @@ use std::marker::Model;
 /// Topic names by predefined topic id.
 pub type Names = Listed<u16, TopicName, MAX_TOPICS>;
 
-/// The topic name of each predefined topic id, with an index by name. Contracts see the list of ids with their names, in the order of
-/// the ids.
+/// The topic name of each predefined topic id, with an index by name. Contracts see the list of ids with
+/// their names, in the order of the ids.
 #[derive(Debug, Drop)]
 pub struct Topics {
     names: Names,

@@ -32,10 +32,10 @@ after_first : (b : Bool) (first : List ℕ) (some more : List (List ℕ)) → (i
 after_first true first some more = refl
 after_first false first some more = refl
 
-pub subscribed-one_more : (pairs : List Pair) (pair : Pair) → subscribed (pairs ++ pair ∷ []) ≡ subscribed pairs ++ subscribed (pair ∷ [])
-subscribed-one_more [] pair = refl
-subscribed-one_more (first ∷ pairs) pair =
-    rw (subscribed-one_more pairs pair) (after_first first.subscribes first.filter (subscribed pairs) (subscribed (pair ∷ [])))
+pub subscribed-append : (some more : List Pair) → subscribed (some ++ more) ≡ subscribed some ++ subscribed more
+subscribed-append [] more = refl
+subscribed-append (first ∷ some) more =
+    rw (subscribed-append some more) (after_first first.subscribes first.filter (subscribed some) (subscribed more))
 
 -- the names that the filters with `sub` grant are those that the pairs grant for subscribing
 same_by : (pair : Pair) (pairs : List Pair) (name : List ℕ) (b : Bool) → inclusion.is_granted (subscribed pairs) name ≡ is_granted Subscribe pairs name

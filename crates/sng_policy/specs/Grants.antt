@@ -1,4 +1,5 @@
--- What a policy allows (RFC 9431, 2.3): a scope is a list of pairs, and each pair permits what it says for the names that its filter matches.
+-- What a policy allows (RFC 9431, 2.3): a scope is a list of pairs, and each pair permits what it says for
+-- the names that its filter matches.
 use Rattle.std.specs.Prelude.{ℕ, Bool, false, ◌&&◌, ◌||◌, List, [], ◌∷◌, if◌then◌else◌, Some, None, is_some}
 use Rattle.std.specs.declared.option.Option.{Option}
 use Rattle.sng_text.specs.Matching.{matches}
@@ -12,7 +13,8 @@ use Rattle.sng_grants.specs.declared.policy.Policy.{Policy}
 use Rattle.sng_policy.specs.declared.permission.Permission.{Permission}
 use Rattle.sng_policy.specs.declared.permission.Permission.TheVariants.{Publish, Subscribe}
 use Rattle.sng_policy.specs.declared.grant.Grant.{Grant}
-use Rattle.sng_policy.specs.declared.grant.Grant.TheVariants.{Allowed, NoScope, UnknownSource, MissingPub, MissingSub, Uncovered}
+use Rattle.sng_policy.specs.declared.grant.Grant.TheVariants.{Allowed, NoScope, UnknownSource, MissingPub}
+use Rattle.sng_policy.specs.declared.grant.Grant.TheVariants.{MissingSub, Uncovered}
 
 -- the policy lists the client
 abbrev pub lists : Policy → List ℕ → Bool
@@ -38,12 +40,14 @@ permits Subscribe pair = pair.subscribes
 -- some pair with the permission matches the name
 abbrev pub is_granted : Permission → List Pair → List ℕ → Bool
 is_granted permission [] name = false
-is_granted permission (pair ∷ pairs) name = (permits permission pair && matches pair.filter name) || is_granted permission pairs name
+is_granted permission (pair ∷ pairs) name = (permits permission pair && matches pair.filter name)
+    || is_granted permission pairs name
 
 -- what a scope says to an ask about a name, given the answers where there is no scope, and no pair
 abbrev pub grant_by : Permission → Grant → Grant → Option (List Pair) → List ℕ → Grant
 grant_by permission unlisted missing None name = unlisted
-grant_by permission unlisted missing (Some pairs) name = if is_granted permission pairs name then Allowed else missing
+grant_by permission unlisted missing (Some pairs) name = if is_granted permission pairs name then Allowed
+    else missing
 
 -- what the policy says to a publish under the name by the client
 abbrev pub publish_grant : Policy → List ℕ → List ℕ → Grant

@@ -1,4 +1,5 @@
-//! What a policy allows: who may publish under a name, receive a message with it, and subscribe by a filter (AIF-MQTT: RFC 9431, 2.3).
+//! What a policy allows: who may publish under a name, receive a message with it, and subscribe by a filter
+//! (AIF-MQTT: RFC 9431, 2.3).
 #![tactic(auto)]
 
 pub mod grant;

@@ -1,4 +1,5 @@
-//! Whom and what a policy lists. No call here takes memory, and each finds its entry without a walk over the policy.
+//! Whom and what a policy lists. No call here takes memory, and each finds its entry without a walk over the
+//! policy.
 ghost use Rattle.std.specs.Prelude.{◌≡◌};
 ghost use Rattle.std.specs.Option.{option_copied};
 ghost use Rattle.sng_policy.specs.Grants.{lists, lists_source, topic, topic_id};

@@ -1,5 +1,5 @@
-//! What a policy says about one name. No call here takes memory. A scope is found without a walk over the policy, and then each of its
-//! pairs is matched once at the most.
+//! What a policy says about one name. No call here takes memory. A scope is found without a walk over the
+//! policy, and then each of its pairs is matched once at the most.
 ghost use Rattle.std.specs.Prelude.{◌≡◌};
 ghost use Rattle.std.specs.Option.{option_copied};
 ghost use Rattle.sng_policy.specs.Grants.{grant_by, publish_grant, source_grant, receive_grant};
@@ -23,7 +23,8 @@ pub fn may_publish(policy: &Policy, client: &ClientId, name: &TopicName) -> Gran
     )
 }
 
-/// What the policy says to a publish under the name by the source with this IPv4 address: Allowed, UnknownSource or MissingPub.
+/// What the policy says to a publish under the name by the source with this IPv4 address: Allowed,
+/// UnknownSource or MissingPub.
 pub fn source_may_publish(policy: &Policy, source: [u8; 4], name: &TopicName) -> Grant
     ensures { result ≡ source_grant policy.now source name.now }
 {

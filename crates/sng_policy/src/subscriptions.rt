@@ -1,5 +1,7 @@
-//! What a policy says about a subscription: whether each name that the filter matches is granted (MQTT 3.1.1, 4.7).
-ghost use Rattle.std.specs.Prelude.{◌≡◌, IfOk};
+//! What a policy says about a subscription: whether each name that the filter matches is granted (MQTT 3.1.1,
+//! 4.7).
+ghost use Rattle.std.specs.Prelude.{◌≡◌, true, All, IfOk};
+ghost use Rattle.sng_text.specs.Texts.{is_filter};
 ghost use Rattle.sng_cover.specs.Covering.{cover_of};
 ghost use Rattle.sng_grants.specs.Sources.{scope_of};
 ghost use Rattle.sng_policy.specs.Grants.{subscribe_grant, subscribed};
@@ -11,9 +13,9 @@ use sng_grants::{Pair, Policy};
 use sng_text::{ClientId, TopicFilter};
 use std::alloc::{AllocError, Global};
 
-/// What the policy says to a subscription of the client by the filter: Allowed where each name that the filter matches is granted to it for
-/// subscribing, and so may be received, NoScope, or Uncovered with the gap over the client's filters with `sub`. Memory is taken for the
-/// gap's name alone.
+/// What the policy says to a subscription of the client by the filter: Allowed where each name that the
+/// filter matches is granted to it for subscribing, and so may be received, NoScope, or Uncovered with the
+/// gap over the client's filters with `sub`. Memory is taken for the gap's name alone.
 pub fn may_subscribe(
     alloc: Global,
     policy: &Policy,
@@ -37,12 +39,16 @@ pub fn may_subscribe(
 
 /// Whether the filter is included in the union of the pairs' filters with `sub`.
 fn cover_by(alloc: Global, filter: &TopicFilter, pairs: &[Pair]) -> Result<Cover, AllocError>
+    requires { All (λ pair. is_filter pair.filter ≡ true) pairs.now }
     ensures { IfOk result (λ answer. answer ≡ cover_of filter.now (subscribed pairs.now)) }
 {
     let mut question = Question::about(filter);
     for pair in pairs {
         if pair.subscribes {
             question.add(&pair.filter);
+            if question.is_covered() {
+                return Ok(Cover::Included);
+            }
         }
     }
     question.answer(alloc)

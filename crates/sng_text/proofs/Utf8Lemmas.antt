@@ -1,4 +1,4 @@
--- Bytes that are no UTF-8 fail its test.
+-- Bytes that are not UTF-8 fail its test.
 use Rattle.std.proofs.Common.{◌≡◌, Bool, true, false, List, ℕ, refl}
 use Rattle.std.specs.Str.{is_utf8, IsUtf8}
 use Rattle.std.proofs.lemmas.Str.{IsUtf8-from_is_utf8}

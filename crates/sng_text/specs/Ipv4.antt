@@ -1,5 +1,7 @@
--- IPv4 addresses as texts: four decimal numbers from 0 to 255 without leading zeros, parted by points (RFC 3986, 3.2.2).
-use Rattle.std.specs.Prelude.{◌≡◌, ◌<◌, length, All, ℕ, ◌+◌, ◌-◌, ◌*◌, Bool, ◌==◌, ◌&&◌, nat_le, List, [], ◌∷◌, if◌then◌else◌, Option, Some, None, option_and_then}
+-- IPv4 addresses as texts: four decimal numbers from 0 to 255 without leading zeros, parted by points (RFC
+-- 3986, 3.2.2).
+use Rattle.std.specs.Prelude.{◌≡◌, ◌<◌, length, All, ℕ, ◌+◌, ◌-◌, ◌*◌, Bool, ◌==◌, ◌&&◌, nat_le, List, []}
+use Rattle.std.specs.Prelude.{◌∷◌, if◌then◌else◌, Option, Some, None, option_and_then}
 use Rattle.std.specs.List.{slice_split}
 
 infixl 10 ◌>>=◌

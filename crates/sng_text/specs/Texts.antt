@@ -1,5 +1,7 @@
--- Topic names and topic filters as texts (MQTT 3.1.1, 1.5.3 and 4.7): which bytes are one, and the first fault of those that are none.
-use Rattle.std.specs.Prelude.{ℕ, Bool, true, false, ◌==◌, ◌&&◌, ◌||◌, not, nat_lt, List, [], ◌∷◌, length, if◌then◌else◌, Some, None, is_none}
+-- Topic names and topic filters as texts (MQTT 3.1.1, 1.5.3 and 4.7): which bytes are one, and the first
+-- fault of those that are not.
+use Rattle.std.specs.Prelude.{ℕ, Bool, true, false, ◌==◌, ◌&&◌, ◌||◌, not, nat_lt, List, [], ◌∷◌, length}
+use Rattle.std.specs.Prelude.{if◌then◌else◌, Some, None, is_none}
 use Rattle.std.specs.declared.option.Option.{Option}
 use Rattle.std.specs.Str.{is_utf8, bytes_eq}
 use Rattle.sng_text.specs.Levels.{levels_of}
@@ -34,7 +36,8 @@ is_in_place [] = true
 is_in_place (level ∷ []) = is_ordinary level || is_hash level
 is_in_place (level ∷ levels) = is_ordinary level && is_in_place levels
 
--- the faults of a text of at most so many bytes, in the order in which they are tested, before the fault of its wildcards
+-- the faults of a text of at most so many bytes, in the order in which they are tested, before the fault of
+-- its wildcards
 abbrev pub text_fault : ℕ → List ℕ → Bool → Option TextFault
 text_fault most text wildcards_fit =
     if length text == 0

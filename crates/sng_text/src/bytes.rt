@@ -31,7 +31,7 @@ pub fn is_utf8(text: &[u8]) -> bool
     str::from_utf8(text).is_ok()
 }
 
-/// How many characters the bytes spell, in one pass. None where they are no UTF-8.
+/// How many characters the bytes spell, in one pass. None where they are not UTF-8.
 pub fn character_count(text: &[u8]) -> Option<usize>
     ensures { result ≡ (if is_utf8 text.now then Some (length (chars text.now)) else None) }
 {

@@ -6,7 +6,8 @@ use crate::{MAX_CLIENT_ID, TextFault, bytes};
 use std::alloc::{AllocError, Global};
 use std::marker::Model;
 
-/// A client id: 1 to `MAX_CLIENT_ID` characters (Unicode scalar values) of UTF-8 without U+0000. Contracts see its text.
+/// A client id: 1 to `MAX_CLIENT_ID` characters (Unicode scalar values) of UTF-8 without U+0000. Contracts
+/// see its text.
 #[derive(Debug, Drop)]
 pub struct ClientId {
     text: Vec<u8>,

@@ -2,13 +2,15 @@
 use crate::Octets;
 use thiserror::Error;
 
-/// The fault of a text, in the order in which they are tested. In a client id TooLong is tested after Null, and there is no Wildcard.
+/// The fault of a text, in the order in which they are tested. In a client id TooLong is tested after Null,
+/// and there is no Wildcard.
 #[derive(Clone, Copy, Debug, PartialEq, Eq, Error)]
 pub enum TextFault {
     /// There is no byte (MQTT 3.1.1, 4.7.3; MQTT-SN 1.2, 5.3.1).
     #[error("the text is empty")]
     Empty,
-    /// More than `MAX_NAME` bytes in a name, `MAX_FILTER` in a filter, or `MAX_CLIENT_ID` characters in a client id.
+    /// More than `MAX_NAME` bytes in a name, `MAX_FILTER` in a filter, or `MAX_CLIENT_ID` characters in a
+    /// client id.
     #[error("the text is too long")]
     TooLong,
     /// The bytes are not UTF-8 (MQTT 3.1.1, 1.5.3).
@@ -25,7 +27,8 @@ pub enum TextFault {
     Memory,
 }
 
-/// Octets that are not the text that was asked for, given back with the first of their faults, which is not Memory.
+/// Octets that are not the text that was asked for, given back with the first of their faults, which is not
+/// Memory.
 #[derive(Debug, Drop)]
 pub struct RefusedText {
     pub fault: TextFault,

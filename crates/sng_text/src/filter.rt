@@ -15,7 +15,8 @@ use std::alloc::{AllocError, Global};
 use std::hash::{Hash, Hasher};
 use std::marker::Model;
 
-/// A topic filter: 1 to `MAX_FILTER` bytes of UTF-8 without U+0000, in which `+` is a level of its own and `#` the last level. Contracts see its text.
+/// A topic filter: 1 to `MAX_FILTER` bytes of UTF-8 without U+0000, in which `+` is a level of its own and
+/// `#` the last level. Contracts see its text.
 #[derive(Debug, Drop)]
 pub struct TopicFilter {
     text: Vec<u8>,
@@ -55,10 +56,12 @@ impl TopicFilter {
         }
     }
 
-    /// The filter whose text is the name's: no level of a name is a wildcard. A name of more than `MAX_FILTER` bytes is TooLong.
+    /// The filter whose text is the name's: no level of a name is a wildcard. A name of more than
+    /// `MAX_FILTER` bytes is TooLong.
     pub fn of_name(alloc: Global, name: &TopicName) -> Result<TopicFilter, TextFault>
         ensures ok { IfOk result (λ f. (f ≡ name.now) × (length name.now ≤ MAX_FILTER)) }
-        ensures err { IfErr result (λ e. (e ≡ TextFault.Memory) ⊎ ((e ≡ TextFault.TooLong) × (MAX_FILTER < length name.now))) }
+        ensures err { IfErr result (λ e. (e ≡ TextFault.Memory)
+            ⊎ ((e ≡ TextFault.TooLong) × (MAX_FILTER < length name.now))) }
     {
         if name.text().len() > MAX_FILTER {
             return Err(TextFault::TooLong);

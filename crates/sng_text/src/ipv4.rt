@@ -1,4 +1,5 @@
-//! IPv4 addresses as texts: four decimal numbers from 0 to 255 without leading zeros, parted by points (RFC 3986, 3.2.2).
+//! IPv4 addresses as texts: four decimal numbers from 0 to 255 without leading zeros, parted by points (RFC
+//! 3986, 3.2.2).
 ghost use Rattle.std.specs.Prelude.{◌≡◌, ◌==◌, [], ◌∷◌, MatchOption, position};
 ghost use Rattle.sng_text.specs.Ipv4.{is_digit, is_leading, octet_of, parts_of, ipv4_of};
 

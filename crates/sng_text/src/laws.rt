@@ -1,6 +1,7 @@
-//! The laws of texts. Each function here only states one: its contract is the law, and calling it does nothing.
+//! The laws of texts. Each function here only states one: its contract is the law, and calling it does
+//! nothing.
 ghost use Rattle.std.specs.Prelude.{◌≡◌};
-ghost use Rattle.sng_text.specs.Laws.{ClientIdsAreCharacters, NamesMatchThemselves};
+ghost use Rattle.sng_text.specs.Laws.{ClientIdsAreCharacters, NamesMatchThemselves, LevelsAreParts};
 
 use crate::{MAX_CLIENT_ID, MAX_FILTER, MAX_NAME};
 
@@ -19,4 +20,9 @@ pub fn client_ids_are_characters()
 /// A name, taken as a filter, matches itself and no other name (MQTT 3.1.1, 4.7.3).
 pub fn names_match_themselves()
     ensures { NamesMatchThemselves }
+{}
+
+/// The levels of a text are its parts between the slashes, as std splits it (MQTT 3.1.1, 4.7.1.1).
+pub fn levels_are_parts()
+    ensures { LevelsAreParts }
 {}

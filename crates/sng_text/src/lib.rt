@@ -1,5 +1,6 @@
-//! Topic names and topic filters (MQTT 3.1.1, 4.7), client ids (MQTT-SN 1.2, 5.3.1), IPv4 addresses as texts (RFC 3986, 3.2.2), the
-//! quality of service as it is granted (MQTT 3.1.1, 4.3), and bytes that contracts see as their list.
+//! Topic names and topic filters (MQTT 3.1.1, 4.7), client ids (MQTT-SN 1.2, 5.3.1), IPv4 addresses as texts
+//! (RFC 3986, 3.2.2), the quality of service as it is granted (MQTT 3.1.1, 4.3), and bytes that contracts see
+//! as their list.
 #![tactic(auto)]
 
 pub mod bytes;

@@ -5,7 +5,8 @@ ghost use Rattle.sng_text.specs.Matching.{matches, match_items, items_of, has_re
 
 use crate::{Levels, TopicFilter, TopicName, bytes};
 
-/// Whether the filter matches the name, level by level. A filter that begins with a wildcard matches no name that begins with `$`. Takes no memory.
+/// Whether the filter matches the name, level by level. A filter that begins with a wildcard matches no name
+/// that begins with `$`. Takes no memory.
 pub fn matches(filter: &TopicFilter, name: &TopicName) -> bool
     ensures { result ≡ matches filter.now name.now }
 {

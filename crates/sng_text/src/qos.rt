@@ -1,5 +1,5 @@
-//! The quality of service as the gateway grants it (MQTT 3.1.1, 4.3). Level 2 is not granted; level -1 of MQTT-SN 1.2 and level 2
-//! stand in the formats alone.
+//! The quality of service as the gateway grants it (MQTT 3.1.1, 4.3). Level 2 is not granted; level -1 of
+//! MQTT-SN 1.2 and level 2 stand in the formats alone.
 
 /// A quality of service that is granted. The greater one is the stronger.
 #[derive(Clone, Copy, Debug, PartialEq, Eq, PartialOrd, Ord)]

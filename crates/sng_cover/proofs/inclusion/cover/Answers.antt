@@ -1,23 +1,79 @@
-use Rattle.std.proofs.Common.{◌≡◌, ◌+◌, ◌<◌, ◌≤◌, ℕ, List, [], ◌∷◌, ◌++◌, length, take, sym, subst, ap, ◌∙◌}
-use Rattle.std.proofs.lemmas.List.{take_more, take_all}
+use Rattle.std.proofs.Common.{◌≡◌, ◌+◌, ◌<◌, ◌≤◌, ℕ, List, [], ◌∷◌, ◌++◌, true, length, take, drop, get_or, sym}
+use Rattle.std.proofs.Common.{subst, ap, ◌∙◌, Result, Ok, Err, OnOk}
+use Rattle.std.proofs.lemmas.List.{take_more, take_all, take-append-drop}
+use Rattle.std.proofs.lemmas.List.Elements.{All-drop}
+use Rattle.sng_text.specs.Texts.{is_filter}
+use Rattle.sng_cover.specs.Covering.{cover_of}
 use Rattle.sng_cover.specs.Gathered.{Gathered}
+use Rattle.sng_cover.specs.declared.answer.Cover.TheVariants.{Included}
+use Rattle.sng_cover.specs.declared.question.Question.{Question}
+use Rattle.sng_cover.proofs.Answered.{right}
+use Rattle.sng_cover.proofs.Filters.{filters_from_all}
 use Rattle.sng_cover.proofs.inclusion.cover.Goals as goal
+
+-- a question with the filter at the next place
+one_more : (asked : List ℕ) (granted : List (List ℕ)) (i : ℕ) (filter : List ℕ) (question : Question)
+    → i < length granted → filter ≡ get_or granted i filter
+    → Gathered question asked (take i granted ++ filter ∷ []) → Gathered question asked (take (i + 1) granted)
+one_more asked granted i filter question within is gathered =
+    let more : take (i + 1) granted ≡ take i granted ++ filter ∷ [] =
+    take_more granted i filter within ∙ ap (λ (item : List ℕ). take i granted ++ item ∷ []) (sym is) in
+    subst (λ (filters : List (List ℕ)). Gathered question asked filters) (sym more) gathered
+
+pub is_covered-requires : goal.is_covered-requires
+is_covered-requires c =
+    let asked : List ℕ = c.args.asked.now in
+    let granted : List (List ℕ) = c.args.granted.now in
+    let i : ℕ = c.loop-filter.filter-index in (
+      asked,
+      (
+        take (i + 1) granted,
+        one_more asked granted i c.filter-item.result _ c.loop-filter-test.true c.filter-item.is
+            (c.add.ensures asked (take i granted) c.loop-filter.invariant),
+      ),
+    )
+
+pub returns-then-is_covered-clause-value : goal.returns-then-is_covered-clause-value
+returns-then-is_covered-clause-value c =
+    let asked : List ℕ = c.args.asked.now in
+    let granted : List (List ℕ) = c.args.granted.now in
+    let i : ℕ = c.loop-filter.filter-index in
+    let gathered = one_more asked granted i c.filter-item.result _ c.loop-filter-test.true c.filter-item.is
+    (c.add.ensures asked (take i granted) c.loop-filter.invariant) in
+    let rest = All-drop (λ (filter : List ℕ). is_filter filter ≡ true) (i + 1) granted c.are_filters.ensures in
+    let included : cover_of asked (take (i + 1) granted ++ drop (i + 1) granted) ≡ Included =
+    c.is_covered.ensures asked (take (i + 1) granted) (drop (i + 1) granted) gathered rest c.if-is_covered.true in
+    sym included ∙ ap (cover_of asked) (take-append-drop (i + 1) granted)
+
+pub returns-then-is_covered-clause-right : goal.returns-then-is_covered-clause-right
+returns-then-is_covered-clause-right c =
+    right c.args.asked.now c.args.granted.now c.loop-filter.invariant.filter
+    (filters_from_all c.args.granted.now c.are_filters.ensures)
 
 pub loop-filter-preserved : goal.loop-filter-preserved
 loop-filter-preserved c =
+    let asked : List ℕ = c.args.asked.now in
     let granted : List (List ℕ) = c.args.granted.now in
     let i : ℕ = c.loop-filter.filter-index in
-    let filter : List ℕ = c.filter-item.result in
-    let within : i < length granted = c.loop-filter-test.true in
-    let one_more : take (i + 1) granted ≡ take i granted ++ filter ∷ [] =
-    take_more granted i filter within ∙ ap (λ (item : List ℕ). take i granted ++ item ∷ []) (sym c.filter-item.is) in
-    subst (λ (filters : List (List ℕ)). Gathered c.add.new.self c.args.asked.now filters) (sym one_more) (c.add.ensures c.args.asked.now (take i granted) c.loop-filter.invariant)
+    one_more asked granted i c.filter-item.result _ c.loop-filter-test.true c.filter-item.is
+    (c.add.ensures asked (take i granted) c.loop-filter.invariant)
 
 pub answer-requires : goal.answer-requires
 answer-requires c = (c.args.asked.now, (take c.loop-filter.filter-index c.args.granted.now, c.loop-filter.invariant))
 
-pub returns : goal.returns
-returns c =
-    let past : length c.args.granted.now ≤ c.loop-filter.filter-index = c.loop-filter-test.false in
-    let gathered : Gathered c.loop-filter.question c.args.asked.now c.args.granted.now = rw (take_all c.loop-filter.filter-index c.args.granted.now past) at c.loop-filter.invariant in
-    c.answer.ensures c.args.asked.now c.args.granted.now gathered
+pub returns-clause-value : goal.returns-clause-value
+returns-clause-value c =
+    let granted : List (List ℕ) = c.args.granted.now in
+    let past : length granted ≤ c.loop-filter.filter-index = c.loop-filter-test.false in
+    let gathered : Gathered c.loop-filter.question c.args.asked.now granted =
+    rw (take_all c.loop-filter.filter-index granted past) at c.loop-filter.invariant in
+    c.answer.ensures c.args.asked.now granted gathered
+
+on_ok : {A E : Type 0} (r : Result A E) (P : Type 0) → P → OnOk r P
+on_ok (Ok a) P p = p
+on_ok (Err e) P p = tt
+
+pub returns-clause-right : goal.returns-clause-right
+returns-clause-right c =
+    on_ok c.answer.result _ (right c.args.asked.now c.args.granted.now c.loop-filter.invariant.filter
+    (filters_from_all c.args.granted.now c.are_filters.ensures))

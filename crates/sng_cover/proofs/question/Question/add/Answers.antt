@@ -9,6 +9,8 @@ returns c = λ asked granted before.
     let fit : c.of.result.fits ≡ fits asked c.args.filter.now = of.fits ∙ ap (λ (text : List ℕ). fits text c.args.filter.now) before.asked_is in
     record {
       asked_is = before.asked_is;
+      filter = before.filter;
+      own = before.own;
       reached = reached_more asked c.args.filter.now granted _ _ c.of.result of.granted_is of.fixed of.has_rest fit c.add.ensures.depths c.add.ensures.longest before.reached;
       runs = runs_more c.args.filter.now granted _ _ c.mark_runs.ensures before.runs;
     }

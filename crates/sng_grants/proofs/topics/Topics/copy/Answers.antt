@@ -1,4 +1,4 @@
-use Rattle.std.proofs.Common.{◌≡◌, ◌∙◌, ℕ, List}
+use Rattle.std.proofs.Common.{◌≡◌, ◌∙◌}
 use Rattle.std.proofs.lemmas.Map.Entries.{entries_from_clone}
 use Rattle.sng_grants.proofs.topics.Topics.copy.Goals as goal
 
