@@ -86,8 +86,8 @@ impl PacketIds {
         packet_id
     }
 
-    /// The id is in use again, as that of an open SUBSCRIBE whose successor was taken back.
-    pub fn take(&mut self, packet_id: u16)
+    /// The id is in use, as that of an open SUBSCRIBE again whose successor was taken back.
+    pub fn mark(&mut self, packet_id: u16)
         ensures { self.new ≡ with_mark self.old packet_id true }
     {
         self.marks[usize::from(packet_id)] = true;
