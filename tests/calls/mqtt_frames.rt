@@ -142,8 +142,11 @@ fn long_publish(alloc: Global, name: usize, payload: usize) -> Result<Packet, Fa
     }))
 }
 
-fn fault_of(alloc: Global, packet: &Packet) -> Option<StreamFault> {
-    encode(alloc, packet).err()
+fn fault_of(alloc: Global, packet: &Packet) -> Result<Option<StreamFault>, StreamFault> {
+    match encode(alloc, packet) {
+        Err(StreamFault::Memory) => Err(StreamFault::Memory),
+        answer => Ok(answer.err()),
+    }
 }
 
 #[test]
@@ -156,14 +159,14 @@ fn up_to_the_limit(rt: HostRuntime) -> Result<(), Fail> {
         b"\x30\xec\xa2\x04\x00\x02\x61\x61\x55".as_slice()
     );
     let longer = long_publish(rt.alloc(), 2, MAX_PACKET - 7)?;
-    assert_eq!(rt; fault_of(rt.alloc(), &longer), Some(StreamFault::TooLong));
+    assert_eq!(rt; fault_of(rt.alloc(), &longer)?, Some(StreamFault::TooLong));
     let long_text = long_publish(rt.alloc(), 65536, 0)?;
     assert_eq!(rt;
-        fault_of(rt.alloc(), &long_text),
+        fault_of(rt.alloc(), &long_text)?,
         Some(StreamFault::Malformed)
     );
     let both = long_publish(rt.alloc(), 65536, 5000)?;
-    assert_eq!(rt; fault_of(rt.alloc(), &both), Some(StreamFault::TooLong));
+    assert_eq!(rt; fault_of(rt.alloc(), &both)?, Some(StreamFault::TooLong));
     let longest_text = encode(rt.alloc(), &long_publish(rt.alloc(), 65535, 0)?)?;
     let front = b"\x30\x81\x80\x04\xff\xff".as_slice();
     assert!(rt; longest_text.as_slice().starts_with(front));
@@ -171,26 +174,27 @@ fn up_to_the_limit(rt: HostRuntime) -> Result<(), Fail> {
 }
 
 #[test]
-fn what_no_bytes_spell(rt: HostRuntime) {
+fn what_no_bytes_spell(rt: HostRuntime) -> Result<(), Fail> {
     let alloc = rt.alloc();
     let malformed = Some(StreamFault::Malformed);
-    assert_eq!(rt; fault_of(alloc, &Packet::PublishAck(0)), malformed);
-    assert_eq!(rt; fault_of(alloc, &Packet::UnsubscribeAck(0)), malformed);
+    assert_eq!(rt; fault_of(alloc, &Packet::PublishAck(0))?, malformed);
+    assert_eq!(rt; fault_of(alloc, &Packet::UnsubscribeAck(0))?, malformed);
     let nothing = Packet::Subscribe(Subscribe {
         packet_id: 1,
         requests: List::from(Vec::new(alloc)),
     });
-    assert_eq!(rt; fault_of(alloc, &nothing), malformed);
+    assert_eq!(rt; fault_of(alloc, &nothing)?, malformed);
     let no_code = Packet::SubscribeAck(SubscribeAck {
         packet_id: 1,
         codes: List::from(Vec::new(alloc)),
     });
-    assert_eq!(rt; fault_of(alloc, &no_code), malformed);
+    assert_eq!(rt; fault_of(alloc, &no_code)?, malformed);
     let no_filter = Packet::Unsubscribe(Unsubscribe {
         packet_id: 1,
         filters: List::from(Vec::new(alloc)),
     });
-    assert_eq!(rt; fault_of(alloc, &no_filter), malformed);
+    assert_eq!(rt; fault_of(alloc, &no_filter)?, malformed);
+    Ok(())
 }
 
 #[test]
@@ -220,27 +224,34 @@ fn numbers_of_faults(rt: HostRuntime) {
     assert_eq!(rt; StreamFault::Memory.number(), 5);
 }
 
+/// The fault that was answered, if one was. The only error is `Memory`.
+fn reported(answer: Result<Vec<Packet>, StreamFault>) -> Result<Option<StreamFault>, StreamFault> {
+    match answer {
+        Err(StreamFault::Memory) => Err(StreamFault::Memory),
+        answer => Ok(answer.err()),
+    }
+}
+
 /// What a new stream reports once the last of the bytes has come, which come one by one; none where it reports nothing, or
 /// something before.
-fn told_at_the_last(alloc: Global, bytes: &[u8]) -> Option<StreamFault> {
+fn told_at_the_last(alloc: Global, bytes: &[u8]) -> Result<Option<StreamFault>, Fail> {
     let mut stream = Stream::new(alloc);
-    let (last, others) = bytes.split_last()?;
+    let Some((last, others)) = bytes.split_last() else {
+        return Ok(None);
+    };
     for byte in others {
-        match stream.feed(alloc, &[*byte]) {
-            Ok(packets) => {
-                if !packets.is_empty() {
-                    return None;
-                }
-            }
-            Err(_) => return None,
+        let answer = stream.feed(alloc, &[*byte]);
+        let is_silent = answer.as_ref().is_ok_and(|packets| packets.is_empty());
+        if reported(answer)?.is_some() || !is_silent {
+            return Ok(None);
         }
     }
-    stream.feed(alloc, &[*last]).err()
+    Ok(reported(stream.feed(alloc, &[*last]))?)
 }
 
 /// What a new stream reports where all the bytes come at once.
-fn told_at_once(alloc: Global, bytes: &[u8]) -> Option<StreamFault> {
-    Stream::new(alloc).feed(alloc, bytes).err()
+fn told_at_once(alloc: Global, bytes: &[u8]) -> Result<Option<StreamFault>, StreamFault> {
+    reported(Stream::new(alloc).feed(alloc, bytes))
 }
 
 const MALFORMED: [&[u8]; 22] = [
@@ -293,29 +304,30 @@ const TOO_LONG: [&[u8]; 3] = [
 ];
 
 #[test]
-fn faults(rt: HostRuntime) {
+fn faults(rt: HostRuntime) -> Result<(), Fail> {
     for bytes in MALFORMED {
         assert_eq!(rt;
-            told_at_the_last(rt.alloc(), bytes),
+            told_at_the_last(rt.alloc(), bytes)?,
             Some(StreamFault::Malformed)
         );
         assert_eq!(rt;
-            told_at_once(rt.alloc(), bytes),
+            told_at_once(rt.alloc(), bytes)?,
             Some(StreamFault::Malformed)
         );
     }
     for bytes in NOT_SUPPORTED {
         assert_eq!(rt;
-            told_at_the_last(rt.alloc(), bytes),
+            told_at_the_last(rt.alloc(), bytes)?,
             Some(StreamFault::NotSupported)
         );
     }
     for bytes in TOO_LONG {
         assert_eq!(rt;
-            told_at_the_last(rt.alloc(), bytes),
+            told_at_the_last(rt.alloc(), bytes)?,
             Some(StreamFault::TooLong)
         );
     }
+    Ok(())
 }
 
 #[test]
@@ -326,12 +338,12 @@ fn kept_fault(rt: HostRuntime) -> Result<(), Fail> {
     assert_eq!(rt; packets.len(), 2);
     assert!(rt; matches!(&packets[0], Packet::PingRequest));
     assert!(rt; matches!(&packets[1], Packet::PingResponse));
-    assert_eq!(rt; stream.feed(alloc, b"").err(), Some(StreamFault::Malformed));
+    assert_eq!(rt; reported(stream.feed(alloc, b""))?, Some(StreamFault::Malformed));
     assert_eq!(rt;
-        stream.feed(alloc, b"\xc0\x00").err(),
+        reported(stream.feed(alloc, b"\xc0\x00"))?,
         Some(StreamFault::Failed)
     );
-    assert_eq!(rt; stream.feed(alloc, b"").err(), Some(StreamFault::Failed));
+    assert_eq!(rt; reported(stream.feed(alloc, b""))?, Some(StreamFault::Failed));
     Ok(())
 }
 
@@ -341,11 +353,11 @@ fn failed_afterwards(rt: HostRuntime) -> Result<(), Fail> {
     let mut stream = Stream::new(alloc);
     assert!(rt; stream.feed(alloc, b"\x40\x02\x00")?.is_empty());
     assert_eq!(rt;
-        stream.feed(alloc, b"\x00").err(),
+        reported(stream.feed(alloc, b"\x00"))?,
         Some(StreamFault::Malformed)
     );
     assert_eq!(rt;
-        stream.feed(alloc, b"\xc0\x00").err(),
+        reported(stream.feed(alloc, b"\xc0\x00"))?,
         Some(StreamFault::Failed)
     );
     Ok(())
