@@ -66,7 +66,8 @@ id_only bytes =
 
 text_only : (bytes : List ℕ) → OnlyMalformed (text_at bytes)
 text_only bytes =
-    bind_only (number_at bytes) (λ count. if nat_lt (length count.1) count.0 then Err Malformed else Ok (take count.0 count.1, drop count.0 count.1)) (number_only bytes)
+    bind_only (number_at bytes)
+    (λ count. if nat_lt (length count.1) count.0 then Err Malformed else Ok (take count.0 count.1, drop count.0 count.1)) (number_only bytes)
     (λ count. if_only (nat_lt (length count.1) count.0) (Err Malformed) (Ok (take count.0 count.1, drop count.0 count.1)) fault_only (ok_only (take count.0 count.1, drop count.0 count.1)))
 
 end_only : {A : Type 0} (x : A) (bytes : List ℕ) → OnlyMalformed (at_end x bytes)
@@ -87,12 +88,15 @@ connect_ack-only : (body : List ℕ) → OnlyMalformed (connect_ack_of body)
 connect_ack-only [] e is = cc
 connect_ack-only (a ∷ []) e is = cc
 connect_ack-only (flags ∷ code ∷ []) e is =
-    bind_only (session_of flags) (λ session_present. Ok (variants.ConnectAck (record { session_present = session_present; code = code }))) (session_only flags) (λ present. ok_only _) e is
+    bind_only (session_of flags)
+    (λ session_present. Ok (variants.ConnectAck (record { session_present = session_present; code = code })))
+    (session_only flags) (λ present. ok_only _) e is
 connect_ack-only (a ∷ b ∷ c ∷ d) e is = cc
 
 optional_id-only : (identified : Bool) (bytes : List ℕ) → OnlyMalformed (optional_id_at identified bytes)
 optional_id-only false bytes e is = absurd cc
-optional_id-only true bytes e is = bind_only (id_at bytes) (λ id. Ok (Some id.0, id.1)) (id_only bytes) (λ id. ok_only _) e is
+optional_id-only true bytes e is =
+    bind_only (id_at bytes) (λ id. Ok (Some id.0, id.1)) (id_only bytes) (λ id. ok_only _) e is
 
 whole_id-only : (body : List ℕ) → OnlyMalformed (whole_id body)
 whole_id-only body = bind_only (id_at body) (λ id. at_end id.0 id.1) (id_only body) (λ id. end_only id.0 id.1)
@@ -105,10 +109,13 @@ qos_only byte =
 qos_behind-only : (filter bytes : List ℕ) → OnlyMalformed (qos_behind filter bytes)
 qos_behind-only filter [] e is = cc
 qos_behind-only filter (byte ∷ rest) e is =
-    bind_only (qos_of byte) (λ qos. Ok (record { filter = filter; qos = qos }, rest)) (qos_only byte) (λ qos. ok_only _) e is
+    bind_only (qos_of byte) (λ qos. Ok (record { filter = filter; qos = qos }, rest)) (qos_only byte)
+    (λ qos. ok_only _) e is
 
 request_only : (bytes : List ℕ) → OnlyMalformed (request_at bytes)
-request_only bytes = bind_only (text_at bytes) (λ filter. qos_behind filter.0 filter.1) (text_only bytes) (λ filter. qos_behind-only filter.0 filter.1)
+request_only bytes =
+    bind_only (text_at bytes) (λ filter. qos_behind filter.0 filter.1) (text_only bytes)
+    (λ filter. qos_behind-only filter.0 filter.1)
 
 items_only : {A : Type 0} (item_at : List ℕ → Result (A × List ℕ) PacketFault)
     → ((bytes : List ℕ) → OnlyMalformed (item_at bytes)) → (most : ℕ) (bytes : List ℕ)
@@ -117,7 +124,8 @@ items_only item_at each zero [] e is = absurd cc
 items_only item_at each (suc most) [] e is = absurd cc
 items_only item_at each zero (b ∷ bytes) e is = cc
 items_only {A} item_at each (suc most) (b ∷ bytes) e is =
-    bind_only (item_at (b ∷ bytes)) (λ item. items_within item_at most item.1 >>= λ items. Ok (item.0 ∷ items)) (each (b ∷ bytes))
+    bind_only (item_at (b ∷ bytes))
+    (λ item. items_within item_at most item.1 >>= λ items. Ok (item.0 ∷ items)) (each (b ∷ bytes))
     (λ item. bind_only (items_within item_at most item.1) (λ items. Ok (item.0 ∷ items)) (items_only item_at each most item.1) (λ items. ok_only (item.0 ∷ items))) e is
 
 code_only : (byte : ℕ) → OnlyMalformed (code_of byte)
@@ -167,7 +175,8 @@ record IsOther (bytes : List ℕ) : Type 0 where
   is : bytes ≡ flags ∷ rest
 
 differs : (a b : ℕ) → (a == b) ≡ false → a ≢ b
-differs a b is same = let other : (b == b) ≡ false = subst (λ (n : ℕ). (n == b) ≡ false) same is in grind (arith, nat_tests)
+differs a b is same =
+    let other : (b == b) ≡ false = subst (λ (n : ℕ). (n == b) ≡ false) same is in grind (arith, nat_tests)
 
 -- which branch gave the fault
 either_fault : {A : Type 0} (b : Bool) (one other : Result A PacketFault) (e : PacketFault)
@@ -231,11 +240,13 @@ body_fault kinds.Connect body e is =
     elim (connect_fault body e is) [ inl malformed ↦ inl malformed | inr other ↦ inr (other.0, refl, other.1) ]
 body_fault kinds.ConnectAck body e is = inl (connect_ack-only body e is)
 body_fault (kinds.Publish f) body e is = inl (publish_only f body e is)
-body_fault kinds.PublishAck body e is = inl (bind_only (whole_id body) (λ id. Ok (variants.PublishAck id)) (whole_id-only body) (λ id. ok_only (variants.PublishAck id)) e is)
+body_fault kinds.PublishAck body e is =
+    inl (bind_only (whole_id body) (λ id. Ok (variants.PublishAck id)) (whole_id-only body) (λ id. ok_only (variants.PublishAck id)) e is)
 body_fault kinds.Subscribe body e is = inl (subscribe_only body e is)
 body_fault kinds.SubscribeAck body e is = inl (subscribe_ack-only body e is)
 body_fault kinds.Unsubscribe body e is = inl (unsubscribe_only body e is)
-body_fault kinds.UnsubscribeAck body e is = inl (bind_only (whole_id body) (λ id. Ok (variants.UnsubscribeAck id)) (whole_id-only body) (λ id. ok_only (variants.UnsubscribeAck id)) e is)
+body_fault kinds.UnsubscribeAck body e is =
+    inl (bind_only (whole_id body) (λ id. Ok (variants.UnsubscribeAck id)) (whole_id-only body) (λ id. ok_only (variants.UnsubscribeAck id)) e is)
 body_fault kinds.PingRequest body e is = inl (end_only variants.PingRequest body e is)
 body_fault kinds.PingResponse body e is = inl (end_only variants.PingResponse body e is)
 body_fault kinds.Disconnect body e is = inl (end_only variants.Disconnect body e is)
@@ -249,7 +260,8 @@ skip false x others e is = is
 
 publish_byte-at_2 : (bits : ℕ) → bits < 16 → bits / 2 % 4 ≡ 2
     → 48 + bits ≡ 48 + flag (bits / 8 == 1) 8 + 4 + flag (bits % 2 == 1) 1
-publish_byte-at_2 bits small two = omega (arith, flag-8 (bits / 8) (omega arith), flag-1 (bits % 2) (omega arith))
+publish_byte-at_2 bits small two =
+    omega (arith, flag-8 (bits / 8) (omega arith), flag-1 (bits % 2) (omega arith))
 
 publish_kind-fault : (bits : ℕ) (e : PacketFault) → publish_kind bits ≡ Err e
     → ((e ≡ NotSupported) × (bits / 2 % 4 ≡ 2)) ⊎ (e ≡ Malformed)

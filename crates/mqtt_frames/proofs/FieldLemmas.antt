@@ -66,7 +66,8 @@ number_at-reads [] x is = absurd cc
 number_at-reads (a ∷ []) x is = absurd cc
 number_at-reads (high ∷ low ∷ rest) x is =
     let pair : (number high low, rest) ≡ x = ok_is (number high low, rest) x is in
-    subst (λ (y : ℕ × List ℕ). IsSplit (high ∷ low ∷ rest) y.0 y.1) pair (record { high = high; low = low; value = refl; parts = refl })
+    subst (λ (y : ℕ × List ℕ). IsSplit (high ∷ low ∷ rest) y.0 y.1) pair
+    (record { high = high; low = low; value = refl; parts = refl })
 
 pub id_at-reads : (bytes : List ℕ) (x : ℕ × List ℕ) → id_at bytes ≡ Ok x → (0 < x.0) × IsSplit bytes x.0 x.1
 id_at-reads bytes x is =
@@ -75,7 +76,8 @@ id_at-reads bytes x is =
     let same : front.0 ≡ x = ok_is front.0 x test.1 in
     let other : (front.0.0 == 0) ≡ false = test.0 in
     let above : 0 < front.0.0 = grind (arith, nat_tests) in
-    subst (λ (y : ℕ × List ℕ). (0 < y.0) × IsSplit bytes y.0 y.1) same (above, number_at-reads bytes front.0 front.1)
+    subst (λ (y : ℕ × List ℕ). (0 < y.0) × IsSplit bytes y.0 y.1) same
+    (above, number_at-reads bytes front.0 front.1)
 
 -- a text at the front is its length and its bytes
 pub record IsText (bytes text rest : List ℕ) : Type 0 where
@@ -86,7 +88,9 @@ pub record IsText (bytes text rest : List ℕ) : Type 0 where
 
 pub text_at-reads : (bytes : List ℕ) (x : List ℕ × List ℕ) → text_at bytes ≡ Ok x → IsText bytes x.0 x.1
 text_at-reads bytes x is =
-    let count = bind_ok (number_at bytes) (λ count. if nat_lt (length count.1) count.0 then Err Malformed else Ok (take count.0 count.1, drop count.0 count.1)) x is in
+    let count =
+    bind_ok (number_at bytes)
+    (λ count. if nat_lt (length count.1) count.0 then Err Malformed else Ok (take count.0 count.1, drop count.0 count.1)) x is in
     let n = count.0.0 in
     let behind = count.0.1 in
     let test = guard_ok (nat_lt (length behind) n) Malformed (Ok (take n behind, drop n behind)) x count.2 in
@@ -125,8 +129,16 @@ qos_behind-reads : (filter bytes : List ℕ) (x : Request × List ℕ) → qos_b
 qos_behind-reads filter [] x is = absurd cc
 qos_behind-reads filter (byte ∷ rest) x is =
     let qos = bind_ok (qos_of byte) (λ qos. Ok (record { filter = filter; qos = qos }, rest)) x is in
-    let same : (record { filter = filter; qos = qos.0 }, rest) ≡ x = ok_is (record { filter = filter; qos = qos.0 }, rest) x qos.2 in
-    subst (λ (y : Request × List ℕ). (y.0.filter ≡ filter) × (byte ∷ rest ≡ qos_byte y.0.qos ∷ y.1)) same (refl, ap (λ b. b ∷ rest) (sym (qos_of-reads byte qos.0 qos.1)))
+    let same : (
+      record {
+        filter =
+            filter;
+        qos = qos.0;
+      },
+      rest,
+    ) ≡ x = ok_is (record { filter = filter; qos = qos.0 }, rest) x qos.2 in
+    subst (λ (y : Request × List ℕ). (y.0.filter ≡ filter) × (byte ∷ rest ≡ qos_byte y.0.qos ∷ y.1)) same
+    (refl, ap (λ b. b ∷ rest) (sym (qos_of-reads byte qos.0 qos.1)))
 
 pub request_at-reads : (bytes : List ℕ) (x : Request × List ℕ) → request_at bytes ≡ Ok x
     → IsRequest bytes x.0 x.1

@@ -33,7 +33,10 @@ pub remaining_length-next : (n : ℕ) → 128 ≤ n
     → remaining_length n ≡ (n % 128 + 128) ∷ remaining_length (n / 128)
 unfolding remaining_length
 remaining_length-next zero large = absurd (omega arith)
-remaining_length-next (suc n) large = groups-next n (suc n) large ∙ ap (λ bytes. (suc n % 128 + 128) ∷ bytes) (groups-room n (suc n / 128) (suc n / 128) (omega arith) (omega arith))
+remaining_length-next (suc n) large =
+    groups-next n (suc n) large
+    ∙ ap (λ bytes. (suc n % 128 + 128) ∷ bytes)
+    (groups-room n (suc n / 128) (suc n / 128) (omega arith) (omega arith))
 
 length-groups : (most n : ℕ) → length (groups most n) ≤ most + 1
 length-groups zero n = omega arith

@@ -10,7 +10,8 @@ with_front front read = read >>= λ items. Ok (front ++ items)
 
 -- an item takes bytes
 abbrev pub Consumes : {A : Type 0} → (List ℕ → Result (A × List ℕ) PacketFault) → Type 0
-Consumes {A} item_at = (bytes : List ℕ) (x : A) (rest : List ℕ) → item_at bytes ≡ Ok (x, rest) → length rest < length bytes
+Consumes {A} item_at =
+    (bytes : List ℕ) (x : A) (rest : List ℕ) → item_at bytes ≡ Ok (x, rest) → length rest < length bytes
 
 pub bind_same : {A B : Type 0} (r : Result A PacketFault) (f g : A → Result B PacketFault)
     → ((x : A) → r ≡ Ok x → f x ≡ g x) → (r >>= f) ≡ (r >>= g)
@@ -28,7 +29,9 @@ items_within-room item_at consumes (suc most) zero [] fits below = refl
 items_within-room item_at consumes (suc most) zero (b ∷ bytes) fits below = absurd (omega arith)
 items_within-room item_at consumes (suc most) (suc least) [] fits below = refl
 items_within-room {A} item_at consumes (suc most) (suc least) (b ∷ bytes) fits below =
-    bind_same (item_at (b ∷ bytes)) (λ item. items_within item_at most item.1 >>= λ items. Ok (item.0 ∷ items)) (λ item. items_within item_at least item.1 >>= λ items. Ok (item.0 ∷ items))
+    bind_same (item_at (b ∷ bytes))
+    (λ item. items_within item_at most item.1 >>= λ items. Ok (item.0 ∷ items))
+    (λ item. items_within item_at least item.1 >>= λ items. Ok (item.0 ∷ items))
     (λ x is. ap (λ (r : Result (List A) PacketFault). r >>= λ items. Ok (x.0 ∷ items)) (items_within-room item_at consumes most least x.1 (omega (arith, consumes (b ∷ bytes) x.0 x.1 is)) (omega arith)))
 
 pub items_of-next : {A : Type 0} (item_at : List ℕ → Result (A × List ℕ) PacketFault) → Consumes item_at

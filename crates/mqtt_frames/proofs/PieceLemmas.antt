@@ -72,7 +72,8 @@ with_length-unfinished : (first : ℕ) (l : Length) → with_length first l ≡ 
     → l ≡ lengths.Unfinished
 with_length-unfinished first lengths.Unfinished is = refl
 with_length-unfinished first lengths.Overlong is = absurd cc
-with_length-unfinished first (lengths.Known value size) is = absurd (with_kind-finished (kind_of first) (1 + size) value is)
+with_length-unfinished first (lengths.Known value size) is =
+    absurd (with_kind-finished (kind_of first) (1 + size) value is)
 
 pub header_at-cut : (bytes more : List ℕ) (kind : Kind) (start rest : ℕ)
     → header_at bytes ≡ headers.Unfinished
@@ -97,7 +98,8 @@ length_at-done (suc most) (b ∷ bytes) enough is =
 
 header_at-done : (bytes : List ℕ) → 5 ≤ length bytes → header_at bytes ≡ headers.Unfinished → ⊥
 header_at-done [] enough is = omega arith
-header_at-done (first ∷ bytes) enough is = length_at-done 4 bytes (omega arith) (with_length-unfinished first (length_at 4 bytes) is)
+header_at-done (first ∷ bytes) enough is =
+    length_at-done 4 bytes (omega arith) (with_length-unfinished first (length_at 4 bytes) is)
 
 pub header_at-fixed : (bytes more : List ℕ) → 5 ≤ length bytes → header_at bytes ≡ header_at (bytes ++ more)
 header_at-fixed bytes more enough =
@@ -154,7 +156,8 @@ pub part-read : (bytes : List ℕ) (kind : Kind) (start rest : ℕ)
     → header_at bytes ≡ headers.Known kind start rest → start + rest ≤ MAX_PACKET
     → length bytes < start + rest → read_all bytes ≡ alone (Rest bytes)
 part-read bytes kind start rest told short part =
-    read_all-waiting bytes (rw (told, le-ltb MAX_PACKET (start + rest) short, lt-ltb (length bytes) (start + rest) part) refl)
+    read_all-waiting bytes
+    (rw (told, le-ltb MAX_PACKET (start + rest) short, lt-ltb (length bytes) (start + rest) part) refl)
 
 sized-read : (bytes : List ℕ) (size : ℕ) (r : Result Packet PacketFault) → decode bytes ≡ sized size r
     → read_all bytes ≡ behind_body r (drop size bytes)
@@ -167,7 +170,8 @@ pub whole-read : (held part behind : List ℕ) (kind : Kind) (start rest : ℕ)
     → read_all (held ++ (part ++ behind)) ≡ behind_body (body_of kind (drop start (held ++ part))) behind
 whole-read held part behind kind start rest told short size =
     let all = held ++ (part ++ behind) in
-    let enough : start + rest ≤ length (held ++ (part ++ behind)) = omega (arith, length-append held (part ++ behind), length-append part behind, length-append held part) in
+    let enough : start + rest ≤ length (held ++ (part ++ behind)) =
+    omega (arith, length-append held (part ++ behind), length-append part behind, length-append held part) in
     let body : take rest (drop start (held ++ (part ++ behind))) ≡ drop start (held ++ part) =
     ap (λ (b : List ℕ). take rest (drop start b)) (sym (append_assoc held part behind))
     ∙ body-more start rest (held ++ part) behind (omega arith)
@@ -214,8 +218,10 @@ decode-two bytes p size is =
 few-behind : (f : Front) (bytes : List ℕ) → decode bytes ≡ f
     → ((others : List ℕ) → length others < length bytes → 2 * length (read_all others).packets ≤ length others)
     → 2 * length (read_all bytes).packets ≤ length bytes
-few-behind fronts.Waiting bytes is few = omega (arith, ap (λ (r : Read). length r.packets) (read_all-waiting bytes is))
-few-behind (fronts.Faulty fault) bytes is few = omega (arith, ap (λ (r : Read). length r.packets) (read_all-faulty bytes fault is))
+few-behind fronts.Waiting bytes is few =
+    omega (arith, ap (λ (r : Read). length r.packets) (read_all-waiting bytes is))
+few-behind (fronts.Faulty fault) bytes is few =
+    omega (arith, ap (λ (r : Read). length r.packets) (read_all-faulty bytes fault is))
 few-behind (fronts.Whole packet size) bytes is few =
     let within = decode-within bytes packet size is in
     let others = few (drop size bytes) (omega (arith, length-drop size bytes)) in
@@ -225,12 +231,15 @@ few-within : (most : ℕ) (bytes : List ℕ) → length bytes ≤ most
     → 2 * length (read_all bytes).packets ≤ length bytes
 few-within zero [] fits = omega arith
 few-within zero (b ∷ bytes) fits = absurd (omega arith)
-few-within (suc most) bytes fits = few-behind (decode bytes) bytes refl (λ others less. few-within most others (omega arith))
+few-within (suc most) bytes fits =
+    few-behind (decode bytes) bytes refl (λ others less. few-within most others (omega arith))
 
 few-held : (f : Front) (held piece : List ℕ) → decode held ≡ fronts.Waiting → decode (held ++ piece) ≡ f
     → 2 * length (read_all (held ++ piece)).packets ≤ 2 + length piece
-few-held fronts.Waiting held piece waits is = omega (arith, ap (λ (r : Read). length r.packets) (read_all-waiting (held ++ piece) is))
-few-held (fronts.Faulty fault) held piece waits is = omega (arith, ap (λ (r : Read). length r.packets) (read_all-faulty (held ++ piece) fault is))
+few-held fronts.Waiting held piece waits is =
+    omega (arith, ap (λ (r : Read). length r.packets) (read_all-waiting (held ++ piece) is))
+few-held (fronts.Faulty fault) held piece waits is =
+    omega (arith, ap (λ (r : Read). length r.packets) (read_all-faulty (held ++ piece) fault is))
 few-held (fronts.Whole packet size) held piece waits is =
     let all = held ++ piece in
     let h = behind_header-known (header_at all) all packet size is in
@@ -253,14 +262,17 @@ pub few_taken : (held piece : List ℕ) (packets : List Packet) (fault : Option 
     → decode held ≡ fronts.Waiting
     → read_all (held ++ piece) ≡ read_of packets fault after → 2 * length packets ≤ 2 + length piece
 few_taken held piece packets fault after waits is =
-    let same : (read_all (held ++ piece)).packets ≡ packets = ap (λ (r : Read). r.packets) is ∙ read_of-packets packets fault after in
+    let same : (read_all (held ++ piece)).packets ≡ packets =
+    ap (λ (r : Read). r.packets) is ∙ read_of-packets packets fault after in
     omega (arith, few_packets held piece waits, ap length same)
 
 pub waits_then : (bytes : List ℕ) (packets : List Packet) (fault : Option PacketFault) (after : List ℕ)
     → read_all bytes ≡ read_of packets fault after
     → fault ≡ None → decode after ≡ fronts.Waiting
 waits_then bytes packets fault after is none =
-    subst WaitsAt (ap (λ (r : Read). r.ending) (is ∙ ap (λ (f : Option PacketFault). read_of packets f after) none)) (read_all-waits bytes)
+    subst WaitsAt
+    (ap (λ (r : Read). r.ending) (is ∙ ap (λ (f : Option PacketFault). read_of packets f after) none))
+    (read_all-waits bytes)
 
 pub ready_from : (s : Status) (held : List ℕ) → s ≡ statuses.Reading → decode held ≡ fronts.Waiting
     → IsReady s held

@@ -50,10 +50,12 @@ AreBytes-front [] ys are = tt
 AreBytes-front (x ∷ xs) ys are = (are.0, AreBytes-front xs ys are.1)
 
 pub AreBytes-drop : (n : ℕ) (xs : List ℕ) → AreBytes xs → AreBytes (drop n xs)
-AreBytes-drop n xs are = AreBytes-behind (take n xs) (drop n xs) (subst AreBytes (sym (take-append-drop n xs)) are)
+AreBytes-drop n xs are =
+    AreBytes-behind (take n xs) (drop n xs) (subst AreBytes (sym (take-append-drop n xs)) are)
 
 AreBytes-take : (n : ℕ) (xs : List ℕ) → AreBytes xs → AreBytes (take n xs)
-AreBytes-take n xs are = AreBytes-front (take n xs) (drop n xs) (subst AreBytes (sym (take-append-drop n xs)) are)
+AreBytes-take n xs are =
+    AreBytes-front (take n xs) (drop n xs) (subst AreBytes (sym (take-append-drop n xs)) are)
 
 -- the fixed header
 
@@ -216,12 +218,14 @@ optional_id-took : (identified : Bool) (bytes : List ℕ) (x : Option ℕ × Lis
     → Took (SpellsOptionalId x.0) bytes x.1 × (is_some x.0 ≡ identified)
 optional_id-took false bytes x are is =
     let same : (None, bytes) ≡ x = ok_is (None, bytes) x is in
-    subst (λ (y : Option ℕ × List ℕ). Took (SpellsOptionalId y.0) bytes y.1 × (is_some y.0 ≡ false)) same (record { taken = []; spelled = refl; parts = refl; others = are }, refl)
+    subst (λ (y : Option ℕ × List ℕ). Took (SpellsOptionalId y.0) bytes y.1 × (is_some y.0 ≡ false)) same
+    (record { taken = []; spelled = refl; parts = refl; others = are }, refl)
 optional_id-took true bytes x are is =
     let id = bind_ok (id_at bytes) (λ id. Ok (Some id.0, id.1)) x is in
     let same : (Some id.0.0, id.0.1) ≡ x = ok_is (Some id.0.0, id.0.1) x id.2 in
     let t = id-took bytes id.0 are id.1 in
-    subst (λ (y : Option ℕ × List ℕ). Took (SpellsOptionalId y.0) bytes y.1 × (is_some y.0 ≡ true)) same (record { taken = t.taken; spelled = t.spelled; parts = t.parts; others = t.others }, refl)
+    subst (λ (y : Option ℕ × List ℕ). Took (SpellsOptionalId y.0) bytes y.1 × (is_some y.0 ≡ true)) same
+    (record { taken = t.taken; spelled = t.spelled; parts = t.parts; others = t.others }, refl)
 
 at_end-is : {A : Type 0} (x y : A) (rest : List ℕ) → at_end x rest ≡ Ok y → (rest ≡ []) × (x ≡ y)
 at_end-is x y [] is = (refl, ok_is x y is)
@@ -231,28 +235,40 @@ at_end-is x y (b ∷ rest) is = absurd cc
 
 requests-spelled : (most : ℕ) (bytes : List ℕ) (requests : List Request) → AreBytes bytes
     → items_within request_at most bytes ≡ Ok requests → SpellsRequests requests bytes
-requests-spelled zero [] requests are is = subst (λ (rs : List Request). SpellsRequests rs []) (ok_is [] requests is) refl
-requests-spelled (suc most) [] requests are is = subst (λ (rs : List Request). SpellsRequests rs []) (ok_is [] requests is) refl
+requests-spelled zero [] requests are is =
+    subst (λ (rs : List Request). SpellsRequests rs []) (ok_is [] requests is) refl
+requests-spelled (suc most) [] requests are is =
+    subst (λ (rs : List Request). SpellsRequests rs []) (ok_is [] requests is) refl
 requests-spelled zero (b ∷ bytes) requests are is = absurd cc
 requests-spelled (suc most) (b ∷ bytes) requests are is =
-    let item = bind_ok (request_at (b ∷ bytes)) (λ item. items_within request_at most item.1 >>= λ items. Ok (item.0 ∷ items)) requests is in
-    let others = bind_ok (items_within request_at most item.0.1) (λ items. Ok (item.0.0 ∷ items)) requests item.2 in
+    let item =
+    bind_ok (request_at (b ∷ bytes))
+    (λ item. items_within request_at most item.1 >>= λ items. Ok (item.0 ∷ items)) requests is in
+    let others =
+    bind_ok (items_within request_at most item.0.1) (λ items. Ok (item.0.0 ∷ items)) requests item.2 in
     let r = request_at-reads (b ∷ bytes) item.0 item.1 in
     let t = is_text-took (b ∷ bytes) item.0.0.filter r.behind are r.filter in
     let behind = subst AreBytes r.parts t.others in
-    subst (λ (rs : List Request). SpellsRequests rs (b ∷ bytes)) (ok_is (item.0.0 ∷ others.0) requests others.2)
+    subst (λ (rs : List Request). SpellsRequests rs (b ∷ bytes))
+    (ok_is (item.0.0 ∷ others.0) requests others.2)
     (t.taken, item.0.1, t.spelled, requests-spelled most item.0.1 others.0 behind.1 others.1, t.parts ∙ ap (λ (x : List ℕ). t.taken ++ x) r.parts)
 
 filters-spelled : (most : ℕ) (bytes : List ℕ) (filters : List (List ℕ)) → AreBytes bytes
     → items_within text_at most bytes ≡ Ok filters → SpellsFilters filters bytes
-filters-spelled zero [] filters are is = subst (λ (fs : List (List ℕ)). SpellsFilters fs []) (ok_is [] filters is) refl
-filters-spelled (suc most) [] filters are is = subst (λ (fs : List (List ℕ)). SpellsFilters fs []) (ok_is [] filters is) refl
+filters-spelled zero [] filters are is =
+    subst (λ (fs : List (List ℕ)). SpellsFilters fs []) (ok_is [] filters is) refl
+filters-spelled (suc most) [] filters are is =
+    subst (λ (fs : List (List ℕ)). SpellsFilters fs []) (ok_is [] filters is) refl
 filters-spelled zero (b ∷ bytes) filters are is = absurd cc
 filters-spelled (suc most) (b ∷ bytes) filters are is =
-    let item = bind_ok (text_at (b ∷ bytes)) (λ item. items_within text_at most item.1 >>= λ items. Ok (item.0 ∷ items)) filters is in
-    let others = bind_ok (items_within text_at most item.0.1) (λ items. Ok (item.0.0 ∷ items)) filters item.2 in
+    let item =
+    bind_ok (text_at (b ∷ bytes))
+    (λ item. items_within text_at most item.1 >>= λ items. Ok (item.0 ∷ items)) filters is in
+    let others =
+    bind_ok (items_within text_at most item.0.1) (λ items. Ok (item.0.0 ∷ items)) filters item.2 in
     let t = text-took (b ∷ bytes) item.0 are item.1 in
-    subst (λ (fs : List (List ℕ)). SpellsFilters fs (b ∷ bytes)) (ok_is (item.0.0 ∷ others.0) filters others.2)
+    subst (λ (fs : List (List ℕ)). SpellsFilters fs (b ∷ bytes))
+    (ok_is (item.0.0 ∷ others.0) filters others.2)
     (t.taken, item.0.1, t.spelled, filters-spelled most item.0.1 others.0 t.others others.1, t.parts)
 
 code_of-reads : (byte : ℕ) (code : SubscribeCode) → code_of byte ≡ Ok code → code_byte code ≡ byte
@@ -295,11 +311,16 @@ record IsConnect (clean_session : Bool) (bytes : List ℕ) (p : Packet) : Type 0
 connect_rest-spelled : (clean_session : Bool) (bytes : List ℕ) (p : Packet) → AreBytes bytes
     → connect_rest clean_session bytes ≡ Ok p → IsConnect clean_session bytes p
 connect_rest-spelled clean_session bytes p are is =
-    let keep = bind_ok (number_at bytes) (λ keep_alive. text_at keep_alive.1 >>= λ client_id. at_end (variants.Connect (record { clean_session = clean_session; keep_alive = keep_alive.0; client_id = client_id.0 })) client_id.1) p is in
+    let keep =
+    bind_ok (number_at bytes)
+    (λ keep_alive. text_at keep_alive.1 >>= λ client_id. at_end (variants.Connect (record { clean_session = clean_session; keep_alive = keep_alive.0; client_id = client_id.0 })) client_id.1) p is in
     let k = number-took bytes keep.0 are keep.1 in
-    let id = bind_ok (text_at keep.0.1) (λ client_id. at_end (variants.Connect (record { clean_session = clean_session; keep_alive = keep.0.0; client_id = client_id.0 })) client_id.1) p keep.2 in
+    let id =
+    bind_ok (text_at keep.0.1)
+    (λ client_id. at_end (variants.Connect (record { clean_session = clean_session; keep_alive = keep.0.0; client_id = client_id.0 })) client_id.1) p keep.2 in
     let t = text-took keep.0.1 id.0 k.others id.1 in
-    let end = at_end-is (variants.Connect (record { clean_session = clean_session; keep_alive = keep.0.0; client_id = id.0.0 })) p id.0.1 id.2 in
+    let end =
+    at_end-is (variants.Connect (record { clean_session = clean_session; keep_alive = keep.0.0; client_id = id.0.0 })) p id.0.1 id.2 in
     record {
       connect = record { clean_session = clean_session; keep_alive = keep.0.0; client_id = id.0.0 };
       is = end.1;
@@ -337,7 +358,8 @@ connect-spelled body p are is =
     let c = f.connect in
     let whole : body ≡ protocol ++ (flag c.connect.clean_session 2 ∷ (c.keep_alive ++ c.client_id)) =
     sym (take-append-drop 7 body) ∙ ap (λ (x : List ℕ). x ++ drop 7 body) front
-    ∙ ap (λ (x : List ℕ). protocol ++ x) (f.parts ∙ ap (λ (x : List ℕ). flag f.clean_session 2 ∷ x) c.parts ∙ ap (λ b. flag b 2 ∷ (c.keep_alive ++ c.client_id)) (sym c.clean)) in
+    ∙ ap (λ (x : List ℕ). protocol ++ x)
+    (f.parts ∙ ap (λ (x : List ℕ). flag f.clean_session 2 ∷ x) c.parts ∙ ap (λ b. flag b 2 ∷ (c.keep_alive ++ c.client_id)) (sym c.clean)) in
     subst (IsBody kinds.Connect body) c.is (
       record {
         keep_alive = c.keep_alive;
@@ -351,14 +373,18 @@ connect-spelled body p are is =
 
 session_of-reads : (flags : ℕ) (present : Bool) → session_of flags ≡ Ok present → flag present 1 ≡ flags
 session_of-reads flags present is =
-    link flags 0 false _ present (λ b. flag b 1) refl (λ one. link flags 1 true (Err Malformed) present (λ b. flag b 1) refl (λ more. absurd (not_ok Malformed present more)) one) is
+    link flags 0 false _ present (λ b. flag b 1) refl
+    (λ one. link flags 1 true (Err Malformed) present (λ b. flag b 1) refl (λ more. absurd (not_ok Malformed present more)) one) is
 
 ack-spelled : (body : List ℕ) (p : Packet) → connect_ack_of body ≡ Ok p → IsBody kinds.ConnectAck body p
 ack-spelled [] p is = absurd cc
 ack-spelled (a ∷ []) p is = absurd cc
 ack-spelled (flags ∷ code ∷ []) p is =
-    let present = bind_ok (session_of flags) (λ session_present. Ok (variants.ConnectAck (record { session_present = session_present; code = code }))) p is in
-    subst (IsBody kinds.ConnectAck (flags ∷ code ∷ [])) (ok_is (variants.ConnectAck (record { session_present = present.0; code = code })) p present.2)
+    let present =
+    bind_ok (session_of flags)
+    (λ session_present. Ok (variants.ConnectAck (record { session_present = session_present; code = code }))) p is in
+    subst (IsBody kinds.ConnectAck (flags ∷ code ∷ []))
+    (ok_is (variants.ConnectAck (record { session_present = present.0; code = code })) p present.2)
     (ap (λ f. f ∷ code ∷ []) (sym (session_of-reads flags present.0 present.1)), refl)
 ack-spelled (a ∷ b ∷ c ∷ d) p is = absurd cc
 
@@ -370,11 +396,16 @@ identified-bits (Some id) identified is = ap (λ b. flag b 2) is
 publish-spelled : (f : PublishFlags) (body : List ℕ) (p : Packet) → AreBytes body → publish_of f body ≡ Ok p
     → IsBody (kinds.Publish f) body p
 publish-spelled f body p are is =
-    let name = bind_ok (text_at body) (λ name. optional_id_at f.identified name.1 >>= λ id. Ok (variants.Publish (record { dup = f.dup; retain = f.retain; packet_id = id.0; name = name.0; payload = id.1 }))) p is in
+    let name =
+    bind_ok (text_at body)
+    (λ name. optional_id_at f.identified name.1 >>= λ id. Ok (variants.Publish (record { dup = f.dup; retain = f.retain; packet_id = id.0; name = name.0; payload = id.1 }))) p is in
     let n = text-took body name.0 are name.1 in
-    let id = bind_ok (optional_id_at f.identified name.0.1) (λ id. Ok (variants.Publish (record { dup = f.dup; retain = f.retain; packet_id = id.0; name = name.0.0; payload = id.1 }))) p name.2 in
+    let id =
+    bind_ok (optional_id_at f.identified name.0.1)
+    (λ id. Ok (variants.Publish (record { dup = f.dup; retain = f.retain; packet_id = id.0; name = name.0.0; payload = id.1 }))) p name.2 in
     let i = optional_id-took f.identified name.0.1 id.0 n.others id.1 in
-    let publish : Publish = record { dup = f.dup; retain = f.retain; packet_id = id.0.0; name = name.0.0; payload = id.0.1 } in
+    let publish : Publish =
+    record { dup = f.dup; retain = f.retain; packet_id = id.0.0; name = name.0.0; payload = id.0.1 } in
     subst (IsBody (kinds.Publish f) body) (ok_is (variants.Publish publish) p id.2) (
       record {
         name = n.taken;
@@ -391,18 +422,24 @@ whole_id-spelled body id are is =
     let x = bind_ok (id_at body) (λ id. at_end id.0 id.1) id is in
     let t = id-took body x.0 are x.1 in
     let end = at_end-is x.0.0 id x.0.1 x.2 in
-    let whole : t.taken ≡ body = sym (append-nil t.taken) ∙ ap (λ (y : List ℕ). t.taken ++ y) (sym end.0) ∙ sym t.parts in
+    let whole : t.taken ≡ body =
+    sym (append-nil t.taken) ∙ ap (λ (y : List ℕ). t.taken ++ y) (sym end.0) ∙ sym t.parts in
     subst (λ (n : ℕ). SpellsId n body) end.1 (subst (SpellsId x.0.0) whole t.spelled)
 
 subscribe-spelled : (body : List ℕ) (p : Packet) → AreBytes body → subscribe_of body ≡ Ok p
     → IsBody kinds.Subscribe body p
 subscribe-spelled body p are is =
-    let id = bind_ok (id_at body) (λ id. some_of (items_of request_at) id.1 >>= λ requests. Ok (variants.Subscribe (record { packet_id = id.0; requests = requests }))) p is in
+    let id =
+    bind_ok (id_at body)
+    (λ id. some_of (items_of request_at) id.1 >>= λ requests. Ok (variants.Subscribe (record { packet_id = id.0; requests = requests }))) p is in
     let t = id-took body id.0 are id.1 in
-    let rs = bind_ok (some_of (items_of request_at) id.0.1) (λ requests. Ok (variants.Subscribe (record { packet_id = id.0.0; requests = requests }))) p id.2 in
+    let rs =
+    bind_ok (some_of (items_of request_at) id.0.1)
+    (λ requests. Ok (variants.Subscribe (record { packet_id = id.0.0; requests = requests }))) p id.2 in
     let some = some_of-is (items_of request_at) id.0.1 rs.0 rs.1 in
     let listed = requests-spelled (length id.0.1) id.0.1 rs.0 t.others some.1 in
-    subst (IsBody kinds.Subscribe body) (ok_is (variants.Subscribe (record { packet_id = id.0.0; requests = rs.0 })) p rs.2) (
+    subst (IsBody kinds.Subscribe body)
+    (ok_is (variants.Subscribe (record { packet_id = id.0.0; requests = rs.0 })) p rs.2) (
       record {
         id_bytes = t.taken;
         packet_id = t.spelled;
@@ -417,12 +454,17 @@ subscribe-spelled body p are is =
 unsubscribe-spelled : (body : List ℕ) (p : Packet) → AreBytes body → unsubscribe_of body ≡ Ok p
     → IsBody kinds.Unsubscribe body p
 unsubscribe-spelled body p are is =
-    let id = bind_ok (id_at body) (λ id. some_of (items_of text_at) id.1 >>= λ filters. Ok (variants.Unsubscribe (record { packet_id = id.0; filters = filters }))) p is in
+    let id =
+    bind_ok (id_at body)
+    (λ id. some_of (items_of text_at) id.1 >>= λ filters. Ok (variants.Unsubscribe (record { packet_id = id.0; filters = filters }))) p is in
     let t = id-took body id.0 are id.1 in
-    let fs = bind_ok (some_of (items_of text_at) id.0.1) (λ filters. Ok (variants.Unsubscribe (record { packet_id = id.0.0; filters = filters }))) p id.2 in
+    let fs =
+    bind_ok (some_of (items_of text_at) id.0.1)
+    (λ filters. Ok (variants.Unsubscribe (record { packet_id = id.0.0; filters = filters }))) p id.2 in
     let some = some_of-is (items_of text_at) id.0.1 fs.0 fs.1 in
     let listed = filters-spelled (length id.0.1) id.0.1 fs.0 t.others some.1 in
-    subst (IsBody kinds.Unsubscribe body) (ok_is (variants.Unsubscribe (record { packet_id = id.0.0; filters = fs.0 })) p fs.2) (
+    subst (IsBody kinds.Unsubscribe body)
+    (ok_is (variants.Unsubscribe (record { packet_id = id.0.0; filters = fs.0 })) p fs.2) (
       record {
         id_bytes = t.taken;
         packet_id = t.spelled;
@@ -437,12 +479,17 @@ unsubscribe-spelled body p are is =
 subscribe_ack-spelled : (body : List ℕ) (p : Packet) → AreBytes body → subscribe_ack_of body ≡ Ok p
     → IsBody kinds.SubscribeAck body p
 subscribe_ack-spelled body p are is =
-    let id = bind_ok (id_at body) (λ id. some_of codes_of id.1 >>= λ codes. Ok (variants.SubscribeAck (record { packet_id = id.0; codes = codes }))) p is in
+    let id =
+    bind_ok (id_at body)
+    (λ id. some_of codes_of id.1 >>= λ codes. Ok (variants.SubscribeAck (record { packet_id = id.0; codes = codes }))) p is in
     let t = id-took body id.0 are id.1 in
-    let cs = bind_ok (some_of codes_of id.0.1) (λ codes. Ok (variants.SubscribeAck (record { packet_id = id.0.0; codes = codes }))) p id.2 in
+    let cs =
+    bind_ok (some_of codes_of id.0.1)
+    (λ codes. Ok (variants.SubscribeAck (record { packet_id = id.0.0; codes = codes }))) p id.2 in
     let some = some_of-is codes_of id.0.1 cs.0 cs.1 in
     let listed = codes-spelled id.0.1 cs.0 some.1 in
-    subst (IsBody kinds.SubscribeAck body) (ok_is (variants.SubscribeAck (record { packet_id = id.0.0; codes = cs.0 })) p cs.2) (
+    subst (IsBody kinds.SubscribeAck body)
+    (ok_is (variants.SubscribeAck (record { packet_id = id.0.0; codes = cs.0 })) p cs.2) (
       record {
         id_bytes = t.taken;
         packet_id = t.spelled;
@@ -467,16 +514,21 @@ body-spelled kinds.ConnectAck body p are is = ack-spelled body p is
 body-spelled (kinds.Publish f) body p are is = publish-spelled f body p are is
 body-spelled kinds.PublishAck body p are is =
     let id = bind_ok (whole_id body) (λ id. Ok (variants.PublishAck id)) p is in
-    subst (IsBody kinds.PublishAck body) (ok_is (variants.PublishAck id.0) p id.2) (whole_id-spelled body id.0 are id.1, refl)
+    subst (IsBody kinds.PublishAck body) (ok_is (variants.PublishAck id.0) p id.2)
+    (whole_id-spelled body id.0 are id.1, refl)
 body-spelled kinds.Subscribe body p are is = subscribe-spelled body p are is
 body-spelled kinds.SubscribeAck body p are is = subscribe_ack-spelled body p are is
 body-spelled kinds.Unsubscribe body p are is = unsubscribe-spelled body p are is
 body-spelled kinds.UnsubscribeAck body p are is =
     let id = bind_ok (whole_id body) (λ id. Ok (variants.UnsubscribeAck id)) p is in
-    subst (IsBody kinds.UnsubscribeAck body) (ok_is (variants.UnsubscribeAck id.0) p id.2) (whole_id-spelled body id.0 are id.1, refl)
-body-spelled kinds.PingRequest body p are is = empty-spelled kinds.PingRequest variants.PingRequest p body (refl, refl) is
-body-spelled kinds.PingResponse body p are is = empty-spelled kinds.PingResponse variants.PingResponse p body (refl, refl) is
-body-spelled kinds.Disconnect body p are is = empty-spelled kinds.Disconnect variants.Disconnect p body (refl, refl) is
+    subst (IsBody kinds.UnsubscribeAck body) (ok_is (variants.UnsubscribeAck id.0) p id.2)
+    (whole_id-spelled body id.0 are id.1, refl)
+body-spelled kinds.PingRequest body p are is =
+    empty-spelled kinds.PingRequest variants.PingRequest p body (refl, refl) is
+body-spelled kinds.PingResponse body p are is =
+    empty-spelled kinds.PingResponse variants.PingResponse p body (refl, refl) is
+body-spelled kinds.Disconnect body p are is =
+    empty-spelled kinds.Disconnect variants.Disconnect p body (refl, refl) is
 
 -- the whole packet
 
@@ -531,11 +583,15 @@ told-spelled : (first : ℕ) (bytes : List ℕ) (kind : Kind) (start rest : ℕ)
 told-spelled first bytes kind start rest p size are h b =
     let n = h.size in
     let begins : start ≡ suc n = omega (arith, h.begins) in
-    let at_body : take rest (drop start (first ∷ bytes)) ≡ take rest (drop n bytes) = ap (λ (k : ℕ). take rest (drop k (first ∷ bytes))) begins in
+    let at_body : take rest (drop start (first ∷ bytes)) ≡ take rest (drop n bytes) =
+    ap (λ (k : ℕ). take rest (drop k (first ∷ bytes))) begins in
     let behind = take rest (drop n bytes) in
-    let count : length behind ≡ rest = length-take-le rest (drop n bytes) (omega (arith, length-drop n bytes, b.enough)) in
+    let count : length behind ≡ rest =
+    length-take-le rest (drop n bytes) (omega (arith, length-drop n bytes, b.enough)) in
     let l = length_at-spelled 4 bytes rest n are.1 h.told in
-    let s = body-spelled kind behind p (AreBytes-take rest (drop n bytes) (AreBytes-drop n bytes are.1)) (ap (body_of kind) (sym at_body) ∙ b.body) in
+    let s =
+    body-spelled kind behind p (AreBytes-take rest (drop n bytes) (AreBytes-drop n bytes are.1))
+    (ap (body_of kind) (sym at_body) ∙ b.body) in
     let byte : first_byte p ≡ first = s.1 ∙ kind_of-reads first kind h.kind_is in
     let total : size ≡ suc (n + rest) = omega (arith, b.total) in (
       record {
@@ -557,7 +613,9 @@ front-spelled-at headers.Unfinished bytes p size are told is = absurd cc
 front-spelled-at (headers.Faulty fault) bytes p size are told is = absurd cc
 front-spelled-at (headers.Known kind start rest) [] p size are told is = absurd cc
 front-spelled-at (headers.Known kind start rest) (first ∷ bytes) p size are told is =
-    told-spelled first bytes kind start rest p size are (with_length-told first (length_at 4 bytes) bytes kind start rest refl told) (behind_header-told kind start rest (first ∷ bytes) p size is)
+    told-spelled first bytes kind start rest p size are
+    (with_length-told first (length_at 4 bytes) bytes kind start rest refl told)
+    (behind_header-told kind start rest (first ∷ bytes) p size is)
 
 pub front-spelled : (p : Packet) (bytes : List ℕ) (size : ℕ) → AreBytes bytes
     → decode bytes ≡ fronts.Whole p size → Spells p (take size bytes) × (size ≤ MAX_PACKET)

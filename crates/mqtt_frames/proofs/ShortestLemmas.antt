@@ -49,21 +49,27 @@ filters_unique (f ∷ filters) b s =
 body_unique : (p : Packet) (b : List ℕ) → SpellsBody p b → b ≡ body p
 body_unique (variants.Connect c) b s =
     s.bytes
-    ∙ ap (λ (x : List ℕ). protocol ++ (flag c.clean_session 2 ∷ (x ++ s.client_id))) (number_unique c.keep_alive s.keep_alive s.keep_alive_number)
-    ∙ ap (λ (x : List ℕ). protocol ++ (flag c.clean_session 2 ∷ (number_bytes c.keep_alive ++ x))) (text_unique c.client_id s.client_id s.client_id_text)
+    ∙ ap (λ (x : List ℕ). protocol ++ (flag c.clean_session 2 ∷ (x ++ s.client_id)))
+    (number_unique c.keep_alive s.keep_alive s.keep_alive_number)
+    ∙ ap (λ (x : List ℕ). protocol ++ (flag c.clean_session 2 ∷ (number_bytes c.keep_alive ++ x)))
+    (text_unique c.client_id s.client_id s.client_id_text)
 body_unique (variants.ConnectAck a) b s = s
 body_unique (variants.Publish p) b s =
     s.bytes ∙ ap (λ (x : List ℕ). x ++ (s.id ++ p.payload)) (text_unique p.name s.name s.name_text)
-    ∙ ap (λ (x : List ℕ). text_bytes p.name ++ (x ++ p.payload)) (optional_id-unique p.packet_id s.id s.packet_id)
+    ∙ ap (λ (x : List ℕ). text_bytes p.name ++ (x ++ p.payload))
+    (optional_id-unique p.packet_id s.id s.packet_id)
 body_unique (variants.PublishAck id) b s = number_unique id b s.number
 body_unique (variants.Subscribe s) b l =
-    l.bytes ∙ ap (λ (x : List ℕ). x ++ l.items_bytes) (number_unique s.packet_id l.id_bytes l.packet_id.number)
+    l.bytes ∙ ap (λ (x : List ℕ). x ++ l.items_bytes)
+    (number_unique s.packet_id l.id_bytes l.packet_id.number)
     ∙ ap (λ (x : List ℕ). number_bytes s.packet_id ++ x) (requests_unique s.requests l.items_bytes l.listed)
 body_unique (variants.SubscribeAck a) b l =
-    l.bytes ∙ ap (λ (x : List ℕ). x ++ l.items_bytes) (number_unique a.packet_id l.id_bytes l.packet_id.number)
+    l.bytes ∙ ap (λ (x : List ℕ). x ++ l.items_bytes)
+    (number_unique a.packet_id l.id_bytes l.packet_id.number)
     ∙ ap (λ (x : List ℕ). number_bytes a.packet_id ++ x) l.listed
 body_unique (variants.Unsubscribe u) b l =
-    l.bytes ∙ ap (λ (x : List ℕ). x ++ l.items_bytes) (number_unique u.packet_id l.id_bytes l.packet_id.number)
+    l.bytes ∙ ap (λ (x : List ℕ). x ++ l.items_bytes)
+    (number_unique u.packet_id l.id_bytes l.packet_id.number)
     ∙ ap (λ (x : List ℕ). number_bytes u.packet_id ++ x) (filters_unique u.filters l.items_bytes l.listed)
 body_unique (variants.UnsubscribeAck id) b s = number_unique id b s.number
 body_unique variants.PingRequest b s = s

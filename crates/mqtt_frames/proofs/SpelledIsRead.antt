@@ -47,7 +47,8 @@ groups-read (suc most) n (b ∷ bytes) more (inl last) fits =
     rw (lt-ltb b 128 last.0, last.2, last.1) refl
 groups-read (suc most) n (b ∷ bytes) more (inr next) fits =
     let rest = next.2.0 in
-    let others : length_at most (bytes ++ more) ≡ lengths.Known rest (length bytes) = groups-read most rest bytes more next.2.2 (omega arith) in
+    let others : length_at most (bytes ++ more) ≡ lengths.Known rest (length bytes) =
+    groups-read most rest bytes more next.2.2 (omega arith) in
     let value : b - 128 + 128 * rest ≡ n = omega (arith, next.0, next.2.1) in
     rw (le-ltb b 128 next.0, others, value) (ap (λ k. lengths.Known n k) (omega arith))
 
@@ -55,7 +56,8 @@ groups-read (suc most) n (b ∷ bytes) more (inr next) fits =
 abbrev pub kind_for : Packet → Kind
 kind_for (variants.Connect c) = kinds.Connect
 kind_for (variants.ConnectAck a) = kinds.ConnectAck
-kind_for (variants.Publish p) = kinds.Publish (record { dup = p.dup; identified = is_some p.packet_id; retain = p.retain })
+kind_for (variants.Publish p) =
+    kinds.Publish (record { dup = p.dup; identified = is_some p.packet_id; retain = p.retain })
 kind_for (variants.PublishAck id) = kinds.PublishAck
 kind_for (variants.Subscribe s) = kinds.Subscribe
 kind_for (variants.SubscribeAck a) = kinds.SubscribeAck
@@ -101,9 +103,12 @@ id-read id b rest s =
 
 text-read : (text b rest : List ℕ) → SpellsText text b → text_at (b ++ rest) ≡ Ok (text, rest)
 text-read text b rest s =
-    let whole : b ++ rest ≡ s.count ++ (text ++ rest) = ap (λ (x : List ℕ). x ++ rest) s.bytes ∙ append_assoc s.count text rest in
-    let number : number_at (b ++ rest) ≡ Ok (length text, text ++ rest) = ap number_at whole ∙ number-read (length text) s.count (text ++ rest) s.number in
-    let fits : nat_lt (length (text ++ rest)) (length text) ≡ false = le-ltb (length (text ++ rest)) (length text) (omega (arith, length-append text rest)) in
+    let whole : b ++ rest ≡ s.count ++ (text ++ rest) =
+    ap (λ (x : List ℕ). x ++ rest) s.bytes ∙ append_assoc s.count text rest in
+    let number : number_at (b ++ rest) ≡ Ok (length text, text ++ rest) =
+    ap number_at whole ∙ number-read (length text) s.count (text ++ rest) s.number in
+    let fits : nat_lt (length (text ++ rest)) (length text) ≡ false =
+    le-ltb (length (text ++ rest)) (length text) (omega (arith, length-append text rest)) in
     rw (number, fits, take-append_seam, drop-append_seam) refl
 
 optional_id-read : (id : Option ℕ) (b rest : List ℕ) → SpellsOptionalId id b
@@ -136,7 +141,8 @@ requests-read [] b s = rw s refl
 requests-read (r ∷ requests) b s =
     let first : request_at b ≡ Ok (r, s.1) = ap request_at s.4 ∙ request-read r s.0 s.1 s.2 in
     items_of-next request_at Consumes-request_at b r s.1 first
-    ∙ ap (λ (x : Result (List Request) PacketFault). x >>= λ items. Ok (r ∷ items)) (requests-read requests s.1 s.3)
+    ∙ ap (λ (x : Result (List Request) PacketFault). x >>= λ items. Ok (r ∷ items))
+    (requests-read requests s.1 s.3)
 
 filters-read : (filters : List (List ℕ)) (b : List ℕ) → SpellsFilters filters b
     → items_of text_at b ≡ Ok filters
@@ -144,7 +150,8 @@ filters-read [] b s = rw s refl
 filters-read (f ∷ filters) b s =
     let first : text_at b ≡ Ok (f, s.1) = ap text_at s.4 ∙ text-read f s.0 s.1 s.2 in
     items_of-next text_at Consumes-text_at b f s.1 first
-    ∙ ap (λ (x : Result (List (List ℕ)) PacketFault). x >>= λ items. Ok (f ∷ items)) (filters-read filters s.1 s.3)
+    ∙ ap (λ (x : Result (List (List ℕ)) PacketFault). x >>= λ items. Ok (f ∷ items))
+    (filters-read filters s.1 s.3)
 
 some-read : {A : Type 0} (all_of : List ℕ → Result (List A) PacketFault) (xs : List A) (b : List ℕ)
     → all_of [] ≡ Ok [] → xs ≢ [] → all_of b ≡ Ok xs → some_of all_of b ≡ Ok xs
@@ -160,13 +167,15 @@ connect-flags false rest = refl
 
 connect-read : (c : Connect) (b : List ℕ) → SpellsConnect c b → connect_of b ≡ Ok (variants.Connect c)
 connect-read c b s =
-    let text : text_at s.client_id ≡ Ok (c.client_id, []) = ap text_at (sym (append-nil s.client_id)) ∙ text-read c.client_id s.client_id [] s.client_id_text in
+    let text : text_at s.client_id ≡ Ok (c.client_id, []) =
+    ap text_at (sym (append-nil s.client_id)) ∙ text-read c.client_id s.client_id [] s.client_id_text in
     ap connect_of s.bytes ∙ connect-flags c.clean_session (s.keep_alive ++ s.client_id)
     ∙ rw (number-read c.keep_alive s.keep_alive s.client_id s.keep_alive_number, text) refl
 
 publish-read : (p : Publish) (b : List ℕ) → SpellsPublish p b
     → publish_of (record { dup = p.dup; identified = is_some p.packet_id; retain = p.retain }) b ≡ Ok (variants.Publish p)
-publish-read p b s = rw (s.bytes, text-read p.name s.name (s.id ++ p.payload) s.name_text, optional_id-read p.packet_id s.id p.payload s.packet_id) refl
+publish-read p b s =
+    rw (s.bytes, text-read p.name s.name (s.id ++ p.payload) s.name_text, optional_id-read p.packet_id s.id p.payload s.packet_id) refl
 
 whole_id-read : (id : ℕ) (b : List ℕ) → SpellsId id b → whole_id b ≡ Ok id
 whole_id-read id b s =
@@ -204,7 +213,9 @@ pub header-read : (p : Packet) (b more : List ℕ) (s : Spells p b)
     → header_at (b ++ more) ≡ headers.Known (kind_for p) (1 + length s.remaining) (length s.behind)
 header-read p b more s =
     let is : length_at 4 (s.remaining ++ (s.behind ++ more)) ≡ lengths.Known (length s.behind) (length s.remaining) = groups-read 4 (length s.behind) s.remaining (s.behind ++ more) s.total.groups s.total.most in
-    let parts : b ++ more ≡ first_byte p ∷ (s.remaining ++ (s.behind ++ more)) = ap (λ (x : List ℕ). x ++ more) s.bytes ∙ ap (λ (x : List ℕ). first_byte p ∷ x) (append_assoc s.remaining s.behind more) in
+    let parts : b ++ more ≡ first_byte p ∷ (s.remaining ++ (s.behind ++ more)) =
+    ap (λ (x : List ℕ). x ++ more) s.bytes
+    ∙ ap (λ (x : List ℕ). first_byte p ∷ x) (append_assoc s.remaining s.behind more) in
     ap header_at parts ∙ rw (is, kind_of-first p) refl
 
 behind-is : (p : Packet) (b : List ℕ) (s : Spells p b) → drop (1 + length s.remaining) b ≡ s.behind
@@ -234,6 +245,9 @@ spells_one b one other s t =
     let equal = sym first ∙ second in
     let kind : kind_for one ≡ kind_for other = cc in
     let start : 1 + length s.remaining ≡ 1 + length t.remaining = cc in
-    let behind : s.behind ≡ t.behind = sym (behind-is one b s) ∙ ap (λ n. drop n b) start ∙ behind-is other b t in
-    let whole : Ok one ≡ Ok other = sym (body-read one s.behind s.variable) ∙ ap (body_of (kind_for one)) behind ∙ ap (λ (k : Kind). body_of k t.behind) kind ∙ body-read other t.behind t.variable in
+    let behind : s.behind ≡ t.behind =
+    sym (behind-is one b s) ∙ ap (λ n. drop n b) start ∙ behind-is other b t in
+    let whole : Ok one ≡ Ok other =
+    sym (body-read one s.behind s.variable) ∙ ap (body_of (kind_for one)) behind
+    ∙ ap (λ (k : Kind). body_of k t.behind) kind ∙ body-read other t.behind t.variable in
     ok_is one other whole

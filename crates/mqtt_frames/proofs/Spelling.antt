@@ -57,7 +57,8 @@ at_most-four n fits =
 
 pub SpellsLength-remaining_length : (n : ℕ) → n ≤ MAX_REMAINING → SpellsLength n (remaining_length n)
 unfolding remaining_length
-SpellsLength-remaining_length n fits = record { groups = SpellsGroups-groups n n (omega arith); most = at_most-four n fits }
+SpellsLength-remaining_length n fits =
+    record { groups = SpellsGroups-groups n n (omega arith); most = at_most-four n fits }
 
 SpellsNumber-written : (n : ℕ) → n < 2 ^ 16 → SpellsNumber n (number_bytes n)
 SpellsNumber-written n fits = record {
@@ -186,13 +187,15 @@ is_id-positive id above = grind (arith, nat_tests)
 
 is_text-spelled : (text b : List ℕ) → SpellsText text b → is_text text ≡ true
 is_text-spelled text b s =
-    let below : length text < 2 ^ 16 = omega (arith, s.number.is.value, s.number.is.high_fits, s.number.is.low_fits) in
+    let below : length text < 2 ^ 16 =
+    omega (arith, s.number.is.value, s.number.is.high_fits, s.number.is.low_fits) in
     grind (arith, nat_tests)
 
 are_requests-spelled : (requests : List Request) (b : List ℕ) → SpellsRequests requests b
     → are_requests requests ≡ true
 are_requests-spelled [] b s = refl
-are_requests-spelled (r ∷ requests) b s = rw (is_text-spelled r.filter s.0 s.2) (are_requests-spelled requests s.1 s.3)
+are_requests-spelled (r ∷ requests) b s =
+    rw (is_text-spelled r.filter s.0 s.2) (are_requests-spelled requests s.1 s.3)
 
 are_filters-spelled : (filters : List (List ℕ)) (b : List ℕ) → SpellsFilters filters b
     → are_filters filters ≡ true
@@ -211,13 +214,17 @@ is_optional_id-spelled (Some id) b s = is_id-positive id s.positive
 has_spelling-body : (p : Packet) (b : List ℕ) → SpellsBody p b → has_spelling p ≡ true
 has_spelling-body (variants.Connect c) b s = is_text-spelled c.client_id s.client_id s.client_id_text
 has_spelling-body (variants.ConnectAck a) b s = refl
-has_spelling-body (variants.Publish p) b s = rw (is_optional_id-spelled p.packet_id s.id s.packet_id) (is_text-spelled p.name s.name s.name_text)
+has_spelling-body (variants.Publish p) b s =
+    rw (is_optional_id-spelled p.packet_id s.id s.packet_id) (is_text-spelled p.name s.name s.name_text)
 has_spelling-body (variants.PublishAck id) b s = is_id-positive id s.positive
 has_spelling-body (variants.Subscribe s) b l =
-    rw (is_id-positive s.packet_id l.packet_id.positive, has_items s.requests l.some) (are_requests-spelled s.requests l.items_bytes l.listed)
-has_spelling-body (variants.SubscribeAck a) b l = rw (is_id-positive a.packet_id l.packet_id.positive) (has_items a.codes l.some)
+    rw (is_id-positive s.packet_id l.packet_id.positive, has_items s.requests l.some)
+    (are_requests-spelled s.requests l.items_bytes l.listed)
+has_spelling-body (variants.SubscribeAck a) b l =
+    rw (is_id-positive a.packet_id l.packet_id.positive) (has_items a.codes l.some)
 has_spelling-body (variants.Unsubscribe u) b l =
-    rw (is_id-positive u.packet_id l.packet_id.positive, has_items u.filters l.some) (are_filters-spelled u.filters l.items_bytes l.listed)
+    rw (is_id-positive u.packet_id l.packet_id.positive, has_items u.filters l.some)
+    (are_filters-spelled u.filters l.items_bytes l.listed)
 has_spelling-body (variants.UnsubscribeAck id) b s = is_id-positive id s.positive
 has_spelling-body variants.PingRequest b s = refl
 has_spelling-body variants.PingResponse b s = refl

@@ -46,7 +46,9 @@ bits_for false = refl
 abbrev packet_for : Kind → Packet
 packet_for kinds.Connect = variants.Connect (record { clean_session = false; keep_alive = 0; client_id = [] })
 packet_for kinds.ConnectAck = variants.ConnectAck (record { session_present = false; code = 0 })
-packet_for (kinds.Publish f) = variants.Publish (record { dup = f.dup; retain = f.retain; packet_id = id_for f.identified; name = []; payload = [] })
+packet_for (kinds.Publish f) =
+    variants.Publish
+    (record { dup = f.dup; retain = f.retain; packet_id = id_for f.identified; name = []; payload = [] })
 packet_for kinds.PublishAck = variants.PublishAck 1
 packet_for kinds.Subscribe = variants.Subscribe (record { packet_id = 1; requests = [] })
 packet_for kinds.SubscribeAck = variants.SubscribeAck (record { packet_id = 1; codes = [] })
@@ -80,7 +82,8 @@ first_kind first f = ap kind_of (sym f.is) ∙ kind_of-first f.packet
 header_at-begins : (first start value : ℕ) (b : List ℕ) → BeginsWith first start value b
     → header_at b ≡ with_kind (kind_of first) start value
 header_at-begins first start value b w =
-    let known : length_at 4 (w.remaining ++ w.behind) ≡ lengths.Known value (length w.remaining) = groups-read 4 value w.remaining w.behind w.spelled.groups w.spelled.most in
+    let known : length_at 4 (w.remaining ++ w.behind) ≡ lengths.Known value (length w.remaining) =
+    groups-read 4 value w.remaining w.behind w.spelled.groups w.spelled.most in
     ap header_at w.bytes ∙ ap (with_length first) known
     ∙ ap (λ (n : ℕ). with_kind (kind_of first) n value) (sym w.count)
 
@@ -111,7 +114,8 @@ marked_cut : (most : ℕ) (bytes : List ℕ) → AreMarked bytes → length byte
     → length_at most bytes ≡ lengths.Unfinished
 marked_cut zero bytes are less = absurd (omega arith)
 marked_cut (suc most) [] are less = refl
-marked_cut (suc most) (b ∷ bytes) are less = rw (le-ltb b 128 are.0, marked_cut most bytes are.1 (omega arith)) refl
+marked_cut (suc most) (b ∷ bytes) are less =
+    rw (le-ltb b 128 are.0, marked_cut most bytes are.1 (omega arith)) refl
 
 header_at-cut_off : (b : List ℕ) → IsHeaderCut b → header_at b ≡ headers.Unfinished
 header_at-cut_off [] cut = refl
@@ -125,20 +129,23 @@ record Knows (kind : Kind) (start value : ℕ) (b : List ℕ) : Type 0 where
 
 abbrev HeaderFact : List ℕ → Header → Type 0
 HeaderFact b headers.Unfinished = IsHeaderCut b
-HeaderFact b (headers.Faulty fault) = (fault ≡ Malformed) ⊎ Begins (λ first start value. kind_of first ≡ Err fault) b
+HeaderFact b (headers.Faulty fault) =
+    (fault ≡ Malformed) ⊎ Begins (λ first start value. kind_of first ≡ Err fault) b
 HeaderFact b (headers.Known kind start value) = Knows kind start value b
 
 fact-kind : (first : ℕ) (rest : List ℕ) (value size : ℕ) (r : Result Kind PacketFault)
     → BeginsWith first (1 + size) value (first ∷ rest) → kind_of first ≡ r
     → HeaderFact (first ∷ rest) (with_kind r (1 + size) value)
 fact-kind first rest value size (Ok kind) header is = record { first = first; header = header; is = is }
-fact-kind first rest value size (Err fault) header is = inr (record { first = first; start = 1 + size; value = value; header = header; has = is })
+fact-kind first rest value size (Err fault) header is =
+    inr (record { first = first; start = 1 + size; value = value; header = header; has = is })
 
 fact-length : (first : ℕ) (rest : List ℕ) (l : Length) → AreBytes rest → length_at 4 rest ≡ l
     → HeaderFact (first ∷ rest) (with_length first l)
 fact-length first rest lengths.Unfinished are is = marked 4 rest is
 fact-length first rest lengths.Overlong are is = inl refl
-fact-length first rest (lengths.Known value size) are is = fact-kind first rest value size (kind_of first) (begins first rest value size are is) refl
+fact-length first rest (lengths.Known value size) are is =
+    fact-kind first rest value size (kind_of first) (begins first rest value size are is) refl
 
 header_fact : (b : List ℕ) → AreBytes b → HeaderFact b (header_at b)
 header_fact [] are = tt
@@ -189,7 +196,9 @@ unfinished_of b are is = waiting_is (header_at b) b (header_fact b are) is
 pub waits_of : (b : List ℕ) → IsUnfinished b → decode b ≡ fronts.Waiting
 waits_of b (inl cut) = ap (λ (h : Header). behind_header h b) (header_at-cut_off b cut)
 waits_of b (inr u) =
-    let known = header_at-begins u.first u.start u.value b u.header ∙ ap (λ (r : Result Kind PacketFault). with_kind r u.start u.value) (first_kind u.first u.has.kind) in
+    let known =
+    header_at-begins u.first u.start u.value b u.header
+    ∙ ap (λ (r : Result Kind PacketFault). with_kind r u.start u.value) (first_kind u.first u.has.kind) in
     ap (λ (h : Header). behind_header h b) known
     ∙ rw (le-ltb MAX_PACKET (u.start + u.value) u.has.short, lt-ltb (length b) (u.start + u.value) u.has.part) refl
 
@@ -216,7 +225,9 @@ too_long_of b are is = long_is (header_at b) b (header_fact b are) is
 
 pub longer_of : (b : List ℕ) → IsTooLong b → decode b ≡ fronts.Faulty TooLong
 longer_of b t =
-    let known = header_at-begins t.first t.start t.value b t.header ∙ ap (λ (r : Result Kind PacketFault). with_kind r t.start t.value) (first_kind t.first t.has.kind) in
+    let known =
+    header_at-begins t.first t.start t.value b t.header
+    ∙ ap (λ (r : Result Kind PacketFault). with_kind r t.start t.value) (first_kind t.first t.has.kind) in
     ap (λ (h : Header). behind_header h b) known ∙ rw (lt-ltb MAX_PACKET (t.start + t.value) t.has.long) refl
 
 -- not supported
@@ -256,12 +267,17 @@ unsupported_of b are is = unsupported_is (header_at b) b (header_fact b are) is
 refused : (b : List ℕ) (first start value : ℕ) → BeginsWith first start value b
     → IsOfQos2 first ⊎ IsOtherConnect first start value b → decode b ≡ fronts.Faulty NotSupported
 refused b first start value header (inl qos_2) =
-    let faulty = header_at-begins first start value b header ∙ ap (λ (r : Result Kind PacketFault). with_kind r start value) (kind_of-qos_2 first qos_2) in
+    let faulty =
+    header_at-begins first start value b header
+    ∙ ap (λ (r : Result Kind PacketFault). with_kind r start value) (kind_of-qos_2 first qos_2) in
     ap (λ (h : Header). behind_header h b) faulty
 refused b first start value header (inr other) =
-    let known = header_at-begins first start value b header ∙ ap (λ (n : ℕ). with_kind (kind_of n) start value) other.connect in
+    let known =
+    header_at-begins first start value b header
+    ∙ ap (λ (n : ℕ). with_kind (kind_of n) start value) other.connect in
     ap (λ (h : Header). behind_header h b) known
-    ∙ rw (le-ltb MAX_PACKET (start + value) other.short, le-ltb (length b) (start + value) other.whole) (ap (sized (start + value)) (connect_other (take value (drop start b)) other.flags))
+    ∙ rw (le-ltb MAX_PACKET (start + value) other.short, le-ltb (length b) (start + value) other.whole)
+    (ap (sized (start + value)) (connect_other (take value (drop start b)) other.flags))
 
 pub refused_of : (b : List ℕ) → IsUnsupported b → decode b ≡ fronts.Faulty NotSupported
 refused_of b u = refused b u.first u.start u.value u.header u.has

@@ -48,21 +48,27 @@ Stands bytes read = (rest : List ℕ) × SpellsStream read.packets bytes rest ×
 stands-behind : (f : Front) (bytes : List ℕ) → AreBytes bytes → decode bytes ≡ f
     → ((others : List ℕ) → length others < length bytes → AreBytes others → Stands others (read_all others))
     → Stands bytes (read_all bytes)
-stands-behind fronts.Waiting bytes are is next = subst (Stands bytes) (sym (read_all-waiting bytes is)) (bytes, refl, (refl, is))
-stands-behind (fronts.Faulty fault) bytes are is next = subst (Stands bytes) (sym (read_all-faulty bytes fault is)) (bytes, refl, is)
+stands-behind fronts.Waiting bytes are is next =
+    subst (Stands bytes) (sym (read_all-waiting bytes is)) (bytes, refl, (refl, is))
+stands-behind (fronts.Faulty fault) bytes are is next =
+    subst (Stands bytes) (sym (read_all-faulty bytes fault is)) (bytes, refl, is)
 stands-behind (fronts.Whole packet size) bytes are is next =
     let within = decode-within bytes packet size is in
     let spelled = front-spelled packet bytes size are is in
     let others = drop size bytes in
     let behind = next others (omega (arith, length-drop size bytes)) (AreBytes-drop size bytes are) in
-    let short : length (take size bytes) ≤ MAX_PACKET = omega (arith, spelled.1, ap length (take-append-drop size bytes), length-append (take size bytes) (drop size bytes), length-drop size bytes) in
-    subst (Stands bytes) (sym (read_all-whole bytes packet size is)) (behind.0, (take size bytes, others, spelled.0, short, sym (take-append-drop size bytes), behind.1), behind.2)
+    let short : length (take size bytes) ≤ MAX_PACKET =
+    omega (arith, spelled.1, ap length (take-append-drop size bytes), length-append (take size bytes) (drop size bytes), length-drop size bytes) in
+    subst (Stands bytes) (sym (read_all-whole bytes packet size is))
+    (behind.0, (take size bytes, others, spelled.0, short, sym (take-append-drop size bytes), behind.1), behind.2)
 
 stands-within : (most : ℕ) (bytes : List ℕ) → length bytes ≤ most → AreBytes bytes
     → Stands bytes (read_all bytes)
 stands-within zero [] fits are = ([], refl, (refl, refl))
 stands-within zero (b ∷ bytes) fits are = absurd (omega arith)
-stands-within (suc most) bytes fits are = stands-behind (decode bytes) bytes are refl (λ others less those. stands-within most others (omega arith) those)
+stands-within (suc most) bytes fits are =
+    stands-behind (decode bytes) bytes are refl
+    (λ others less those. stands-within most others (omega arith) those)
 
 pub stream-stands : (bytes : List ℕ) → AreBytes bytes
     → (rest : List ℕ) × SpellsStream (read_all bytes).packets bytes rest × EndsAt rest (read_all bytes).ending
@@ -98,15 +104,18 @@ tells-next : (packets : List Packet) (e : End) (pieces : List (List ℕ)) → Wa
 tells-next packets (Rest held) pieces waits next =
     let later = next held waits in
     record { packets = ap (λ (ps : List Packet). packets ++ ps) later.packets; fault = later.fault; held = later.held }
-tells-next [] (Fault fault) pieces waits next = record { packets = failed-silent pieces; fault = refl; held = tt }
+tells-next [] (Fault fault) pieces waits next =
+    record { packets = failed-silent pieces; fault = refl; held = tt }
 tells-next (p ∷ packets) (Fault fault) pieces waits next =
     record { packets = ap (λ (ps : List Packet). (p ∷ packets) ++ ps) (kept-silent fault pieces) ∙ append-nil (p ∷ packets); fault = kept-known fault pieces; held = tt }
 
 tells-from : (held : List ℕ) (pieces : List (List ℕ)) → decode held ≡ fronts.Waiting
     → Tells (story_of (Reading held) pieces) (read_all (held ++ joined pieces))
 tells-from held [] waits =
-    let all : read_all (held ++ []) ≡ alone (Rest held) = ap read_all (append-nil held) ∙ read_all-waiting held waits in
-    subst (Tells (story_of (Reading held) [])) (sym all) (record { packets = refl; fault = refl; held = refl })
+    let all : read_all (held ++ []) ≡ alone (Rest held) =
+    ap read_all (append-nil held) ∙ read_all-waiting held waits in
+    subst (Tells (story_of (Reading held) [])) (sym all)
+    (record { packets = refl; fault = refl; held = refl })
 tells-from held (piece ∷ pieces) waits =
     let first = read_all (held ++ piece) in
     let all : read_all (held ++ (piece ++ joined pieces)) ≡ continued_from first.packets first.ending (joined pieces) =

@@ -81,12 +81,14 @@ with_length-positive : (first : ℕ) (l : Length) (kind : Kind) (start rest : �
     → with_length first l ≡ headers.Known kind start rest → 0 < start
 with_length-positive first lengths.Unfinished kind start rest is = absurd cc
 with_length-positive first lengths.Overlong kind start rest is = absurd cc
-with_length-positive first (lengths.Known value size) kind start rest is = with_kind-positive (kind_of first) size value kind start rest is
+with_length-positive first (lengths.Known value size) kind start rest is =
+    with_kind-positive (kind_of first) size value kind start rest is
 
 pub header_at-positive : (bytes : List ℕ) (kind : Kind) (start rest : ℕ)
     → header_at bytes ≡ headers.Known kind start rest → 0 < start
 header_at-positive [] kind start rest is = absurd cc
-header_at-positive (first ∷ bytes) kind start rest is = with_length-positive first (length_at 4 bytes) kind start rest is
+header_at-positive (first ∷ bytes) kind start rest is =
+    with_length-positive first (length_at 4 bytes) kind start rest is
 
 sized-within : (most size : ℕ) (r : Result Packet PacketFault) → 0 < size → size ≤ most
     → IsWithin most (sized size r)
@@ -110,7 +112,9 @@ behind_header-within (headers.Known kind start rest) bytes positive =
 
 pub decode-within : (bytes : List ℕ) (packet : Packet) (size : ℕ) → decode bytes ≡ fronts.Whole packet size
     → (0 < size) × (size ≤ length bytes)
-decode-within bytes packet size is = subst (IsWithin (length bytes)) is (behind_header-within (header_at bytes) bytes (header_at-positive bytes))
+decode-within bytes packet size is =
+    subst (IsWithin (length bytes)) is
+    (behind_header-within (header_at bytes) bytes (header_at-positive bytes))
 
 -- one packet after another
 
@@ -131,7 +135,8 @@ read_within-room zero (suc least) bytes fits below = absurd (omega arith)
 read_within-room (suc most) zero [] fits below = refl
 read_within-room (suc most) zero (b ∷ bytes) fits below = absurd (omega arith)
 read_within-room (suc most) (suc least) bytes fits below =
-    behind_front-same (decode bytes) bytes (read_within most) (read_within least) refl (λ rest less. read_within-room most least rest (omega arith) (omega arith))
+    behind_front-same (decode bytes) bytes (read_within most) (read_within least) refl
+    (λ rest less. read_within-room most least rest (omega arith) (omega arith))
 
 abbrev pub alone : End → Read
 alone ending = record { packets = []; ending = ending }
@@ -154,7 +159,9 @@ read_all-whole (b ∷ bytes) packet size is =
 
 pub with_packets-both : (first second : List Packet) (read : Read)
     → with_packets first (with_packets second read) ≡ with_packets (first ++ second) read
-with_packets-both first second read = ap (λ (packets : List Packet). record { packets = packets; ending = read.ending }) (sym (append_assoc first second read.packets))
+with_packets-both first second read =
+    ap (λ (packets : List Packet). record { packets = packets; ending = read.ending })
+    (sym (append_assoc first second read.packets))
 
 -- what is left waits for more
 
@@ -165,16 +172,20 @@ WaitsAt (Fault fault) = Unit {0}
 waits-behind : (f : Front) (bytes : List ℕ) → decode bytes ≡ f
     → ((rest : List ℕ) → length rest < length bytes → WaitsAt (read_all rest).ending)
     → WaitsAt (read_all bytes).ending
-waits-behind fronts.Waiting bytes is others = subst (λ (r : Read). WaitsAt r.ending) (sym (read_all-waiting bytes is)) is
-waits-behind (fronts.Faulty fault) bytes is others = subst (λ (r : Read). WaitsAt r.ending) (sym (read_all-faulty bytes fault is)) tt
+waits-behind fronts.Waiting bytes is others =
+    subst (λ (r : Read). WaitsAt r.ending) (sym (read_all-waiting bytes is)) is
+waits-behind (fronts.Faulty fault) bytes is others =
+    subst (λ (r : Read). WaitsAt r.ending) (sym (read_all-faulty bytes fault is)) tt
 waits-behind (fronts.Whole packet size) bytes is others =
     let within = decode-within bytes packet size is in
-    subst (λ (r : Read). WaitsAt r.ending) (sym (read_all-whole bytes packet size is)) (others (drop size bytes) (omega (arith, length-drop size bytes)))
+    subst (λ (r : Read). WaitsAt r.ending) (sym (read_all-whole bytes packet size is))
+    (others (drop size bytes) (omega (arith, length-drop size bytes)))
 
 read_all-waits-within : (most : ℕ) (bytes : List ℕ) → length bytes ≤ most → WaitsAt (read_all bytes).ending
 read_all-waits-within zero [] fits = refl
 read_all-waits-within zero (b ∷ bytes) fits = absurd (omega arith)
-read_all-waits-within (suc most) bytes fits = waits-behind (decode bytes) bytes refl (λ rest less. read_all-waits-within most rest (omega arith))
+read_all-waits-within (suc most) bytes fits =
+    waits-behind (decode bytes) bytes refl (λ rest less. read_all-waits-within most rest (omega arith))
 
 pub read_all-waits : (bytes : List ℕ) → WaitsAt (read_all bytes).ending
 read_all-waits bytes = read_all-waits-within (length bytes) bytes (omega arith)
@@ -190,13 +201,15 @@ continued read more = continued_from read.packets read.ending more
 
 continued-both : (packets others : List Packet) (e : End) (more : List ℕ)
     → continued_from (packets ++ others) e more ≡ with_packets packets (continued_from others e more)
-continued-both packets others (Rest bytes) more = sym (with_packets-both packets others (read_all (bytes ++ more)))
+continued-both packets others (Rest bytes) more =
+    sym (with_packets-both packets others (read_all (bytes ++ more)))
 continued-both packets others (Fault fault) more = refl
 
 append-behind : (f : Front) (bytes more : List ℕ) → decode bytes ≡ f
     → ((rest : List ℕ) → length rest < length bytes → read_all (rest ++ more) ≡ continued (read_all rest) more)
     → read_all (bytes ++ more) ≡ continued (read_all bytes) more
-append-behind fronts.Waiting bytes more is others = sym (ap (λ (r : Read). continued r more) (read_all-waiting bytes is))
+append-behind fronts.Waiting bytes more is others =
+    sym (ap (λ (r : Read). continued r more) (read_all-waiting bytes is))
 append-behind (fronts.Faulty fault) bytes more is others =
     elim (decode-more bytes more) [
       | inl waits ↦ absurd (let e : fronts.Faulty fault ≡ fronts.Waiting = sym is ∙ waits in cc)
@@ -219,7 +232,9 @@ read_all-append-within : (most : ℕ) (bytes more : List ℕ) → length bytes �
     → read_all (bytes ++ more) ≡ continued (read_all bytes) more
 read_all-append-within zero [] more fits = refl
 read_all-append-within zero (b ∷ bytes) more fits = absurd (omega arith)
-read_all-append-within (suc most) bytes more fits = append-behind (decode bytes) bytes more refl (λ rest less. read_all-append-within most rest more (omega arith))
+read_all-append-within (suc most) bytes more fits =
+    append-behind (decode bytes) bytes more refl
+    (λ rest less. read_all-append-within most rest more (omega arith))
 
 pub read_all-append : (bytes more : List ℕ) → read_all (bytes ++ more) ≡ continued (read_all bytes) more
 read_all-append bytes more = read_all-append-within (length bytes) bytes more (omega arith)

@@ -23,20 +23,20 @@ publish_kind bits =
 
 -- PUBREC, PUBREL and PUBCOMP (3.5 to 3.7), which go with QoS 2 alone
 abbrev pub is_of_qos_2 : ℕ → Bool
-is_of_qos_2 first = (first == 80) || (first == 98) || (first == 112)
+is_of_qos_2 first = (first == 0x50) || (first == 0x62) || (first == 0x70)
 
 -- the kind of packet that begins with the byte (2.2.1 and 2.2.2)
 abbrev pub kind_of : ℕ → Result Kind PacketFault
 kind_of first =
-    if first == 16 then Ok kinds.Connect
-    else (if first == 32 then Ok kinds.ConnectAck
-    else (if first == 64 then Ok kinds.PublishAck
+    if first == 0x10 then Ok kinds.Connect
+    else (if first == 0x20 then Ok kinds.ConnectAck
+    else (if first == 0x40 then Ok kinds.PublishAck
     else (if is_of_qos_2 first then Err NotSupported
-    else (if first == 130 then Ok kinds.Subscribe
-    else (if first == 144 then Ok kinds.SubscribeAck
-    else (if first == 162 then Ok kinds.Unsubscribe
-    else (if first == 176 then Ok kinds.UnsubscribeAck
-    else (if first == 192 then Ok kinds.PingRequest
-    else (if first == 208 then Ok kinds.PingResponse
-    else (if first == 224 then Ok kinds.Disconnect
+    else (if first == 0x82 then Ok kinds.Subscribe
+    else (if first == 0x90 then Ok kinds.SubscribeAck
+    else (if first == 0xa2 then Ok kinds.Unsubscribe
+    else (if first == 0xb0 then Ok kinds.UnsubscribeAck
+    else (if first == 0xc0 then Ok kinds.PingRequest
+    else (if first == 0xd0 then Ok kinds.PingResponse
+    else (if first == 0xe0 then Ok kinds.Disconnect
     else (if first / 16 == 3 then publish_kind (first % 16) else Err Malformed)))))))))))

@@ -22,21 +22,21 @@ qos_bits (Some id) = 2
 
 -- packet type 3, DUP, QoS and RETAIN (3.3.1)
 abbrev pub publish_byte : Publish → ℕ
-publish_byte p = 48 + flag p.dup 8 + qos_bits p.packet_id + flag p.retain 1
+publish_byte p = 0x30 + flag p.dup 8 + qos_bits p.packet_id + flag p.retain 1
 
 -- the packet type in the high four bits, and the flags (2.2)
 abbrev pub first_byte : Packet → ℕ
-first_byte (variants.Connect c) = 16
-first_byte (variants.ConnectAck a) = 32
+first_byte (variants.Connect c) = 0x10
+first_byte (variants.ConnectAck a) = 0x20
 first_byte (variants.Publish p) = publish_byte p
-first_byte (variants.PublishAck id) = 64
-first_byte (variants.Subscribe s) = 130
-first_byte (variants.SubscribeAck a) = 144
-first_byte (variants.Unsubscribe u) = 162
-first_byte (variants.UnsubscribeAck id) = 176
-first_byte variants.PingRequest = 192
-first_byte variants.PingResponse = 208
-first_byte variants.Disconnect = 224
+first_byte (variants.PublishAck id) = 0x40
+first_byte (variants.Subscribe s) = 0x82
+first_byte (variants.SubscribeAck a) = 0x90
+first_byte (variants.Unsubscribe u) = 0xa2
+first_byte (variants.UnsubscribeAck id) = 0xb0
+first_byte variants.PingRequest = 0xc0
+first_byte variants.PingResponse = 0xd0
+first_byte variants.Disconnect = 0xe0
 
 -- a number of two bytes, the high one first (1.5.2)
 abbrev pub number_bytes : ℕ → List ℕ

@@ -35,11 +35,11 @@ pub record IsFirst (first : ℕ) : Type 0 where
 pub record IsPublishAtQos2 (first : ℕ) : Type 0 where
   pub dup : Bool
   pub retain : Bool
-  pub is : first ≡ 48 + flag dup 8 + 4 + flag retain 1
+  pub is : first ≡ 0x30 + flag dup 8 + 4 + flag retain 1
 
 -- it, PUBREC, PUBREL or PUBCOMP (3.5 to 3.7)
 abbrev pub IsOfQos2 : ℕ → Type 0
-IsOfQos2 first = IsPublishAtQos2 first ⊎ ((first ≡ 80) ⊎ ((first ≡ 98) ⊎ (first ≡ 112)))
+IsOfQos2 first = IsPublishAtQos2 first ⊎ ((first ≡ 0x50) ⊎ ((first ≡ 0x62) ⊎ (first ≡ 0x70)))
 
 -- the variable header of a CONNECT with a will, a user name or a password, or with reserved flags (3.1.2.3)
 pub record HasOtherFlags (body : List ℕ) : Type 0 where
@@ -51,7 +51,7 @@ pub record HasOtherFlags (body : List ℕ) : Type 0 where
 
 -- the bytes begin with a whole CONNECT of such flags
 pub record IsOtherConnect (first start value : ℕ) (b : List ℕ) : Type 0 where
-  pub connect : first ≡ 16
+  pub connect : first ≡ 0x10
   pub short : start + value ≤ MAX_PACKET
   pub whole : start + value ≤ length b
   pub flags : HasOtherFlags (take value (drop start b))

@@ -4,12 +4,9 @@ ghost use Rattle.mqtt_frames.specs.Packets.{body, written};
 ghost use Rattle.mqtt_frames.specs.Reading.{session_of, connect_ack_of, whole_id};
 
 use crate::fields::{self, flag};
-use crate::{ConnectAck, Packet, PacketFault, remaining};
+use crate::{ConnectAck, Packet, PacketFault, first, remaining};
 use sng_text::Octets;
 use std::alloc::{AllocError, Global};
-
-/// The first byte of a PUBACK: packet type 4 (3.4.1).
-pub const PUBLISH_ACK_FIRST: u8 = 0x40;
 
 /// How many bytes each of the three takes behind its Remaining Length.
 pub const SIZE: usize = 2;
@@ -63,7 +60,7 @@ pub fn encode_publish_ack(alloc: Global, packet_id: u16) -> Result<Octets, Alloc
     requires { 0 < packet_id }
     ensures { IfOk result (λ o. o ≡ written (Packet.PublishAck packet_id)) }
 {
-    let mut bytes = remaining::front(alloc, PUBLISH_ACK_FIRST, SIZE)?;
+    let mut bytes = remaining::front(alloc, first::PUBLISH_ACK, SIZE)?;
     fields::push_number(&mut bytes, usize::from(packet_id))?;
     Ok(Octets::from(bytes))
 }

@@ -5,15 +5,9 @@ ghost use Rattle.mqtt_frames.specs.Packets.{written};
 ghost use Rattle.mqtt_frames.specs.Reading.{Gives, at_end};
 
 use crate::read_fault::ReadFault;
-use crate::{Packet, PacketFault, remaining};
+use crate::{Packet, PacketFault, first, remaining};
 use sng_text::Octets;
 use std::alloc::{AllocError, Global};
-
-/// The first byte of a PINGREQ: packet type 12 (3.12.1).
-pub const PING_REQUEST_FIRST: u8 = 0xc0;
-
-/// The first byte of a DISCONNECT: packet type 14 (3.14.1).
-pub const DISCONNECT_FIRST: u8 = 0xe0;
 
 /// The packet, where no byte stands behind its fixed header.
 pub fn at_end(packet: Packet, body: &[u8]) -> Result<Packet, ReadFault>
@@ -29,12 +23,12 @@ pub fn at_end(packet: Packet, body: &[u8]) -> Result<Packet, ReadFault>
 pub fn encode_ping_request(alloc: Global) -> Result<Octets, AllocError>
     ensures { IfOk result (λ o. o ≡ written Packet.PingRequest) }
 {
-    Ok(Octets::from(remaining::front(alloc, PING_REQUEST_FIRST, 0)?))
+    Ok(Octets::from(remaining::front(alloc, first::PING_REQUEST, 0)?))
 }
 
 /// A DISCONNECT. Allocates once.
 pub fn encode_disconnect(alloc: Global) -> Result<Octets, AllocError>
     ensures { IfOk result (λ o. o ≡ written Packet.Disconnect) }
 {
-    Ok(Octets::from(remaining::front(alloc, DISCONNECT_FIRST, 0)?))
+    Ok(Octets::from(remaining::front(alloc, first::DISCONNECT, 0)?))
 }

@@ -6,15 +6,12 @@ ghost use Rattle.mqtt_frames.specs.Reading.{Gives, connect_of, connect_rest};
 
 use crate::fields::{self, flag};
 use crate::read_fault::ReadFault;
-use crate::{Connect, Packet, PacketFault, remaining};
+use crate::{Connect, Packet, PacketFault, first, remaining};
 use sng_text::Octets;
 use std::alloc::{AllocError, Global};
 
 /// The protocol name and level that every CONNECT begins with (3.1.2.1 and 3.1.2.2).
 pub const PROTOCOL: [u8; 7] = [0, 4, b'M', b'Q', b'T', b'T', 4];
-
-/// The first byte: packet type 1 (3.1.1).
-pub const FIRST: u8 = 0x10;
 
 /// A CONNECT by its variable header and payload.
 ///
@@ -94,7 +91,7 @@ pub fn encode_connect(
     ensures { IfOk result (λ o. o ≡ written (connect_of_parts client_id.now clean_session keep_alive)) }
 {
     let rest = PROTOCOL.len() + 5 + client_id.len();
-    let mut bytes = remaining::front(alloc, FIRST, rest)?;
+    let mut bytes = remaining::front(alloc, first::CONNECT, rest)?;
     push_parts(&mut bytes, client_id, clean_session, keep_alive)?;
     Ok(Octets::from(bytes))
 }

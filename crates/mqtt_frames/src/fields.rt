@@ -81,6 +81,7 @@ pub fn within(size: usize) -> Option<usize>
 pub fn push_number(bytes: &mut Vec<u8>, number: usize) -> Result<(), AllocError>
     ensures { OnOk result (bytes.new.items ≡ bytes.old.items ++ number_bytes number) }
 {
+    // Divisions in place of `u16::to_be_bytes`: the definition divides, and the prover computes with it.
     bytes.push((number / 256 % 256) as u8)?;
     bytes.push((number % 256) as u8)?;
     Ok(())

@@ -2,7 +2,7 @@
 ghost use Rattle.std.specs.Prelude.{◌≡◌};
 ghost use Rattle.mqtt_frames.specs.Kinds.{kind_of, publish_kind};
 
-use crate::PacketFault;
+use crate::{PacketFault, first};
 
 /// The kinds of packets that are read.
 #[derive(Clone, Copy, Debug)]
@@ -46,24 +46,26 @@ pub struct PublishFlags {
 ///
 /// `NotSupported`: a PUBLISH of QoS 2, or one of the three packets that only go with it. `Malformed`: no
 /// packet begins so.
-pub fn kind_of(first: u8) -> Result<Kind, PacketFault>
-    ensures { result ≡ kind_of first }
+pub fn kind_of(byte: u8) -> Result<Kind, PacketFault>
+    ensures { result ≡ kind_of byte }
 {
-    match first {
-        0x10 => Ok(Kind::Connect),
-        0x20 => Ok(Kind::ConnectAck),
-        0x40 => Ok(Kind::PublishAck),
-        0x50 | 0x62 | 0x70 => Err(PacketFault::NotSupported),
-        0x82 => Ok(Kind::Subscribe),
-        0x90 => Ok(Kind::SubscribeAck),
-        0xa2 => Ok(Kind::Unsubscribe),
-        0xb0 => Ok(Kind::UnsubscribeAck),
-        0xc0 => Ok(Kind::PingRequest),
-        0xd0 => Ok(Kind::PingResponse),
-        0xe0 => Ok(Kind::Disconnect),
+    match byte {
+        first::CONNECT => Ok(Kind::Connect),
+        first::CONNECT_ACK => Ok(Kind::ConnectAck),
+        first::PUBLISH_ACK => Ok(Kind::PublishAck),
+        first::PUBLISH_RECEIVED | first::PUBLISH_RELEASE | first::PUBLISH_COMPLETE => Err(
+            PacketFault::NotSupported,
+        ),
+        first::SUBSCRIBE => Ok(Kind::Subscribe),
+        first::SUBSCRIBE_ACK => Ok(Kind::SubscribeAck),
+        first::UNSUBSCRIBE => Ok(Kind::Unsubscribe),
+        first::UNSUBSCRIBE_ACK => Ok(Kind::UnsubscribeAck),
+        first::PING_REQUEST => Ok(Kind::PingRequest),
+        first::PING_RESPONSE => Ok(Kind::PingResponse),
+        first::DISCONNECT => Ok(Kind::Disconnect),
         _ => {
-            if first / 16 == 3 {
-                publish_kind(first % 16)
+            if byte / 16 == 3 {
+                publish_kind(byte % 16)
             } else {
                 Err(PacketFault::Malformed)
             }

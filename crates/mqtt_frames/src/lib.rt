@@ -7,6 +7,7 @@ mod connect;
 mod copying;
 pub mod fault;
 mod fields;
+mod first;
 mod header;
 mod kind;
 pub mod laws;

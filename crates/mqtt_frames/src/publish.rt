@@ -10,7 +10,7 @@ use crate::fields::{self, flag};
 use crate::kind::PublishFlags;
 use crate::limits::{MAX_PACKET, MAX_REMAINING};
 use crate::read_fault::ReadFault;
-use crate::{Packet, Publish, remaining};
+use crate::{Packet, Publish, first, remaining};
 use sng_text::{Octets, TopicName};
 use std::alloc::{AllocError, Global};
 
@@ -37,13 +37,13 @@ pub fn publish_byte(publish: &Publish) -> u8
 }
 
 fn flags_byte(dup: bool, packet_id: Option<u16>, retain: bool) -> u8
-    ensures { result ≡ 48 + flag dup 8 + qos_bits packet_id + flag retain 1 }
+    ensures { result ≡ 0x30 + flag dup 8 + qos_bits packet_id + flag retain 1 }
 {
     let qos = match packet_id {
         None => 0,
         Some(_) => 2,
     };
-    0x30 + flag(dup, 8) + qos + flag(retain, 1)
+    first::PUBLISH + flag(dup, 8) + qos + flag(retain, 1)
 }
 
 /// How many bytes `push` puts; none where they are more than `MAX_PACKET`.

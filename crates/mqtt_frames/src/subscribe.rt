@@ -9,13 +9,10 @@ use crate::limits::MAX_PACKET;
 use crate::read_fault::ReadFault;
 use crate::{
     List, Packet, PacketFault, Request, RequestedQos, Subscribe, SubscribeAck, SubscribeCode,
-    fields, remaining,
+    fields, first, remaining,
 };
 use sng_text::{Octets, Qos, TopicFilter};
 use std::alloc::{AllocError, Global};
-
-/// The first byte of a SUBSCRIBE: packet type 8, and the flags that it must have (3.8.1).
-pub const FIRST: u8 = 0x82;
 
 /// A SUBSCRIBE by its variable header and payload.
 pub fn subscribe_of(alloc: Global, body: &[u8]) -> Result<Packet, ReadFault>
@@ -127,7 +124,7 @@ pub fn encode_subscribe(
     ensures { IfOk result (λ o. o ≡ written (subscribe_of_parts packet_id filter.now qos)) }
 {
     let filter = filter.text();
-    let mut bytes = remaining::front(alloc, FIRST, 5 + filter.len())?;
+    let mut bytes = remaining::front(alloc, first::SUBSCRIBE, 5 + filter.len())?;
     fields::push_number(&mut bytes, usize::from(packet_id))?;
     fields::push_text(&mut bytes, filter)?;
     bytes.push(qos_byte(requested_qos(qos)))?;

@@ -6,12 +6,9 @@ ghost use Rattle.mqtt_frames.specs.Reading.{Gives, text_at, items_of, unsubscrib
 
 use crate::limits::MAX_PACKET;
 use crate::read_fault::ReadFault;
-use crate::{List, Packet, PacketFault, Unsubscribe, fields, remaining};
+use crate::{List, Packet, PacketFault, Unsubscribe, fields, first, remaining};
 use sng_text::{Octets, TopicFilter};
 use std::alloc::{AllocError, Global};
-
-/// The first byte: packet type 10, and the flags that it must have (3.10.1).
-pub const FIRST: u8 = 0xa2;
 
 /// An UNSUBSCRIBE by its variable header and payload.
 pub fn unsubscribe_of(alloc: Global, body: &[u8]) -> Result<Packet, ReadFault>
@@ -91,7 +88,7 @@ pub fn encode_unsubscribe(
     ensures { IfOk result (λ o. o ≡ written (unsubscribe_of_parts packet_id filter.now)) }
 {
     let filter = filter.text();
-    let mut bytes = remaining::front(alloc, FIRST, 4 + filter.len())?;
+    let mut bytes = remaining::front(alloc, first::UNSUBSCRIBE, 4 + filter.len())?;
     fields::push_number(&mut bytes, usize::from(packet_id))?;
     fields::push_text(&mut bytes, filter)?;
     Ok(Octets::from(bytes))

@@ -7,7 +7,7 @@ ghost use Rattle.mqtt_frames.specs.Parts.{publish_of_parts};
 
 use crate::limits::MAX_PACKET;
 use crate::{
-    Packet, StreamFault, acknowledgements, bare, connect, fields, publish, remaining, spellable,
+    Packet, StreamFault, acknowledgements, connect, fields, first, publish, remaining, spellable,
     subscribe, unsubscribe,
 };
 use sng_text::{Octets, TopicName};
@@ -55,17 +55,17 @@ fn first_byte(packet: &Packet) -> u8
     ensures { result ≡ first_byte packet.now }
 {
     match packet {
-        Packet::Connect(_) => connect::FIRST,
-        Packet::ConnectAck(_) => 0x20,
+        Packet::Connect(_) => first::CONNECT,
+        Packet::ConnectAck(_) => first::CONNECT_ACK,
         Packet::Publish(publish) => publish::publish_byte(publish),
-        Packet::PublishAck(_) => acknowledgements::PUBLISH_ACK_FIRST,
-        Packet::Subscribe(_) => subscribe::FIRST,
-        Packet::SubscribeAck(_) => 0x90,
-        Packet::Unsubscribe(_) => unsubscribe::FIRST,
-        Packet::UnsubscribeAck(_) => 0xb0,
-        Packet::PingRequest => bare::PING_REQUEST_FIRST,
-        Packet::PingResponse => 0xd0,
-        Packet::Disconnect => bare::DISCONNECT_FIRST,
+        Packet::PublishAck(_) => first::PUBLISH_ACK,
+        Packet::Subscribe(_) => first::SUBSCRIBE,
+        Packet::SubscribeAck(_) => first::SUBSCRIBE_ACK,
+        Packet::Unsubscribe(_) => first::UNSUBSCRIBE,
+        Packet::UnsubscribeAck(_) => first::UNSUBSCRIBE_ACK,
+        Packet::PingRequest => first::PING_REQUEST,
+        Packet::PingResponse => first::PING_RESPONSE,
+        Packet::Disconnect => first::DISCONNECT,
     }
 }
 
@@ -116,7 +116,7 @@ pub fn write_publish(
 {
     let name = name.text();
     let rest = 2 + name.len() + payload.len();
-    let mut bytes = remaining::front(alloc, if retain { 0x31 } else { 0x30 }, rest)?;
+    let mut bytes = remaining::front(alloc, first::PUBLISH + fields::flag(retain, 1), rest)?;
     fields::push_text(&mut bytes, name)?;
     bytes.extend_from_slice(payload)?;
     Ok(Octets::from(bytes))

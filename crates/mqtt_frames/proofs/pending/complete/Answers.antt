@@ -8,7 +8,9 @@ use Rattle.mqtt_frames.proofs.pending.complete.Goals as goal
 
 pub overflow_sub-missing : goal.overflow_sub-missing
 overflow_sub-missing c =
-    let part = is_part c.args.held.now.items c.args.piece.now c.args.kind c.args.start c.args.rest c.requires.waiting (sym c.requires.header) c.if-total-gt-MAX_PACKET.false in
+    let part =
+    is_part c.args.held.now.items c.args.piece.now c.args.kind c.args.start c.args.rest c.requires.waiting
+    (sym c.requires.header) c.if-total-gt-MAX_PACKET.false in
     omega (arith, part, c.len-before.ensures)
 
 pub returns-else-is_err-clause-ok : goal.returns-else-is_err-clause-ok
@@ -16,13 +18,17 @@ returns-else-is_err-clause-ok c =
     let held = c.args.held.now.items in
     let front = c.split_at.result.0.now in
     let behind = c.split_at.result.1.now in
-    let part = is_part held c.args.piece.now c.args.kind c.args.start c.args.rest c.requires.waiting (sym c.requires.header) c.if-total-gt-MAX_PACKET.false in
+    let part =
+    is_part held c.args.piece.now c.args.kind c.args.start c.args.rest c.requires.waiting
+    (sym c.requires.header) c.if-total-gt-MAX_PACKET.false in
     let parts : c.args.piece.now ≡ front ++ behind = c.split_at.ensures.by_index.0 in
     let told : header_at (held ++ (front ++ behind)) ≡ headers.Known c.args.kind c.args.start c.args.rest =
     ap (λ (b : List ℕ). header_at (held ++ b)) (sym parts) ∙ sym c.requires.header in
-    let size : length (held ++ front) ≡ c.args.start + c.args.rest = omega (arith, length-append held front, c.split_at.ensures.front_len, c.len-before.ensures, part) in
+    let size : length (held ++ front) ≡ c.args.start + c.args.rest =
+    omega (arith, length-append held front, c.split_at.ensures.front_len, c.len-before.ensures, part) in
     let read : read_all (held ++ c.args.piece.now) ≡ behind_body (body_of c.args.kind (drop c.args.start c.extend_from_slice-2.new.self.items)) behind =
     ap (λ (b : List ℕ). read_all (held ++ b)) parts
     ∙ whole-read held front behind c.args.kind c.args.start c.args.rest told c.if-total-gt-MAX_PACKET.false size
-    ∙ ap (λ (b : List ℕ). behind_body (body_of c.args.kind (drop c.args.start b)) behind) (sym c.in_ok-extend_from_slice-2.ensures.items) in
+    ∙ ap (λ (b : List ℕ). behind_body (body_of c.args.kind (drop c.args.start b)) behind)
+    (sym c.in_ok-extend_from_slice-2.ensures.items) in
     rw read c.completed-taken.ensures.ok

@@ -13,7 +13,8 @@ use Rattle.mqtt_frames.proofs.wire.encode.encode.Goals as goal
 
 -- nothing spells a packet that fails the test
 no_spelling : (p : Packet) → length (written p) ≤ MAX_PACKET → has_spelling p ≡ false → HasNoSpelling p
-no_spelling p short is = record { short = short; none = λ b s. let spelled = has_spelling-spelled p b s in cc }
+no_spelling p short is =
+    record { short = short; none = λ b s. let spelled = has_spelling-spelled p b s in cc }
 
 -- a packet in range that passes it has a spelling
 not_spelled : (p : Packet) → IsInRange p → has_spelling p ≡ true → HasNoSpelling p → ⊥
@@ -30,7 +31,9 @@ not_malformed (Err e) memory is = cc
 
 pub returns-then-not-has_spelling-clause-malformed : goal.returns-then-not-has_spelling-clause-malformed
 returns-then-not-has_spelling-clause-malformed c =
-    let fits = short c.args.packet.now c.in-Some.rest c.size.result (c.in-Some.ensures.1) c.size.ensures.value c.if-all-gt-MAX_PACKET.false in
+    let fits =
+    short c.args.packet.now c.in-Some.rest c.size.result
+    (c.in-Some.ensures.1) c.size.ensures.value c.if-all-gt-MAX_PACKET.false in
     (λ is. no_spelling c.args.packet.now fits (sym c.if-not-has_spelling.ensures.value), λ lacks. refl)
 
 pub returns-in_err-write-clause-malformed : goal.returns-in_err-write-clause-malformed
@@ -46,5 +49,8 @@ returns-clause-malformed c =
 pub returns-clause-spelled : goal.returns-clause-spelled
 returns-clause-spelled c =
     let p = c.args.packet.now in
-    let fits = short p c.in-Some.rest c.size.result (c.in-Some.ensures.1) c.size.ensures.value c.if-all-gt-MAX_PACKET.false in
-    subst (Spells p) (sym c.in_ok-write.ensures) (Spells-short p c.has_spelling.ensures.in_range (sym c.if-not-has_spelling.ensures.value) fits)
+    let fits =
+    short p c.in-Some.rest c.size.result
+    (c.in-Some.ensures.1) c.size.ensures.value c.if-all-gt-MAX_PACKET.false in
+    subst (Spells p) (sym c.in_ok-write.ensures)
+    (Spells-short p c.has_spelling.ensures.in_range (sym c.if-not-has_spelling.ensures.value) fits)
