@@ -91,7 +91,11 @@ impl Core {
     {
         match publish.flags.qos {
             FrameQos::WithoutSession => self.source_ask(alloc, from.ip, publish),
-            FrameQos::ExactlyOnce => publish_denied(alloc, Who::Address(from), Denial::NotSupported),
+            FrameQos::ExactlyOnce => publish_denied(
+                alloc,
+                Who::Address(from),
+                Denial::NotSupported,
+            ),
             FrameQos::AtMostOnce | FrameQos::AtLeastOnce => no_session(alloc, from),
         }
     }

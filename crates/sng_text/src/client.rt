@@ -2,7 +2,6 @@
 ghost use Rattle.std.specs.Prelude.{◌≡◌, ◌⊎◌, true, Err, Some, None, IfOk, IfErr};
 ghost use Rattle.sng_text.specs.ClientIds.{is_client_id, client_id_fault};
 
-use crate::reading::owned;
 use crate::{MAX_CLIENT_ID, TextFault, bytes};
 use std::alloc::{AllocError, Global};
 use std::marker::Model;
@@ -31,7 +30,11 @@ impl ClientId {
         ensures err { IfErr result (λ f. (f ≡ TextFault.Memory) ⊎ (client_id_fault text.now ≡ Some f)) }
         ensures memory { result ≡ Err TextFault.Memory → client_id_fault text.now ≡ None }
     {
-        let text = owned(alloc, text, client_id_fault(text))?;
+        // Not by `owned`, which does not say that a fault of the text is never a failed allocation.
+        if let Some(fault) = client_id_fault(text) {
+            return Err(fault);
+        }
+        let text = Vec::from_slice(alloc, text).map_err(|_| TextFault::Memory)?;
         Ok(ClientId { text })
     }
 
