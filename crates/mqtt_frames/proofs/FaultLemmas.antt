@@ -1,7 +1,7 @@
 -- Which faults the reading of a packet's parts answers.
 use Rattle.std.proofs.Common.{◌≡◌, ◌≢◌, ℕ, zero, suc, ◌+◌, ◌/◌, ◌%◌, ◌<◌, ◌==◌, ◌||◌, Bool, true, false, List}
 use Rattle.std.proofs.Common.{[], ◌∷◌, ◌++◌}
-use Rattle.std.proofs.Common.{length, take, drop, nat_lt, if◌then◌else◌, Option, Some, None, inl, inr, ◌⊎◌}
+use Rattle.std.proofs.Common.{length, take, drop, nat_lt, if◌then◌else◌, Some, inl, inr, ◌⊎◌}
 use Rattle.std.proofs.Common.{Result, Ok, Err, refl, ap, sym, subst, ◌∙◌, arith}
 use Rattle.std.proofs.lemmas.Bool.{eqb-true}
 use Rattle.std.proofs.lemmas.Bool.Decides.{nat_tests}
@@ -9,10 +9,7 @@ use Rattle.std.proofs.lemmas.List.{take-append-drop}
 use Rattle.std.specs.Str.{bytes_eq}
 use Rattle.std.specs.Cmp.Lexicographic.{same_text}
 use Rattle.mqtt_frames.specs.declared.fault.PacketFault.{PacketFault}
-use Rattle.mqtt_frames.specs.declared.fault.PacketFault.TheVariants.{Malformed, NotSupported, TooLong}
-use Rattle.mqtt_frames.specs.declared.packet.RequestedQos.{RequestedQos}
-use Rattle.mqtt_frames.specs.declared.packet.Request.{Request}
-use Rattle.mqtt_frames.specs.declared.packet.SubscribeCode.{SubscribeCode}
+use Rattle.mqtt_frames.specs.declared.fault.PacketFault.TheVariants.{Malformed, NotSupported}
 use Rattle.mqtt_frames.specs.declared.packet.SubscribeCode.TheVariants.{Granted}
 use Rattle.mqtt_frames.specs.declared.packet.Packet.{Packet}
 use Rattle.mqtt_frames.specs.declared.packet.Packet.TheVariants as variants
@@ -28,7 +25,7 @@ use Rattle.mqtt_frames.specs.Reading.{qos_behind, request_at}
 use Rattle.mqtt_frames.specs.Reading.{items_within, items_of, code_of, codes_of, some_of, subscribe_of}
 use Rattle.mqtt_frames.specs.Reading.{subscribe_ack_of}
 use Rattle.mqtt_frames.specs.Reading.{unsubscribe_of, body_of}
-use Rattle.mqtt_frames.specs.Standing.{IsPublishAtQos2, IsOfQos2, HasOtherFlags}
+use Rattle.mqtt_frames.specs.Standing.{IsOfQos2, HasOtherFlags}
 use Rattle.mqtt_frames.proofs.ReadIsSpelled.{flag-8, flag-1}
 
 abbrev failed : {A : Type 0} → PacketFault → Result A PacketFault

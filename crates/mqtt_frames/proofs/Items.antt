@@ -1,7 +1,6 @@
 -- Reading items one after another, as a loop does.
 use Rattle.std.proofs.Common.{◌≡◌, ℕ, zero, suc, ◌<◌, ◌≤◌, List, [], ◌∷◌, ◌++◌, length, Result, Ok, Err, refl}
 use Rattle.std.proofs.Common.{sym, ap, ◌∙◌, append_assoc, arith}
-use Rattle.std.proofs.lemmas.List.{append-nil}
 use Rattle.mqtt_frames.specs.declared.fault.PacketFault.{PacketFault}
 use Rattle.mqtt_frames.specs.Reading.{◌>>=◌, items_within, items_of}
 

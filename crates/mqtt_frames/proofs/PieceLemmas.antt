@@ -5,7 +5,6 @@ use Rattle.std.proofs.Common.{length-append, length-drop, inl, inr, Option, Some
 use Rattle.std.proofs.Common.{ap, sym, subst, ◌∙◌, arith}
 use Rattle.std.proofs.lemmas.Bool.{cases_lt, lt-ltb, le-ltb}
 use Rattle.std.proofs.lemmas.List.{take-append-drop, take_all, drop_all, drop-append-le, length-take-le}
-use Rattle.std.proofs.lemmas.List.{append-nil}
 use Rattle.mqtt_frames.specs.declared.limits.TheConstants.{MAX_PACKET}
 use Rattle.mqtt_frames.specs.declared.fault.PacketFault.{PacketFault}
 use Rattle.mqtt_frames.specs.declared.fault.PacketFault.TheVariants.{TooLong}
@@ -23,7 +22,7 @@ use Rattle.mqtt_frames.specs.Kinds.{kind_of}
 use Rattle.mqtt_frames.specs.Reading.{body_of}
 use Rattle.mqtt_frames.specs.Headers.{behind_group, length_at, with_kind, with_length, header_at}
 use Rattle.mqtt_frames.specs.Fronts.{sized, behind_header, decode}
-use Rattle.mqtt_frames.specs.Streams.{End, Rest, Fault, Read, with_packets, read_all, behind_body, read_of}
+use Rattle.mqtt_frames.specs.Streams.{Rest, Fault, Read, read_all, behind_body, read_of}
 use Rattle.mqtt_frames.specs.Streams.{IsReady}
 use Rattle.mqtt_frames.proofs.ReadIsSpelled.{behind_group-told, with_length-told, behind_header-told}
 use Rattle.mqtt_frames.proofs.StreamLemmas.{header_at-more, header_at-positive, body-more, decode-within}

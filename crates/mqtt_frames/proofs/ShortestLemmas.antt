@@ -1,7 +1,7 @@
 -- The written spelling is the shortest.
-use Rattle.std.proofs.Common.{◌≡◌, ℕ, ◌+◌, ◌*◌, ◌/◌, ◌%◌, ◌<◌, ◌≤◌, List, [], ◌∷◌, ◌++◌, length, Option, Some}
+use Rattle.std.proofs.Common.{◌≡◌, ℕ, ◌+◌, ◌/◌, ◌%◌, ◌<◌, List, [], ◌∷◌, ◌++◌, length, Option, Some}
 use Rattle.std.proofs.Common.{None, inl, inr, ◌⊎◌}
-use Rattle.std.proofs.Common.{refl, ap, sym, ◌∙◌, arith}
+use Rattle.std.proofs.Common.{ap, sym, ◌∙◌, arith}
 use Rattle.std.proofs.lemmas.Bool.{cases_lt}
 use Rattle.mqtt_frames.specs.declared.packet.Request.{Request}
 use Rattle.mqtt_frames.specs.declared.packet.Packet.{Packet}
@@ -10,7 +10,7 @@ use Rattle.mqtt_frames.specs.RemainingLength.{remaining_length}
 use Rattle.mqtt_frames.specs.Packets.{flag, protocol, qos_byte, number_bytes, text_bytes, id_bytes}
 use Rattle.mqtt_frames.specs.Packets.{requests_bytes, filters_bytes}
 use Rattle.mqtt_frames.specs.Packets.{first_byte, body, written}
-use Rattle.mqtt_frames.specs.Grammar.{SpellsNumber, SpellsId, SpellsText, SpellsGroups, SpellsOptionalId}
+use Rattle.mqtt_frames.specs.Grammar.{SpellsNumber, SpellsText, SpellsGroups, SpellsOptionalId}
 use Rattle.mqtt_frames.specs.Grammar.{SpellsRequests}
 use Rattle.mqtt_frames.specs.Grammar.{SpellsFilters, SpellsBody, Spells}
 use Rattle.mqtt_frames.proofs.Groups.{remaining_length-last, remaining_length-next}

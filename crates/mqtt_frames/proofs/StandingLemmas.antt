@@ -1,8 +1,8 @@
 -- Between what stands at the front of bytes and what is answered to them.
 use Rattle.std.proofs.Common.{◌≡◌, ℕ, zero, suc, ◌+◌, ◌<◌, ◌≤◌, Bool, true, false, List, [], ◌∷◌, ◌++◌}
 use Rattle.std.proofs.Common.{length, take, drop}
-use Rattle.std.proofs.Common.{length-append, nat_lt, Option, Some, None, inl, inr, ◌⊎◌, Result, Ok, Err, refl}
-use Rattle.std.proofs.Common.{ap, sym, subst, ◌∙◌, arith}
+use Rattle.std.proofs.Common.{Option, Some, None, inl, inr, ◌⊎◌, Result, Ok, Err, refl}
+use Rattle.std.proofs.Common.{ap, sym, ◌∙◌, arith}
 use Rattle.std.proofs.lemmas.Bool.{cases_lt, lt-ltb, le-ltb}
 use Rattle.std.proofs.lemmas.List.{take-append-drop, length-take, length-take-le}
 use Rattle.mqtt_frames.specs.declared.limits.TheConstants.{MAX_PACKET}
@@ -25,14 +25,13 @@ use Rattle.mqtt_frames.specs.Headers.{length_at, with_kind, with_length, header_
 use Rattle.mqtt_frames.specs.Fronts.{sized, behind_header, decode}
 use Rattle.mqtt_frames.specs.Laws.{AreBytes}
 use Rattle.mqtt_frames.specs.Standing.{BeginsWith, AreMarked, IsHeaderCut, IsFirst, IsOfQos2, IsOtherConnect}
-use Rattle.mqtt_frames.specs.Standing.{IsPartOf, IsLonger}
 use Rattle.mqtt_frames.specs.Standing.{Begins, IsUnfinished, IsTooLong, IsUnsupported}
 use Rattle.mqtt_frames.specs.FrontLaws.{Stands, IsNothing}
 use Rattle.mqtt_frames.proofs.SpelledIsRead.{groups-read, kind_for, kind_of-first, front-read}
 use Rattle.mqtt_frames.proofs.ReadIsSpelled.{length_at-spelled, byte_of, kind_of-reads, front-spelled}
 use Rattle.mqtt_frames.proofs.StreamLemmas.{not_sized, decode-within}
 use Rattle.mqtt_frames.proofs.PieceLemmas.{behind_group-unfinished}
-use Rattle.mqtt_frames.proofs.FaultLemmas.{BodyFault, body_fault, kind_fault, kind_of-qos_2, connect_other}
+use Rattle.mqtt_frames.proofs.FaultLemmas.{body_fault, kind_fault, kind_of-qos_2, connect_other}
 
 -- a packet of each kind
 

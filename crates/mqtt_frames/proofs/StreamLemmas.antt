@@ -1,10 +1,10 @@
 -- What stands at the front of bytes stays there when more bytes come, and so the packets of a stream do not
 -- depend on its pieces.
-use Rattle.std.proofs.Common.{◌≡◌, ℕ, zero, suc, ◌+◌, ◌-◌, ◌<◌, ◌≤◌, true, false, List, [], ◌∷◌, ◌++◌, length}
+use Rattle.std.proofs.Common.{◌≡◌, ℕ, zero, suc, ◌+◌, ◌<◌, ◌≤◌, true, false, List, [], ◌∷◌, ◌++◌, length}
 use Rattle.std.proofs.Common.{take, drop, length-append, length-drop, nat_lt, if◌then◌else◌, ◌⊎◌, inl, inr}
 use Rattle.std.proofs.Common.{Result, Ok, Err, refl, ap, sym, subst, ◌∙◌, append_assoc, arith}
 use Rattle.std.proofs.lemmas.Bool.{cases_lt, lt-ltb, le-ltb}
-use Rattle.std.proofs.lemmas.List.{take-append-le, drop-append-le, take_all, drop_all}
+use Rattle.std.proofs.lemmas.List.{take-append-le, drop-append-le}
 use Rattle.mqtt_frames.specs.declared.limits.TheConstants.{MAX_PACKET}
 use Rattle.mqtt_frames.specs.declared.fault.PacketFault.{PacketFault}
 use Rattle.mqtt_frames.specs.declared.packet.Packet.{Packet}

@@ -3,22 +3,18 @@ use Rattle.std.proofs.Common.{◌≡◌, ℕ, ◌/◌, ◌%◌, ◌^◌, ◌<◌
 use Rattle.std.proofs.Common.{arith}
 use Rattle.sng_frames.specs.declared.flags.Flags.{Flags}
 use Rattle.sng_frames.specs.declared.messages.connect.Connect.{Connect}
-use Rattle.sng_frames.specs.declared.messages.publish.Publish.{Publish}
-use Rattle.sng_frames.specs.declared.messages.register.Register.{Register}
 use Rattle.sng_frames.specs.declared.frame.SnFrame.{SnFrame}
 use Rattle.sng_frames.specs.declared.frame.SnFrame.TheVariants as variants
-use Rattle.sng_frames.specs.declared.messages.acks.SubscribeAck.{SubscribeAck}
-use Rattle.sng_frames.specs.declared.messages.acks.TopicAck.{TopicAck}
 use Rattle.sng_frames.specs.declared.messages.subscribe.TopicRequest.{TopicRequest}
 use Rattle.sng_frames.specs.declared.messages.will.WillTopic.{WillTopic}
 use Rattle.sng_frames.specs.FlagsOctet.{flags_octet}
 use Rattle.sng_frames.specs.Grammar.{IsNumber, SpellsIds, SpellsFlaggedIds, SpellsConnect, SpellsNumber}
-use Rattle.sng_frames.specs.Grammar.{SpellsWillTopic, SpellsRegister}
-use Rattle.sng_frames.specs.Grammar.{SpellsTopicAck, SpellsPublish, FitsType, SpellsTopicRequest}
-use Rattle.sng_frames.specs.Grammar.{SpellsSubscribeAck, SpellsPing, SpellsDuration, SpellsPart, IsInRange}
+use Rattle.sng_frames.specs.Grammar.{SpellsWillTopic}
+use Rattle.sng_frames.specs.Grammar.{FitsType, SpellsTopicRequest}
+use Rattle.sng_frames.specs.Grammar.{SpellsPing, SpellsDuration, SpellsPart, IsInRange}
 use Rattle.sng_frames.specs.Grammar.{TopicFits}
-use Rattle.sng_frames.specs.Writing.{number_then, connect_part, code_part, will_topic_part, register_part}
-use Rattle.sng_frames.specs.Writing.{topic_ack_part, publish_part, topic_request_part, subscribe_ack_part}
+use Rattle.sng_frames.specs.Writing.{number_then, connect_part, code_part, will_topic_part}
+use Rattle.sng_frames.specs.Writing.{topic_request_part}
 use Rattle.sng_frames.specs.Writing.{ping_part, duration_part, part_of}
 
 -- a number in its two octets

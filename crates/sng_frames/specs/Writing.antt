@@ -1,12 +1,8 @@
 -- The bytes that a frame is encoded as, with the shortest Length (MQTT-SN 1.2, 5.2 to 5.4).
-use Rattle.std.specs.Prelude.{◌≡◌, ℕ, ◌≤◌, ◌<◌, ◌⊎◌, ◌+◌, ◌/◌, ◌%◌, nat_lt, List, [], ◌∷◌, length}
+use Rattle.std.specs.Prelude.{ℕ, ◌≤◌, ◌+◌, ◌/◌, ◌%◌, nat_lt, List, [], ◌∷◌, length}
 use Rattle.std.specs.Prelude.{if◌then◌else◌}
-use Rattle.std.specs.Prelude.{Some, None, Ok, Err, Vec}
+use Rattle.std.specs.Prelude.{Some, None}
 use Rattle.std.specs.declared.option.Option.{Option}
-use Rattle.std.specs.Global.{Global}
-use Rattle.std.specs.declared.result.Result.{Result}
-use Rattle.sng_frames.specs.declared.fault.FrameFault.{FrameFault}
-use Rattle.sng_frames.specs.declared.fault.FrameFault.TheVariants.{Malformed, TooLong, Memory}
 use Rattle.sng_frames.specs.declared.messages.connect.Connect.{Connect}
 use Rattle.sng_frames.specs.declared.messages.publish.Publish.{Publish}
 use Rattle.sng_frames.specs.declared.messages.register.Register.{Register}
@@ -19,7 +15,7 @@ use Rattle.sng_frames.specs.declared.messages.will.WillTopic.{WillTopic}
 use Rattle.sng_frames.specs.declared.limits.TheConstants.{MAX_DATAGRAM, MAX_SHORT_LENGTH}
 use Rattle.sng_frames.specs.declared.return_code.ReturnCode.{ReturnCode}
 use Rattle.sng_frames.specs.FlagsOctet.{flags_octet}
-use Rattle.sng_frames.specs.Grammar.{Spells, TopicFits, type_of}
+use Rattle.sng_frames.specs.Grammar.{Spells, type_of}
 use Rattle.sng_frames.specs.MessageTypes.{octet_of}
 
 -- a number behind which something stands, high octet first (5.3)

@@ -1,5 +1,5 @@
-//! The laws of decoding and encoding. Each function here only states one: its contract is the law, and calling it
-//! does nothing.
+//! The laws of decoding and encoding. Each function here only states one: its contract is the law, and
+//! calling it does nothing.
 ghost use Rattle.std.specs.Prelude.{◌≡◌, ◌+◌};
 ghost use Rattle.sng_frames.specs.declared.limits.TheConstants.{MAX_DATAGRAM, MAX_PAYLOAD};
 ghost use Rattle.sng_frames.specs.declared.limits.TheConstants.{MAX_REGISTERED_NAME, MAX_SHORT_LENGTH};
@@ -8,8 +8,8 @@ ghost use Rattle.sng_frames.specs.Laws.{SpellsOne, SpellsNoneUnsupported};
 ghost use Rattle.sng_frames.specs.Laws.{WritesASpelling, WritesTheSpelled, WritesTheShortest};
 ghost use Rattle.sng_frames.specs.Laws.{ReadsWhatIsWritten};
 
-/// The limit of a datagram, what follows for its parts, and the bound that the standard sets a Length of one octet
-/// (MQTT-SN 1.2, 5.2.1).
+/// The limit of a datagram, what follows for its parts, and the bound that the standard sets a Length of one
+/// octet (MQTT-SN 1.2, 5.2.1).
 pub fn limits()
     ensures datagram { MAX_DATAGRAM ≡ 2048 }
     ensures payload { MAX_PAYLOAD + 9 ≡ MAX_DATAGRAM }

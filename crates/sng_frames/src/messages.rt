@@ -1,5 +1,5 @@
-//! The messages (MQTT-SN 1.2, 5.4), a module for each kind: what a message holds, how its variable part is decoded, how
-//! many octets that has, and how the message is written.
+//! The messages (MQTT-SN 1.2, 5.4), a module for each kind: what a message holds, how its variable part is
+//! decoded, how many octets that has, and how the message is written.
 pub mod acks;
 pub mod connect;
 pub mod disconnect;

@@ -19,7 +19,8 @@ impl FrameQos {
     ghost use Rattle.std.specs.Prelude.{◌≡◌};
     ghost use Rattle.sng_frames.specs.Levels.{granted_level};
 
-    /// The level that is granted where this one is asked for by a subscription or a will: 2 counts as 1, and -1 as 0.
+    /// The level that is granted where this one is asked for by a subscription or a will: 2 counts as 1, and
+    /// -1 as 0.
     pub fn granted(self) -> Qos
         ensures { result ≡ granted_level self }
     {

@@ -6,14 +6,14 @@ pub struct ReturnCode(pub u8);
 
 impl ReturnCode {
     /// Accepted.
-    pub const ACCEPTED: ReturnCode = ReturnCode(0);
+    pub const ACCEPTED: ReturnCode = ReturnCode(0x00);
 
     /// Rejected: congestion.
-    pub const CONGESTION: ReturnCode = ReturnCode(1);
+    pub const CONGESTION: ReturnCode = ReturnCode(0x01);
 
     /// Rejected: invalid topic id.
-    pub const INVALID_TOPIC_ID: ReturnCode = ReturnCode(2);
+    pub const INVALID_TOPIC_ID: ReturnCode = ReturnCode(0x02);
 
     /// Rejected: not supported.
-    pub const NOT_SUPPORTED: ReturnCode = ReturnCode(3);
+    pub const NOT_SUPPORTED: ReturnCode = ReturnCode(0x03);
 }

@@ -1,5 +1,5 @@
-//! Acknowledgements: CONNACK (MQTT-SN 1.2, 5.4.5), REGACK (5.4.11), PUBACK (5.4.13), PUBREC, PUBREL and PUBCOMP
-//! (5.4.14), SUBACK (5.4.16) and UNSUBACK (5.4.18). Each has a fixed size.
+//! Acknowledgements: CONNACK (MQTT-SN 1.2, 5.4.5), REGACK (5.4.11), PUBACK (5.4.13), PUBREC, PUBREL and
+//! PUBCOMP (5.4.14), SUBACK (5.4.16) and UNSUBACK (5.4.18). Each has a fixed size.
 ghost use Rattle.std.specs.Prelude.{◌≡◌, IfOk};
 ghost use Rattle.sng_frames.specs.Grammar.{IsInRange};
 ghost use Rattle.sng_frames.specs.MessageTypes.{octet_of};

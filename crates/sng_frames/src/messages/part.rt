@@ -1,5 +1,5 @@
-//! Fields that several messages share (MQTT-SN 1.2, 5.3), from the octets of a variable part. Each function allocates at
-//! most once.
+//! Fields that several messages share (MQTT-SN 1.2, 5.3), from the octets of a variable part. Each function
+//! allocates at most once.
 ghost use Rattle.std.specs.Prelude.{◌≡◌, Some};
 ghost use Rattle.sng_frames.specs.Parts.{nothing_of, code_of, number_of, client_id_of};
 ghost use Rattle.sng_frames.specs.Reading.{Reads, or_malformed};

@@ -19,8 +19,8 @@ pub struct TopicRequest {
     pub flags: Flags,
     /// The MsgId field, of any value.
     pub msg_id: u16,
-    /// The octets of a predefined id or of a short name, by the TopicIdType, of which there must be two; else the
-    /// filter's bytes, which may be none and need not be a filter.
+    /// The octets of a predefined id or of a short name, by the TopicIdType, of which there must be two; else
+    /// the filter's bytes, which may be none and need not be a filter.
     pub topic: Octets,
 }
 

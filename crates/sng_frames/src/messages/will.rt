@@ -1,5 +1,5 @@
-//! The messages of a will: WILLTOPICREQ, WILLTOPIC, WILLMSGREQ and WILLMSG (MQTT-SN 1.2, 5.4.6 to 5.4.9), WILLTOPICUPD,
-//! WILLMSGUPD and their answers (5.4.22 to 5.4.25).
+//! The messages of a will: WILLTOPICREQ, WILLTOPIC, WILLMSGREQ and WILLMSG (MQTT-SN 1.2, 5.4.6 to 5.4.9),
+//! WILLTOPICUPD, WILLMSGUPD and their answers (5.4.22 to 5.4.25).
 ghost use Rattle.std.specs.Prelude.{◌≡◌, ◌+◌, ◌≤◌, Err, Some, IfOk, IsSome, length};
 ghost use Rattle.sng_frames.specs.MessageTypes.{octet_of};
 ghost use Rattle.sng_frames.specs.Parts.{will_topic_of};

@@ -1,8 +1,10 @@
 //! Decoding a datagram as a frame (MQTT-SN 1.2, 5.2 to 5.5).
 ghost use Rattle.std.specs.Prelude.{◌≡◌, ◌≢◌, ◌↔◌, ◌∷◌, Ok, Err, IfOk, IsOkAnd};
 ghost use Rattle.sng_frames.specs.Parts.{part_read};
-ghost use Rattle.sng_frames.specs.Reading.{Decodes, HoldsBytes, frame_of, octets_read, behind_length, message_of};
-ghost use Rattle.sng_frames.specs.Reading.{is_discovery, or_malformed};
+ghost use Rattle.sng_frames.specs.Reading.{Decodes, HoldsBytes, frame_of, octets_read, behind_length};
+ghost use Rattle.sng_frames.specs.Reading.{message_of, is_discovery, or_malformed};
+ghost use Rattle.sng_frames.specs.declared.fault.FrameFault.TheVariants.{Malformed, NotSupported};
+ghost use Rattle.sng_frames.specs.declared.fault.FrameFault.TheVariants.{TooLong, Memory};
 
 use crate::messages::{acks, connect, disconnect, part, ping, publish, register, subscribe, will};
 use crate::wire::framing;
@@ -23,16 +25,16 @@ const ENCAPSULATED: u8 = 0xfe;
 
 /// The frame that a datagram is. Allocates the copy of the variable part's text or data, and nothing else.
 ///
-/// `Malformed`: it has more than `MAX_DATAGRAM` octets, or its Length is not its size, or its variable part does not
-/// fit its type. `NotSupported`: it is an ADVERTISE, SEARCHGW or GWINFO, or its MsgType is that of forwarder
-/// encapsulation, whatever its Length. `Memory`: it is a frame with text or data, and the allocation of their copy
-/// failed.
+/// `Malformed`: it has more than `MAX_DATAGRAM` octets, or its Length is not its size, or its variable part
+/// does not fit its type. `NotSupported`: it is an ADVERTISE, SEARCHGW or GWINFO, or its MsgType is that of
+/// forwarder encapsulation, whatever its Length. `Memory`: it is a frame with text or data, and the
+/// allocation of their copy failed.
 pub fn decode(alloc: Global, datagram: &[u8]) -> Result<SnFrame, FrameFault>
     ensures ok { IfOk result (λ f. frame_of datagram.now ≡ Ok f) }
-    ensures malformed { (result ≡ Err FrameFault.Malformed) ↔ (frame_of datagram.now ≡ Err FrameFault.Malformed) }
-    ensures not_supported { (result ≡ Err FrameFault.NotSupported) ↔ (frame_of datagram.now ≡ Err FrameFault.NotSupported) }
-    ensures memory { result ≡ Err FrameFault.Memory → IsOkAnd (frame_of datagram.now) HoldsBytes }
-    ensures never_too_long { result ≢ Err FrameFault.TooLong }
+    ensures malformed { (result ≡ Err Malformed) ↔ (frame_of datagram.now ≡ Err Malformed) }
+    ensures not_supported { (result ≡ Err NotSupported) ↔ (frame_of datagram.now ≡ Err NotSupported) }
+    ensures memory { result ≡ Err Memory → IsOkAnd (frame_of datagram.now) HoldsBytes }
+    ensures never_too_long { result ≢ Err TooLong }
 {
     if datagram.len() > MAX_DATAGRAM {
         return Err(FrameFault::Malformed);

@@ -12,8 +12,9 @@ use std::alloc::{AllocError, Global};
 
 /// The datagram that a frame is sent as, with the shortest Length. Allocates once.
 ///
-/// `TooLong`: it has more than `MAX_DATAGRAM` octets. `Malformed`: no bytes spell the frame, which is a SUBSCRIBE or an
-/// UNSUBSCRIBE whose topic does not have the two octets that its TopicIdType asks for. `Memory`: the allocation failed.
+/// `TooLong`: it has more than `MAX_DATAGRAM` octets. `Malformed`: no bytes spell the frame, which is a
+/// SUBSCRIBE or an UNSUBSCRIBE whose topic does not have the two octets that its TopicIdType asks for.
+/// `Memory`: the allocation failed.
 pub fn encode(alloc: Global, frame: &SnFrame) -> Result<Vec<u8>, FrameFault>
     ensures written { IfOk result (λ v. v.items ≡ written frame.now) }
     ensures spelled { IfOk result (λ v. Spells frame.now v.items) }

@@ -12,8 +12,8 @@ use std::alloc::{AllocError, Global};
 /// The octets of a Length that has three of them, and of a MsgType.
 pub(crate) const LONGEST_FRONT: usize = 4;
 
-/// The datagram of that type whose variable part is the two slices, one after the other, with the shortest Length.
-/// Allocates once.
+/// The datagram of that type whose variable part is the two slices, one after the other, with the shortest
+/// Length. Allocates once.
 pub(crate) fn frame(
     alloc: Global,
     kind: MessageType,
@@ -28,7 +28,7 @@ pub(crate) fn frame(
         return join(alloc, &[(size + 2) as u8, kind.octet()], head, tail);
     }
     let [high, low] = octets((size + 4) as u16);
-    join(alloc, &[1, high, low, kind.octet()], head, tail)
+    join(alloc, &[0x01, high, low, kind.octet()], head, tail)
 }
 
 /// The three slices, one after the other.

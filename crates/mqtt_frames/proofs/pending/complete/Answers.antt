@@ -1,4 +1,4 @@
-use Rattle.std.proofs.Common.{◌≡◌, ℕ, ◌+◌, ◌<◌, List, ◌++◌, length, length-append, drop, ap, sym, ◌∙◌, arith}
+use Rattle.std.proofs.Common.{◌≡◌, ℕ, ◌+◌, List, ◌++◌, length, length-append, drop, ap, sym, ◌∙◌, arith}
 use Rattle.mqtt_frames.specs.declared.header.Header.TheVariants as headers
 use Rattle.mqtt_frames.specs.Reading.{body_of}
 use Rattle.mqtt_frames.specs.Headers.{header_at}
