@@ -1,5 +1,5 @@
-//! What is right of a client's will (MQTT-SN 1.2, 6.2 and 6.4). The function states a law: its contract is
-//! the law, and calling it does nothing.
+//! What is right of a client's will (MQTT-SN 1.2, 6.2 and 6.4). Each function states one law: its contract
+//! is the law, and calling it does nothing.
 ghost use Rattle.sng_wills.specs.Laws.{WillsAreWhatWasStatedLast, StoppedDialoguesStateNothing};
 
 /// Whatever happened to the dialogue, the will is of the topic that was stated last since it was deleted
