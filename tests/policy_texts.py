@@ -1,7 +1,9 @@
 """policy_texts.py
 
-Policy texts with what the program is to say of them, for end_to_end.py: those of tests/policies.table, and those that
-are too long for a table, at the limits of a policy and one past them, and nested as deep as a text may be and deeper."""
+Policy texts with what the program is to say of them, for end_to_end.py: those of tests/policies.table, and
+those that are too long for a table, at the limits of a policy and one past them, and nested as deep as a
+text may be and deeper.
+"""
 import base64
 import os
 

@@ -4,33 +4,63 @@ ghost use Rattle.clap.specs.Values.{kind_of};
 ghost use Rattle.clap.specs.declared.error.ErrorKind.TheVariants.{DisplayHelp, DisplayVersion};
 ghost use Rattle.sng.specs.Words.{filters_of, is_escape};
 
-use clap::{Arg, ArgAction, Command, Error};
+use clap::{Arg, ArgAction, ArgMatches, Command, Error};
 use sng_gateway::Status;
 use sng_text::Octets;
 use std::alloc::{AllocError, Global};
 
 /// What the command line asks for.
 #[derive(Clone, Copy, Debug, PartialEq, Eq)]
-pub enum Chosen {
+pub enum Chosen<'a> {
     /// Plays a script from standard input.
     Play,
     /// Answers whether a filter is covered by granted ones.
     Cover,
+    /// Answers what a policy says to a question.
+    May(MayWords<'a>),
+}
+
+/// The words of a question to a policy.
+#[derive(Clone, Copy, Debug, PartialEq, Eq)]
+pub struct MayWords<'a> {
+    /// The file of the policy.
+    pub policy: &'a str,
+    /// The source that asks, where it is no client.
+    pub source: Option<&'a str>,
+    /// The client; of a source the action.
+    pub first: &'a str,
+    /// The action; of a source the name.
+    pub second: &'a str,
+    /// The name or filter of a client.
+    pub third: Option<&'a str>,
 }
 
 /// What the words ask for, of which the first is the program's name. An `Err` is what is wrong with them, or
 /// the help that they ask for.
-pub fn read_command(alloc: Global, words: &[String]) -> Result<Chosen, Error> {
+pub fn read_command(alloc: Global, words: &[String]) -> Result<Chosen<'_>, Error> {
     let play = Command::new(alloc, "play").about("Plays a script of events from standard input");
     let command = Command::new(alloc, "sng")
         .about("A gateway from MQTT-SN 1.2 to MQTT 3.1.1")
         .subcommand_required(true)
         .subcommand(play)?
-        .subcommand(cover_command(alloc)?)?;
+        .subcommand(cover_command(alloc)?)?
+        .subcommand(may_command(alloc)?)?;
     let matches = command.try_get_matches_from(words)?;
-    match matches.subcommand_name() {
-        Some("cover") => Ok(Chosen::Cover),
+    match matches.subcommand() {
+        Some(("cover", _)) => Ok(Chosen::Cover),
+        Some(("may", asked)) => Ok(Chosen::May(may_words(asked))),
         _ => Ok(Chosen::Play),
+    }
+}
+
+/// The words of `sng may ..`. Those that are required are there.
+fn may_words<'a>(matches: &ArgMatches<'a>) -> MayWords<'a> {
+    MayWords {
+        policy: matches.get_str("FILE").unwrap_or(""),
+        source: matches.get_str("IP"),
+        first: matches.get_str("CLIENT").unwrap_or(""),
+        second: matches.get_str("ACTION").unwrap_or(""),
+        third: matches.get_str("NAME"),
     }
 }
 
@@ -47,6 +77,38 @@ fn cover_command<'a>(alloc: Global) -> Result<Command<'a>, AllocError> {
         .about("Tells whether a topic filter matches only names that granted ones match")
         .arg(filter)?
         .arg(granted)
+}
+
+fn may_command<'a>(alloc: Global) -> Result<Command<'a>, AllocError> {
+    let policy = Arg::new(alloc, "FILE")
+        .long("policy")
+        .help("The file of the policy")
+        .required(true)
+        .action(ArgAction::Set);
+    let source = Arg::new(alloc, "IP")
+        .long("source")
+        .help("Asks for the source with this IPv4 address: CLIENT is left out")
+        .action(ArgAction::Set);
+    let client = Arg::new(alloc, "CLIENT")
+        .help("The client that asks")
+        .required(true)
+        .action(ArgAction::Set);
+    let action = Arg::new(alloc, "ACTION")
+        .help("publish, receive or subscribe; for a source publish")
+        .required(true)
+        .action(ArgAction::Set);
+    let object = Arg::new(alloc, "NAME")
+        .help("The topic name, or to subscribe the topic filter")
+        .action(ArgAction::Set)
+        .required_unless_present("IP")?
+        .conflicts_with("IP")?;
+    Command::new(alloc, "may")
+        .about("Tells what a policy allows")
+        .arg(policy)?
+        .arg(source)?
+        .arg(client)?
+        .arg(action)?
+        .arg(object)
 }
 
 /// The filters among the words of `sng cover ..`, as they came: all but the first two, and but the first `--`

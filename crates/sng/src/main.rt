@@ -2,14 +2,13 @@
 #![tactic(auto)]
 
 mod command;
+mod may;
+mod report;
 mod words;
 
-use clap::Error;
-use clap::error::ErrorKind;
-use command::{Chosen, filters_among, read_command, status_of};
-use sng_gateway::Status;
+use command::{Chosen, filters_among, read_command};
+use report::{out_of_memory, report};
 use sng_gateway::covering::cover_words;
-use sng_gateway::ending::ended;
 use sng_gateway::play::play;
 use sng_text::Octets;
 use std::alloc::AllocError;
@@ -26,6 +25,7 @@ fn main(rt: HostRuntime) -> ExitCode {
                 let filters = filters_among(words);
                 cover_words(rt.alloc(), filters.as_slice(), io::writer(&rt))
             }
+            Ok(Chosen::May(asked)) => may::answer(&rt, words.as_slice(), &asked),
             Err(error) => report(&rt, &error),
         },
         Err(AllocError) => out_of_memory(&rt),
@@ -38,20 +38,4 @@ fn read_words<R: Env + AllocGlobal>(rt: &R) -> Result<(Vec<Octets>, Vec<String>)
     let words = words(rt)?;
     let texts = texts(rt.alloc(), words.as_slice())?;
     Ok((words, texts))
-}
-
-/// Prints help that was asked for on standard output, or what is wrong with the command line on standard
-/// error.
-fn report<R: Print + Eprint>(rt: &R, error: &Error) -> Status {
-    if error.kind() == ErrorKind::OutOfMemory {
-        return out_of_memory(rt);
-    }
-    let printed = error.print(rt);
-    ended(status_of(error), printed.is_ok())
-}
-
-/// Prints that an allocation failed.
-fn out_of_memory<R: Print>(rt: &R) -> Status {
-    let printed = rt.println("out of memory");
-    ended(Status::OutOfMemory, printed.is_ok())
 }

@@ -1,11 +1,12 @@
 -- The exit status of a command, and what ends one.
 use Rattle.std.specs.Prelude.{ℕ, Bool, true, false}
 use Rattle.sng_gateway.specs.declared.status.Status.{Status}
-use Rattle.sng_gateway.specs.declared.status.Status.TheVariants.{Done, Uncovered, Unreadable, BadCommandLine, OutOfMemory, Failed}
+use Rattle.sng_gateway.specs.declared.status.Status.TheVariants.{Done, Uncovered, Denied, Unreadable, BadCommandLine, OutOfMemory, Failed}
 
 abbrev pub code_of : Status → ℕ
 code_of Done = 0
 code_of Uncovered = 1
+code_of Denied = 1
 code_of Unreadable = 1
 code_of BadCommandLine = 2
 code_of OutOfMemory = 3
@@ -16,6 +17,7 @@ code_of Failed = 4
 abbrev pub lost : Status → Status
 lost Done = Failed
 lost Uncovered = Failed
+lost Denied = Failed
 lost Unreadable = Failed
 lost BadCommandLine = BadCommandLine
 lost OutOfMemory = Failed

@@ -14,6 +14,7 @@ pub fn ended(status: Status, is_printed: bool) -> Status
         (Status::BadCommandLine, false) => Status::BadCommandLine,
         (Status::Done, false)
         | (Status::Uncovered, false)
+        | (Status::Denied, false)
         | (Status::Unreadable, false)
         | (Status::OutOfMemory, false)
         | (Status::Failed, false) => Status::Failed,

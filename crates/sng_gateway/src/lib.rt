@@ -2,12 +2,15 @@
 //! writes policies.
 #![tactic(auto)]
 
+pub mod ask;
 pub mod covering;
 mod datagram;
 pub mod ending;
+pub mod file;
 mod input;
 pub mod laws;
 pub mod limits;
+pub mod may;
 pub mod play;
 mod player;
 mod reader;

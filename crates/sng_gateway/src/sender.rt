@@ -1,4 +1,5 @@
-//! The address of a datagram in a script, `IP:PORT`: an IPv4 address, and a port in decimal digits (RFC 3986, 3.2.2, 3.2.3).
+//! The address of a datagram in a script, `IP:PORT`: an IPv4 address, and a port in decimal digits (RFC 3986,
+//! 3.2.2, 3.2.3).
 ghost use Rattle.std.specs.Prelude.{◌≡◌, ◌==◌, option_map, position};
 ghost use Rattle.sng_gateway.specs.Lines.{address_of, parted, port_of};
 

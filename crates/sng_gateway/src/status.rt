@@ -9,6 +9,8 @@ pub enum Status {
     Done,
     /// A filter that was asked for is not covered.
     Uncovered,
+    /// What was asked for is not allowed.
+    Denied,
     /// A line or a word of the input could not be read.
     Unreadable,
     /// The command line is not one of the program's.
@@ -20,14 +22,15 @@ pub enum Status {
 }
 
 impl Status {
-    /// The exit status: 0 for `Done`, 1 for `Uncovered` and `Unreadable`, 2 for `BadCommandLine`, 3 for
-    /// `OutOfMemory`, 4 for `Failed`.
+    /// The exit status: 0 for `Done`, 1 for `Uncovered`, `Denied` and `Unreadable`, 2 for `BadCommandLine`, 3
+    /// for `OutOfMemory`, 4 for `Failed`.
     pub fn code(self) -> u8
         ensures { result ≡ code_of self }
     {
         match self {
             Status::Done => 0,
             Status::Uncovered => 1,
+            Status::Denied => 1,
             Status::Unreadable => 1,
             Status::BadCommandLine => 2,
             Status::OutOfMemory => 3,

@@ -1,0 +1,22 @@
+//! What is printed where a command was not run.
+use crate::command::status_of;
+use clap::Error;
+use clap::error::ErrorKind;
+use sng_gateway::Status;
+use sng_gateway::ending::ended;
+
+/// Prints help that was asked for on standard output, or what is wrong with the command line on standard
+/// error.
+pub fn report<R: Print + Eprint>(rt: &R, error: &Error) -> Status {
+    if error.kind() == ErrorKind::OutOfMemory {
+        return out_of_memory(rt);
+    }
+    let printed = error.print(rt);
+    ended(status_of(error), printed.is_ok())
+}
+
+/// Prints that an allocation failed.
+pub fn out_of_memory<R: Print>(rt: &R) -> Status {
+    let printed = rt.println("out of memory");
+    ended(Status::OutOfMemory, printed.is_ok())
+}

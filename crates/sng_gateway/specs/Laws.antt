@@ -1,0 +1,8 @@
+-- Laws of the lines of a script.
+use Rattle.std.specs.Prelude.{◌≡◌, ℕ, ◌<◌, ◌^◌, Some}
+use Rattle.std.specs.Fmt.{decimal}
+use Rattle.sng_gateway.specs.Lines.{port_of}
+
+-- each port is read from its decimal digits
+abbrev pub PortsAreDecimal : Type 0
+PortsAreDecimal = (port : ℕ) → port < 2 ^ 16 → port_of (decimal port) ≡ Some port

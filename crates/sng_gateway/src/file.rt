@@ -1,0 +1,22 @@
+//! A policy text from a file, of at most as many bytes as a line may have.
+ghost use Rattle.std.specs.Prelude.{◌≤◌, IfOk, vec_len};
+ghost use Rattle.sng_gateway.specs.declared.limits.TheConstants.{MAX_LINE};
+
+use crate::limits::MAX_LINE;
+use crate::reader::CountedReader;
+use std::alloc::Global;
+use std::io::{Error, Read, Result};
+
+/// All bytes of the reader, where they are no more than `MAX_LINE`.
+pub fn read_text<R: Read + Drop>(alloc: Global, input: R) -> Result<Vec<u8>>
+    ensures { IfOk result (λ text. vec_len text ≤ MAX_LINE) }
+{
+    let mut text = Vec::new(alloc);
+    CountedReader::new(input)
+        .take(MAX_LINE as u64 + 1)
+        .read_to_end(&mut text)?;
+    if text.len() > MAX_LINE {
+        return Err(Error::other("the text is too long"));
+    }
+    Ok(text)
+}
