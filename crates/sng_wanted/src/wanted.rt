@@ -1,7 +1,7 @@
 //! The filters that stand for anybody, in order of first standing.
 ghost use Rattle.std.specs.Prelude.{◌≡◌, ◌≤◌, ◌<◌, ◌+◌, ◌^◌, [], false, length, nat_lt, filter, slice_get, IfOk, OnOk};
 ghost use Rattle.std.specs.List.{list_any, find};
-ghost use Rattle.std.specs.Option.{option_copied, option_map};
+ghost use Rattle.std.specs.Option.{ForSome, option_copied, option_map};
 ghost use Rattle.indexmap.specs.IndexMap.{spare, IsUnchanged};
 ghost use Rattle.indexmap.specs.Layout.{set_value_at};
 ghost use Rattle.sng_wanted.specs.Filters.{holders_of, with_holder, holders_left, without_one, is_held, has_open};
@@ -86,9 +86,11 @@ impl Wanted {
         Some(filter)
     }
 
-    /// One client more holds the filter, behind all others where it did not stand. There is room for one.
+    /// One client more holds the filter, behind all others where it did not stand. There is room for one, and the filter is
+    /// not one that nobody holds and no `sweep` took out yet: that would keep its old place.
     pub fn add(&mut self, filter: TopicFilter)
         requires room { 0 < self.old.room }
+        requires swept { ForSome (want_for self.old.wanted filter) (λ want. 0 < want.holders) }
         requires few { holders_of self.old.wanted filter + 1 < 2 ^ 32 }
         ensures wanted { self.new.wanted ≡ with_holder self.old.wanted filter }
         ensures room { self.old.room ≤ self.new.room + 1 }
