@@ -1,7 +1,6 @@
 //! The fields of packets (MQTT 3.1.1, 1.5 and 2.3.1): reading them from the front of bytes, and putting them
-//! behind
-//! other bytes. What is too short for a field is `Malformed`. After an `Err` of writing a part of the field
-//! may be there.
+//! behind other bytes. What is too short for a field is `Malformed`. After an `Err` of writing a part of the
+//! field may be there.
 ghost use Rattle.std.specs.Prelude.{◌≡◌, ◌≤◌, ◌++◌, IfOk, OnOk, SomeIff};
 ghost use Rattle.mqtt_frames.specs.Packets.{flag, number_bytes, text_bytes};
 ghost use Rattle.mqtt_frames.specs.Reading.{Reads, number_at, id_at, text_at, optional_id_at};

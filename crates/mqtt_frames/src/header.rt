@@ -17,8 +17,7 @@ pub enum Length {
 }
 
 /// The Remaining Length at the front of the bytes (2.2.3): one to four bytes, the shortest spelling or a
-/// longer
-/// one.
+/// longer one.
 pub fn length_at(bytes: &[u8]) -> Length
     ensures value { result ≡ length_at 4 bytes.now }
     ensures small { IsSmall result }
@@ -57,8 +56,7 @@ pub enum Header {
 }
 
 /// The fixed header at the front of the bytes. A fault of the first byte is reported once the Remaining
-/// Length
-/// is whole.
+/// Length is whole.
 pub fn header_at(bytes: &[u8]) -> Header
     ensures value { result ≡ header_at bytes.now }
     ensures brief { IsBrief result }

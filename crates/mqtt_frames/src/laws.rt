@@ -17,8 +17,7 @@ pub fn limits()
 {}
 
 /// A packet that has a spelling is written as bytes that spell it, where `MAX_REMAINING` bytes at most stand
-/// behind its
-/// Remaining Length.
+/// behind its Remaining Length.
 pub fn what_is_written_is_spelled()
     ensures { WritesASpelling }
 {}
@@ -60,8 +59,7 @@ pub fn a_fault_is_no_packet()
 {}
 
 /// However the bytes are cut, the packets that were answered, the fault that was reported or is kept, and
-/// what is held, are those of all
-/// the bytes.
+/// what is held, are those of all the bytes.
 pub fn a_stream_is_cut_anyhow()
     ensures { IsCutAnyhow }
 {}
@@ -72,8 +70,7 @@ pub fn the_shortest_is_written()
 {}
 
 /// A packet is read exactly where the first bytes spell it, at most `MAX_PACKET` of them. With the next four
-/// this parts
-/// all bytes by what stands at their front.
+/// this parts all bytes by what stands at their front.
 pub fn a_packet_stands()
     ensures { ReadsWhatStandsThere }
 {}

@@ -1,14 +1,12 @@
 //! The control packets of MQTT as values (MQTT 3.1.1, section 3).
 //!
 //! A value that no bytes spell can exist: a packet identifier of 0, a text whose length is no number of two
-//! bytes, a SUBSCRIBE of
-//! nothing. Texts are any bytes: who reads them judges them.
+//! bytes, a SUBSCRIBE of nothing. Texts are any bytes: who reads them judges them.
 use crate::List;
 use sng_text::Octets;
 
 /// A level of quality of service that is asked for or granted (4.3). A PUBLISH that is read or written has
-/// one of the first two, by its
-/// packet identifier.
+/// one of the first two, by its packet identifier.
 #[derive(Clone, Copy, Debug, PartialEq, Eq)]
 pub enum RequestedQos {
     /// Level 0.

@@ -28,8 +28,7 @@ pub struct Taken {
 }
 
 /// Takes the next piece. Where no fault comes of it, the bytes of the packet that is unfinished then are
-/// held; where an
-/// allocation failed, those of before.
+/// held; where an allocation failed, those of before.
 pub fn take(alloc: Global, held: &mut Vec<u8>, piece: &[u8]) -> Result<Taken, AllocError>
     requires { decode held.old.items ≡ fronts.Waiting }
     ensures ok { IfOk result (λ taken.
@@ -83,8 +82,7 @@ fn first_bytes(piece: &[u8]) -> &[u8]
 }
 
 /// Takes a piece behind bytes that begin a packet of that kind, whose header has `start` bytes, and `rest`
-/// stand behind
-/// the header.
+/// stand behind the header.
 fn complete(
     alloc: Global,
     held: &mut Vec<u8>,

@@ -96,8 +96,7 @@ fn push_parts(
 }
 
 /// The PUBLISH of a message: at QoS 1 with a packet identifier, which is not 0, and else at QoS 0. Allocates
-/// once, and
-/// copies the name and the payload once.
+/// once, and copies the name and the payload once.
 pub fn encode_publish(
     alloc: Global,
     name: &TopicName,

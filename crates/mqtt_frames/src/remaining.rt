@@ -1,6 +1,5 @@
 //! The Remaining Length of a packet (MQTT 3.1.1, 2.2.3): seven bits to a byte, the low ones first, and 128
-//! more in each
-//! byte but the last.
+//! more in each byte but the last.
 ghost use Rattle.std.specs.Prelude.{◌≡◌, ◌∷◌, ◌++◌, IfOk, OnOk, ◌<◌, ◌≤◌, ◌+◌, ◌/◌, ◌^◌, length};
 ghost use Rattle.mqtt_frames.specs.RemainingLength.{remaining_length};
 

@@ -20,8 +20,7 @@ pub enum Status {
 }
 
 /// A stream of packets, cut into pieces anyhow. It holds the bytes of an unfinished packet, and no others.
-/// Contracts see
-/// those bytes, or that a fault is kept, or that one was reported.
+/// Contracts see those bytes, or that a fault is kept, or that one was reported.
 #[derive(Debug, Drop)]
 pub struct Stream {
     status: Status,
@@ -51,17 +50,13 @@ impl Stream {
     }
 
     /// Takes the next piece, and answers the packets that are whole now, in order: at most one, and one more
-    /// for every
-    /// two bytes of the piece.
+    /// for every two bytes of the piece.
     ///
     /// A fault behind packets is kept and reported by the next call; where no packet stands before it, this
-    /// call reports
-    /// it. `Malformed`: the bytes spell no packet. `NotSupported`: a packet of a kind that is not read.
-    /// `TooLong`: a
-    /// packet of more than `MAX_PACKET` bytes. `Failed`: one of the three was reported before. After these
-    /// every call
-    /// answers `Failed`. `Memory`: an allocation failed, and the stream is as it was; the same piece may come
-    /// again.
+    /// call reports it. `Malformed`: the bytes spell no packet. `NotSupported`: a packet of a kind that is
+    /// not read. `TooLong`: a packet of more than `MAX_PACKET` bytes. `Failed`: one of the three was reported
+    /// before. After these every call answers `Failed`. `Memory`: an allocation failed, and the stream is as
+    /// it was; the same piece may come again.
     pub fn feed(&mut self, alloc: Global, piece: &[u8]) -> Result<Vec<Packet>, StreamFault>
         ensures ok { IfOk result (λ packets. fed self.old piece.now ≡ (Ok packets.items, self.new)) }
         ensures most { IfOk result (λ packets. 2 * length packets.items ≤ 2 + length piece.now) }

@@ -50,12 +50,10 @@ pub fn decode(alloc: Global, bytes: &[u8]) -> Result<Front, AllocError>
 }
 
 /// The packet of the kind whose variable header and payload the bytes are. Allocates a copy of each variable
-/// part, and
-/// nothing else.
+/// part, and nothing else.
 ///
 /// `NotSupported`: a CONNECT with other flags than CleanSession. `Malformed`: the bytes are those of no
-/// packet of the
-/// kind. `Memory`: an allocation failed.
+/// packet of the kind. `Memory`: an allocation failed.
 pub fn body_of(alloc: Global, kind: Kind, body: &[u8]) -> Result<Packet, ReadFault>
     ensures { Gives (λ packet. packet) result (body_of kind body.now) }
 {
