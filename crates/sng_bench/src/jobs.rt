@@ -1,7 +1,7 @@
 //! The jobs, each over inputs that are made once.
 use mqtt_frames::{List, Packet, Request, RequestedQos, Stream, Subscribe, encode as encode_packet, write_publish};
 use sng_cover::{Cover, cover};
-use sng_frames::{Flags, Publish, Qos, SnFrame, TopicIdType, decode, encode};
+use sng_frames::{Flags, Publish, FrameQos, SnFrame, TopicIdType, decode, encode};
 use sng_text::{Octets, TopicFilter, TopicName};
 use std::alloc::Global;
 
@@ -115,7 +115,7 @@ fn encode_times(alloc: Global, times: u32) -> Result<u64, NotDone> {
     let frame = SnFrame::Publish(Publish {
         flags: Flags {
             dup: false,
-            qos: Qos::AtLeastOnce,
+            qos: FrameQos::AtLeastOnce,
             retain: false,
             will: false,
             clean: false,
