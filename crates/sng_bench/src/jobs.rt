@@ -1,7 +1,9 @@
 //! The jobs, each over inputs that are made once.
-use mqtt_frames::{List, Packet, Request, RequestedQos, Stream, Subscribe, encode as encode_packet, write_publish};
+use mqtt_frames::{
+    List, Packet, Request, RequestedQos, Stream, Subscribe, encode as encode_packet, write_publish,
+};
 use sng_cover::{Cover, cover};
-use sng_frames::{Flags, Publish, FrameQos, SnFrame, TopicIdType, decode, encode};
+use sng_frames::{Flags, FrameQos, Publish, SnFrame, TopicIdType, decode, encode};
 use sng_text::{Octets, TopicFilter, TopicName};
 use std::alloc::Global;
 
@@ -148,8 +150,7 @@ fn stream_of(alloc: Global, packets: Packets) -> Result<Vec<u8>, NotDone> {
 fn publishes(alloc: Global, payload: usize, count: u32) -> Result<Vec<u8>, NotDone> {
     let name = TopicName::read(alloc, b"a/b").map_err(|_| NotDone)?;
     let payload = vec![in alloc; 0x55; payload].map_err(|_| NotDone)?;
-    let packet =
-        write_publish(alloc, &name, payload.as_slice(), false).map_err(|_| NotDone)?;
+    let packet = write_publish(alloc, &name, payload.as_slice(), false).map_err(|_| NotDone)?;
     let mut bytes = Vec::new(alloc);
     for _ in 0..count {
         bytes
