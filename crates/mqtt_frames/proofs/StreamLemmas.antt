@@ -22,7 +22,7 @@ use Rattle.mqtt_frames.specs.Fronts.{sized, behind_header, decode, IsWithin}
 use Rattle.mqtt_frames.specs.Streams.{End, Rest, Fault, Read, with_packets, behind_front, read_within}
 use Rattle.mqtt_frames.specs.Streams.{read_all}
 
--- a Remaining Length that is told, or too long, is so whatever follows
+-- a Remaining Length that is known, or too long, is so whatever follows
 length_at-more : (most : ℕ) (bytes more : List ℕ)
     → (length_at most bytes ≡ lengths.Unfinished) ⊎ (length_at most (bytes ++ more) ≡ length_at most bytes)
 length_at-more zero bytes more = inr refl

@@ -7,7 +7,7 @@ use sng_frames::{Flags, FrameQos, Publish, SnFrame, TopicIdType, decode, encode}
 use sng_text::{Octets, TopicFilter, TopicName};
 use std::alloc::Global;
 
-/// Why a job could not be done: memory, or input that is none.
+/// Why a job could not be done: an allocation failed, or its input is not valid.
 #[derive(Clone, Copy, Debug, PartialEq, Eq)]
 pub struct NotDone;
 
