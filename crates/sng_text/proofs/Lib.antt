@@ -5,3 +5,4 @@ pub mod NameLemmas
 pub mod ClientIdLemmas
 pub mod SelfLemmas
 pub mod Ipv4Lemmas
+pub mod AddressLemmas

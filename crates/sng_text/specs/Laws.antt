@@ -1,8 +1,10 @@
 -- What ties the definitions of the texts to their standards.
-use Rattle.std.specs.Prelude.{◌≡◌, ◌==◌, ◌↔◌, ℕ, ◌<◌, ◌≤◌, true, false, List, length}
+use Rattle.std.specs.Prelude.{◌≡◌, ◌==◌, ◌↔◌, ℕ, ◌<◌, ◌≤◌, true, false, List, length, map, Some}
+use Rattle.std.specs.Fmt.{decimal}
 use Rattle.std.specs.List.{slice_split, join_with_byte}
 use Rattle.std.specs.Str.{all_scalars, encode_utf8_all}
 use Rattle.sng_text.specs.ClientIds.{is_client_id}
+use Rattle.sng_text.specs.Ipv4.{IsAddress, ipv4_of}
 use Rattle.sng_text.specs.Levels.{levels_of}
 use Rattle.sng_text.specs.Matching.{matches}
 use Rattle.sng_text.specs.Texts.{has_byte, is_name}
@@ -27,3 +29,12 @@ NamesMatchThemselves = (name other : List ℕ) → is_name name ≡ true → (ma
 abbrev pub LevelsAreParts : Type 0
 LevelsAreParts = (text : List ℕ)
     → (levels_of text ≡ slice_split (λ b. b == 47) text) × (join_with_byte 47 (levels_of text) ≡ text)
+
+-- four numbers below 256, and the text is those numbers in decimal, as std writes them, joined by points,
+-- byte 46
+abbrev pub SpellsAddress : List ℕ → List ℕ → Type 0
+SpellsAddress text octets = IsAddress octets × (join_with_byte 46 (map decimal octets) ≡ text)
+
+-- a text is read as an address exactly where it spells it
+abbrev pub AddressesAreDecimal : Type 0
+AddressesAreDecimal = (text octets : List ℕ) → (ipv4_of text ≡ Some octets) ↔ SpellsAddress text octets

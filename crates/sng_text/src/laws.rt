@@ -1,7 +1,7 @@
 //! The laws of texts. Each function here only states one: its contract is the law, and calling it does
 //! nothing.
 ghost use Rattle.std.specs.Prelude.{◌≡◌};
-ghost use Rattle.sng_text.specs.Laws.{ClientIdsAreCharacters, NamesMatchThemselves, LevelsAreParts};
+ghost use Rattle.sng_text.specs.Laws.{ClientIdsAreCharacters, NamesMatchThemselves, LevelsAreParts, AddressesAreDecimal};
 
 use crate::{MAX_CLIENT_ID, MAX_FILTER, MAX_NAME};
 
@@ -25,4 +25,10 @@ pub fn names_match_themselves()
 /// The levels of a text are its parts between the slashes, as std splits it (MQTT 3.1.1, 4.7.1.1).
 pub fn levels_are_parts()
     ensures { LevelsAreParts }
+{}
+
+/// A text is the address a.b.c.d exactly where a, b, c and d are below 256 and the text is those numbers in
+/// decimal, without leading zeros, joined by points.
+pub fn addresses_are_decimal()
+    ensures { AddressesAreDecimal }
 {}
