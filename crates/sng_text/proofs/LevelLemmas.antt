@@ -12,11 +12,11 @@ abbrev pub prepend : List ℕ → List (List ℕ) → List (List ℕ)
 prepend [] levels = levels
 prepend (b ∷ front) levels = lengthen b (prepend front levels)
 
-prepend-push : (front : List ℕ) (b : ℕ) (levels : List (List ℕ)) → prepend (front ++ b ∷ []) levels ≡ prepend front (lengthen b levels)
+pub prepend-push : (front : List ℕ) (b : ℕ) (levels : List (List ℕ)) → prepend (front ++ b ∷ []) levels ≡ prepend front (lengthen b levels)
 prepend-push [] b levels = refl
 prepend-push (a ∷ front) b levels = ap (lengthen a) (prepend-push front b levels)
 
-prepend-nil : (front : List ℕ) (levels : List (List ℕ)) → prepend front ([] ∷ levels) ≡ front ∷ levels
+pub prepend-nil : (front : List ℕ) (levels : List (List ℕ)) → prepend front ([] ∷ levels) ≡ front ∷ levels
 prepend-nil [] levels = refl
 prepend-nil (a ∷ front) levels = ap (lengthen a) (prepend-nil front levels)
 

@@ -6,3 +6,5 @@ pub mod ClientIdLemmas
 pub mod SelfLemmas
 pub mod Ipv4Lemmas
 pub mod AddressLemmas
+pub mod CommonLemmas
+pub mod MatchLemmas

@@ -1,14 +1,9 @@
 -- A text without wildcards has none in its levels, so that a name is a filter where it is not too long.
-use Rattle.std.proofs.Common.{◌≡◌, ℕ, ◌≤◌, ◌==◌, ◌&&◌, Bool, true, false, List, [], ◌∷◌, length, None, refl, arith}
+use Rattle.std.proofs.Common.{◌≡◌, ℕ, ◌≤◌, ◌==◌, true, false, List, [], ◌∷◌, length, None, refl, arith}
 use Rattle.std.proofs.lemmas.Grind.{common_steps}
 use Rattle.sng_text.specs.Levels.{lengthen, levels_of}
 use Rattle.sng_text.specs.declared.limits.TheConstants.{MAX_FILTER}
-use Rattle.sng_text.specs.Texts.{is_plain, is_ordinary, is_in_place, is_name, filter_fault}
-
--- no level has a wildcard
-abbrev pub all_plain : List (List ℕ) → Bool
-all_plain [] = true
-all_plain (level ∷ levels) = is_plain level && all_plain levels
+use Rattle.sng_text.specs.Texts.{is_plain, all_plain, is_ordinary, is_in_place, is_name, filter_fault}
 
 plain-ordinary : (level : List ℕ) → is_plain level ≡ true → is_ordinary level ≡ true
 plain-ordinary level is = rw is refl

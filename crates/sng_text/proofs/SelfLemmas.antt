@@ -5,8 +5,8 @@ use Rattle.std.proofs.lemmas.Slice.Eq.{bytes_eq-Decides}
 use Rattle.std.specs.Str.{bytes_eq}
 use Rattle.sng_text.specs.Levels.{lengthen, levels_of}
 use Rattle.sng_text.specs.Matching.{items_of, has_rest, match_items, begins_wild, matches}
-use Rattle.sng_text.specs.Texts.{is_plain, is_plus, is_hash}
-use Rattle.sng_text.proofs.NameLemmas.{all_plain, all_plain-levels_of}
+use Rattle.sng_text.specs.Texts.{is_plain, all_plain, is_plus, is_hash}
+use Rattle.sng_text.proofs.NameLemmas.{all_plain-levels_of}
 
 -- the levels, each behind a slash
 abbrev joined : List (List ℕ) → List ℕ
@@ -32,13 +32,13 @@ levels_of_same text other same =
     let e : 47 ∷ text ≡ 47 ∷ other = sym (joined-levels_of text) ∙ ap joined same ∙ joined-levels_of other in
     cc
 
-plain-plus : (level : List ℕ) → is_plain level ≡ true → is_plus level ≡ false
+pub plain-plus : (level : List ℕ) → is_plain level ≡ true → is_plus level ≡ false
 plain-plus level is = false_from_ne_true (is_plus level) (λ plus.
     let e : level ≡ 43 ∷ [] = (bytes_eq-Decides level (43 ∷ [])).0 plus in
     let no : is_plain (43 ∷ []) ≡ true = sym (ap is_plain e) ∙ is in
     cc)
 
-plain-hash : (level : List ℕ) → is_plain level ≡ true → is_hash level ≡ false
+pub plain-hash : (level : List ℕ) → is_plain level ≡ true → is_hash level ≡ false
 plain-hash level is = false_from_ne_true (is_hash level) (λ hash.
     let e : level ≡ 35 ∷ [] = (bytes_eq-Decides level (35 ∷ [])).0 hash in
     let no : is_plain (35 ∷ []) ≡ true = sym (ap is_plain e) ∙ is in

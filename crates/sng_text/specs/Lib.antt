@@ -1,5 +1,6 @@
 pub mod Levels
 pub mod LevelsLeft
+pub mod Common
 pub mod Texts
 pub mod Matching
 pub mod ClientIds

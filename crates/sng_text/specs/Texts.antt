@@ -26,6 +26,11 @@ is_hash level = bytes_eq level (35 ∷ [])
 abbrev pub is_plain : List ℕ → Bool
 is_plain text = not (has_byte 43 text) && not (has_byte 35 text)
 
+-- no level has a wildcard
+abbrev pub all_plain : List (List ℕ) → Bool
+all_plain [] = true
+all_plain (level ∷ levels) = is_plain level && all_plain levels
+
 -- a level that may stand anywhere
 abbrev pub is_ordinary : List ℕ → Bool
 is_ordinary level = is_plain level || is_plus level

@@ -1,6 +1,8 @@
 //! Tests on the bytes of a text.
 ghost use Rattle.std.specs.Prelude.{◌≡◌, length, if◌then◌else◌, Some, None};
 ghost use Rattle.std.specs.Str.{is_utf8, chars};
+ghost use Rattle.sng_text.specs.Common.{first_is};
+ghost use Rattle.sng_text.specs.Levels.{levels_of};
 ghost use Rattle.sng_text.specs.Texts.{has_byte, is_plain, is_plus, is_hash, is_ordinary};
 
 use std::str;
@@ -60,4 +62,26 @@ pub fn is_ordinary(level: &[u8]) -> bool
     ensures { result ≡ is_ordinary level.now }
 {
     is_plain(level) || is_plus(level)
+}
+
+/// Whether the first level of the text is `+`, read off its first bytes.
+pub fn begins_plus(text: &[u8]) -> bool
+    ensures { result ≡ first_is is_plus (levels_of text.now) }
+{
+    match text {
+        [b'+'] => true,
+        [b'+', second, ..] => *second == b'/',
+        _ => false,
+    }
+}
+
+/// Whether the first level of the text is `#`, read off its first bytes.
+pub fn begins_hash(text: &[u8]) -> bool
+    ensures { result ≡ first_is is_hash (levels_of text.now) }
+{
+    match text {
+        [b'#'] => true,
+        [b'#', second, ..] => *second == b'/',
+        _ => false,
+    }
 }

@@ -39,7 +39,7 @@ impl<'a> Iterator for Levels<'a> {
 }
 
 /// The first level of a text, and what follows its slash, where it has one.
-fn split_level(text: &[u8]) -> (&[u8], Option<&[u8]>)
+pub fn split_level(text: &[u8]) -> (&[u8], Option<&[u8]>)
     ensures { levels_of text.now ≡ result.0.now ∷ levels_left result.1 }
 {
     for (at, byte) in text.iter().enumerate() {

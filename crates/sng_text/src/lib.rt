@@ -5,6 +5,7 @@
 
 pub mod bytes;
 pub mod client;
+pub mod common;
 pub mod fault;
 pub mod filter;
 pub mod ipv4;
@@ -19,10 +20,11 @@ pub mod qos;
 mod reading;
 
 pub use client::ClientId;
+pub use common::past_common;
 pub use fault::{RefusedText, TextFault};
 pub use filter::TopicFilter;
 pub use ipv4::read_ipv4;
-pub use levels::Levels;
+pub use levels::{Levels, split_level};
 pub use limits::{MAX_CLIENT_ID, MAX_FILTER, MAX_NAME};
 pub use matching::matches;
 pub use name::TopicName;
