@@ -2,6 +2,8 @@ pub mod Least
 pub mod Joining
 pub mod Short
 pub mod Filters
+pub mod Shapes
+pub mod FittingLemmas
 pub mod Fresh
 pub mod Gathering
 pub mod Matched

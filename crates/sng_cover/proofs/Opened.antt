@@ -9,8 +9,8 @@ use Rattle.sng_text.specs.Matching.{has_rest, matches}
 use Rattle.sng_cover.specs.Inclusion.{is_granted}
 use Rattle.sng_cover.specs.Candidates.{joined, run, has_level, is_taken, is_wild, candidate_levels, fresh_level}
 use Rattle.sng_cover.specs.Covering.{is_open, fixed_part}
-use Rattle.sng_cover.specs.Reaches.{fits, fits_levels, keeps_off, reaches, any_reaches, after_first, kept_reaches}
-use Rattle.sng_cover.specs.declared.reach.Reach.{Reach}
+use Rattle.sng_cover.specs.Reaches.{fits, fits_levels, keeps_off, reaches, any_reaches, after_first, shape_reaches}
+use Rattle.sng_cover.specs.declared.shape.Shape.{Shape}
 use Rattle.sng_cover.specs.Reached.{begins_empty}
 use Rattle.sng_cover.proofs.Joining.{levels_of_joined}
 use Rattle.sng_cover.proofs.Matched.{matched, matches_own, place, first_place, and_assoc, bytes_eq_refl}
@@ -116,8 +116,8 @@ left_from asked granted (suc depth) (suc count) some short fresh = left_by asked
 pub open_is_left : (asked : List ℕ) (granted : List (List ℕ)) (depth : ℕ) → AreFilters granted → 1 ≤ depth → is_open asked granted depth ≡ is_left asked granted depth
 open_is_left asked granted depth are some = let fresh = fresh_is granted are in left_from asked granted depth fresh.0 some fresh.1.0 fresh.1.2
 
--- the same by what is kept of the filters
-pub kept_is_open : (asked : List ℕ) (granted : List (List ℕ)) (own : Reach) (reached : Bool) (depth : ℕ) → AreFilters granted → 1 ≤ depth
-    → own.fixed ≡ fixed_part asked → own.has_rest ≡ has_rest (levels_of asked) → own.fits ≡ fits asked asked → reached ≡ any_reaches asked granted depth
-    → ((kept_reaches own depth && not ((depth == 1) && begins_empty asked)) && not reached) ≡ is_open asked granted depth
-kept_is_open asked granted own reached depth are some fixed rest fit any = rw (fixed, rest, fit, any) (sym (open_is_left asked granted depth are some))
+-- the same by the shape of the asked filter
+pub kept_is_open : (asked : List ℕ) (granted : List (List ℕ)) (own : Shape) (reached : Bool) (depth : ℕ) → AreFilters granted → 1 ≤ depth
+    → own.fixed ≡ fixed_part asked → own.has_rest ≡ has_rest (levels_of asked) → reached ≡ any_reaches asked granted depth
+    → ((shape_reaches own depth && not ((depth == 1) && begins_empty asked)) && not reached) ≡ is_open asked granted depth
+kept_is_open asked granted own reached depth are some fixed rest any = rw (fixed, rest, any) (sym (open_is_left asked granted depth are some ∙ rw (fits_own asked) refl))

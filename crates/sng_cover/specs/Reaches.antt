@@ -1,24 +1,17 @@
 -- Which candidates one granted filter matches, read off the two filters alone.
 use Rattle.std.specs.Prelude.{ℕ, Bool, true, false, ◌==◌, ◌&&◌, ◌||◌, not, nat_lt, List, [], ◌∷◌}
-use Rattle.std.specs.Prelude.{if◌then◌else◌, Some, None}
-use Rattle.std.specs.declared.option.Option.{Option}
-use Rattle.std.specs.Borrow.{Bor}
+use Rattle.std.specs.Prelude.{if◌then◌else◌}
 use Rattle.std.specs.Str.{bytes_eq}
 use Rattle.sng_text.specs.Levels.{levels_of}
 use Rattle.sng_text.specs.Texts.{is_plus, is_hash}
 use Rattle.sng_text.specs.Matching.{items_of, has_rest, begins_wild, is_reserved}
 use Rattle.sng_cover.specs.Covering.{fixed_part}
-use Rattle.sng_cover.specs.declared.reach.Reach.{Reach}
+use Rattle.sng_cover.specs.declared.shape.Shape.{Shape}
 
 -- the first of the levels is this one
 abbrev pub begins_with : List ℕ → List (List ℕ) → Bool
 begins_with level [] = false
 begins_with level (other ∷ levels) = bytes_eq level other
-
--- the levels that were found at a place, one or none
-abbrev pub found_levels : Option (Bor (List ℕ)) → List (List ℕ)
-found_levels None = []
-found_levels (Some level) = level.now ∷ []
 
 -- all levels but the first
 abbrev pub after_first : List (List ℕ) → List (List ℕ)
@@ -53,6 +46,6 @@ abbrev pub any_reaches : List ℕ → List (List ℕ) → ℕ → Bool
 any_reaches asked [] depth = false
 any_reaches asked (filter ∷ granted) depth = reaches asked filter depth || any_reaches asked granted depth
 
--- the same, by what is kept of a granted filter
-abbrev pub kept_reaches : Reach → ℕ → Bool
-kept_reaches reach depth = reach.fits && reaches_depth reach.fixed reach.has_rest depth
+-- a filter of this shape reaches the depth
+abbrev pub shape_reaches : Shape → ℕ → Bool
+shape_reaches shape depth = reaches_depth shape.fixed shape.has_rest depth

@@ -3,12 +3,13 @@ ghost use Rattle.std.specs.Prelude.{ℕ, List, ◌≡◌, ◌+◌, ◌==◌, ◌
 ghost use Rattle.sng_text.specs.Texts.{is_name};
 ghost use Rattle.sng_cover.specs.Candidates.{candidate};
 ghost use Rattle.sng_cover.specs.Covering.{gap_depth};
-ghost use Rattle.sng_cover.specs.Reaches.{kept_reaches};
-ghost use Rattle.sng_cover.specs.Gathered.{ReachedBy};
+ghost use Rattle.sng_cover.specs.Reaches.{shape_reaches};
+ghost use Rattle.sng_cover.specs.Gathered.{ReachedBy, IsProfile};
 ghost use Rattle.sng_cover.specs.Reached.{is_reached, is_from, begins_empty};
 
 use crate::marks::{MARKS, Marks};
-use crate::reach::Reach;
+use crate::profile::Profile;
+use crate::shape::Shape;
 use sng_text::{MAX_FILTER, TopicFilter};
 use std::cmp;
 
@@ -19,20 +20,19 @@ pub struct Reached {
     ends: Marks,
     /// The depth from which on a filter with `#` matches.
     rest_from: Option<usize>,
-    /// The most levels that one of the filters has before its `#`, or in all.
-    longest: usize,
 }
 
 /// The least depth whose candidate is a name that shows a gap, where there is one.
-pub fn gap_depth(asked: &TopicFilter, reached: &Reached) -> Option<usize>
-    requires { (granted : List (List ℕ)) × ReachedBy reached.now asked.now granted }
+pub fn gap_depth(asked: &TopicFilter, reached: &Reached, profile: &Profile) -> Option<usize>
+    requires { (granted : List (List ℕ)) × (ReachedBy reached.now asked.now granted × IsProfile profile.now granted) }
     ensures value { (granted : List (List ℕ)) → ReachedBy reached.now asked.now granted
-        → result ≡ gap_depth asked.now granted }
+        → IsProfile profile.now granted → result ≡ gap_depth asked.now granted }
     ensures named { (granted : List (List ℕ)) → ReachedBy reached.now asked.now granted
+        → IsProfile profile.now granted
         → IfSome result (λ depth. is_name (candidate asked.now granted depth) ≡ true) }
 {
-    let own = Reach::of(asked, asked);
-    let last = last_depth(&own, reached);
+    let own = Shape::of(asked);
+    let last = last_depth(own.fixed, profile.longest());
     for depth in 1..last + 1 {
         if is_left(asked, &own, reached, depth) {
             return Some(depth);
@@ -43,19 +43,19 @@ pub fn gap_depth(asked: &TopicFilter, reached: &Reached) -> Option<usize>
 
 /// One level more than the longest fixed part: past it only filters with `#` match, and they match at every
 /// depth.
-fn last_depth(own: &Reach, reached: &Reached) -> usize
-    requires own_few { own.now.fixed < MAX_FILTER + 2 }
-    requires granted_few { reached.now.longest < MAX_FILTER + 2 }
-    ensures value { result ≡ max own.now.fixed reached.now.longest + 1 }
+fn last_depth(own: usize, longest: usize) -> usize
+    requires own_few { own < MAX_FILTER + 2 }
+    requires granted_few { longest < MAX_FILTER + 2 }
+    ensures value { result ≡ max own longest + 1 }
     ensures few { result < MARKS }
 {
-    cmp::max(own.fixed, reached.longest) + 1
+    cmp::max(own, longest) + 1
 }
 
 /// Whether the asked filter reaches the depth, with a candidate that has a text, and no granted filter does.
-fn is_left(asked: &TopicFilter, own: &Reach, reached: &Reached, depth: usize) -> bool
+fn is_left(asked: &TopicFilter, own: &Shape, reached: &Reached, depth: usize) -> bool
     requires { depth < MARKS }
-    ensures { result ≡ ((kept_reaches own.now depth && not ((depth == 1) && begins_empty asked.now))
+    ensures { result ≡ ((shape_reaches own.now depth && not ((depth == 1) && begins_empty asked.now))
         && not (is_reached reached.now depth)) }
 {
     own.reaches(depth) && !(depth == 1 && begins_empty(asked)) && !reached.has(depth)
@@ -74,33 +74,27 @@ fn begins_empty(filter: &TopicFilter) -> bool
 impl Reached {
     /// No depth is reached.
     pub fn new() -> Reached
-        ensures depths { (depth : ℕ) → is_reached result depth ≡ false }
-        ensures longest { result.longest ≡ 0 }
+        ensures { (depth : ℕ) → is_reached result depth ≡ false }
     {
         Reached {
             ends: Marks::new(),
             rest_from: None,
-            longest: 0,
         }
     }
 
-    /// Adds the depths of one granted filter.
-    pub fn add(&mut self, reach: Reach)
-        requires { reach.fixed < MAX_FILTER + 2 }
-        ensures depths { (depth : ℕ)
-            → is_reached self.new depth ≡ (kept_reaches reach depth || is_reached self.old depth) }
-        ensures longest { self.new.longest ≡ max reach.fixed self.old.longest }
+    /// Adds the depths that a filter of this shape reaches.
+    pub fn add(&mut self, shape: Shape)
+        requires { shape.fixed < MAX_FILTER + 2 }
+        ensures { (depth : ℕ)
+            → is_reached self.new depth ≡ (shape_reaches shape depth || is_reached self.old depth) }
     {
-        self.longest = cmp::max(reach.fixed, self.longest);
-        if reach.fits {
-            if reach.has_rest {
-                self.rest_from = match self.rest_from {
-                    Some(from) if from <= reach.fixed => Some(from),
-                    _ => Some(reach.fixed),
-                };
-            } else {
-                self.ends.mark(reach.fixed);
-            }
+        if shape.has_rest {
+            self.rest_from = match self.rest_from {
+                Some(from) if from <= shape.fixed => Some(from),
+                _ => Some(shape.fixed),
+            };
+        } else {
+            self.ends.mark(shape.fixed);
         }
     }
 

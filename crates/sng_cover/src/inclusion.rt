@@ -2,10 +2,12 @@
 ghost use Rattle.std.specs.Prelude.{◌≡◌, true, All, IfOk, OnOk};
 ghost use Rattle.sng_text.specs.Texts.{is_filter};
 ghost use Rattle.sng_cover.specs.Gaps.{IsRight};
+ghost use Rattle.sng_cover.specs.Gathered.{IsProfile};
 ghost use Rattle.sng_cover.specs.Inclusion.{shows_gap, is_granted};
 ghost use Rattle.sng_cover.specs.Covering.{cover_of};
 
 use crate::answer::Cover;
+use crate::profile::Profile;
 use crate::question::Question;
 use sng_text::{TopicFilter, TopicName, matches};
 use std::alloc::{AllocError, Global};
@@ -30,7 +32,18 @@ pub fn cover(
             return Ok(Cover::Included);
         }
     }
-    question.answer(alloc)
+    question.answer(alloc, &profile_of(granted))
+}
+
+/// The profile of the filters.
+fn profile_of(granted: &[TopicFilter]) -> Profile
+    ensures { IsProfile result granted.now }
+{
+    let mut profile = Profile::new();
+    for filter in granted {
+        profile.add(filter);
+    }
+    profile
 }
 
 /// Says that the texts of the filters are filters. It does nothing: a slice alone does not say so, and each filter's `text` does.

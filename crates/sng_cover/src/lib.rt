@@ -4,14 +4,17 @@
 
 pub mod answer;
 mod depths;
+mod fitting;
 mod gap;
 pub mod inclusion;
 pub mod laws;
 mod marks;
+pub mod profile;
 pub mod question;
-mod reach;
 mod runs;
+mod shape;
 
 pub use answer::Cover;
 pub use inclusion::{cover, shows_gap};
+pub use profile::Profile;
 pub use question::Question;

@@ -9,7 +9,7 @@ use sng_text::MAX_FILTER;
 pub const MARKS: usize = MAX_FILTER + 3;
 
 /// The numbers below `MARKS` that were marked.
-#[derive(Drop)]
+#[derive(Clone, Copy, Debug)]
 pub struct Marks {
     marks: [bool; MARKS],
 }

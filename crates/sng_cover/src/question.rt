@@ -2,28 +2,27 @@
 //! 4.7).
 use crate::answer::Cover;
 use crate::depths::Reached;
-use crate::marks::Marks;
-use crate::reach::Reach;
-use crate::{depths, gap, runs};
+use crate::profile::Profile;
+use crate::shape::Shape;
+use crate::{depths, fitting, gap, runs};
 use sng_text::TopicFilter;
 use std::alloc::{AllocError, Global};
 
 /// Whether every name that the asked filter matches is matched by one of the filters that were added. Of
-/// these only the depths that they reach and the runs of `x` among their levels are kept, in tables of fixed
-/// size. `specs/Gathered` says what a question is of.
+/// these only the depths that they reach are kept, in a table of fixed size. `specs/Gathered` says what a
+/// question is of.
 #[derive(Drop)]
 pub struct Question<'a> {
     asked: &'a TopicFilter,
-    own: Reach,
+    own: Shape,
     reached: Reached,
-    runs: Marks,
 }
 
 impl<'a> Question<'a> {
     ghost use Rattle.std.specs.Prelude.{ℕ, ◌≡◌, ◌++◌, ◌∷◌, [], true, List, All, IfOk};
     ghost use Rattle.sng_text.specs.Texts.{is_filter};
     ghost use Rattle.sng_cover.specs.Covering.{cover_of};
-    ghost use Rattle.sng_cover.specs.Gathered.{Gathered};
+    ghost use Rattle.sng_cover.specs.Gathered.{Gathered, IsProfile};
 
     /// A question in which no filter is granted yet. Takes no memory.
     pub fn about(asked: &'a TopicFilter) -> Question<'a>
@@ -31,19 +30,20 @@ impl<'a> Question<'a> {
     {
         Question {
             asked,
-            own: Reach::of(asked, asked),
+            own: Shape::of(asked),
             reached: Reached::new(),
-            runs: Marks::new(),
         }
     }
 
-    /// Adds a granted filter. Takes no memory, and time by the filter's length.
+    /// Adds a granted filter. Takes no memory, and time by the filter's levels up to the first that does not
+    /// fit the asked one.
     pub fn add(&mut self, filter: &TopicFilter)
         ensures { (asked : List ℕ) (granted : List (List ℕ)) → Gathered self.old asked granted
             → Gathered self.new asked (granted ++ filter.now ∷ []) }
     {
-        self.reached.add(Reach::of(self.asked, filter));
-        runs::mark_runs(&mut self.runs, filter);
+        if fitting::fits(self.asked, filter) {
+            self.reached.add(Shape::of(filter));
+        }
     }
 
     /// Whether the filters that were added match each name that the asked one matches. What else is granted changes no answer
@@ -61,17 +61,18 @@ impl<'a> Question<'a> {
         }
     }
 
-    /// The answer on the filters that were added: included, or the gap. Memory is taken for the gap's name
-    /// alone.
-    pub fn answer(&self, alloc: Global) -> Result<Cover, AllocError>
-        requires { (asked : List ℕ) × ((granted : List (List ℕ)) × Gathered self.now asked granted) }
+    /// The answer on the filters that were added, of which this is the profile: included, or the gap. Memory
+    /// is taken for the gap's name alone.
+    pub fn answer(&self, alloc: Global, profile: &Profile) -> Result<Cover, AllocError>
+        requires { (asked : List ℕ) × ((granted : List (List ℕ))
+            × (Gathered self.now asked granted × IsProfile profile.now granted)) }
         ensures { (asked : List ℕ) (granted : List (List ℕ)) → Gathered self.now asked granted
-            → IfOk result (λ answer. answer ≡ cover_of asked granted) }
+            → IsProfile profile.now granted → IfOk result (λ answer. answer ≡ cover_of asked granted) }
     {
-        match depths::gap_depth(self.asked, &self.reached) {
+        match depths::gap_depth(self.asked, &self.reached, profile) {
             None => Ok(Cover::Included),
             Some(depth) => {
-                let fresh = runs::fresh_level(&self.runs);
+                let fresh = runs::fresh_level(profile.runs());
                 let name = gap::gap_name(alloc, self.asked, depth, fresh)?;
                 Ok(Cover::Uncovered(name))
             }

@@ -7,6 +7,7 @@ ghost use Rattle.sng_cover.specs.Gathered.{AreRunsOf};
 ghost use Rattle.sng_cover.specs.Marks.{is_marked};
 
 use crate::marks::Marks;
+use sng_text::bytes::has_byte;
 use sng_text::{Levels, MAX_FILTER, TopicFilter};
 
 /// The most `x` that may be asked for: one more than a filter has bytes.
@@ -37,12 +38,16 @@ fn fresh_count(runs: &Marks) -> usize
 }
 
 /// Marks the lengths of the runs of `x` among the filter's levels.
-#[tactic(auto, using(crate::proofs::Filters::short_of))]
+#[tactic(auto, using(crate::proofs::Filters::short_of, crate::proofs::Shapes::no_runs))]
 pub fn mark_runs(runs: &mut Marks, filter: &TopicFilter)
-    ensures { (count : ℕ) → is_marked runs.new count
+    ensures { (count : ℕ) → 1 ≤ count → is_marked runs.new count
         ≡ (has_level (run count) (levels_of filter.now) || is_marked runs.old count) }
 {
-    for level in Levels::of(filter.text()) {
+    let text = filter.text();
+    if !has_byte(b'x', text) {
+        return;
+    }
+    for level in Levels::of(text) {
         if is_run(level) {
             runs.mark(level.len());
         }

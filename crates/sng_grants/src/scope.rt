@@ -2,8 +2,11 @@
 ghost use Rattle.std.specs.Prelude.{◌≡◌, ◌<◌, ◌≤◌, ◌↔◌, true, [], ◌∷◌, ◌++◌, length, All, IsTrue, IfOk, OnOk};
 ghost use Rattle.std.specs.Prelude.{OnErr};
 ghost use Rattle.sng_text.specs.Texts.{is_filter};
+ghost use Rattle.sng_cover.specs.Gathered.{IsProfile};
+ghost use Rattle.sng_grants.specs.Scopes.{subscribed};
 
 use crate::MAX_PAIRS;
+use sng_cover::Profile;
 use sng_text::TopicFilter;
 use std::alloc::{AllocError, AllocFailed, Global};
 use std::marker::Model;
@@ -29,22 +32,25 @@ impl Clone for Pair {
     }
 }
 
-/// What is granted to one client or source: at most `MAX_PAIRS` pairs. Contracts see them, in order.
+/// What is granted to one client or source: at most `MAX_PAIRS` pairs. Contracts see them, in order. Beside
+/// them stands the profile of the filters with `sub`, so that no question about the scope makes it anew.
 #[derive(Debug, Drop)]
 pub struct Scope {
     pairs: Vec<Pair>,
+    profile: Profile,
 }
 
 impl Model for Scope {
     ghost use Rattle.std.specs.Prelude.{List};
     ghost use Rattle.sng_grants.specs.declared.scope.Pair.{Pair};
-    ghost use Rattle.sng_grants.specs.Scopes.{IsScope};
+    ghost use Rattle.sng_cover.specs.Gathered.{IsProfile};
+    ghost use Rattle.sng_grants.specs.Scopes.{IsScope, subscribed};
 
     ghost Value = { List Pair };
 
     ghost view = { λ s. s.pairs.items };
 
-    ghost invariant = { λ s. IsScope s.pairs.items };
+    ghost invariant = { λ s. IsScope s.pairs.items × IsProfile s.profile (subscribed s.pairs.items) };
 }
 
 impl Scope {
@@ -54,6 +60,7 @@ impl Scope {
     {
         Scope {
             pairs: Vec::new(alloc),
+            profile: Profile::new(),
         }
     }
 
@@ -73,7 +80,13 @@ impl Scope {
     {
         // `text` says that the filter is one
         let _text = pair.filter.text();
-        self.pairs.push(pair)
+        let mut profile = self.profile;
+        if pair.subscribes {
+            profile.add(&pair.filter);
+        }
+        self.pairs.push(pair)?;
+        self.profile = profile;
+        Ok(())
     }
 
     /// The pairs, in order.
@@ -84,6 +97,13 @@ impl Scope {
     {
         self.pairs.as_slice()
     }
+
+    /// What a gap in the union of the filters with `sub` depends on, beside what is asked.
+    pub fn profile(&self) -> &Profile
+        ensures { IsProfile result.now (subscribed self.now) }
+    {
+        &self.profile
+    }
 }
 
 impl Clone for Scope {
@@ -91,6 +111,9 @@ impl Clone for Scope {
 
     fn clone(&self) -> Result<Scope, AllocError> {
         let pairs = self.pairs.clone()?;
-        Ok(Scope { pairs })
+        Ok(Scope {
+            pairs,
+            profile: self.profile,
+        })
     }
 }

@@ -13,29 +13,16 @@ use Rattle.sng_cover.specs.Gaps.{IsGap, IsRight}
 use Rattle.sng_cover.proofs.Answered.{right}
 use Rattle.sng_cover.specs.declared.answer.Cover.{Cover}
 use Rattle.sng_cover.specs.declared.answer.Cover.TheVariants as cover
+use Rattle.sng_grants.specs.Scopes.{subscribed}
 use Rattle.sng_grants.specs.Sources.{scope_of}
 use Rattle.sng_grants.specs.declared.policy.Policy.{Policy}
 use Rattle.sng_grants.specs.declared.scope.Pair.{Pair}
 use Rattle.sng_policy.specs.declared.permission.Permission.TheVariants.{Subscribe}
 use Rattle.sng_policy.specs.declared.grant.Grant.{Grant}
 use Rattle.sng_policy.specs.declared.grant.Grant.TheVariants.{Allowed, NoScope, MissingSub, Uncovered}
-use Rattle.sng_policy.specs.Grants.{is_granted, grant_by, subscribed, grant_of_cover, subscribe_by, subscribe_grant}
+use Rattle.sng_policy.specs.Grants.{is_granted, grant_by, grant_of_cover, subscribe_by, subscribe_grant}
 use Rattle.sng_policy.specs.Laws.{EachIsGranted, SaysOfFilter, HasFilters, SubscriptionsAreExact, JoinsReceiving, SubscribingIsReceiving}
 use Rattle.sng_policy.proofs.NameLemmas.{granted, by_grants}
-
--- one more pair
-one_more_by : (pair : Pair) (pairs : List Pair) (b : Bool) (filters : List (List ℕ)) → subscribed (pairs) ≡ filters
-    → (if b then pair.filter ∷ subscribed pairs else subscribed pairs) ≡ (if b then pair.filter ∷ filters else filters)
-one_more_by pair pairs b filters is = rw is refl
-
-after_first : (b : Bool) (first : List ℕ) (some more : List (List ℕ)) → (if b then first ∷ (some ++ more) else (some ++ more)) ≡ (if b then first ∷ some else some) ++ more
-after_first true first some more = refl
-after_first false first some more = refl
-
-pub subscribed-append : (some more : List Pair) → subscribed (some ++ more) ≡ subscribed some ++ subscribed more
-subscribed-append [] more = refl
-subscribed-append (first ∷ some) more =
-    rw (subscribed-append some more) (after_first first.subscribes first.filter (subscribed some) (subscribed more))
 
 -- the names that the filters with `sub` grant are those that the pairs grant for subscribing
 same_by : (pair : Pair) (pairs : List Pair) (name : List ℕ) (b : Bool) → inclusion.is_granted (subscribed pairs) name ≡ is_granted Subscribe pairs name

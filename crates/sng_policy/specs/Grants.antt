@@ -6,6 +6,7 @@ use Rattle.sng_text.specs.Matching.{matches}
 use Rattle.sng_cover.specs.Covering.{cover_of}
 use Rattle.sng_cover.specs.declared.answer.Cover.{Cover}
 use Rattle.sng_cover.specs.declared.answer.Cover.TheVariants as cover
+use Rattle.sng_grants.specs.Scopes.{subscribed}
 use Rattle.sng_grants.specs.Sources.{scope_of}
 use Rattle.sng_grants.specs.Topics.{name_of, id_of}
 use Rattle.sng_grants.specs.declared.scope.Pair.{Pair}
@@ -60,11 +61,6 @@ source_grant policy source name = grant_by Publish UnknownSource MissingPub (sco
 -- to a message with the name for the client
 abbrev pub receive_grant : Policy → List ℕ → List ℕ → Grant
 receive_grant policy client name = grant_by Subscribe NoScope MissingSub (scope_of policy.clients client) name
-
--- the filters of the pairs with `sub`, in order
-abbrev pub subscribed : List Pair → List (List ℕ)
-subscribed [] = []
-subscribed (pair ∷ pairs) = if pair.subscribes then pair.filter ∷ subscribed pairs else subscribed pairs
 
 -- an answer on inclusion as a grant
 abbrev pub grant_of_cover : Cover → Grant

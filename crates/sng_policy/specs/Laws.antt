@@ -5,6 +5,7 @@ use Rattle.std.specs.List.{All}
 use Rattle.sng_text.specs.Texts.{is_name, is_filter}
 use Rattle.sng_text.specs.Matching.{matches}
 use Rattle.sng_cover.specs.Gaps.{IsGap}
+use Rattle.sng_grants.specs.Scopes.{subscribed}
 use Rattle.sng_grants.specs.Sources.{scope_of}
 use Rattle.sng_grants.specs.declared.scope.Pair.{Pair}
 use Rattle.sng_grants.specs.declared.policy.Policy.{Policy}
@@ -14,7 +15,6 @@ use Rattle.sng_policy.specs.declared.grant.Grant.{Grant}
 use Rattle.sng_policy.specs.declared.grant.Grant.TheVariants.{Allowed, NoScope, UnknownSource, MissingPub}
 use Rattle.sng_policy.specs.declared.grant.Grant.TheVariants.{MissingSub, Uncovered}
 use Rattle.sng_policy.specs.Grants.{permits, publish_grant, source_grant, receive_grant, subscribe_grant}
-use Rattle.sng_policy.specs.Grants.{subscribed}
 
 -- some pair of the scope has the permission, and a filter that matches the name
 abbrev pub Grants : Permission → List Pair → List ℕ → Type 0

@@ -3,12 +3,14 @@
 ghost use Rattle.std.specs.Prelude.{◌≡◌, true, All, IfOk};
 ghost use Rattle.sng_text.specs.Texts.{is_filter};
 ghost use Rattle.sng_cover.specs.Covering.{cover_of};
+ghost use Rattle.sng_cover.specs.Gathered.{IsProfile};
+ghost use Rattle.sng_grants.specs.Scopes.{subscribed};
 ghost use Rattle.sng_grants.specs.Sources.{scope_of};
-ghost use Rattle.sng_policy.specs.Grants.{subscribe_grant, subscribed};
+ghost use Rattle.sng_policy.specs.Grants.{subscribe_grant};
 ghost use Rattle.sng_policy.specs.Laws.{SaysOfFilter, JoinsReceiving};
 
 use crate::Grant;
-use sng_cover::{Cover, Question};
+use sng_cover::{Cover, Profile, Question};
 use sng_grants::{Pair, Policy};
 use sng_text::{ClientId, TopicFilter};
 use std::alloc::{AllocError, Global};
@@ -30,16 +32,22 @@ pub fn may_subscribe(
     let _text = filter.text();
     match policy.clients.get(client) {
         None => Ok(Grant::NoScope),
-        Some(scope) => match cover_by(alloc, filter, scope.pairs())? {
+        Some(scope) => match cover_by(alloc, filter, scope.pairs(), scope.profile())? {
             Cover::Included => Ok(Grant::Allowed),
             Cover::Uncovered(gap) => Ok(Grant::Uncovered(gap)),
         },
     }
 }
 
-/// Whether the filter is included in the union of the pairs' filters with `sub`.
-fn cover_by(alloc: Global, filter: &TopicFilter, pairs: &[Pair]) -> Result<Cover, AllocError>
-    requires { All (λ pair. is_filter pair.filter ≡ true) pairs.now }
+/// Whether the filter is included in the union of the pairs' filters with `sub`, of which this is the profile.
+fn cover_by(
+    alloc: Global,
+    filter: &TopicFilter,
+    pairs: &[Pair],
+    profile: &Profile,
+) -> Result<Cover, AllocError>
+    requires filters { All (λ pair. is_filter pair.filter ≡ true) pairs.now }
+    requires profile { IsProfile profile.now (subscribed pairs.now) }
     ensures { IfOk result (λ answer. answer ≡ cover_of filter.now (subscribed pairs.now)) }
 {
     let mut question = Question::about(filter);
@@ -51,5 +59,5 @@ fn cover_by(alloc: Global, filter: &TopicFilter, pairs: &[Pair]) -> Result<Cover
             }
         }
     }
-    question.answer(alloc)
+    question.answer(alloc, profile)
 }

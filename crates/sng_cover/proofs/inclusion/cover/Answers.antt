@@ -58,16 +58,24 @@ loop-filter-preserved c =
     one_more asked granted i c.filter-item.result _ c.loop-filter-test.true c.filter-item.is
     (c.add.ensures asked (take i granted) c.loop-filter.invariant)
 
+-- all filters were added
+all_gathered : (asked : List ℕ) (granted : List (List ℕ)) (i : ℕ) (question : Question) → length granted ≤ i
+    → Gathered question asked (take i granted) → Gathered question asked granted
+all_gathered asked granted i question past gathered = subst (λ (filters : List (List ℕ)). Gathered question asked filters) (take_all i granted past) gathered
+
 pub answer-requires : goal.answer-requires
-answer-requires c = (c.args.asked.now, (take c.loop-filter.filter-index c.args.granted.now, c.loop-filter.invariant))
+answer-requires c =
+    let granted : List (List ℕ) = c.args.granted.now in
+    let past : length granted ≤ c.loop-filter.filter-index = c.loop-filter-test.false in
+    let gathered = all_gathered c.args.asked.now granted c.loop-filter.filter-index c.loop-filter.question past c.loop-filter.invariant in
+    (c.args.asked.now, (granted, (gathered, c.profile_of.ensures)))
 
 pub returns-clause-value : goal.returns-clause-value
 returns-clause-value c =
     let granted : List (List ℕ) = c.args.granted.now in
     let past : length granted ≤ c.loop-filter.filter-index = c.loop-filter-test.false in
-    let gathered : Gathered c.loop-filter.question c.args.asked.now granted =
-    rw (take_all c.loop-filter.filter-index granted past) at c.loop-filter.invariant in
-    c.answer.ensures c.args.asked.now granted gathered
+    let gathered = all_gathered c.args.asked.now granted c.loop-filter.filter-index c.loop-filter.question past c.loop-filter.invariant in
+    c.answer.ensures c.args.asked.now granted gathered c.profile_of.ensures
 
 on_ok : {A E : Type 0} (r : Result A E) (P : Type 0) → P → OnOk r P
 on_ok (Ok a) P p = p

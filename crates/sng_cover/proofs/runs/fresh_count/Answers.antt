@@ -18,10 +18,10 @@ never granted taken =
 
 pub returns-then-not-has-clause-value : goal.returns-then-not-has-clause-value
 returns-then-not-has-clause-value c = λ granted are.
-    let new : is_taken granted (run c.loop-count.count) ≡ false = sym (are c.loop-count.count) ∙ (sym c.has.ensures ∙ c.if-not-has.true) in
-    found granted c.loop-count.count c.loop-count.auto.count c.loop-count-test.true new (λ less from under. sym (are less) ∙ c.loop-count.invariant less from under)
+    let new : is_taken granted (run c.loop-count.count) ≡ false = sym (are c.loop-count.count c.loop-count.auto.count) ∙ (sym c.has.ensures ∙ c.if-not-has.true) in
+    found granted c.loop-count.count c.loop-count.auto.count c.loop-count-test.true new (λ less from under. sym (are less from) ∙ c.loop-count.invariant less from under)
 
 pub returns-clause-value : goal.returns-clause-value
 returns-clause-value c = λ granted are.
     let past : (MAX_FILTER + 1) ≤ c.loop-count.count = c.loop-count-test.false in
-    never granted (λ less from under. sym (are less) ∙ c.loop-count.invariant less from (omega arith))
+    never granted (λ less from under. sym (are less from) ∙ c.loop-count.invariant less from (omega arith))

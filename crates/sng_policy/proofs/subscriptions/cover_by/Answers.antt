@@ -8,8 +8,9 @@ use Rattle.sng_cover.specs.Gathered.{Gathered}
 use Rattle.sng_cover.specs.declared.answer.Cover.TheVariants.{Included}
 use Rattle.sng_cover.specs.declared.question.Question.{Question}
 use Rattle.sng_grants.specs.declared.scope.Pair.{Pair}
-use Rattle.sng_policy.specs.Grants.{subscribed}
-use Rattle.sng_policy.proofs.SubscriptionLemmas.{subscribed-append, scope-has_filters}
+use Rattle.sng_grants.specs.Scopes.{subscribed}
+use Rattle.sng_policy.proofs.SubscriptionLemmas.{scope-has_filters}
+use Rattle.sng_grants.proofs.ScopeLemmas.{subscribed-append}
 use Rattle.sng_policy.proofs.subscriptions.cover_by.Goals as goal
 use Rattle.sng_policy.proofs.subscriptions.cover_by.Goals.{then-pair+else-is_covered, else-pair}
 
@@ -49,7 +50,7 @@ returns-then-is_covered c =
     let i : ℕ = c.loop-pair.pair-index in
     let gathered = with_next filter pairs i c.pair-item.result _ c.loop-pair-test.true c.pair-item.is c.if-pair.true
     (c.add.ensures filter (subscribed (take i pairs)) c.loop-pair.invariant) in
-    let rest = scope-has_filters (drop (i + 1) pairs) (All-drop (λ (pair : Pair). is_filter pair.filter ≡ true) (i + 1) pairs c.requires) in
+    let rest = scope-has_filters (drop (i + 1) pairs) (All-drop (λ (pair : Pair). is_filter pair.filter ≡ true) (i + 1) pairs c.requires.filters) in
     let included : cover_of filter (subscribed (take (i + 1) pairs) ++ subscribed (drop (i + 1) pairs)) ≡ Included =
     c.is_covered.ensures filter (subscribed (take (i + 1) pairs)) (subscribed (drop (i + 1) pairs)) gathered rest c.if-is_covered.true in
     sym included ∙ ap (cover_of filter) (sym (subscribed-append (take (i + 1) pairs) (drop (i + 1) pairs))
@@ -75,4 +76,4 @@ returns c =
     let past : length c.args.pairs.now ≤ c.loop-pair.pair-index = c.loop-pair-test.false in
     let gathered : Gathered c.loop-pair.question c.args.filter.now (subscribed c.args.pairs.now) =
     rw (take_all c.loop-pair.pair-index c.args.pairs.now past) at c.loop-pair.invariant in
-    c.answer.ensures c.args.filter.now (subscribed c.args.pairs.now) gathered
+    c.answer.ensures c.args.filter.now (subscribed c.args.pairs.now) gathered c.requires.profile

@@ -6,12 +6,10 @@ use Rattle.sng_cover.proofs.question.Question.about.Goals as goal
 pub returns : goal.returns
 returns c = record {
   asked_is = refl;
-  filter = c.of.ensures.asked_is;
-  own = record { fixed = c.of.ensures.fixed; few = c.of.ensures.few; has_rest = c.of.ensures.has_rest; fits = c.of.ensures.fits };
+  filter = c.of.ensures.filter;
+  own = c.of.ensures.shape;
   reached = record {
     are = All-from_recursion (λ (filter : List ℕ). is_filter filter ≡ true) [] tt;
-    depths = c.new.ensures.depths;
-    longest = c.new.ensures.longest;
+    depths = c.new.ensures;
   };
-  runs = c.new-2.ensures;
 }

@@ -1,16 +1,24 @@
-use Rattle.std.proofs.Common.{◌≡◌, ℕ, List, ap, ◌∙◌}
+use Rattle.std.proofs.Common.{◌≡◌, ℕ, List, true, false, sym, ap, ◌∙◌}
 use Rattle.sng_cover.specs.Reaches.{fits}
-use Rattle.sng_cover.proofs.Gathering.{reached_more, runs_more}
+use Rattle.sng_cover.proofs.Gathering.{reached_more, reached_same}
 use Rattle.sng_cover.proofs.question.Question.add.Goals as goal
 
-pub returns : goal.returns
-returns c = λ asked granted before.
-    let of = c.of.ensures in
-    let fit : c.of.result.fits ≡ fits asked c.args.filter.now = of.fits ∙ ap (λ (text : List ℕ). fits text c.args.filter.now) before.asked_is in
+pub returns-then-fits : goal.returns-then-fits
+returns-then-fits c = λ asked granted before.
+    let fit : fits asked c.args.filter.now ≡ true = ap (λ (text : List ℕ). fits text c.args.filter.now) (sym before.asked_is) ∙ sym c.fits.ensures.value ∙ c.if-fits.true in
     record {
       asked_is = before.asked_is;
       filter = before.filter;
       own = before.own;
-      reached = reached_more asked c.args.filter.now granted _ _ c.of.result of.granted_is of.fixed of.has_rest fit c.add.ensures.depths c.add.ensures.longest before.reached;
-      runs = runs_more c.args.filter.now granted _ _ c.mark_runs.ensures before.runs;
+      reached = reached_more asked c.args.filter.now granted _ _ c.of.result c.of.ensures.filter fit c.of.ensures.shape c.add.ensures before.reached;
+    }
+
+pub returns-else-fits : goal.returns-else-fits
+returns-else-fits c = λ asked granted before.
+    let fit : fits asked c.args.filter.now ≡ false = ap (λ (text : List ℕ). fits text c.args.filter.now) (sym before.asked_is) ∙ sym c.fits.ensures.value ∙ c.if-fits.false in
+    record {
+      asked_is = before.asked_is;
+      filter = before.filter;
+      own = before.own;
+      reached = reached_same asked c.args.filter.now granted _ c.fits.ensures.granted_is fit before.reached;
     }
