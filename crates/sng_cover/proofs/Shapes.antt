@@ -1,6 +1,6 @@
 -- The shape of a filter, read off its bytes.
-use Rattle.std.proofs.Common.{◌≡◌, ℕ, ◌+◌, ◌<◌, ◌≤◌, ◌==◌, ◌∙◌, ◌||◌, not, zero, suc, Bool, true, false, List, [], ◌∷◌, length, count_by, refl, sym, ap, arith}
-use Rattle.std.proofs.lemmas.Bool.{and_parts, or_parts, not-true, eqb-true, false_from_ne_true, both_ways}
+use Rattle.std.proofs.Common.{◌≡◌, ℕ, ◌+◌, ◌-◌, ◌<◌, ◌≤◌, ◌==◌, ◌∙◌, ◌||◌, not, zero, suc, Bool, true, false, List, [], ◌∷◌, length, get_or, count_by, refl, sym, ap, arith, inl, inr}
+use Rattle.std.proofs.lemmas.Bool.{and_parts, and_from, or_parts, or_cases, or_left, or_right, not-true, eqb-true, eq-eqb, ne_eqb, false_from_ne_true, both_ways}
 use Rattle.std.proofs.lemmas.List.Splits.{length-slice_split}
 use Rattle.std.proofs.lemmas.Slice.Eq.{bytes_eq-Decides}
 use Rattle.std.specs.Str.{bytes_eq}
@@ -8,11 +8,13 @@ use Rattle.sng_text.specs.Levels.{lengthen, levels_of}
 use Rattle.sng_text.specs.Matching.{items_of, has_rest}
 use Rattle.sng_text.specs.Texts.{has_byte, is_plain, is_plus, is_hash, is_ordinary, is_in_place, is_filter}
 use Rattle.sng_text.proofs.LevelLemmas.{levels_of-parts}
+use Rattle.sng_text.proofs.MatchLemmas.{cut}
 use Rattle.sng_text.proofs.SelfLemmas.{plain-hash}
-use Rattle.sng_cover.specs.Candidates.{run, has_level}
+use Rattle.sng_cover.specs.Candidates.{joined, run, has_level}
 use Rattle.sng_cover.specs.Covering.{fixed_part}
 use Rattle.sng_cover.specs.Gathered.{IsShape}
 use Rattle.sng_cover.proofs.Filters.{filter_facts, few_of}
+use Rattle.sng_cover.proofs.Joining.{joined_levels_of}
 
 -- ---- wildcards in their places
 
@@ -85,6 +87,96 @@ rest_has (level ∷ next ∷ levels) is =
 pub has_rest-byte : (text : List ℕ) → is_in_place (levels_of text) ≡ true → has_rest (levels_of text) ≡ has_byte 35 text
 has_rest-byte text is = rest_has (levels_of text) is ∙ any_has-levels 35 text refl
 
+-- ---- the last byte
+
+last : List ℕ → ℕ
+last [] = 0
+last (b ∷ []) = b
+last (b ∷ c ∷ text) = last (c ∷ text)
+
+last-place : (text : List ℕ) → last text ≡ get_or text (length text - 1) 0
+unfolding last
+last-place [] = refl
+last-place (b ∷ []) = refl
+last-place (b ∷ c ∷ text) =
+    let more : suc (suc (length text)) - 1 ≡ suc (length text) = omega arith in
+    let fewer : suc (length text) - 1 ≡ length text = omega arith in
+    rw more (rw fewer at (last-place (c ∷ text)))
+
+last-has : (byte : ℕ) (text : List ℕ) → (byte ≡ 0 → ⊥) → last text ≡ byte → has_byte byte text ≡ true
+unfolding last
+last-has byte [] some is = absurd (some (sym is))
+last-has byte (b ∷ []) some is = or_left (b == byte) false (eq-eqb b byte is)
+last-has byte (b ∷ c ∷ text) some is = or_right (b == byte) (has_byte byte (c ∷ text)) (last-has byte (c ∷ text) some is)
+
+two_bytes : (b c : ℕ) (level : List ℕ) (byte : ℕ) → bytes_eq (b ∷ c ∷ level) (byte ∷ []) ≡ false
+two_bytes b c level byte =
+    false_from_ne_true (bytes_eq (b ∷ c ∷ level) (byte ∷ [])) (λ same.
+    let e : b ∷ c ∷ level ≡ byte ∷ [] = (bytes_eq-Decides (b ∷ c ∷ level) (byte ∷ [])).0 same in cc)
+
+shorter_by : (b : ℕ) (level : List ℕ) (plain : Bool) → is_plain (b ∷ level) ≡ plain → (is_ordinary (b ∷ level) || is_hash (b ∷ level)) ≡ true → is_ordinary level ≡ true
+shorter_by b level true plain is =
+    let p = and_parts (not (has_byte 43 (b ∷ level))) (not (has_byte 35 (b ∷ level))) plain in
+    let q = or_parts (b == 43) (has_byte 43 level) (not-true (has_byte 43 (b ∷ level)) p.0) in
+    let r = or_parts (b == 35) (has_byte 35 level) (not-true (has_byte 35 (b ∷ level)) p.1) in
+    rw (q.1, r.1) refl
+shorter_by b [] false plain is = refl
+shorter_by b (c ∷ level) false plain is = absurd (both_ways false refl (rw (plain, two_bytes b c level 43, two_bytes b c level 35) at is))
+
+-- a level that stands anywhere does so without its first byte
+shorter : (b : ℕ) (level : List ℕ) (levels : List (List ℕ)) → is_in_place ((b ∷ level) ∷ levels) ≡ true → is_in_place (level ∷ levels) ≡ true
+shorter b level [] is = or_left (is_ordinary level) (is_hash level) (shorter_by b level (is_plain (b ∷ level)) refl is)
+shorter b level (next ∷ levels) is =
+    let p = and_parts (is_ordinary (b ∷ level)) (is_in_place (next ∷ levels)) is in
+    and_from (is_ordinary level) (is_in_place (next ∷ levels)) (shorter_by b level (is_plain (b ∷ level)) refl (or_left (is_ordinary (b ∷ level)) (is_hash (b ∷ level)) p.0)) p.1
+
+place_by : (b : ℕ) (text : List ℕ) (slash : Bool) → (b == 47) ≡ slash → (levels : List (List ℕ)) → levels_of text ≡ levels → is_in_place (levels_of (b ∷ text)) ≡ true → is_in_place levels ≡ true
+place_by b text true is levels same place = in_place-tail [] levels (rw (is, same) at place)
+place_by b text false is [] same place = refl
+place_by b text false is (level ∷ levels) same place = shorter b level levels (rw (is, same) at place)
+
+-- so a filter without its first byte has its wildcards in place
+place_behind : (b : ℕ) (text : List ℕ) → is_in_place (levels_of (b ∷ text)) ≡ true → is_in_place (levels_of text) ≡ true
+place_behind b text place = place_by b text (b == 47) refl (levels_of text) refl place
+
+long_level : (c : ℕ) (level : List ℕ) (levels : List (List ℕ)) → is_in_place ((35 ∷ c ∷ level) ∷ levels) ≡ true → ⊥
+long_level c level [] place =
+    let none = (ordinary (35 ∷ c ∷ level) (or_left_of (is_ordinary (35 ∷ c ∷ level)) (is_hash (35 ∷ c ∷ level)) refl place)).0 in cc
+long_level c level (next ∷ levels) place =
+    let none = (ordinary (35 ∷ c ∷ level) (and_parts (is_ordinary (35 ∷ c ∷ level)) (is_in_place (next ∷ levels)) place).0).0 in cc
+
+-- `#` stands before no other byte
+longer_level : (text level : List ℕ) (levels : List (List ℕ)) → levels_of text ≡ level ∷ levels → (text ≡ [] → ⊥) → is_in_place ((35 ∷ level) ∷ levels) ≡ true → ⊥
+longer_level text (c ∷ level) levels is some place = long_level c level levels place
+longer_level text [] (next ∷ levels) is some place =
+    let none = (ordinary (35 ∷ []) (and_parts (is_ordinary (35 ∷ [])) (is_in_place (next ∷ levels)) place).0).0 in cc
+longer_level text [] [] is some place = some (sym (joined_levels_of text) ∙ ap joined is)
+
+first_level : (text level : List ℕ) (levels : List (List ℕ)) → levels_of text ≡ level ∷ levels → levels_of (35 ∷ text) ≡ (35 ∷ level) ∷ levels
+first_level text level levels is = rw is refl
+
+hash_first : (c : ℕ) (text : List ℕ) → is_in_place (levels_of (35 ∷ c ∷ text)) ≡ true → ⊥
+hash_first c text place =
+    let found = cut (c ∷ text) in
+    longer_level (c ∷ text) found.level found.rest found.is (λ none. cc) (rw (first_level (c ∷ text) found.level found.rest found.is) at place)
+
+hash_last : (text : List ℕ) → is_in_place (levels_of text) ≡ true → has_byte 35 text ≡ true → last text ≡ 35
+unfolding last
+hash_last [] place has = absurd (cc)
+hash_last (b ∷ []) place has = eqb-true b 35 (or_left_of (b == 35) false refl has)
+hash_last (b ∷ c ∷ text) place has = elim (or_cases (b == 35) (has_byte 35 (c ∷ text)) has) [
+  | inl here ↦ absurd (hash_first c text (rw (eqb-true b 35 here) at place))
+  | inr more ↦ hash_last (c ∷ text) (place_behind b (c ∷ text) place) more
+]
+
+both_by : (text : List ℕ) (has : Bool) → has_byte 35 text ≡ has → is_in_place (levels_of text) ≡ true → (last text == 35) ≡ has
+both_by text true is place = eq-eqb (last text) 35 (hash_last text place is)
+both_by text false is place = ne_eqb (last text) 35 (λ same. both_ways (has_byte 35 text) is (last-has 35 text (λ zero_is. cc) same))
+
+-- a filter has a `#` where its last byte is one
+pub hash-last : (text : List ℕ) → is_in_place (levels_of text) ≡ true → (get_or text (length text - 1) 0 == 35) ≡ has_byte 35 text
+hash-last text place = rw (← last-place text) (both_by text (has_byte 35 text) refl place)
+
 -- ---- how many levels
 
 -- one for the `#`
@@ -108,22 +200,22 @@ levels_length : (text : List ℕ) → length (levels_of text) ≡ count_by (λ b
 levels_length text = ap length (levels_of-parts text) ∙ length-slice_split (λ b. b == 47) text
 
 -- a filter's shape, by its slashes
-pub shape_rest : (filter : List ℕ) (slashes : ℕ) → is_filter filter ≡ true → slashes ≡ count_by (λ b. b == 47) filter → has_byte 35 filter ≡ true
+pub shape_rest : (filter : List ℕ) (slashes : ℕ) → is_filter filter ≡ true → slashes ≡ count_by (λ b. b == 47) filter → (get_or filter (length filter - 1) 0 == 35) ≡ true
     → IsShape (record { fixed = slashes; has_rest = true }) filter
 shape_rest filter slashes is count hash =
     let place = (filter_facts filter is).3 in
-    let rest : has_rest (levels_of filter) ≡ true = has_rest-byte filter place ∙ hash in
+    let rest : has_rest (levels_of filter) ≡ true = has_rest-byte filter place ∙ (sym (hash-last filter place) ∙ hash) in
     let items : fixed_part filter + 1 ≡ length (levels_of filter) = rw rest at (items_length (levels_of filter) place) in
     let few : fixed_part filter < 202 = few_of filter is in
     let size = levels_length filter in
     let fixed : slashes ≡ fixed_part filter = omega (arith, items, size, count) in
     record { fixed = fixed; few = omega (arith, fixed, few); has_rest = sym rest }
 
-pub shape_whole : (filter : List ℕ) (slashes : ℕ) → is_filter filter ≡ true → slashes ≡ count_by (λ b. b == 47) filter → has_byte 35 filter ≡ false
+pub shape_whole : (filter : List ℕ) (slashes : ℕ) → is_filter filter ≡ true → slashes ≡ count_by (λ b. b == 47) filter → (get_or filter (length filter - 1) 0 == 35) ≡ false
     → IsShape (record { fixed = slashes + 1; has_rest = false }) filter
 shape_whole filter slashes is count hash =
     let place = (filter_facts filter is).3 in
-    let rest : has_rest (levels_of filter) ≡ false = has_rest-byte filter place ∙ hash in
+    let rest : has_rest (levels_of filter) ≡ false = has_rest-byte filter place ∙ (sym (hash-last filter place) ∙ hash) in
     let items : fixed_part filter + 0 ≡ length (levels_of filter) = rw rest at (items_length (levels_of filter) place) in
     let few : fixed_part filter < 202 = few_of filter is in
     let size = levels_length filter in

@@ -1,11 +1,10 @@
 //! What of a filter alone decides which depths it reaches.
-ghost use Rattle.std.specs.Prelude.{◌≡◌, ◌==◌, true, count_by};
+ghost use Rattle.std.specs.Prelude.{◌≡◌, ◌==◌, ◌-◌, true, count_by, get_or, length};
 ghost use Rattle.sng_text.specs.Texts.{is_filter};
 ghost use Rattle.sng_cover.specs.Gathered.{IsShape};
 ghost use Rattle.sng_cover.specs.Reaches.{shape_reaches};
 
 use sng_text::TopicFilter;
-use sng_text::bytes::has_byte;
 
 /// How many levels a filter has, and whether it ends in `#`.
 #[derive(Clone, Copy)]
@@ -22,10 +21,10 @@ impl Shape {
         ensures shape { IsShape result filter.now }
         ensures filter { is_filter filter.now ≡ true }
     {
-        // in a filter `#` stands nowhere but at the end
+        // in a filter `#` stands at the end alone, as a level
         let text = filter.text();
         let slashes = slash_count(text);
-        if has_byte(b'#', text) {
+        if ends_in_hash(text) {
             Shape {
                 fixed: slashes,
                 has_rest: true,
@@ -61,4 +60,11 @@ fn slash_count(text: &[u8]) -> usize
         }
     }
     count
+}
+
+/// Whether the last byte is `#`.
+fn ends_in_hash(text: &[u8]) -> bool
+    ensures { result ≡ (get_or text.now (length text.now - 1) 0 == 35) }
+{
+    !text.is_empty() && text[text.len() - 1] == b'#'
 }
