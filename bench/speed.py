@@ -2,9 +2,12 @@
 """speed.py [BENCH]
 
 Runs each job of the proved program BENCH (if none is given, the build that `rt run` leaves in
-crates/sng_bench/out/sng_bench) and prints what it costs: answers on inclusion, frames read and written,
-and a stream taken in pieces. Fails where a job fails."""
+crates/sng_bench/out/sng_bench) and prints what it costs: answers on inclusion and of policies, a policy's
+text read (beside Python's json.loads of the same text), frames read and written, and a stream taken in
+pieces. Each figure is processor time, the best of several runs. Fails where a job fails."""
+import json
 import os
+import resource
 import subprocess
 import sys
 import time
@@ -13,6 +16,14 @@ HERE = os.path.dirname(os.path.abspath(__file__))
 JOBS = [
     ('cover-deep', 20_000, 'a filter of 100 levels against 64 of 100 levels'),
     ('cover-all', 20_000, '`#` against 64 of 100 levels'),
+    ('cover-short', 200_000, '`+/#` against 64 short filters'),
+    ('may-publish', 200_000, 'may_publish, denied by 64 pairs'),
+    ('source-may-publish', 200_000, 'source_may_publish, denied by 64 pairs'),
+    ('may-receive', 200_000, 'may_receive, denied by 64 pairs'),
+    ('may-subscribe', 200_000, 'may_subscribe, uncovered by 64 pairs'),
+    ('read-policy', 20, 'read_policy of 256 clients with 64 pairs each'),
+    ('judge-granted', 40, '256 clients x 31 filters, each granted by a pair'),
+    ('judge-denied', 40, '256 clients x 31 filters, each uncovered'),
     ('decode', 5_000_000, 'read a small PUBLISH'),
     ('encode', 5_000_000, 'write a small PUBLISH'),
 ]
@@ -27,20 +38,62 @@ STREAMS = [
 ]
 
 
-def seconds(words):
-    start = time.monotonic()
+RUNS = 5
+
+
+def least(measure):
+    """The least of several runs, since other work on the machine only adds to it."""
+    return min(measure() for _ in range(RUNS))
+
+
+def processor_seconds(words):
+    """The processor time of one run."""
+    before = resource.getrusage(resource.RUSAGE_CHILDREN)
     subprocess.run(words, check=True, stdout=subprocess.DEVNULL, timeout=120)
-    return time.monotonic() - start
+    after = resource.getrusage(resource.RUSAGE_CHILDREN)
+    return after.ru_utime - before.ru_utime + after.ru_stime - before.ru_stime
+
+
+def work_seconds(bench, job, times):
+    """What the job takes beyond making its inputs, which it does once."""
+    whole = least(lambda: processor_seconds([bench, job, str(times)]))
+    return whole - least(lambda: processor_seconds([bench, job, '0']))
+
+
+def policy_text():
+    """The text that the job `read-policy` reads."""
+    pair = '["plant/a%d/d%d/+",["pub","sub"]]'
+    clients = ','.join(
+        '"c%d":[%s]' % (client, ','.join(pair % (client, number) for number in range(64)))
+        for client in range(256))
+    return '{"version":1,"clients":{%s}}' % clients
+
+
+def same_text(bench, text):
+    """Whether the job reads a text of that size: its sum is of the text's bytes and the clients."""
+    ran = subprocess.run([bench, 'read-policy', '1'], check=True, stdout=subprocess.PIPE, timeout=120)
+    return int(ran.stdout) == len(text) + 256
+
+
+def json_seconds(text):
+    start = time.process_time()
+    json.loads(text)
+    return time.process_time() - start
 
 
 def main(arguments):
     bench = arguments[0] if arguments else os.path.join(HERE, '..', 'crates', 'sng_bench', 'out', 'sng_bench')
-    start = seconds([bench])
     for job, times, what in JOBS:
-        took = seconds([bench, job, str(times)]) - start
+        took = work_seconds(bench, job, times)
         print('%-50s %8.0f ns each, %10.0f a second' % (what, took / times * 1e9, times / took))
+    text = policy_text()
+    if not same_text(bench, text):
+        raise SystemExit('the job read-policy reads another text')
+    took = least(lambda: json_seconds(text))
+    what = "Python's json.loads of the same text"
+    print('%-50s %8.0f ns each, of %d bytes' % (what, took * 1e9, len(text)))
     for job, times, size, what in STREAMS:
-        took = seconds([bench, job, str(times)]) - start
+        took = work_seconds(bench, job, times)
         print('%-50s %8.1f megabytes a second' % (what, size * times / took / 1e6))
 
 

@@ -1,4 +1,6 @@
 //! The jobs, each over inputs that are made once.
+use crate::judging::{self, Standing};
+use crate::policies;
 use mqtt_frames::{
     List, Packet, Request, RequestedQos, Stream, Subscribe, encode as encode_packet, write_publish,
 };
@@ -11,6 +13,14 @@ use std::alloc::Global;
 #[derive(Clone, Copy, Debug, PartialEq, Eq)]
 pub struct NotDone;
 
+/// The value, where the work could be done.
+pub fn done<T, E: Drop>(outcome: Result<T, E>) -> Result<T, NotDone> {
+    match outcome {
+        Ok(value) => Ok(value),
+        Err(_) => Err(NotDone),
+    }
+}
+
 /// What is measured.
 #[derive(Clone, Copy, Debug, PartialEq, Eq)]
 pub enum Job {
@@ -18,6 +28,20 @@ pub enum Job {
     CoverDeep,
     /// `#` against the same, so that there is a candidate of each depth.
     CoverAll,
+    /// `+/#` against 64 short granted filters, of which none covers it.
+    CoverShort,
+    /// Asking a policy whether a client may publish, where none of 64 pairs grants it.
+    MayPublish,
+    /// The same of a source.
+    SourceMayPublish,
+    /// The same of a message for a client.
+    MayReceive,
+    /// The same of a subscription.
+    MaySubscribe,
+    /// Reading the text of a policy of 256 clients with 64 pairs each.
+    ReadPolicy,
+    /// Judging 31 filters that stand for each of these clients.
+    Judge(Standing),
     /// Reading a small PUBLISH of MQTT-SN.
     Decode,
     /// Writing it.
@@ -45,6 +69,14 @@ impl Job {
         match word {
             "cover-deep" => Some(Job::CoverDeep),
             "cover-all" => Some(Job::CoverAll),
+            "cover-short" => Some(Job::CoverShort),
+            "may-publish" => Some(Job::MayPublish),
+            "source-may-publish" => Some(Job::SourceMayPublish),
+            "may-receive" => Some(Job::MayReceive),
+            "may-subscribe" => Some(Job::MaySubscribe),
+            "read-policy" => Some(Job::ReadPolicy),
+            "judge-granted" => Some(Job::Judge(Standing::Granted)),
+            "judge-denied" => Some(Job::Judge(Standing::Denied)),
             "decode" => Some(Job::Decode),
             "encode" => Some(Job::Encode),
             "feed-small-1" => Some(Job::Feed(Packets::Small, 1)),
@@ -59,8 +91,20 @@ impl Job {
     /// Does the job so many times. Answers a sum over what came of it.
     pub fn run(self, alloc: Global, times: u32) -> Result<u64, NotDone> {
         match self {
-            Job::CoverDeep => cover_times(alloc, deep(alloc, b"/#")?.as_slice(), times),
-            Job::CoverAll => cover_times(alloc, b"#", times),
+            Job::CoverDeep => cover_times(
+                alloc,
+                deep(alloc, b"/#")?.as_slice(),
+                &many(alloc)?,
+                times,
+            ),
+            Job::CoverAll => cover_times(alloc, b"#", &many(alloc)?, times),
+            Job::CoverShort => cover_times(alloc, b"+/#", &policies::short(alloc)?, times),
+            Job::MayPublish => judging::publish_times(alloc, times),
+            Job::SourceMayPublish => judging::source_times(alloc, times),
+            Job::MayReceive => judging::receive_times(alloc, times),
+            Job::MaySubscribe => judging::subscribe_times(alloc, times),
+            Job::ReadPolicy => judging::read_times(alloc, times),
+            Job::Judge(standing) => judging::judge_times(alloc, standing, times),
             Job::Decode => decode_times(alloc, times),
             Job::Encode => encode_times(alloc, times),
             Job::Feed(packets, size) => feed_times(alloc, packets, size, times),
@@ -71,25 +115,35 @@ impl Job {
 /// A filter of 99 levels `+`, and an end.
 fn deep(alloc: Global, end: &[u8]) -> Result<Vec<u8>, NotDone> {
     let mut text = Vec::new(alloc);
-    text.push(b'+').map_err(|_| NotDone)?;
+    done(text.push(b'+'))?;
     for _ in 0..98 {
-        text.extend_from_slice(b"/+").map_err(|_| NotDone)?;
+        done(text.extend_from_slice(b"/+"))?;
     }
-    text.extend_from_slice(end).map_err(|_| NotDone)?;
+    done(text.extend_from_slice(end))?;
     Ok(text)
 }
 
-fn cover_times(alloc: Global, asked: &[u8], times: u32) -> Result<u64, NotDone> {
-    let asked = TopicFilter::read(alloc, asked).map_err(|_| NotDone)?;
+/// 64 filters of 100 levels.
+fn many(alloc: Global) -> Result<Vec<TopicFilter>, NotDone> {
     let text = deep(alloc, b"/a")?;
     let mut granted = Vec::new(alloc);
     for _ in 0..64 {
-        let filter = TopicFilter::read(alloc, text.as_slice()).map_err(|_| NotDone)?;
-        granted.push(filter).map_err(|_| NotDone)?;
+        let filter = done(TopicFilter::read(alloc, text.as_slice()))?;
+        done(granted.push(filter))?;
     }
+    Ok(granted)
+}
+
+fn cover_times(
+    alloc: Global,
+    asked: &[u8],
+    granted: &Vec<TopicFilter>,
+    times: u32,
+) -> Result<u64, NotDone> {
+    let asked = done(TopicFilter::read(alloc, asked))?;
     let mut total: u64 = 0;
     for _ in 0..times {
-        let answer = cover(alloc, &asked, granted.as_slice()).map_err(|_| NotDone)?;
+        let answer = done(cover(alloc, &asked, granted.as_slice()))?;
         let size = match answer {
             Cover::Included => 0,
             Cover::Uncovered(name) => name.text().len(),
@@ -113,7 +167,7 @@ fn decode_times(alloc: Global, times: u32) -> Result<u64, NotDone> {
 }
 
 fn encode_times(alloc: Global, times: u32) -> Result<u64, NotDone> {
-    let payload = Vec::from_slice(alloc, b"abcd").map_err(|_| NotDone)?;
+    let payload = done(Vec::from_slice(alloc, b"abcd"))?;
     let frame = SnFrame::Publish(Publish {
         flags: Flags {
             dup: false,
@@ -129,7 +183,7 @@ fn encode_times(alloc: Global, times: u32) -> Result<u64, NotDone> {
     });
     let mut total: u64 = 0;
     for _ in 0..times {
-        let bytes = encode(alloc, &frame).map_err(|_| NotDone)?;
+        let bytes = done(encode(alloc, &frame))?;
         total = total.wrapping_add(bytes.len() as u64);
     }
     Ok(total)
@@ -148,14 +202,12 @@ fn stream_of(alloc: Global, packets: Packets) -> Result<Vec<u8>, NotDone> {
 
 /// So many PUBLISHes with a payload of that size.
 fn publishes(alloc: Global, payload: usize, count: u32) -> Result<Vec<u8>, NotDone> {
-    let name = TopicName::read(alloc, b"a/b").map_err(|_| NotDone)?;
-    let payload = vec![in alloc; 0x55; payload].map_err(|_| NotDone)?;
-    let packet = write_publish(alloc, &name, payload.as_slice(), false).map_err(|_| NotDone)?;
+    let name = done(TopicName::read(alloc, b"a/b"))?;
+    let payload = done(vec![in alloc; 0x55; payload])?;
+    let packet = done(write_publish(alloc, &name, payload.as_slice(), false))?;
     let mut bytes = Vec::new(alloc);
     for _ in 0..count {
-        bytes
-            .extend_from_slice(packet.as_slice())
-            .map_err(|_| NotDone)?;
+        done(bytes.extend_from_slice(packet.as_slice()))?;
     }
     Ok(bytes)
 }
@@ -164,18 +216,18 @@ fn publishes(alloc: Global, payload: usize, count: u32) -> Result<Vec<u8>, NotDo
 fn subscribe(alloc: Global) -> Result<Vec<u8>, NotDone> {
     let mut requests = Vec::new(alloc);
     for _ in 0..17497 {
-        requests.push(request(alloc, b"a")?).map_err(|_| NotDone)?;
+        done(requests.push(request(alloc, b"a")?))?;
     }
-    requests.push(request(alloc, b"a/b")?).map_err(|_| NotDone)?;
+    done(requests.push(request(alloc, b"a/b")?))?;
     let packet = Packet::Subscribe(Subscribe {
         packet_id: 1,
         requests: List::from(requests),
     });
-    encode_packet(alloc, &packet).map_err(|_| NotDone)
+    done(encode_packet(alloc, &packet))
 }
 
 fn request(alloc: Global, filter: &[u8]) -> Result<Request, NotDone> {
-    let filter = Vec::from_slice(alloc, filter).map_err(|_| NotDone)?;
+    let filter = done(Vec::from_slice(alloc, filter))?;
     Ok(Request {
         filter: Octets::from(filter),
         qos: RequestedQos::AtLeastOnce,
@@ -190,7 +242,7 @@ fn feed_times(alloc: Global, packets: Packets, size: usize, times: u32) -> Resul
     let mut total: u64 = 0;
     for _ in 0..times {
         for piece in bytes.chunks(size) {
-            let packets = stream.feed(alloc, piece).map_err(|_| NotDone)?;
+            let packets = done(stream.feed(alloc, piece))?;
             total = total.wrapping_add(packets.len() as u64);
         }
     }

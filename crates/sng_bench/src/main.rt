@@ -3,6 +3,8 @@
 #![tactic(auto)]
 
 mod jobs;
+mod judging;
+mod policies;
 
 use jobs::Job;
 use std::env;

@@ -1,0 +1,163 @@
+//! Jobs over policies: reading one, and asking it.
+use crate::jobs::{NotDone, done};
+use crate::policies;
+use sng_grants::{Clients, Policy, Sources};
+use sng_policy::{Grant, may_publish, may_receive, may_subscribe, source_may_publish};
+use sng_scope::read_policy;
+use sng_text::{ClientId, TopicFilter, TopicName};
+use std::alloc::Global;
+
+/// Filters that stand for a client when its policy is replaced.
+#[derive(Clone, Copy, Debug, PartialEq, Eq)]
+pub enum Standing {
+    /// One pair grants each, the K-th filter's is the 2K-th.
+    Granted,
+    /// No pair grants any.
+    Denied,
+}
+
+/// How many filters stand for each client.
+const STANDING: u32 = 31;
+
+/// Reads the text of the policy. The sum is of the text's bytes and the policy's clients.
+pub fn read_times(alloc: Global, times: u32) -> Result<u64, NotDone> {
+    let text = policies::text(alloc)?;
+    let mut total: u64 = 0;
+    for _ in 0..times {
+        let policy = done(read_policy(alloc, text.as_str().as_bytes()))?;
+        total = total.wrapping_add(text.as_str().len() as u64);
+        total = total.wrapping_add(policy.clients.len() as u64);
+    }
+    Ok(total)
+}
+
+/// Judges all filters that stand for the clients of the policy.
+pub fn judge_times(alloc: Global, standing: Standing, times: u32) -> Result<u64, NotDone> {
+    let text = policies::text(alloc)?;
+    let policy = done(read_policy(alloc, text.as_str().as_bytes()))?;
+    let clients = clients(alloc)?;
+    let standing = all_standing(alloc, standing)?;
+    let mut total: u64 = 0;
+    for _ in 0..times {
+        for (client, filters) in clients.iter().zip(&standing) {
+            for filter in filters {
+                let grant = done(may_subscribe(alloc, &policy, client, filter))?;
+                total = total.wrapping_add(weight(&grant));
+            }
+        }
+    }
+    Ok(total)
+}
+
+/// A number of the answer.
+fn weight(grant: &Grant) -> u64 {
+    match grant {
+        Grant::Allowed => 1,
+        Grant::NoScope | Grant::UnknownSource | Grant::MissingPub | Grant::MissingSub => 2,
+        Grant::Uncovered(gap) => gap.text().len() as u64,
+    }
+}
+
+/// The ids of the policy's clients.
+fn clients(alloc: Global) -> Result<Vec<ClientId>, NotDone> {
+    let mut clients = Vec::new(alloc);
+    for client in 0..policies::CLIENTS {
+        let id = done(format!(in alloc; "c{client}"))?;
+        let id = done(ClientId::read(alloc, id.as_str().as_bytes()))?;
+        done(clients.push(id))?;
+    }
+    Ok(clients)
+}
+
+/// The filters that stand for each client.
+fn all_standing(alloc: Global, standing: Standing) -> Result<Vec<Vec<TopicFilter>>, NotDone> {
+    let mut all = Vec::new(alloc);
+    for client in 0..policies::CLIENTS {
+        done(all.push(standing_of(alloc, standing, client)?))?;
+    }
+    Ok(all)
+}
+
+/// The filters that stand for one of them.
+fn standing_of(
+    alloc: Global,
+    standing: Standing,
+    client: u32,
+) -> Result<Vec<TopicFilter>, NotDone> {
+    let mut filters = Vec::new(alloc);
+    for number in 0..STANDING {
+        let pair = 2 * number;
+        let text = done(match standing {
+            Standing::Granted => format!(in alloc; "plant/a{client}/d{pair}/t"),
+            Standing::Denied => format!(in alloc; "plant/a{client}/e{number}/t"),
+        })?;
+        let filter = policies::filter(alloc, text.as_str())?;
+        done(filters.push(filter))?;
+    }
+    Ok(filters)
+}
+
+/// A policy of one client and one source, each with 64 pairs.
+fn one_client(alloc: Global, client: ClientId) -> Result<Policy, NotDone> {
+    let mut clients = Clients::new(alloc);
+    done(clients.insert(client, policies::scope(alloc)?))?;
+    let mut sources = Sources::new(alloc);
+    done(sources.insert([10, 0, 0, 7], policies::scope(alloc)?))?;
+    let mut policy = Policy::new(alloc);
+    policy.clients = clients;
+    policy.sources = sources;
+    Ok(policy)
+}
+
+fn client(alloc: Global) -> Result<ClientId, NotDone> {
+    done(ClientId::read(alloc, b"c7"))
+}
+
+/// A name that no pair grants.
+fn name(alloc: Global) -> Result<TopicName, NotDone> {
+    done(TopicName::read(alloc, b"plant/a7/e7/t"))
+}
+
+pub fn publish_times(alloc: Global, times: u32) -> Result<u64, NotDone> {
+    let client = client(alloc)?;
+    let name = name(alloc)?;
+    let policy = one_client(alloc, done(client.copy())?)?;
+    let mut total: u64 = 0;
+    for _ in 0..times {
+        total = total.wrapping_add(weight(&may_publish(&policy, &client, &name)));
+    }
+    Ok(total)
+}
+
+pub fn source_times(alloc: Global, times: u32) -> Result<u64, NotDone> {
+    let name = name(alloc)?;
+    let policy = one_client(alloc, client(alloc)?)?;
+    let mut total: u64 = 0;
+    for _ in 0..times {
+        total = total.wrapping_add(weight(&source_may_publish(&policy, [10, 0, 0, 7], &name)));
+    }
+    Ok(total)
+}
+
+pub fn receive_times(alloc: Global, times: u32) -> Result<u64, NotDone> {
+    let client = client(alloc)?;
+    let name = name(alloc)?;
+    let policy = one_client(alloc, done(client.copy())?)?;
+    let mut total: u64 = 0;
+    for _ in 0..times {
+        total = total.wrapping_add(weight(&may_receive(&policy, &client, &name)));
+    }
+    Ok(total)
+}
+
+pub fn subscribe_times(alloc: Global, times: u32) -> Result<u64, NotDone> {
+    let client = client(alloc)?;
+    let filter = policies::filter(alloc, "plant/a7/e7/+")?;
+    let policy = one_client(alloc, done(client.copy())?)?;
+    let mut total: u64 = 0;
+    for _ in 0..times {
+        let grant = done(may_subscribe(alloc, &policy, &client, &filter))?;
+        total = total.wrapping_add(weight(&grant));
+    }
+    Ok(total)
+}
