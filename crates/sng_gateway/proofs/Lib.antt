@@ -1,1 +1,3 @@
+pub mod InputLemmas
+pub mod PlayLemmas
 pub mod PortLemmas

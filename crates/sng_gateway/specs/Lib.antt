@@ -1,7 +1,11 @@
 pub mod Statuses
-pub mod Playing
 pub mod Lines
 pub mod Covers
 pub mod Asks
 pub mod Answers
+pub mod Playing
+pub mod Standings
+pub mod Stops
+pub mod Scripts
+pub mod Input
 pub mod Laws

@@ -1,9 +1,16 @@
 -- The lines of a script: words parted by one space.
-use Rattle.std.specs.Prelude.{ℕ, ◌≡◌, ◌+◌, ◌-◌, ◌*◌, ◌^◌, ◌==◌, ◌&&◌, nat_lt, codes, List, [], ◌∷◌, ◌++◌, take, drop, position, if◌then◌else◌, Option, Some, None, option_map, option_and_then}
+use Rattle.std.specs.Prelude.{ℕ, ◌+◌, ◌-◌, ◌*◌, ◌^◌, ◌==◌, ◌&&◌, nat_lt, codes, List, [], ◌∷◌, take, drop, position, if◌then◌else◌, Option, Some, None, option_map, option_and_then, Result, Ok, Err}
+use Rattle.std.specs.Str.{bytes_eq}
+use Rattle.std.specs.Result.{result_ok}
+use Rattle.hex.specs.Hex.{decode_of}
 use Rattle.sng_text.specs.Ipv4.{is_digit, ipv4_of}
+use Rattle.sng_grants.specs.declared.policy.Policy.{Policy}
+use Rattle.sng_scope.specs.Policies.{policy_of}
+use Rattle.sng_scope.specs.declared.fault.PolicyFault.{PolicyFault}
 use Rattle.sng_book.specs.declared.address.Address.{Address}
+use Rattle.sng_book.specs.declared.event.Event.TheVariants.{Datagram, Up, Down, Take, Replace}
 use Rattle.sng_gateway.specs.declared.script.Line.{Line}
-use Rattle.sng_gateway.specs.declared.script.Line.TheVariants.{Empty, Policy, Up, Take, From}
+use Rattle.sng_gateway.specs.declared.script.Line.TheVariants.{Empty, Event, Refused}
 
 infixl 10 ◌>>=◌
 abbrev ◌>>=◌ : {A B : Type 0} → Option A → (A → Option B) → Option B
@@ -34,18 +41,49 @@ address_of word = do
   port ← port_of parts.1
   Some (record { ip = ip; port = port })
 
--- the address and the digits of `IP:PORT HEX`; byte 32 is the space
-abbrev pub sender_of : List ℕ → Option (Address × List ℕ)
-sender_of words = do
+-- the bytes that a word spells: two hex digits for each, of either case, and no byte where it is `-`; at no
+-- other word, nor at none
+abbrev pub datagram_of : List ℕ → Option (List ℕ)
+datagram_of word =
+    if bytes_eq word []
+    then None
+    else (if bytes_eq word (codes "-") then Some [] else result_ok (decode_of word))
+
+-- the policy is in force from now on, or it is refused
+abbrev pub policy_line : Result Policy PolicyFault → Line
+policy_line (Ok policy) = Event (Replace policy)
+policy_line (Err fault) = Refused fault
+
+-- `IP:PORT HEX`: a datagram came from the address; byte 32 is the space
+abbrev pub from_line : List ℕ → Option Line
+from_line words = do
   parts ← parted 32 words
   address ← address_of parts.0
-  Some (address, parts.1)
+  datagram ← datagram_of parts.1
+  Some (Event (Datagram address datagram))
 
--- the bytes are the line
-abbrev pub Spells : Line → List ℕ → Type 0
-Spells Empty bytes = bytes ≡ []
-Spells Up bytes = bytes ≡ codes "up"
-Spells Take bytes = bytes ≡ codes "take"
-Spells (Policy text) bytes = bytes ≡ codes "policy " ++ text.now
-Spells (From address digits) bytes =
-    (words : List ℕ) × (bytes ≡ codes "from " ++ words) × (sender_of words ≡ Some (address, digits.now))
+-- the lines without a space
+abbrev pub word_line : List ℕ → Option Line
+word_line word =
+    if bytes_eq word []
+    then Some Empty
+    else (if bytes_eq word (codes "up")
+    then Some (Event Up)
+    else (if bytes_eq word (codes "down")
+    then Some (Event Down)
+    else (if bytes_eq word (codes "take") then Some (Event Take) else None)))
+
+-- the lines with one, by the word before the first of them and what stands behind it
+abbrev pub words_line : List ℕ → List ℕ → Option Line
+words_line word rest =
+    if bytes_eq word (codes "policy")
+    then Some (policy_line (policy_of rest))
+    else (if bytes_eq word (codes "from") then from_line rest else None)
+
+abbrev pub line_by : List ℕ → Option (List ℕ × List ℕ) → Option Line
+line_by line None = word_line line
+line_by line (Some parts) = words_line parts.0 parts.1
+
+-- what a line says, without its line feed; there is nothing else that can be read
+abbrev pub line_of : List ℕ → Option Line
+line_of line = line_by line (parted 32 line)

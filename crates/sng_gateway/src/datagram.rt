@@ -1,31 +1,26 @@
 //! Datagrams in hex digits.
-ghost use Rattle.std.specs.Prelude.{◌≡◌, ◌⊎◌, codes, [], Ok, IfOk};
-ghost use Rattle.hex.specs.Hex.{decode_of};
+ghost use Rattle.std.specs.Prelude.{◌≡◌, ◌⊎◌, Some, None, IfOk, IfErr};
+ghost use Rattle.sng_gateway.specs.Lines.{datagram_of};
 
+use crate::script::LineFault;
 use hex::FromHexError;
 use sng_text::Octets;
 use std::alloc::Global;
 
-/// What is wrong with a word that is not a datagram.
-#[derive(Clone, Copy, Debug, PartialEq, Eq)]
-pub enum DatagramFault {
-    /// It has no digit, an odd number of them, or a byte that is not one.
-    Unreadable,
-    /// Allocation failed.
-    Memory,
-}
-
-/// The bytes of the digits, in upper or lower case. A `-` stands for no bytes.
-pub fn read_datagram(alloc: Global, digits: &[u8]) -> Result<Octets, DatagramFault>
-    ensures { IfOk result (λ o. ((digits.now ≡ codes "-") × (o ≡ [])) ⊎ (decode_of digits.now ≡ Ok o)) }
+/// The bytes of the digits, two for each, in upper or lower case. A `-` stands for no bytes.
+pub fn read_datagram(alloc: Global, digits: &[u8]) -> Result<Octets, LineFault>
+    ensures ok { IfOk result (λ octets. datagram_of digits.now ≡ Some octets) }
+    ensures err { IfErr result (λ fault. (fault ≡ LineFault.Memory) ⊎ (datagram_of digits.now ≡ None)) }
 {
-    match digits {
-        [] => Err(DatagramFault::Unreadable),
-        b"-" => Ok(Octets::from(Vec::new(alloc))),
-        _ => match hex::decode(alloc, digits) {
-            Ok(bytes) => Ok(Octets::from(bytes)),
-            Err(FromHexError::OutOfMemory) => Err(DatagramFault::Memory),
-            Err(_) => Err(DatagramFault::Unreadable),
-        },
+    if digits.is_empty() {
+        return Err(LineFault::Unreadable);
+    }
+    if digits == b"-".as_slice() {
+        return Ok(Octets::from(Vec::new(alloc)));
+    }
+    match hex::decode(alloc, digits) {
+        Ok(bytes) => Ok(Octets::from(bytes)),
+        Err(FromHexError::OutOfMemory) => Err(LineFault::Memory),
+        Err(_) => Err(LineFault::Unreadable),
     }
 }

@@ -1,5 +1,6 @@
 //! What ends every command: its text is flushed, and its exit status says whether all of it was printed.
 ghost use Rattle.std.specs.Prelude.{◌≡◌, ◌⊎◌, OnErr};
+ghost use Rattle.std.specs.Io.KnownBytes.{Keeps};
 ghost use Rattle.sng_gateway.specs.Statuses.{ended, lost};
 
 use crate::Status;
@@ -26,6 +27,7 @@ pub fn ended(status: Status, is_printed: bool) -> Status
 pub fn end<W: Write>(status: Status, printed: Result<()>, output: &mut W) -> Status
     ensures written { OnErr printed (result ≡ lost status) }
     ensures flushed { (result ≡ status) ⊎ (result ≡ lost status) }
+    ensures bytes { Keeps (W.contents output.old) (W.contents output.new) }
 {
     match printed {
         Ok(()) => ended(status, output.flush().is_ok()),

@@ -1,5 +1,6 @@
 //! Reads lines of at most `MAX_LINE` bytes.
-ghost use Rattle.std.specs.Prelude.{◌≡◌, ◌++◌, ◌≤◌, vec_len, OnOk, OnErr};
+ghost use Rattle.std.specs.Prelude.{◌≡◌, ◌≢◌, ◌++◌, ◌≤◌, ◌<◌, ◌+◌, length, slice_index, take, vec_len, OnOk, OnErr, IfOk, IfNone, IfSome};
+ghost use Rattle.sng_gateway.specs.Input.{BeginsTooLong, IsNextLine, IsTooLong, IsWithinLine, Takes};
 ghost use Rattle.sng_gateway.specs.declared.limits.TheConstants.{MAX_LINE};
 
 use crate::limits::MAX_LINE;
@@ -19,7 +20,10 @@ enum Piece {
 /// Puts the next line in `text`, without its line feed. Whether there was a line: the last one may lack its
 /// line feed. A longer line than `MAX_LINE` is unreadable, and nothing past the limit is kept.
 pub fn read_line<R: BufRead>(reader: &mut R, text: &mut Vec<u8>) -> Result<bool, Stop>
-    ensures { vec_len text.new ≤ MAX_LINE }
+    ensures within { vec_len text.new ≤ MAX_LINE }
+    ensures ok { IfOk result (λ is_line.
+        IsNextLine is_line (R.remaining reader.old) (R.remaining reader.new) text.new.items) }
+    ensures long { result ≡ Err Stop.Unreadable → BeginsTooLong (R.remaining reader.old) }
 {
     text.clear();
     for _ in 0..u64::MAX {
@@ -35,7 +39,11 @@ pub fn read_line<R: BufRead>(reader: &mut R, text: &mut Vec<u8>) -> Result<bool,
 /// Appends what the reader has of the line.
 fn read_piece<R: BufRead>(reader: &mut R, text: &mut Vec<u8>) -> Result<Piece, Stop>
     requires { vec_len text.old ≤ MAX_LINE }
-    ensures { vec_len text.new ≤ MAX_LINE }
+    ensures within { vec_len text.new ≤ MAX_LINE }
+    ensures ok { IfOk result (λ piece. Takes piece
+        (R.remaining reader.old) (R.remaining reader.new) text.old.items text.new.items) }
+    ensures long { result ≡ Err Stop.Unreadable
+        → IsTooLong (R.remaining reader.old) text.old.items }
 {
     let bytes = match reader.fill_buf() {
         Ok(bytes) => bytes,
@@ -45,7 +53,7 @@ fn read_piece<R: BufRead>(reader: &mut R, text: &mut Vec<u8>) -> Result<Piece, S
     if count == 0 {
         return Ok(Piece::End);
     }
-    match bytes.iter().position(|byte| *byte == b'\n') {
+    match line_feed_in(bytes) {
         Some(at) => {
             keep(text, &bytes[..at])?;
             reader.consume(at + 1);
@@ -59,8 +67,21 @@ fn read_piece<R: BufRead>(reader: &mut R, text: &mut Vec<u8>) -> Result<Piece, S
     }
 }
 
+/// The place of the first line feed.
+fn line_feed_in(bytes: &[u8]) -> Option<usize>
+    ensures found { IfSome result (λ at. at < length bytes.now) }
+    ensures before { IfSome result (λ at. IsWithinLine (take at bytes.now)) }
+    ensures there { IfSome result (λ at. slice_index bytes.now at ≡ 10) }
+    ensures none { IfNone result (IsWithinLine bytes.now) }
+{
+    bytes.iter().position(|byte| *byte == b'\n')
+}
+
 /// Why a read that failed ends the script, unless it is to be tried again.
-fn stop_of(error: &Error) -> Result<Piece, Stop> {
+fn stop_of(error: &Error) -> Result<Piece, Stop>
+    ensures ok { IfOk result (λ piece. piece ≡ Piece.Front) }
+    ensures err { result ≢ Err Stop.Unreadable }
+{
     match error.kind() {
         ErrorKind::Interrupted => Ok(Piece::Front),
         ErrorKind::OutOfMemory => Err(Stop::OutOfMemory),
@@ -73,6 +94,7 @@ fn keep(text: &mut Vec<u8>, piece: &[u8]) -> Result<(), Stop>
     requires { vec_len text.old ≤ MAX_LINE }
     ensures ok { OnOk result (text.new.items ≡ text.old.items ++ piece.now) }
     ensures err { OnErr result (text.new.items ≡ text.old.items) }
+    ensures long { result ≡ Err Stop.Unreadable → MAX_LINE < vec_len text.old + length piece.now }
     ensures within { vec_len text.new ≤ MAX_LINE }
 {
     if piece.len() > MAX_LINE - text.len() {

@@ -19,5 +19,5 @@ mod sender;
 pub mod status;
 
 pub use limits::{MAX_LINE, MAX_READS};
-pub use script::{Line, line_of};
+pub use script::{Line, LineFault, line_of};
 pub use status::Status;

@@ -1,11 +1,14 @@
 //! Plays a script: each line is an event, and what the gateway does about it is printed as a row.
+ghost use Rattle.std.specs.Prelude.{IfSome};
+ghost use Rattle.sng_gateway.specs.Scripts.{lines_of, Finishes, IsHalt, IsOutcome};
+
 use crate::Status;
 use crate::ending::end;
 use crate::input::read_line;
 use crate::player::{Player, Stop};
 use crate::reader::CountedReader;
 use std::alloc::Global;
-use std::io::{BufReader, BufWriter, Read, Write};
+use std::io::{BufRead, BufReader, BufWriter, Read, Write};
 
 /// How many bytes are read or written at a time.
 const BUFFER_BYTES: usize = 65536;
@@ -24,35 +27,43 @@ pub fn play<R: Read + Drop, W: Write + Drop>(alloc: Global, input: R, mut output
     }
 }
 
-/// Plays through a buffer before the output, or not at all where there is no memory for it.
+/// Plays through buffers, or not at all where there is no memory for them.
 fn play_buffered<R: Read + Drop, W: Write>(
     alloc: Global,
     input: R,
     output: &mut W,
 ) -> Option<Status> {
+    let reader = CountedReader::new(input);
+    let mut reader = BufReader::with_capacity(alloc, BUFFER_BYTES, reader).ok()?;
     let mut writer = BufWriter::with_capacity(alloc, BUFFER_BYTES, output).ok()?;
+    Some(play_script(alloc, &mut reader, &mut writer))
+}
+
+/// Plays the lines that the reader has left, as `play` does.
+pub fn play_script<R: BufRead, W: Write>(alloc: Global, reader: &mut R, output: &mut W) -> Status
+    ensures { IfSome (R.remaining reader.old) (λ script. IsOutcome result (lines_of script)
+        (W.contents output.old) (W.contents output.new)) }
+{
     let mut line = 0;
-    let played = play_lines(alloc, input, &mut writer, &mut line);
-    Some(finish(played, line, &mut writer))
+    let played = play_lines(alloc, reader, output, &mut line);
+    finish(played, line, output)
 }
 
 /// Plays line by line. `line` is left as the number of the last line that was begun, from 1.
-fn play_lines<R: Read + Drop, W: Write>(
+fn play_lines<R: BufRead, W: Write>(
     alloc: Global,
-    input: R,
+    reader: &mut R,
     output: &mut W,
     line: &mut u64,
-) -> Result<(), Stop> {
-    let mut reader = BufReader::with_capacity(
-        alloc,
-        BUFFER_BYTES,
-        CountedReader::new(input),
-    ).map_err(|_| Stop::OutOfMemory)?;
+) -> Result<(), Stop>
+    ensures { IfSome (R.remaining reader.old) (λ script. IsHalt result line.new (lines_of script)
+        (W.contents output.old) (W.contents output.new)) }
+{
     let mut player = Player::new(alloc)?;
     let mut text = Vec::new(alloc);
     for number in 1..u64::MAX {
         *line = number;
-        if !read_line(&mut reader, &mut text)? {
+        if !read_line(reader, &mut text)? {
             return Ok(());
         }
         player.play(text.as_slice(), output)?;
@@ -61,15 +72,19 @@ fn play_lines<R: Read + Drop, W: Write>(
 }
 
 /// Prints why the script ended, where that is printed, and ends the command.
-fn finish<W: Write>(played: Result<(), Stop>, line: u64, output: &mut W) -> Status {
-    let (status, printed) = match played {
-        Ok(()) => (Status::Done, Ok(())),
-        Err(Stop::Unreadable) => (
-            Status::Unreadable,
-            writeln!(output, "line {line}: unreadable"),
-        ),
-        Err(Stop::OutOfMemory) => (Status::OutOfMemory, output.write_all(b"out of memory\n")),
-        Err(Stop::Failed) => (Status::Failed, Ok(())),
-    };
-    end(status, printed, output)
+fn finish<W: Write>(played: Result<(), Stop>, line: u64, output: &mut W) -> Status
+    ensures { Finishes result played line (W.contents output.old) (W.contents output.new) }
+{
+    match played {
+        Ok(()) => end(Status::Done, Ok(()), output),
+        Err(Stop::Unreadable) => {
+            let printed = writeln!(output, "line {line}: unreadable");
+            end(Status::Unreadable, printed, output)
+        }
+        Err(Stop::OutOfMemory) => {
+            let printed = output.write_all(b"out of memory\n");
+            end(Status::OutOfMemory, printed, output)
+        }
+        Err(Stop::Failed) => end(Status::Failed, Ok(()), output),
+    }
 }

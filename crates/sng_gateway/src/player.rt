@@ -1,16 +1,14 @@
 //! A gateway that is played a script, line by line.
-ghost use Rattle.std.specs.Prelude.{◌≡◌, true, [], codes, Ok, IfOk, OnOk};
-ghost use Rattle.std.specs.Result.{is_err};
-ghost use Rattle.sng_scope.specs.Policies.{policy_of};
-ghost use Rattle.sng_grants.specs.declared.policy.Policy.{Policy as policy_type};
-ghost use Rattle.sng_gateway.specs.Playing.{IsPlayed};
+ghost use Rattle.std.specs.Prelude.{◌≡◌, ◌≢◌, ◌<◌, [], None, IfOk, OnOk, OnErr};
+ghost use Rattle.std.specs.Io.KnownBytes.{Keeps};
+ghost use Rattle.sng_gateway.specs.Lines.{line_of};
+ghost use Rattle.sng_gateway.specs.Playing.{Comes, IsPlayed, IsStep};
 ghost use Rattle.sng_history.specs.State.{opening, Leads};
 
-use crate::datagram::{DatagramFault, read_datagram};
-use crate::script::{Line, line_of};
-use sng_book::{Address, Event, push_row};
+use crate::may::push_refused;
+use crate::script::{Line, LineFault, line_of};
+use sng_book::{Event, push_row};
 use sng_core::Core;
-use sng_scope::{PolicyFault, read_policy};
 use std::alloc::{AllocError, Global};
 use std::io::Write;
 
@@ -36,7 +34,21 @@ impl From<AllocError> for Stop {
     }
 }
 
-/// A gateway, and how many rows it printed.
+impl From<LineFault> for Stop {
+    ghost use Rattle.std.specs.Prelude.{◌≡◌};
+    ghost use Rattle.sng_gateway.specs.Stops.{stop_of};
+
+    ghost from_gives = { λ fault stop. stop ≡ stop_of fault };
+
+    fn from(fault: LineFault) -> Stop {
+        match fault {
+            LineFault::Unreadable => Stop::Unreadable,
+            LineFault::Memory => Stop::OutOfMemory,
+        }
+    }
+}
+
+/// A gateway, and how many rows it made.
 #[derive(Drop)]
 pub struct Player {
     alloc: Global,
@@ -46,9 +58,12 @@ pub struct Player {
 }
 
 impl Player {
-    /// A gateway that grants nothing, with no row printed.
+    ghost use Rattle.sng_gateway.specs.Standings.{standing};
+
+    /// A gateway that grants nothing, and no row.
     pub fn new(alloc: Global) -> Result<Player, AllocError>
-        ensures { IfOk result (λ player. Leads opening [] player.core) }
+        ensures state { IfOk result (λ player. Leads opening [] (standing player).state) }
+        ensures rows { IfOk result (λ player. (standing player).rows ≡ 0) }
     {
         Ok(Player {
             alloc,
@@ -58,69 +73,47 @@ impl Player {
         })
     }
 
-    /// Plays one line, without its line feed, and prints what comes of it.
+    /// Plays one line, without its line feed, and prints what comes of it. A line that cannot be read prints
+    /// nothing and changes nothing.
     pub fn play<W: Write>(&mut self, line: &[u8], output: &mut W) -> Result<(), Stop>
-        ensures up { line.now ≡ codes "up"
-            → OnOk result
-            (IsPlayed self.old.core Event.Up self.new.core self.new.rows self.new.text.items) }
-        ensures taken { line.now ≡ codes "take"
-            → OnOk result
-            (IsPlayed self.old.core Event.Take self.new.core self.new.rows self.new.text.items) }
-        ensures empty { line.now ≡ [] → (result ≡ Ok tt) × (self.new.core ≡ self.old.core) }
+        requires { (standing self.old).rows < u64.MAX }
+        ensures ok { OnOk result (IsPlayed (standing self.old) line.now (W.contents output.old)
+            (W.contents output.new) (standing self.new)) }
+        ensures unreadable { result ≡ Err Stop.Unreadable
+            → (line_of line.now ≡ None) × (standing self.new ≡ standing self.old) }
+        ensures nothing_written { OnErr result (result ≢ Err Stop.Failed
+            → Keeps (W.contents output.old) (W.contents output.new)) }
     {
-        match line_of(line) {
-            None => Err(Stop::Unreadable),
-            Some(Line::Empty) => Ok(()),
-            Some(Line::Policy(text)) => self.replace(text, output),
-            Some(Line::Up) => self.step(Event::Up, output),
-            Some(Line::Take) => self.step(Event::Take, output),
-            Some(Line::From(address, digits)) => self.receive(address, digits, output),
-        }
+        let line = line_of(self.alloc, line)?;
+        self.take(line)?;
+        output
+            .write_all(self.text.as_slice())
+            .map_err(|_| Stop::Failed)
     }
 
-    /// Puts the policy of the text in force. One that is refused makes no row, and replaces nothing.
-    fn replace<W: Write>(&mut self, text: &[u8], output: &mut W) -> Result<(), Stop>
-        ensures refused { is_err (policy_of text.now) ≡ true → self.new.core ≡ self.old.core }
-        ensures accepted { (policy : policy_type) → policy_of text.now ≡ Ok policy
-            → OnOk result (IsPlayed self.old.core (Event.Replace policy)
-            self.new.core self.new.rows self.new.text.items) }
+    /// Does what a line says, and leaves what is to be printed of it in `text`.
+    fn take(&mut self, line: Line) -> Result<(), AllocError>
+        requires { self.old.rows < u64.MAX }
+        ensures { OnOk result (Comes (standing self.old) line self.new.text.items (standing self.new)) }
     {
-        match read_policy(self.alloc, text) {
-            Ok(policy) => self.step(Event::Replace(policy), output),
-            Err(PolicyFault::Memory) => Err(Stop::OutOfMemory),
-            Err(fault) => {
-                let number = fault.number();
-                let name = fault.name();
-                writeln!(output, "refused policy {number} {name}").map_err(|_| Stop::Failed)
-            }
+        self.text.clear();
+        match line {
+            Line::Empty => Ok(()),
+            Line::Event(event) => self.step(event),
+            Line::Refused(fault) => push_refused(&mut self.text, fault),
         }
     }
 
-    fn receive<W: Write>(
-        &mut self,
-        from: Address,
-        digits: &[u8],
-        output: &mut W,
-    ) -> Result<(), Stop> {
-        match read_datagram(self.alloc, digits) {
-            Ok(datagram) => self.step(Event::Datagram(from, datagram), output),
-            Err(DatagramFault::Memory) => Err(Stop::OutOfMemory),
-            Err(DatagramFault::Unreadable) => Err(Stop::Unreadable),
-        }
-    }
-
-    /// Takes one step and prints its row, which stays in `text`.
-    fn step<W: Write>(&mut self, event: Event, output: &mut W) -> Result<(), Stop>
-        ensures { OnOk result (IsPlayed self.old.core event self.new.core self.new.rows self.new.text.items) }
+    /// Takes one step, and prints its row to `text`.
+    fn step(&mut self, event: Event) -> Result<(), AllocError>
+        requires room { self.old.rows < u64.MAX }
+        requires empty { self.old.text.items ≡ [] }
+        ensures { OnOk result (IsStep (standing self.old) event self.new.text.items (standing self.new)) }
     {
         let kind = event.kind();
         let outs = self.core.step(self.alloc, event)?;
-        self.rows = self.rows.saturating_add(1);
-        self.text.clear();
+        self.rows += 1;
         push_row(&mut self.text, self.rows, 0, kind, outs.as_slice())?;
-        output
-            .write_all(self.text.as_slice())
-            .map_err(|_| Stop::Failed)?;
         Ok(())
     }
 }

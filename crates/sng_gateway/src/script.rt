@@ -1,51 +1,101 @@
 //! The lines of a script. Words are parted by one space.
-ghost use Rattle.std.specs.Prelude.{◌≡◌, ℕ, List, ◌++◌, [], codes, Some, IsSome, IfSome};
-ghost use Rattle.sng_gateway.specs.declared.script.Line.TheVariants.{Empty, Up, Take};
-ghost use Rattle.sng_gateway.specs.Lines.{Spells, sender_of};
+ghost use Rattle.std.specs.Prelude.{◌≡◌, ◌⊎◌, Some, None, IfOk, IfErr};
+ghost use Rattle.sng_gateway.specs.Lines.{line_of, word_line, words_line, policy_line, from_line};
+ghost use Rattle.sng_scope.specs.Policies.{policy_of};
 
+use crate::datagram::read_datagram;
 use crate::sender::{address_of, parted};
-use sng_book::Address;
+use sng_book::Event;
+use sng_scope::{PolicyFault, read_policy};
+use std::alloc::Global;
 
 /// What a line of a script says.
-#[derive(Clone, Copy, Debug, PartialEq, Eq)]
-pub enum Line<'a> {
+#[derive(Debug, Drop)]
+pub enum Line {
     /// Nothing.
     Empty,
-    /// `policy TEXT`: the policy of this text is in force from now on.
-    Policy(&'a [u8]),
-    /// `up`: the broker accepted a connection.
-    Up,
-    /// `take`: what waits for the broker leaves.
-    Take,
-    /// `from IP:PORT HEX`: a datagram came from the address. Its bytes are in hex digits, or a `-` for none.
-    From(Address, &'a [u8]),
+    /// An event.
+    Event(Event),
+    /// A policy that is refused, by the first fault of its text.
+    Refused(PolicyFault),
 }
 
-/// What the line says, without the line feed at its end, or `None` where it cannot be read. Whether a
-/// datagram's digits can be read is left open.
-pub fn line_of(line: &[u8]) -> Option<Line<'_>>
-    ensures read { IfSome result (λ found. Spells found line.now) }
-    ensures empty { line.now ≡ [] → result ≡ Some Empty }
-    ensures up { line.now ≡ codes "up" → result ≡ Some Up }
-    ensures taken { line.now ≡ codes "take" → result ≡ Some Take }
-    ensures policy { (text : List ℕ) → line.now ≡ codes "policy " ++ text → IsSome result }
-    ensures from { (words : List ℕ) → line.now ≡ codes "from " ++ words → IsSome (sender_of words)
-        → IsSome result }
+/// Why a line is not read.
+#[derive(Clone, Copy, Debug, PartialEq, Eq)]
+pub enum LineFault {
+    /// It is none that a script may have.
+    Unreadable,
+    /// Allocation failed.
+    Memory,
+}
+
+/// What the line says, without the line feed at its end: `up`, `down`, `take`, `policy TEXT`,
+/// `from IP:PORT HEX`, or nothing.
+pub fn line_of(alloc: Global, line: &[u8]) -> Result<Line, LineFault>
+    ensures ok { IfOk result (λ said. line_of line.now ≡ Some said) }
+    ensures err { IfErr result (λ fault. (fault ≡ LineFault.Memory) ⊎ (line_of line.now ≡ None)) }
 {
-    match line {
-        [] => Some(Line::Empty),
-        b"up" => Some(Line::Up),
-        b"take" => Some(Line::Take),
-        [b'p', b'o', b'l', b'i', b'c', b'y', b' ', text @ ..] => Some(Line::Policy(text)),
-        [b'f', b'r', b'o', b'm', b' ', words @ ..] => from_of(words),
-        _ => None,
+    match parted(line, b' ') {
+        None => word_line(line).ok_or(LineFault::Unreadable),
+        Some((word, rest)) => words_line(alloc, word, rest),
     }
 }
 
-fn from_of(words: &[u8]) -> Option<Line<'_>>
-    ensures read { IfSome result (λ found. Spells found (codes "from " ++ words.now)) }
-    ensures found { IsSome (sender_of words.now) → IsSome result }
+/// What a line of one word says, or of none.
+fn word_line(word: &[u8]) -> Option<Line>
+    ensures { result ≡ word_line word.now }
 {
-    let (word, digits) = parted(words, b' ')?;
-    Some(Line::From(address_of(word)?, digits))
+    if word.is_empty() {
+        Some(Line::Empty)
+    } else if word == b"up".as_slice() {
+        Some(Line::Event(Event::Up))
+    } else if word == b"down".as_slice() {
+        Some(Line::Event(Event::Down))
+    } else if word == b"take".as_slice() {
+        Some(Line::Event(Event::Take))
+    } else {
+        None
+    }
+}
+
+/// What a line says with this word before its first space, and this behind it.
+fn words_line(alloc: Global, word: &[u8], rest: &[u8]) -> Result<Line, LineFault>
+    ensures ok { IfOk result (λ said. words_line word.now rest.now ≡ Some said) }
+    ensures err { IfErr result (λ fault. (fault ≡ LineFault.Memory)
+        ⊎ (words_line word.now rest.now ≡ None)) }
+{
+    if word == b"policy".as_slice() {
+        policy_line(alloc, rest)
+    } else if word == b"from".as_slice() {
+        from_line(alloc, rest)
+    } else {
+        Err(LineFault::Unreadable)
+    }
+}
+
+/// The policy of the text is in force from now on, or it is refused. Only memory can fail.
+fn policy_line(alloc: Global, text: &[u8]) -> Result<Line, LineFault>
+    ensures ok { IfOk result (λ said. said ≡ policy_line (policy_of text.now)) }
+    ensures err { IfErr result (λ fault. fault ≡ LineFault.Memory) }
+{
+    match read_policy(alloc, text) {
+        Ok(policy) => Ok(Line::Event(Event::Replace(policy))),
+        Err(PolicyFault::Memory) => Err(LineFault::Memory),
+        Err(fault) => Ok(Line::Refused(fault)),
+    }
+}
+
+/// A datagram came from an address.
+fn from_line(alloc: Global, words: &[u8]) -> Result<Line, LineFault>
+    ensures ok { IfOk result (λ said. from_line words.now ≡ Some said) }
+    ensures err { IfErr result (λ fault. (fault ≡ LineFault.Memory) ⊎ (from_line words.now ≡ None)) }
+{
+    let Some((word, digits)) = parted(words, b' ') else {
+        return Err(LineFault::Unreadable);
+    };
+    let Some(from) = address_of(word) else {
+        return Err(LineFault::Unreadable);
+    };
+    let datagram = read_datagram(alloc, digits)?;
+    Ok(Line::Event(Event::Datagram(from, datagram)))
 }

@@ -1,6 +1,12 @@
 use Rattle.std.proofs.Common.{◌≤◌, vec_len}
+use Rattle.std.specs.Io.KnownBytes.{Consumes}
 use Rattle.sng_gateway.specs.declared.limits.TheConstants.{MAX_LINE}
+use Rattle.sng_gateway.specs.Input.{IsWithinLine}
 use Rattle.sng_gateway.proofs.input.read_line.Given as goal
 
 abbrev pub invariant-loop : goal.invariant-loop
-invariant-loop g l = vec_len l.text ≤ MAX_LINE
+invariant-loop g l = record {
+  fits : vec_len l.text ≤ MAX_LINE;
+  within : IsWithinLine l.text.items;
+  taken : Consumes (g.R.Read.remaining l.fn.reader) (g.R.Read.remaining l.reader) l.text.items;
+}

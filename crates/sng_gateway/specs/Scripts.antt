@@ -1,0 +1,116 @@
+-- What a whole script comes to: the rows that its lines make, and the text that is written of them.
+use Rattle.std.specs.Prelude.{ℕ, ◌≡◌, ◌⊎◌, ◌+◌, ◌==◌, ◌<◌, nat_le, List, [], ◌∷◌, ◌++◌, length, if◌then◌else◌, codes, Option, Some, None, Result, Ok, Err, ⊤}
+use Rattle.std.specs.Fmt.{decimal}
+use Rattle.std.specs.Io.KnownBytes.{Appends, Keeps}
+use Rattle.sng_book.specs.Events.{kind_of}
+use Rattle.sng_book.specs.Printing.{row_text}
+use Rattle.sng_book.specs.declared.out.Out.{Out}
+use Rattle.sng_book.specs.declared.row.Row.{Row}
+use Rattle.sng_history.specs.State.{opening}
+use Rattle.sng_history.specs.Lawful.{Lawful}
+use Rattle.sng_gateway.specs.declared.limits.TheConstants.{MAX_LINE}
+use Rattle.sng_gateway.specs.Answers.{refused_text}
+use Rattle.sng_gateway.specs.Lines.{line_of}
+use Rattle.sng_gateway.specs.declared.script.Line.{Line}
+use Rattle.sng_gateway.specs.declared.script.Line.TheVariants as lines
+use Rattle.sng_gateway.specs.declared.player.Stop.{Stop}
+use Rattle.sng_gateway.specs.declared.player.Stop.TheVariants as stops
+use Rattle.sng_gateway.specs.declared.status.Status.{Status}
+use Rattle.sng_gateway.specs.declared.status.Status.TheVariants as statuses
+
+-- the byte goes in front of the first line
+abbrev pub onto_first : ℕ → List (List ℕ) → List (List ℕ)
+onto_first byte [] = (byte ∷ []) ∷ []
+onto_first byte (line ∷ rest) = (byte ∷ line) ∷ rest
+
+-- the lines of a script: each ends with its line feed, byte 10, which the last may lack
+abbrev pub lines_of : List ℕ → List (List ℕ)
+lines_of [] = []
+lines_of (byte ∷ bytes) = if byte == 10 then [] ∷ lines_of bytes else onto_first byte (lines_of bytes)
+
+-- the line, after the rows before it, the newest first, writes the text, and there are these rows then: those
+-- before, and of an event its own, brought by worker 0 and printed under its number from 1
+abbrev pub Writes : List Row → Line → List ℕ → List Row → Type 0
+Writes before lines.Empty text rows = (text ≡ []) × (rows ≡ before)
+Writes before (lines.Event event) text rows =
+    (outs : List Out)
+    × (rows ≡ record { by = 0; event = event; outs = outs } ∷ before)
+    × (text ≡ row_text (length rows) 0 (kind_of event) outs)
+Writes before (lines.Refused fault) text rows = (text ≡ refused_text fault) × (rows ≡ before)
+
+-- the lines, each of which can be read, write the text in turn
+abbrev pub AllWrite : List Row → List (List ℕ) → List ℕ → List Row → Type 0
+AllWrite before [] text rows = (text ≡ []) × (rows ≡ before)
+AllWrite before (bytes ∷ rest) text rows =
+    (line : Line) × (first : List ℕ) × (between : List Row) × (more : List ℕ)
+    × (line_of bytes ≡ Some line) × Writes before line first between
+    × AllWrite between rest more rows × (text ≡ first ++ more)
+
+-- the lines are played from the opening state: their text, and the rows, the newest first, which are lawful
+pub record ArePlayed (lines : List (List ℕ)) (text : List ℕ) : Type 0 where
+  pub rows : List Row
+  pub lawful : Lawful opening rows
+  pub written : AllWrite [] lines text rows
+
+-- a line that cannot be read, or is too long
+abbrev pub IsUnreadable : List ℕ → Type 0
+IsUnreadable bytes = (line_of bytes ≡ None) ⊎ (MAX_LINE < length bytes)
+
+-- the lines before are played, and the one behind them cannot be read
+pub record StopsAt (script before : List (List ℕ)) (text : List ℕ) : Type 0 where
+  pub line : List ℕ
+  pub rest : List (List ℕ)
+  pub split : script ≡ before ++ line ∷ rest
+  pub unreadable : IsUnreadable line
+  pub played : ArePlayed before text
+
+-- the lines before are played, and are a beginning of the script
+pub record BreaksOff (script before : List (List ℕ)) (text : List ℕ) : Type 0 where
+  pub rest : List (List ℕ)
+  pub split : script ≡ before ++ rest
+  pub played : ArePlayed before text
+
+-- what is told of a line that cannot be read, by its number from 1
+abbrev pub unreadable_text : ℕ → List ℕ
+unreadable_text number = codes "line " ++ (decimal number ++ codes ": unreadable\n")
+
+-- how the lines come to an end, by `Ok` or why they are not played on, with the number of the last that was
+-- begun
+abbrev pub IsHalt : Result (Unit {0}) Stop → ℕ → List (List ℕ) → (held holds : Option (List ℕ)) → Type 0
+IsHalt (Ok done) number script held holds = (text : List ℕ) × ArePlayed script text × Appends held holds text
+IsHalt (Err stops.Unreadable) number script held holds =
+    (before : List (List ℕ)) × (text : List ℕ) × StopsAt script before text × Appends held holds text
+    × (number ≡ length before + 1)
+IsHalt (Err stops.OutOfMemory) number script held holds =
+    (before : List (List ℕ)) × (text : List ℕ) × BreaksOff script before text × Appends held holds text
+IsHalt (Err stops.Failed) number script held holds = ⊤
+
+-- what is written last, behind what the writer held, and how the command comes out: as the lines came to an
+-- end, with why they are not played on; or as a failure, of which nothing is known
+abbrev pub Finishes : Status → Result (Unit {0}) Stop → ℕ → (held holds : Option (List ℕ)) → Type 0
+Finishes statuses.Done played number held holds = (played ≡ Ok tt) × Keeps held holds
+Finishes statuses.Unreadable played number held holds =
+    (played ≡ Err stops.Unreadable) × Appends held holds (unreadable_text number)
+Finishes statuses.OutOfMemory played number held holds =
+    (played ≡ Err stops.OutOfMemory) × Appends held holds (codes "out of memory\n")
+Finishes statuses.Failed played number held holds = ⊤
+Finishes statuses.Uncovered played number held holds = ⊥
+Finishes statuses.Denied played number held holds = ⊥
+Finishes statuses.BadCommandLine played number held holds = ⊥
+
+-- what is written of a script that comes out so, behind what the writer held: the text of its lines; or of
+-- those before the first that cannot be read, with the number of that one; or of those that there was memory
+-- for; of a failure of input or output nothing is known
+abbrev pub IsOutcome : Status → List (List ℕ) → (held holds : Option (List ℕ)) → Type 0
+IsOutcome statuses.Done script held holds =
+    (text : List ℕ) × ArePlayed script text × Appends held holds text
+IsOutcome statuses.Unreadable script held holds =
+    (before : List (List ℕ)) × (text : List ℕ) × StopsAt script before text
+    × Appends held holds (text ++ unreadable_text (length before + 1))
+IsOutcome statuses.OutOfMemory script held holds =
+    (before : List (List ℕ)) × (text : List ℕ) × BreaksOff script before text
+    × Appends held holds (text ++ codes "out of memory\n")
+IsOutcome statuses.Failed script held holds = ⊤
+IsOutcome statuses.Uncovered script held holds = ⊥
+IsOutcome statuses.Denied script held holds = ⊥
+IsOutcome statuses.BadCommandLine script held holds = ⊥
