@@ -27,29 +27,45 @@ pub fn play<R: Read + Drop, W: Write + Drop>(alloc: Global, input: R, mut output
     }
 }
 
-/// Plays through buffers, or not at all where there is no memory for them.
+/// Plays through a buffer before the output, or not at all where there is no memory for it.
 fn play_buffered<R: Read + Drop, W: Write>(
     alloc: Global,
     input: R,
     output: &mut W,
 ) -> Option<Status> {
-    let reader = CountedReader::new(input);
-    let mut reader = BufReader::with_capacity(alloc, BUFFER_BYTES, reader).ok()?;
     let mut writer = BufWriter::with_capacity(alloc, BUFFER_BYTES, output).ok()?;
-    Some(play_script(alloc, &mut reader, &mut writer))
+    Some(play_script(alloc, input, &mut writer))
 }
 
-/// Plays the lines that the reader has left, as `play` does.
-pub fn play_script<R: BufRead, W: Write>(alloc: Global, reader: &mut R, output: &mut W) -> Status
-    ensures { IfSome (R.remaining reader.old) (λ script. IsOutcome result (lines_of script)
+/// Plays the script as `play` does, and writes each row as it comes.
+pub fn play_script<R: Read + Drop, W: Write>(alloc: Global, input: R, output: &mut W) -> Status
+    ensures { IfSome (R.remaining input) (λ script. IsOutcome result (lines_of script)
         (W.contents output.old) (W.contents output.new)) }
 {
     let mut line = 0;
-    let played = play_lines(alloc, reader, output, &mut line);
+    let played = play_input(alloc, input, output, &mut line);
     finish(played, line, output)
 }
 
-/// Plays line by line. `line` is left as the number of the last line that was begun, from 1.
+/// Plays through a buffer behind the input. `line` is left as the number of the last line that was begun,
+/// from 1.
+fn play_input<R: Read + Drop, W: Write>(
+    alloc: Global,
+    input: R,
+    output: &mut W,
+    line: &mut u64,
+) -> Result<(), Stop>
+    ensures { IfSome (R.remaining input) (λ script. IsHalt result line.new (lines_of script)
+        (W.contents output.old) (W.contents output.new)) }
+{
+    let reader = CountedReader::new(input);
+    match BufReader::with_capacity(alloc, BUFFER_BYTES, reader) {
+        Ok(mut reader) => play_lines(alloc, &mut reader, output, line),
+        Err(_) => Err(Stop::OutOfMemory),
+    }
+}
+
+/// Plays line by line.
 fn play_lines<R: BufRead, W: Write>(
     alloc: Global,
     reader: &mut R,

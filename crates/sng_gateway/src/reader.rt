@@ -15,7 +15,8 @@ pub struct CountedReader<R> {
 impl<R: Read> CountedReader<R> {
     /// A reader with `MAX_READS` calls left.
     pub fn new(inner: R) -> CountedReader<R>
-        ensures { result.left ≡ MAX_READS }
+        ensures left { result.left ≡ MAX_READS }
+        ensures inner { result.inner ≡ inner }
     {
         CountedReader {
             inner,
@@ -25,6 +26,8 @@ impl<R: Read> CountedReader<R> {
 }
 
 impl<R: Read> Read for CountedReader<R> {
+    ghost remaining = { λ reader. R.remaining reader.inner };
+
     fn read(&mut self, buf: &mut [u8]) -> Result<usize> {
         if self.left == 0 {
             return Err(Error::other("too many reads"));
