@@ -1,10 +1,9 @@
 -- The lines of an input whose bytes are known.
-use Rattle.std.proofs.Common.{◌≡◌, ◌≢◌, Bool, false, not, ℕ, suc, ◌+◌, ◌<◌, ◌≤◌, ◌==◌, ◌⊎◌, All, List, [], ◌∷◌, ◌++◌, length, drop, if◌then◌else◌, Option, Some, None, IfSome, refl, sym, ap, subst, ◌∙◌, append_assoc, append-nil, length-append, ne_eqb, inl, inr, arith}
+use Rattle.std.proofs.Common.{◌≡◌, ◌≢◌, Bool, false, not, ℕ, suc, ◌≤◌, ◌==◌, ◌⊎◌, List, [], ◌∷◌, ◌++◌, length, drop, if◌then◌else◌, Option, Some, None, IfSome, refl, sym, ap, subst, ◌∙◌, append_assoc, append-nil, length-append, ne_eqb, inl, inr, arith}
 use Rattle.std.proofs.lemmas.List.Elements.{All-head, All-tail, All-append}
 use Rattle.std.proofs.KnownBytes.{starts_with_rest, Consumes-trans}
 use Rattle.std.specs.Io.{StartsWith}
 use Rattle.std.specs.Io.KnownBytes.{Consumes, IsAtEnd, Keeps}
-use Rattle.sng_gateway.specs.declared.limits.TheConstants.{MAX_LINE}
 use Rattle.sng_gateway.specs.Scripts.{lines_of, onto_first}
 use Rattle.sng_gateway.specs.Input.{IsWithinLine, IsTooLong, IsFirstLine, IsNextLine, BeginsTooLong, Takes}
 use Rattle.sng_gateway.specs.declared.input.Piece.TheVariants.{Whole, End}

@@ -1,16 +1,16 @@
 -- A script that is played line by line: what is known between two lines, and how it ends.
-use Rattle.std.proofs.Common.{◌≡◌, ◌≢◌, ◌≤◌, ℕ, suc, ◌+◌, List, [], ◌∷◌, ◌++◌, length, Option, Some, None, IfSome, Result, Ok, Err, refl, sym, ap, subst, ◌∙◌, append_assoc, append-nil, length-append, inl, inr, arith}
+use Rattle.std.proofs.Common.{◌≡◌, ◌≢◌, ◌≤◌, ℕ, ◌+◌, List, [], ◌∷◌, ◌++◌, length, Option, Some, None, IfSome, Result, Ok, Err, refl, sym, ap, subst, ◌∙◌, append_assoc, append-nil, length-append, inl, inr, arith}
 use Rattle.std.specs.Prelude.{⊤}
 use Rattle.std.proofs.KnownBytes.{Appends-nil, Appends-trans, Appends-kept, Keeps-refl}
 use Rattle.std.specs.Io.KnownBytes.{Appends, Keeps, IsAtEnd}
 use Rattle.sng_book.specs.Events.{kind_of}
 use Rattle.sng_book.specs.Printing.{row_text}
-use Rattle.sng_book.specs.declared.out.Out.{Out}
 use Rattle.sng_book.specs.declared.row.Row.{Row}
 use Rattle.sng_history.specs.State.{opening, Leads}
 use Rattle.sng_history.specs.Lawful.{Lawful}
+use Rattle.sng_gateway.specs.declared.limits.TheConstants.{MAX_LINE}
 use Rattle.sng_gateway.specs.Lines.{line_of}
-use Rattle.sng_gateway.specs.Playing.{Standing, IsStep, IsPlayed, Comes}
+use Rattle.sng_gateway.specs.Playing.{Standing, IsPlayed, Comes}
 use Rattle.sng_gateway.specs.Scripts.{Writes, AllWrite, ArePlayed, StopsAt, BreaksOff, IsUnreadable, Finishes, IsHalt, IsOutcome, lines_of, unreadable_text}
 use Rattle.sng_gateway.specs.declared.status.Status.{Status}
 use Rattle.sng_gateway.specs.declared.status.Status.TheVariants as statuses
@@ -68,14 +68,14 @@ written rows before (lines.Event event) text after stands comes =
 
 -- one more line behind those that wrote
 AllWrite-more : (lines : List (List ℕ)) (bytes : List ℕ) (line : Line) (before between rows : List Row) (text more : List ℕ)
-    → line_of bytes ≡ Some line → AllWrite before lines text between → Writes between line more rows
+    → length bytes ≤ MAX_LINE → line_of bytes ≡ Some line → AllWrite before lines text between → Writes between line more rows
     → AllWrite before (lines ++ bytes ∷ []) (text ++ more) rows
-AllWrite-more [] bytes line before between rows text more read all writes =
+AllWrite-more [] bytes line before between rows text more few read all writes =
     let here = subst (λ h. Writes h line more rows) all.1 writes in
-    (line, more, rows, [], read, here, (refl, refl), ap (λ t. t ++ more) all.0 ∙ sym (append-nil more))
-AllWrite-more (first ∷ lines) bytes line before between rows text more read all writes =
-    let rest = AllWrite-more lines bytes line all.2 between rows all.3 more read all.6 writes in
-    (all.0, all.1, all.2, all.3 ++ more, all.4, all.5, rest, ap (λ t. t ++ more) all.7 ∙ append_assoc all.1 all.3 more)
+    (line, more, rows, [], few, read, here, (refl, refl), ap (λ t. t ++ more) all.0 ∙ sym (append-nil more))
+AllWrite-more (first ∷ lines) bytes line before between rows text more few read all writes =
+    let rest = AllWrite-more lines bytes line all.2 between rows all.3 more few read all.7 writes in
+    (all.0, all.1, all.2, all.3 ++ more, all.4, all.5, all.6, rest, ap (λ t. t ++ more) all.8 ∙ append_assoc all.1 all.3 more)
 
 pub starts : (script : List (List ℕ)) (held : Option (List ℕ)) (standing : Standing)
     → Leads opening [] standing.state → standing.rows ≡ 0 → UnderWay script script held held 1 standing
@@ -92,9 +92,9 @@ starts script held standing leads none = record {
 
 pub goes_on : (script left : List (List ℕ)) (bytes : List ℕ) (held between holds : Option (List ℕ)) (number : ℕ) (standing after : Standing)
     → UnderWay script (bytes ∷ left) held between number standing
-    → IsPlayed standing bytes between holds after
+    → length bytes ≤ MAX_LINE → IsPlayed standing bytes between holds after
     → UnderWay script left held holds (number + 1) after
-goes_on script left bytes held between holds number standing after way played =
+goes_on script left bytes held between holds number standing after way few played =
     let wrote = written way.rows standing played.line played.text after way.stands played.comes in
     record {
       before = way.before ++ bytes ∷ [];
@@ -102,7 +102,7 @@ goes_on script left bytes held between holds number standing after way played =
       rows = wrote.now;
       split = way.split ∙ sym (append_assoc way.before (bytes ∷ []) left);
       stands = wrote.stands;
-      written = AllWrite-more way.before bytes played.line [] way.rows wrote.now way.text played.text played.read way.written wrote.writes;
+      written = AllWrite-more way.before bytes played.line [] way.rows wrote.now way.text played.text few played.read way.written wrote.writes;
       grown = Appends-trans held between holds way.text played.text way.grown played.written;
       numbered = omega (arith, way.numbered, length-append way.before (bytes ∷ []));
     }
@@ -163,14 +163,14 @@ GoesOn-start None held standing leads none = tt
 GoesOn-start (Some bytes) held standing leads none = starts (lines_of bytes) held standing leads none
 
 pub GoesOn-line : (input left rest held between holds : Option (List ℕ)) (line : List ℕ) (number : ℕ) (standing after : Standing)
-    → GoesOn input left held between number standing → IsFirstLine left rest line → IsPlayed standing line between holds after
+    → GoesOn input left held between number standing → IsFirstLine left rest line → length line ≤ MAX_LINE → IsPlayed standing line between holds after
     → GoesOn input rest held holds (number + 1) after
-GoesOn-line None left rest held between holds line number standing after way first played = tt
-GoesOn-line (Some bytes) None rest held between holds line number standing after way first played = absurd way
-GoesOn-line (Some bytes) (Some here) None held between holds line number standing after way first played = absurd first
-GoesOn-line (Some bytes) (Some here) (Some later) held between holds line number standing after way first played =
+GoesOn-line None left rest held between holds line number standing after way first few played = tt
+GoesOn-line (Some bytes) None rest held between holds line number standing after way first few played = absurd way
+GoesOn-line (Some bytes) (Some here) None held between holds line number standing after way first few played = absurd first
+GoesOn-line (Some bytes) (Some here) (Some later) held between holds line number standing after way first few played =
     goes_on (lines_of bytes) (lines_of later) line held between holds number standing after
-    (subst (λ l. UnderWay (lines_of bytes) l held between number standing) first way) played
+    (subst (λ l. UnderWay (lines_of bytes) l held between number standing) first way) few played
 
 -- the input has ended
 pub Halts-end : (input left held holds : Option (List ℕ)) (number : ℕ) (standing : Standing)

@@ -1,9 +1,10 @@
 -- What a whole script comes to: the rows that its lines make, and the text that is written of them.
-use Rattle.std.specs.Prelude.{ℕ, ◌≡◌, ◌⊎◌, ◌+◌, ◌==◌, ◌<◌, nat_le, List, [], ◌∷◌, ◌++◌, length, if◌then◌else◌, codes, Option, Some, None, Result, Ok, Err, ⊤}
+use Rattle.std.specs.Prelude.{ℕ, ◌≡◌, ◌⊎◌, ◌+◌, ◌==◌, ◌<◌, ◌≤◌, List, [], ◌∷◌, ◌++◌, length, if◌then◌else◌, codes, Option, Some, None, Result, Ok, Err, ⊤}
 use Rattle.std.specs.Fmt.{decimal}
 use Rattle.std.specs.Io.KnownBytes.{Appends, Keeps}
 use Rattle.sng_book.specs.Events.{kind_of}
 use Rattle.sng_book.specs.Printing.{row_text}
+use Rattle.sng_book.specs.declared.event.Event.{Event}
 use Rattle.sng_book.specs.declared.out.Out.{Out}
 use Rattle.sng_book.specs.declared.row.Row.{Row}
 use Rattle.sng_history.specs.State.{opening}
@@ -28,22 +29,27 @@ abbrev pub lines_of : List ℕ → List (List ℕ)
 lines_of [] = []
 lines_of (byte ∷ bytes) = if byte == 10 then [] ∷ lines_of bytes else onto_first byte (lines_of bytes)
 
--- the line, after the rows before it, the newest first, writes the text, and there are these rows then: those
--- before, and of an event its own, brought by worker 0 and printed under its number from 1
-abbrev pub Writes : List Row → Line → List ℕ → List Row → Type 0
-Writes before lines.Empty text rows = (text ≡ []) × (rows ≡ before)
-Writes before (lines.Event event) text rows =
+-- the event, after the rows before it, the newest first, makes one row more, brought by worker 0, and writes
+-- that row, printed under its number from 1
+abbrev pub WritesRow : List Row → Event → List ℕ → List Row → Type 0
+WritesRow before event text rows =
     (outs : List Out)
     × (rows ≡ record { by = 0; event = event; outs = outs } ∷ before)
     × (text ≡ row_text (length rows) 0 (kind_of event) outs)
+
+-- the line writes the text after the rows before it, and these are the rows then: an event makes a row; a
+-- policy that is refused is told, and makes none
+abbrev pub Writes : List Row → Line → List ℕ → List Row → Type 0
+Writes before lines.Empty text rows = (text ≡ []) × (rows ≡ before)
+Writes before (lines.Event event) text rows = WritesRow before event text rows
 Writes before (lines.Refused fault) text rows = (text ≡ refused_text fault) × (rows ≡ before)
 
--- the lines, each of which can be read, write the text in turn
+-- the lines, each of which can be read and is not too long, write the text in turn
 abbrev pub AllWrite : List Row → List (List ℕ) → List ℕ → List Row → Type 0
 AllWrite before [] text rows = (text ≡ []) × (rows ≡ before)
 AllWrite before (bytes ∷ rest) text rows =
     (line : Line) × (first : List ℕ) × (between : List Row) × (more : List ℕ)
-    × (line_of bytes ≡ Some line) × Writes before line first between
+    × (length bytes ≤ MAX_LINE) × (line_of bytes ≡ Some line) × Writes before line first between
     × AllWrite between rest more rows × (text ≡ first ++ more)
 
 -- the lines are played from the opening state: their text, and the rows, the newest first, which are lawful

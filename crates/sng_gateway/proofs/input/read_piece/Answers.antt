@@ -1,4 +1,4 @@
-use Rattle.std.proofs.Common.{◌≡◌, ◌++◌, ◌<◌, ◌+◌, length, take, drop, take-append-drop, append-nil, sym, Err, rules, arith}
+use Rattle.std.proofs.Common.{◌≡◌, ◌<◌, ◌+◌, length, take, drop, take-append-drop, append-nil, sym, Err, rules}
 use Rattle.sng_gateway.specs.declared.limits.TheConstants.{MAX_LINE}
 use Rattle.sng_gateway.specs.declared.player.Stop.TheVariants.{Unreadable}
 use Rattle.sng_gateway.specs.Input.{IsWithinLine}
