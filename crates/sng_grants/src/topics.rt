@@ -1,5 +1,5 @@
 //! Predefined topics, found by topic id and by name (MQTT-SN 1.2, 6.7).
-ghost use Rattle.std.specs.Prelude.{◌≡◌, ◌≤◌, ℕ, List, [], length, IfOk};
+ghost use Rattle.std.specs.Prelude.{◌≡◌, ◌≤◌, ◌↔◌, ℕ, List, [], length, IsTrue, IfOk};
 ghost use Rattle.std.specs.HashMap.{get};
 ghost use Rattle.std.specs.Option.{option_copied};
 ghost use Rattle.std.specs.Str.{bytes_eq};
@@ -52,6 +52,21 @@ impl Topics {
     {
         let ids = ids_of(alloc, &names)?;
         Ok(Topics { names, ids })
+    }
+
+    /// How many topic ids are predefined. Takes no memory.
+    pub fn len(&self) -> usize
+        ensures len { result ≡ length self.now }
+        ensures few { length self.now ≤ MAX_TOPICS }
+    {
+        self.names.len()
+    }
+
+    /// Whether no topic id is predefined.
+    pub fn is_empty(&self) -> bool
+        ensures { IsTrue result ↔ (self.now ≡ []) }
+    {
+        self.names.is_empty()
     }
 
     /// The topic name of the id, where it is predefined. Takes no memory.

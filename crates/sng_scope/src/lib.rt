@@ -13,5 +13,10 @@ mod scope_form;
 mod topic_id;
 
 pub use fault::PolicyFault;
+pub use json_text::value_from;
+pub use members::{is_known, is_version_one};
+pub use permissions::says;
 pub use read::{read_policy, read_scope};
+pub use scope_form::bytes_from;
 pub use sng_grants::{Clients, Pair, Policy, Scope, Sources, Topics};
+pub use topic_id::topic_id_from;

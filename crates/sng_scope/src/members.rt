@@ -53,7 +53,8 @@ fn is_policy_object(value: &Value) -> bool
     }
 }
 
-fn is_version_one(value: &Value) -> bool
+/// Whether the value has the member `version`, the whole number 1.
+pub fn is_version_one(value: &Value) -> bool
     ensures { result ≡ is_version_one (view value.now) }
 {
     match value.get("version").and_then(Value::as_u64) {
@@ -74,7 +75,8 @@ fn are_known(members: &Map<String, Value>) -> bool
     true
 }
 
-fn is_known(name: &str) -> bool
+/// Whether a policy may have a member of this name.
+pub fn is_known(name: &str) -> bool
     ensures { result ≡ is_known name.now }
 {
     name == "version" || name == "clients" || name == "sources" || name == "topics"

@@ -42,7 +42,7 @@ pub fn has_text(items: &[Value], text: &str) -> bool
 }
 
 /// Whether the value is this text.
-fn says(value: &Value, text: &str) -> bool
+pub fn says(value: &Value, text: &str) -> bool
     ensures { result ≡ says text.now (view value.now) }
 {
     match value.as_str() {

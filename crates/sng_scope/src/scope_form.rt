@@ -39,7 +39,8 @@ fn scope_of_encoded(alloc: Global, text: &str) -> Result<Scope, PolicyFault>
     }
 }
 
-fn bytes_from(alloc: Global, text: &str) -> Result<Vec<u8>, PolicyFault>
+/// The bytes that the text of unpadded base64url stands for.
+pub fn bytes_from(alloc: Global, text: &str) -> Result<Vec<u8>, PolicyFault>
     ensures ok { IfOk result (λ bytes. bytes_of text.now ≡ Ok bytes.items) }
     ensures err { IfErr result (λ e. (e ≡ PolicyFault.Memory) ⊎ (bytes_of text.now ≡ Err e)) }
 {

@@ -1,0 +1,4 @@
+pub mod Flaws
+pub mod ScopePlaces
+pub mod Places
+pub mod Laws

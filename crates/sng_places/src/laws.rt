@@ -1,0 +1,8 @@
+//! Laws of the definitions that the contracts cite. Each function does nothing: its contract is the law.
+ghost use Rattle.sng_places.specs.Laws.{PlacesAreOfFaults};
+
+/// A place is found exactly where `sng_scope::read_policy` answers a fault, and what is wrong there is of
+/// that fault.
+pub fn places_are_of_faults()
+    ensures { PlacesAreOfFaults }
+{}

@@ -1,0 +1,18 @@
+//! Where a policy text has its first fault, and what is wrong there. Whether it has one, and which, is what
+//! `sng_scope::read_policy` answers: a law joins the two.
+#![tactic(auto)]
+
+mod entries;
+pub mod flaw;
+pub mod laws;
+mod pair;
+pub mod place;
+mod policy;
+mod scope;
+mod stop;
+mod text;
+
+pub use flaw::Flaw;
+pub use place::{Form, Part, Place, Spot};
+pub use policy::check_policy;
+pub use stop::{Found, Stop};
