@@ -18,6 +18,8 @@ pub enum Chosen<'a> {
     Cover,
     /// Answers what a policy says to a question.
     May(MayWords<'a>),
+    /// Checks the policy of the file, and that of standard input where there is none.
+    Policy(Option<&'a str>),
 }
 
 /// The words of a question to a policy.
@@ -44,11 +46,13 @@ pub fn read_command(alloc: Global, words: &[String]) -> Result<Chosen<'_>, Error
         .subcommand_required(true)
         .subcommand(play)?
         .subcommand(cover_command(alloc)?)?
-        .subcommand(may_command(alloc)?)?;
+        .subcommand(may_command(alloc)?)?
+        .subcommand(policy_command(alloc)?)?;
     let matches = command.try_get_matches_from(words)?;
     match matches.subcommand() {
         Some(("cover", _)) => Ok(Chosen::Cover),
         Some(("may", asked)) => Ok(Chosen::May(may_words(asked))),
+        Some(("policy", asked)) => Ok(Chosen::Policy(asked.get_str("FILE"))),
         _ => Ok(Chosen::Play),
     }
 }
@@ -109,6 +113,15 @@ fn may_command<'a>(alloc: Global) -> Result<Command<'a>, AllocError> {
         .arg(client)?
         .arg(action)?
         .arg(object)
+}
+
+fn policy_command<'a>(alloc: Global) -> Result<Command<'a>, AllocError> {
+    let file = Arg::new(alloc, "FILE")
+        .help("The file of the policy; standard input where there is none")
+        .action(ArgAction::Set);
+    Command::new(alloc, "policy")
+        .about("Checks a policy, and shows where its first fault stands")
+        .arg(file)
 }
 
 /// The filters among the words of `sng cover ..`, as they came: all but the first two, and but the first `--`

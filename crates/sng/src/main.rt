@@ -2,7 +2,9 @@
 #![tactic(auto)]
 
 mod command;
+mod file;
 mod may;
+mod policy;
 mod report;
 mod words;
 
@@ -26,6 +28,7 @@ fn main(rt: HostRuntime) -> ExitCode {
                 cover_words(rt.alloc(), filters.as_slice(), io::writer(&rt))
             }
             Ok(Chosen::May(asked)) => may::answer(&rt, words.as_slice(), &asked),
+            Ok(Chosen::Policy(path)) => policy::check(&rt, words.as_slice(), path),
             Err(error) => report(&rt, &error),
         },
         Err(AllocError) => out_of_memory(&rt),

@@ -1,16 +1,15 @@
-//! `sng may ..`: its words, the file of its policy, and what is printed where there is no answer.
+//! `sng may ..`: its words, and what is printed where there is no answer.
 use crate::command::MayWords;
+use crate::file::{file_text, first_no_text, report_file, report_word};
 use crate::report::out_of_memory;
 use sng_gateway::Status;
 use sng_gateway::ask::{Ask, AskFault, client_ask, source_ask};
 use sng_gateway::ending::ended;
-use sng_gateway::file::read_text;
 use sng_gateway::may::may;
 use sng_text::Octets;
 use std::alloc::Global;
-use std::io::{Error, ErrorKind};
+use std::io;
 use std::rt::Files;
-use std::{fs, io, str};
 
 /// Answers the question of the words by the policy in their file.
 pub fn answer<R: Files + Print + Eprint + AllocGlobal>(
@@ -19,8 +18,7 @@ pub fn answer<R: Files + Print + Eprint + AllocGlobal>(
     asked: &MayWords<'_>,
 ) -> Status {
     if let Some(place) = first_no_text(words) {
-        let printed = println!(rt; "bad word {place}");
-        return ended(Status::Unreadable, printed.is_ok());
+        return report_word(rt, place);
     }
     match ask_of(rt.alloc(), asked) {
         Ok(ask) => answer_by_file(rt, &ask, asked.policy),
@@ -36,13 +34,6 @@ fn answer_by_file<R: Files + Print + AllocGlobal>(rt: &R, ask: &Ask, path: &str)
     }
 }
 
-/// The place of the first word that is not UTF-8, where the program's name has the place 0.
-fn first_no_text(words: &[Octets]) -> Option<usize> {
-    words
-        .iter()
-        .position(|word| str::from_utf8(word.as_slice()).is_err())
-}
-
 fn ask_of(alloc: Global, asked: &MayWords<'_>) -> Result<Ask, AskFault> {
     let first = asked.first.as_bytes();
     let second = asked.second.as_bytes();
@@ -51,10 +42,6 @@ fn ask_of(alloc: Global, asked: &MayWords<'_>) -> Result<Ask, AskFault> {
         (None, Some(object)) => client_ask(alloc, first, second, object.as_bytes()),
         (None, None) => Err(AskFault::Action),
     }
-}
-
-fn file_text<R: Files + AllocGlobal>(rt: &R, path: &str) -> io::Result<Vec<u8>> {
-    read_text(rt.alloc(), fs::open(rt, path)?)
 }
 
 /// Prints what is wrong with a question.
@@ -72,14 +59,5 @@ fn report_ask<R: Print + Eprint>(rt: &R, fault: AskFault) -> Status {
         AskFault::Name => rt.println("bad name"),
         AskFault::Filter => rt.println("bad filter"),
     };
-    ended(Status::Unreadable, printed.is_ok())
-}
-
-/// Prints why a file was not read.
-fn report_file<R: Print>(rt: &R, path: &str, error: &Error) -> Status {
-    if error.kind() == ErrorKind::OutOfMemory {
-        return out_of_memory(rt);
-    }
-    let printed = println!(rt; "cannot read {path}: {error}");
     ended(Status::Unreadable, printed.is_ok())
 }
