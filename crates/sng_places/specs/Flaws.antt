@@ -2,7 +2,7 @@
 use Rattle.sng_scope.specs.declared.fault.PolicyFault.{PolicyFault}
 use Rattle.sng_scope.specs.declared.fault.PolicyFault.TheVariants as faults
 use Rattle.sng_places.specs.declared.flaw.Flaw.{Flaw}
-use Rattle.sng_places.specs.declared.flaw.Flaw.TheVariants.{NotJson, NotObject, NoVersion, OtherVersion, UnknownMember, NotScope, NotPair, NotArray, NotText, Base64, Filter, Permission, ClientId, Source, TopicId, TopicName, TooMany}
+use Rattle.sng_places.specs.declared.flaw.Flaw.TheVariants.{NotJson, NotObject, NoVersion, OtherVersion, UnknownMember, NotScope, NotPair, NotArray, NotText, Base64, NotEncodedJson, Filter, Permission, ClientId, Source, TopicId, TopicName, TooMany}
 
 abbrev pub fault_of : Flaw → PolicyFault
 fault_of NotJson = faults.NotJson
@@ -15,6 +15,7 @@ fault_of NotPair = faults.Shape
 fault_of NotArray = faults.Shape
 fault_of NotText = faults.Shape
 fault_of (Base64 text) = faults.BadBase64
+fault_of (NotEncodedJson text) = faults.NotJson
 fault_of (Filter text fault) = faults.BadFilter
 fault_of (Permission text) = faults.BadPermission
 fault_of (ClientId fault) = faults.BadClientId

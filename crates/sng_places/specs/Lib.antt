@@ -1,4 +1,5 @@
 pub mod Flaws
 pub mod ScopePlaces
 pub mod Places
+pub mod Order
 pub mod Laws

@@ -96,7 +96,7 @@ or_stop (Err fault) stop = Err stop
 abbrev pub encoded_check : List ℕ → Result Unit ScopeStop
 encoded_check text = do
   bytes ← or_stop (bytes_of text) (stop_at Plain Whole (flaws.Base64 text))
-  value ← or_stop (value_of bytes) (stop_at Encoded Whole flaws.NotJson)
+  value ← or_stop (value_of bytes) (stop_at Plain Whole (flaws.NotEncodedJson text))
   ds ← ok_or (as_array value) (stop_at Encoded Whole flaws.NotArray)
   items_check Encoded ds
 

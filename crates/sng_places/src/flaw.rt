@@ -9,7 +9,7 @@ use sng_text::{Octets, TextFault};
 /// of a name stands in its place.
 #[derive(Debug, Drop)]
 pub enum Flaw {
-    /// Not JSON in UTF-8 (RFC 8259).
+    /// The whole text is not JSON in UTF-8 (RFC 8259).
     NotJson,
     /// Not an object.
     NotObject,
@@ -29,6 +29,8 @@ pub enum Flaw {
     NotText,
     /// The text is not base64url without padding (RFC 4648, 5).
     Base64(Octets),
+    /// The text is base64url of bytes that are not JSON.
+    NotEncodedJson(Octets),
     /// The text is not a topic filter, for this reason (MQTT 3.1.1, 4.7).
     Filter(Octets, TextFault),
     /// The text is neither `pub` nor `sub` (RFC 9431, 2.3).
@@ -51,7 +53,7 @@ impl Flaw {
         ensures { result ≡ fault_of self.now }
     {
         match self {
-            Flaw::NotJson => PolicyFault::NotJson,
+            Flaw::NotJson | Flaw::NotEncodedJson(_) => PolicyFault::NotJson,
             Flaw::NotObject
             | Flaw::NoVersion
             | Flaw::OtherVersion

@@ -1,8 +1,14 @@
 //! Laws of the definitions that the contracts cite. Each function does nothing: its contract is the law.
-ghost use Rattle.sng_places.specs.Laws.{PlacesAreOfFaults};
+ghost use Rattle.sng_places.specs.Laws.{PlacesAreOfFaults, TestsAreInOrder};
 
 /// A place is found exactly where `sng_scope::read_policy` answers a fault, and what is wrong there is of
 /// that fault.
 pub fn places_are_of_faults()
     ensures { PlacesAreOfFaults }
+{}
+
+/// The search goes through the tests of a policy in the documented order, which `specs/Order` lists, and ends
+/// at the first that fails: everything before it passes.
+pub fn tests_are_in_order()
+    ensures { TestsAreInOrder }
 {}

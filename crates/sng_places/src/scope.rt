@@ -43,7 +43,9 @@ fn check_encoded(alloc: Global, text: &str) -> Result<(), ScopeStop>
         Ok(value) => value,
         Err(PolicyFault::Memory) => return Err(ScopeStop::Memory),
         Err(_) => {
-            return Err(ScopeStop::at(Form::Encoded, Spot::Whole, Flaw::NotJson));
+            let text = octets(alloc, text)?;
+            let flaw = Flaw::NotEncodedJson(text);
+            return Err(ScopeStop::at(Form::Plain, Spot::Whole, flaw));
         }
     };
     match value.as_array() {
