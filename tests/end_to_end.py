@@ -4,8 +4,9 @@
 Runs the program over everything that a text can show: each script of tests/scripts through `sng play`, with
 its whole output and exit status (NAME.expected; NAME.status, where it is not 0); the lines of
 tests/lines.table, which cannot be read; the policy texts of policy_texts.py; the questions of
-tests/cover.table and tests/may.table; command lines, good and bad; output that cannot be written; a line
-without end under a limit of memory. A search over names (cover_search.py) answers the first table of
+tests/cover.table and tests/may.table; the reports on policy texts of policy_reports.py, with their warnings
+where the proved program runs; command lines, good and bad; output that cannot be written; a line without end
+under a limit of memory. A search over names (cover_search.py) answers the first table of
 questions too. Uses the proved program where one lies in crates/sng/out that is newer than every source, and
 else one build without proof, which leaves out what it cannot run, and says what.
 """
@@ -20,6 +21,7 @@ import sys
 import tempfile
 
 sys.dont_write_bytecode = True
+import policy_reports
 import policy_texts
 
 HERE = os.path.dirname(os.path.abspath(__file__))
@@ -36,8 +38,9 @@ MAX_LINE = 64 * 1024 * 1024
 MEMORY = 512 * 1024 * 1024
 SHORT = 16 * 1024 * 1024
 
-# A run of the program: standard input, the exit status, and standard output, where it is compared
-Case = collections.namedtuple('Case', 'name words given status expected')
+# A run of the program: standard input, the exit status, and standard output and standard error, where they
+# are compared
+Case = collections.namedtuple('Case', 'name words given status expected warned', defaults=(None,))
 ENDLESS = Case('a-line-without-end', ['play'], b'', 1, b'line 1: unreadable\n')
 
 
@@ -116,11 +119,28 @@ def questions_to_a_policy():
         yield Case('may-' + name, words, b'', status, printed)
 
 
+def checks():
+    """Policy texts that are checked, from standard input and from files."""
+    for report in policy_reports.reports():
+        yield Case('policy-' + report.name, ['policy'], report.text, report.status, report.printed,
+                   report.warned)
+    for name, words, status, printed in (
+            ('of-a-file', ['policy', POLICY], 0, b'policy ok: 3 clients, 1 sources, 1 topics\n'),
+            ('that-is-no-json', ['policy', 'cover.table'], 1,
+             b'refused policy 1 NotJson\n%s\nat line 1, column 1: not JSON\n'
+             % policy_reports.SENTENCES['1 NotJson'].encode()),
+            ('that-is-not-there', ['policy', 'no-such.json'], 1, NO_FILE),
+            ('not-utf8', ['policy', b'b/\xff/c'], 1, b'bad word 2\n'),
+            ('of-two-files', ['policy', POLICY, POLICY], 2, b''),
+            ('with-no-such-option', ['policy', '--x'], 2, b'')):
+        yield Case('policy-' + name, words, b'', status, printed)
+
+
 def command_lines():
     for name, words in (('nothing', []), ('no-such-command', ['nonsense']), ('cover-nothing', ['cover']),
                         ('play-with-a-word', ['play', 'x']), ('no-such-option', ['cover', '--x', 'a'])):
         yield Case('command-line-' + name, words, b'', 2, b'')
-    for words in (['--help'], ['cover', '--help'], ['may', '--help'], ['help']):
+    for words in (['--help'], ['cover', '--help'], ['may', '--help'], ['policy', '--help'], ['help']):
         yield Case('-'.join(words).replace('--', ''), words, b'', 0, None)
 
 
@@ -128,6 +148,7 @@ def cases():
     yield from scripts()
     yield from questions()
     yield from questions_to_a_policy()
+    yield from checks()
     yield from command_lines()
 
 
@@ -136,21 +157,22 @@ def lost():
     yield Case('help-that-is-lost', ['--help'], b'', 4, None)
     yield Case('an-answer-that-is-lost', ['cover', 'a', '#'], b'', 4, None)
     yield Case('a-row-that-is-lost', ['play'], b'up\n', 4, None)
+    yield Case('a-report-that-is-lost', ['policy'], b'{}', 4, None)
 
 
-def is_as_wanted(case, status, printed):
-    if status == case.status and case.expected in (None, printed):
+def is_as_wanted(case, status, printed, warned=None):
+    if status == case.status and case.expected in (None, printed) and case.warned in (None, warned):
         return True
-    print('  %s wanted' % case.name, case.status, (case.expected or b'')[:500])
-    print('  found', status, printed[:500])
+    print('  %s wanted' % case.name, case.status, (case.expected or b'')[:500], (case.warned or b'')[:500])
+    print('  found', status, printed[:500], (warned or b'')[:500])
     return False
 
 
 def run_proved(case, output=subprocess.PIPE):
-    """The exit status and the output of the proved program."""
+    """The exit status of the proved program, and what it prints on standard output and standard error."""
     done = subprocess.run([PROVED] + case.words, cwd=HERE, input=case.given, stdout=output,
-                          stderr=subprocess.DEVNULL, timeout=SECONDS)
-    return done.returncode, done.stdout or b''
+                          stderr=subprocess.PIPE, timeout=SECONDS)
+    return done.returncode, done.stdout or b'', done.stderr
 
 
 def limit_memory():

@@ -1,11 +1,15 @@
 //! `sng policy ..`: the text that it checks.
 use crate::file::{file_text, first_no_text, report_file, report_word};
+use crate::report::out_of_memory;
 use sng_gateway::Status;
+use sng_gateway::ending::end;
 use sng_gateway::file::read_text;
-use sng_gateway::report::report;
+use sng_gateway::report::report_of;
 use sng_text::Octets;
-use std::io;
+use std::alloc::AllocError;
+use std::io::Write;
 use std::rt::Files;
+use std::{io, str};
 
 /// Checks the policy text of the file, and of standard input where there is none.
 pub fn check<R: Files + Input + Print + Eprint + AllocGlobal>(
@@ -21,7 +25,23 @@ pub fn check<R: Files + Input + Print + Eprint + AllocGlobal>(
         None => ("standard input", read_text(rt.alloc(), rt.reader())),
     };
     match text {
-        Ok(text) => report(rt.alloc(), text.as_slice(), io::writer(rt)),
+        Ok(text) => print_report(rt, text.as_slice()),
         Err(error) => report_file(rt, name, &error),
+    }
+}
+
+/// Prints what the check of the text comes to, and its warnings on standard error. A warning that cannot be
+/// printed changes nothing.
+fn print_report<R: Print + Eprint + AllocGlobal>(rt: &R, text: &[u8]) -> Status {
+    match report_of(rt.alloc(), text) {
+        Ok(report) => {
+            if let Ok(warnings) = str::from_utf8(report.warnings.as_slice()) {
+                let _ = rt.eprint(warnings);
+            }
+            let mut output = io::writer(rt);
+            let printed = output.write_all(report.lines.as_slice());
+            end(report.status, printed, &mut output)
+        }
+        Err(AllocError) => out_of_memory(rt),
     }
 }

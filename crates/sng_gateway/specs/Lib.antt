@@ -4,5 +4,6 @@ pub mod Covers
 pub mod Asks
 pub mod Answers
 pub mod Places
+pub mod Warnings
 pub mod Reports
 pub mod Laws

@@ -26,7 +26,7 @@ pub fn push_flaw(line: &mut Vec<u8>, place: &Place, flaw: &Flaw) -> Result<(), A
         | Flaw::NotText
         | Flaw::Source
         | Flaw::TopicId => line.extend_from_slice(words_of(flaw).as_bytes()),
-        Flaw::Base64(text) | Flaw::Permission(text) => {
+        Flaw::Base64(text) | Flaw::NotEncodedJson(text) | Flaw::Permission(text) => {
             push_quoted(line, text.as_slice())?;
             line.extend_from_slice(words_of(flaw).as_bytes())
         }
@@ -61,6 +61,7 @@ fn words_of(flaw: &Flaw) -> &'static str
         Flaw::NotArray => "not an array",
         Flaw::NotText => "not a text",
         Flaw::Base64(_) => "not base64url without padding",
+        Flaw::NotEncodedJson(_) => "base64url of what is not JSON",
         Flaw::Filter(_, _) => "not a topic filter",
         Flaw::Permission(_) => "neither pub nor sub",
         Flaw::ClientId(_) => "not a client id: ",

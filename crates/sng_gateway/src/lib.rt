@@ -20,6 +20,7 @@ pub mod report;
 pub mod script;
 mod sender;
 pub mod status;
+mod warnings;
 
 pub use limits::{MAX_LINE, MAX_READS};
 pub use script::{Line, LineFault, line_of};

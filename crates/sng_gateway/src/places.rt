@@ -44,7 +44,8 @@ fn push_position(line: &mut Vec<u8>, position: Position) -> Result<(), AllocErro
     push_decimal(line, position.column as u64)
 }
 
-fn push_place(line: &mut Vec<u8>, place: &Place) -> Result<(), AllocError>
+/// Appends the place.
+pub fn push_place(line: &mut Vec<u8>, place: &Place) -> Result<(), AllocError>
     ensures { OnOk result (line.new.items ≡ line.old.items ++ place_text place.now) }
 {
     match place {
@@ -111,7 +112,8 @@ fn push_spot(line: &mut Vec<u8>, spot: Spot) -> Result<(), AllocError>
     }
 }
 
-fn push_index(line: &mut Vec<u8>, place: usize) -> Result<(), AllocError>
+/// Appends a place in an array, from 0.
+pub fn push_index(line: &mut Vec<u8>, place: usize) -> Result<(), AllocError>
     ensures { OnOk result (line.new.items ≡ line.old.items ++ index_text place) }
 {
     line.extend_from_slice(b"[")?;

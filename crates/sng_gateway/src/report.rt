@@ -6,43 +6,52 @@ ghost use Rattle.sng_places.specs.declared.position.Position.{Position};
 ghost use Rattle.sng_gateway.specs.Reports.{accepted_text, fault_report, stop_text, report_text, report_status};
 
 use crate::Status;
-use crate::ending::end;
 use crate::flaws::push_count;
 use crate::may::push_refused;
 use crate::places::push_found;
+use crate::warnings::warning_lines;
 use sng_grants::Policy;
 use sng_places::{Position, Stop, check_policy};
 use sng_scope::{PolicyFault, read_policy};
 use std::alloc::{AllocError, Global};
-use std::io::Write;
 
-/// Prints what the check of the text comes to, and flushes: how much the policy lists, or its first fault by
-/// its name and its sentence, and where it stands.
-pub fn report<W: Write + Drop>(alloc: Global, text: &[u8], mut output: W) -> Status {
-    let (printed, status) = match report_lines(alloc, text) {
-        Ok((lines, status)) => (output.write_all(lines.as_slice()), status),
-        Err(AllocError) => (output.write_all(b"out of memory\n"), Status::OutOfMemory),
-    };
-    end(status, printed, &mut output)
+/// What the check of a policy text comes to.
+#[derive(Debug, Drop)]
+pub struct Report {
+    /// How much the policy lists, or its first fault by its name and its sentence, and where it stands.
+    pub lines: Vec<u8>,
+    /// What of an accepted policy is surely not meant.
+    pub warnings: Vec<u8>,
+    /// How the command comes out.
+    pub status: Status,
 }
 
-/// The lines that are printed of the text, and how the command comes out. Only memory can fail.
-pub fn report_lines(alloc: Global, text: &[u8]) -> Result<(Vec<u8>, Status), AllocError>
-    ensures text { IfOk result (λ lines. (position : Position)
-        × (lines.0.items ≡ report_text position (policy_of text.now) (text_check text.now))) }
-    ensures status { IfOk result (λ lines. lines.1 ≡ report_status (policy_of text.now)) }
+/// What the check of the text comes to. Only memory can fail.
+pub fn report_of(alloc: Global, text: &[u8]) -> Result<Report, AllocError>
+    ensures lines { IfOk result (λ report. (position : Position)
+        × (report.lines.items ≡ report_text position (policy_of text.now) (text_check text.now))) }
+    ensures status { IfOk result (λ report. report.status ≡ report_status (policy_of text.now)) }
 {
     let mut lines = Vec::new(alloc);
     match read_policy(alloc, text) {
         Ok(policy) => {
             push_accepted(&mut lines, &policy)?;
-            Ok((lines, Status::Done))
+            let warnings = warning_lines(alloc, text, &policy)?;
+            Ok(Report {
+                lines,
+                warnings,
+                status: Status::Done,
+            })
         }
         Err(PolicyFault::Memory) => Err(AllocError),
         Err(fault) => {
             let position = position_of(alloc, text, fault)?;
             push_report(alloc, &mut lines, text, fault, position)?;
-            Ok((lines, Status::Unreadable))
+            Ok(Report {
+                lines,
+                warnings: Vec::new(alloc),
+                status: Status::Unreadable,
+            })
         }
     }
 }

@@ -1,3 +1,4 @@
 pub mod ItemLemmas
 pub mod FaultLemmas
 pub mod OrderLemmas
+pub mod StandingLemmas

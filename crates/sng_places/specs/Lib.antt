@@ -2,4 +2,5 @@ pub mod Flaws
 pub mod ScopePlaces
 pub mod Places
 pub mod Order
+pub mod Standing
 pub mod Laws

@@ -1,5 +1,6 @@
 //! Laws of the definitions that the contracts cite. Each function does nothing: its contract is the law.
 ghost use Rattle.sng_places.specs.Laws.{PlacesAreOfFaults, TestsAreInOrder};
+ghost use Rattle.sng_places.specs.Standing.{ValuesStand};
 
 /// A place is found exactly where `sng_scope::read_policy` answers a fault, and what is wrong there is of
 /// that fault.
@@ -11,4 +12,9 @@ pub fn places_are_of_faults()
 /// at the first that fails: everything before it passes.
 pub fn tests_are_in_order()
     ensures { TestsAreInOrder }
+{}
+
+/// Each value that is tested is the one that stands at the place of its test.
+pub fn values_stand()
+    ensures { ValuesStand }
 {}

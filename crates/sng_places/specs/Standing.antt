@@ -1,0 +1,54 @@
+-- Which value stands at a place of a policy.
+use Rattle.std.specs.Prelude.{◌≡◌, ◌⊎◌, ℕ, List, Option, Some, None, option_and_then, Ok, codes, All}
+use Rattle.serde_json.specs.Data.{Data, string, Members, no_members, member}
+use Rattle.serde_json.specs.Find.{at, get}
+use Rattle.sng_places.specs.Order.{Test, held_by, members_in, tests_of, text_of}
+use Rattle.sng_places.specs.declared.place.Form.{Form}
+use Rattle.sng_places.specs.declared.place.Form.TheVariants.{Plain, Encoded}
+use Rattle.sng_places.specs.declared.place.Part.{Part}
+use Rattle.sng_places.specs.declared.place.Part.TheVariants.{Clients, Sources, Topics}
+use Rattle.sng_places.specs.declared.place.Place.{Place}
+use Rattle.sng_places.specs.declared.place.Place.TheVariants as places
+use Rattle.sng_places.specs.declared.place.Spot.{Spot}
+use Rattle.sng_places.specs.declared.place.Spot.TheVariants.{Whole, Pair, Filter, Permissions, Permission}
+
+-- the value at a spot: of a pair `[filter, permissions]` the filter has the place 0, the permissions 1
+abbrev pub value_at : Spot → Data → Option Data
+value_at Whole d = Some d
+value_at (Pair i) d = at i d
+value_at (Filter i) d = option_and_then (at 0) (at i d)
+value_at (Permissions i) d = option_and_then (at 1) (at i d)
+value_at (Permission i k) d = option_and_then (at k) (option_and_then (at 1) (at i d))
+
+-- what is written is the value, or is a text of base64url of it
+abbrev pub IsWritten : Form → Data → Data → Type 0
+IsWritten Plain written d = d ≡ written
+IsWritten Encoded written d = held_by (text_of written) ≡ Ok d
+
+-- a member of this name has this value
+abbrev pub HasMember : Members → List ℕ → Data → Type 0
+HasMember no_members name d = ⊥
+HasMember (member other e ms) name d = ((other ≡ name) × (e ≡ d)) ⊎ HasMember ms name d
+
+abbrev pub name_of : Part → List ℕ
+name_of Clients = codes "clients"
+name_of Sources = codes "sources"
+name_of Topics = codes "topics"
+
+-- a member of the part has this name and this value
+abbrev pub IsListed : Data → Part → List ℕ → Data → Type 0
+IsListed d part name e = (p : Data) × ((get (name_of part) d ≡ Some p) × HasMember (members_in p) name e)
+
+-- the value stands at the place of the policy; at a name it is the name, as a text
+abbrev pub Stands : Data → Place → Data → Type 0
+Stands d places.Whole v = v ≡ d
+Stands d places.Version v = get (codes "version") d ≡ Some v
+Stands d (places.Member name) v = (v ≡ string name) × ((e : Data) × HasMember (members_in d) name e)
+Stands d (places.Part part) v = get (name_of part) d ≡ Some v
+Stands d (places.Name part name) v = (v ≡ string name) × ((e : Data) × IsListed d part name e)
+Stands d (places.Value part name form spot) v =
+    (e : Data) × (IsListed d part name e × ((w : Data) × (IsWritten form e w × (value_at spot w ≡ Some v))))
+
+-- each value that is tested stands at the place of its test
+abbrev pub ValuesStand : Type 0
+ValuesStand = (d : Data) → All (λ t. Stands d t.place t.value) (tests_of d)

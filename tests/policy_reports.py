@@ -1,0 +1,95 @@
+"""policy_reports.py
+
+Policy texts with what `sng policy` prints of them, for end_to_end.py: those of tests/places.table and of
+tests/warnings.table, and those at the limits of a policy and one past them, which are too long for a table.
+"""
+import os
+from collections import namedtuple
+
+import policy_texts
+from policy_texts import CLIENTS, PAIRS, SOURCES, TOPICS, encoded, policy, scope
+
+HERE = os.path.dirname(os.path.abspath(__file__))
+FILTER, NAME, SHOWN = 200, 65535, 200
+# The sentence of each fault
+SENTENCES = {
+    '1 NotJson': 'the text is not JSON in UTF-8, or a scope given as a text does not decode to such JSON',
+    '2 Shape': 'the text is JSON, but not of the shape of a policy of version 1 or of a scope',
+    '3 BadFilter': 'a filter in a scope is not a valid topic filter, or is too long',
+    '4 BadPermission': 'a permission in a scope is neither `pub` nor `sub`',
+    '5 BadBase64': 'a scope given as a text is not base64url without padding',
+    '6 BadClientId': 'a name under `clients` is not a client id: it is empty, too long or has U+0000',
+    '7 BadSource': 'a name under `sources` is not an IPv4 address in decimal without leading zeros',
+    '8 BadTopicId': 'under `topics` a name is not a topic id without leading zeros, or its text is not a topic'
+                    ' name',
+    '9 TooMany': 'there are more clients, sources, topics or pairs in a scope than a policy may have',
+}
+
+# A policy text, the exit status, and what is printed on standard output and on standard error
+Report = namedtuple('Report', 'name text status printed warned')
+
+
+def lines(name):
+    with open(os.path.join(HERE, name), encoding='utf-8', newline='\n') as file:
+        for number, line in enumerate(file.read().split('\n')[:-1], 1):
+            if not line.startswith('#'):
+                yield '%s:%d' % (name, number), line
+
+
+def refused(name, fault, place, text):
+    printed = 'refused policy %s\n%s\nat %s\n' % (fault, SENTENCES[fault], place)
+    return Report(name, text.encode(), 1, printed.encode(), b'')
+
+
+def accepted(name, text, clients, sources, topics, warned):
+    printed = 'policy ok: %d clients, %d sources, %d topics\n' % (clients, sources, topics)
+    return Report(name, text.encode(), 0, printed.encode(), warned)
+
+
+def faults():
+    """The texts of the table that are refused."""
+    for name, line in lines('places.table'):
+        fault, place, text = line.split('|', 2)
+        yield refused(name, fault, place, text.replace('\\n', '\n'))
+
+
+def limits():
+    """Texts one past a limit, and one at all of them."""
+    long_filter, long_name = 'a' * (FILTER + 1), 'a' * (NAME + 1)
+    for name, place, text in (
+            ('clients', 'clients: 257 clients, at most 256', policy(clients=CLIENTS + 1)),
+            ('sources', 'sources: 257 sources, at most 256', policy(sources=SOURCES + 1)),
+            ('topics', 'topics: 1025 topics, at most 1024', policy(topics=TOPICS + 1)),
+            ('pairs', 'clients.c0: 65 pairs, at most 64', policy(1, scope(PAIRS + 1))),
+            ('decoded-pairs', 'clients.c0 (decoded): 65 pairs, at most 64',
+             policy(1, encoded(scope(PAIRS + 1))))):
+        yield refused('too-many-' + name, '9 TooMany', place, text)
+    yield refused('a-filter-of-201-bytes', '3 BadFilter',
+                  'clients.c0[0][0]: "%s..": 201 bytes, at most 200' % long_filter[:SHOWN],
+                  policy(1, '[["%s",["pub"]]]' % long_filter))
+    yield refused('a-name-of-65536-bytes', '8 BadTopicId',
+                  'topics.1: "%s..": 65536 bytes, at most 65535' % long_name[:SHOWN],
+                  '{"version":1,"topics":{"1":"%s"}}' % long_name)
+    yield accepted('at-the-limits', policy(CLIENTS, scope(PAIRS), SOURCES, TOPICS), CLIENTS, SOURCES, TOPICS,
+                   None)
+
+
+def warnings():
+    """The texts of the table that are accepted, with their warnings."""
+    for name, line in lines('warnings.table'):
+        said, text = line.split('|', 1)
+        warned = ''.join('warning: %s\n' % warning for warning in said.split(' ; ') if warning)
+        yield Report(name, text.encode(), 0, None, warned.encode())
+
+
+def all_texts():
+    """Each policy text of the tests of `sng play`: both commands accept or refuse it."""
+    for name, said, text in policy_texts.all_texts():
+        yield Report('check-' + name, text, 0 if said == policy_texts.ACCEPTED else 1, None, None)
+
+
+def reports():
+    yield from faults()
+    yield from limits()
+    yield from warnings()
+    yield from all_texts()
