@@ -13,7 +13,8 @@ HERE = os.path.dirname(os.path.abspath(__file__))
 FILTER, NAME, SHOWN = 200, 65535, 200
 # The sentence of each fault
 SENTENCES = {
-    '1 NotJson': 'the text is not JSON in UTF-8, or a scope given as a text does not decode to such JSON',
+    '1 NotJson': 'the text is not JSON in UTF-8, or a scope given as a text does not decode to such'
+                 ' JSON',
     '2 Shape': 'the text is JSON, but not of the shape of a policy of version 1 or of a scope',
     '3 BadFilter': 'a filter in a scope is not a valid topic filter, or is too long',
     '4 BadPermission': 'a permission in a scope is neither `pub` nor `sub`',
