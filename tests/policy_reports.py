@@ -21,8 +21,8 @@ SENTENCES = {
     '5 BadBase64': 'a scope given as a text is not base64url without padding',
     '6 BadClientId': 'a name under `clients` is not a client id: it is empty, too long or has U+0000',
     '7 BadSource': 'a name under `sources` is not an IPv4 address in decimal without leading zeros',
-    '8 BadTopicId': 'under `topics` a name is not a topic id without leading zeros, or its text is not a topic'
-                    ' name',
+    '8 BadTopicId': 'under `topics` a name is not a topic id without leading zeros, or its text is not a '
+                    'topic name',
     '9 TooMany': 'there are more clients, sources, topics or pairs in a scope than a policy may have',
 }
 

@@ -19,7 +19,7 @@ use Rattle.sng_places.specs.declared.place.Spot.TheVariants as spots
 use Rattle.sng_places.specs.declared.position.Position.{Position}
 use Rattle.sng_places.specs.declared.stop.Found.{Found}
 use Rattle.sng_book.specs.Printing.{name_text}
-use Rattle.sng_gateway.specs.declared.places.TheConstants.{MAX_SHOWN}
+use Rattle.sng_gateway.specs.declared.limits.TheConstants.{MAX_SHOWN}
 
 -- ---- places
 

@@ -3,7 +3,8 @@ ghost use Rattle.std.specs.Prelude.{◌≡◌, ◌++◌, OnOk, option_map, lengt
 ghost use Rattle.sng_text.specs.Levels.{levels_of};
 ghost use Rattle.sng_gateway.specs.Places.{shown_text, quoted_text, level_text, first_misplaced, misplaced_text, bytes_text, count_text, filter_text, topic_text, client_text, unit_text, words_of, many_text, flaw_text};
 
-use crate::places::{MAX_SHOWN, push_part};
+use crate::limits::MAX_SHOWN;
+use crate::places::push_part;
 use sng_book::print::{push_decimal, push_name};
 use sng_places::{Flaw, Place};
 use sng_text::bytes::{has_byte, is_hash, is_ordinary};

@@ -1,12 +1,13 @@
 //! Laws of the definitions that the contracts cite. Each function does nothing: its contract is the law.
 ghost use Rattle.std.specs.Prelude.{◌≡◌};
 ghost use Rattle.sng_gateway.specs.Laws.{PortsAreDecimal};
-ghost use Rattle.sng_gateway.specs.declared.limits.TheConstants.{MAX_READS, MAX_LINE};
+ghost use Rattle.sng_gateway.specs.declared.limits.TheConstants.{MAX_READS, MAX_LINE, MAX_SHOWN};
 
 /// The limits in numbers.
 pub fn limits()
     ensures reads { MAX_READS ≡ 1000000 }
     ensures line { MAX_LINE ≡ 67108864 }
+    ensures shown { MAX_SHOWN ≡ 200 }
 {}
 
 /// Each port is read from its decimal digits.

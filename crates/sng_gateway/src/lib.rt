@@ -22,6 +22,6 @@ mod sender;
 pub mod status;
 mod warnings;
 
-pub use limits::{MAX_LINE, MAX_READS};
-pub use script::{Line, LineFault, line_of};
+pub use limits::{MAX_LINE, MAX_READS, MAX_SHOWN};
+pub use script::{Line, line_of};
 pub use status::Status;

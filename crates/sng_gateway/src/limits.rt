@@ -6,3 +6,6 @@ pub const MAX_READS: u32 = 1_000_000;
 
 /// How many bytes a line has at most, without its line feed: 64 MiB.
 pub const MAX_LINE: usize = 67_108_864;
+
+/// How many bytes are shown at most of a text of a policy that is at fault.
+pub const MAX_SHOWN: usize = 200;

@@ -7,9 +7,6 @@ use sng_book::print::{push_decimal, push_name};
 use sng_places::{Flaw, Form, Found, Part, Place, Position, Spot};
 use std::alloc::AllocError;
 
-/// How many bytes of a text at fault are shown at most.
-pub const MAX_SHOWN: usize = 200;
-
 /// Appends the line of a fault. A text that is not JSON has it at this position.
 pub fn push_found(line: &mut Vec<u8>, position: Position, found: &Found) -> Result<(), AllocError>
     ensures { OnOk result (line.new.items ≡ line.old.items ++ found_text position found.now) }

@@ -5,6 +5,7 @@
 mod entries;
 pub mod flaw;
 pub mod laws;
+mod nesting;
 mod pair;
 pub mod place;
 mod policy;
