@@ -14,11 +14,11 @@ use Rattle.sng_grants.specs.Topics.{with_name}
 use Rattle.sng_grants.specs.declared.limits.TheConstants.{MAX_CLIENTS, MAX_PAIRS, MAX_SOURCES, MAX_TOPICS}
 use Rattle.sng_grants.specs.declared.scope.Pair.{Pair}
 use Rattle.sng_scope.specs.Numerals.{topic_id_of}
-use Rattle.sng_scope.specs.Policies.{are_known, client_of, clients_of, clients_onto, is_known, is_policy_object, is_version_one, members_within, name_of_data, parts_of, policy_of, policy_of_data, sources_of, sources_onto, topics_of, topics_onto}
+use Rattle.sng_scope.specs.Policies.{are_known, client_of, clients_of, clients_onto, is_known, is_policy_object, is_version_one, members_within, name_of_data, parts_of, policy_of_data, sources_of, sources_onto, topics_of, topics_onto}
 use Rattle.sng_scope.specs.Scopes.{are_permissions, are_texts, is_text, says, pair_from, pair_of, pairs_of, scope_of_items, text_and_array}
 use Rattle.sng_scope.specs.Scopes as scopes
 use Rattle.sng_scope.specs.Steps.{◌>>=◌}
-use Rattle.sng_scope.specs.Texts.{bytes_of, items_of_text, scope_of_data, scope_of_encoded, value_of}
+use Rattle.sng_scope.specs.Texts.{bytes_of, scope_of_data, scope_of_encoded, value_of}
 use Rattle.sng_scope.specs.declared.fault.PolicyFault.{PolicyFault}
 use Rattle.sng_scope.specs.declared.fault.PolicyFault.TheVariants as faults
 use Rattle.sng_places.specs.Flaws.{fault_of}

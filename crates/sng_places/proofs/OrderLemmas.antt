@@ -2,21 +2,21 @@
 use Rattle.std.proofs.Common.{◌≡◌, ℕ, suc, Bool, true, false, ◌||◌, ◌==◌, cond, ltb, List, [], ◌∷◌, ◌++◌, Option, Some, None, option_map, option_and_then, unwrap_or, ok_or, Result, Ok, Err, codes, refl, sym, ap, ◌∙◌}
 use Rattle.serde_json.specs.Data.{Data, null, boolean, number, string, array, object, Items, no_items, item, Members, no_members, member}
 use Rattle.serde_json.specs.Events.{items_len, members_len}
-use Rattle.serde_json.specs.Find.{get, as_array, as_number, as_object, as_str, as_u64, get_member}
+use Rattle.serde_json.specs.Find.{get, as_array, as_number, as_str, as_u64}
 use Rattle.sng_text.specs.ClientIds.{client_id_fault}
 use Rattle.sng_text.specs.Ipv4.{ipv4_of}
 use Rattle.sng_text.specs.Texts.{filter_fault, name_fault}
 use Rattle.sng_text.specs.declared.fault.TextFault.{TextFault}
 use Rattle.sng_grants.specs.declared.limits.TheConstants.{MAX_CLIENTS, MAX_PAIRS, MAX_SOURCES, MAX_TOPICS}
 use Rattle.sng_scope.specs.Numerals.{topic_id_of}
-use Rattle.sng_scope.specs.Policies.{is_known, is_version_one}
-use Rattle.sng_scope.specs.Scopes.{is_text, says}
+use Rattle.sng_scope.specs.Policies.{is_known}
+use Rattle.sng_scope.specs.Scopes.{says}
 use Rattle.sng_scope.specs.Steps.{◌>>=◌}
 use Rattle.sng_scope.specs.Texts.{bytes_of, value_of}
 use Rattle.sng_scope.specs.declared.fault.PolicyFault.{PolicyFault}
 use Rattle.sng_places.specs.Laws.{TestsAreInOrder}
-use Rattle.sng_places.specs.Order.{Rule, IsObject, HasVersion, IsOne, IsKnown, IsAtMost, IsClient, IsSource, IsTopicId, IsScope, IsEncoded, HoldsJson, IsPair, IsArray, IsText, IsFilter, IsPermission, IsTopic, Test, array_tests, each_test, ends_at, first, flaw_of, held_by, held_tests, is_one, items_in, known_tests, members_tests, pair_tests, pairs_tests, part_tests, scope_tests, test, tests_of, text_of, too_many, topic_tests, two_tests, unless_read, unless_some, unless_true, version_tests}
-use Rattle.sng_places.specs.Places.{client_check, clients_check, clients_in, data_check, known_check, object_check, part_within, sources_check, sources_in, stop_at, text_check, topic_check, topics_check, topics_in, unknown_of, unless, version_check, within}
+use Rattle.sng_places.specs.Order.{Rule, IsClient, IsSource, IsTopicId, IsText, IsPermission, Test, array_tests, each_test, ends_at, first, flaw_of, held_tests, is_one, items_in, known_tests, members_tests, pair_tests, pairs_tests, part_tests, scope_tests, tests_of, topic_tests, two_tests, unless_read, unless_some, unless_true, version_tests}
+use Rattle.sng_places.specs.Places.{clients_check, clients_in, data_check, known_check, part_within, sources_check, sources_in, stop_at, topics_check, topics_in, unknown_of, unless, version_check, within}
 use Rattle.sng_places.specs.ScopePlaces as scopes
 use Rattle.sng_places.specs.ScopePlaces.{encoded_check, filter_by, items_check, no_text_from, or_stop, other_from, pair_check, pairs_check, parts_check, permissions_by, scope_check, texts_by, two_check, two_of}
 use Rattle.sng_places.specs.declared.flaw.Flaw.{Flaw}

@@ -1,12 +1,11 @@
 -- Each value that is tested stands at the place of its test.
-use Rattle.std.proofs.Common.{◌≡◌, ℕ, zero, suc, ◌+◌, ◌⊎◌, inl, inr, List, [], ◌∷◌, ◌++◌, Option, Some, None, option_and_then, Result, Ok, Err, All, codes, refl, sym, ap, ◌∙◌, arith}
+use Rattle.std.proofs.Common.{◌≡◌, ℕ, suc, ◌+◌, inl, inr, List, [], ◌∷◌, ◌++◌, Option, Some, None, option_and_then, Result, Ok, Err, All, codes, refl, ap, ◌∙◌, arith}
 use Rattle.std.proofs.lemmas.List.Elements.{All-nil, All-cons, All-append}
 use Rattle.serde_json.specs.Data.{Data, null, boolean, number, string, array, object, Items, no_items, item, Members, no_members, member}
-use Rattle.serde_json.specs.Find.{as_array, at, get, get_item}
+use Rattle.serde_json.specs.Find.{at, get, get_item}
 use Rattle.sng_grants.specs.declared.limits.TheConstants.{MAX_CLIENTS, MAX_PAIRS, MAX_SOURCES, MAX_TOPICS}
 use Rattle.sng_scope.specs.declared.fault.PolicyFault.{PolicyFault}
-use Rattle.sng_places.specs.Order.{Rule, HasVersion, HoldsJson, IsArray, IsAtMost, IsClient, IsEncoded, IsFilter, IsKnown, IsObject, IsOne, IsPair, IsPermission, IsScope, IsSource, IsText, IsTopic, IsTopicId, Test, array_tests, each_test, held_by, held_tests, items_in, known_tests, members_in, members_tests, pair_tests, pairs_tests, part_tests, scope_tests, test, tests_of, topic_tests, two_tests, version_tests, written_tests}
-use Rattle.sng_places.specs.ScopePlaces.{two_of}
+use Rattle.sng_places.specs.Order.{Rule, HasVersion, HoldsJson, IsArray, IsAtMost, IsClient, IsEncoded, IsFilter, IsKnown, IsObject, IsOne, IsPair, IsPermission, IsScope, IsSource, IsText, IsTopic, IsTopicId, Test, array_tests, each_test, held_by, held_tests, items_in, known_tests, members_in, members_tests, pair_tests, pairs_tests, part_tests, scope_tests, test, topic_tests, version_tests, written_tests}
 use Rattle.sng_places.specs.Standing.{HasMember, IsListed, IsWritten, Stands, ValuesStand, name_of, value_at}
 use Rattle.sng_places.specs.declared.place.Form.{Form}
 use Rattle.sng_places.specs.declared.place.Form.TheVariants.{Plain, Encoded}

@@ -7,7 +7,6 @@ use Rattle.serde_json.specs.Find.{get, as_object, as_str}
 use Rattle.sng_text.specs.ClientIds.{client_id_fault}
 use Rattle.sng_text.specs.Ipv4.{ipv4_of}
 use Rattle.sng_text.specs.Texts.{name_fault}
-use Rattle.sng_text.specs.declared.fault.TextFault.{TextFault}
 use Rattle.sng_grants.specs.declared.limits.TheConstants.{MAX_CLIENTS, MAX_SOURCES, MAX_TOPICS}
 use Rattle.sng_scope.specs.Numerals.{topic_id_of}
 use Rattle.sng_scope.specs.Policies.{is_known, is_version_one}

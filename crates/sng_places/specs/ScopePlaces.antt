@@ -1,6 +1,6 @@
 -- The place of the first fault of a scope: what is tested, in the order in which it is tested. It follows the
 -- definition of the scope that a text gives (`sng_scope`).
-use Rattle.std.specs.Prelude.{ℕ, suc, ◌&&◌, ◌||◌, nat_lt, List, [], if◌then◌else◌, Option, Some, None, option_and_then, unwrap_or, ok_or, Result, Ok, Err, codes}
+use Rattle.std.specs.Prelude.{ℕ, suc, ◌||◌, nat_lt, List, [], if◌then◌else◌, Option, Some, None, option_and_then, unwrap_or, ok_or, Result, Ok, Err, codes}
 use Rattle.serde_json.specs.Data.{Data, null, boolean, number, string, array, object, Items, no_items, item}
 use Rattle.serde_json.specs.Events.{items_len}
 use Rattle.serde_json.specs.Find.{as_str, as_array}

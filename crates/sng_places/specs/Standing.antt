@@ -1,8 +1,8 @@
 -- Which value stands at a place of a policy.
-use Rattle.std.specs.Prelude.{◌≡◌, ◌⊎◌, ℕ, List, Option, Some, None, option_and_then, Ok, codes, All}
+use Rattle.std.specs.Prelude.{◌≡◌, ◌⊎◌, ℕ, List, Option, Some, option_and_then, Ok, codes, All}
 use Rattle.serde_json.specs.Data.{Data, string, Members, no_members, member}
 use Rattle.serde_json.specs.Find.{at, get}
-use Rattle.sng_places.specs.Order.{Test, held_by, members_in, tests_of, text_of}
+use Rattle.sng_places.specs.Order.{held_by, members_in, tests_of, text_of}
 use Rattle.sng_places.specs.declared.place.Form.{Form}
 use Rattle.sng_places.specs.declared.place.Form.TheVariants.{Plain, Encoded}
 use Rattle.sng_places.specs.declared.place.Part.{Part}

@@ -51,7 +51,7 @@ fn position_of_error(alloc: Global, text: &[u8]) -> Result<Position, AllocError>
         Err(error) if error.is_memory() => Err(AllocError),
         Err(error) => Ok(Position {
             line: error.line().max(1),
-            column: error.column().saturating_add(1),
+            column: error.column().max(1),
         }),
     }
 }
