@@ -275,7 +275,7 @@ all_parts d =
     (joined _ _ (part_tests Sources MAX_SOURCES IsSource scope_tests (get (codes "sources") d)) _ (sources_part (get (codes "sources") d))
     (topics_part (get (codes "topics") d)))
 
-whole : (d : Data) → data_check d ≡ first (tests_of d)
+pub whole : (d : Data) → data_check d ≡ first (tests_of d)
 whole (object ms) =
     nested (version_check (object ms)) (known_check ms) _
     ∙ version_by (get (codes "version") (object ms)) _ _ (joined (known_check ms) _ (known_tests ms) _ (known ms) (all_parts (object ms)))

@@ -1,8 +1,10 @@
 -- Which value stands at a place of a policy.
-use Rattle.std.specs.Prelude.{◌≡◌, ◌⊎◌, ℕ, List, Option, Some, option_and_then, Ok, codes, All}
+use Rattle.std.specs.Prelude.{◌≡◌, ◌⊎◌, ℕ, List, ◌∷◌, ◌++◌, Option, Some, None, option_and_then, Ok, Err, codes, All}
 use Rattle.serde_json.specs.Data.{Data, string, Members, no_members, member}
 use Rattle.serde_json.specs.Find.{at, get}
-use Rattle.sng_places.specs.Order.{held_by, members_in, tests_of, text_of}
+use Rattle.sng_scope.specs.Texts.{value_of}
+use Rattle.sng_places.specs.Order.{Test, flaw_of, held_by, members_in, tests_of, text_of}
+use Rattle.sng_places.specs.Places.{text_check}
 use Rattle.sng_places.specs.declared.place.Form.{Form}
 use Rattle.sng_places.specs.declared.place.Form.TheVariants.{Plain, Encoded}
 use Rattle.sng_places.specs.declared.place.Part.{Part}
@@ -11,6 +13,8 @@ use Rattle.sng_places.specs.declared.place.Place.{Place}
 use Rattle.sng_places.specs.declared.place.Place.TheVariants as places
 use Rattle.sng_places.specs.declared.place.Spot.{Spot}
 use Rattle.sng_places.specs.declared.place.Spot.TheVariants.{Whole, Pair, Filter, Permissions, Permission}
+use Rattle.sng_places.specs.declared.stop.Found.{Found}
+use Rattle.sng_places.specs.declared.stop.Stop.TheVariants.{At}
 
 -- the value at a spot: of a pair `[filter, permissions]` the filter has the place 0, the permissions 1
 abbrev pub value_at : Spot → Data → Option Data
@@ -52,3 +56,18 @@ Stands d (places.Value part name form spot) v =
 -- each value that is tested stands at the place of its test
 abbrev pub ValuesStand : Type 0
 ValuesStand = (d : Data) → All (λ t. Stands d t.place t.value) (tests_of d)
+
+-- the tests before this place pass, and the value there fails with this flaw
+pub record FailsAt (d : Data) (found : Found) : Type 0 where
+  pub before : List Test
+  pub failing : Test
+  pub others : List Test
+  pub tests : tests_of d ≡ before ++ failing ∷ others
+  pub passed : All (λ t. flaw_of t.rule t.value ≡ None) before
+  pub place : failing.place ≡ found.place
+  pub flaw : flaw_of failing.rule failing.value ≡ Some found.flaw
+  pub stands : Stands d failing.place failing.value
+
+-- what is found of a text that is JSON: the value at the place has the flaw, and everything before it has none
+abbrev pub FaultsStand : Type 0
+FaultsStand = (text : List ℕ) (d : Data) (found : Found) → value_of text ≡ Ok d → text_check text ≡ Err (At found) → FailsAt d found
