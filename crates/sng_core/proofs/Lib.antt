@@ -1,3 +1,7 @@
-pub mod Exits
-pub mod Kept
+pub mod Found
+pub mod Leaving
+pub mod Rows
+pub mod Connected
+pub mod Looks
+pub mod Moves
 pub mod RunLemmas

@@ -1,219 +1,267 @@
-//! One datagram: what it is answered, what is noted of it, and what it adds to what waits (MQTT-SN 1.2, 5 and 6.8).
-ghost use Rattle.std.specs.Prelude.{◌≡◌, ◌∷◌, [], IfOk, OnOk, OnErr, Ok, None};
+//! One datagram: as the message that it holds it is brought to who takes it (MQTT-SN 1.2, 5).
+ghost use Rattle.std.specs.Prelude.{◌≡◌, IfOk, OnOk, OnErr};
 ghost use Rattle.sng_frames.specs.Reading.{frame_of};
-ghost use Rattle.sng_history.specs.State.{asked_by, asked_first, asked_with, joined};
-ghost use Rattle.sng_history.specs.Verdicts.{source_ask, named_ask};
-ghost use Rattle.sng_history.specs.Whole.{frame_outs, frame_denied, publish_outs, dismissed};
+ghost use Rattle.sng_history.specs.Causes.{ByConnect, ByPing, ByLeave, BySource, ByPublish, ByUnsupported, ByBroken, datagram_cause, frame_cause, publish_cause, disconnect_cause};
+ghost use Rattle.sng_history.specs.Good.{Good};
+ghost use Rattle.sng_history.specs.Steps.{outs_by, next_by};
 
-use crate::Core;
-use crate::verdict::name_in;
-use sng_book::{Address, Decision, Denial, Out, Outcome, Outs, Who};
-use sng_frames::{FrameFault, FrameQos, Publish, SnFrame, decode, write_disconnect};
-use sng_outbox::{Item, Origin, Publication};
-use sng_policy::lists_source;
-use sng_text::{Octets, Qos, TopicName};
+use crate::parts::Parts;
+use crate::{entry, messages};
+use sng_book::{Address, Denial, Outs};
+use sng_frames::{Connect, FrameFault, FrameQos, Publish, SnFrame, decode};
+use sng_text::ClientId;
 use std::alloc::{AllocError, Global};
 
-impl Core {
-    /// What a datagram from this address lets out. What it asks for, and is allowed, joins what waits.
-    pub(crate) fn frame_outs(
+impl Parts {
+    /// A datagram from this address.
+    pub fn datagram(
         &mut self,
         alloc: Global,
         from: Address,
         datagram: &[u8],
     ) -> Result<Outs, AllocError>
-        ensures outs { IfOk result (λ outs. outs ≡ frame_outs self.old from (frame_of datagram.now)) }
-        ensures next { OnOk result (self.new ≡ joined self.old
-            (asked_with (frame_of datagram.now) (frame_outs self.old from (frame_of datagram.now)))) }
+        requires { Good self.old }
+        ensures outs { IfOk result (λ outs. outs ≡ outs_by self.old (datagram_cause from (frame_of datagram.now))) }
+        ensures next { OnOk result (self.new ≡ next_by self.old (datagram_cause from (frame_of datagram.now))) }
         ensures err { OnErr result (self.new ≡ self.old) }
     {
         match decode(alloc, datagram) {
-            Ok(frame) => self.message_outs(alloc, from, frame),
-            Err(FrameFault::NotSupported) => not_supported(alloc, from),
-            Err(FrameFault::Malformed) => malformed(alloc, from),
-            Err(FrameFault::TooLong) => malformed(alloc, from),
+            Ok(frame) => self.message(alloc, from, frame),
+            Err(FrameFault::NotSupported) => self.broken(alloc, from, Denial::NotSupported),
+            Err(FrameFault::Malformed) => self.broken(alloc, from, Denial::Malformed),
+            Err(FrameFault::TooLong) => self.broken(alloc, from, Denial::Malformed),
             Err(FrameFault::Memory) => Err(AllocError),
         }
     }
 
-    /// What a message from this address lets out.
-    fn message_outs(
-        &mut self,
-        alloc: Global,
-        from: Address,
-        frame: SnFrame,
-    ) -> Result<Outs, AllocError>
-        ensures outs { IfOk result (λ outs. outs ≡ frame_outs self.old from (Ok frame)) }
-        ensures next { OnOk result (self.new ≡ joined self.old
-            (asked_with (Ok frame) (frame_outs self.old from (Ok frame)))) }
+    /// A message from this address.
+    fn message(&mut self, alloc: Global, from: Address, frame: SnFrame) -> Result<Outs, AllocError>
+        requires { Good self.old }
+        ensures outs { IfOk result (λ outs. outs ≡ outs_by self.old (frame_cause from frame)) }
+        ensures next { OnOk result (self.new ≡ next_by self.old (frame_cause from frame)) }
         ensures err { OnErr result (self.new ≡ self.old) }
     {
         // An arm for each message: a new one is not passed over, and each closes without a proof.
         match frame {
-            SnFrame::Publish(publish) => self.publish_outs(alloc, from, publish),
-            SnFrame::Connect(_) => not_supported(alloc, from),
-            SnFrame::ConnectAck(_) => not_supported(alloc, from),
-            SnFrame::WillTopicRequest => not_supported(alloc, from),
-            SnFrame::WillTopic(_) => not_supported(alloc, from),
-            SnFrame::WillMessageRequest => not_supported(alloc, from),
-            SnFrame::WillMessage(_) => not_supported(alloc, from),
-            SnFrame::Register(_) => not_supported(alloc, from),
-            SnFrame::RegisterAck(_) => not_supported(alloc, from),
-            SnFrame::PublishAck(_) => not_supported(alloc, from),
-            SnFrame::PublishComplete(_) => not_supported(alloc, from),
-            SnFrame::PublishReceived(_) => not_supported(alloc, from),
-            SnFrame::PublishRelease(_) => not_supported(alloc, from),
-            SnFrame::Subscribe(_) => not_supported(alloc, from),
-            SnFrame::SubscribeAck(_) => not_supported(alloc, from),
-            SnFrame::Unsubscribe(_) => not_supported(alloc, from),
-            SnFrame::UnsubscribeAck(_) => not_supported(alloc, from),
-            SnFrame::PingRequest(_) => not_supported(alloc, from),
-            SnFrame::PingResponse => not_supported(alloc, from),
-            SnFrame::Disconnect(_) => not_supported(alloc, from),
-            SnFrame::WillTopicUpdate(_) => not_supported(alloc, from),
-            SnFrame::WillTopicResponse(_) => not_supported(alloc, from),
-            SnFrame::WillMessageUpdate(_) => not_supported(alloc, from),
-            SnFrame::WillMessageResponse(_) => not_supported(alloc, from),
+            SnFrame::Connect(connect) => self.connect(alloc, from, connect),
+            SnFrame::Publish(publish) => self.publish(alloc, from, publish),
+            SnFrame::PingRequest(client) => self.ping(alloc, from, client),
+            SnFrame::Disconnect(duration) => self.disconnect(alloc, from, duration),
+            SnFrame::ConnectAck(code) => self.unsupported(alloc, from, SnFrame::ConnectAck(code)),
+            SnFrame::WillTopicRequest => self.unsupported(alloc, from, SnFrame::WillTopicRequest),
+            SnFrame::WillTopic(topic) => self.unsupported(alloc, from, SnFrame::WillTopic(topic)),
+            SnFrame::WillMessageRequest => self.unsupported(
+                alloc,
+                from,
+                SnFrame::WillMessageRequest,
+            ),
+            SnFrame::WillMessage(message) => self.unsupported(
+                alloc,
+                from,
+                SnFrame::WillMessage(message),
+            ),
+            SnFrame::Register(register) => self.unsupported(
+                alloc,
+                from,
+                SnFrame::Register(register),
+            ),
+            SnFrame::RegisterAck(answer) => self.unsupported(
+                alloc,
+                from,
+                SnFrame::RegisterAck(answer),
+            ),
+            SnFrame::PublishAck(answer) => self.unsupported(
+                alloc,
+                from,
+                SnFrame::PublishAck(answer),
+            ),
+            SnFrame::PublishComplete(id) => self.unsupported(
+                alloc,
+                from,
+                SnFrame::PublishComplete(id),
+            ),
+            SnFrame::PublishReceived(id) => self.unsupported(
+                alloc,
+                from,
+                SnFrame::PublishReceived(id),
+            ),
+            SnFrame::PublishRelease(id) => self.unsupported(
+                alloc,
+                from,
+                SnFrame::PublishRelease(id),
+            ),
+            SnFrame::Subscribe(request) => self.unsupported(
+                alloc,
+                from,
+                SnFrame::Subscribe(request),
+            ),
+            SnFrame::SubscribeAck(answer) => self.unsupported(
+                alloc,
+                from,
+                SnFrame::SubscribeAck(answer),
+            ),
+            SnFrame::Unsubscribe(request) => self.unsupported(
+                alloc,
+                from,
+                SnFrame::Unsubscribe(request),
+            ),
+            SnFrame::UnsubscribeAck(id) => self.unsupported(
+                alloc,
+                from,
+                SnFrame::UnsubscribeAck(id),
+            ),
+            SnFrame::PingResponse => self.unsupported(alloc, from, SnFrame::PingResponse),
+            SnFrame::WillTopicUpdate(topic) => self.unsupported(
+                alloc,
+                from,
+                SnFrame::WillTopicUpdate(topic),
+            ),
+            SnFrame::WillTopicResponse(code) => self.unsupported(
+                alloc,
+                from,
+                SnFrame::WillTopicResponse(code),
+            ),
+            SnFrame::WillMessageUpdate(message) => self.unsupported(
+                alloc,
+                from,
+                SnFrame::WillMessageUpdate(message),
+            ),
+            SnFrame::WillMessageResponse(code) => self.unsupported(
+                alloc,
+                from,
+                SnFrame::WillMessageResponse(code),
+            ),
         }
     }
 
-    /// What a PUBLISH lets out from an address at which no client is.
-    fn publish_outs(
+    /// A CONNECT.
+    fn connect(
+        &mut self,
+        alloc: Global,
+        from: Address,
+        connect: Connect,
+    ) -> Result<Outs, AllocError>
+        requires { Good self.old }
+        ensures outs { IfOk result (λ outs. outs ≡ outs_by self.old (ByConnect from connect)) }
+        ensures next { OnOk result (self.new ≡ next_by self.old (ByConnect from connect)) }
+        ensures err { OnErr result (self.new ≡ self.old) }
+    {
+        let sessions = &mut self.sessions;
+        let outs = entry::connect(alloc, &self.policy, self.clock, from, connect, sessions)?;
+        Ok(outs)
+    }
+
+    /// A PUBLISH, by its QoS.
+    fn publish(
         &mut self,
         alloc: Global,
         from: Address,
         publish: Publish,
     ) -> Result<Outs, AllocError>
-        ensures outs { IfOk result (λ outs. outs ≡ publish_outs self.old from publish publish.flags.qos) }
-        ensures next { OnOk result (self.new ≡ joined self.old
-            (asked_first (publish_outs self.old from publish publish.flags.qos) publish)) }
+        requires { Good self.old }
+        ensures outs { IfOk result (λ outs. outs ≡ outs_by self.old (publish_cause from publish publish.flags.qos)) }
+        ensures next { OnOk result (self.new ≡ next_by self.old (publish_cause from publish publish.flags.qos)) }
         ensures err { OnErr result (self.new ≡ self.old) }
     {
         match publish.flags.qos {
-            FrameQos::WithoutSession => self.source_ask(alloc, from.ip, publish),
-            FrameQos::ExactlyOnce => publish_denied(
-                alloc,
-                Who::Address(from),
-                Denial::NotSupported,
-            ),
-            FrameQos::AtMostOnce | FrameQos::AtLeastOnce => no_session(alloc, from),
+            FrameQos::WithoutSession => self.source(alloc, from, publish),
+            FrameQos::AtMostOnce => self.carry(alloc, from, publish),
+            FrameQos::AtLeastOnce => self.carry(alloc, from, publish),
+            FrameQos::ExactlyOnce => self.unsupported(alloc, from, SnFrame::Publish(publish)),
         }
     }
 
-    /// A source asks for a publish.
-    fn source_ask(
-        &mut self,
-        alloc: Global,
-        source: [u8; 4],
-        publish: Publish,
-    ) -> Result<Outs, AllocError>
-        ensures outs { IfOk result (λ outs. outs ≡ Out.Note (source_ask self.old source publish) ∷ []) }
-        ensures next { OnOk result (self.new ≡ joined self.old
-            (asked_by (source_ask self.old source publish) publish)) }
+    /// A PUBLISH without a session.
+    fn source(&mut self, alloc: Global, from: Address, publish: Publish) -> Result<Outs, AllocError>
+        requires { Good self.old }
+        ensures outs { IfOk result (λ outs. outs ≡ outs_by self.old (BySource from publish)) }
+        ensures next { OnOk result (self.new ≡ next_by self.old (BySource from publish)) }
         ensures err { OnErr result (self.new ≡ self.old) }
     {
-        if !lists_source(&self.policy, source) {
-            return publish_denied(alloc, Who::Source(source), Denial::UnknownSource);
-        }
-        match name_in(alloc, &self.policy, publish.flags.id_type, publish.topic_id)? {
-            Ok(name) => self.named_ask(alloc, source, name, publish),
-            Err(rule) => publish_denied(alloc, Who::Source(source), rule),
-        }
-    }
-
-    /// A listed source asks for a publish under this name.
-    fn named_ask(
-        &mut self,
-        alloc: Global,
-        source: [u8; 4],
-        name: TopicName,
-        publish: Publish,
-    ) -> Result<Outs, AllocError>
-        ensures outs { IfOk result (λ outs. outs ≡ Out.Note (named_ask self.old source (Ok name)) ∷ []) }
-        ensures next { OnOk result (self.new ≡ joined self.old
-            (asked_by (named_ask self.old source (Ok name)) publish)) }
-        ensures err { OnErr result (self.new ≡ self.old) }
-    {
-        let origin = Origin::Source(source);
-        let verdict = self.verdict(&origin, &name)?;
-        let is_allowed = verdict.is_allowed();
-        let asked = Decision::Publish(Who::Source(source), Some(name.copy()?), verdict);
-        let outs = only(alloc, Out::Note(asked))?;
-        if is_allowed {
-            let retain = publish.flags.retain;
-            let payload = publish.payload;
-            let item = Item::Publish(Publication {
-                origin,
-                name,
-                payload,
-                qos: Qos::AtMostOnce,
-                retain,
-            });
-            if self.outbox.push(item).is_err() {
-                unreachable!()
-            }
-        }
+        let outs = self.source_ask(alloc, from.ip, publish)?;
         Ok(outs)
     }
-}
 
-/// One out alone.
-fn only(alloc: Global, out: Out) -> Result<Outs, AllocError>
-    ensures { IfOk result (λ outs. outs ≡ out ∷ []) }
-{
-    let mut outs = Outs::with_capacity(alloc, 1)?;
-    outs.push(out)?;
-    Ok(outs)
-}
+    /// A PUBLISH of a session, at QoS 0 or 1.
+    fn carry(&mut self, alloc: Global, from: Address, publish: Publish) -> Result<Outs, AllocError>
+        requires { Good self.old }
+        ensures outs { IfOk result (λ outs. outs ≡ outs_by self.old (ByPublish from publish)) }
+        ensures next { OnOk result (self.new ≡ next_by self.old (ByPublish from publish)) }
+        ensures err { OnErr result (self.new ≡ self.old) }
+    {
+        let outs = messages::publish(alloc, self.clock, from, &publish, &mut self.sessions)?;
+        Ok(outs)
+    }
 
-/// An ask to publish is denied before a name was read.
-fn publish_denied(alloc: Global, who: Who, rule: Denial) -> Result<Outs, AllocError>
-    ensures { IfOk result (λ outs. outs ≡ Out.Note (Decision.Publish who None (Outcome.Denied rule)) ∷ []) }
-{
-    only(
-        alloc,
-        Out::Note(Decision::Publish(who, None, Outcome::Denied(rule))),
-    )
-}
+    /// A PINGREQ.
+    fn ping(
+        &mut self,
+        alloc: Global,
+        from: Address,
+        client: Option<ClientId>,
+    ) -> Result<Outs, AllocError>
+        requires { Good self.old }
+        ensures outs { IfOk result (λ outs. outs ≡ outs_by self.old (ByPing from client)) }
+        ensures next { OnOk result (self.new ≡ next_by self.old (ByPing from client)) }
+        ensures err { OnErr result (self.new ≡ self.old) }
+    {
+        let outs = messages::ping(alloc, self.clock, from, client, &mut self.sessions)?;
+        Ok(outs)
+    }
 
-/// A frame or a packet that asks for nothing is denied.
-pub(crate) fn frame_denied(alloc: Global, from: Who, rule: Denial) -> Result<Outs, AllocError>
-    ensures { IfOk result (λ outs. outs ≡ frame_denied from rule) }
-{
-    only(
-        alloc,
-        Out::Note(Decision::Frame(from, Outcome::Denied(rule))),
-    )
-}
+    /// A DISCONNECT; one with Duration is not taken yet.
+    fn disconnect(
+        &mut self,
+        alloc: Global,
+        from: Address,
+        duration: Option<u16>,
+    ) -> Result<Outs, AllocError>
+        requires { Good self.old }
+        ensures outs { IfOk result (λ outs. outs ≡ outs_by self.old (disconnect_cause from duration)) }
+        ensures next { OnOk result (self.new ≡ next_by self.old (disconnect_cause from duration)) }
+        ensures err { OnErr result (self.new ≡ self.old) }
+    {
+        match duration {
+            None => self.leave(alloc, from),
+            Some(duration) => { self.unsupported(alloc, from, SnFrame::Disconnect(Some(duration))) }
+        }
+    }
 
-/// A frame that is not taken.
-fn not_supported(alloc: Global, from: Address) -> Result<Outs, AllocError>
-    ensures { IfOk result (λ outs. outs ≡ frame_denied (Who.Address from) Denial.NotSupported) }
-{
-    frame_denied(alloc, Who::Address(from), Denial::NotSupported)
-}
+    /// A DISCONNECT without Duration.
+    fn leave(&mut self, alloc: Global, from: Address) -> Result<Outs, AllocError>
+        requires { Good self.old }
+        ensures outs { IfOk result (λ outs. outs ≡ outs_by self.old (ByLeave from)) }
+        ensures next { OnOk result (self.new ≡ next_by self.old (ByLeave from)) }
+        ensures err { OnErr result (self.new ≡ self.old) }
+    {
+        let outs = messages::leave(alloc, self.clock, from, &mut self.sessions)?;
+        Ok(outs)
+    }
 
-/// A datagram that is not a frame.
-fn malformed(alloc: Global, from: Address) -> Result<Outs, AllocError>
-    ensures { IfOk result (λ outs. outs ≡ frame_denied (Who.Address from) Denial.Malformed) }
-{
-    frame_denied(alloc, Who::Address(from), Denial::Malformed)
-}
+    /// A message of a type or form that is not taken.
+    fn unsupported(
+        &mut self,
+        alloc: Global,
+        from: Address,
+        message: SnFrame,
+    ) -> Result<Outs, AllocError>
+        requires { Good self.old }
+        ensures outs { IfOk result (λ outs. outs ≡ outs_by self.old (ByUnsupported from message)) }
+        ensures next { OnOk result (self.new ≡ next_by self.old (ByUnsupported from message)) }
+        ensures err { OnErr result (self.new ≡ self.old) }
+    {
+        let outs = messages::unsupported(alloc, self.clock, from, &message, &mut self.sessions)?;
+        Ok(outs)
+    }
 
-/// A publish of a session comes from an address that has none: it is noted, and answered by DISCONNECT.
-fn no_session(alloc: Global, from: Address) -> Result<Outs, AllocError>
-    ensures { IfOk result (λ outs. outs ≡
-        Out.Note (Decision.Publish (Who.Address from) None (Outcome.Denied Denial.NoSession)) ∷ dismissed from ∷ []) }
-{
-    let mut outs = publish_denied(alloc, Who::Address(from), Denial::NoSession)?;
-    outs.push(dismissed(alloc, from)?)?;
-    Ok(outs)
-}
-
-/// The DISCONNECT that says that no session is at the address.
-fn dismissed(alloc: Global, from: Address) -> Result<Out, AllocError>
-    ensures { IfOk result (λ out. out ≡ dismissed from) }
-{
-    let disconnect = write_disconnect(alloc, None)?;
-    Ok(Out::Send(from, Octets::from(disconnect)))
+    /// A datagram that is not a message, by the rule that it breaks.
+    fn broken(&mut self, alloc: Global, from: Address, rule: Denial) -> Result<Outs, AllocError>
+        requires { Good self.old }
+        ensures outs { IfOk result (λ outs. outs ≡ outs_by self.old (ByBroken from rule)) }
+        ensures next { OnOk result (self.new ≡ next_by self.old (ByBroken from rule)) }
+        ensures err { OnErr result (self.new ≡ self.old) }
+    {
+        let outs = messages::broken(alloc, from, rule, &self.sessions)?;
+        Ok(outs)
+    }
 }

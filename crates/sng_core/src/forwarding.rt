@@ -1,8 +1,9 @@
 //! What waits leaves for the broker, each publish judged by the policy in force (MQTT 3.1.1, 3.3).
-ghost use Rattle.std.specs.Prelude.{◌≡◌, ◌++◌, IfOk, OnOk};
+ghost use Rattle.std.specs.Prelude.{◌≡◌, ◌++◌, None, IfOk, OnOk};
 ghost use Rattle.sng_history.specs.Verdicts.{exit};
-ghost use Rattle.sng_history.specs.Exits.{leaving, exits_of, forwarded};
-ghost use Rattle.sng_history.specs.Laws.{leaves};
+ghost use Rattle.std.specs.List.{flat_map};
+ghost use Rattle.sng_history.specs.Exits.{forwarded};
+ghost use Rattle.sng_core.specs.Forms.{leaves};
 
 use crate::exit::exit;
 use mqtt_frames::write_publish;
@@ -11,9 +12,9 @@ use sng_grants::Policy;
 use sng_outbox::{Item, Outbox, Publication};
 use std::alloc::{AllocError, Global};
 
-/// All that the items let out as they leave in order. An `Err` is a failed allocation.
+/// All that the items let out as they leave in order, each publish at QoS 0. An `Err` is a failed allocation.
 pub fn leaving(alloc: Global, policy: &Policy, outbox: &Outbox) -> Result<Outs, AllocError>
-    ensures { IfOk result (λ outs. outs ≡ leaving outbox.now.waiting (exits_of policy.now outbox.now.waiting)) }
+    ensures { IfOk result (λ outs. outs ≡ flat_map (leaves policy.now) outbox.now.waiting) }
 {
     let mut outs = Outs::with_capacity(alloc, outbox.len().saturating_mul(2))?;
     for item in outbox.iter() {
@@ -41,7 +42,7 @@ fn forwarded(
     outs: &mut Outs,
 ) -> Result<(), AllocError>
     ensures { OnOk result (outs.new ≡ outs.old
-        ++ forwarded publication.now (exit policy.now publication.now.origin publication.now.name)) }
+        ++ forwarded publication.now None (exit policy.now publication.now.origin publication.now.name)) }
 {
     let name = &publication.name;
     let outcome = exit(policy, &publication.origin, name)?;

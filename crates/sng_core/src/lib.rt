@@ -2,11 +2,19 @@
 //! plans with all its allocations first, and its commit cannot fail, so a step whose allocation failed changes nothing.
 #![tactic(auto)]
 
+mod answers;
 mod datagram;
+mod entry;
 mod exit;
 mod forwarding;
 pub mod history;
 pub mod machine;
+mod messages;
+mod parts;
+mod places;
+pub mod session;
+pub mod sessions;
+mod source;
 mod verdict;
 
 pub use history::run;

@@ -1,18 +1,48 @@
 //! How an ask is judged as it comes: the first rule in the documented order that forbids it.
-ghost use Rattle.std.specs.Prelude.{◌≡◌, IfOk, Ok, Err};
-ghost use Rattle.sng_history.specs.Verdicts.{verdict, room, name_in};
+ghost use Rattle.std.specs.Prelude.{◌≡◌, ◌<◌, length, nat_lt, None, IfOk, Ok, Err};
+ghost use Rattle.sng_history.specs.declared.limits.TheConstants.{MAX_CLIENTS};
+ghost use Rattle.sng_history.specs.State.{is_known};
+ghost use Rattle.sng_history.specs.Verdicts.{verdict, room, name_in, entry_by};
 
-use crate::Core;
 use crate::exit::exit;
+use crate::parts::Parts;
+use crate::sessions::Sessions;
 use sng_book::{Denial, IdKind, Outcome, Place};
-use sng_frames::TopicIdType;
+use sng_frames::{Connect, TopicIdType};
 use sng_grants::Policy;
+use sng_history::MAX_CLIENTS;
 use sng_outbox::Origin;
-use sng_policy::topic;
-use sng_text::{TextFault, TopicName};
+use sng_policy::{lists, topic};
+use sng_text::{ClientId, TextFault, TopicName};
 use std::alloc::{AllocError, Global};
 
-impl Core {
+/// The verdict on a CONNECT (MQTT-SN 1.2, 5.4.4). One that asks for a will is not taken yet. An `Err` is a failed allocation, for a
+/// denial that shows the client.
+pub fn entry(policy: &Policy, sessions: &Sessions, connect: &Connect) -> Result<Outcome, AllocError>
+    ensures { IfOk result (λ outcome. outcome ≡ entry_by policy.now sessions.now connect.now) }
+{
+    let id = &connect.client_id;
+    if connect.protocol_id != 1 || connect.flags.will {
+        return Ok(Outcome::Denied(Denial::NotSupported));
+    }
+    if !lists(policy, id) {
+        return Ok(Outcome::Denied(Denial::NoScope(id.copy()?)));
+    }
+    if is_known(sessions, id) || sessions.len() < MAX_CLIENTS {
+        Ok(Outcome::Allowed)
+    } else {
+        Ok(Outcome::Denied(Denial::Full(Place::Clients)))
+    }
+}
+
+/// Whether the client was accepted once.
+fn is_known(sessions: &Sessions, id: &ClientId) -> bool
+    ensures { result ≡ is_known id.now sessions.now }
+{
+    sessions.find(id).is_some()
+}
+
+impl Parts {
     /// The verdict on a publish under the name. An `Err` is a failed allocation, for a denial that shows the name or the client.
     pub(crate) fn verdict(&self, origin: &Origin, name: &TopicName) -> Result<Outcome, AllocError>
         ensures { IfOk result (λ outcome. outcome ≡ verdict self.now origin.now name.now) }
@@ -44,7 +74,7 @@ pub fn name_in(
     id_type: TopicIdType,
     id: u16,
 ) -> Result<Result<TopicName, Denial>, AllocError>
-    ensures { IfOk result (λ named. named ≡ name_in policy.now id_type id) }
+    ensures { IfOk result (λ named. named ≡ name_in policy.now None id_type id) }
 {
     match id_type {
         TopicIdType::Short => match TopicName::read(alloc, id.to_be_bytes().as_slice()) {

@@ -3,6 +3,11 @@ pub mod Lines
 pub mod Covers
 pub mod Asks
 pub mod Answers
+pub mod Playing
+pub mod Standings
+pub mod Stops
+pub mod Scripts
+pub mod Input
 pub mod Places
 pub mod Warnings
 pub mod Reports

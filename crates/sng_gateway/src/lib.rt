@@ -23,5 +23,5 @@ pub mod status;
 mod warnings;
 
 pub use limits::{MAX_LINE, MAX_READS, MAX_SHOWN};
-pub use script::{Line, line_of};
+pub use script::{Line, LineFault, line_of};
 pub use status::Status;

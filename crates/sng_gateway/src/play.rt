@@ -1,6 +1,8 @@
 //! Plays a script: each line is an event, and what the gateway does about it is printed as a row.
-ghost use Rattle.std.specs.Prelude.{IfSome};
+ghost use Rattle.std.specs.Prelude.{◌≡◌, [], IfSome};
+ghost use Rattle.sng_history.specs.State.{opening, Leads};
 ghost use Rattle.sng_gateway.specs.Scripts.{lines_of, Finishes, IsHalt, IsOutcome};
+ghost use Rattle.sng_gateway.specs.Standings.{standing};
 
 use crate::Status;
 use crate::ending::end;
@@ -75,7 +77,25 @@ fn play_lines<R: BufRead, W: Write>(
     ensures { IfSome (R.remaining reader.old) (λ script. IsHalt result line.new (lines_of script)
         (W.contents output.old) (W.contents output.new)) }
 {
-    let mut player = Player::new(alloc)?;
+    match Player::new(alloc) {
+        Ok(mut player) => play_on(&mut player, alloc, reader, output, line),
+        Err(_) => Err(Stop::OutOfMemory),
+    }
+}
+
+/// Plays line by line on a player that has not begun. It is lent, so that nothing of it is dropped at the ends here.
+fn play_on<R: BufRead, W: Write>(
+    player: &mut Player,
+    alloc: Global,
+    reader: &mut R,
+    output: &mut W,
+    line: &mut u64,
+) -> Result<(), Stop>
+    requires state { Leads opening [] (standing player.old).state }
+    requires rows { (standing player.old).rows ≡ 0 }
+    ensures { IfSome (R.remaining reader.old) (λ script. IsHalt result line.new (lines_of script)
+        (W.contents output.old) (W.contents output.new)) }
+{
     let mut text = Vec::new(alloc);
     for number in 1..u64::MAX {
         *line = number;

@@ -1,9 +1,9 @@
--- The worked rows are lawful, or not, by computation.
+-- The worked rows of devices are lawful, or not, by computation.
 use Rattle.std.proofs.Common.{◌≡◌, true, [], ◌∷◌, refl, codes, rules}
 use Rattle.std.specs.Str.{is_utf8, IsAscii}
 use Rattle.std.proofs.lemmas.Str.{is_utf8-from_IsUtf8, IsUtf8-from_ascii}
 use Rattle.mqtt_frames.specs.RemainingLength.{remaining_length}
-use Rattle.sng_book.specs.declared.event.Event.TheVariants.{Datagram, Up, Down, Take}
+use Rattle.sng_book.specs.declared.event.Event.TheVariants.{Datagram, Up, Take}
 use Rattle.sng_book.specs.declared.outcome.Denial.TheVariants.{MissingPub}
 use Rattle.sng_book.specs.declared.outcome.Outcome.TheVariants.{Allowed, Denied}
 use Rattle.sng_history.specs.State.{opening}
@@ -18,35 +18,35 @@ ab_utf8 = is_utf8-from_IsUtf8 (97 ∷ 98 ∷ []) (IsUtf8-from_ascii (97 ∷ 98 �
 
 before_take_short : Lawful opening (before_take publish_ab)
 before_take_short =
-    (((tt, record { whole = refl; exits = refl }), record { whole = refl; exits = refl }), record { whole = rw ab_utf8 refl; exits = refl })
+    (((tt, record { whole = refl; exits = refl; clients = tt }), record { whole = refl; exits = refl; clients = tt }), record { whole = rw ab_utf8 refl; exits = refl; clients = tt })
 
 before_take_long : Lawful opening (before_take publish_ab_long)
 before_take_long =
-    (((tt, record { whole = refl; exits = refl }), record { whole = refl; exits = refl }), record { whole = rw ab_utf8 refl; exits = refl })
+    (((tt, record { whole = refl; exits = refl; clients = tt }), record { whole = refl; exits = refl; clients = tt }), record { whole = rw ab_utf8 refl; exits = refl; clients = tt })
 
 pub stored_short : Lawful opening (stored_run publish_ab)
 unfolding remaining_length
-stored_short = (before_take_short, record { whole = refl; exits = refl })
+stored_short = (before_take_short, record { whole = refl; exits = refl; clients = tt })
 
 pub stored_long : Lawful opening (stored_run publish_ab_long)
 unfolding remaining_length
-stored_long = (before_take_long, record { whole = refl; exits = refl })
+stored_long = (before_take_long, record { whole = refl; exits = refl; clients = tt })
 
 pub unknown : Lawful opening unknown_source
-unknown = ((((tt, record { whole = refl; exits = refl }), record { whole = refl; exits = refl }), record { whole = refl; exits = refl }), record { whole = refl; exits = refl })
+unknown = ((((tt, record { whole = refl; exits = refl; clients = tt }), record { whole = refl; exits = refl; clients = tt }), record { whole = refl; exits = refl; clients = tt }), record { whole = refl; exits = refl; clients = tt })
 
 pub down : Lawful opening without_up
-down = (((tt, record { whole = refl; exits = refl }), record { whole = rw ab_utf8 refl; exits = refl }), record { whole = refl; exits = refl })
+down = (((tt, record { whole = refl; exits = refl; clients = tt }), record { whole = rw ab_utf8 refl; exits = refl; clients = tt }), record { whole = refl; exits = refl; clients = tt })
 
 pub answered : Lawful opening strangers
-answered = ((tt, record { whole = refl; exits = refl }), record { whole = refl; exits = refl })
+answered = ((tt, record { whole = refl; exits = refl; clients = tt }), record { whole = refl; exits = refl; clients = tt })
 
 pub replaced : Lawful opening replaced_while_waiting
-replaced = ((before_take_short, record { whole = refl; exits = refl }), record { whole = refl; exits = refl })
+replaced = ((before_take_short, record { whole = refl; exits = refl; clients = tt }), record { whole = refl; exits = refl; clients = tt })
 
 pub kept_down : Lawful opening kept_while_down
 unfolding remaining_length
-kept_down = ((((before_take_short, record { whole = refl; exits = refl }), record { whole = refl; exits = refl }), record { whole = refl; exits = refl }), record { whole = refl; exits = refl })
+kept_down = ((((before_take_short, record { whole = refl; exits = refl; clients = tt }), record { whole = refl; exits = refl; clients = tt }), record { whole = refl; exits = refl; clients = tt }), record { whole = refl; exits = refl; clients = tt })
 
 -- a packet without its note
 pub not_unnoted : LawfulRow waits Take (packet_ab ∷ []) → ⊥

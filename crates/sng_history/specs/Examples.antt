@@ -1,4 +1,4 @@
--- Worked rows: histories that are lawful, and rows that are not.
+-- Worked rows of devices without a session: histories that are lawful, and rows that are not.
 use Rattle.std.specs.Prelude.{ℕ, true, false, codes, List, [], ◌∷◌, Some, None}
 use Rattle.sng_grants.specs.declared.policy.Policy.{Policy}
 use Rattle.sng_book.specs.declared.address.Address.{Address}

@@ -1,13 +1,15 @@
 -- How an ask is judged as it comes, and a publish as it leaves. The first rule in this order that forbids an ask is its verdict:
--- not a frame, not supported, no session or an unknown source, the type of the topic id, not a topic name, an id without a name,
--- the missing grant, the broker's connection, the room.
-use Rattle.std.specs.Prelude.{ℕ, ◌/◌, ◌%◌, nat_lt, List, [], ◌∷◌, length, if◌then◌else◌, Option, Some, None, Ok, Err}
+-- not a frame, not supported, out of turn, no session or no scope or an unknown source, the type of the topic id, not a topic name, an id
+-- without a name, the missing grant, the broker's connection, the room.
+use Rattle.std.specs.Prelude.{ℕ, ◌/◌, ◌%◌, ◌==◌, ◌&&◌, ◌||◌, not, nat_lt, Bool, true, false, List, [], ◌∷◌, length, if◌then◌else◌, Option, Some, None, Ok, Err}
+use Rattle.std.specs.Str.{bytes_eq}
 use Rattle.std.specs.declared.result.Result.{Result}
 use Rattle.sng_text.specs.Texts.{is_name}
 use Rattle.sng_grants.specs.declared.policy.Policy.{Policy}
-use Rattle.sng_policy.specs.Grants.{publish_grant, source_grant, lists_source, topic}
+use Rattle.sng_policy.specs.Grants.{publish_grant, source_grant, lists, lists_source, topic}
 use Rattle.sng_policy.specs.declared.grant.Grant.{Grant}
 use Rattle.sng_policy.specs.declared.grant.Grant.TheVariants as grant
+use Rattle.sng_frames.specs.declared.messages.connect.Connect.{Connect}
 use Rattle.sng_frames.specs.declared.messages.publish.Publish.{Publish}
 use Rattle.sng_frames.specs.declared.flags.TopicIdType.{TopicIdType}
 use Rattle.sng_frames.specs.declared.flags.TopicIdType.TheVariants.{Normal, Predefined, Short, Reserved}
@@ -20,10 +22,15 @@ use Rattle.sng_book.specs.declared.decision.Who.TheVariants as who
 use Rattle.sng_book.specs.declared.outcome.IdKind.TheVariants as kind
 use Rattle.sng_book.specs.declared.outcome.Place.TheVariants as place
 use Rattle.sng_book.specs.declared.outcome.Denial.{Denial}
-use Rattle.sng_book.specs.declared.outcome.Denial.TheVariants.{NoScope, UnknownSource, BadName, IdType, UnknownId, MissingPub, MissingSub, UpstreamDown, Full}
+use Rattle.sng_book.specs.declared.outcome.Denial.TheVariants.{NotSupported, NoScope, NoSession, UnknownSource, BadName, IdType, UnknownId, MissingPub, MissingSub, OutOfTurn, UpstreamDown, Full}
 use Rattle.sng_book.specs.declared.outcome.Outcome.{Outcome}
 use Rattle.sng_book.specs.declared.outcome.Outcome.TheVariants.{Allowed, Denied}
-use Rattle.sng_history.specs.State.{State}
+use Rattle.sng_ids.specs.Ids.{Ids, name_of}
+use Rattle.sng_states.specs.declared.state.ClientState.{ClientState}
+use Rattle.sng_states.specs.declared.state.ClientState.TheVariants.{Dialogue, Active, Asleep, Awake, Disconnected, Lost}
+use Rattle.sng_history.specs.declared.limits.TheConstants.{MAX_CLIENTS}
+use Rattle.sng_history.specs.Clients.{Client}
+use Rattle.sng_history.specs.State.{State, is_known}
 
 -- the policy does not list who asks
 abbrev pub unlisted : Origin → Denial
@@ -66,13 +73,22 @@ abbrev pub predefined_name : ℕ → Option (List ℕ) → Result (List ℕ) Den
 predefined_name id None = Err (UnknownId kind.Predefined id)
 predefined_name id (Some name) = Ok name
 
--- the name that a topic id stands for in a PUBLISH without a session, or the rule that it breaks (MQTT-SN 1.2, 5.3.11, 6.7 and 6.8).
--- A short name is the id's two octets, and a predefined id has the name that the policy in force gives it
-abbrev pub name_in : Policy → TopicIdType → ℕ → Result (List ℕ) Denial
-name_in policy Short id = if is_name (octets_of id) then Ok (octets_of id) else Err BadName
-name_in policy Predefined id = predefined_name id (topic policy id)
-name_in policy Normal id = Err IdType
-name_in policy Reserved id = Err IdType
+abbrev pub told_name : ℕ → Option (List ℕ) → Result (List ℕ) Denial
+told_name id None = Err (UnknownId kind.Normal id)
+told_name id (Some name) = Ok name
+
+-- a normal id has the name that the client was told with it; without a session it has no place
+abbrev pub normal_name : Option Ids → ℕ → Result (List ℕ) Denial
+normal_name None id = Err IdType
+normal_name (Some ids) id = told_name id (name_of id ids)
+
+-- the name that a topic id stands for in a PUBLISH, or the rule that it breaks (MQTT-SN 1.2, 5.3.11, 6.7 and 6.8), by the ids of the
+-- client where there is a session. A short name is the id's two octets, and a predefined id has the name that the policy in force gives it
+abbrev pub name_in : Policy → Option Ids → TopicIdType → ℕ → Result (List ℕ) Denial
+name_in policy ids Short id = if is_name (octets_of id) then Ok (octets_of id) else Err BadName
+name_in policy ids Predefined id = predefined_name id (topic policy id)
+name_in policy ids Normal id = normal_name ids id
+name_in policy ids Reserved id = Err IdType
 
 -- the note of an ask by a listed source, given the name that was read
 abbrev pub named_ask : State → List ℕ → Result (List ℕ) Denial → Decision
@@ -83,5 +99,44 @@ named_ask s source (Err rule) = note.Publish (who.Source source) None (Denied ru
 abbrev pub source_ask : State → List ℕ → Publish → Decision
 source_ask s source p =
     if lists_source s.policy source
-    then named_ask s source (name_in s.policy p.flags.id_type p.topic_id)
+    then named_ask s source (name_in s.policy None p.flags.id_type p.topic_id)
     else note.Publish (who.Source source) None (Denied UnknownSource)
+
+-- the CONNECT is of MQTT-SN 1.2, whose ProtocolId is 1; one that asks for a will is not taken yet
+abbrev pub entry_form : Connect → Outcome
+entry_form c = if (c.protocol_id == 1) && not c.flags.will then Allowed else Denied NotSupported
+
+abbrev pub entry_scope : Policy → List ℕ → Outcome
+entry_scope policy id = if lists policy id then Allowed else Denied (NoScope id)
+
+-- a client that was accepted once has its place
+abbrev pub entry_room : List Client → List ℕ → Outcome
+entry_room xs id = if is_known id xs || nat_lt (length xs) MAX_CLIENTS then Allowed else Denied (Full place.Clients)
+
+-- the verdict on a CONNECT (MQTT-SN 1.2, 5.4.4)
+abbrev pub entry_by : Policy → List Client → Connect → Outcome
+entry_by policy xs c = and_then (entry_form c) (and_then (entry_scope policy c.client_id) (entry_room xs c.client_id))
+
+abbrev pub entry : State → Connect → Outcome
+entry s c = entry_by s.policy s.clients c
+
+abbrev pub is_active : ClientState → Bool
+is_active Active = true
+is_active Dialogue = false
+is_active Asleep = false
+is_active Awake = false
+is_active Disconnected = false
+is_active Lost = false
+
+-- a PINGREQ of a client has its turn where the client is active; one that names another client has no session (MQTT-SN 1.2, 5.4.19).
+-- A client does not sleep yet
+abbrev pub in_turn : Client → Outcome
+in_turn x = if is_active x.phase then Allowed else Denied OutOfTurn
+
+-- the PINGREQ names a client, and another one
+abbrev pub names_other : Option (List ℕ) → List ℕ → Bool
+names_other None own = false
+names_other (Some id) own = not (bytes_eq id own)
+
+abbrev pub ping_verdict : Option (List ℕ) → Client → Outcome
+ping_verdict client x = if names_other client x.id then Denied NoSession else in_turn x

@@ -1,96 +1,188 @@
--- The whole of what a row lets out, given the state before, the event and what the event alone does not fix.
-use Rattle.std.specs.Prelude.{List, [], ◌∷◌, if◌then◌else◌, None, Ok, Err}
-use Rattle.std.specs.declared.result.Result.{Result}
-use Rattle.sng_frames.specs.Reading.{frame_of}
-use Rattle.sng_frames.specs.Writing.{written}
-use Rattle.sng_frames.specs.declared.fault.FrameFault.{FrameFault}
-use Rattle.sng_frames.specs.declared.fault.FrameFault.TheVariants as fault
-use Rattle.sng_frames.specs.declared.qos.FrameQos.{FrameQos}
-use Rattle.sng_frames.specs.declared.qos.FrameQos.TheVariants.{AtMostOnce, AtLeastOnce, ExactlyOnce, WithoutSession}
-use Rattle.sng_frames.specs.declared.messages.publish.Publish.{Publish}
-use Rattle.sng_frames.specs.declared.frame.SnFrame.{SnFrame}
+-- The whole of what a row lets out, given the state before, the cause, and the notes that the row has of each client and of what leaves.
+use Rattle.std.specs.Prelude.{ℕ, Bool, false, ◌&&◌, ◌||◌, not, List, [], ◌∷◌, ◌++◌, if◌then◌else◌, None}
+use Rattle.std.specs.List.{flat_map}
+use Rattle.std.specs.Str.{bytes_eq}
+use Rattle.sng_states.specs.States.{has_session}
+use Rattle.sng_frames.specs.declared.messages.connect.Connect.{Connect}
+use Rattle.sng_frames.specs.declared.return_code.TheConstants.ReturnCode.{ACCEPTED}
 use Rattle.sng_frames.specs.declared.frame.SnFrame.TheVariants as frame
 use Rattle.sng_book.specs.declared.address.Address.{Address}
 use Rattle.sng_book.specs.declared.decision.Decision.{Decision}
 use Rattle.sng_book.specs.declared.decision.Decision.TheVariants as note
-use Rattle.sng_book.specs.declared.decision.Who.{Who}
 use Rattle.sng_book.specs.declared.decision.Who.TheVariants as who
 use Rattle.sng_book.specs.declared.outcome.Denial.{Denial}
-use Rattle.sng_book.specs.declared.outcome.Denial.TheVariants.{Malformed, NotSupported, NoSession}
+use Rattle.sng_book.specs.declared.outcome.Denial.TheVariants.{NotSupported, NoSession}
 use Rattle.sng_book.specs.declared.outcome.Outcome.{Outcome}
-use Rattle.sng_book.specs.declared.outcome.Outcome.TheVariants.{Denied}
-use Rattle.sng_book.specs.declared.event.Event.{Event}
-use Rattle.sng_book.specs.declared.event.Event.TheVariants.{Datagram, Broker, Up, Down, Take, Replace, Tick}
+use Rattle.sng_book.specs.declared.outcome.Outcome.TheVariants.{Allowed, Denied}
 use Rattle.sng_book.specs.declared.out.Out.{Out}
-use Rattle.sng_book.specs.declared.out.Out.TheVariants.{Send, Note}
-use Rattle.sng_history.specs.State.{State}
-use Rattle.sng_history.specs.Verdicts.{source_ask}
-use Rattle.sng_history.specs.Exits.{leaving, exits_in}
+use Rattle.sng_book.specs.declared.out.Out.TheVariants.{Note}
+use Rattle.sng_history.specs.Causes.{Cause}
+use Rattle.sng_history.specs.Causes.{ByConnect, ByPing, ByLeave, BySource, ByPublish, ByUnsupported, ByBroken, ByPacket, ByUp, ByDown, ByTake, ByReplace, ByTick}
+use Rattle.sng_history.specs.Clients.{Client, Around, same_address, is_from, is_author, start_by, note_by}
+use Rattle.sng_history.specs.Notes.{notes_of, exits_in}
+use Rattle.sng_history.specs.State.{State, around}
+use Rattle.sng_history.specs.Verdicts.{source_ask, entry, ping_verdict}
+use Rattle.sng_history.specs.Answers.{denied_note, code_of, refused, dismissed, connack, pong}
+use Rattle.sng_history.specs.Exits.{leaving}
 
--- what a row's notes say that the event alone does not fix; what they say of each client is a further field
+-- what a row's notes say that its cause alone need not fix: the notes of each client, and the outcomes of the items that leave
 pub record Notes : Type 0 where
-  -- the outcomes of the items that leave
+  pub of : Client → List Decision
   pub exits : List Outcome
 
 abbrev pub notes_in : List Out → Notes
-notes_in outs = record { exits = exits_in outs }
+notes_in outs = record { of = λ x. notes_of x.id outs; exits = exits_in outs }
 
--- the rule that a datagram breaks which is not a frame; reading answers no other fault than the first two
-abbrev pub rule_of : FrameFault → Denial
-rule_of fault.Malformed = Malformed
-rule_of fault.NotSupported = NotSupported
-rule_of fault.TooLong = Malformed
-rule_of fault.Memory = Malformed
+-- ---- the frames of a note
 
--- a frame or a packet that asks for nothing is denied
-abbrev pub frame_denied : Who → Denial → List Out
-frame_denied from rule = Note (note.Frame from (Denied rule)) ∷ []
+-- a client that takes its leave is answered by DISCONNECT; one that another client at its address puts out is not
+abbrev pub farewell : Cause → Address → List Out
+farewell (ByLeave from) to = dismissed to ∷ []
+farewell (ByConnect from connect) to = []
+farewell (ByPing from client) to = []
+farewell (BySource from p) to = []
+farewell (ByPublish from p) to = []
+farewell (ByUnsupported from message) to = []
+farewell (ByBroken from rule) to = []
+farewell (ByPacket p) to = []
+farewell ByUp to = []
+farewell ByDown to = []
+farewell ByTake to = []
+farewell (ByReplace policy) to = []
+farewell (ByTick clock) to = []
 
--- a DISCONNECT says that no session is at the address (MQTT-SN 1.2, 6.14)
-abbrev pub dismissed : Address → Out
-dismissed from = Send from (written (frame.Disconnect None))
+-- the answer to a client's message that is denied; a PINGREQ that names another client is answered by DISCONNECT
+abbrev pub denied_by : Cause → Address → Denial → List Out
+denied_by (ByPing from client) to NoSession = dismissed to ∷ []
+denied_by (ByPing from client) to rule = []
+denied_by (ByPublish from p) to rule = refused to (frame.Publish p) rule
+denied_by (ByUnsupported from message) to rule = refused to message rule
+denied_by (ByConnect from connect) to rule = []
+denied_by (ByLeave from) to rule = []
+denied_by (BySource from p) to rule = []
+denied_by (ByBroken from broke) to rule = []
+denied_by (ByPacket p) to rule = []
+denied_by ByUp to rule = []
+denied_by ByDown to rule = []
+denied_by ByTake to rule = []
+denied_by (ByReplace policy) to rule = []
+denied_by (ByTick clock) to rule = []
 
--- a PUBLISH from an address at which no client is: without a session it is the ask of a source, which nothing answers
-abbrev pub publish_outs : State → Address → Publish → FrameQos → List Out
-publish_outs s from p WithoutSession = Note (source_ask s from.ip p) ∷ []
-publish_outs s from p ExactlyOnce = Note (note.Publish (who.Address from) None (Denied NotSupported)) ∷ []
-publish_outs s from p AtMostOnce = Note (note.Publish (who.Address from) None (Denied NoSession)) ∷ dismissed from ∷ []
-publish_outs s from p AtLeastOnce = Note (note.Publish (who.Address from) None (Denied NoSession)) ∷ dismissed from ∷ []
+abbrev pub replied : Cause → Address → Outcome → List Out
+replied c to Allowed = []
+replied c to (Denied rule) = denied_by c to rule
 
--- what a frame from an address is answered, and what is noted of it; of the messages only PUBLISH is taken yet
-abbrev pub frame_outs : State → Address → Result SnFrame FrameFault → List Out
-frame_outs s from (Ok (frame.Publish p)) = publish_outs s from p p.flags.qos
-frame_outs s from (Ok (frame.Connect connect)) = frame_denied (who.Address from) NotSupported
-frame_outs s from (Ok (frame.ConnectAck code)) = frame_denied (who.Address from) NotSupported
-frame_outs s from (Ok frame.WillTopicRequest) = frame_denied (who.Address from) NotSupported
-frame_outs s from (Ok (frame.WillTopic topic)) = frame_denied (who.Address from) NotSupported
-frame_outs s from (Ok frame.WillMessageRequest) = frame_denied (who.Address from) NotSupported
-frame_outs s from (Ok (frame.WillMessage message)) = frame_denied (who.Address from) NotSupported
-frame_outs s from (Ok (frame.Register register)) = frame_denied (who.Address from) NotSupported
-frame_outs s from (Ok (frame.RegisterAck answer)) = frame_denied (who.Address from) NotSupported
-frame_outs s from (Ok (frame.PublishAck answer)) = frame_denied (who.Address from) NotSupported
-frame_outs s from (Ok (frame.PublishComplete id)) = frame_denied (who.Address from) NotSupported
-frame_outs s from (Ok (frame.PublishReceived id)) = frame_denied (who.Address from) NotSupported
-frame_outs s from (Ok (frame.PublishRelease id)) = frame_denied (who.Address from) NotSupported
-frame_outs s from (Ok (frame.Subscribe request)) = frame_denied (who.Address from) NotSupported
-frame_outs s from (Ok (frame.SubscribeAck answer)) = frame_denied (who.Address from) NotSupported
-frame_outs s from (Ok (frame.Unsubscribe request)) = frame_denied (who.Address from) NotSupported
-frame_outs s from (Ok (frame.UnsubscribeAck id)) = frame_denied (who.Address from) NotSupported
-frame_outs s from (Ok (frame.PingRequest client)) = frame_denied (who.Address from) NotSupported
-frame_outs s from (Ok frame.PingResponse) = frame_denied (who.Address from) NotSupported
-frame_outs s from (Ok (frame.Disconnect duration)) = frame_denied (who.Address from) NotSupported
-frame_outs s from (Ok (frame.WillTopicUpdate topic)) = frame_denied (who.Address from) NotSupported
-frame_outs s from (Ok (frame.WillTopicResponse code)) = frame_denied (who.Address from) NotSupported
-frame_outs s from (Ok (frame.WillMessageUpdate message)) = frame_denied (who.Address from) NotSupported
-frame_outs s from (Ok (frame.WillMessageResponse code)) = frame_denied (who.Address from) NotSupported
-frame_outs s from (Err broken) = frame_denied (who.Address from) (rule_of broken)
+-- the frames that follow a note of a client, which is as it is at that place
+abbrev pub frames_of : Around → Client → Decision → List Out
+frames_of a x (note.Left id) = farewell a.cause x.address
+frames_of a x (note.Register who name outcome) = replied a.cause x.address outcome
+frames_of a x (note.Publish who name outcome) = replied a.cause x.address outcome
+frames_of a x (note.Subscribe who filter outcome) = replied a.cause x.address outcome
+frames_of a x (note.Unsubscribe who filter outcome) = replied a.cause x.address outcome
+frames_of a x (note.Will who name outcome) = replied a.cause x.address outcome
+frames_of a x (note.Frame who outcome) = replied a.cause x.address outcome
+frames_of a x (note.Connect id outcome) = []
+frames_of a x (note.Announce id name) = []
+frames_of a x (note.Hand id name outcome) = []
+frames_of a x (note.Retry id name outcome) = []
+frames_of a x (note.Forward who name outcome) = []
+frames_of a x (note.Again who name outcome) = []
+frames_of a x (note.End id filter outcome) = []
+frames_of a x (note.Lost id) = []
+frames_of a x note.Outbox = []
 
--- the whole row; no packet of the broker is taken yet
-abbrev pub whole : State → Event → Notes → List Out
-whole s (Datagram from datagram) notes = frame_outs s from (frame_of datagram)
-whole s (Broker packet) notes = frame_denied who.Broker NotSupported
-whole s Up notes = []
-whole s Down notes = []
-whole s Take notes = if s.up then leaving s.link.waiting notes.exits else []
-whole s (Replace policy) notes = []
-whole s (Tick clock) notes = []
+-- a client's notes, each with its frames
+abbrev pub spell : Around → Client → List Decision → List Out
+spell a x [] = []
+spell a x (said ∷ notes) = Note said ∷ (frames_of a x said ++ spell a (note_by a said x) notes)
+
+-- ---- the part of a client
+
+-- the answer to a message that makes no note: a PINGREQ in its turn is answered by PINGRESP (MQTT-SN 1.2, 6.11)
+abbrev pub pong_by : Outcome → Address → List Out
+pong_by Allowed to = pong to ∷ []
+pong_by (Denied rule) to = []
+
+abbrev pub answer : Cause → Client → List Out
+answer (ByPing from client) x = pong_by (ping_verdict client x) x.address
+answer (ByConnect from connect) x = []
+answer (ByLeave from) x = []
+answer (BySource from p) x = []
+answer (ByPublish from p) x = []
+answer (ByUnsupported from message) x = []
+answer (ByBroken from rule) x = []
+answer (ByPacket p) x = []
+answer ByUp x = []
+answer ByDown x = []
+answer ByTake x = []
+answer (ByReplace policy) x = []
+answer (ByTick clock) x = []
+
+-- all that a row lets out for one client
+abbrev pub part : Around → List Decision → Client → List Out
+part a notes x = (if is_author a.cause x then answer a.cause x else []) ++ spell a (start_by a x) notes
+
+-- ---- the row
+
+-- one of these clients is where the datagram came from
+abbrev pub any_from : Cause → List Client → Bool
+any_from c [] = false
+any_from c (x ∷ xs) = is_from c x || any_from c xs
+
+-- a message from an address at which no client is: it is noted, and one that needs a session is answered by DISCONNECT
+abbrev pub stranger_outs : Cause → List Out
+stranger_outs (ByPing from client) = Note (note.Frame (who.Address from) (Denied NoSession)) ∷ dismissed from ∷ []
+stranger_outs (ByLeave from) = Note (note.Frame (who.Address from) (Denied NoSession)) ∷ dismissed from ∷ []
+stranger_outs (ByPublish from p) = Note (note.Publish (who.Address from) None (Denied NoSession)) ∷ dismissed from ∷ []
+stranger_outs (ByUnsupported from message) = Note (denied_note message (who.Address from) NotSupported) ∷ []
+stranger_outs (ByBroken from rule) = Note (note.Frame (who.Address from) (Denied rule)) ∷ []
+stranger_outs (ByConnect from connect) = []
+stranger_outs (BySource from p) = []
+stranger_outs (ByPacket p) = []
+stranger_outs ByUp = []
+stranger_outs ByDown = []
+stranger_outs ByTake = []
+stranger_outs (ByReplace policy) = []
+stranger_outs (ByTick clock) = []
+
+-- a message of one client, or of nobody
+abbrev pub frame_row : State → Cause → Notes → List Out
+frame_row s c notes =
+    if any_from c s.clients
+    then flat_map (λ x. part (around s c) (notes.of x) x) s.clients
+    else stranger_outs c
+
+-- a client that connects from another address is dismissed where it was
+abbrev pub moved : Address → List ℕ → Client → List Out
+moved from id x =
+    if bytes_eq id x.id then (if has_session x.phase && not (same_address x.address from) then dismissed x.address ∷ [] else []) else []
+
+-- what another client lets out as one connects
+abbrev pub beside : Around → Notes → List ℕ → Client → List Out
+beside a notes id x = if bytes_eq id x.id then [] else part a (notes.of x) x
+
+-- a CONNECT that is accepted: the client is dismissed where it was before, another client at the address leaves, and CONNACK answers
+abbrev pub entry_row : State → Address → Connect → Notes → List Out
+entry_row s from connect notes =
+    flat_map (moved from connect.client_id) s.clients
+    ++ (flat_map (beside (around s (ByConnect from connect)) notes connect.client_id) s.clients ++ connack from ACCEPTED ∷ [])
+
+abbrev pub entry_outs : State → Address → Connect → Notes → Outcome → List Out
+entry_outs s from connect notes Allowed = Note (note.Connect connect.client_id Allowed) ∷ entry_row s from connect notes
+entry_outs s from connect notes (Denied rule) = Note (note.Connect connect.client_id (Denied rule)) ∷ connack from (code_of rule) ∷ []
+
+-- the whole row
+abbrev pub whole_by : State → Cause → Notes → List Out
+whole_by s (ByConnect from connect) notes = entry_outs s from connect notes (entry s connect)
+whole_by s (ByPing from client) notes = frame_row s (ByPing from client) notes
+whole_by s (ByLeave from) notes = frame_row s (ByLeave from) notes
+whole_by s (BySource from p) notes = Note (source_ask s from.ip p) ∷ []
+whole_by s (ByPublish from p) notes = frame_row s (ByPublish from p) notes
+whole_by s (ByUnsupported from message) notes = frame_row s (ByUnsupported from message) notes
+whole_by s (ByBroken from rule) notes = frame_row s (ByBroken from rule) notes
+whole_by s (ByPacket p) notes = Note (note.Frame who.Broker (Denied NotSupported)) ∷ []
+whole_by s ByUp notes = []
+whole_by s ByDown notes = []
+whole_by s ByTake notes = if s.up then leaving s.link s.link.waiting notes.exits else []
+whole_by s (ByReplace policy) notes = []
+whole_by s (ByTick clock) notes = []

@@ -5,12 +5,16 @@ ghost use Rattle.sng_book.specs.declared.outcome.Denial.TheVariants.{MissingPub}
 ghost use Rattle.sng_book.specs.declared.outcome.Outcome.TheVariants.{Allowed, Denied};
 ghost use Rattle.sng_history.specs.State.{opening};
 ghost use Rattle.sng_history.specs.Lawful.{LawfulRow, Lawful};
-ghost use Rattle.sng_history.specs.Examples.{source, at, publish_ab, publish_ab_long, asked_ab, forward_ab, packet_ab, stored_run, unknown_source, without_up, strangers, replaced_while_waiting, kept_while_down, waits, waits_replaced, waits_down};
+ghost use Rattle.sng_history.specs.Examples.{source, at, publish_ab, publish_ab_long, asked_ab, forward_ab, packet_ab, stored_run};
+ghost use Rattle.sng_history.specs.Examples.{unknown_source, without_up, strangers, replaced_while_waiting, kept_while_down};
+ghost use Rattle.sng_history.specs.Examples.{waits, waits_replaced, waits_down};
+ghost use Rattle.sng_history.specs.ExamplesClients.{home, away, s1, s2, connect_s1, connect_s2, disconnect, lets_in, welcome, bye};
+ghost use Rattle.sng_history.specs.ExamplesClients.{not_listed, moves, takes_over, goes, pings, at_home};
 
-/// Lawful histories: a publish that is granted goes out, with a Length of one octet or of three; a source that is not listed
-/// and one without a connection are denied; a session that is not there
-/// and what is not a frame are noted; a publish whose grant was replaced while it waited is denied as it leaves; and one that waits
-/// while the connection is down leaves over the next one.
+/// Lawful histories of devices without a session: a publish that is granted goes out, with a Length of one octet or of three; a
+/// source that is not listed and one without a connection are denied; a session that is not there and what is not a frame are noted; a
+/// publish whose grant was replaced while it waited is denied as it leaves; and one that waits while the connection is down leaves over
+/// the next one.
 pub fn lawful_rows()
     ensures short { Lawful opening (stored_run publish_ab) }
     ensures long { Lawful opening (stored_run publish_ab_long) }
@@ -31,4 +35,23 @@ pub fn unlawful_rows()
     ensures at_up { LawfulRow waits Up (forward_ab Allowed ∷ packet_ab ∷ []) → ⊥ }
     ensures denied { LawfulRow waits (Datagram (at source) publish_ab)
         (asked_ab source (Denied (MissingPub (codes "ab"))) ∷ []) → ⊥ }
+{}
+
+/// Lawful histories of clients: one that is listed is let in and one that is not is refused; a client that comes from another address is
+/// dismissed where it was, and has no session there any more; one that comes to the address of another puts that one out; a client
+/// leaves; and a PINGREQ that names another client has no session, where one that names none is answered.
+pub fn lawful_clients()
+    ensures refused { Lawful opening not_listed }
+    ensures moved { Lawful opening moves }
+    ensures taken_over { Lawful opening takes_over }
+    ensures left { Lawful opening goes }
+    ensures pinged { Lawful opening pings }
+{}
+
+/// Rows that may not come while a client is at home: another one is let in there and the first is not told to leave; it comes from
+/// elsewhere and where it was is not answered; and it takes its leave, which is not noted.
+pub fn unlawful_clients()
+    ensures both_there { LawfulRow at_home (Datagram home connect_s2) (lets_in s2 ∷ welcome home ∷ []) → ⊥ }
+    ensures unanswered { LawfulRow at_home (Datagram away connect_s1) (lets_in s1 ∷ welcome away ∷ []) → ⊥ }
+    ensures unnoted { LawfulRow at_home (Datagram home disconnect) (bye home ∷ []) → ⊥ }
 {}

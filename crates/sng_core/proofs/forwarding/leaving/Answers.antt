@@ -1,10 +1,9 @@
-use Rattle.std.proofs.Common.{◌≡◌, ◌++◌, List, [], ◌∷◌, length, refl, sym, ◌∙◌}
+use Rattle.std.proofs.Common.{◌≡◌, ◌++◌, List, [], ◌∷◌, length, refl, ◌∙◌}
 use Rattle.std.proofs.lemmas.List.{append_assoc, append-nil}
 use Rattle.std.specs.List.{flat_map}
 use Rattle.std.specs.VecDeque.Iter.{deque_iter_rest}
 use Rattle.sng_outbox.specs.declared.item.Item.{Item}
-use Rattle.sng_history.specs.Laws.{leaves}
-use Rattle.sng_history.proofs.ExitLemmas.{leaving-exits_of}
+use Rattle.sng_core.specs.Forms.{leaves}
 use Rattle.sng_core.proofs.forwarding.leaving.Goals as goal
 
 pub loop-item-preserved : goal.loop-item-preserved
@@ -26,4 +25,4 @@ pub returns : goal.returns
 returns c =
     let none : deque_iter_rest c.loop-item.item-iterator ≡ [] = none_left (deque_iter_rest c.loop-item.item-iterator) c.in-None.ensures.steps.0 in
     let all = rw (none, append-nil c.loop-item.outs) at c.loop-item.invariant.left in
-    all ∙ sym (leaving-exits_of c.args.policy.now c.args.outbox.now.waiting)
+    all

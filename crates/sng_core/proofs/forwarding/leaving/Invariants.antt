@@ -1,7 +1,7 @@
 use Rattle.std.proofs.Common.{◌≡◌, ◌++◌}
 use Rattle.std.specs.List.{flat_map}
 use Rattle.std.specs.VecDeque.Iter.{deque_iter_rest}
-use Rattle.sng_history.specs.Laws.{leaves}
+use Rattle.sng_core.specs.Forms.{leaves}
 use Rattle.sng_core.proofs.forwarding.leaving.Given as goal
 
 abbrev pub invariant-loop-item : goal.invariant-loop-item

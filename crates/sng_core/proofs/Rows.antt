@@ -1,0 +1,293 @@
+-- The row and the next state of each event, as code makes them.
+use Rattle.std.proofs.Common.{◌≡◌, ℕ, zero, suc, Bool, true, false, List, [], ◌∷◌, ◌++◌, map, refl, ap, sym, ◌∙◌, subst}
+use Rattle.std.specs.Prelude.{if◌then◌else◌, slice_get, Option, Some, None}
+use Rattle.std.specs.List.{flat_map}
+use Rattle.std.proofs.lemmas.List.{append-nil}
+use Rattle.sng_frames.specs.declared.messages.publish.Publish.{Publish}
+use Rattle.sng_frames.specs.declared.frame.SnFrame.{SnFrame}
+use Rattle.sng_frames.specs.declared.frame.SnFrame.TheVariants as frame
+use Rattle.sng_grants.specs.declared.policy.Policy.{Policy}
+use Rattle.mqtt_frames.specs.declared.packet.Packet.{Packet}
+use Rattle.sng_outbox.specs.Sending.{publishes}
+use Rattle.sng_outbox.specs.declared.item.Item.{Item}
+use Rattle.sng_book.specs.declared.address.Address.{Address}
+use Rattle.sng_book.specs.declared.decision.Who.TheVariants as who
+use Rattle.sng_book.specs.declared.outcome.Denial.{Denial}
+use Rattle.sng_book.specs.declared.outcome.Denial.TheVariants.{NotSupported}
+use Rattle.sng_book.specs.declared.outcome.Outcome.{Outcome}
+use Rattle.sng_book.specs.declared.outcome.Outcome.TheVariants.{Allowed, Denied}
+use Rattle.sng_book.specs.declared.out.Out.{Out}
+use Rattle.sng_book.specs.declared.out.Out.TheVariants.{Note}
+use Rattle.sng_book.specs.declared.decision.Decision.TheVariants as note
+use Rattle.sng_history.specs.Causes.{Cause, ByPing, ByLeave, BySource, ByPublish, ByUnsupported, ByBroken, ByPacket, ByUp, ByDown, ByTake, ByReplace, ByTick}
+use Rattle.sng_history.specs.Clients.{Around, Client, is_here, is_from, note_by}
+use Rattle.sng_history.specs.State.{State, around, later, asked_by, link_moved}
+use Rattle.sng_history.specs.Verdicts.{ping_verdict, source_ask}
+use Rattle.sng_history.specs.Answers.{denied_note, refused}
+use Rattle.sng_history.specs.Whole.{frames_of, denied_by, stranger_outs, any_from}
+use Rattle.sng_history.specs.Lawful.{exits_for}
+use Rattle.sng_history.specs.Steps.{outs_by, client_next, next_by, newcomers_for}
+use Rattle.sng_history.specs.Links.{Link}
+use Rattle.sng_history.specs.Exits.{exits_of}
+use Rattle.sng_history.specs.Good.{Good}
+use Rattle.sng_history.proofs.Plain.{plain_after}
+use Rattle.sng_history.proofs.Says.{part_for, row_for}
+use Rattle.sng_history.proofs.GoodNext.{good_next}
+use Rattle.sng_core.specs.Forms.{place_at, client_at, at_place, moved_if, found_outs, leaves, heard_at, left_at, left_outs, ping_outs, pinged, unsupported_outs, broken_outs}
+use Rattle.sng_core.specs.Moving.{moved_at}
+use Rattle.sng_core.proofs.Leaving.{leaving_plain}
+use Rattle.sng_core.proofs.Found.{found_here, nobody_here, one_outs, one_moves, no_moves, moved_same, any_here, none_here, read_at, within}
+
+-- the cause lets these outs out and leads to this state, which is good
+pub record Makes (s : State) (c : Cause) (row : List Out) (after : State) : Type 0 where
+  pub outs : row ≡ outs_by s c
+  pub next : after ≡ next_by s c
+  pub good : Good after
+
+pub makes : (s : State) (c : Cause) (outs : List Out) (after : State) → Good s → outs ≡ outs_by s c → after ≡ next_by s c → Makes s c outs after
+makes s c outs after good is to = record { outs = is; next = to; good = subst Good (sym to) (good_next s c good) }
+
+-- a message of one client at the address
+pub record Message (s : State) (c : Cause) (from : Address) : Type 0 where
+  pub of : (y : Client) → is_from c y ≡ is_here y from
+  pub quiet : (y : Client) → is_here y from ≡ false → part_for s c y ≡ []
+  pub same : (y : Client) → is_here y from ≡ false → client_next s c y ≡ y
+  pub outs : outs_by s c ≡ row_for s c
+  pub next : next_by s c ≡ record s { clients = map (client_next s c) (s.clients ++ []) }
+
+abbrev with_clients : State → List Client → State
+with_clients s xs = record s { clients = xs }
+
+-- it comes from this client
+pub found_row : (s : State) (c : Cause) (from : Address) (i : ℕ) (x : Client) (outs : List Out) (g : Client → Client) → Good s → Message s c from
+    → place_at from s.clients ≡ Some i → slice_get s.clients i ≡ Some x → (is_here x from ≡ true → outs ≡ part_for s c x) → (is_here x from ≡ true → g x ≡ client_next s c x)
+    → Makes s c outs (record s { clients = moved_at i g s.clients })
+found_row s c from i x outs g good m at read is moves =
+    let here = found_here from s.clients i x at read in
+    let any : any_from c s.clients ≡ true = any_here c from s.clients i x m.of read here in
+    makes s c outs (record s { clients = moved_at i g s.clients }) good
+    (is here ∙ (sym (one_outs from (part_for s c) s.clients i x m.quiet good.places read here) ∙ (sym (ap (λ b. if b then flat_map (part_for s c) s.clients else stranger_outs c) any) ∙ sym m.outs)))
+    (ap (with_clients s) (moved_same g (client_next s c) s.clients i x read (moves here)
+    ∙ (sym (one_moves from (client_next s c) s.clients i x m.same good.places read here) ∙ sym (ap (map (client_next s c)) (append-nil s.clients)))) ∙ sym m.next)
+
+-- or from nobody
+pub stranger_row : (s : State) (c : Cause) (from : Address) → Good s → Message s c from → place_at from s.clients ≡ None → Makes s c (stranger_outs c) s
+stranger_row s c from good m at =
+    let none = nobody_here from s.clients at in
+    let any : any_from c s.clients ≡ false = none_here c from s.clients m.of none in
+    makes s c (stranger_outs c) s good
+    (sym (ap (λ b. if b then flat_map (part_for s c) s.clients else stranger_outs c) any) ∙ sym m.outs)
+    (ap (with_clients s) (sym (no_moves from (client_next s c) s.clients m.same none) ∙ sym (ap (map (client_next s c)) (append-nil s.clients))) ∙ sym m.next)
+
+-- from whomever it comes
+pub message_row : (s : State) (c : Cause) (from : Address) (f : Client → List Out) (g : Client → Client) (place : Option ℕ) → Good s → Message s c from → place_at from s.clients ≡ place
+    → ((x : Client) → is_here x from ≡ true → f x ≡ part_for s c x) → ((x : Client) → is_here x from ≡ true → g x ≡ client_next s c x)
+    → Makes s c (found_outs c f (at_place s.clients place)) (record s { clients = moved_if place g s.clients })
+message_row s c from f g None good m at is moves = stranger_row s c from good m at
+message_row s c from f g (Some i) good m at is moves =
+    let x = client_at s.clients i in
+    found_row s c from i x (f x) g good m at (read_at s.clients i (within from s.clients i at)) (is x) (moves x)
+
+-- ---- each kind of message
+
+pub ping_message : (s : State) (from : Address) (client : Option (List ℕ)) → Message s (ByPing from client) from
+ping_message s from client = record { of = λ y. refl; quiet = λ y off. rw off refl; same = λ y off. rw off refl; outs = refl; next = refl }
+
+pub leave_message : (s : State) (from : Address) → Message s (ByLeave from) from
+leave_message s from = record { of = λ y. refl; quiet = λ y off. rw off refl; same = λ y off. rw off refl; outs = refl; next = refl }
+
+pub publish_message : (s : State) (from : Address) (p : Publish) → Message s (ByPublish from p) from
+publish_message s from p = record { of = λ y. refl; quiet = λ y off. rw off refl; same = λ y off. rw off refl; outs = refl; next = refl }
+
+pub unsupported_message : (s : State) (from : Address) (message : SnFrame) → Message s (ByUnsupported from message) from
+unsupported_message s from message = record { of = λ y. refl; quiet = λ y off. rw off refl; same = λ y off. rw off refl; outs = refl; next = refl }
+
+pub broken_message : (s : State) (from : Address) (rule : Denial) → Message s (ByBroken from rule) from
+broken_message s from rule = record { of = λ y. refl; quiet = λ y off. rw off refl; same = λ y off. rw off refl; outs = refl; next = refl }
+
+-- ---- a DISCONNECT
+
+pub leave_row : (s : State) (from : Address) → Good s
+    → Makes s (ByLeave from) (found_outs (ByLeave from) left_outs (at_place s.clients (place_at from s.clients))) (record s { clients = moved_if (place_at from s.clients) (left_at s.clock) s.clients })
+leave_row s from good =
+    message_row s (ByLeave from) from left_outs (left_at s.clock) (place_at from s.clients) good (leave_message s from) refl (λ x here. rw here refl) (λ x here. rw here refl)
+
+-- ---- a PINGREQ
+
+ping_outs_by : (s : State) (from : Address) (client : Option (List ℕ)) (x : Client) (o : Outcome) → ping_verdict client x ≡ o → is_here x from ≡ true → ping_outs from client x o ≡ part_for s (ByPing from client) x
+ping_outs_by s from client x Allowed is here = rw (here, is) refl
+ping_outs_by s from client x (Denied rule) is here = rw (here, is) (ap (λ more. Note (note.Frame (who.Client x.id) (Denied rule)) ∷ more) (sym (append-nil (denied_by (ByPing from client) x.address rule))))
+
+ping_next_by : (s : State) (from : Address) (client : Option (List ℕ)) (x : Client) (o : Outcome) → ping_verdict client x ≡ o → is_here x from ≡ true → heard_at s.clock x ≡ client_next s (ByPing from client) x
+ping_next_by s from client x Allowed is here = rw (here, is) refl
+ping_next_by s from client x (Denied rule) is here = rw (here, is) refl
+
+pub ping_row : (s : State) (from : Address) (client : Option (List ℕ)) → Good s
+    → Makes s (ByPing from client) (found_outs (ByPing from client) (pinged from client) (at_place s.clients (place_at from s.clients))) (record s { clients = moved_if (place_at from s.clients) (heard_at s.clock) s.clients })
+ping_row s from client good =
+    message_row s (ByPing from client) from (pinged from client) (heard_at s.clock) (place_at from s.clients) good (ping_message s from client) refl
+    (λ x here. ping_outs_by s from client x (ping_verdict client x) refl here) (λ x here. ping_next_by s from client x (ping_verdict client x) refl here)
+
+-- ---- a message that is not taken
+
+pub publish_row : (s : State) (from : Address) (p : Publish) → Good s
+    → Makes s (ByPublish from p) (found_outs (ByPublish from p) (unsupported_outs (frame.Publish p)) (at_place s.clients (place_at from s.clients))) (record s { clients = moved_if (place_at from s.clients) (heard_at s.clock) s.clients })
+publish_row s from p good =
+    message_row s (ByPublish from p) from (unsupported_outs (frame.Publish p)) (heard_at s.clock) (place_at from s.clients) good (publish_message s from p) refl
+    (λ x here. rw here (ap (λ more. Note (note.Publish (who.Client x.id) None (Denied NotSupported)) ∷ more) (sym (append-nil (refused x.address (frame.Publish p) NotSupported))))) (λ x here. rw here refl)
+
+denied_frames : (s : State) (from : Address) (all : SnFrame) (x : Client) (message : SnFrame)
+    → frames_of (around s (ByUnsupported from all)) x (denied_note message (who.Client x.id) NotSupported) ≡ refused x.address all NotSupported
+denied_frames s from all x (frame.Connect connect) = refl
+denied_frames s from all x (frame.ConnectAck code) = refl
+denied_frames s from all x frame.WillTopicRequest = refl
+denied_frames s from all x (frame.WillTopic topic) = refl
+denied_frames s from all x frame.WillMessageRequest = refl
+denied_frames s from all x (frame.WillMessage message) = refl
+denied_frames s from all x (frame.Register register) = refl
+denied_frames s from all x (frame.RegisterAck answer) = refl
+denied_frames s from all x (frame.Publish p) = refl
+denied_frames s from all x (frame.PublishAck answer) = refl
+denied_frames s from all x (frame.PublishComplete packet) = refl
+denied_frames s from all x (frame.PublishReceived packet) = refl
+denied_frames s from all x (frame.PublishRelease packet) = refl
+denied_frames s from all x (frame.Subscribe request) = refl
+denied_frames s from all x (frame.SubscribeAck answer) = refl
+denied_frames s from all x (frame.Unsubscribe request) = refl
+denied_frames s from all x (frame.UnsubscribeAck packet) = refl
+denied_frames s from all x (frame.PingRequest client) = refl
+denied_frames s from all x frame.PingResponse = refl
+denied_frames s from all x (frame.Disconnect duration) = refl
+denied_frames s from all x (frame.WillTopicUpdate topic) = refl
+denied_frames s from all x (frame.WillTopicResponse code) = refl
+denied_frames s from all x (frame.WillMessageUpdate message) = refl
+denied_frames s from all x (frame.WillMessageResponse code) = refl
+
+denied_stays : (a : Around) (x : Client) (id : List ℕ) (message : SnFrame) → note_by a (denied_note message (who.Client id) NotSupported) x ≡ x
+denied_stays a x id (frame.Connect connect) = refl
+denied_stays a x id (frame.ConnectAck code) = refl
+denied_stays a x id frame.WillTopicRequest = refl
+denied_stays a x id (frame.WillTopic topic) = refl
+denied_stays a x id frame.WillMessageRequest = refl
+denied_stays a x id (frame.WillMessage message) = refl
+denied_stays a x id (frame.Register register) = refl
+denied_stays a x id (frame.RegisterAck answer) = refl
+denied_stays a x id (frame.Publish p) = refl
+denied_stays a x id (frame.PublishAck answer) = refl
+denied_stays a x id (frame.PublishComplete packet) = refl
+denied_stays a x id (frame.PublishReceived packet) = refl
+denied_stays a x id (frame.PublishRelease packet) = refl
+denied_stays a x id (frame.Subscribe request) = refl
+denied_stays a x id (frame.SubscribeAck answer) = refl
+denied_stays a x id (frame.Unsubscribe request) = refl
+denied_stays a x id (frame.UnsubscribeAck packet) = refl
+denied_stays a x id (frame.PingRequest client) = refl
+denied_stays a x id frame.PingResponse = refl
+denied_stays a x id (frame.Disconnect duration) = refl
+denied_stays a x id (frame.WillTopicUpdate topic) = refl
+denied_stays a x id (frame.WillTopicResponse code) = refl
+denied_stays a x id (frame.WillMessageUpdate message) = refl
+denied_stays a x id (frame.WillMessageResponse code) = refl
+
+unsupported_part : (s : State) (from : Address) (message : SnFrame) (x : Client) → is_here x from ≡ true → unsupported_outs message x ≡ part_for s (ByUnsupported from message) x
+unsupported_part s from message x here =
+    rw here (ap (λ more. Note (denied_note message (who.Client x.id) NotSupported) ∷ more)
+    (sym (append-nil (refused x.address message NotSupported)) ∙ ap (λ outs. outs ++ []) (sym (denied_frames s from message (heard_at s.clock x) message))))
+
+unsupported_next : (s : State) (from : Address) (message : SnFrame) (x : Client) → is_here x from ≡ true → heard_at s.clock x ≡ client_next s (ByUnsupported from message) x
+unsupported_next s from message x here = rw here (sym (denied_stays (around s (ByUnsupported from message)) (heard_at s.clock x) x.id message))
+
+pub unsupported_row : (s : State) (from : Address) (message : SnFrame) → Good s
+    → Makes s (ByUnsupported from message) (found_outs (ByUnsupported from message) (unsupported_outs message) (at_place s.clients (place_at from s.clients))) (record s { clients = moved_if (place_at from s.clients) (heard_at s.clock) s.clients })
+unsupported_row s from message good =
+    message_row s (ByUnsupported from message) from (unsupported_outs message) (heard_at s.clock) (place_at from s.clients) good (unsupported_message s from message) refl
+    (unsupported_part s from message) (unsupported_next s from message)
+
+-- ---- a datagram that is not a message
+
+abbrev same_client : Client → Client
+same_client x = x
+
+moved_none : (xs : List Client) (i : ℕ) → moved_at i same_client xs ≡ xs
+moved_none [] i = refl
+moved_none (x ∷ xs) zero = refl
+moved_none (x ∷ xs) (suc i) = ap (λ ys. x ∷ ys) (moved_none xs i)
+
+moved_nobody : (xs : List Client) (place : Option ℕ) → moved_if place same_client xs ≡ xs
+moved_nobody xs None = refl
+moved_nobody xs (Some i) = moved_none xs i
+
+pub broken_row : (s : State) (from : Address) (rule : Denial) → Good s → Makes s (ByBroken from rule) (found_outs (ByBroken from rule) (broken_outs rule) (at_place s.clients (place_at from s.clients))) s
+broken_row s from rule good =
+    subst (Makes s (ByBroken from rule) (found_outs (ByBroken from rule) (broken_outs rule) (at_place s.clients (place_at from s.clients)))) (ap (with_clients s) (moved_nobody s.clients (place_at from s.clients)))
+    (message_row s (ByBroken from rule) from (broken_outs rule) same_client (place_at from s.clients) good (broken_message s from rule) refl (λ x here. rw here refl) (λ x here. rw here refl))
+
+-- ---- what no client is moved by
+
+-- nobody is touched
+pub record Idle (s : State) (c : Cause) : Type 0 where
+  pub none : newcomers_for s c ≡ []
+  pub same : (x : Client) → client_next s c x ≡ x
+
+all_same : (g : Client → Client) (xs : List Client) → ((x : Client) → g x ≡ x) → map g xs ≡ xs
+all_same g [] same = refl
+all_same g (x ∷ xs) same = rw (same x, all_same g xs same) refl
+
+pub idle_clients : (s : State) (c : Cause) → Idle s c → map (client_next s c) (s.clients ++ newcomers_for s c) ≡ s.clients
+idle_clients s c idle =
+    ap (λ xs. map (client_next s c) (s.clients ++ xs)) idle.none ∙ (ap (map (client_next s c)) (append-nil s.clients) ∙ all_same (client_next s c) s.clients idle.same)
+
+abbrev with_all : State → List Item → List Client → State
+with_all s items xs = record s { link = record s.link { waiting = items }; clients = xs }
+
+pub source_row : (s : State) (from : Address) (p : Publish) → Good s
+    → Makes s (BySource from p) (Note (source_ask s from.ip p) ∷ []) (record s { link = record s.link { waiting = s.link.waiting ++ asked_by (source_ask s from.ip p) p } })
+source_row s from p good =
+    makes s (BySource from p) (Note (source_ask s from.ip p) ∷ []) (record s { link = record s.link { waiting = s.link.waiting ++ asked_by (source_ask s from.ip p) p } }) good refl
+    (ap (with_all s (s.link.waiting ++ asked_by (source_ask s from.ip p) p)) (sym (idle_clients s (BySource from p) (record { none = refl; same = λ x. refl }))))
+
+pub packet_row : (s : State) (p : Packet) → Good s → Makes s (ByPacket p) (Note (note.Frame who.Broker (Denied NotSupported)) ∷ []) s
+packet_row s p good =
+    makes s (ByPacket p) (Note (note.Frame who.Broker (Denied NotSupported)) ∷ []) s good refl (ap (with_clients s) (sym (idle_clients s (ByPacket p) (record { none = refl; same = λ x. refl }))))
+
+pub up_row : (s : State) → Good s → Makes s ByUp [] (record s { up = true; link = record s.link { waiting = if s.up then publishes s.link.waiting else s.link.waiting; pinged = s.clock } })
+up_row s good =
+    makes s ByUp [] (record s { up = true; link = record s.link { waiting = if s.up then publishes s.link.waiting else s.link.waiting; pinged = s.clock } }) good refl
+    (ap (with_clients (record s { up = true; link = record s.link { waiting = if s.up then publishes s.link.waiting else s.link.waiting; pinged = s.clock } })) (sym (idle_clients s ByUp (record { none = refl; same = λ x. refl }))))
+
+pub down_row : (s : State) → Good s → Makes s ByDown [] (record s { up = false; link = record s.link { waiting = publishes s.link.waiting } })
+down_row s good =
+    makes s ByDown [] (record s { up = false; link = record s.link { waiting = publishes s.link.waiting } }) good refl
+    (ap (with_clients (record s { up = false; link = record s.link { waiting = publishes s.link.waiting } })) (sym (idle_clients s ByDown (record { none = refl; same = λ x. refl }))))
+
+abbrev pub taken_outs : State → List Out
+taken_outs s = if s.up then flat_map (leaves s.policy) s.link.waiting else []
+
+abbrev pub taken_next : State → State
+taken_next s = record s { link = record s.link { waiting = if s.up then [] else s.link.waiting } }
+
+take_outs : (s : State) (up : Bool) → s.up ≡ up → Good s → taken_outs s ≡ outs_by s ByTake
+take_outs s true is good = rw is (sym (leaving_plain s.policy s.link s.link.waiting good.plain))
+take_outs s false is good = rw is refl
+
+abbrev with_link : State → Link → State
+with_link s link = record s { link = record link { waiting = if s.up then [] else s.link.waiting } }
+
+take_link : (s : State) (up : Bool) → s.up ≡ up → Good s → link_moved s ByTake (exits_for s ByTake) ≡ s.link
+take_link s true is good = rw is (plain_after s.link s.link.waiting (exits_of s.policy s.link.waiting) good.plain)
+take_link s false is good = rw is refl
+
+pub take_row : (s : State) → Good s → Makes s ByTake (taken_outs s) (taken_next s)
+take_row s good =
+    makes s ByTake (taken_outs s) (taken_next s) good
+    (take_outs s s.up refl good)
+    (ap (with_clients (taken_next s)) (sym (idle_clients s ByTake (record { none = refl; same = λ x. refl })))
+    ∙ ap (λ link. with_clients (with_link s link) (map (client_next s ByTake) (s.clients ++ []))) (sym (take_link s s.up refl good)))
+
+pub replace_row : (s : State) (policy : Policy) → Good s → Makes s (ByReplace policy) [] (record s { policy = policy })
+replace_row s policy good =
+    makes s (ByReplace policy) [] (record s { policy = policy }) good refl (ap (with_clients (record s { policy = policy })) (sym (idle_clients s (ByReplace policy) (record { none = refl; same = λ x. refl }))))
+
+pub tick_row : (s : State) (clock : ℕ) → Good s → Makes s (ByTick clock) [] (record s { clock = later s.clock clock })
+tick_row s clock good =
+    makes s (ByTick clock) [] (record s { clock = later s.clock clock }) good refl (ap (with_clients (record s { clock = later s.clock clock })) (sym (idle_clients s (ByTick clock) (record { none = refl; same = λ x. refl }))))

@@ -1,0 +1,257 @@
+//! Messages of one client, which is found by the address (MQTT-SN 1.2, 6.11 and 6.14): what is let out is planned first, and what
+//! changes cannot fail.
+ghost use Rattle.std.specs.Prelude.{◌≡◌, ◌<◌, ◌∷◌, [], length, None, IfOk, OnOk, OnErr};
+ghost use Rattle.sng_history.specs.Answers.{dismissed};
+ghost use Rattle.sng_frames.specs.declared.frame.SnFrame.TheVariants as frame;
+ghost use Rattle.sng_history.specs.Causes.{ByPing, ByLeave, ByPublish, ByUnsupported, ByBroken};
+ghost use Rattle.sng_history.specs.Verdicts.{is_active, names_other};
+ghost use Rattle.sng_history.specs.Whole.{stranger_outs};
+ghost use Rattle.sng_core.specs.Forms.{place_at, client_at, at_place, moved_if, heard_at, left_at, found_outs, left_outs, pinged, unsupported_outs, broken_outs};
+
+use crate::answers::{code_of, denied_note, dismissed, only, pong, refused};
+use crate::sessions::Sessions;
+use sng_book::{Address, Decision, Denial, Out, Outcome, Outs, Who};
+use sng_frames::{Publish, SnFrame, TopicAck, write_publish_ack};
+use sng_states::ClientState;
+use sng_text::{ClientId, Octets};
+use std::alloc::{AllocError, Global};
+
+/// A DISCONNECT without Duration: the client leaves.
+pub fn leave(
+    alloc: Global,
+    clock: u64,
+    from: Address,
+    sessions: &mut Sessions,
+) -> Result<Outs, AllocError>
+    ensures outs { IfOk result (λ outs. outs ≡ found_outs (ByLeave from) left_outs (at_place sessions.old (place_at from sessions.old))) }
+    ensures next { OnOk result (sessions.new ≡ moved_if (place_at from sessions.old) (left_at clock) sessions.old) }
+    ensures err { OnErr result (sessions.new ≡ sessions.old) }
+{
+    let Some(place) = sessions.at(from) else {
+        let outs = no_session(alloc, from)?;
+        return Ok(outs);
+    };
+    let outs = left_outs(alloc, sessions, place)?;
+    sessions.leave(place, clock);
+    Ok(outs)
+}
+
+fn left_outs(alloc: Global, sessions: &Sessions, place: usize) -> Result<Outs, AllocError>
+    requires { place < length sessions.now }
+    ensures { IfOk result (λ outs. outs ≡ left_outs (client_at sessions.now place)) }
+{
+    let mut outs = Outs::with_capacity(alloc, 2)?;
+    outs.push(Out::Note(Decision::Left(sessions.id(place).copy()?)))?;
+    outs.push(dismissed(alloc, sessions.address(place))?)?;
+    Ok(outs)
+}
+
+/// A PINGREQ.
+pub fn ping(
+    alloc: Global,
+    clock: u64,
+    from: Address,
+    client: Option<ClientId>,
+    sessions: &mut Sessions,
+) -> Result<Outs, AllocError>
+    ensures outs { IfOk result (λ outs. outs ≡ found_outs (ByPing from client) (pinged from client) (at_place sessions.old (place_at from sessions.old))) }
+    ensures next { OnOk result (sessions.new ≡ moved_if (place_at from sessions.old) (heard_at clock) sessions.old) }
+    ensures err { OnErr result (sessions.new ≡ sessions.old) }
+{
+    let Some(place) = sessions.at(from) else {
+        let outs = no_session(alloc, from)?;
+        return Ok(outs);
+    };
+    let outs = pinged(alloc, from, &client, sessions, place)?;
+    sessions.hear(place, clock);
+    Ok(outs)
+}
+
+fn pinged(
+    alloc: Global,
+    from: Address,
+    client: &Option<ClientId>,
+    sessions: &Sessions,
+    place: usize,
+) -> Result<Outs, AllocError>
+    requires { place < length sessions.now }
+    ensures { IfOk result (λ outs. outs ≡ pinged from client.now (client_at sessions.now place)) }
+{
+    if names_other(client, sessions.id(place)) {
+        let mut outs = denied_frame(alloc, sessions, place, Denial::NoSession)?;
+        outs.push(dismissed(alloc, sessions.address(place))?)?;
+        return Ok(outs);
+    }
+    if is_active(sessions.phase(place)) {
+        only(alloc, pong(alloc, sessions.address(place))?)
+    } else {
+        denied_frame(alloc, sessions, place, Denial::OutOfTurn)
+    }
+}
+
+/// Whether a PINGREQ names another client.
+fn names_other(client: &Option<ClientId>, own: &ClientId) -> bool
+    ensures { result ≡ names_other client.now own.now }
+{
+    match client {
+        None => false,
+        Some(id) => id != own,
+    }
+}
+
+fn is_active(phase: ClientState) -> bool
+    ensures { result ≡ is_active phase }
+{
+    match phase {
+        ClientState::Active => true,
+        ClientState::Dialogue => false,
+        ClientState::Asleep => false,
+        ClientState::Awake => false,
+        ClientState::Disconnected => false,
+        ClientState::Lost => false,
+    }
+}
+
+/// The note of a client's message that asks for nothing and is denied.
+fn denied_frame(
+    alloc: Global,
+    sessions: &Sessions,
+    place: usize,
+    rule: Denial,
+) -> Result<Outs, AllocError>
+    requires { place < length sessions.now }
+    ensures { IfOk result (λ outs. outs ≡ broken_outs rule (client_at sessions.now place)) }
+{
+    let who = Who::Client(sessions.id(place).copy()?);
+    only(
+        alloc,
+        Out::Note(Decision::Frame(who, Outcome::Denied(rule))),
+    )
+}
+
+/// A PUBLISH of a session, which is not taken yet.
+pub fn publish(
+    alloc: Global,
+    clock: u64,
+    from: Address,
+    publish: &Publish,
+    sessions: &mut Sessions,
+) -> Result<Outs, AllocError>
+    ensures outs { IfOk result (λ outs. outs ≡ found_outs (ByPublish from publish.now) (unsupported_outs (frame.Publish publish.now)) (at_place sessions.old (place_at from sessions.old))) }
+    ensures next { OnOk result (sessions.new ≡ moved_if (place_at from sessions.old) (heard_at clock) sessions.old) }
+    ensures err { OnErr result (sessions.new ≡ sessions.old) }
+{
+    let Some(place) = sessions.at(from) else {
+        let outs = no_session_publish(alloc, from)?;
+        return Ok(outs);
+    };
+    let outs = publish_outs(alloc, publish, sessions, place)?;
+    sessions.hear(place, clock);
+    Ok(outs)
+}
+
+fn publish_outs(
+    alloc: Global,
+    publish: &Publish,
+    sessions: &Sessions,
+    place: usize,
+) -> Result<Outs, AllocError>
+    requires { place < length sessions.now }
+    ensures { IfOk result (λ outs. outs ≡ unsupported_outs (frame.Publish publish.now) (client_at sessions.now place)) }
+{
+    let who = Who::Client(sessions.id(place).copy()?);
+    let denied = Outcome::Denied(Denial::NotSupported);
+    let mut outs = Outs::with_capacity(alloc, 2)?;
+    outs.push(Out::Note(Decision::Publish(who, None, denied)))?;
+    let ack = TopicAck {
+        topic_id: publish.topic_id,
+        msg_id: publish.msg_id,
+        code: code_of(&Denial::NotSupported),
+    };
+    let datagram = write_publish_ack(alloc, ack)?;
+    outs.push(Out::Send(sessions.address(place), Octets::from(datagram)))?;
+    Ok(outs)
+}
+
+/// A message of a type or form that is not taken.
+pub fn unsupported(
+    alloc: Global,
+    clock: u64,
+    from: Address,
+    message: &SnFrame,
+    sessions: &mut Sessions,
+) -> Result<Outs, AllocError>
+    ensures outs { IfOk result (λ outs. outs ≡ found_outs (ByUnsupported from message.now) (unsupported_outs message.now) (at_place sessions.old (place_at from sessions.old))) }
+    ensures next { OnOk result (sessions.new ≡ moved_if (place_at from sessions.old) (heard_at clock) sessions.old) }
+    ensures err { OnErr result (sessions.new ≡ sessions.old) }
+{
+    let Some(place) = sessions.at(from) else {
+        let note = denied_note(message, Who::Address(from), Denial::NotSupported);
+        let outs = only(alloc, Out::Note(note))?;
+        return Ok(outs);
+    };
+    let outs = unsupported_outs(alloc, message, sessions, place)?;
+    sessions.hear(place, clock);
+    Ok(outs)
+}
+
+fn unsupported_outs(
+    alloc: Global,
+    message: &SnFrame,
+    sessions: &Sessions,
+    place: usize,
+) -> Result<Outs, AllocError>
+    requires { place < length sessions.now }
+    ensures { IfOk result (λ outs. outs ≡ unsupported_outs message.now (client_at sessions.now place)) }
+{
+    let who = Who::Client(sessions.id(place).copy()?);
+    let mut outs = Outs::with_capacity(alloc, 2)?;
+    outs.push(Out::Note(denied_note(message, who, Denial::NotSupported)))?;
+    refused(
+        alloc,
+        sessions.address(place),
+        message,
+        &Denial::NotSupported,
+        &mut outs,
+    )?;
+    Ok(outs)
+}
+
+/// A datagram that is not a message, by the rule that it breaks.
+pub fn broken(
+    alloc: Global,
+    from: Address,
+    rule: Denial,
+    sessions: &Sessions,
+) -> Result<Outs, AllocError>
+    ensures { IfOk result (λ outs. outs ≡ found_outs (ByBroken from rule) (broken_outs rule) (at_place sessions.now (place_at from sessions.now))) }
+{
+    let Some(place) = sessions.at(from) else {
+        let note = Decision::Frame(Who::Address(from), Outcome::Denied(rule));
+        return only(alloc, Out::Note(note));
+    };
+    denied_frame(alloc, sessions, place, rule)
+}
+
+/// A message that needs a session comes from an address that has none: it is noted, and answered by DISCONNECT.
+fn no_session(alloc: Global, from: Address) -> Result<Outs, AllocError>
+    ensures { IfOk result (λ outs. outs ≡ stranger_outs (ByLeave from)) }
+{
+    let note = Decision::Frame(Who::Address(from), Outcome::Denied(Denial::NoSession));
+    let mut outs = Outs::with_capacity(alloc, 2)?;
+    outs.push(Out::Note(note))?;
+    outs.push(dismissed(alloc, from)?)?;
+    Ok(outs)
+}
+
+/// The same for a PUBLISH.
+fn no_session_publish(alloc: Global, from: Address) -> Result<Outs, AllocError>
+    ensures { IfOk result (λ outs. outs ≡
+        Out.Note (Decision.Publish (Who.Address from) None (Outcome.Denied Denial.NoSession)) ∷ dismissed from ∷ []) }
+{
+    let note = Decision::Publish(Who::Address(from), None, Outcome::Denied(Denial::NoSession));
+    let mut outs = Outs::with_capacity(alloc, 2)?;
+    outs.push(Out::Note(note))?;
+    outs.push(dismissed(alloc, from)?)?;
+    Ok(outs)
+}

@@ -1,0 +1,83 @@
+//! A PUBLISH without a session, of which only the sender's IPv4 address counts (MQTT-SN 1.2, 6.8). Nothing answers it.
+ghost use Rattle.std.specs.Prelude.{◌≡◌, ◌∷◌, [], IfOk, OnOk, OnErr, Ok, None};
+ghost use Rattle.sng_history.specs.State.{asked_by};
+ghost use Rattle.sng_history.specs.Verdicts.{source_ask, named_ask};
+ghost use Rattle.sng_core.specs.Forms.{joined};
+
+use crate::answers::only;
+use crate::parts::Parts;
+use crate::verdict::name_in;
+use sng_book::{Decision, Denial, Out, Outcome, Outs, Who};
+use sng_frames::Publish;
+use sng_outbox::{Item, Origin, Publication};
+use sng_policy::lists_source;
+use sng_text::{Qos, TopicName};
+use std::alloc::{AllocError, Global};
+
+impl Parts {
+    /// A source asks for a publish. What is allowed joins what waits.
+    pub fn source_ask(
+        &mut self,
+        alloc: Global,
+        source: [u8; 4],
+        publish: Publish,
+    ) -> Result<Outs, AllocError>
+        ensures outs { IfOk result (λ outs. outs ≡ Out.Note (source_ask self.old source publish) ∷ []) }
+        ensures next { OnOk result (self.new ≡ joined self.old
+            (asked_by (source_ask self.old source publish) publish)) }
+        ensures err { OnErr result (self.new ≡ self.old) }
+    {
+        if !lists_source(&self.policy, source) {
+            return publish_denied(alloc, Who::Source(source), Denial::UnknownSource);
+        }
+        match name_in(alloc, &self.policy, publish.flags.id_type, publish.topic_id)? {
+            Ok(name) => self.named_ask(alloc, source, name, publish),
+            Err(rule) => publish_denied(alloc, Who::Source(source), rule),
+        }
+    }
+
+    /// A listed source asks for a publish under this name.
+    fn named_ask(
+        &mut self,
+        alloc: Global,
+        source: [u8; 4],
+        name: TopicName,
+        publish: Publish,
+    ) -> Result<Outs, AllocError>
+        ensures outs { IfOk result (λ outs. outs ≡ Out.Note (named_ask self.old source (Ok name)) ∷ []) }
+        ensures next { OnOk result (self.new ≡ joined self.old
+            (asked_by (named_ask self.old source (Ok name)) publish)) }
+        ensures err { OnErr result (self.new ≡ self.old) }
+    {
+        let origin = Origin::Source(source);
+        let verdict = self.verdict(&origin, &name)?;
+        let is_allowed = verdict.is_allowed();
+        let asked = Decision::Publish(Who::Source(source), Some(name.copy()?), verdict);
+        let outs = only(alloc, Out::Note(asked))?;
+        if is_allowed {
+            let retain = publish.flags.retain;
+            let payload = publish.payload;
+            let item = Item::Publish(Publication {
+                origin,
+                name,
+                payload,
+                qos: Qos::AtMostOnce,
+                retain,
+            });
+            if self.outbox.push(item).is_err() {
+                unreachable!()
+            }
+        }
+        Ok(outs)
+    }
+}
+
+/// An ask to publish is denied before a name was read.
+fn publish_denied(alloc: Global, who: Who, rule: Denial) -> Result<Outs, AllocError>
+    ensures { IfOk result (λ outs. outs ≡ Out.Note (Decision.Publish who None (Outcome.Denied rule)) ∷ []) }
+{
+    only(
+        alloc,
+        Out::Note(Decision::Publish(who, None, Outcome::Denied(rule))),
+    )
+}

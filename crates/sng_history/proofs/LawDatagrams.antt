@@ -1,0 +1,129 @@
+-- What a lawful row lets out with a datagram, in the views' words.
+use Rattle.std.proofs.Common.{◌≡◌, ℕ, ◌≤◌, true, List, [], ◌∷◌, refl, ap, sym, ◌∙◌, subst, length}
+use Rattle.std.specs.Prelude.{Option, Some, None}
+use Rattle.mqtt_frames.specs.declared.packet.Packet.{Packet}
+use Rattle.sng_frames.specs.declared.fault.FrameFault.{FrameFault}
+use Rattle.sng_frames.specs.declared.fault.FrameFault.TheVariants as fault
+use Rattle.sng_frames.specs.declared.messages.connect.Connect.{Connect}
+use Rattle.sng_frames.specs.declared.messages.publish.Publish.{Publish}
+use Rattle.sng_frames.specs.declared.qos.FrameQos.{FrameQos}
+use Rattle.sng_frames.specs.declared.qos.FrameQos.TheVariants as qos
+use Rattle.sng_frames.specs.declared.frame.SnFrame.{SnFrame}
+use Rattle.sng_frames.specs.declared.frame.SnFrame.TheVariants as frame
+use Rattle.sng_book.specs.declared.address.Address.{Address}
+use Rattle.sng_book.specs.declared.decision.Decision.TheVariants as note
+use Rattle.sng_book.specs.declared.decision.Who.TheVariants as who
+use Rattle.sng_book.specs.declared.outcome.Denial.TheVariants.{NotSupported}
+use Rattle.sng_book.specs.declared.outcome.Outcome.TheVariants.{Denied}
+use Rattle.sng_book.specs.declared.event.Event.TheVariants.{Broker}
+use Rattle.sng_book.specs.declared.out.Out.TheVariants.{Note}
+use Rattle.sng_book.specs.declared.row.Row.{Row}
+use Rattle.sng_history.specs.Causes.{Cause, ByConnect, ByPing, ByLeave, BySource, ByPublish, ByUnsupported, ByBroken, rule_of, publish_cause, disconnect_cause, frame_cause, datagram_cause, cause_of}
+use Rattle.sng_history.specs.State.{opening, state_of}
+use Rattle.sng_history.specs.Lawful.{Lawful}
+use Rattle.sng_history.specs.Steps.{outs_by}
+use Rattle.sng_history.specs.ViewsMessages.{is_without_session}
+use Rattle.sng_history.specs.ViewsClients.{those_at}
+use Rattle.sng_history.specs.LawsAnswers.{Brought, Broken, connect_answer, source_answer, answer_to, no_session, ping_answer, leave_answer, broken_rule, broken_stranger, broken_answer}
+use Rattle.sng_history.specs.LawsUnsupported.{is_of_session, is_exactly_once, is_unsupported, unsupported_stranger, unsupported_answer, publish_stranger}
+use Rattle.sng_history.proofs.Keeping.{exact_by}
+use Rattle.sng_history.proofs.SeenState.{stands}
+use Rattle.sng_history.proofs.LawHere.{those_kept, most_here}
+use Rattle.sng_history.proofs.LawEntry.{connect_row}
+use Rattle.sng_history.proofs.LawSource.{source_row}
+use Rattle.sng_history.proofs.LawMessages.{unsupported_row, publish_row, ping_row, leave_row, broken_row}
+
+-- a lawful row lets out what its cause says
+row_outs : (h : List Row) (row : Row) (c : Cause) → Lawful opening (row ∷ h) → cause_of row.event ≡ c → row.outs ≡ outs_by (state_of opening h) c
+row_outs h row c l is =
+    exact_by (state_of opening h) (cause_of row.event) row.outs l.1 ∙ ap (outs_by (state_of opening h)) is
+
+message_cause : (row : Row) (from : Address) (message : SnFrame) → Brought row from message → cause_of row.event ≡ frame_cause from message
+message_cause row from message brought = ap cause_of brought.event ∙ ap (datagram_cause from) brought.reads
+
+-- ---- who is at an address
+
+pub one_at : (h : List Row) → Lawful opening h → (from : Address) → length (those_at from h) ≤ 1
+one_at h l from =
+    let st = stands h l in
+    subst (λ ids. length ids ≤ 1) (sym (those_kept h (state_of opening h) from st.shown)) (most_here from (state_of opening h).clients st.good.places)
+
+-- ---- each message
+
+pub connect_law : (h : List Row) (row : Row) (from : Address) (connect : Connect) → Lawful opening (row ∷ h) → Brought row from (frame.Connect connect)
+    → row.outs ≡ connect_answer h from connect
+connect_law h row from connect l brought =
+    row_outs h row (ByConnect from connect) l (message_cause row from (frame.Connect connect) brought) ∙ connect_row h (state_of opening h) from connect (stands h l.0)
+
+source_cause : (from : Address) (p : Publish) (q : FrameQos) → is_without_session q ≡ true → publish_cause from p q ≡ BySource from p
+source_cause from p qos.WithoutSession is = refl
+source_cause from p qos.AtMostOnce is = absurd (let e = is in cc)
+source_cause from p qos.AtLeastOnce is = absurd (let e = is in cc)
+source_cause from p qos.ExactlyOnce is = absurd (let e = is in cc)
+
+pub source_law : (h : List Row) (row : Row) (from : Address) (p : Publish) → Lawful opening (row ∷ h) → Brought row from (frame.Publish p) → is_without_session p.flags.qos ≡ true
+    → row.outs ≡ source_answer h from p
+source_law h row from p l brought is =
+    row_outs h row (BySource from p) l (message_cause row from (frame.Publish p) brought ∙ source_cause from p p.flags.qos is)
+    ∙ source_row h (state_of opening h) from p (stands h l.0).shown
+
+session_cause : (from : Address) (p : Publish) (q : FrameQos) → is_of_session q ≡ true → publish_cause from p q ≡ ByPublish from p
+session_cause from p qos.AtMostOnce is = refl
+session_cause from p qos.AtLeastOnce is = refl
+session_cause from p qos.WithoutSession is = absurd (let e = is in cc)
+session_cause from p qos.ExactlyOnce is = absurd (let e = is in cc)
+
+pub publish_law : (h : List Row) (row : Row) (from : Address) (p : Publish) → Lawful opening (row ∷ h) → Brought row from (frame.Publish p) → is_of_session p.flags.qos ≡ true
+    → row.outs ≡ answer_to (publish_stranger from) (unsupported_answer from (frame.Publish p)) (those_at from h)
+publish_law h row from p l brought is =
+    row_outs h row (ByPublish from p) l (message_cause row from (frame.Publish p) brought ∙ session_cause from p p.flags.qos is)
+    ∙ publish_row h (state_of opening h) from p (stands h l.0).shown
+
+pub ping_law : (h : List Row) (row : Row) (from : Address) (named : Option (List ℕ)) → Lawful opening (row ∷ h) → Brought row from (frame.PingRequest named)
+    → row.outs ≡ answer_to (no_session from) (ping_answer h from named) (those_at from h)
+ping_law h row from named l brought =
+    row_outs h row (ByPing from named) l (message_cause row from (frame.PingRequest named) brought) ∙ ping_row h (state_of opening h) from named (stands h l.0).shown
+
+pub leave_law : (h : List Row) (row : Row) (from : Address) → Lawful opening (row ∷ h) → Brought row from (frame.Disconnect None)
+    → row.outs ≡ answer_to (no_session from) (leave_answer from) (those_at from h)
+leave_law h row from l brought =
+    row_outs h row (ByLeave from) l (message_cause row from (frame.Disconnect None) brought) ∙ leave_row h (state_of opening h) from (stands h l.0).shown
+
+twice_cause : (from : Address) (p : Publish) (q : FrameQos) → is_exactly_once q ≡ true → publish_cause from p q ≡ ByUnsupported from (frame.Publish p)
+twice_cause from p qos.ExactlyOnce is = refl
+twice_cause from p qos.AtMostOnce is = absurd (let e = is in cc)
+twice_cause from p qos.AtLeastOnce is = absurd (let e = is in cc)
+twice_cause from p qos.WithoutSession is = absurd (let e = is in cc)
+
+sleep_cause : (from : Address) (duration : Option ℕ) → is_unsupported (frame.Disconnect duration) ≡ true → disconnect_cause from duration ≡ ByUnsupported from (frame.Disconnect duration)
+sleep_cause from (Some duration) is = refl
+sleep_cause from None is = absurd (let e = is in cc)
+
+unsupported_cause : (from : Address) (message : SnFrame) → is_unsupported message ≡ true → frame_cause from message ≡ ByUnsupported from message
+unsupported_cause from (frame.Connect connect) is = absurd (let e = is in cc)
+unsupported_cause from (frame.PingRequest client) is = absurd (let e = is in cc)
+unsupported_cause from (frame.Publish p) is = twice_cause from p p.flags.qos is
+unsupported_cause from (frame.Disconnect duration) is = sleep_cause from duration is
+unsupported_cause from message is = refl
+
+pub unsupported_law : (h : List Row) (row : Row) (from : Address) (message : SnFrame) → Lawful opening (row ∷ h) → Brought row from message → is_unsupported message ≡ true
+    → row.outs ≡ answer_to (unsupported_stranger from message) (unsupported_answer from message) (those_at from h)
+unsupported_law h row from message l brought is =
+    row_outs h row (ByUnsupported from message) l (message_cause row from message brought ∙ unsupported_cause from message is)
+    ∙ unsupported_row h (state_of opening h) from message (stands h l.0).shown
+
+rule_same : (broke : FrameFault) → rule_of broke ≡ broken_rule broke
+rule_same fault.Malformed = refl
+rule_same fault.NotSupported = refl
+rule_same fault.TooLong = refl
+rule_same fault.Memory = refl
+
+pub broken_law : (h : List Row) (row : Row) (from : Address) (broke : FrameFault) → Lawful opening (row ∷ h) → Broken row from broke
+    → row.outs ≡ answer_to (broken_stranger from broke) (broken_answer broke) (those_at from h)
+broken_law h row from broke l broken =
+    row_outs h row (ByBroken from (broken_rule broke)) l (ap cause_of broken.event ∙ (ap (datagram_cause from) broken.reads ∙ ap (ByBroken from) (rule_same broke)))
+    ∙ broken_row h (state_of opening h) from (broken_rule broke) (stands h l.0).shown
+
+pub packet_law : (h : List Row) (row : Row) (packet : Packet) → Lawful opening (row ∷ h) → row.event ≡ Broker packet
+    → row.outs ≡ Note (note.Frame who.Broker (Denied NotSupported)) ∷ []
+packet_law h row packet l is = row_outs h row (cause_of (Broker packet)) l (ap cause_of is)

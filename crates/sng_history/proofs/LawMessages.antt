@@ -1,0 +1,148 @@
+-- What answers a message of a session, of who is at the address.
+use Rattle.std.proofs.Common.{◌≡◌, ℕ, Bool, true, false, List, [], ◌∷◌, ◌++◌, refl, ap, sym, ◌∙◌, if◌then◌else◌}
+use Rattle.std.specs.Prelude.{Option, Some, None}
+use Rattle.sng_states.specs.declared.state.ClientState.{ClientState}
+use Rattle.sng_states.specs.declared.state.ClientState.TheVariants.{Dialogue, Active, Asleep, Awake, Disconnected, Lost}
+use Rattle.sng_frames.specs.Writing.{written}
+use Rattle.sng_frames.specs.declared.messages.publish.Publish.{Publish}
+use Rattle.sng_frames.specs.declared.frame.SnFrame.{SnFrame}
+use Rattle.sng_frames.specs.declared.frame.SnFrame.TheVariants as frame
+use Rattle.sng_book.specs.declared.address.Address.{Address}
+use Rattle.sng_book.specs.declared.decision.Decision.TheVariants as note
+use Rattle.sng_book.specs.declared.decision.Who.TheVariants as who
+use Rattle.sng_book.specs.declared.outcome.Denial.{Denial}
+use Rattle.sng_book.specs.declared.outcome.Denial.TheVariants.{NotSupported, NoSession, OutOfTurn}
+use Rattle.sng_book.specs.declared.outcome.Outcome.TheVariants.{Allowed, Denied}
+use Rattle.sng_book.specs.declared.out.Out.{Out}
+use Rattle.sng_book.specs.declared.out.Out.TheVariants.{Send, Note}
+use Rattle.sng_book.specs.declared.row.Row.{Row}
+use Rattle.sng_history.specs.Causes.{Cause, ByPing, ByLeave, ByPublish, ByUnsupported, ByBroken}
+use Rattle.sng_history.specs.Clients.{Around, Client, is_here}
+use Rattle.sng_history.specs.State.{State}
+use Rattle.sng_history.specs.Verdicts.{names_other, is_active, ping_verdict}
+use Rattle.sng_history.specs.Answers.{denied_note}
+use Rattle.sng_history.specs.Whole.{spell, pong_by, stranger_outs, frame_row}
+use Rattle.sng_history.specs.Lawful.{denial_of}
+use Rattle.sng_history.specs.Steps.{notes_for}
+use Rattle.sng_history.specs.ViewsClients.{those_at}
+use Rattle.sng_history.specs.LawsState.{ClientShown}
+use Rattle.sng_history.specs.LawsAnswers as laws
+use Rattle.sng_history.specs.LawsAnswers.{answer_to, bye, no_session, names_another, ping_answer, leave_answer}
+use Rattle.sng_history.specs.LawsUnsupported.{unsupported_answer, unsupported_stranger, publish_stranger}
+use Rattle.sng_history.proofs.Places.{here_is}
+use Rattle.sng_history.proofs.SeenClients.{heard_if}
+use Rattle.sng_history.proofs.SeenState.{StateShown}
+use Rattle.sng_history.proofs.LawHere.{row_answer}
+
+abbrev by_cause : State → Cause → Around
+by_cause s c = record { policy = s.policy; clock = s.clock; cause = c }
+
+-- ---- not supported
+
+unsupported_spell : (s : State) (from : Address) (message : SnFrame) (x : Client)
+    → spell (by_cause s (ByUnsupported from message)) x (denied_note message (who.Client x.id) NotSupported ∷ []) ≡ unsupported_answer x.address message x.id
+unsupported_spell s from (frame.Register register) x = refl
+unsupported_spell s from message x = refl
+
+unsupported_part : (s : State) (from : Address) (message : SnFrame) (x : Client) (b : Bool) → (b ≡ true → x.address ≡ from)
+    → (if b then [] else []) ++ spell (by_cause s (ByUnsupported from message)) (heard_if b s.clock x) (if b then denied_note message (who.Client x.id) NotSupported ∷ [] else [])
+    ≡ (if b then unsupported_answer from message x.id else [])
+unsupported_part s from message x true at = unsupported_spell s from message (heard_if true s.clock x) ∙ ap (λ to. unsupported_answer to message x.id) (at refl)
+unsupported_part s from message x false at = refl
+
+unsupported_note : (from : Address) (message : SnFrame) → stranger_outs (ByUnsupported from message) ≡ unsupported_stranger from message
+unsupported_note from (frame.Register register) = refl
+unsupported_note from message = refl
+
+pub unsupported_row : (h : List Row) (s : State) (from : Address) (message : SnFrame) → StateShown h s
+    → frame_row s (ByUnsupported from message) (notes_for s (ByUnsupported from message)) ≡ answer_to (unsupported_stranger from message) (unsupported_answer from message) (those_at from h)
+unsupported_row h s from message shown =
+    row_answer h s from (ByUnsupported from message) (unsupported_answer from message) shown (λ x. refl) (λ x is. unsupported_part s from message x (is_here x from) (here_is x from))
+    ∙ ap (λ outs. answer_to outs (unsupported_answer from message) (those_at from h)) (unsupported_note from message)
+
+publish_part : (s : State) (from : Address) (p : Publish) (x : Client) (b : Bool) → (b ≡ true → x.address ≡ from)
+    → (if b then [] else []) ++ spell (by_cause s (ByPublish from p)) (heard_if b s.clock x) (if b then denied_note (frame.Publish p) (who.Client x.id) NotSupported ∷ [] else [])
+    ≡ (if b then unsupported_answer from (frame.Publish p) x.id else [])
+publish_part s from p x true at = ap (λ to. unsupported_answer to (frame.Publish p) x.id) (at refl)
+publish_part s from p x false at = refl
+
+pub publish_row : (h : List Row) (s : State) (from : Address) (p : Publish) → StateShown h s
+    → frame_row s (ByPublish from p) (notes_for s (ByPublish from p)) ≡ answer_to (publish_stranger from) (unsupported_answer from (frame.Publish p)) (those_at from h)
+publish_row h s from p shown =
+    row_answer h s from (ByPublish from p) (unsupported_answer from (frame.Publish p)) shown (λ x. refl) (λ x is. publish_part s from p x (is_here x from) (here_is x from))
+
+-- ---- PINGREQ
+
+-- the answer as the client is kept, and as it is shown
+abbrev ping_kept : Address → Client → Bool → Bool → List Out
+ping_kept to x other active =
+    if other
+    then Note (note.Frame (who.Client x.id) (Denied NoSession)) ∷ bye to ∷ []
+    else (if active then Send to (written frame.PingResponse) ∷ [] else Note (note.Frame (who.Client x.id) (Denied OutOfTurn)) ∷ [])
+
+ping_spell : (s : State) (from : Address) (client : Option (List ℕ)) (x : Client) (other active : Bool)
+    → let o = if other then Denied NoSession else (if active then Allowed else Denied OutOfTurn) in
+    pong_by o x.address ++ spell (by_cause s (ByPing from client)) (heard_if true s.clock x) (denial_of x.id o) ≡ ping_kept x.address x other active
+ping_spell s from client x true active = refl
+ping_spell s from client x false true = refl
+ping_spell s from client x false false = refl
+
+names_same : (client : Option (List ℕ)) (id : List ℕ) → names_other client id ≡ names_another client id
+names_same None id = refl
+names_same (Some named) id = refl
+
+active_same : (phase : ClientState) → is_active phase ≡ laws.is_active (Some phase)
+active_same Active = refl
+active_same Dialogue = refl
+active_same Asleep = refl
+active_same Awake = refl
+active_same Disconnected = refl
+active_same Lost = refl
+
+ping_shown : (h : List Row) (from : Address) (client : Option (List ℕ)) (x : Client) → ClientShown h x → x.address ≡ from
+    → ping_kept x.address x (names_another client x.id) (is_active x.phase) ≡ ping_answer h from client x.id
+ping_shown h from client x shown at =
+    ap (λ to. ping_kept to x (names_another client x.id) (is_active x.phase)) at
+    ∙ ap (ping_kept from x (names_another client x.id)) (active_same x.phase ∙ ap laws.is_active (sym shown.phase))
+
+ping_there : (s : State) (from : Address) (client : Option (List ℕ)) (x : Client)
+    → pong_by (ping_verdict client x) x.address ++ spell (by_cause s (ByPing from client)) (heard_if true s.clock x) (denial_of x.id (ping_verdict client x))
+    ≡ ping_kept x.address x (names_another client x.id) (is_active x.phase)
+ping_there s from client x =
+    ping_spell s from client x (names_other client x.id) (is_active x.phase) ∙ ap (λ other. ping_kept x.address x other (is_active x.phase)) (names_same client x.id)
+
+ping_part : (h : List Row) (s : State) (from : Address) (client : Option (List ℕ)) (x : Client) (b : Bool) → ClientShown h x → (b ≡ true → x.address ≡ from)
+    → (if b then pong_by (ping_verdict client x) x.address else []) ++ spell (by_cause s (ByPing from client)) (heard_if b s.clock x) (if b then denial_of x.id (ping_verdict client x) else [])
+    ≡ (if b then ping_answer h from client x.id else [])
+ping_part h s from client x true shown at = ping_there s from client x ∙ ping_shown h from client x shown (at refl)
+ping_part h s from client x false shown at = refl
+
+pub ping_row : (h : List Row) (s : State) (from : Address) (client : Option (List ℕ)) → StateShown h s
+    → frame_row s (ByPing from client) (notes_for s (ByPing from client)) ≡ answer_to (no_session from) (ping_answer h from client) (those_at from h)
+ping_row h s from client shown =
+    row_answer h s from (ByPing from client) (ping_answer h from client) shown (λ x. refl) (λ x is. ping_part h s from client x (is_here x from) is (here_is x from))
+
+-- ---- DISCONNECT, and what is no message
+
+leave_part : (s : State) (from : Address) (x : Client) (b : Bool) → (b ≡ true → x.address ≡ from)
+    → (if b then [] else []) ++ spell (by_cause s (ByLeave from)) (heard_if b s.clock x) (if b then note.Left x.id ∷ [] else [])
+    ≡ (if b then leave_answer from x.id else [])
+leave_part s from x true at = ap (λ to. leave_answer to x.id) (at refl)
+leave_part s from x false at = refl
+
+pub leave_row : (h : List Row) (s : State) (from : Address) → StateShown h s
+    → frame_row s (ByLeave from) (notes_for s (ByLeave from)) ≡ answer_to (no_session from) (leave_answer from) (those_at from h)
+leave_row h s from shown = row_answer h s from (ByLeave from) (leave_answer from) shown (λ x. refl) (λ x is. leave_part s from x (is_here x from) (here_is x from))
+
+abbrev broken_note : Denial → List ℕ → List Out
+broken_note rule id = Note (note.Frame (who.Client id) (Denied rule)) ∷ []
+
+broken_part : (s : State) (from : Address) (rule : Denial) (x : Client) (b : Bool)
+    → spell (by_cause s (ByBroken from rule)) x (if b then note.Frame (who.Client x.id) (Denied rule) ∷ [] else []) ≡ (if b then broken_note rule x.id else [])
+broken_part s from rule x true = refl
+broken_part s from rule x false = refl
+
+pub broken_row : (h : List Row) (s : State) (from : Address) (rule : Denial) → StateShown h s
+    → frame_row s (ByBroken from rule) (notes_for s (ByBroken from rule))
+    ≡ answer_to (Note (note.Frame (who.Address from) (Denied rule)) ∷ []) (λ id. Note (note.Frame (who.Client id) (Denied rule)) ∷ []) (those_at from h)
+broken_row h s from rule shown = row_answer h s from (ByBroken from rule) (broken_note rule) shown (λ x. refl) (λ x is. broken_part s from rule x (is_here x from))

@@ -1,0 +1,130 @@
+-- The laws of what leaves, by induction over the rows.
+use Rattle.std.proofs.Common.{◌≡◌, ℕ, Bool, true, false, List, [], ◌∷◌, ◌++◌, map, refl, ap, sym, ◌∙◌, subst, if◌then◌else◌, MatchBool}
+use Rattle.std.proofs.lemmas.List.{append-nil, append_assoc}
+use Rattle.sng_frames.specs.Reading.{frame_of}
+use Rattle.sng_outbox.specs.Sending.{publishes}
+use Rattle.sng_outbox.specs.declared.item.Item.TheVariants as item
+use Rattle.sng_outbox.specs.declared.item.Publication.{Publication}
+use Rattle.sng_book.specs.declared.decision.Who.{Who}
+use Rattle.sng_book.specs.declared.event.Event.{Event}
+use Rattle.sng_book.specs.declared.event.Event.TheVariants.{Datagram, Broker, Up, Down, Take, Replace, Tick}
+use Rattle.sng_book.specs.declared.out.Out.{Out}
+use Rattle.sng_book.specs.declared.row.Row.{Row}
+use Rattle.sng_history.specs.Causes.{cause_of, datagram_cause}
+use Rattle.sng_history.specs.State.{State, opening, state_of}
+use Rattle.sng_history.specs.Lawful.{Lawful}
+use Rattle.sng_history.specs.Steps.{outs_of}
+use Rattle.sng_history.specs.Views.{policy_in_force, is_up}
+use Rattle.sng_history.specs.ViewsLink.{Departure, publications, asked, asked_with, waiting, left, lets_out, drops, departures, wires_in, sends_in}
+use Rattle.sng_history.specs.LawsLink.{about_asked, about_left, LeavesInOrder, AllDepart, EachDeparts, Announced, EachAnnounced, may_send, EachTimely, is_upstream, EachUpstream}
+use Rattle.sng_history.proofs.Says.{says}
+use Rattle.sng_history.proofs.Keeping.{exact_by}
+use Rattle.sng_history.proofs.LawLink.{all_depart, all_unsent, all_announced, no_departures, none_announced, about_all, publications_more, publications_kept}
+use Rattle.sng_history.proofs.LawWires.{datagram_still}
+use Rattle.sng_history.proofs.SeenState.{Stands, stands}
+
+-- ---- one row
+
+abbrev RowDeparts : List Row → Event → List Out → Type 0
+RowDeparts h e outs = MatchBool (lets_out e h) (AllDepart (policy_in_force h) (publications (waiting h)) (departures outs)) (departures outs ≡ [])
+
+take_departs : (s : State) (b : Bool) → s.up ≡ b → MatchBool b (AllDepart s.policy (publications s.link.waiting) (departures (outs_of s Take))) (departures (outs_of s Take) ≡ [])
+take_departs s true is = rw is (all_depart s.policy s.link s.link.waiting)
+take_departs s false is = rw is refl
+
+row_departs : (h : List Row) (s : State) (e : Event) → Stands h s → RowDeparts h e (outs_of s e)
+row_departs h s (Datagram from datagram) st =
+    no_departures (outs_of s (Datagram from datagram)) ((says s (datagram_cause from (frame_of datagram)) st.good.apart).exits ∙ (datagram_still s from (frame_of datagram)).exits)
+row_departs h s (Broker packet) st = refl
+row_departs h s Up st = refl
+row_departs h s Down st = refl
+row_departs h s Take st = rw (sym st.shown.policy, sym st.shown.waits, sym st.shown.up) (take_departs s s.up refl)
+row_departs h s (Replace policy) st = refl
+row_departs h s (Tick clock) st = refl
+
+take_announced : (s : State) (b : Bool) → s.up ≡ b → Announced false (outs_of s Take)
+take_announced s true is = rw is (all_announced s.policy s.link s.link.waiting false)
+take_announced s false is = rw is tt
+
+row_announced : (s : State) (e : Event) → Announced false (outs_of s e)
+row_announced s (Datagram from datagram) = none_announced false (outs_of s (Datagram from datagram)) (datagram_still s from (frame_of datagram)).wires
+row_announced s (Broker packet) = tt
+row_announced s Up = tt
+row_announced s Down = tt
+row_announced s Take = take_announced s s.up refl
+row_announced s (Replace policy) = tt
+row_announced s (Tick clock) = tt
+
+row_timely : (h : List Row) (s : State) (e : Event) → s.up ≡ is_up h → may_send e h ≡ false → wires_in (outs_of s e) ≡ []
+row_timely h s (Datagram from datagram) up never = (datagram_still s from (frame_of datagram)).wires
+row_timely h s (Broker packet) up never = refl
+row_timely h s Up up never = refl
+row_timely h s Down up never = refl
+row_timely h s Take up never = rw (up ∙ never) refl
+row_timely h s (Replace policy) up never = refl
+row_timely h s (Tick clock) up never = refl
+
+take_unsent : (s : State) (b : Bool) → s.up ≡ b → sends_in (outs_of s Take) ≡ []
+take_unsent s true is = rw is (all_unsent s.policy s.link s.link.waiting)
+take_unsent s false is = rw is refl
+
+row_unsent : (s : State) (e : Event) → is_upstream e ≡ true → sends_in (outs_of s e) ≡ []
+row_unsent s Up is = refl
+row_unsent s Down is = refl
+row_unsent s Take is = take_unsent s s.up refl
+row_unsent s (Datagram from datagram) is = absurd (let e = is in cc)
+row_unsent s (Broker packet) is = absurd (let e = is in cc)
+row_unsent s (Replace policy) is = absurd (let e = is in cc)
+row_unsent s (Tick clock) is = absurd (let e = is in cc)
+
+-- ---- in order
+
+abbrev abouts : List Publication → List (Who × List ℕ)
+abouts ps = map about_asked ps
+
+abouts_append : (xs ys : List Publication) → abouts (xs ++ ys) ≡ abouts xs ++ abouts ys
+abouts_append [] ys = refl
+abouts_append (x ∷ xs) ys = ap (λ rest. about_asked x ∷ rest) (abouts_append xs ys)
+
+lefts_append : (xs ys : List Departure) → map about_left (xs ++ ys) ≡ map about_left xs ++ map about_left ys
+lefts_append [] ys = refl
+lefts_append (x ∷ xs) ys = ap (λ rest. about_left x ∷ rest) (lefts_append xs ys)
+
+order_row : (h : List Row) (outs : List Out) (drop b : Bool) (new : List Publication) → LeavesInOrder h
+    → MatchBool b (AllDepart (policy_in_force h) (publications (waiting h)) (departures outs)) (departures outs ≡ [])
+    → abouts (asked h ++ new) ≡ map about_left (left h ++ departures outs) ++ abouts (publications ((if b then [] else (if drop then publishes (waiting h) else waiting h)) ++ map item.Publish new))
+order_row h outs drop true new order all =
+    let ds = departures outs in
+    abouts_append (asked h) new
+    ∙ (ap (λ xs. xs ++ abouts new) (order ∙ (ap (λ xs. map about_left (left h) ++ xs) (sym (about_all (policy_in_force h) (publications (waiting h)) ds all)) ∙ sym (lefts_append (left h) ds)))
+    ∙ ap (λ xs. map about_left (left h ++ ds) ++ abouts xs) (sym (publications_more [] new)))
+order_row h outs drop false new order none =
+    let items = if drop then publishes (waiting h) else waiting h in
+    rw (none, append-nil (left h), publications_more items new, publications_kept drop (waiting h), abouts_append (asked h) new, abouts_append (publications (waiting h)) new, order)
+    (append_assoc (map about_left (left h)) (abouts (publications (waiting h))) (abouts new))
+
+-- ---- all rows
+
+pub record Links (h : List Row) : Type 0 where
+  pub order : LeavesInOrder h
+  pub depart : EachDeparts h
+  pub announced : EachAnnounced h
+  pub timely : EachTimely h
+  pub upstream : EachUpstream h
+
+links_row : (by : ℕ) (h : List Row) (s : State) (e : Event) (outs : List Out) → Stands h s → outs ≡ outs_of s e → Links h → Links (record { by = by; event = e; outs = outs } ∷ h)
+links_row by h s e outs st is links =
+    let departs : RowDeparts h e outs = subst (RowDeparts h e) (sym is) (row_departs h s e st) in
+    record {
+      order = order_row h outs (drops e h) (lets_out e h) (asked_with (policy_in_force h) e outs) links.order departs;
+      depart = (links.depart, departs);
+      announced = (links.announced, subst (Announced false) (sym is) (row_announced s e));
+      timely = (links.timely, λ never. ap wires_in is ∙ row_timely h s e st.shown.up never);
+      upstream = (links.upstream, λ of_link. ap sends_in is ∙ row_unsent s e of_link);
+    }
+
+pub links : (h : List Row) → Lawful opening h → Links h
+links [] l = record { order = refl; depart = tt; announced = tt; timely = tt; upstream = tt }
+links (row ∷ h) l =
+    let s = state_of opening h in
+    links_row row.by h s row.event row.outs (stands h l.0) (exact_by s (cause_of row.event) row.outs l.1) (links h l.0)

@@ -1,0 +1,37 @@
+-- The policy's answers, by the tables of the laws.
+use Rattle.std.proofs.Common.{◌≡◌, ℕ, Bool, true, false, List, refl}
+use Rattle.std.specs.Prelude.{Option, Some, None}
+use Rattle.sng_grants.specs.Sources.{scope_of}
+use Rattle.sng_grants.specs.declared.scope.Pair.{Pair}
+use Rattle.sng_grants.specs.declared.policy.Policy.{Policy}
+use Rattle.sng_policy.specs.Grants.{is_granted}
+use Rattle.sng_policy.specs.declared.permission.Permission.TheVariants.{Publish}
+use Rattle.sng_outbox.specs.declared.origin.Origin.{Origin}
+use Rattle.sng_outbox.specs.declared.origin.Origin.TheVariants as origin
+use Rattle.sng_history.specs.Verdicts.{exit}
+use Rattle.sng_history.specs.LawsRules.{judged, publish_rules}
+
+client_granted : (policy : Policy) (client name : List ℕ) (pairs : List Pair) (b : Bool) → scope_of policy.clients client ≡ Some pairs → is_granted Publish pairs name ≡ b
+    → exit policy (origin.Client client) name ≡ judged (publish_rules policy (origin.Client client) name)
+client_granted policy client name pairs true scope is = rw (scope, is) refl
+client_granted policy client name pairs false scope is = rw (scope, is) refl
+
+client_ruled : (policy : Policy) (client name : List ℕ) (scope : Option (List Pair)) → scope_of policy.clients client ≡ scope
+    → exit policy (origin.Client client) name ≡ judged (publish_rules policy (origin.Client client) name)
+client_ruled policy client name None is = rw is refl
+client_ruled policy client name (Some pairs) is = client_granted policy client name pairs (is_granted Publish pairs name) is refl
+
+source_granted : (policy : Policy) (source name : List ℕ) (pairs : List Pair) (b : Bool) → scope_of policy.sources source ≡ Some pairs → is_granted Publish pairs name ≡ b
+    → exit policy (origin.Source source) name ≡ judged (publish_rules policy (origin.Source source) name)
+source_granted policy source name pairs true scope is = rw (scope, is) refl
+source_granted policy source name pairs false scope is = rw (scope, is) refl
+
+source_ruled : (policy : Policy) (source name : List ℕ) (scope : Option (List Pair)) → scope_of policy.sources source ≡ scope
+    → exit policy (origin.Source source) name ≡ judged (publish_rules policy (origin.Source source) name)
+source_ruled policy source name None is = rw is refl
+source_ruled policy source name (Some pairs) is = source_granted policy source name pairs (is_granted Publish pairs name) is refl
+
+-- what is judged as a publish leaves
+pub exit_ruled : (policy : Policy) (asker : Origin) (name : List ℕ) → exit policy asker name ≡ judged (publish_rules policy asker name)
+exit_ruled policy (origin.Client client) name = client_ruled policy client name (scope_of policy.clients client) refl
+exit_ruled policy (origin.Source source) name = source_ruled policy source name (scope_of policy.sources source) refl

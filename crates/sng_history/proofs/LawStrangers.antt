@@ -1,0 +1,269 @@
+-- A client that was never accepted has no state.
+use Rattle.std.proofs.Common.{◌≡◌, ℕ, Bool, true, false, List, [], ◌∷◌, ◌++◌, refl, ap, sym, ◌∙◌, subst, if◌then◌else◌, Ok, Err}
+use Rattle.std.specs.Prelude.{◌&&◌, ◌||◌, not, Option, Some, None}
+use Rattle.std.specs.List.{flat_map}
+use Rattle.std.specs.Str.{bytes_eq}
+use Rattle.std.specs.declared.result.Result.{Result}
+use Rattle.sng_grants.specs.declared.policy.Policy.{Policy}
+use Rattle.sng_policy.specs.Grants.{lists_source}
+use Rattle.sng_outbox.specs.declared.item.Item.{Item}
+use Rattle.sng_outbox.specs.declared.item.Item.TheVariants as item
+use Rattle.sng_outbox.specs.declared.item.Publication.{Publication}
+use Rattle.sng_states.specs.States.{has_session}
+use Rattle.sng_frames.specs.Reading.{frame_of}
+use Rattle.sng_frames.specs.declared.fault.FrameFault.{FrameFault}
+use Rattle.sng_frames.specs.declared.messages.connect.Connect.{Connect}
+use Rattle.sng_frames.specs.declared.messages.publish.Publish.{Publish}
+use Rattle.sng_frames.specs.declared.qos.FrameQos.{FrameQos}
+use Rattle.sng_frames.specs.declared.qos.FrameQos.TheVariants as qos
+use Rattle.sng_frames.specs.declared.return_code.TheConstants.ReturnCode.{ACCEPTED}
+use Rattle.sng_frames.specs.declared.frame.SnFrame.{SnFrame}
+use Rattle.sng_frames.specs.declared.frame.SnFrame.TheVariants as frame
+use Rattle.sng_book.specs.Denials.{is_allowed}
+use Rattle.sng_book.specs.declared.address.Address.{Address}
+use Rattle.sng_book.specs.declared.decision.Decision.{Decision}
+use Rattle.sng_book.specs.declared.decision.Decision.TheVariants as note
+use Rattle.sng_book.specs.declared.decision.Who.{Who}
+use Rattle.sng_book.specs.declared.decision.Who.TheVariants as who
+use Rattle.sng_book.specs.declared.outcome.Denial.{Denial}
+use Rattle.sng_book.specs.declared.outcome.Denial.TheVariants.{NotSupported, UnknownSource}
+use Rattle.sng_book.specs.declared.outcome.Outcome.{Outcome}
+use Rattle.sng_book.specs.declared.outcome.Outcome.TheVariants.{Allowed, Denied}
+use Rattle.sng_book.specs.declared.event.Event.{Event}
+use Rattle.sng_book.specs.declared.event.Event.TheVariants.{Datagram, Broker, Up, Down, Take, Replace, Tick}
+use Rattle.sng_book.specs.declared.out.Out.{Out}
+use Rattle.sng_book.specs.declared.out.Out.TheVariants.{Send, Wire, Note}
+use Rattle.sng_book.specs.declared.row.Row.{Row}
+use Rattle.sng_history.specs.Causes.{Cause, cause_of, ByConnect, ByPing, ByLeave, BySource, ByPublish, ByUnsupported, ByBroken, datagram_cause, publish_cause, rule_of}
+use Rattle.sng_history.specs.Clients.{Client, same_address, is_here}
+use Rattle.sng_history.specs.Notes.{notes_of}
+use Rattle.sng_history.specs.State.{State, opening, state_of, around}
+use Rattle.sng_history.specs.Verdicts.{exit, entry, ping_verdict, named_ask, name_in}
+use Rattle.sng_history.specs.Answers.{denied_note, dismissed, connack}
+use Rattle.sng_history.specs.Whole.{part, any_from, stranger_outs, moved, beside, entry_outs}
+use Rattle.sng_history.specs.Lawful.{Lawful, denial_of, fixed_for}
+use Rattle.sng_history.specs.Steps.{notes_for, outs_by, outs_of}
+use Rattle.sng_history.specs.ViewsClients.{left_from, phase_by, phase_after, phase_of, admits, is_admitted, is_among, accepted_by, accepted_in, accepted}
+use Rattle.sng_history.specs.Links.{Link, packet_id_by, exited}
+use Rattle.sng_history.specs.Exits.{exits_of, forwarded, leaving}
+use Rattle.sng_history.specs.ViewsMessages.{Connects, message_in}
+use Rattle.sng_history.proofs.Keeping.{exact_by}
+use Rattle.sng_history.proofs.Own.{same_self, same_means}
+use Rattle.sng_history.proofs.Spelled.{part_own, part_other}
+use Rattle.sng_history.proofs.Told.{tells}
+use Rattle.sng_history.proofs.SeenNotes.{phase_notes, admitted_notes, phase_by_notes, admitted_by_notes}
+
+-- ---- nobody is accepted
+
+or_false : (a b : Bool) → (a || b) ≡ false → (a ≡ false) × (b ≡ false)
+or_false true b is = absurd (let e = is in cc)
+or_false false b is = (refl, is)
+
+admitted_append : (id : List ℕ) (xs ys : List Out) → is_admitted id xs ≡ false → is_admitted id ys ≡ false → is_admitted id (xs ++ ys) ≡ false
+admitted_append id [] ys one two = two
+admitted_append id (Note said ∷ xs) ys one two =
+    let both = or_false (admits id said) (is_admitted id xs) one in
+    ap (λ b. b || is_admitted id (xs ++ ys)) both.0 ∙ admitted_append id xs ys both.1 two
+admitted_append id (Send to datagram ∷ xs) ys one two = admitted_append id xs ys one two
+admitted_append id (Wire sent ∷ xs) ys one two = admitted_append id xs ys one two
+
+admitted_flat : (id : List ℕ) (f : Client → List Out) (xs : List Client) → ((x : Client) → is_admitted id (f x) ≡ false) → is_admitted id (flat_map f xs) ≡ false
+admitted_flat id f [] none = refl
+admitted_flat id f (x ∷ xs) none = admitted_append id (f x) (flat_map f xs) (none x) (admitted_flat id f xs none)
+
+-- what is let out for a client whose notes accept nobody
+admitted_part : (s : State) (c : Cause) (x : Client) (id : List ℕ) (b : Bool) → bytes_eq id x.id ≡ b → admitted_notes id (fixed_for s c x) ≡ false
+    → is_admitted id (part (around s c) (fixed_for s c x) x) ≡ false
+admitted_part s c x id true is none =
+    let same : id ≡ x.id = same_means id x.id is in
+    let outs = part (around s c) (fixed_for s c x) x in
+    let own : notes_of id outs ≡ fixed_for s c x = ap (λ i. notes_of i outs) same ∙ part_own (around s c) (fixed_for s c x) x (tells s c x) in
+    admitted_by_notes id outs ∙ (ap (admitted_notes id) own ∙ none)
+admitted_part s c x id false is none =
+    let outs = part (around s c) (fixed_for s c x) x in
+    admitted_by_notes id outs ∙ ap (admitted_notes id) (part_other (around s c) (fixed_for s c x) x id is (tells s c x))
+
+-- a row of a message accepts nobody
+admitted_either : (id : List ℕ) (outs stranger : List Out) (b : Bool) → is_admitted id outs ≡ false → is_admitted id stranger ≡ false → is_admitted id (if b then outs else stranger) ≡ false
+admitted_either id outs stranger true one two = one
+admitted_either id outs stranger false one two = two
+
+admitted_frame : (s : State) (c : Cause) (id : List ℕ) → ((x : Client) → admitted_notes id (fixed_for s c x) ≡ false) → is_admitted id (stranger_outs c) ≡ false
+    → is_admitted id (if any_from c s.clients then flat_map (λ x. part (around s c) (fixed_for s c x) x) s.clients else stranger_outs c) ≡ false
+admitted_frame s c id none stranger =
+    let f : Client → List Out = λ x. part (around s c) (fixed_for s c x) x in
+    admitted_either id (flat_map f s.clients) (stranger_outs c) (any_from c s.clients) (admitted_flat id f s.clients (λ x. admitted_part s c x id (bytes_eq id x.id) refl (none x))) stranger
+
+denied_admits : (id : List ℕ) (message : SnFrame) (whom : Who) (rule : Denial) → admits id (denied_note message whom rule) ≡ false
+denied_admits id (frame.Connect connect) whom rule = refl
+denied_admits id message whom rule = refl
+
+one_note : (id : List ℕ) (said : Decision) (b : Bool) → admits id said ≡ false → admitted_notes id (if b then said ∷ [] else []) ≡ false
+one_note id said true none = rw none refl
+one_note id said false none = refl
+
+ping_note : (id own : List ℕ) (o : Outcome) (b : Bool) → admitted_notes id (if b then denial_of own o else []) ≡ false
+ping_note id own Allowed true = refl
+ping_note id own (Denied rule) true = refl
+ping_note id own o false = refl
+
+admitted_unsupported : (s : State) (from : Address) (message : SnFrame) (id : List ℕ) → is_admitted id (outs_by s (ByUnsupported from message)) ≡ false
+admitted_unsupported s from message id =
+    admitted_frame s (ByUnsupported from message) id
+    (λ x. one_note id (denied_note message (who.Client x.id) NotSupported) (is_here x from) (denied_admits id message (who.Client x.id) NotSupported))
+    (ap (λ b. b || false) (denied_admits id message (who.Address from) NotSupported))
+
+admitted_publish : (s : State) (from : Address) (p : Publish) (id : List ℕ) → is_admitted id (outs_by s (ByPublish from p)) ≡ false
+admitted_publish s from p id =
+    admitted_frame s (ByPublish from p) id (λ x. one_note id (denied_note (frame.Publish p) (who.Client x.id) NotSupported) (is_here x from) refl) refl
+
+admitted_leave : (s : State) (from : Address) (id : List ℕ) → is_admitted id (outs_by s (ByLeave from)) ≡ false
+admitted_leave s from id = admitted_frame s (ByLeave from) id (λ x. one_note id (note.Left x.id) (is_here x from) refl) refl
+
+admitted_ping : (s : State) (from : Address) (client : Option (List ℕ)) (id : List ℕ) → is_admitted id (outs_by s (ByPing from client)) ≡ false
+admitted_ping s from client id = admitted_frame s (ByPing from client) id (λ x. ping_note id x.id (ping_verdict client x) (is_here x from)) refl
+
+admitted_broken : (s : State) (from : Address) (rule : Denial) (id : List ℕ) → is_admitted id (outs_by s (ByBroken from rule)) ≡ false
+admitted_broken s from rule id = admitted_frame s (ByBroken from rule) id (λ x. one_note id (note.Frame (who.Client x.id) (Denied rule)) (is_here x from) refl) refl
+
+named_admits : (s : State) (source id : List ℕ) (read : Result (List ℕ) Denial) → admits id (named_ask s source read) ≡ false
+named_admits s source id (Ok name) = refl
+named_admits s source id (Err rule) = refl
+
+source_admits : (s : State) (source id : List ℕ) (p : Publish) (b : Bool)
+    → admits id (if b then named_ask s source (name_in s.policy None p.flags.id_type p.topic_id) else note.Publish (who.Source source) None (Denied UnknownSource)) ≡ false
+source_admits s source id p true = named_admits s source id (name_in s.policy None p.flags.id_type p.topic_id)
+source_admits s source id p false = refl
+
+admitted_source : (s : State) (from : Address) (p : Publish) (id : List ℕ) → is_admitted id (outs_by s (BySource from p)) ≡ false
+admitted_source s from p id = ap (λ b. b || false) (source_admits s from.ip id p (lists_source s.policy from.ip))
+
+-- ---- a CONNECT accepts the client that it names, and no other
+
+moved_if : (id : List ℕ) (x : Client) (own away : Bool) → is_admitted id (if own then (if away then dismissed x.address ∷ [] else []) else []) ≡ false
+moved_if id x true true = refl
+moved_if id x true false = refl
+moved_if id x false away = refl
+
+beside_notes : (s : State) (from : Address) (connect : Connect) (x : Client) (id : List ℕ) (here : Bool) (o : Outcome)
+    → admitted_notes id (if is_allowed o then (if here then note.Left x.id ∷ [] else []) else []) ≡ false
+beside_notes s from connect x id true Allowed = refl
+beside_notes s from connect x id false Allowed = refl
+beside_notes s from connect x id here (Denied rule) = refl
+
+beside_if : (s : State) (from : Address) (connect : Connect) (x : Client) (id : List ℕ) (own : Bool) → bytes_eq connect.client_id x.id ≡ own
+    → is_admitted id (if own then [] else part (around s (ByConnect from connect)) (fixed_for s (ByConnect from connect) x) x) ≡ false
+beside_if s from connect x id true is = refl
+beside_if s from connect x id false is =
+    admitted_part s (ByConnect from connect) x id (bytes_eq id x.id) refl (rw is (beside_notes s from connect x id (is_here x from) (entry s connect)))
+
+entry_admits : (s : State) (from : Address) (connect : Connect) (id : List ℕ) (o : Outcome) → bytes_eq id connect.client_id ≡ false
+    → is_admitted id (entry_outs s from connect (notes_for s (ByConnect from connect)) o) ≡ false
+entry_admits s from connect id Allowed other =
+    let c = ByConnect from connect in
+    let f : Client → List Out = beside (around s c) (notes_for s c) connect.client_id in
+    rw other
+    (admitted_append id (flat_map (moved from connect.client_id) s.clients) (flat_map f s.clients ++ connack from ACCEPTED ∷ [])
+    (admitted_flat id (moved from connect.client_id) s.clients (λ x. moved_if id x (bytes_eq connect.client_id x.id) (has_session x.phase && not (same_address x.address from))))
+    (admitted_append id (flat_map f s.clients) (connack from ACCEPTED ∷ []) (admitted_flat id f s.clients (λ x. beside_if s from connect x id (bytes_eq connect.client_id x.id) refl)) refl))
+entry_admits s from connect id (Denied rule) other = rw other refl
+
+-- ---- no row accepts a client that it does not count
+
+publish_admits : (s : State) (from : Address) (p : Publish) (q : FrameQos) (id : List ℕ) → is_admitted id (outs_by s (publish_cause from p q)) ≡ false
+publish_admits s from p qos.WithoutSession id = admitted_source s from p id
+publish_admits s from p qos.AtMostOnce id = admitted_publish s from p id
+publish_admits s from p qos.AtLeastOnce id = admitted_publish s from p id
+publish_admits s from p qos.ExactlyOnce id = admitted_unsupported s from (frame.Publish p) id
+
+disconnect_admits : (s : State) (from : Address) (duration : Option ℕ) (id : List ℕ) → is_admitted id (outs_by s (datagram_cause from (Ok (frame.Disconnect duration)))) ≡ false
+disconnect_admits s from None id = admitted_leave s from id
+disconnect_admits s from (Some duration) id = admitted_unsupported s from (frame.Disconnect (Some duration)) id
+
+own_admits : (id : List ℕ) (a known : Bool) → known ≡ false → is_among id (if a && not known then id ∷ [] else []) ≡ false → a ≡ false
+own_admits id true known unknown none =
+    absurd (let e : (bytes_eq id id || false) ≡ false = rw unknown at none in let f : (true || false) ≡ false = rw (same_self id) at e in cc)
+own_admits id false known unknown none = refl
+
+connect_admits : (s : State) (from : Address) (connect : Connect) (ids : List (List ℕ)) (id : List ℕ) (own : Bool) → bytes_eq id connect.client_id ≡ own → is_among id ids ≡ false
+    → is_among id (accepted_by ids (Some (Connects connect)) (outs_by s (ByConnect from connect))) ≡ false → is_admitted id (outs_by s (ByConnect from connect)) ≡ false
+connect_admits s from connect ids id true is unknown none =
+    let outs = outs_by s (ByConnect from connect) in
+    let same : connect.client_id ≡ id = sym (same_means id connect.client_id is) in
+    own_admits id (is_admitted id outs) (is_among id ids) unknown
+    (subst (λ i. is_among id (if is_admitted i outs && not (is_among i ids) then i ∷ [] else []) ≡ false) same none)
+connect_admits s from connect ids id false is unknown none = entry_admits s from connect id (entry s connect) is
+
+datagram_admits : (s : State) (from : Address) (read : Result SnFrame FrameFault) (ids : List (List ℕ)) (id : List ℕ) → is_among id ids ≡ false
+    → is_among id (accepted_by ids (message_in read) (outs_by s (datagram_cause from read))) ≡ false → is_admitted id (outs_by s (datagram_cause from read)) ≡ false
+datagram_admits s from (Ok (frame.Connect connect)) ids id unknown none = connect_admits s from connect ids id (bytes_eq id connect.client_id) refl unknown none
+datagram_admits s from (Ok (frame.Publish p)) ids id unknown none = publish_admits s from p p.flags.qos id
+datagram_admits s from (Ok (frame.PingRequest client)) ids id unknown none = admitted_ping s from client id
+datagram_admits s from (Ok (frame.Disconnect duration)) ids id unknown none = disconnect_admits s from duration id
+datagram_admits s from (Ok message) ids id unknown none = admitted_unsupported s from message id
+datagram_admits s from (Err broke) ids id unknown none = admitted_broken s from (rule_of broke) id
+
+forwarded_admits : (id : List ℕ) (p : Publication) (packet_id : Option ℕ) (o : Outcome) (outs : List Out) → is_admitted id outs ≡ false → is_admitted id (forwarded p packet_id o ++ outs) ≡ false
+forwarded_admits id p packet_id Allowed outs rest = rest
+forwarded_admits id p packet_id (Denied rule) outs rest = rest
+
+leaving_admits : (id : List ℕ) (policy : Policy) (link : Link) (items : List Item) → is_admitted id (leaving link items (exits_of policy items)) ≡ false
+leaving_admits id policy link [] = refl
+leaving_admits id policy link (item.Publish p ∷ items) =
+    let o = exit policy p.origin p.name in
+    forwarded_admits id p (packet_id_by link p.qos) o (leaving (exited link p o) items (exits_of policy items)) (leaving_admits id policy (exited link p o) items)
+leaving_admits id policy link (item.Subscribe filter ∷ items) = leaving_admits id policy link items
+leaving_admits id policy link (item.Unsubscribe filter ∷ items) = leaving_admits id policy link items
+leaving_admits id policy link (item.Acknowledge packet_id ∷ items) = leaving_admits id policy link items
+leaving_admits id policy link (item.Ping ∷ items) = leaving_admits id policy link items
+
+take_admits : (s : State) (id : List ℕ) (b : Bool) → s.up ≡ b → is_admitted id (outs_of s Take) ≡ false
+take_admits s id true is = rw is (leaving_admits id s.policy s.link s.link.waiting)
+take_admits s id false is = rw is refl
+
+row_admits : (s : State) (e : Event) (ids : List (List ℕ)) (id : List ℕ) → is_among id ids ≡ false → is_among id (accepted_in ids e (outs_of s e)) ≡ false → is_admitted id (outs_of s e) ≡ false
+row_admits s (Datagram from datagram) ids id unknown none = datagram_admits s from (frame_of datagram) ids id unknown none
+row_admits s (Broker packet) ids id unknown none = refl
+row_admits s Up ids id unknown none = refl
+row_admits s Down ids id unknown none = refl
+row_admits s Take ids id unknown none = take_admits s id s.up refl
+row_admits s (Replace policy) ids id unknown none = refl
+row_admits s (Tick clock) ids id unknown none = refl
+
+-- ---- all rows
+
+none_if : (b : Bool) (id client : List ℕ) → (if b then left_from None else None) ≡ None
+none_if true id client = refl
+none_if false id client = refl
+
+phase_none : (id : List ℕ) (said : Decision) → admits id said ≡ false → phase_by id said None ≡ None
+phase_none id (note.Connect client outcome) none = rw none refl
+phase_none id (note.Left client) none = none_if (bytes_eq id client) id client
+phase_none id _ none = refl
+
+notes_none : (id : List ℕ) (notes : List Decision) → admitted_notes id notes ≡ false → phase_notes id notes None ≡ None
+notes_none id [] none = refl
+notes_none id (said ∷ notes) none =
+    let both = or_false (admits id said) (admitted_notes id notes) none in
+    ap (phase_notes id notes) (phase_none id said both.0) ∙ notes_none id notes both.1
+
+among_parts : (id : List ℕ) (xs ys : List (List ℕ)) → is_among id (xs ++ ys) ≡ false → (is_among id xs ≡ false) × (is_among id ys ≡ false)
+among_parts id [] ys none = (refl, none)
+among_parts id (x ∷ xs) ys none =
+    let both = or_false (bytes_eq id x) (is_among id (xs ++ ys)) none in
+    let rest = among_parts id xs ys both.1 in
+    (rw both.0 rest.0, rest.1)
+
+stranger_row : (h : List Row) (s : State) (e : Event) (outs : List Out) (id : List ℕ) → outs ≡ outs_of s e → phase_of id h ≡ None → is_among id (accepted h) ≡ false
+    → is_among id (accepted_in (accepted h) e outs) ≡ false → phase_after id outs (phase_of id h) ≡ None
+stranger_row h s e outs id is before unknown none =
+    let admitted : is_admitted id outs ≡ false =
+    ap (is_admitted id) is ∙ row_admits s e (accepted h) id unknown (subst (λ o. is_among id (accepted_in (accepted h) e o) ≡ false) is none) in
+    ap (phase_after id outs) before ∙ (phase_by_notes id outs None ∙ notes_none id (notes_of id outs) (sym (admitted_by_notes id outs) ∙ admitted))
+
+pub never_accepted : (h : List Row) → Lawful opening h → (id : List ℕ) → is_among id (accepted h) ≡ false → phase_of id h ≡ None
+never_accepted [] l id none = refl
+never_accepted (row ∷ h) l id none =
+    let s = state_of opening h in
+    let both = among_parts id (accepted h) (accepted_in (accepted h) row.event row.outs) none in
+    stranger_row h s row.event row.outs id (exact_by s (cause_of row.event) row.outs l.1) (never_accepted h l.0 id both.0) both.0 both.1

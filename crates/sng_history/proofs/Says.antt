@@ -1,0 +1,340 @@
+-- What a step lets out has just the notes that the step makes: of each client, and of what leaves.
+use Rattle.std.proofs.Common.{◌≡◌, ℕ, Bool, true, false, List, [], ◌∷◌, ◌++◌, refl, ap, sym, ◌∙◌, subst}
+use Rattle.std.specs.Prelude.{if◌then◌else◌, ◌&&◌, not, Option, None, Ok, Err}
+use Rattle.std.specs.declared.result.Result.{Result}
+use Rattle.std.specs.List.{flat_map}
+use Rattle.std.specs.Str.{bytes_eq}
+use Rattle.std.proofs.lemmas.List.{append-nil}
+use Rattle.sng_policy.specs.Grants.{lists_source}
+use Rattle.sng_states.specs.States.{has_session}
+use Rattle.sng_frames.specs.declared.messages.connect.Connect.{Connect}
+use Rattle.sng_frames.specs.declared.messages.publish.Publish.{Publish}
+use Rattle.sng_frames.specs.declared.frame.SnFrame.{SnFrame}
+use Rattle.sng_frames.specs.declared.frame.SnFrame.TheVariants as frame
+use Rattle.sng_frames.specs.declared.return_code.TheConstants.ReturnCode.{ACCEPTED}
+use Rattle.sng_outbox.specs.declared.item.Item.{Item}
+use Rattle.sng_outbox.specs.declared.item.Item.TheVariants as item
+use Rattle.sng_outbox.specs.declared.item.Publication.{Publication}
+use Rattle.sng_grants.specs.declared.policy.Policy.{Policy}
+use Rattle.sng_book.specs.declared.address.Address.{Address}
+use Rattle.sng_book.specs.declared.decision.Decision.{Decision}
+use Rattle.sng_book.specs.declared.decision.Decision.TheVariants as note
+use Rattle.sng_book.specs.declared.decision.Who.TheVariants as who
+use Rattle.sng_book.specs.declared.outcome.Denial.{Denial}
+use Rattle.sng_book.specs.declared.outcome.Denial.TheVariants.{NotSupported}
+use Rattle.sng_book.specs.declared.outcome.Outcome.{Outcome}
+use Rattle.sng_book.specs.declared.outcome.Outcome.TheVariants.{Allowed, Denied}
+use Rattle.sng_book.specs.declared.out.Out.{Out}
+use Rattle.sng_book.specs.declared.out.Out.TheVariants.{Note}
+use Rattle.sng_book.specs.Denials.{is_allowed}
+use Rattle.sng_history.specs.Causes.{Cause, ByConnect, ByPing, ByLeave, BySource, ByPublish, ByUnsupported, ByBroken, ByPacket, ByUp, ByDown, ByTake, ByReplace, ByTick}
+use Rattle.sng_history.specs.Clients.{Client, blank, same_address, is_here, is_from}
+use Rattle.sng_history.specs.Notes.{notes_of, exits_in}
+use Rattle.sng_history.specs.Links.{Link, packet_id_by, exited}
+use Rattle.sng_history.specs.State.{State, around, is_known, newcomers}
+use Rattle.sng_history.specs.Verdicts.{entry, source_ask, named_ask, name_in, exit}
+use Rattle.sng_history.specs.Answers.{code_of, dismissed, connack, denied_note}
+use Rattle.sng_history.specs.Exits.{exits_of, forwarded, leaving}
+use Rattle.sng_history.specs.Whole.{part, any_from, stranger_outs, frame_row, moved, beside, entry_row, entry_outs}
+use Rattle.sng_history.specs.Lawful.{fixed_for, exits_for}
+use Rattle.sng_history.specs.Steps.{notes_for, outs_by, entrants, newcomers_for}
+use Rattle.sng_history.specs.Good.{Each, Distinct}
+use Rattle.sng_history.proofs.Own.{same_self, same_means, flip, notes_append, exits_append, each_all, each_map, each_append, OnlyAbout, absent, each_own, no_exits}
+use Rattle.sng_history.proofs.Spelled.{Mute, mute_none, part_own, part_other, part_exits}
+use Rattle.sng_history.proofs.Told.{tells}
+use Rattle.sng_history.proofs.Kept.{unknown_away}
+
+-- the outs have just these notes, and bring in who is accepted for the first time
+pub record Says (s : State) (c : Cause) (outs : List Out) : Type 0 where
+  pub exits : exits_in outs ≡ exits_for s c
+  pub new : newcomers c s.clients outs ≡ newcomers_for s c
+  pub own : Each (λ x. notes_of x.id outs ≡ fixed_for s c x) (s.clients ++ newcomers_for s c)
+
+-- ---- parts of the clients
+
+abbrev pub part_for : State → Cause → Client → List Out
+part_for s c x = part (around s c) (fixed_for s c x) x
+
+fan_own : (s : State) (c : Cause) → Distinct s.clients → Each (λ x. notes_of x.id (flat_map (part_for s c) s.clients) ≡ fixed_for s c x) s.clients
+fan_own s c apart =
+    each_map (λ x. notes_of x.id (flat_map (part_for s c) s.clients) ≡ notes_of x.id (part_for s c x)) (λ x. notes_of x.id (flat_map (part_for s c) s.clients) ≡ fixed_for s c x) s.clients
+    (λ x own. own ∙ part_own (around s c) (fixed_for s c x) x (tells s c x))
+    (each_own (part_for s c) s.clients (each_all (OnlyAbout (part_for s c)) s.clients (λ x d away. part_other (around s c) (fixed_for s c x) x d away (tells s c x))) apart)
+
+fan_exits : (s : State) (c : Cause) → exits_in (flat_map (part_for s c) s.clients) ≡ []
+fan_exits s c =
+    no_exits (part_for s c) s.clients (each_all (λ x. exits_in (part_for s c x) ≡ []) s.clients (λ x. part_exits (around s c) (fixed_for s c x) x (tells s c x)))
+
+-- ---- a message of one client, or of nobody
+
+none_from_by : (c : Cause) (x : Client) (xs : List Client) (b : Bool) → is_from c x ≡ b → any_from c (x ∷ xs) ≡ false → (any_from c xs ≡ false → Each (λ y. is_from c y ≡ false) xs) → Each (λ y. is_from c y ≡ false) (x ∷ xs)
+none_from_by c x xs true is none later = absurd (let bad : true ≡ false = rw is at none in cc)
+none_from_by c x xs false is none later = let rest : any_from c xs ≡ false = rw is at none in (is, later rest)
+
+pub none_from : (c : Cause) (xs : List Client) → any_from c xs ≡ false → Each (λ y. is_from c y ≡ false) xs
+none_from c [] is = tt
+none_from c (x ∷ xs) is = none_from_by c x xs (is_from c x) refl is (none_from c xs)
+
+abbrev pub row_for : State → Cause → List Out
+row_for s c = frame_row s c (notes_for s c)
+
+-- what a message from nobody lets out is no client's
+pub record Strange (s : State) (c : Cause) : Type 0 where
+  pub mute : Mute (stranger_outs c)
+  pub quiet : (x : Client) → is_from c x ≡ false → fixed_for s c x ≡ []
+
+frame_own : (s : State) (c : Cause) (any : Bool) → any_from c s.clients ≡ any → Distinct s.clients → Strange s c → Each (λ x. notes_of x.id (row_for s c) ≡ fixed_for s c x) s.clients
+frame_own s c true is apart strange = rw is (fan_own s c apart)
+frame_own s c false is apart strange =
+    rw is (each_map (λ x. is_from c x ≡ false) (λ x. notes_of x.id (stranger_outs c) ≡ fixed_for s c x) s.clients (λ x away. strange.mute.notes x.id ∙ sym (strange.quiet x away)) (none_from c s.clients is))
+
+frame_exits : (s : State) (c : Cause) (any : Bool) → any_from c s.clients ≡ any → Strange s c → exits_in (row_for s c) ≡ []
+frame_exits s c true is strange = rw is (fan_exits s c)
+frame_exits s c false is strange = rw is strange.mute.exits
+
+-- nobody is accepted, and each client has its notes
+all_here : (s : State) (c : Cause) (outs : List Out) → newcomers_for s c ≡ [] → newcomers c s.clients outs ≡ newcomers_for s c → exits_in outs ≡ exits_for s c
+    → Each (λ x. notes_of x.id outs ≡ fixed_for s c x) s.clients → Says s c outs
+all_here s c outs none new exits own = record {
+  exits = exits;
+  new = new;
+  own = subst (λ xs. Each (λ x. notes_of x.id outs ≡ fixed_for s c x) (s.clients ++ xs)) (sym none) (rw (append-nil s.clients) own);
+}
+
+-- ---- a CONNECT
+
+mute_moved : (x : Client) (same out : Bool) → Mute (if same then (if out then dismissed x.address ∷ [] else []) else [])
+mute_moved x true true = record { notes = λ c. refl; exits = refl }
+mute_moved x true false = mute_none
+mute_moved x false out = mute_none
+
+mute_all : (f : Client → List Out) (xs : List Client) → ((x : Client) → Mute (f x)) → Mute (flat_map f xs)
+mute_all f [] each = mute_none
+mute_all f (x ∷ xs) each =
+    let later = mute_all f xs each in
+    record {
+      notes = λ c. notes_append c (f x) (flat_map f xs) ∙ (ap (λ notes. notes ++ notes_of c (flat_map f xs)) ((each x).notes c) ∙ later.notes c);
+      exits = exits_append (f x) (flat_map f xs) ∙ (ap (λ exits. exits ++ exits_in (flat_map f xs)) (each x).exits ∙ later.exits);
+    }
+
+moved_all : (from : Address) (id : List ℕ) (xs : List Client) → Mute (flat_map (moved from id) xs)
+moved_all from id xs = mute_all (moved from id) xs (λ x. mute_moved x (bytes_eq id x.id) (has_session x.phase && not (same_address x.address from)))
+
+abbrev pub beside_for : State → Address → Connect → Client → List Out
+beside_for s from connect = let c = ByConnect from connect in beside (around s c) (notes_for s c) connect.client_id
+
+beside_other_by : (s : State) (from : Address) (connect : Connect) (x : Client) (d : List ℕ) (same : Bool) → bytes_eq d x.id ≡ false
+    → notes_of d (if same then [] else part_for s (ByConnect from connect) x) ≡ []
+beside_other_by s from connect x d true away = refl
+beside_other_by s from connect x d false away =
+    let c = ByConnect from connect in part_other (around s c) (fixed_for s c x) x d away (tells s c x)
+
+beside_exits_by : (s : State) (from : Address) (connect : Connect) (x : Client) (same : Bool) → exits_in (if same then [] else part_for s (ByConnect from connect) x) ≡ []
+beside_exits_by s from connect x true = refl
+beside_exits_by s from connect x false =
+    let c = ByConnect from connect in part_exits (around s c) (fixed_for s c x) x (tells s c x)
+
+only_beside : (s : State) (from : Address) (connect : Connect) → Each (OnlyAbout (beside_for s from connect)) s.clients
+only_beside s from connect =
+    each_all (OnlyAbout (beside_for s from connect)) s.clients (λ x d away. beside_other_by s from connect x d (bytes_eq connect.client_id x.id) away)
+
+abbrev row_accepted : State → Address → Connect → List Out
+row_accepted s from connect = entry_row s from connect (notes_for s (ByConnect from connect))
+
+accepted_notes : (s : State) (from : Address) (connect : Connect) (d : List ℕ)
+    → notes_of d (row_accepted s from connect) ≡ notes_of d (flat_map (beside_for s from connect) s.clients) ++ []
+accepted_notes s from connect d =
+    let a = flat_map (moved from connect.client_id) s.clients in
+    let b = flat_map (beside_for s from connect) s.clients in
+    let end = connack from ACCEPTED ∷ [] in
+    notes_append d a (b ++ end) ∙ (ap (λ notes. notes ++ notes_of d (b ++ end)) ((moved_all from connect.client_id s.clients).notes d) ∙ notes_append d b end)
+
+accepted_exits : (s : State) (from : Address) (connect : Connect) → exits_in (row_accepted s from connect) ≡ []
+accepted_exits s from connect =
+    let a = flat_map (moved from connect.client_id) s.clients in
+    let b = flat_map (beside_for s from connect) s.clients in
+    let end = connack from ACCEPTED ∷ [] in
+    let none : exits_in b ≡ [] =
+    no_exits (beside_for s from connect) s.clients (each_all (λ x. exits_in (beside_for s from connect x) ≡ []) s.clients (λ x. beside_exits_by s from connect x (bytes_eq connect.client_id x.id))) in
+    exits_append a (b ++ end) ∙ (ap (λ exits. exits ++ exits_in (b ++ end)) (moved_all from connect.client_id s.clients).exits ∙ (exits_append b end ∙ ap (λ exits. exits ++ []) none))
+
+-- the notes of the client that connects, and of each other
+accepted_one : (s : State) (from : Address) (connect : Connect) (x : Client) (same : Bool) (b : List Decision) → bytes_eq connect.client_id x.id ≡ same → entry s connect ≡ Allowed
+    → b ≡ notes_of x.id (beside_for s from connect x)
+    → (if bytes_eq x.id connect.client_id then note.Connect connect.client_id Allowed ∷ [] else []) ++ (b ++ []) ≡ fixed_for s (ByConnect from connect) x
+accepted_one s from connect x true b is may one =
+    let e : connect.client_id ≡ x.id = same_means connect.client_id x.id is in
+    let none : b ≡ [] = one ∙ (rw is refl) in
+    rw (none, may, e, same_self x.id) refl
+accepted_one s from connect x false b is may one =
+    let c = ByConnect from connect in
+    let away : bytes_eq x.id connect.client_id ≡ false = flip x.id connect.client_id is in
+    let all : b ≡ fixed_for s c x = one ∙ (ap (λ t. notes_of x.id (if t then [] else part_for s c x)) is ∙ part_own (around s c) (fixed_for s c x) x (tells s c x)) in
+    ap (λ t. (if t then note.Connect connect.client_id Allowed ∷ [] else []) ++ (b ++ [])) away ∙ (append-nil b ∙ all)
+
+accepted_own : (s : State) (from : Address) (connect : Connect) → Distinct s.clients → entry s connect ≡ Allowed
+    → Each (λ x. notes_of x.id (Note (note.Connect connect.client_id Allowed) ∷ row_accepted s from connect) ≡ fixed_for s (ByConnect from connect) x) s.clients
+accepted_own s from connect apart may =
+    let f = beside_for s from connect in
+    each_map (λ x. notes_of x.id (flat_map f s.clients) ≡ notes_of x.id (f x))
+    (λ x. notes_of x.id (Note (note.Connect connect.client_id Allowed) ∷ row_accepted s from connect) ≡ fixed_for s (ByConnect from connect) x) s.clients
+    (λ x own. ap (λ notes. (if bytes_eq x.id connect.client_id then note.Connect connect.client_id Allowed ∷ [] else []) ++ notes) (accepted_notes s from connect x.id)
+    ∙ accepted_one s from connect x (bytes_eq connect.client_id x.id) (notes_of x.id (flat_map f s.clients)) refl may own)
+    (each_own f s.clients (only_beside s from connect) apart)
+
+-- who is accepted for the first time
+accepted_new : (s : State) (from : Address) (connect : Connect) (known : Bool) → is_known connect.client_id s.clients ≡ known → entry s connect ≡ Allowed
+    → Each (λ x. notes_of x.id (Note (note.Connect connect.client_id Allowed) ∷ row_accepted s from connect) ≡ fixed_for s (ByConnect from connect) x)
+    (if not known then blank connect.client_id ∷ [] else [])
+accepted_new s from connect true is may = tt
+accepted_new s from connect false is may =
+    let id = connect.client_id in
+    let none : notes_of id (flat_map (beside_for s from connect) s.clients) ≡ [] = absent (beside_for s from connect) id s.clients (only_beside s from connect) (unknown_away id s.clients is) in
+    (ap (λ notes. (if bytes_eq id id then note.Connect id Allowed ∷ [] else []) ++ notes) (accepted_notes s from connect id) ∙ (rw (none, same_self id, may) refl), tt)
+
+refused_one : (s : State) (from : Address) (connect : Connect) (rule : Denial) (x : Client) (same : Bool) → bytes_eq connect.client_id x.id ≡ same → entry s connect ≡ Denied rule
+    → notes_of x.id (Note (note.Connect connect.client_id (Denied rule)) ∷ connack from (code_of rule) ∷ []) ≡ fixed_for s (ByConnect from connect) x
+refused_one s from connect rule x true is may =
+    let e : connect.client_id ≡ x.id = same_means connect.client_id x.id is in rw (may, e, same_self x.id) refl
+refused_one s from connect rule x false is may =
+    let away : bytes_eq x.id connect.client_id ≡ false = flip x.id connect.client_id is in rw (away, is, may) refl
+
+entry_says : (s : State) (from : Address) (connect : Connect) (o : Outcome) → entry s connect ≡ o → Distinct s.clients
+    → Says s (ByConnect from connect) (entry_outs s from connect (notes_for s (ByConnect from connect)) o)
+entry_says s from connect Allowed is apart =
+    let c = ByConnect from connect in
+    let P : Client → Type 0 = λ x. notes_of x.id (Note (note.Connect connect.client_id Allowed) ∷ row_accepted s from connect) ≡ fixed_for s c x in
+    let news : entrants s connect ≡ (if not (is_known connect.client_id s.clients) then blank connect.client_id ∷ [] else []) =
+    ap (λ o. if is_allowed o && not (is_known connect.client_id s.clients) then blank connect.client_id ∷ [] else []) is in
+    record {
+      exits = accepted_exits s from connect;
+      new = sym news;
+      own = each_append P s.clients (entrants s connect) (accepted_own s from connect apart is) (subst (Each P) (sym news) (accepted_new s from connect (is_known connect.client_id s.clients) refl is));
+    }
+entry_says s from connect (Denied rule) is apart =
+    let c = ByConnect from connect in
+    let news : entrants s connect ≡ [] = ap (λ o. if is_allowed o && not (is_known connect.client_id s.clients) then blank connect.client_id ∷ [] else []) is in
+    all_here s c (entry_outs s from connect (notes_for s c) (Denied rule)) news (sym news) refl
+    (each_all (λ x. notes_of x.id (entry_outs s from connect (notes_for s c) (Denied rule)) ≡ fixed_for s c x) s.clients (λ x. refused_one s from connect rule x (bytes_eq connect.client_id x.id) refl is))
+
+-- ---- what leaves for the broker
+
+forwarded_says : (p : Publication) (packet_id : Option ℕ) (o : Outcome) (outs : List Out) → exits_in (forwarded p packet_id o ++ outs) ≡ o ∷ exits_in outs
+forwarded_says p packet_id Allowed outs = refl
+forwarded_says p packet_id (Denied rule) outs = refl
+
+pub leaving_exits : (policy : Policy) (link : Link) (items : List Item) → exits_in (leaving link items (exits_of policy items)) ≡ exits_of policy items
+leaving_exits policy link [] = refl
+leaving_exits policy link (item.Publish p ∷ items) =
+    let o = exit policy p.origin p.name in
+    forwarded_says p (packet_id_by link p.qos) o (leaving (exited link p o) items (exits_of policy items)) ∙ ap (λ outcomes. o ∷ outcomes) (leaving_exits policy (exited link p o) items)
+leaving_exits policy link (item.Subscribe filter ∷ items) = leaving_exits policy link items
+leaving_exits policy link (item.Unsubscribe filter ∷ items) = leaving_exits policy link items
+leaving_exits policy link (item.Acknowledge packet_id ∷ items) = leaving_exits policy link items
+leaving_exits policy link (item.Ping ∷ items) = leaving_exits policy link items
+
+forwarded_none : (d : List ℕ) (p : Publication) (packet_id : Option ℕ) (o : Outcome) (outs : List Out) → notes_of d (forwarded p packet_id o ++ outs) ≡ notes_of d outs
+forwarded_none d p packet_id Allowed outs = refl
+forwarded_none d p packet_id (Denied rule) outs = refl
+
+pub leaving_none : (d : List ℕ) (policy : Policy) (link : Link) (items : List Item) → notes_of d (leaving link items (exits_of policy items)) ≡ []
+leaving_none d policy link [] = refl
+leaving_none d policy link (item.Publish p ∷ items) =
+    let o = exit policy p.origin p.name in
+    forwarded_none d p (packet_id_by link p.qos) o (leaving (exited link p o) items (exits_of policy items)) ∙ leaving_none d policy (exited link p o) items
+leaving_none d policy link (item.Subscribe filter ∷ items) = leaving_none d policy link items
+leaving_none d policy link (item.Unsubscribe filter ∷ items) = leaving_none d policy link items
+leaving_none d policy link (item.Acknowledge packet_id ∷ items) = leaving_none d policy link items
+leaving_none d policy link (item.Ping ∷ items) = leaving_none d policy link items
+
+take_exits : (s : State) (up : Bool) → s.up ≡ up → exits_in (outs_by s ByTake) ≡ exits_for s ByTake
+take_exits s true is = rw is (leaving_exits s.policy s.link s.link.waiting)
+take_exits s false is = rw is refl
+
+take_none : (s : State) (d : List ℕ) (up : Bool) → s.up ≡ up → notes_of d (outs_by s ByTake) ≡ []
+take_none s d true is = rw is (leaving_none d s.policy s.link s.link.waiting)
+take_none s d false is = rw is refl
+
+-- ---- a publish of a source
+
+mute_named : (s : State) (source : List ℕ) (named : Result (List ℕ) Denial) → Mute (Note (named_ask s source named) ∷ [])
+mute_named s source (Ok name) = record { notes = λ c. refl; exits = refl }
+mute_named s source (Err rule) = record { notes = λ c. refl; exits = refl }
+
+mute_ask : (s : State) (source : List ℕ) (p : Publish) (listed : Bool) → lists_source s.policy source ≡ listed → Mute (Note (source_ask s source p) ∷ [])
+mute_ask s source p true is = rw is (mute_named s source (name_in s.policy None p.flags.id_type p.topic_id))
+mute_ask s source p false is = rw is (record { notes = λ c. refl; exits = refl })
+
+pub mute_source : (s : State) (source : List ℕ) (p : Publish) → Mute (Note (source_ask s source p) ∷ [])
+mute_source s source p = mute_ask s source p (lists_source s.policy source) refl
+
+-- ---- each cause
+
+quiet_if : (b : Bool) (notes : List Decision) → b ≡ false → (if b then notes else []) ≡ []
+quiet_if true notes is = absurd cc
+quiet_if false notes is = refl
+
+strange_ping : (s : State) (from : Address) (client : Option (List ℕ)) → Strange s (ByPing from client)
+strange_ping s from client = record { mute = record { notes = λ c. refl; exits = refl }; quiet = λ x away. quiet_if (is_here x from) _ away }
+
+strange_leave : (s : State) (from : Address) → Strange s (ByLeave from)
+strange_leave s from = record { mute = record { notes = λ c. refl; exits = refl }; quiet = λ x away. quiet_if (is_here x from) _ away }
+
+strange_publish : (s : State) (from : Address) (p : Publish) → Strange s (ByPublish from p)
+strange_publish s from p = record { mute = record { notes = λ c. refl; exits = refl }; quiet = λ x away. quiet_if (is_here x from) _ away }
+
+strange_broken : (s : State) (from : Address) (rule : Denial) → Strange s (ByBroken from rule)
+strange_broken s from rule = record { mute = record { notes = λ c. refl; exits = refl }; quiet = λ x away. quiet_if (is_here x from) _ away }
+
+mute_unsupported : (from : Address) (message : SnFrame) → Mute (Note (denied_note message (who.Address from) NotSupported) ∷ [])
+mute_unsupported from (frame.Connect connect) = record { notes = λ c. refl; exits = refl }
+mute_unsupported from (frame.ConnectAck code) = record { notes = λ c. refl; exits = refl }
+mute_unsupported from frame.WillTopicRequest = record { notes = λ c. refl; exits = refl }
+mute_unsupported from (frame.WillTopic topic) = record { notes = λ c. refl; exits = refl }
+mute_unsupported from frame.WillMessageRequest = record { notes = λ c. refl; exits = refl }
+mute_unsupported from (frame.WillMessage message) = record { notes = λ c. refl; exits = refl }
+mute_unsupported from (frame.Register register) = record { notes = λ c. refl; exits = refl }
+mute_unsupported from (frame.RegisterAck answer) = record { notes = λ c. refl; exits = refl }
+mute_unsupported from (frame.Publish p) = record { notes = λ c. refl; exits = refl }
+mute_unsupported from (frame.PublishAck answer) = record { notes = λ c. refl; exits = refl }
+mute_unsupported from (frame.PublishComplete id) = record { notes = λ c. refl; exits = refl }
+mute_unsupported from (frame.PublishReceived id) = record { notes = λ c. refl; exits = refl }
+mute_unsupported from (frame.PublishRelease id) = record { notes = λ c. refl; exits = refl }
+mute_unsupported from (frame.Subscribe request) = record { notes = λ c. refl; exits = refl }
+mute_unsupported from (frame.SubscribeAck answer) = record { notes = λ c. refl; exits = refl }
+mute_unsupported from (frame.Unsubscribe request) = record { notes = λ c. refl; exits = refl }
+mute_unsupported from (frame.UnsubscribeAck id) = record { notes = λ c. refl; exits = refl }
+mute_unsupported from (frame.PingRequest client) = record { notes = λ c. refl; exits = refl }
+mute_unsupported from frame.PingResponse = record { notes = λ c. refl; exits = refl }
+mute_unsupported from (frame.Disconnect duration) = record { notes = λ c. refl; exits = refl }
+mute_unsupported from (frame.WillTopicUpdate topic) = record { notes = λ c. refl; exits = refl }
+mute_unsupported from (frame.WillTopicResponse code) = record { notes = λ c. refl; exits = refl }
+mute_unsupported from (frame.WillMessageUpdate message) = record { notes = λ c. refl; exits = refl }
+mute_unsupported from (frame.WillMessageResponse code) = record { notes = λ c. refl; exits = refl }
+
+strange_unsupported : (s : State) (from : Address) (message : SnFrame) → Strange s (ByUnsupported from message)
+strange_unsupported s from message = record { mute = mute_unsupported from message; quiet = λ x away. quiet_if (is_here x from) _ away }
+
+frame_says : (s : State) (c : Cause) → newcomers_for s c ≡ [] → newcomers c s.clients (row_for s c) ≡ newcomers_for s c → exits_for s c ≡ [] → Distinct s.clients → Strange s c → Says s c (row_for s c)
+frame_says s c none new quiet apart strange =
+    all_here s c (row_for s c) none new (frame_exits s c (any_from c s.clients) refl strange ∙ sym quiet) (frame_own s c (any_from c s.clients) refl apart strange)
+
+mute_says : (s : State) (c : Cause) (outs : List Out) → newcomers_for s c ≡ [] → newcomers c s.clients outs ≡ newcomers_for s c → exits_for s c ≡ [] → Mute outs → ((x : Client) → fixed_for s c x ≡ []) → Says s c outs
+mute_says s c outs none new quiet mute all =
+    all_here s c outs none new (mute.exits ∙ sym quiet) (each_all (λ x. notes_of x.id outs ≡ fixed_for s c x) s.clients (λ x. mute.notes x.id ∙ sym (all x)))
+
+pub says : (s : State) (c : Cause) → Distinct s.clients → Says s c (outs_by s c)
+says s (ByConnect from connect) apart = entry_says s from connect (entry s connect) refl apart
+says s (ByPing from client) apart = frame_says s (ByPing from client) refl refl refl apart (strange_ping s from client)
+says s (ByLeave from) apart = frame_says s (ByLeave from) refl refl refl apart (strange_leave s from)
+says s (ByPublish from p) apart = frame_says s (ByPublish from p) refl refl refl apart (strange_publish s from p)
+says s (ByUnsupported from message) apart = frame_says s (ByUnsupported from message) refl refl refl apart (strange_unsupported s from message)
+says s (ByBroken from rule) apart = frame_says s (ByBroken from rule) refl refl refl apart (strange_broken s from rule)
+says s (BySource from p) apart = mute_says s (BySource from p) (outs_by s (BySource from p)) refl refl refl (mute_source s from.ip p) (λ x. refl)
+says s (ByPacket p) apart = mute_says s (ByPacket p) (outs_by s (ByPacket p)) refl refl refl (record { notes = λ c. refl; exits = refl }) (λ x. refl)
+says s ByUp apart = mute_says s ByUp [] refl refl refl mute_none (λ x. refl)
+says s ByDown apart = mute_says s ByDown [] refl refl refl mute_none (λ x. refl)
+says s ByTake apart =
+    all_here s ByTake (outs_by s ByTake) refl refl (take_exits s s.up refl) (each_all (λ x. notes_of x.id (outs_by s ByTake) ≡ fixed_for s ByTake x) s.clients (λ x. take_none s x.id s.up refl))
+says s (ByReplace policy) apart = mute_says s (ByReplace policy) [] refl refl refl mute_none (λ x. refl)
+says s (ByTick clock) apart = mute_says s (ByTick clock) [] refl refl refl mute_none (λ x. refl)

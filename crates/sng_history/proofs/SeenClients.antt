@@ -1,0 +1,190 @@
+-- One client as a datagram comes: what is kept of it moves as what the rows show of it.
+use Rattle.std.proofs.Common.{◌≡◌, ℕ, Bool, true, false, List, [], ◌∷◌, refl, ap, sym, ◌∙◌, if◌then◌else◌, Ok, Err}
+use Rattle.std.specs.Prelude.{◌&&◌, ◌||◌, Option, Some, None}
+use Rattle.std.specs.Str.{bytes_eq}
+use Rattle.std.specs.declared.result.Result.{Result}
+use Rattle.sng_grants.specs.declared.policy.Policy.{Policy}
+use Rattle.sng_states.specs.declared.state.ClientState.{ClientState}
+use Rattle.sng_states.specs.declared.state.ClientState.TheVariants.{Active}
+use Rattle.sng_frames.specs.declared.fault.FrameFault.{FrameFault}
+use Rattle.sng_frames.specs.declared.qos.FrameQos.{FrameQos}
+use Rattle.sng_frames.specs.declared.qos.FrameQos.TheVariants as qos
+use Rattle.sng_frames.specs.declared.messages.connect.Connect.{Connect}
+use Rattle.sng_frames.specs.declared.messages.publish.Publish.{Publish}
+use Rattle.sng_frames.specs.declared.frame.SnFrame.{SnFrame}
+use Rattle.sng_frames.specs.declared.frame.SnFrame.TheVariants as frame
+use Rattle.sng_book.specs.Denials.{is_allowed}
+use Rattle.sng_book.specs.declared.address.Address.{Address}
+use Rattle.sng_book.specs.declared.decision.Decision.{Decision}
+use Rattle.sng_book.specs.declared.decision.Decision.TheVariants as note
+use Rattle.sng_book.specs.declared.decision.Who.{Who}
+use Rattle.sng_book.specs.declared.decision.Who.TheVariants as who
+use Rattle.sng_book.specs.declared.outcome.Denial.{Denial}
+use Rattle.sng_book.specs.declared.outcome.Denial.TheVariants.{NotSupported}
+use Rattle.sng_book.specs.declared.outcome.Outcome.{Outcome}
+use Rattle.sng_book.specs.declared.outcome.Outcome.TheVariants.{Allowed, Denied}
+use Rattle.sng_history.specs.Causes.{Cause, ByConnect, ByPing, ByLeave, ByPublish, ByUnsupported, ByBroken, datagram_cause, publish_cause, rule_of}
+use Rattle.sng_history.specs.Clients.{Client, Around, is_here, cleaned, let_in, note_by, notes_by}
+use Rattle.sng_history.specs.State.{State}
+use Rattle.sng_history.specs.Verdicts.{entry, ping_verdict}
+use Rattle.sng_history.specs.Answers.{denied_note}
+use Rattle.sng_history.specs.Lawful.{fixed_for, denial_of}
+use Rattle.sng_history.specs.Steps.{client_next}
+use Rattle.sng_history.specs.ViewsMessages.{message_in}
+use Rattle.sng_history.specs.ViewsClients.{phase_by, admits, duration_by, is_spoken}
+use Rattle.sng_history.proofs.Own.{same_self}
+use Rattle.sng_history.proofs.SeenNotes.{phase_notes, admitted_notes}
+
+-- what was shown before of a client, and of an event: where it came from, what it states, the clock, and whether the client speaks by it
+pub record Before : Type 0 where
+  pub phase : Option ClientState
+  pub address : Option Address
+  pub duration : Option ℕ
+  pub heard : Option ℕ
+  pub from : Option Address
+  pub stated : Option ℕ
+  pub clock : ℕ
+  pub spoke : Bool
+
+-- what the notes show then is the client
+abbrev pub Shows : List ℕ → Before → List Decision → Client → Type 0
+Shows id b n y =
+    (phase_notes id n b.phase ≡ Some y.phase)
+    × ((if admitted_notes id n then b.from else b.address) ≡ Some y.address)
+    × ((if admitted_notes id n then b.stated else b.duration) ≡ Some y.duration)
+    × ((if admitted_notes id n || b.spoke then Some b.clock else b.heard) ≡ Some y.heard)
+
+abbrev pub kept_of : Client → Option Address → Option ℕ → ℕ → Bool → Before
+kept_of x from stated clock spoke = record {
+  phase = Some x.phase;
+  address = Some x.address;
+  duration = Some x.duration;
+  heard = Some x.heard;
+  from = from;
+  stated = stated;
+  clock = clock;
+  spoke = spoke;
+}
+
+-- a client that is heard
+abbrev pub heard_if : Bool → ℕ → Client → Client
+heard_if spoke clock x = if spoke then record x { heard = clock } else x
+
+-- ---- a row with no note of the client, or with one that moves nothing
+
+pub silent : (x : Client) (from : Option Address) (stated : Option ℕ) (clock : ℕ) (spoke : Bool) → Shows x.id (kept_of x from stated clock spoke) [] (heard_if spoke clock x)
+silent x from stated clock true = (refl, refl, refl, refl)
+silent x from stated clock false = (refl, refl, refl, refl)
+
+-- the note moves nothing
+record Idle (a : Around) (said : Decision) : Type 0 where
+  phase : (id : List ℕ) (before : Option ClientState) → phase_by id said before ≡ before
+  admits : (id : List ℕ) → admits id said ≡ false
+  same : (x : Client) → note_by a said x ≡ x
+
+idle : (a : Around) (x : Client) (from : Option Address) (stated : Option ℕ) (spoke : Bool) (said : Decision) → Idle a said
+    → Shows x.id (kept_of x from stated a.clock spoke) (said ∷ []) (note_by a said (heard_if spoke a.clock x))
+idle a x from stated spoke said is =
+    rw (is.phase x.id (Some x.phase), is.admits x.id, is.same (heard_if spoke a.clock x)) (silent x from stated a.clock spoke)
+
+denied_idle : (a : Around) (message : SnFrame) (whom : Who) (rule : Denial) → Idle a (denied_note message whom rule)
+denied_idle a (frame.Connect connect) whom rule = record { phase = λ id before. refl; admits = λ id. refl; same = λ x. refl }
+denied_idle a _ whom rule = record { phase = λ id before. refl; admits = λ id. refl; same = λ x. refl }
+
+-- a message of one that is there is denied, and by nobody else
+denied_shows : (a : Around) (x : Client) (from : Option Address) (stated : Option ℕ) (here : Bool) (message : SnFrame) (rule : Denial)
+    → let n = if here then denied_note message (who.Client x.id) rule ∷ [] else [] in
+    Shows x.id (kept_of x from stated a.clock here) n (notes_by a n (heard_if here a.clock x))
+denied_shows a x from stated true message rule = idle a x from stated true (denied_note message (who.Client x.id) rule) (denied_idle a message (who.Client x.id) rule)
+denied_shows a x from stated false message rule = (refl, refl, refl, refl)
+
+broken_shows : (a : Around) (x : Client) (from : Option Address) (here : Bool) (rule : Denial)
+    → let n = if here then note.Frame (who.Client x.id) (Denied rule) ∷ [] else [] in
+    Shows x.id (kept_of x from None a.clock false) n (notes_by a n x)
+broken_shows a x from true rule = (refl, refl, refl, refl)
+broken_shows a x from false rule = (refl, refl, refl, refl)
+
+ping_shows : (a : Around) (x : Client) (from : Option Address) (here : Bool) (o : Outcome)
+    → let n = if here then denial_of x.id o else [] in
+    Shows x.id (kept_of x from None a.clock here) n (notes_by a n (heard_if here a.clock x))
+ping_shows a x from true Allowed = (refl, refl, refl, refl)
+ping_shows a x from true (Denied rule) = (refl, refl, refl, refl)
+ping_shows a x from false o = (refl, refl, refl, refl)
+
+-- ---- it leaves, or is let in
+
+leave_shows : (a : Around) (x : Client) (from : Option Address) (stated : Option ℕ) (here : Bool)
+    → let n = if here then note.Left x.id ∷ [] else [] in
+    Shows x.id (kept_of x from stated a.clock here) n (notes_by a n (heard_if here a.clock x))
+leave_shows a x from stated true = rw (same_self x.id) (refl, refl, refl, refl)
+leave_shows a x from stated false = (refl, refl, refl, refl)
+
+record LetIn (clock : ℕ) (from : Address) (seconds : ℕ) (y : Client) : Type 0 where
+  phase : y.phase ≡ Active
+  address : y.address ≡ from
+  duration : y.duration ≡ seconds
+  heard : y.heard ≡ clock
+
+let_in_as : (clean : Bool) (clock : ℕ) (from : Address) (duration : ℕ) (x : Client)
+    → LetIn clock from duration (cleaned clean (record x { address = from; phase = Active; ids = []; duration = duration; heard = clock }))
+let_in_as true clock from duration x = record { phase = refl; address = refl; duration = refl; heard = refl }
+let_in_as false clock from duration x = record { phase = refl; address = refl; duration = refl; heard = refl }
+
+-- the client whose CONNECT is accepted, whatever was shown before
+pub let_in_shows : (b : Before) (id : List ℕ) (clock : ℕ) (from : Address) (connect : Connect) (x : Client) → b.from ≡ Some from → b.stated ≡ Some connect.duration → b.clock ≡ clock
+    → Shows id b (note.Connect id Allowed ∷ []) (let_in clock from connect x)
+let_in_shows b id clock from connect x at states now =
+    let is = let_in_as connect.flags.clean clock from connect.duration x in
+    rw (same_self id) (sym (ap Some is.phase), at ∙ sym (ap Some is.address), states ∙ sym (ap Some is.duration), ap Some now ∙ sym (ap Some is.heard))
+
+refused_shows : (x : Client) (id : List ℕ) (from : Option Address) (stated : Option ℕ) (clock : ℕ) (rule : Denial) (spoke : Bool) → bytes_eq x.id id ≡ true
+    → Shows x.id (kept_of x from stated clock spoke) (note.Connect id (Denied rule) ∷ []) (heard_if spoke clock x)
+refused_shows x id from stated clock rule true own = rw own (refl, refl, refl, refl)
+refused_shows x id from stated clock rule false own = rw own (refl, refl, refl, refl)
+
+abbrev entry_around : Policy → ℕ → Address → Connect → Around
+entry_around policy clock from connect = record { policy = policy; clock = clock; cause = ByConnect from connect }
+
+abbrev entry_notes : Client → Bool → Bool → Outcome → List Decision
+entry_notes x own here o = if own then note.Connect x.id o ∷ [] else (if is_allowed o then (if here then note.Left x.id ∷ [] else []) else [])
+
+connect_shows : (policy : Policy) (clock : ℕ) (from : Address) (connect : Connect) (x : Client) (own here : Bool) (o : Outcome)
+    → Shows x.id (kept_of x (Some from) (Some connect.duration) clock here) (entry_notes x own here o) (notes_by (entry_around policy clock from connect) (entry_notes x own here o) (heard_if here clock x))
+connect_shows policy clock from connect x true here Allowed =
+    let_in_shows (kept_of x (Some from) (Some connect.duration) clock here) x.id clock from connect (heard_if here clock x) refl refl refl
+connect_shows policy clock from connect x true here (Denied rule) = refused_shows x x.id (Some from) (Some connect.duration) clock rule here (same_self x.id)
+connect_shows policy clock from connect x false here Allowed = leave_shows (entry_around policy clock from connect) x (Some from) (Some connect.duration) here
+connect_shows policy clock from connect x false here (Denied rule) = silent x (Some from) (Some connect.duration) clock here
+
+-- ---- any datagram
+
+abbrev pub before_read : State → Client → Address → Result SnFrame FrameFault → Before
+before_read s x from read = kept_of x (Some from) (duration_by (message_in read)) s.clock (is_spoken (message_in read) && is_here x from)
+
+abbrev around_by : State → Cause → Around
+around_by s c = record { policy = s.policy; clock = s.clock; cause = c }
+
+publish_shows : (s : State) (x : Client) (from : Address) (p : Publish) (q : FrameQos)
+    → let c = publish_cause from p q in
+    Shows x.id (kept_of x (Some from) None s.clock (is_spoken (message_in (Ok (frame.Publish (record p { flags = record p.flags { qos = q } })))) && is_here x from)) (fixed_for s c x) (client_next s c x)
+publish_shows s x from p qos.WithoutSession = (refl, refl, refl, refl)
+publish_shows s x from p qos.AtMostOnce = denied_shows (around_by s (ByPublish from p)) x (Some from) None (is_here x from) (frame.Publish p) NotSupported
+publish_shows s x from p qos.AtLeastOnce = denied_shows (around_by s (ByPublish from p)) x (Some from) None (is_here x from) (frame.Publish p) NotSupported
+publish_shows s x from p qos.ExactlyOnce = denied_shows (around_by s (ByUnsupported from (frame.Publish p))) x (Some from) None (is_here x from) (frame.Publish p) NotSupported
+
+disconnect_shows : (s : State) (x : Client) (from : Address) (duration : Option ℕ)
+    → let c = datagram_cause from (Ok (frame.Disconnect duration)) in
+    Shows x.id (before_read s x from (Ok (frame.Disconnect duration))) (fixed_for s c x) (client_next s c x)
+disconnect_shows s x from None = leave_shows (around_by s (ByLeave from)) x (Some from) None (is_here x from)
+disconnect_shows s x from (Some duration) =
+    denied_shows (around_by s (ByUnsupported from (frame.Disconnect (Some duration)))) x (Some from) None (is_here x from) (frame.Disconnect (Some duration)) NotSupported
+
+pub datagram_shows : (s : State) (x : Client) (from : Address) (read : Result SnFrame FrameFault)
+    → Shows x.id (before_read s x from read) (fixed_for s (datagram_cause from read) x) (client_next s (datagram_cause from read) x)
+datagram_shows s x from (Ok (frame.Connect connect)) =
+    connect_shows s.policy s.clock from connect x (bytes_eq connect.client_id x.id) (is_here x from) (entry s connect)
+datagram_shows s x from (Ok (frame.Publish p)) = publish_shows s x from p p.flags.qos
+datagram_shows s x from (Ok (frame.PingRequest client)) = ping_shows (around_by s (ByPing from client)) x (Some from) (is_here x from) (ping_verdict client x)
+datagram_shows s x from (Ok (frame.Disconnect duration)) = disconnect_shows s x from duration
+datagram_shows s x from (Ok message) = denied_shows (around_by s (ByUnsupported from message)) x (Some from) None (is_here x from) message NotSupported
+datagram_shows s x from (Err broke) = broken_shows (around_by s (ByBroken from (rule_of broke))) x (Some from) (is_here x from) (rule_of broke)

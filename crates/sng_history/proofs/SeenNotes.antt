@@ -1,0 +1,52 @@
+-- What the rows show of a client is read from the client's own notes.
+use Rattle.std.proofs.Common.{◌≡◌, ℕ, Bool, true, false, List, [], ◌∷◌, ◌++◌, refl, ap, ◌∙◌, if◌then◌else◌}
+use Rattle.std.specs.Prelude.{◌||◌, Option}
+use Rattle.sng_states.specs.declared.state.ClientState.{ClientState}
+use Rattle.sng_book.specs.declared.decision.Decision.{Decision}
+use Rattle.sng_book.specs.declared.decision.Decision.TheVariants as note
+use Rattle.sng_book.specs.declared.out.Out.{Out}
+use Rattle.sng_book.specs.declared.out.Out.TheVariants.{Send, Wire, Note}
+use Rattle.sng_history.specs.Notes.{notes_of, is_of}
+use Rattle.sng_history.specs.ViewsClients.{phase_by, phase_after, admits, is_admitted}
+
+abbrev pub phase_notes : List ℕ → List Decision → Option ClientState → Option ClientState
+phase_notes id [] before = before
+phase_notes id (said ∷ notes) before = phase_notes id notes (phase_by id said before)
+
+abbrev pub admitted_notes : List ℕ → List Decision → Bool
+admitted_notes id [] = false
+admitted_notes id (said ∷ notes) = admits id said || admitted_notes id notes
+
+-- another's note shows nothing of the client
+phase_other : (id : List ℕ) (said : Decision) (before : Option ClientState) → is_of id said ≡ false → phase_by id said before ≡ before
+phase_other id (note.Connect client outcome) before other = rw other refl
+phase_other id (note.Left client) before other = rw other refl
+phase_other id _ before other = refl
+
+admits_other : (id : List ℕ) (said : Decision) → is_of id said ≡ false → admits id said ≡ false
+admits_other id (note.Connect client outcome) other = rw other refl
+admits_other id _ other = refl
+
+phase_note : (id : List ℕ) (said : Decision) (notes : List Decision) (before : Option ClientState) (b : Bool) → is_of id said ≡ b
+    → phase_notes id notes (phase_by id said before) ≡ phase_notes id ((if b then said ∷ [] else []) ++ notes) before
+phase_note id said notes before true own = refl
+phase_note id said notes before false other = ap (phase_notes id notes) (phase_other id said before other)
+
+admitted_note : (id : List ℕ) (said : Decision) (notes : List Decision) (b : Bool) → is_of id said ≡ b
+    → (admits id said || admitted_notes id notes) ≡ admitted_notes id ((if b then said ∷ [] else []) ++ notes)
+admitted_note id said notes true own = refl
+admitted_note id said notes false other = rw (admits_other id said other) refl
+
+pub phase_by_notes : (id : List ℕ) (outs : List Out) (before : Option ClientState) → phase_after id outs before ≡ phase_notes id (notes_of id outs) before
+phase_by_notes id [] before = refl
+phase_by_notes id (Note said ∷ outs) before =
+    phase_by_notes id outs (phase_by id said before) ∙ phase_note id said (notes_of id outs) before (is_of id said) refl
+phase_by_notes id (Send to datagram ∷ outs) before = phase_by_notes id outs before
+phase_by_notes id (Wire packet ∷ outs) before = phase_by_notes id outs before
+
+pub admitted_by_notes : (id : List ℕ) (outs : List Out) → is_admitted id outs ≡ admitted_notes id (notes_of id outs)
+admitted_by_notes id [] = refl
+admitted_by_notes id (Note said ∷ outs) =
+    ap (λ later. admits id said || later) (admitted_by_notes id outs) ∙ admitted_note id said (notes_of id outs) (is_of id said) refl
+admitted_by_notes id (Send to datagram ∷ outs) = admitted_by_notes id outs
+admitted_by_notes id (Wire packet ∷ outs) = admitted_by_notes id outs

@@ -1,0 +1,339 @@
+-- The state that a lawful history leads to is what its rows show.
+use Rattle.std.proofs.Common.{◌≡◌, ℕ, Bool, true, false, List, [], ◌∷◌, ◌++◌, map, refl, ap, sym, ◌∙◌, subst, if◌then◌else◌, Ok, Err}
+use Rattle.std.specs.Prelude.{◌&&◌, ◌||◌, not, Option, Some, None}
+use Rattle.std.specs.Str.{bytes_eq}
+use Rattle.std.specs.declared.result.Result.{Result}
+use Rattle.sng_grants.specs.declared.policy.Policy.{Policy}
+use Rattle.sng_frames.specs.Reading.{frame_of}
+use Rattle.sng_frames.specs.declared.fault.FrameFault.{FrameFault}
+use Rattle.sng_frames.specs.declared.messages.connect.Connect.{Connect}
+use Rattle.sng_frames.specs.declared.messages.publish.Publish.{Publish}
+use Rattle.sng_frames.specs.declared.qos.FrameQos.{FrameQos}
+use Rattle.sng_frames.specs.declared.qos.FrameQos.TheVariants as qos
+use Rattle.sng_frames.specs.declared.frame.SnFrame.{SnFrame}
+use Rattle.sng_frames.specs.declared.frame.SnFrame.TheVariants as frame
+use Rattle.sng_book.specs.Denials.{is_allowed}
+use Rattle.sng_book.specs.declared.address.Address.{Address}
+use Rattle.sng_book.specs.declared.decision.Decision.{Decision}
+use Rattle.sng_book.specs.declared.decision.Decision.TheVariants as note
+use Rattle.sng_book.specs.declared.outcome.Outcome.{Outcome}
+use Rattle.sng_book.specs.declared.outcome.Outcome.TheVariants.{Allowed, Denied}
+use Rattle.sng_book.specs.declared.event.Event.{Event}
+use Rattle.sng_book.specs.declared.event.Event.TheVariants.{Datagram, Broker, Up, Down, Take, Replace, Tick}
+use Rattle.sng_book.specs.declared.out.Out.{Out}
+use Rattle.sng_book.specs.declared.row.Row.{Row}
+use Rattle.sng_history.specs.Causes.{Cause, ByConnect, datagram_cause, publish_cause, cause_of}
+use Rattle.sng_history.specs.Clients.{Client, blank, is_here, let_in}
+use Rattle.sng_history.specs.Notes.{notes_of}
+use Rattle.sng_history.specs.State.{State, opening, around, after, state_of, later, is_known, policy_by, clock_by, up_by}
+use Rattle.sng_history.specs.Verdicts.{entry}
+use Rattle.sng_history.specs.Whole.{Notes, entry_outs}
+use Rattle.sng_history.specs.Lawful.{Lawful, fixed_for}
+use Rattle.sng_history.specs.Steps.{outs_by, outs_of, notes_for, newcomers_for, client_next, next_of}
+use Rattle.sng_history.specs.Good.{Each, Good}
+use Rattle.sng_history.specs.Views.{policy_in_force, clock_at, is_up}
+use Rattle.sng_history.specs.ViewsMessages.{message_in}
+use Rattle.sng_history.specs.ViewsClients.{phase_of, address_of, duration_of, heard_of, came_from, stated_in, speaks, is_spoken, is_admitted, is_among, accepted, accepted_in, accepted_by}
+use Rattle.sng_history.specs.ViewsLink.{waiting}
+use Rattle.sng_history.specs.LawsState.{ClientShown}
+use Rattle.sng_history.proofs.Own.{same_self, each_with, each_append, each_mapped}
+use Rattle.sng_history.proofs.Kept.{client_id}
+use Rattle.sng_history.proofs.Says.{says}
+use Rattle.sng_history.proofs.Keeping.{exact_by, next_same}
+use Rattle.sng_history.proofs.Entries.{entering_next}
+use Rattle.sng_history.proofs.GoodNext.{good_next, good_opening}
+use Rattle.sng_history.proofs.SeenNotes.{phase_notes, admitted_notes, phase_by_notes, admitted_by_notes}
+use Rattle.sng_history.proofs.SeenClients.{Before, Shows, kept_of, silent, let_in_shows, datagram_shows}
+use Rattle.sng_history.proofs.SeenLink.{waits_row}
+
+-- what is kept is what the rows show, with the clients in the order in which each was accepted first
+pub record StateShown (h : List Row) (s : State) : Type 0 where
+  pub policy : s.policy ≡ policy_in_force h
+  pub clock : s.clock ≡ clock_at h
+  pub up : s.up ≡ is_up h
+  pub waits : s.link.waiting ≡ waiting h
+  pub order : map (λ x. x.id) s.clients ≡ accepted h
+  pub clients : Each (ClientShown h) s.clients
+
+-- ---- one client
+
+-- what the rows show of a client and an event
+abbrev before_row : List ℕ → Event → List Row → Before
+before_row id e h = record {
+  phase = phase_of id h;
+  address = address_of id h;
+  duration = duration_of id h;
+  heard = heard_of id h;
+  from = came_from e;
+  stated = stated_in e;
+  clock = clock_at h;
+  spoke = speaks id e h;
+}
+
+shown_by : (by : ℕ) (h : List Row) (e : Event) (outs : List Out) (id : List ℕ) (n : List Decision) (y : Client)
+    → y.id ≡ id → notes_of id outs ≡ n → Shows id (before_row id e h) n y
+    → ClientShown (record { by = by; event = e; outs = outs } ∷ h) y
+shown_by by h e outs id n y same own shows =
+    let rows = record { by = by; event = e; outs = outs } ∷ h in
+    let admitted : is_admitted id outs ≡ admitted_notes id n = admitted_by_notes id outs ∙ ap (admitted_notes id) own in
+    record {
+      phase = ap (λ i. phase_of i rows) same ∙ (phase_by_notes id outs (phase_of id h) ∙ (ap (λ ns. phase_notes id ns (phase_of id h)) own ∙ shows.0));
+      address = ap (λ i. address_of i rows) same ∙ (ap (λ b. if b then came_from e else address_of id h) admitted ∙ shows.1);
+      duration = ap (λ i. duration_of i rows) same ∙ (ap (λ b. if b then stated_in e else duration_of id h) admitted ∙ shows.2);
+      heard = ap (λ i. heard_of i rows) same ∙ (ap (λ b. if b || speaks id e h then Some (clock_at h) else heard_of id h) admitted ∙ shows.3);
+    }
+
+-- the client, who is kept as the rows before show, speaks by the event
+abbrev spoke_by : Event → Client → Bool
+spoke_by (Datagram from datagram) x = is_spoken (message_in (frame_of datagram)) && is_here x from
+spoke_by (Broker packet) x = false
+spoke_by Up x = false
+spoke_by Down x = false
+spoke_by Take x = false
+spoke_by (Replace policy) x = false
+spoke_by (Tick clock) x = false
+
+event_shows : (s : State) (x : Client) (e : Event)
+    → Shows x.id (kept_of x (came_from e) (stated_in e) s.clock (spoke_by e x)) (fixed_for s (cause_of e) x) (client_next s (cause_of e) x)
+event_shows s x (Datagram from datagram) = datagram_shows s x from (frame_of datagram)
+event_shows s x (Broker packet) = silent x None None s.clock false
+event_shows s x Up = silent x None None s.clock false
+event_shows s x Down = silent x None None s.clock false
+event_shows s x Take = silent x None None s.clock false
+event_shows s x (Replace policy) = silent x None None s.clock false
+event_shows s x (Tick clock) = silent x None None s.clock false
+
+spoke_same : (h : List Row) (x : Client) (e : Event) → ClientShown h x → speaks x.id e h ≡ spoke_by e x
+spoke_same h x (Datagram from datagram) shown = rw (shown.phase, shown.address) refl
+spoke_same h x (Broker packet) shown = refl
+spoke_same h x Up shown = refl
+spoke_same h x Down shown = refl
+spoke_same h x Take shown = refl
+spoke_same h x (Replace policy) shown = refl
+spoke_same h x (Tick clock) shown = refl
+
+-- a client that was accepted before
+known_row : (by : ℕ) (h : List Row) (s : State) (e : Event) (outs : List Out) (x : Client) → s.clock ≡ clock_at h → ClientShown h x → notes_of x.id outs ≡ fixed_for s (cause_of e) x
+    → ClientShown (record { by = by; event = e; outs = outs } ∷ h) (client_next s (cause_of e) x)
+known_row by h s e outs x clock shown own =
+    shown_by by h e outs x.id (fixed_for s (cause_of e) x) (client_next s (cause_of e) x) (client_id (around s (cause_of e)) (fixed_for s (cause_of e) x) x) own
+    (rw (shown.phase, shown.address, shown.duration, shown.heard, sym clock, spoke_same h x e shown) (event_shows s x e))
+
+-- ---- one that is accepted for the first time
+
+entry_admitted : (s : State) (from : Address) (connect : Connect) (n : Notes) (o : Outcome) → is_admitted connect.client_id (entry_outs s from connect n o) ≡ is_allowed o
+entry_admitted s from connect n Allowed = rw (same_self connect.client_id) refl
+entry_admitted s from connect n (Denied rule) = rw (same_self connect.client_id) refl
+
+new_notes : (s : State) (from : Address) (connect : Connect) → entry s connect ≡ Allowed
+    → fixed_for s (ByConnect from connect) (blank connect.client_id) ≡ note.Connect connect.client_id Allowed ∷ []
+new_notes s from connect is = rw (same_self connect.client_id, is) refl
+
+new_next : (s : State) (from : Address) (connect : Connect) → entry s connect ≡ Allowed
+    → client_next s (ByConnect from connect) (blank connect.client_id) ≡ let_in s.clock from connect (blank connect.client_id)
+new_next s from connect is = entering_next s from connect (blank connect.client_id) is ∙ rw (same_self connect.client_id) refl
+
+-- the client that connects, by the verdict
+new_row : (by : ℕ) (h : List Row) (s : State) (from : Address) (datagram : List ℕ) (connect : Connect) (outs : List Out)
+    → frame_of datagram ≡ Ok (frame.Connect connect) → s.clock ≡ clock_at h → entry s connect ≡ Allowed
+    → notes_of connect.client_id outs ≡ fixed_for s (ByConnect from connect) (blank connect.client_id)
+    → ClientShown (record { by = by; event = Datagram from datagram; outs = outs } ∷ h) (client_next s (ByConnect from connect) (blank connect.client_id))
+new_row by h s from datagram connect outs read clock is own =
+    let id = connect.client_id in
+    let e = Datagram from datagram in
+    let c = ByConnect from connect in
+    shown_by by h e outs id (note.Connect id Allowed ∷ []) (client_next s c (blank id)) (client_id (around s c) (fixed_for s c (blank id)) (blank id)) (own ∙ new_notes s from connect is)
+    (subst (Shows id (before_row id e h) (note.Connect id Allowed ∷ [])) (sym (new_next s from connect is))
+    (let_in_shows (before_row id e h) id s.clock from connect (blank id) refl (rw read refl) (sym clock)))
+
+abbrev NewShown : State → Cause → List Row → List Client → Type 0
+NewShown s c rows xs = Each (λ x. ClientShown rows (client_next s c x)) xs
+
+abbrev NewOwn : State → Cause → List Out → List Client → Type 0
+NewOwn s c outs xs = Each (λ x. notes_of x.id outs ≡ fixed_for s c x) xs
+
+entrant_row : (by : ℕ) (h : List Row) (s : State) (from : Address) (datagram : List ℕ) (connect : Connect) (outs : List Out) (o : Outcome) (known : Bool)
+    → frame_of datagram ≡ Ok (frame.Connect connect) → s.clock ≡ clock_at h → entry s connect ≡ o
+    → NewOwn s (ByConnect from connect) outs (if is_allowed o && not known then blank connect.client_id ∷ [] else [])
+    → NewShown s (ByConnect from connect) (record { by = by; event = Datagram from datagram; outs = outs } ∷ h) (if is_allowed o && not known then blank connect.client_id ∷ [] else [])
+entrant_row by h s from datagram connect outs Allowed false read clock is own = (new_row by h s from datagram connect outs read clock is own.0, tt)
+entrant_row by h s from datagram connect outs Allowed true read clock is own = tt
+entrant_row by h s from datagram connect outs (Denied rule) known read clock is own = tt
+
+publish_news : (s : State) (from : Address) (p : Publish) (q : FrameQos) → newcomers_for s (publish_cause from p q) ≡ []
+publish_news s from p qos.WithoutSession = refl
+publish_news s from p qos.AtMostOnce = refl
+publish_news s from p qos.AtLeastOnce = refl
+publish_news s from p qos.ExactlyOnce = refl
+
+disconnect_news : (s : State) (from : Address) (duration : Option ℕ) → newcomers_for s (datagram_cause from (Ok (frame.Disconnect duration))) ≡ []
+disconnect_news s from None = refl
+disconnect_news s from (Some duration) = refl
+
+none_shown : (s : State) (c : Cause) (rows : List Row) → newcomers_for s c ≡ [] → NewShown s c rows (newcomers_for s c)
+none_shown s c rows none = subst (NewShown s c rows) (sym none) tt
+
+datagram_news : (by : ℕ) (h : List Row) (s : State) (from : Address) (datagram : List ℕ) (read : Result SnFrame FrameFault) (outs : List Out)
+    → frame_of datagram ≡ read → s.clock ≡ clock_at h
+    → let c = datagram_cause from read in
+    NewOwn s c outs (newcomers_for s c) → NewShown s c (record { by = by; event = Datagram from datagram; outs = outs } ∷ h) (newcomers_for s c)
+datagram_news by h s from datagram (Ok (frame.Connect connect)) outs is clock own =
+    entrant_row by h s from datagram connect outs (entry s connect) (is_known connect.client_id s.clients) is clock refl own
+datagram_news by h s from datagram (Ok (frame.Publish p)) outs is clock own =
+    none_shown s (publish_cause from p p.flags.qos) (record { by = by; event = Datagram from datagram; outs = outs } ∷ h) (publish_news s from p p.flags.qos)
+datagram_news by h s from datagram (Ok (frame.Disconnect duration)) outs is clock own =
+    none_shown s (datagram_cause from (Ok (frame.Disconnect duration))) (record { by = by; event = Datagram from datagram; outs = outs } ∷ h) (disconnect_news s from duration)
+datagram_news by h s from datagram (Ok message) outs is clock own = tt
+datagram_news by h s from datagram (Err broke) outs is clock own = tt
+
+event_news : (by : ℕ) (h : List Row) (s : State) (e : Event) (outs : List Out) → s.clock ≡ clock_at h
+    → let c = cause_of e in
+    NewOwn s c outs (newcomers_for s c) → NewShown s c (record { by = by; event = e; outs = outs } ∷ h) (newcomers_for s c)
+event_news by h s (Datagram from datagram) outs clock own = datagram_news by h s from datagram (frame_of datagram) outs refl clock own
+event_news by h s (Broker packet) outs clock own = tt
+event_news by h s Up outs clock own = tt
+event_news by h s Down outs clock own = tt
+event_news by h s Take outs clock own = tt
+event_news by h s (Replace policy) outs clock own = tt
+event_news by h s (Tick clock) outs now own = tt
+
+-- ---- all clients
+
+each_left : (P : Client → Type 0) (xs ys : List Client) → Each P (xs ++ ys) → Each P xs
+each_left P [] ys all = tt
+each_left P (x ∷ xs) ys all = (all.0, each_left P xs ys all.1)
+
+each_right : (P : Client → Type 0) (xs ys : List Client) → Each P (xs ++ ys) → Each P ys
+each_right P [] ys all = all
+each_right P (x ∷ xs) ys all = each_right P xs ys all.1
+
+clients_row : (by : ℕ) (h : List Row) (s : State) (e : Event) (outs : List Out) → s.clock ≡ clock_at h → Each (ClientShown h) s.clients
+    → NewOwn s (cause_of e) outs (s.clients ++ newcomers_for s (cause_of e))
+    → Each (ClientShown (record { by = by; event = e; outs = outs } ∷ h)) (map (client_next s (cause_of e)) (s.clients ++ newcomers_for s (cause_of e)))
+clients_row by h s e outs clock shown own =
+    let c = cause_of e in
+    let rows = record { by = by; event = e; outs = outs } ∷ h in
+    let Own : Client → Type 0 = λ x. notes_of x.id outs ≡ fixed_for s c x in
+    let Next : Client → Type 0 = λ x. ClientShown rows (client_next s c x) in
+    each_mapped (ClientShown rows) (client_next s c) (s.clients ++ newcomers_for s c)
+    (each_append Next s.clients (newcomers_for s c)
+    (each_with (ClientShown h) Own Next s.clients (λ x was is. known_row by h s e outs x clock was is) shown (each_left Own s.clients (newcomers_for s c) own))
+    (event_news by h s e outs clock (each_right Own s.clients (newcomers_for s c) own)))
+
+-- ---- their order
+
+abbrev pub ids_of : List Client → List (List ℕ)
+ids_of xs = map (λ x. x.id) xs
+
+ids_next : (s : State) (c : Cause) (xs : List Client) → ids_of (map (client_next s c) xs) ≡ ids_of xs
+ids_next s c [] = refl
+ids_next s c (x ∷ xs) = rw (client_id (around s c) (fixed_for s c x) x, ids_next s c xs) refl
+
+ids_append : (xs ys : List Client) → ids_of (xs ++ ys) ≡ ids_of xs ++ ids_of ys
+ids_append [] ys = refl
+ids_append (x ∷ xs) ys = ap (λ ids. x.id ∷ ids) (ids_append xs ys)
+
+pub known_among : (id : List ℕ) (xs : List Client) → is_among id (ids_of xs) ≡ is_known id xs
+known_among id [] = refl
+known_among id (x ∷ xs) = ap (λ b. bytes_eq id x.id || b) (known_among id xs)
+
+one_if : (b : Bool) (id : List ℕ) → ids_of (if b then blank id ∷ [] else []) ≡ (if b then id ∷ [] else [])
+one_if true id = refl
+one_if false id = refl
+
+datagram_order : (s : State) (from : Address) (read : Result SnFrame FrameFault)
+    → let c = datagram_cause from read in
+    ids_of (newcomers_for s c) ≡ accepted_by (ids_of s.clients) (message_in read) (outs_by s c)
+datagram_order s from (Ok (frame.Connect connect)) =
+    let id = connect.client_id in
+    rw (entry_admitted s from connect (notes_for s (ByConnect from connect)) (entry s connect), known_among id s.clients)
+    (one_if (is_allowed (entry s connect) && not (is_known id s.clients)) id)
+datagram_order s from (Ok (frame.Publish p)) = ap ids_of (publish_news s from p p.flags.qos)
+datagram_order s from (Ok (frame.Disconnect duration)) = ap ids_of (disconnect_news s from duration)
+datagram_order s from (Ok message) = refl
+datagram_order s from (Err broke) = refl
+
+event_order : (s : State) (e : Event) → ids_of (newcomers_for s (cause_of e)) ≡ accepted_in (ids_of s.clients) e (outs_of s e)
+event_order s (Datagram from datagram) = datagram_order s from (frame_of datagram)
+event_order s (Broker packet) = refl
+event_order s Up = refl
+event_order s Down = refl
+event_order s Take = refl
+event_order s (Replace policy) = refl
+event_order s (Tick clock) = refl
+
+order_row : (s : State) (e : Event) (h : List Row) → ids_of s.clients ≡ accepted h
+    → ids_of (map (client_next s (cause_of e)) (s.clients ++ newcomers_for s (cause_of e))) ≡ accepted h ++ accepted_in (accepted h) e (outs_of s e)
+order_row s e h order =
+    let c = cause_of e in
+    ids_next s c (s.clients ++ newcomers_for s c) ∙ (ids_append s.clients (newcomers_for s c)
+    ∙ subst (λ ids. ids_of s.clients ++ ids_of (newcomers_for s c) ≡ ids ++ accepted_in ids e (outs_of s e)) order (ap (λ ids. ids_of s.clients ++ ids) (event_order s e)))
+
+-- ---- the state
+
+-- a datagram moves neither the policy nor the clock nor the connection
+record Still (c : Cause) : Type 0 where
+  policy : (before : Policy) → policy_by c before ≡ before
+  clock : (before : ℕ) → clock_by c before ≡ before
+  up : (before : Bool) → up_by c before ≡ before
+
+publish_still : (from : Address) (p : Publish) (q : FrameQos) → Still (publish_cause from p q)
+publish_still from p qos.WithoutSession = record { policy = λ b. refl; clock = λ b. refl; up = λ b. refl }
+publish_still from p qos.AtMostOnce = record { policy = λ b. refl; clock = λ b. refl; up = λ b. refl }
+publish_still from p qos.AtLeastOnce = record { policy = λ b. refl; clock = λ b. refl; up = λ b. refl }
+publish_still from p qos.ExactlyOnce = record { policy = λ b. refl; clock = λ b. refl; up = λ b. refl }
+
+disconnect_still : (from : Address) (duration : Option ℕ) → Still (datagram_cause from (Ok (frame.Disconnect duration)))
+disconnect_still from None = record { policy = λ b. refl; clock = λ b. refl; up = λ b. refl }
+disconnect_still from (Some duration) = record { policy = λ b. refl; clock = λ b. refl; up = λ b. refl }
+
+still : (from : Address) (read : Result SnFrame FrameFault) → Still (datagram_cause from read)
+still from (Ok (frame.Publish p)) = publish_still from p p.flags.qos
+still from (Ok (frame.Disconnect duration)) = disconnect_still from duration
+still from (Ok message) = record { policy = λ b. refl; clock = λ b. refl; up = λ b. refl }
+still from (Err broke) = record { policy = λ b. refl; clock = λ b. refl; up = λ b. refl }
+
+record Moved (s : State) (e : Event) (rows h : List Row) : Type 0 where
+  policy : policy_by (cause_of e) s.policy ≡ policy_in_force rows
+  clock : clock_by (cause_of e) s.clock ≡ clock_at rows
+  up : up_by (cause_of e) s.up ≡ is_up rows
+
+moved_row : (by : ℕ) (h : List Row) (s : State) (e : Event) (outs : List Out) → StateShown h s → Moved s e (record { by = by; event = e; outs = outs } ∷ h) h
+moved_row by h s (Datagram from datagram) outs shown =
+    let same = still from (frame_of datagram) in
+    record { policy = same.policy s.policy ∙ shown.policy; clock = same.clock s.clock ∙ shown.clock; up = same.up s.up ∙ shown.up }
+moved_row by h s (Broker packet) outs shown = record { policy = shown.policy; clock = shown.clock; up = shown.up }
+moved_row by h s Up outs shown = record { policy = shown.policy; clock = shown.clock; up = refl }
+moved_row by h s Down outs shown = record { policy = shown.policy; clock = shown.clock; up = refl }
+moved_row by h s Take outs shown = record { policy = shown.policy; clock = shown.clock; up = shown.up }
+moved_row by h s (Replace policy) outs shown = record { policy = refl; clock = shown.clock; up = shown.up }
+moved_row by h s (Tick clock) outs shown = record { policy = shown.policy; clock = ap (λ was. later was clock) shown.clock; up = shown.up }
+
+shown_row : (by : ℕ) (h : List Row) (s : State) (e : Event) → Good s → StateShown h s → StateShown (record { by = by; event = e; outs = outs_of s e } ∷ h) (next_of s e)
+shown_row by h s e good shown =
+    let moved = moved_row by h s e (outs_of s e) shown in
+    record {
+      policy = moved.policy;
+      clock = moved.clock;
+      up = moved.up;
+      waits = waits_row s e h shown.policy shown.up shown.waits;
+      order = order_row s e h shown.order;
+      clients = clients_row by h s e (outs_of s e) shown.clock shown.clients (says s (cause_of e) good.apart).own;
+    }
+
+-- a state between rows of a lawful history
+pub record Stands (h : List Row) (s : State) : Type 0 where
+  pub good : Good s
+  pub shown : StateShown h s
+
+-- after a lawful row, too
+stands_row : (by : ℕ) (h : List Row) (s : State) (e : Event) (outs : List Out) → outs ≡ outs_of s e → Stands h s → Stands (record { by = by; event = e; outs = outs } ∷ h) (after s (cause_of e) outs)
+stands_row by h s e outs is stands =
+    subst (λ o. Stands (record { by = by; event = e; outs = o } ∷ h) (after s (cause_of e) o)) (sym is)
+    (subst (Stands (record { by = by; event = e; outs = outs_of s e } ∷ h)) (sym (next_same s (cause_of e) stands.good))
+    (record { good = good_next s (cause_of e) stands.good; shown = shown_row by h s e stands.good stands.shown }))
+
+pub stands : (h : List Row) → Lawful opening h → Stands h (state_of opening h)
+stands [] l = record { good = good_opening; shown = record { policy = refl; clock = refl; up = refl; waits = refl; order = refl; clients = tt } }
+stands (row ∷ h) l =
+    stands_row row.by h (state_of opening h) row.event row.outs (exact_by (state_of opening h) (cause_of row.event) row.outs l.1) (stands h l.0)

@@ -1,0 +1,84 @@
+-- The notes that a cause fixes of a client speak of that client.
+use Rattle.std.proofs.Common.{ℕ, Bool, true, false, List, [], ◌∷◌, refl}
+use Rattle.std.specs.Prelude.{if◌then◌else◌}
+use Rattle.std.specs.Str.{bytes_eq}
+use Rattle.sng_frames.specs.declared.frame.SnFrame.{SnFrame}
+use Rattle.sng_frames.specs.declared.frame.SnFrame.TheVariants as frame
+use Rattle.sng_book.specs.Denials.{is_allowed}
+use Rattle.sng_book.specs.declared.decision.Decision.{Decision}
+use Rattle.sng_book.specs.declared.decision.Decision.TheVariants as note
+use Rattle.sng_book.specs.declared.decision.Who.TheVariants as who
+use Rattle.sng_book.specs.declared.outcome.Denial.{Denial}
+use Rattle.sng_book.specs.declared.outcome.Denial.TheVariants.{NotSupported}
+use Rattle.sng_book.specs.declared.outcome.Outcome.{Outcome}
+use Rattle.sng_book.specs.declared.outcome.Outcome.TheVariants.{Allowed, Denied}
+use Rattle.sng_history.specs.Causes.{Cause, ByConnect, ByPing, ByLeave, BySource, ByPublish, ByUnsupported, ByBroken, ByPacket, ByUp, ByDown, ByTake, ByReplace, ByTick}
+use Rattle.sng_history.specs.Clients.{Client, is_here}
+use Rattle.sng_history.specs.State.{State}
+use Rattle.sng_history.specs.Verdicts.{entry, ping_verdict}
+use Rattle.sng_history.specs.Answers.{denied_note}
+use Rattle.sng_history.specs.Lawful.{denial_of, fixed_for}
+use Rattle.sng_history.proofs.Spelled.{About, AllAbout}
+
+about_denied : (c : List ℕ) (message : SnFrame) (rule : Denial) → About c (denied_note message (who.Client c) rule)
+about_denied c (frame.Connect connect) rule = record { of = λ d. refl; stays = refl }
+about_denied c (frame.ConnectAck code) rule = record { of = λ d. refl; stays = refl }
+about_denied c frame.WillTopicRequest rule = record { of = λ d. refl; stays = refl }
+about_denied c (frame.WillTopic topic) rule = record { of = λ d. refl; stays = refl }
+about_denied c frame.WillMessageRequest rule = record { of = λ d. refl; stays = refl }
+about_denied c (frame.WillMessage message) rule = record { of = λ d. refl; stays = refl }
+about_denied c (frame.Register register) rule = record { of = λ d. refl; stays = refl }
+about_denied c (frame.RegisterAck answer) rule = record { of = λ d. refl; stays = refl }
+about_denied c (frame.Publish p) rule = record { of = λ d. refl; stays = refl }
+about_denied c (frame.PublishAck answer) rule = record { of = λ d. refl; stays = refl }
+about_denied c (frame.PublishComplete id) rule = record { of = λ d. refl; stays = refl }
+about_denied c (frame.PublishReceived id) rule = record { of = λ d. refl; stays = refl }
+about_denied c (frame.PublishRelease id) rule = record { of = λ d. refl; stays = refl }
+about_denied c (frame.Subscribe request) rule = record { of = λ d. refl; stays = refl }
+about_denied c (frame.SubscribeAck answer) rule = record { of = λ d. refl; stays = refl }
+about_denied c (frame.Unsubscribe request) rule = record { of = λ d. refl; stays = refl }
+about_denied c (frame.UnsubscribeAck id) rule = record { of = λ d. refl; stays = refl }
+about_denied c (frame.PingRequest client) rule = record { of = λ d. refl; stays = refl }
+about_denied c frame.PingResponse rule = record { of = λ d. refl; stays = refl }
+about_denied c (frame.Disconnect duration) rule = record { of = λ d. refl; stays = refl }
+about_denied c (frame.WillTopicUpdate topic) rule = record { of = λ d. refl; stays = refl }
+about_denied c (frame.WillTopicResponse code) rule = record { of = λ d. refl; stays = refl }
+about_denied c (frame.WillMessageUpdate message) rule = record { of = λ d. refl; stays = refl }
+about_denied c (frame.WillMessageResponse code) rule = record { of = λ d. refl; stays = refl }
+
+about_left : (c : List ℕ) → About c (note.Left c)
+about_left c = record { of = λ d. refl; stays = refl }
+
+about_frame : (c : List ℕ) (outcome : Outcome) → About c (note.Frame (who.Client c) outcome)
+about_frame c outcome = record { of = λ d. refl; stays = refl }
+
+about_connect : (c : List ℕ) (outcome : Outcome) → About c (note.Connect c outcome)
+about_connect c outcome = record { of = λ d. refl; stays = refl }
+
+about_denial : (c : List ℕ) (outcome : Outcome) → AllAbout c (denial_of c outcome)
+about_denial c Allowed = tt
+about_denial c (Denied rule) = (about_frame c (Denied rule), tt)
+
+about_if : (b : Bool) (c : List ℕ) (notes : List Decision) → AllAbout c notes → AllAbout c (if b then notes else [])
+about_if true c notes about = about
+about_if false c notes about = tt
+
+about_entry : (same : Bool) (c : List ℕ) (outcome : Outcome) (b : Bool)
+    → AllAbout c (if same then note.Connect c outcome ∷ [] else (if is_allowed outcome then (if b then note.Left c ∷ [] else []) else []))
+about_entry true c outcome b = (about_connect c outcome, tt)
+about_entry false c outcome b = about_if (is_allowed outcome) c (if b then note.Left c ∷ [] else []) (about_if b c (note.Left c ∷ []) (about_left c, tt))
+
+pub tells : (s : State) (c : Cause) (x : Client) → AllAbout x.id (fixed_for s c x)
+tells s (ByConnect from connect) x = about_entry (bytes_eq connect.client_id x.id) x.id (entry s connect) (is_here x from)
+tells s (ByPing from client) x = about_if (is_here x from) x.id (denial_of x.id (ping_verdict client x)) (about_denial x.id (ping_verdict client x))
+tells s (ByLeave from) x = about_if (is_here x from) x.id (note.Left x.id ∷ []) (about_left x.id, tt)
+tells s (ByPublish from p) x = about_if (is_here x from) x.id (denied_note (frame.Publish p) (who.Client x.id) NotSupported ∷ []) (about_denied x.id (frame.Publish p) NotSupported, tt)
+tells s (ByUnsupported from message) x = about_if (is_here x from) x.id (denied_note message (who.Client x.id) NotSupported ∷ []) (about_denied x.id message NotSupported, tt)
+tells s (ByBroken from rule) x = about_if (is_here x from) x.id (note.Frame (who.Client x.id) (Denied rule) ∷ []) (about_frame x.id (Denied rule), tt)
+tells s (BySource from p) x = tt
+tells s (ByPacket p) x = tt
+tells s ByUp x = tt
+tells s ByDown x = tt
+tells s ByTake x = tt
+tells s (ByReplace policy) x = tt
+tells s (ByTick clock) x = tt

@@ -1,0 +1,11 @@
+use Rattle.sng_history.proofs.LawRows.{links}
+use Rattle.sng_history.proofs.publishes_leave_judged.Goals as goal
+
+pub returns : goal.returns
+returns c = record {
+  in_order = λ h l. (links h l).order;
+  judged = λ h l. (links h l).depart;
+  announced = λ h l. (links h l).announced;
+  timely = λ h l. (links h l).timely;
+  upstream = λ h l. (links h l).upstream;
+}

@@ -1,0 +1,18 @@
+use Rattle.sng_history.proofs.SeenState.{stands}
+use Rattle.sng_history.proofs.SeenUntold.{each_untold}
+use Rattle.sng_history.proofs.LawStrangers.{never_accepted}
+use Rattle.sng_history.proofs.SeenRest.{rest_shown}
+use Rattle.sng_history.proofs.state_is_shown.Goals as goal
+
+pub returns : goal.returns
+returns c = record {
+  policy = λ h l. (stands h l).shown.policy;
+  clock = λ h l. (stands h l).shown.clock;
+  up = λ h l. (stands h l).shown.up;
+  waits = λ h l. (stands h l).shown.waits;
+  rest = rest_shown;
+  order = λ h l. (stands h l).shown.order;
+  clients = λ h l. (stands h l).shown.clients;
+  untold = each_untold;
+  strangers = never_accepted;
+}

@@ -1,0 +1,117 @@
+-- What a message is noted as where it is denied, and what answers it (MQTT-SN 1.2, 5.3.10 and 6.1 to 6.14).
+use Rattle.std.specs.Prelude.{false, List, [], ◌∷◌, Option, Some, None}
+use Rattle.sng_frames.specs.Writing.{written}
+use Rattle.sng_frames.specs.declared.flags.Flags.{Flags}
+use Rattle.sng_frames.specs.declared.flags.TopicIdType.TheVariants.{Normal}
+use Rattle.sng_frames.specs.declared.qos.FrameQos.TheVariants.{AtMostOnce}
+use Rattle.sng_frames.specs.declared.frame.SnFrame.{SnFrame}
+use Rattle.sng_frames.specs.declared.frame.SnFrame.TheVariants as frame
+use Rattle.sng_frames.specs.declared.return_code.ReturnCode.{ReturnCode}
+use Rattle.sng_frames.specs.declared.return_code.TheConstants.ReturnCode.{CONGESTION, INVALID_TOPIC_ID, NOT_SUPPORTED}
+use Rattle.sng_book.specs.declared.address.Address.{Address}
+use Rattle.sng_book.specs.declared.decision.Decision.{Decision}
+use Rattle.sng_book.specs.declared.decision.Decision.TheVariants as note
+use Rattle.sng_book.specs.declared.decision.Who.{Who}
+use Rattle.sng_book.specs.declared.outcome.Denial.{Denial}
+use Rattle.sng_book.specs.declared.outcome.Denial.TheVariants.{Malformed, NotSupported, NoScope, NoSession, UnknownSource, BadName, BadFilter, IdType, UnknownId, MissingPub, MissingSub, Uncovered, ClientRefused, BrokerRefused, OutOfTurn, UpstreamDown, Full, TooLong, Gone}
+use Rattle.sng_book.specs.declared.outcome.Outcome.TheVariants.{Denied}
+use Rattle.sng_book.specs.declared.out.Out.{Out}
+use Rattle.sng_book.specs.declared.out.Out.TheVariants.{Send}
+
+-- a message that is denied before a name was read: an ask under its own kind, any other as a frame. A CONNECT has a row of its own
+abbrev pub denied_note : SnFrame → Who → Denial → Decision
+denied_note (frame.Connect connect) who rule = note.Frame who (Denied rule)
+denied_note (frame.Register register) who rule = note.Register who None (Denied rule)
+denied_note (frame.Publish p) who rule = note.Publish who None (Denied rule)
+denied_note (frame.Subscribe request) who rule = note.Subscribe who None (Denied rule)
+denied_note (frame.Unsubscribe request) who rule = note.Unsubscribe who None (Denied rule)
+denied_note (frame.WillTopic topic) who rule = note.Will who None (Denied rule)
+denied_note (frame.WillMessage message) who rule = note.Will who None (Denied rule)
+denied_note (frame.WillTopicUpdate topic) who rule = note.Will who None (Denied rule)
+denied_note (frame.WillMessageUpdate message) who rule = note.Will who None (Denied rule)
+denied_note (frame.ConnectAck code) who rule = note.Frame who (Denied rule)
+denied_note frame.WillTopicRequest who rule = note.Frame who (Denied rule)
+denied_note frame.WillMessageRequest who rule = note.Frame who (Denied rule)
+denied_note (frame.RegisterAck answer) who rule = note.Frame who (Denied rule)
+denied_note (frame.PublishAck answer) who rule = note.Frame who (Denied rule)
+denied_note (frame.PublishComplete id) who rule = note.Frame who (Denied rule)
+denied_note (frame.PublishReceived id) who rule = note.Frame who (Denied rule)
+denied_note (frame.PublishRelease id) who rule = note.Frame who (Denied rule)
+denied_note (frame.SubscribeAck answer) who rule = note.Frame who (Denied rule)
+denied_note (frame.UnsubscribeAck id) who rule = note.Frame who (Denied rule)
+denied_note (frame.PingRequest client) who rule = note.Frame who (Denied rule)
+denied_note frame.PingResponse who rule = note.Frame who (Denied rule)
+denied_note (frame.Disconnect duration) who rule = note.Frame who (Denied rule)
+denied_note (frame.WillTopicResponse code) who rule = note.Frame who (Denied rule)
+denied_note (frame.WillMessageResponse code) who rule = note.Frame who (Denied rule)
+
+-- the ReturnCode of a rule
+abbrev pub code_of : Denial → ReturnCode
+code_of (UnknownId kind id) = INVALID_TOPIC_ID
+code_of UpstreamDown = CONGESTION
+code_of (Full place) = CONGESTION
+code_of Malformed = NOT_SUPPORTED
+code_of NotSupported = NOT_SUPPORTED
+code_of (NoScope client) = NOT_SUPPORTED
+code_of NoSession = NOT_SUPPORTED
+code_of UnknownSource = NOT_SUPPORTED
+code_of BadName = NOT_SUPPORTED
+code_of BadFilter = NOT_SUPPORTED
+code_of IdType = NOT_SUPPORTED
+code_of (MissingPub name) = NOT_SUPPORTED
+code_of (MissingSub name) = NOT_SUPPORTED
+code_of (Uncovered filter name) = NOT_SUPPORTED
+code_of (ClientRefused code) = NOT_SUPPORTED
+code_of BrokerRefused = NOT_SUPPORTED
+code_of OutOfTurn = NOT_SUPPORTED
+code_of TooLong = NOT_SUPPORTED
+code_of Gone = NOT_SUPPORTED
+
+-- no flag of a refused SUBACK is set
+abbrev pub no_flags : Flags
+no_flags = record { dup = false; qos = AtMostOnce; retain = false; will = false; clean = false; id_type = Normal }
+
+-- the acknowledgement of a client's message that is refused; what is not an ask has none
+abbrev pub refusal : SnFrame → ReturnCode → Option SnFrame
+refusal (frame.Register register) code = Some (frame.RegisterAck (record { topic_id = 0; msg_id = register.msg_id; code = code }))
+refusal (frame.Publish p) code = Some (frame.PublishAck (record { topic_id = p.topic_id; msg_id = p.msg_id; code = code }))
+refusal (frame.Subscribe request) code = Some (frame.SubscribeAck (record { flags = no_flags; topic_id = 0; msg_id = request.msg_id; code = code }))
+refusal (frame.Unsubscribe request) code = Some (frame.UnsubscribeAck request.msg_id)
+refusal (frame.WillTopicUpdate topic) code = Some (frame.WillTopicResponse code)
+refusal (frame.WillMessageUpdate message) code = Some (frame.WillMessageResponse code)
+refusal (frame.Connect connect) code = None
+refusal (frame.ConnectAck answer) code = None
+refusal frame.WillTopicRequest code = None
+refusal (frame.WillTopic topic) code = None
+refusal frame.WillMessageRequest code = None
+refusal (frame.WillMessage message) code = None
+refusal (frame.RegisterAck answer) code = None
+refusal (frame.PublishAck answer) code = None
+refusal (frame.PublishComplete id) code = None
+refusal (frame.PublishReceived id) code = None
+refusal (frame.PublishRelease id) code = None
+refusal (frame.SubscribeAck answer) code = None
+refusal (frame.UnsubscribeAck id) code = None
+refusal (frame.PingRequest client) code = None
+refusal frame.PingResponse code = None
+refusal (frame.Disconnect duration) code = None
+refusal (frame.WillTopicResponse answer) code = None
+refusal (frame.WillMessageResponse answer) code = None
+
+abbrev pub sent_to : Address → Option SnFrame → List Out
+sent_to to None = []
+sent_to to (Some message) = Send to (written message) ∷ []
+
+abbrev pub refused : Address → SnFrame → Denial → List Out
+refused to message rule = sent_to to (refusal message (code_of rule))
+
+-- a DISCONNECT says that there is no session at the address any more, or none at all (MQTT-SN 1.2, 6.14)
+abbrev pub dismissed : Address → Out
+dismissed to = Send to (written (frame.Disconnect None))
+
+-- the CONNACK with a code, and the PINGRESP
+abbrev pub connack : Address → ReturnCode → Out
+connack to code = Send to (written (frame.ConnectAck code))
+
+abbrev pub pong : Address → Out
+pong to = Send to (written frame.PingResponse)

@@ -1,0 +1,166 @@
+-- One client of the gateway (MQTT-SN 1.2, 6.2 to 6.14): what is kept of it, and how an event and the notes of a row move it.
+use Rattle.std.specs.Prelude.{ℕ, ◌==◌, ◌&&◌, Bool, true, false, List, [], ◌∷◌, if◌then◌else◌, None}
+use Rattle.std.specs.Str.{bytes_eq}
+use Rattle.sng_grants.specs.declared.policy.Policy.{Policy}
+use Rattle.sng_states.specs.declared.state.ClientState.{ClientState}
+use Rattle.sng_states.specs.declared.state.ClientState.TheVariants.{Active, Disconnected}
+use Rattle.sng_states.specs.States.{has_session}
+use Rattle.sng_ids.specs.Ids.{Ids}
+use Rattle.sng_queue.specs.Buffers.{Buffer, nothing}
+use Rattle.sng_fan.specs.declared.held.Held.{Held}
+use Rattle.sng_wills.specs.Wills.{Wills}
+use Rattle.sng_wills.specs.declared.will.Stage.TheVariants.{Closed}
+use Rattle.sng_frames.specs.declared.messages.connect.Connect.{Connect}
+use Rattle.sng_book.specs.declared.address.Address.{Address}
+use Rattle.sng_book.specs.declared.decision.Decision.{Decision}
+use Rattle.sng_book.specs.declared.decision.Decision.TheVariants as note
+use Rattle.sng_book.specs.Denials.{is_allowed}
+use Rattle.sng_history.specs.Causes.{Cause}
+use Rattle.sng_history.specs.Causes.{ByConnect, ByPing, ByLeave, BySource, ByPublish, ByUnsupported, ByBroken, ByPacket, ByUp, ByDown, ByTake, ByReplace, ByTick}
+
+-- all that is kept of a client
+pub record Client : Type 0 where
+  pub id : List ℕ
+  -- where its last accepted CONNECT came from
+  pub address : Address
+  pub phase : ClientState
+  -- the topic ids that it was told, and the MsgId of the last message to it
+  pub ids : Ids
+  pub number : ℕ
+  -- what waits for it, and the exchange that is open
+  pub buffer : Buffer
+  -- the filters that stand for it
+  pub filters : List Held
+  -- its will, and the dialogue about it
+  pub wills : Wills
+  -- the Duration that it stated, in seconds, and the clock as it was last heard
+  pub duration : ℕ
+  pub heard : ℕ
+
+-- what the notes of a row are read by: the policy and the clock in force at its judgements, and what brought it
+pub record Around : Type 0 where
+  pub policy : Policy
+  pub clock : ℕ
+  pub cause : Cause
+
+abbrev pub same_address : Address → Address → Bool
+same_address a b = bytes_eq a.ip b.ip && (a.port == b.port)
+
+-- the client has a session, and the address is where it is
+abbrev pub is_here : Client → Address → Bool
+is_here x from = has_session x.phase && same_address x.address from
+
+-- a client of whom nothing was heard yet
+abbrev pub blank : List ℕ → Client
+blank id = record {
+  id = id;
+  address = record { ip = []; port = 0 };
+  phase = Disconnected;
+  ids = [];
+  number = 0;
+  buffer = nothing;
+  filters = [];
+  wills = record { stage = Closed; will = None };
+  duration = 0;
+  heard = 0;
+}
+
+-- the datagram came from where the client is; one of a source is nobody's
+abbrev pub is_from : Cause → Client → Bool
+is_from (ByConnect from connect) x = is_here x from
+is_from (ByPing from client) x = is_here x from
+is_from (ByLeave from) x = is_here x from
+is_from (BySource from p) x = false
+is_from (ByPublish from p) x = is_here x from
+is_from (ByUnsupported from frame) x = is_here x from
+is_from (ByBroken from rule) x = is_here x from
+is_from (ByPacket p) x = false
+is_from ByUp x = false
+is_from ByDown x = false
+is_from ByTake x = false
+is_from (ByReplace policy) x = false
+is_from (ByTick clock) x = false
+
+-- it is a message, by which the client is heard
+abbrev pub is_message : Cause → Bool
+is_message (ByConnect from connect) = true
+is_message (ByPing from client) = true
+is_message (ByLeave from) = true
+is_message (BySource from p) = false
+is_message (ByPublish from p) = true
+is_message (ByUnsupported from frame) = true
+is_message (ByBroken from rule) = false
+is_message (ByPacket p) = false
+is_message ByUp = false
+is_message ByDown = false
+is_message ByTake = false
+is_message (ByReplace policy) = false
+is_message (ByTick clock) = false
+
+-- the client is the author of a message
+abbrev pub is_author : Cause → Client → Bool
+is_author c x = is_message c && is_from c x
+
+-- the client as the notes of the row begin
+abbrev pub start_by : Around → Client → Client
+start_by a x = if is_author a.cause x then record x { heard = a.clock } else x
+
+-- no exchange and no dialogue is open any more; a clean CONNECT ends also what stands and waits for the client, and its will (MQTT-SN
+-- 1.2, 6.2 and 6.3)
+abbrev pub cleaned : Bool → Client → Client
+cleaned clean x =
+    if clean
+    then record x { filters = []; wills = record { stage = Closed; will = None }; buffer = nothing }
+    else record x { wills = record x.wills { stage = Closed }; buffer = record x.buffer { exchange = None } }
+
+-- a CONNECT is accepted: the client is where it came from, and knows no topic id
+
+abbrev pub let_in : ℕ → Address → Connect → Client → Client
+let_in clock from connect x =
+    cleaned connect.flags.clean (record x { address = from; phase = Active; ids = []; duration = connect.duration; heard = clock })
+
+abbrev pub entered_by : ℕ → Cause → Client → Client
+entered_by clock (ByConnect from connect) x = let_in clock from connect x
+entered_by clock (ByPing from client) x = x
+entered_by clock (ByLeave from) x = x
+entered_by clock (BySource from p) x = x
+entered_by clock (ByPublish from p) x = x
+entered_by clock (ByUnsupported from frame) x = x
+entered_by clock (ByBroken from rule) x = x
+entered_by clock (ByPacket p) x = x
+entered_by clock ByUp x = x
+entered_by clock ByDown x = x
+entered_by clock ByTake x = x
+entered_by clock (ByReplace policy) x = x
+entered_by now (ByTick clock) x = x
+
+-- a client leaves: nothing is open with it, and what waits for it is gone; its subscriptions, its will and its ids stay
+abbrev pub gone : Client → Client
+gone x = record x { phase = Disconnected; wills = record x.wills { stage = Closed }; buffer = nothing }
+
+-- the client after a note of its own
+abbrev pub note_by : Around → Decision → Client → Client
+note_by a (note.Connect id outcome) x = if is_allowed outcome then entered_by a.clock a.cause x else x
+note_by a (note.Left id) x = gone x
+note_by a (note.Register who name outcome) x = x
+note_by a (note.Publish who name outcome) x = x
+note_by a (note.Subscribe who filter outcome) x = x
+note_by a (note.Unsubscribe who filter outcome) x = x
+note_by a (note.Will who name outcome) x = x
+note_by a (note.Announce id name) x = x
+note_by a (note.Hand id name outcome) x = x
+note_by a (note.Retry id name outcome) x = x
+note_by a (note.Forward who name outcome) x = x
+note_by a (note.Again who name outcome) x = x
+note_by a (note.End id filter outcome) x = x
+note_by a (note.Lost id) x = x
+note_by a note.Outbox x = x
+note_by a (note.Frame who outcome) x = x
+
+abbrev pub notes_by : Around → List Decision → Client → Client
+notes_by a [] x = x
+notes_by a (said ∷ notes) x = notes_by a notes (note_by a said x)
+
+-- the client after a row with this event and these notes of it
+abbrev pub client_by : Around → List Decision → Client → Client
+client_by a notes x = notes_by a notes (start_by a x)

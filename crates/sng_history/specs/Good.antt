@@ -1,0 +1,64 @@
+-- What holds of every state between rows that the gateway comes to: its clients are apart, in their ids and where they are, each is at
+-- rest, and there are no more than may be. A history may begin at any state, so no law of rows asks for it.
+use Rattle.std.specs.Prelude.{ℕ, ◌≡◌, ◌≤◌, false, not, ◌&&◌, List, [], ◌∷◌, length}
+use Rattle.std.specs.Str.{bytes_eq}
+use Rattle.sng_states.specs.States.{in_dialogue}
+use Rattle.sng_text.specs.declared.qos.Qos.TheVariants.{AtMostOnce}
+use Rattle.sng_outbox.specs.Sending.{load}
+use Rattle.sng_outbox.specs.declared.limits.TheConstants.{MAX_IN_FLIGHT}
+use Rattle.sng_outbox.specs.declared.item.Item.{Item}
+use Rattle.sng_outbox.specs.declared.item.Item.TheVariants as item
+use Rattle.sng_queue.specs.Buffers.{nothing}
+use Rattle.sng_wills.specs.Wills.{is_closed}
+use Rattle.sng_book.specs.declared.address.Address.{Address}
+use Rattle.sng_history.specs.declared.limits.TheConstants.{MAX_CLIENTS}
+use Rattle.sng_history.specs.Clients.{Client, is_here}
+use Rattle.sng_history.specs.State.{State}
+
+-- something holds of each client
+abbrev pub Each : (Client → Type 0) → List Client → Type 0
+Each P [] = Unit {0}
+Each P (x ∷ xs) = P x × Each P xs
+
+-- none of these clients has the id
+abbrev pub Away : List ℕ → List Client → Type 0
+Away id xs = Each (λ x. bytes_eq id x.id ≡ false) xs
+
+-- no two clients have one id
+abbrev pub Distinct : List Client → Type 0
+Distinct [] = Unit {0}
+Distinct (x ∷ xs) = Away x.id xs × Distinct xs
+
+-- at no address are both
+abbrev pub Apart : Client → Client → Type 0
+Apart x y = (from : Address) → (is_here x from && is_here y from) ≡ false
+
+-- no two clients are at one address
+abbrev pub OnePlace : List Client → Type 0
+OnePlace [] = Unit {0}
+OnePlace (x ∷ xs) = Each (Apart x) xs × OnePlace xs
+
+-- nothing waits for the client, as nothing is due to clients yet, and a dialogue is open exactly in its phase
+pub record AtRest (x : Client) : Type 0 where
+  pub quiet : x.buffer ≡ nothing
+  pub dialogue : in_dialogue x.phase ≡ not (is_closed x.wills.stage)
+
+-- what waits is a publish at QoS 0, as nothing asks for more yet
+abbrev pub IsPlain : Item → Type 0
+IsPlain (item.Publish p) = p.qos ≡ AtMostOnce
+IsPlain (item.Subscribe filter) = ⊥
+IsPlain (item.Unsubscribe filter) = ⊥
+IsPlain (item.Acknowledge packet_id) = ⊥
+IsPlain item.Ping = ⊥
+
+abbrev pub AllPlain : List Item → Type 0
+AllPlain [] = Unit {0}
+AllPlain (one ∷ items) = IsPlain one × AllPlain items
+
+pub record Good (s : State) : Type 0 where
+  pub apart : Distinct s.clients
+  pub places : OnePlace s.clients
+  pub rest : Each AtRest s.clients
+  pub most : length s.clients ≤ MAX_CLIENTS
+  pub plain : AllPlain s.link.waiting
+  pub few : load (record { waiting = s.link.waiting; in_flight = s.link.in_flight }) ≤ MAX_IN_FLIGHT
