@@ -3,22 +3,24 @@ use Rattle.std.proofs.Common.{◌≡◌, ◌≢◌, ◌≤◌, ℕ, ◌+◌, Lis
 use Rattle.std.specs.Prelude.{⊤}
 use Rattle.std.proofs.KnownBytes.{Appends-nil, Appends-trans, Appends-kept, Keeps-refl}
 use Rattle.std.specs.Io.KnownBytes.{Appends, Keeps, IsAtEnd}
+use Rattle.mqtt_frames.specs.Streams.{State, Reading}
 use Rattle.sng_book.specs.Events.{kind_of}
 use Rattle.sng_book.specs.Printing.{row_text}
+use Rattle.sng_book.specs.declared.event.Event.{Event}
 use Rattle.sng_book.specs.declared.row.Row.{Row}
 use Rattle.sng_history.specs.State.{opening, Leads}
 use Rattle.sng_history.specs.Lawful.{Lawful}
 use Rattle.sng_gateway.specs.declared.limits.TheConstants.{MAX_LINE}
+use Rattle.sng_gateway.specs.Deeds.{Deed, Step, Tell, deeds_of, stream_by}
 use Rattle.sng_gateway.specs.Lines.{line_of}
-use Rattle.sng_gateway.specs.Playing.{Standing, IsPlayed, Comes}
-use Rattle.sng_gateway.specs.Scripts.{Writes, AllWrite, ArePlayed, StopsAt, BreaksOff, IsUnreadable, Finishes, IsHalt, IsOutcome, lines_of, unreadable_text}
+use Rattle.sng_gateway.specs.Playing.{Standing, IsStep, Does, IsPlayed}
+use Rattle.sng_gateway.specs.Scripts.{WritesRow, Writes, AllWrite, ArePlayed, StopsAt, BreaksOff, IsUnreadable, Finishes, IsHalt, IsOutcome, lines_of, unreadable_text}
 use Rattle.sng_gateway.specs.declared.status.Status.{Status}
 use Rattle.sng_gateway.specs.declared.status.Status.TheVariants as statuses
 use Rattle.sng_gateway.specs.Input.{IsFirstLine, BeginsTooLong}
 use Rattle.sng_gateway.specs.declared.player.Stop.{Stop}
 use Rattle.sng_gateway.specs.declared.player.Stop.TheVariants.{Unreadable, OutOfMemory, Failed}
 use Rattle.sng_gateway.specs.declared.script.Line.{Line}
-use Rattle.sng_gateway.specs.declared.script.Line.TheVariants as lines
 
 -- the gateway stands so after these rows, the newest first
 pub record StandsAfter (rows : List Row) (standing : Standing) : Type 0 where
@@ -34,58 +36,80 @@ pub record UnderWay (script left : List (List ℕ)) (held holds : Option (List �
   pub rows : List Row
   pub split : script ≡ before ++ left
   pub stands : StandsAfter rows standing
-  pub written : AllWrite [] before text rows
+  pub written : AllWrite [] (Reading []) before text rows standing.stream
   pub grown : Appends held holds text
   pub numbered : number ≡ length before + 1
 
--- a line that comes after rows writes its text after them, and the gateway stands after its rows
-record Written (rows : List Row) (line : Line) (text : List ℕ) (after : Standing) : Type 0 where
+-- a step after rows writes its row after them, and the gateway stands after it
+record WrittenRow (rows : List Row) (event : Event) (text : List ℕ) (after : Standing) : Type 0 where
   now : List Row
-  writes : Writes rows line text now
+  writes : WritesRow rows event text now
   stands : StandsAfter now after
 
-written : (rows : List Row) (before : Standing) (line : Line) (text : List ℕ) (after : Standing)
-    → StandsAfter rows before → Comes before line text after → Written rows line text after
-written rows before lines.Empty text after stands comes = record {
-  now = rows;
-  writes = (comes.0, refl);
-  stands = subst (StandsAfter rows) (sym comes.1) stands;
-}
-written rows before (lines.Refused fault) text after stands comes = record {
-  now = rows;
-  writes = (comes.0, refl);
-  stands = subst (StandsAfter rows) (sym comes.1) stands;
-}
-written rows before (lines.Event event) text after stands comes =
-    let row : Row = record { by = 0; event = event; outs = comes.outs } in
-    let kept = comes.kept 0 opening rows stands.lawful stands.leads in
-    let counted : after.rows ≡ length (row ∷ rows) = omega (arith, comes.counted, stands.counted) in
+written_row : (rows : List Row) (before : Standing) (event : Event) (text : List ℕ) (after : Standing)
+    → StandsAfter rows before → IsStep before event text after → WrittenRow rows event text after
+written_row rows before event text after stands step =
+    let row : Row = record { by = 0; event = event; outs = step.outs } in
+    let kept = step.kept 0 opening rows stands.lawful stands.leads in
+    let counted : after.rows ≡ length (row ∷ rows) = omega (arith, step.counted, stands.counted) in
     record {
       now = row ∷ rows;
-      writes = (comes.outs, refl, comes.printed ∙ ap (λ number. row_text number 0 (kind_of event) comes.outs) counted);
+      writes = (step.outs, refl, step.printed ∙ ap (λ number. row_text number 0 (kind_of event) step.outs) counted);
       stands = record { lawful = kept.0; leads = kept.1; counted = counted };
     }
 
+-- deeds that come after rows write their text after them, and the gateway stands after its rows
+record Written (rows : List Row) (before : Standing) (deeds : List Deed) (text : List ℕ) (after : Standing) : Type 0 where
+  now : List Row
+  writes : Writes rows deeds text now
+  stands : StandsAfter now after
+  same : after.stream ≡ before.stream
+
+written : (rows : List Row) (before : Standing) (deeds : List Deed) (text : List ℕ) (after : Standing)
+    → StandsAfter rows before → Does before deeds text after → Written rows before deeds text after
+written rows before [] text after stands does = record {
+  now = rows;
+  writes = (does.0, refl);
+  stands = subst (StandsAfter rows) (sym does.1) stands;
+  same = ap (λ (s : Standing). s.stream) does.1;
+}
+written rows before (Step event ∷ deeds) text after stands does =
+    let first = written_row rows before event does.1 does.0 stands does.3 in
+    let later = written first.now does.0 deeds does.2 after first.stands does.5 in
+    record {
+      now = later.now;
+      writes = (first.now, does.1, does.2, first.writes, does.4, later.writes);
+      stands = later.stands;
+      same = later.same ∙ does.3.same;
+    }
+written rows before (Tell told ∷ deeds) text after stands does =
+    let later = written rows before deeds does.0 after stands does.2 in
+    record { now = later.now; writes = (does.0, does.1, later.writes); stands = later.stands; same = later.same }
+
 -- one more line behind those that wrote
-AllWrite-more : (lines : List (List ℕ)) (bytes : List ℕ) (line : Line) (before between rows : List Row) (text more : List ℕ)
-    → length bytes ≤ MAX_LINE → line_of bytes ≡ Some line → AllWrite before lines text between → Writes between line more rows
-    → AllWrite before (lines ++ bytes ∷ []) (text ++ more) rows
-AllWrite-more [] bytes line before between rows text more few read all writes =
-    let here = subst (λ h. Writes h line more rows) all.1 writes in
-    (line, more, rows, [], few, read, here, (refl, refl), ap (λ t. t ++ more) all.0 ∙ sym (append-nil more))
-AllWrite-more (first ∷ lines) bytes line before between rows text more few read all writes =
-    let rest = AllWrite-more lines bytes line all.2 between rows all.3 more few read all.7 writes in
+AllWrite-more : (lines : List (List ℕ)) (bytes : List ℕ) (line : Line) (before between rows : List Row) (stream last : State)
+    (text more : List ℕ) → length bytes ≤ MAX_LINE → line_of bytes ≡ Some line → AllWrite before stream lines text between last
+    → Writes between (deeds_of last line) more rows
+    → AllWrite before stream (lines ++ bytes ∷ []) (text ++ more) rows (stream_by last line)
+AllWrite-more [] bytes line before between rows stream last text more few read all writes =
+    let there = subst (λ h. Writes h (deeds_of last line) more rows) all.1 writes in
+    let here = subst (λ s. Writes before (deeds_of s line) more rows) all.2 there in
+    let same = ap (λ s. stream_by s line) all.2 in
+    (line, more, rows, [], few, read, here, (refl, refl, same), ap (λ t. t ++ more) all.0 ∙ sym (append-nil more))
+AllWrite-more (first ∷ lines) bytes line before between rows stream last text more few read all writes =
+    let rest = AllWrite-more lines bytes line all.2 between rows (stream_by stream all.0) last all.3 more few read all.7 writes in
     (all.0, all.1, all.2, all.3 ++ more, all.4, all.5, all.6, rest, ap (λ t. t ++ more) all.8 ∙ append_assoc all.1 all.3 more)
 
 pub starts : (script : List (List ℕ)) (held : Option (List ℕ)) (standing : Standing)
-    → Leads opening [] standing.state → standing.rows ≡ 0 → UnderWay script script held held 1 standing
-starts script held standing leads none = record {
+    → Leads opening [] standing.state → standing.rows ≡ 0 → standing.stream ≡ Reading []
+    → UnderWay script script held held 1 standing
+starts script held standing leads none new = record {
   before = [];
   text = [];
   rows = [];
   split = refl;
   stands = record { lawful = tt; leads = leads; counted = none };
-  written = (refl, refl);
+  written = (refl, refl, new);
   grown = Appends-nil held;
   numbered = refl;
 }
@@ -95,21 +119,28 @@ pub goes_on : (script left : List (List ℕ)) (bytes : List ℕ) (held between h
     → length bytes ≤ MAX_LINE → IsPlayed standing bytes between holds after
     → UnderWay script left held holds (number + 1) after
 goes_on script left bytes held between holds number standing after way few played =
-    let wrote = written way.rows standing played.line played.text after way.stands played.comes in
+    let line = played.line in
+    let taken : Standing = record standing { stream = stream_by standing.stream line } in
+    let stands : StandsAfter way.rows taken =
+    record { lawful = way.stands.lawful; leads = way.stands.leads; counted = way.stands.counted } in
+    let wrote = written way.rows taken (deeds_of standing.stream line) played.text after stands played.comes in
+    let lines = way.before ++ bytes ∷ [] in
+    let text = way.text ++ played.text in
+    let more = AllWrite-more way.before bytes line [] way.rows wrote.now (Reading []) standing.stream way.text played.text few played.read way.written wrote.writes in
     record {
-      before = way.before ++ bytes ∷ [];
-      text = way.text ++ played.text;
+      before = lines;
+      text = text;
       rows = wrote.now;
       split = way.split ∙ sym (append_assoc way.before (bytes ∷ []) left);
       stands = wrote.stands;
-      written = AllWrite-more way.before bytes played.line [] way.rows wrote.now way.text played.text few played.read way.written wrote.writes;
+      written = subst (AllWrite [] (Reading []) lines text wrote.now) (sym wrote.same) more;
       grown = Appends-trans held between holds way.text played.text way.grown played.written;
       numbered = omega (arith, way.numbered, length-append way.before (bytes ∷ []));
     }
 
 played : (script left : List (List ℕ)) (held holds : Option (List ℕ)) (number : ℕ) (standing : Standing)
     → (way : UnderWay script left held holds number standing) → ArePlayed way.before way.text
-played script left held holds number standing way = record { rows = way.rows; lawful = way.stands.lawful; written = way.written }
+played script left held holds number standing way = record { rows = way.rows; stream = standing.stream; lawful = way.stands.lawful; written = way.written }
 
 -- no line is left
 pub ends : (script : List (List ℕ)) (held holds : Option (List ℕ)) (number : ℕ) (standing : Standing)
@@ -158,9 +189,9 @@ abbrev pub Halts : Option (List ℕ) → Result (Unit {0}) Stop → ℕ → (hel
 Halts input result number held holds = IfSome input (λ script. IsHalt result number (lines_of script) held holds)
 
 pub GoesOn-start : (input held : Option (List ℕ)) (standing : Standing) → Leads opening [] standing.state → standing.rows ≡ 0
-    → GoesOn input input held held 1 standing
-GoesOn-start None held standing leads none = tt
-GoesOn-start (Some bytes) held standing leads none = starts (lines_of bytes) held standing leads none
+    → standing.stream ≡ Reading [] → GoesOn input input held held 1 standing
+GoesOn-start None held standing leads none new = tt
+GoesOn-start (Some bytes) held standing leads none new = starts (lines_of bytes) held standing leads none new
 
 pub GoesOn-line : (input left rest held between holds : Option (List ℕ)) (line : List ℕ) (number : ℕ) (standing after : Standing)
     → GoesOn input left held between number standing → IsFirstLine left rest line → length line ≤ MAX_LINE → IsPlayed standing line between holds after
@@ -212,7 +243,7 @@ Halts-memory (Some bytes) (Some rest) held between holds number told standing wa
 pub Halts-first : (input held : Option (List ℕ)) (told : ℕ) → Halts input (Err OutOfMemory) told held held
 Halts-first None held told = tt
 Halts-first (Some bytes) held told =
-    ([], [], record { rest = lines_of bytes; split = refl; played = record { rows = []; lawful = tt; written = (refl, refl) } }, Appends-nil held)
+    ([], [], record { rest = lines_of bytes; split = refl; played = record { rows = []; stream = Reading []; lawful = tt; written = (refl, refl, refl) } }, Appends-nil held)
 
 -- a line could not be read for one of these reasons
 pub Halts-read : (input left held holds : Option (List ℕ)) (number : ℕ) (standing : Standing) (stop : Stop)
@@ -232,17 +263,6 @@ Halts-play input left rest held between holds line number standing OutOfMemory w
     Halts-memory input left held between holds number number standing way (keeps (λ is. absurd (cc)))
 Halts-play None left rest held between holds line number standing Failed way first unreadable keeps = tt
 Halts-play (Some bytes) left rest held between holds line number standing Failed way first unreadable keeps = tt
-
-rows-line : (before : Standing) (line : Line) (text : List ℕ) (after : Standing) → Comes before line text after
-    → after.rows ≤ before.rows + 1
-rows-line before lines.Empty text after comes = omega (arith, ap (λ (s : Standing). s.rows) comes.1)
-rows-line before (lines.Refused fault) text after comes = omega (arith, ap (λ (s : Standing). s.rows) comes.1)
-rows-line before (lines.Event event) text after comes = omega (arith, comes.counted)
-
--- a line makes one row at most
-pub one_row : (before : Standing) (bytes : List ℕ) (held holds : Option (List ℕ)) (after : Standing)
-    → IsPlayed before bytes held holds after → after.rows ≤ before.rows + 1
-one_row before bytes held holds after played = rows-line before played.line played.text after played.comes
 
 -- how a script comes out whose lines came to an end so
 pub outcome : (input held between holds : Option (List ℕ)) (status : Status) (played : Result (Unit {0}) Stop) (number : ℕ)

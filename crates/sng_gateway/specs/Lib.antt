@@ -3,6 +3,7 @@ pub mod Lines
 pub mod Covers
 pub mod Asks
 pub mod Answers
+pub mod Deeds
 pub mod Playing
 pub mod Standings
 pub mod Stops

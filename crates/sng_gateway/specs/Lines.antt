@@ -10,7 +10,7 @@ use Rattle.sng_scope.specs.declared.fault.PolicyFault.{PolicyFault}
 use Rattle.sng_book.specs.declared.address.Address.{Address}
 use Rattle.sng_book.specs.declared.event.Event.TheVariants.{Datagram, Up, Down, Take, Replace}
 use Rattle.sng_gateway.specs.declared.script.Line.{Line}
-use Rattle.sng_gateway.specs.declared.script.Line.TheVariants.{Empty, Event, Refused}
+use Rattle.sng_gateway.specs.declared.script.Line.TheVariants.{Empty, Event, Refused, Broker}
 
 infixl 10 ◌>>=◌
 abbrev ◌>>=◌ : {A B : Type 0} → Option A → (A → Option B) → Option B
@@ -41,13 +41,13 @@ address_of word = do
   port ← port_of parts.1
   Some (record { ip = ip; port = port })
 
--- the bytes that a word spells: two hex digits for each, of either case, and no byte where it is `-`; at no
--- other word, nor at none
+-- the bytes that a word spells, one or more: two hex digits for each, of either case
+abbrev pub piece_of : List ℕ → Option (List ℕ)
+piece_of word = if bytes_eq word [] then None else result_ok (decode_of word)
+
+-- the bytes of a datagram: the same, and no byte where the word is `-`
 abbrev pub datagram_of : List ℕ → Option (List ℕ)
-datagram_of word =
-    if bytes_eq word []
-    then None
-    else (if bytes_eq word (codes "-") then Some [] else result_ok (decode_of word))
+datagram_of word = if bytes_eq word (codes "-") then Some [] else piece_of word
 
 -- the policy is in force from now on, or it is refused
 abbrev pub policy_line : Result Policy PolicyFault → Line
@@ -61,6 +61,12 @@ from_line words = do
   address ← address_of parts.0
   datagram ← datagram_of parts.1
   Some (Event (Datagram address datagram))
+
+-- `HEX`: these bytes came from the broker
+abbrev pub broker_line : List ℕ → Option Line
+broker_line word = do
+  piece ← piece_of word
+  Some (Broker piece)
 
 -- the lines without a space
 abbrev pub word_line : List ℕ → Option Line
@@ -78,7 +84,9 @@ abbrev pub words_line : List ℕ → List ℕ → Option Line
 words_line word rest =
     if bytes_eq word (codes "policy")
     then Some (policy_line (policy_of rest))
-    else (if bytes_eq word (codes "from") then from_line rest else None)
+    else (if bytes_eq word (codes "from")
+    then from_line rest
+    else (if bytes_eq word (codes "broker") then broker_line rest else None))
 
 abbrev pub line_by : List ℕ → Option (List ℕ × List ℕ) → Option Line
 line_by line None = word_line line

@@ -2,6 +2,7 @@
 use Rattle.std.specs.Prelude.{ℕ, ◌≡◌, ◌⊎◌, ◌+◌, ◌==◌, ◌<◌, ◌≤◌, List, [], ◌∷◌, ◌++◌, length, if◌then◌else◌, codes, Option, Some, None, Result, Ok, Err, ⊤}
 use Rattle.std.specs.Fmt.{decimal}
 use Rattle.std.specs.Io.KnownBytes.{Appends, Keeps}
+use Rattle.mqtt_frames.specs.Streams.{State, Reading}
 use Rattle.sng_book.specs.Events.{kind_of}
 use Rattle.sng_book.specs.Printing.{row_text}
 use Rattle.sng_book.specs.declared.event.Event.{Event}
@@ -10,10 +11,9 @@ use Rattle.sng_book.specs.declared.row.Row.{Row}
 use Rattle.sng_history.specs.State.{opening}
 use Rattle.sng_history.specs.Lawful.{Lawful}
 use Rattle.sng_gateway.specs.declared.limits.TheConstants.{MAX_LINE}
-use Rattle.sng_gateway.specs.Answers.{refused_text}
+use Rattle.sng_gateway.specs.Deeds.{Deed, Step, Tell, deeds_of, stream_by}
 use Rattle.sng_gateway.specs.Lines.{line_of}
 use Rattle.sng_gateway.specs.declared.script.Line.{Line}
-use Rattle.sng_gateway.specs.declared.script.Line.TheVariants as lines
 use Rattle.sng_gateway.specs.declared.player.Stop.{Stop}
 use Rattle.sng_gateway.specs.declared.player.Stop.TheVariants as stops
 use Rattle.sng_gateway.specs.declared.status.Status.{Status}
@@ -37,26 +37,33 @@ WritesRow before event text rows =
     × (rows ≡ record { by = 0; event = event; outs = outs } ∷ before)
     × (text ≡ row_text (length rows) 0 (kind_of event) outs)
 
--- the line writes the text after the rows before it, and these are the rows then: an event makes a row; a
--- policy that is refused is told, and makes none
-abbrev pub Writes : List Row → Line → List ℕ → List Row → Type 0
-Writes before lines.Empty text rows = (text ≡ []) × (rows ≡ before)
-Writes before (lines.Event event) text rows = WritesRow before event text rows
-Writes before (lines.Refused fault) text rows = (text ≡ refused_text fault) × (rows ≡ before)
+-- the deeds write the text in turn, after the rows before them, and these are the rows then: each step makes
+-- a row, and what is told makes none
+abbrev pub Writes : List Row → List Deed → List ℕ → List Row → Type 0
+Writes before [] text rows = (text ≡ []) × (rows ≡ before)
+Writes before (Step event ∷ deeds) text rows =
+    (between : List Row) × (row : List ℕ) × (rest : List ℕ)
+    × WritesRow before event row between × (text ≡ row ++ rest) × Writes between deeds rest rows
+Writes before (Tell told ∷ deeds) text rows =
+    (rest : List ℕ) × (text ≡ told ++ rest) × Writes before deeds rest rows
 
--- the lines, each of which can be read and is not too long, write the text in turn
-abbrev pub AllWrite : List Row → List (List ℕ) → List ℕ → List Row → Type 0
-AllWrite before [] text rows = (text ≡ []) × (rows ≡ before)
-AllWrite before (bytes ∷ rest) text rows =
+-- the lines, each of which can be read and is not too long, write the text in turn: after the rows before
+-- them, and where the stream of the broker's bytes stands so; with the rows and the stream then
+abbrev pub AllWrite : List Row → State → List (List ℕ) → List ℕ → List Row → State → Type 0
+AllWrite before stream [] text rows last = (text ≡ []) × (rows ≡ before) × (last ≡ stream)
+AllWrite before stream (bytes ∷ rest) text rows last =
     (line : Line) × (first : List ℕ) × (between : List Row) × (more : List ℕ)
-    × (length bytes ≤ MAX_LINE) × (line_of bytes ≡ Some line) × Writes before line first between
-    × AllWrite between rest more rows × (text ≡ first ++ more)
+    × (length bytes ≤ MAX_LINE) × (line_of bytes ≡ Some line)
+    × Writes before (deeds_of stream line) first between
+    × AllWrite between (stream_by stream line) rest more rows last × (text ≡ first ++ more)
 
--- the lines are played from the opening state: their text, and the rows, the newest first, which are lawful
+-- the lines are played from the opening state and a stream of which nothing has come: their text, and the
+-- rows, the newest first, which are lawful
 pub record ArePlayed (lines : List (List ℕ)) (text : List ℕ) : Type 0 where
   pub rows : List Row
+  pub stream : State
   pub lawful : Lawful opening rows
-  pub written : AllWrite [] lines text rows
+  pub written : AllWrite [] (Reading []) lines text rows stream
 
 -- a line that cannot be read, or is too long
 abbrev pub IsUnreadable : List ℕ → Type 0

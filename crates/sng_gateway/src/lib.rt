@@ -3,6 +3,7 @@
 #![tactic(auto)]
 
 pub mod ask;
+mod broker;
 pub mod covering;
 mod datagram;
 pub mod ending;

@@ -1,5 +1,6 @@
 //! Plays a script: each line is an event, and what the gateway does about it is printed as a row.
 ghost use Rattle.std.specs.Prelude.{◌≡◌, [], IfSome};
+ghost use Rattle.mqtt_frames.specs.Streams.{Reading};
 ghost use Rattle.sng_history.specs.State.{opening, Leads};
 ghost use Rattle.sng_gateway.specs.Scripts.{lines_of, Finishes, IsHalt, IsOutcome};
 ghost use Rattle.sng_gateway.specs.Standings.{standing};
@@ -18,10 +19,11 @@ const BUFFER_BYTES: usize = 65536;
 /// Plays the script that `input` gives and prints a row for each event to `output`, which is flushed at the
 /// end.
 ///
-/// A policy that is refused prints `refused policy N NAME` and makes no row. The first line that cannot be
-/// read, as one of more than `MAX_LINE` bytes, prints `line N: unreadable` and ends the run; a failed
-/// allocation ends it with `out of memory`. A fault of input or output prints nothing more, nor does an input
-/// that needs more than `MAX_READS` reads. What was printed before stands.
+/// A policy that is refused prints `refused policy N NAME` and makes no row. A fault of the broker's bytes
+/// prints `refused broker N NAME`, and a row `down`. The first line that cannot be read, as one of more than
+/// `MAX_LINE` bytes, prints `line N: unreadable` and ends the run; a failed allocation ends it with
+/// `out of memory`, and prints nothing else of its line. A fault of input or output prints nothing more, nor
+/// does an input that needs more than `MAX_READS` reads. What was printed before stands.
 pub fn play<R: Read + Drop, W: Write + Drop>(alloc: Global, input: R, mut output: W) -> Status {
     match play_buffered(alloc, input, &mut output) {
         Some(status) => status,
@@ -93,6 +95,7 @@ fn play_on<R: BufRead, W: Write>(
 ) -> Result<(), Stop>
     requires state { Leads opening [] (standing player.old).state }
     requires rows { (standing player.old).rows ≡ 0 }
+    requires stream { (standing player.old).stream ≡ Reading [] }
     ensures { IfSome (R.remaining reader.old) (λ script. IsHalt result line.new (lines_of script)
         (W.contents output.old) (W.contents output.new)) }
 {

@@ -1,12 +1,16 @@
 //! A gateway that is played a script, line by line.
-ghost use Rattle.std.specs.Prelude.{◌≡◌, ◌≢◌, ◌<◌, [], None, IfOk, OnOk, OnErr};
+ghost use Rattle.std.specs.Prelude.{◌≡◌, ◌≢◌, [], ◌∷◌, Some, None, IfOk, OnOk, OnErr};
 ghost use Rattle.std.specs.Io.KnownBytes.{Keeps};
+ghost use Rattle.mqtt_frames.specs.Streams.{Reading};
+ghost use Rattle.sng_gateway.specs.Deeds.{Step, fault_deeds, packet_deeds};
 ghost use Rattle.sng_gateway.specs.Lines.{line_of};
-ghost use Rattle.sng_gateway.specs.Playing.{Comes, IsPlayed, IsStep};
+ghost use Rattle.sng_gateway.specs.Playing.{Adds, Comes, IsPlayed};
 ghost use Rattle.sng_history.specs.State.{opening, Leads};
 
+use crate::broker::{arrival, begin_stream, push_fault_line};
 use crate::may::push_refused;
 use crate::script::{Line, LineFault, line_of};
+use mqtt_frames::{Packet, Stream, StreamFault};
 use sng_book::{Event, push_row};
 use sng_core::Core;
 use std::alloc::{AllocError, Global};
@@ -48,11 +52,12 @@ impl From<LineFault> for Stop {
     }
 }
 
-/// A gateway, and how many rows it made.
+/// A gateway, how many rows it made, and the stream of the broker's bytes.
 #[derive(Drop)]
 pub struct Player {
     alloc: Global,
     core: Core,
+    stream: Stream,
     rows: u64,
     text: Vec<u8>,
 }
@@ -60,23 +65,26 @@ pub struct Player {
 impl Player {
     ghost use Rattle.sng_gateway.specs.Standings.{standing};
 
-    /// A gateway that grants nothing, and no row.
+    /// A gateway that grants nothing, no row, and a stream of which nothing has come.
     pub fn new(alloc: Global) -> Result<Player, AllocError>
         ensures state { IfOk result (λ player. Leads opening [] (standing player).state) }
         ensures rows { IfOk result (λ player. (standing player).rows ≡ 0) }
+        ensures stream { IfOk result (λ player. (standing player).stream ≡ Reading []) }
     {
         Ok(Player {
             alloc,
             core: Core::new(alloc)?,
+            stream: Stream::new(alloc),
             rows: 0,
             text: Vec::new(alloc),
         })
     }
 
-    /// Plays one line, without its line feed, and prints what comes of it. A line that cannot be read prints
-    /// nothing and changes nothing.
+    /// Plays one line, without its line feed, and prints what comes of it. That goes out once it is whole:
+    /// where an allocation fails between two packets of the line, nothing of it is printed. Steps may have
+    /// been taken then, so the player is not to be played on. A line that cannot be read prints nothing and
+    /// changes nothing. `Failed` is a failure of the output, or a row past the last number of 64 bits.
     pub fn play<W: Write>(&mut self, line: &[u8], output: &mut W) -> Result<(), Stop>
-        requires { (standing self.old).rows < u64.MAX }
         ensures ok { OnOk result (IsPlayed (standing self.old) line.now (W.contents output.old)
             (W.contents output.new) (standing self.new)) }
         ensures unreadable { result ≡ Err Stop.Unreadable
@@ -91,25 +99,79 @@ impl Player {
             .map_err(|_| Stop::Failed)
     }
 
-    /// Does what a line says, and leaves what is to be printed of it in `text`.
-    fn take(&mut self, line: Line) -> Result<(), AllocError>
-        requires { self.old.rows < u64.MAX }
-        ensures { OnOk result (Comes (standing self.old) line self.new.text.items (standing self.new)) }
+    /// Does what a line says, and leaves what is to be printed of it in `text`. It is `Failed` where the row
+    /// with the last number of 64 bits is made and one more would follow, as in the functions below.
+    fn take(&mut self, line: Line) -> Result<(), Stop>
+        ensures ok { OnOk result (Comes (standing self.old) line self.new.text.items (standing self.new)) }
+        ensures full { result ≡ Err Stop.Failed → self.new.rows ≡ u64.MAX }
+        ensures err { result ≢ Err Stop.Unreadable }
     {
         self.text.clear();
         match line {
             Line::Empty => Ok(()),
-            Line::Event(event) => self.step(event),
-            Line::Refused(fault) => push_refused(&mut self.text, fault),
+            Line::Event(event) => {
+                begin_stream(self.alloc, &mut self.stream, &event);
+                self.step(event)
+            }
+            Line::Refused(fault) => {
+                push_refused(&mut self.text, fault)?;
+                Ok(())
+            }
+            Line::Broker(piece) => self.take_piece(piece.as_slice()),
         }
     }
 
-    /// Takes one step, and prints its row to `text`.
-    fn step(&mut self, event: Event) -> Result<(), AllocError>
-        requires room { self.old.rows < u64.MAX }
-        requires empty { self.old.text.items ≡ [] }
-        ensures { OnOk result (IsStep (standing self.old) event self.new.text.items (standing self.new)) }
+    /// Takes a piece of the broker's bytes: a step for each packet that is whole with it, and what comes of
+    /// the fault behind them.
+    fn take_piece(&mut self, piece: &[u8]) -> Result<(), Stop>
+        requires { self.old.text.items ≡ [] }
+        ensures ok { OnOk result (Comes (standing self.old) (Line.Broker piece.now) self.new.text.items
+            (standing self.new)) }
+        ensures full { result ≡ Err Stop.Failed → self.new.rows ≡ u64.MAX }
+        ensures err { result ≢ Err Stop.Unreadable }
     {
+        let (packets, fault) = arrival(self.alloc, &mut self.stream, piece)?;
+        self.step_each(packets)?;
+        match fault {
+            None => Ok(()),
+            Some(fault) => self.lose(fault),
+        }
+    }
+
+    /// Takes a step for each packet, in order.
+    fn step_each(&mut self, packets: Vec<Packet>) -> Result<(), Stop>
+        ensures ok { OnOk result (Adds (standing self.old) (packet_deeds packets.items)
+            self.old.text.items self.new.text.items (standing self.new)) }
+        ensures full { result ≡ Err Stop.Failed → self.new.rows ≡ u64.MAX }
+        ensures err { result ≢ Err Stop.Unreadable }
+    {
+        for packet in packets {
+            self.step(Event::Broker(packet))?;
+        }
+        Ok(())
+    }
+
+    /// Tells of a fault of the broker's bytes, with which the connection is lost.
+    fn lose(&mut self, fault: StreamFault) -> Result<(), Stop>
+        ensures ok { OnOk result (Adds (standing self.old) (fault_deeds (Some fault))
+            self.old.text.items self.new.text.items (standing self.new)) }
+        ensures full { result ≡ Err Stop.Failed → self.new.rows ≡ u64.MAX }
+        ensures err { result ≢ Err Stop.Unreadable }
+    {
+        push_fault_line(&mut self.text, fault)?;
+        self.step(Event::Down)
+    }
+
+    /// Takes one step, and adds its row to `text`.
+    fn step(&mut self, event: Event) -> Result<(), Stop>
+        ensures ok { OnOk result (Adds (standing self.old) (Step event ∷ [])
+            self.old.text.items self.new.text.items (standing self.new)) }
+        ensures full { result ≡ Err Stop.Failed → self.new.rows ≡ u64.MAX }
+        ensures err { result ≢ Err Stop.Unreadable }
+    {
+        if self.rows == u64::MAX {
+            return Err(Stop::Failed);
+        }
         let kind = event.kind();
         let outs = self.core.step(self.alloc, event)?;
         self.rows += 1;

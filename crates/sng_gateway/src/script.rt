@@ -1,12 +1,13 @@
 //! The lines of a script. Words are parted by one space.
 ghost use Rattle.std.specs.Prelude.{◌≡◌, ◌⊎◌, Some, None, IfOk, IfErr};
-ghost use Rattle.sng_gateway.specs.Lines.{line_of, word_line, words_line, policy_line, from_line};
+ghost use Rattle.sng_gateway.specs.Lines.{line_of, word_line, words_line, policy_line, from_line, broker_line};
 ghost use Rattle.sng_scope.specs.Policies.{policy_of};
 
-use crate::datagram::read_datagram;
+use crate::datagram::{read_datagram, read_piece};
 use crate::sender::{address_of, parted};
 use sng_book::Event;
 use sng_scope::{PolicyFault, read_policy};
+use sng_text::Octets;
 use std::alloc::Global;
 
 /// What a line of a script says.
@@ -18,6 +19,8 @@ pub enum Line {
     Event(Event),
     /// A policy that is refused, by the first fault of its text.
     Refused(PolicyFault),
+    /// A piece of the broker's bytes.
+    Broker(Octets),
 }
 
 /// Why a line is not read.
@@ -30,7 +33,7 @@ pub enum LineFault {
 }
 
 /// What the line says, without the line feed at its end: `up`, `down`, `take`, `policy TEXT`,
-/// `from IP:PORT HEX`, or nothing.
+/// `from IP:PORT HEX`, `broker HEX`, or nothing.
 pub fn line_of(alloc: Global, line: &[u8]) -> Result<Line, LineFault>
     ensures ok { IfOk result (λ said. line_of line.now ≡ Some said) }
     ensures err { IfErr result (λ fault. (fault ≡ LineFault.Memory) ⊎ (line_of line.now ≡ None)) }
@@ -68,6 +71,8 @@ fn words_line(alloc: Global, word: &[u8], rest: &[u8]) -> Result<Line, LineFault
         policy_line(alloc, rest)
     } else if word == b"from".as_slice() {
         from_line(alloc, rest)
+    } else if word == b"broker".as_slice() {
+        broker_line(alloc, rest)
     } else {
         Err(LineFault::Unreadable)
     }
@@ -98,4 +103,13 @@ fn from_line(alloc: Global, words: &[u8]) -> Result<Line, LineFault>
     };
     let datagram = read_datagram(alloc, digits)?;
     Ok(Line::Event(Event::Datagram(from, datagram)))
+}
+
+/// A piece of bytes came from the broker.
+fn broker_line(alloc: Global, digits: &[u8]) -> Result<Line, LineFault>
+    ensures ok { IfOk result (λ said. broker_line digits.now ≡ Some said) }
+    ensures err { IfErr result (λ fault. (fault ≡ LineFault.Memory) ⊎ (broker_line digits.now ≡ None)) }
+{
+    let piece = read_piece(alloc, digits)?;
+    Ok(Line::Broker(piece))
 }

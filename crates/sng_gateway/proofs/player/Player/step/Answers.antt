@@ -1,5 +1,7 @@
 use Rattle.std.proofs.Common.{refl, rules}
+use Rattle.sng_gateway.proofs.DeedLemmas.{Adds-step}
 use Rattle.sng_gateway.proofs.player.Player.step.Goals as goal
 
-pub returns : goal.returns
-returns c = record { outs = c.in_ok-outs.outs; kept = c.in_ok-outs.ensures.kept; counted = refl; printed = search rules }
+pub returns-clause-ok : goal.returns-clause-ok
+returns-clause-ok c =
+    Adds-step c.args.event _ _ _ _ _ (record { outs = c.in_ok-outs.outs; kept = c.in_ok-outs.ensures.kept; counted = refl; printed = refl; same = refl }) (search rules)
