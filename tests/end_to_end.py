@@ -3,10 +3,10 @@
 
 Runs the program over everything that a text can show: each script of tests/scripts through `sng play`, with
 its whole output and exit status (NAME.expected; NAME.status, where it is not 0); the lines of
-tests/lines.table, which cannot be read; the policy texts of policy_texts.py; the questions of
-tests/cover.table and tests/may.table; the reports on policy texts of policy_reports.py, with their warnings
-where the proved program runs; command lines, good and bad; output that cannot be written; a line without end
-under a limit of memory. A search over names (cover_search.py) answers the first table of
+tests/lines.table, which cannot be read; the scripts of full_places.py; the policy texts of policy_texts.py;
+the questions of tests/cover.table and tests/may.table; the reports on policy texts of policy_reports.py, with
+their warnings where the proved program runs; command lines, good and bad; output that cannot be written; a
+line without end under a limit of memory. A search over names (cover_search.py) answers the first table of
 questions too. Uses the proved program where one lies in crates/sng/out that is newer than every source, and
 else one build without proof, which leaves out what it cannot run, and says what.
 """
@@ -21,6 +21,7 @@ import sys
 import tempfile
 
 sys.dont_write_bytecode = True
+import full_places
 import policy_reports
 import policy_texts
 
@@ -73,6 +74,8 @@ def scripts():
         yield Case(os.path.basename(stem), ['play'], read(path), status, read(stem + '.expected'))
     for name, line in rows('lines.table'):
         yield Case(name, ['play'], json.loads(line).encode() + b'\n', 1, b'line 1: unreadable\n')
+    for name, given, printed in full_places.scripts():
+        yield Case(name, ['play'], given, 0, printed)
     yield Case('the-policies', ['play'], *plays(policy_texts.all_texts()))
     yield Case('the-longest-line', ['play'], b'policy ' + b' ' * (MAX_LINE - 7) + b'\n', 0,
                b'refused policy 1 NotJson\n')

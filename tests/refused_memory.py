@@ -14,7 +14,7 @@ import sys
 sys.dont_write_bytecode = True
 import calls
 
-TURNS = 60
+TURNS = 120
 OF_MEMORY = re.compile(r'(error: |left: Err\()(AllocError|AllocFailed \{.*\}|OutOfMemory|(\w+::)?Memory)\)?$')
 
 

@@ -1,5 +1,5 @@
 //! CONNACK (MQTT 3.1.1, 3.2), and what PUBACK (3.4) and UNSUBACK (3.11) share: reading and writing.
-ghost use Rattle.std.specs.Prelude.{◌≡◌, ◌<◌, ◌++◌, IfOk, OnOk};
+ghost use Rattle.std.specs.Prelude.{◌≡◌, ◌++◌, IfOk, OnOk};
 ghost use Rattle.mqtt_frames.specs.Packets.{body, written};
 ghost use Rattle.mqtt_frames.specs.Reading.{session_of, connect_ack_of, whole_id};
 
@@ -55,9 +55,8 @@ pub fn whole_id(bytes: &[u8]) -> Result<u16, PacketFault>
     }
 }
 
-/// The PUBACK of a packet identifier that is not 0. Allocates once.
+/// The PUBACK of a packet identifier. Allocates once.
 pub fn encode_publish_ack(alloc: Global, packet_id: u16) -> Result<Octets, AllocError>
-    requires { 0 < packet_id }
     ensures { IfOk result (λ o. o ≡ written (Packet.PublishAck packet_id)) }
 {
     let mut bytes = remaining::front(alloc, first::PUBLISH_ACK, SIZE)?;

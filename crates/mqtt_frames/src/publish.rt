@@ -1,5 +1,5 @@
 //! PUBLISH at QoS 0 and 1 (MQTT 3.1.1, 3.3): reading, size and writing.
-ghost use Rattle.std.specs.Prelude.{◌≡◌, ◌≤◌, ◌<◌, ◌+◌, ◌^◌, ◌++◌, true, length, IfOk, OnOk, SomeIff};
+ghost use Rattle.std.specs.Prelude.{◌≡◌, ◌≤◌, ◌<◌, ◌+◌, ◌^◌, ◌++◌, true, false, length, IfOk, OnOk, SomeIff};
 ghost use Rattle.mqtt_frames.specs.Packets.{flag, qos_bits, publish_byte, body, text_bytes, id_bytes};
 ghost use Rattle.mqtt_frames.specs.Packets.{written};
 ghost use Rattle.mqtt_frames.specs.Spellable.{is_optional_id};
@@ -113,6 +113,24 @@ pub fn encode_publish(
     let name = name.text();
     let rest = 2 + name.len() + id_size(packet_id) + payload.len();
     let mut bytes = remaining::front(alloc, flags_byte(dup, packet_id, retain), rest)?;
+    push_parts(&mut bytes, name, packet_id, payload)?;
+    Ok(Octets::from(bytes))
+}
+
+/// The PUBLISH of a message that is sent for the first time: at QoS 1 with a packet identifier, and else at
+/// QoS 0. Allocates once, and copies the name and the payload once.
+pub fn write_publish(
+    alloc: Global,
+    name: &TopicName,
+    payload: &[u8],
+    retain: bool,
+    packet_id: Option<u16>,
+) -> Result<Octets, AllocError>
+    ensures { IfOk result (λ o. o ≡ written (publish_of_parts name.now payload.now retain packet_id false)) }
+{
+    let name = name.text();
+    let rest = 2 + name.len() + id_size(packet_id) + payload.len();
+    let mut bytes = remaining::front(alloc, flags_byte(false, packet_id, retain), rest)?;
     push_parts(&mut bytes, name, packet_id, payload)?;
     Ok(Octets::from(bytes))
 }

@@ -204,7 +204,7 @@ fn stream_of(alloc: Global, packets: Packets) -> Result<Vec<u8>, NotDone> {
 fn publishes(alloc: Global, payload: usize, count: u32) -> Result<Vec<u8>, NotDone> {
     let name = done(TopicName::read(alloc, b"a/b"))?;
     let payload = done(vec![in alloc; 0x55; payload])?;
-    let packet = done(write_publish(alloc, &name, payload.as_slice(), false))?;
+    let packet = done(write_publish(alloc, &name, payload.as_slice(), false, None))?;
     let mut bytes = Vec::new(alloc);
     for _ in 0..count {
         done(bytes.extend_from_slice(packet.as_slice()))?;

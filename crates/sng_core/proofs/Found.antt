@@ -5,13 +5,12 @@ use Rattle.std.specs.List.{flat_map, position_or_len}
 use Rattle.std.proofs.lemmas.List.{append-nil}
 use Rattle.std.proofs.lemmas.Bool.Decides.{nat_tests}
 use Rattle.sng_book.specs.declared.address.Address.{Address}
-use Rattle.sng_book.specs.declared.out.Out.{Out}
 use Rattle.sng_history.specs.Causes.{Cause}
 use Rattle.sng_history.specs.Clients.{Client, is_here, is_from}
 use Rattle.sng_history.specs.Whole.{any_from}
 use Rattle.sng_history.specs.Good.{Each, Apart, OnePlace}
 use Rattle.sng_core.specs.Forms.{place_at, client_at}
-use Rattle.sng_core.specs.Moving.{moved_at}
+use Rattle.sng_sessions.specs.Moving.{moved_at}
 
 -- ---- the place of the first that passes a test
 
@@ -76,7 +75,7 @@ all_clear from x [] here apart = tt
 all_clear from x (y ∷ ys) here apart = (other_by (is_here x from) (is_here y from) (apart.0 from) here, all_clear from x ys here apart.1)
 
 -- nothing is let out for those who are not there, and they stay as they are
-pub no_outs : (from : Address) (f : Client → List Out) (xs : List Client) → ((y : Client) → is_here y from ≡ false → f y ≡ []) → Each (λ y. is_here y from ≡ false) xs → flat_map f xs ≡ []
+pub no_outs : {A : Type 0} (from : Address) (f : Client → List A) (xs : List Client) → ((y : Client) → is_here y from ≡ false → f y ≡ []) → Each (λ y. is_here y from ≡ false) xs → flat_map f xs ≡ []
 no_outs from f [] quiet none = refl
 no_outs from f (y ∷ ys) quiet none = rw (quiet y none.0, no_outs from f ys quiet none.1) refl
 
@@ -84,7 +83,7 @@ pub no_moves : (from : Address) (g : Client → Client) (xs : List Client) → (
 no_moves from g [] same none = refl
 no_moves from g (y ∷ ys) same none = rw (same y none.0, no_moves from g ys same none.1) refl
 
-pub one_outs : (from : Address) (f : Client → List Out) (xs : List Client) (i : ℕ) (x : Client) → ((y : Client) → is_here y from ≡ false → f y ≡ []) → OnePlace xs
+pub one_outs : {A : Type 0} (from : Address) (f : Client → List A) (xs : List Client) (i : ℕ) (x : Client) → ((y : Client) → is_here y from ≡ false → f y ≡ []) → OnePlace xs
     → slice_get xs i ≡ Some x → is_here x from ≡ true → flat_map f xs ≡ f x
 one_outs from f [] i x quiet places read here = absurd cc
 one_outs from f (y ∷ ys) zero x quiet places read here =

@@ -1,7 +1,5 @@
 pub mod Found
-pub mod Leaving
+pub mod Asked
 pub mod Rows
 pub mod Connected
-pub mod Looks
-pub mod Moves
 pub mod RunLemmas

@@ -3,6 +3,10 @@ use Rattle.std.proofs.Common.{◌≡◌, ℕ, zero, suc, Bool, true, false, List
 use Rattle.std.specs.Prelude.{if◌then◌else◌, slice_get, Option, Some, None}
 use Rattle.std.specs.List.{flat_map}
 use Rattle.std.proofs.lemmas.List.{append-nil}
+use Rattle.std.specs.Prelude.{Ok, Err}
+use Rattle.std.specs.declared.result.Result.{Result}
+use Rattle.sng_text.specs.declared.qos.Qos.{Qos}
+use Rattle.sng_frames.specs.declared.messages.register.Register.{Register}
 use Rattle.sng_frames.specs.declared.messages.publish.Publish.{Publish}
 use Rattle.sng_frames.specs.declared.frame.SnFrame.{SnFrame}
 use Rattle.sng_frames.specs.declared.frame.SnFrame.TheVariants as frame
@@ -19,24 +23,23 @@ use Rattle.sng_book.specs.declared.outcome.Outcome.TheVariants.{Allowed, Denied}
 use Rattle.sng_book.specs.declared.out.Out.{Out}
 use Rattle.sng_book.specs.declared.out.Out.TheVariants.{Note}
 use Rattle.sng_book.specs.declared.decision.Decision.TheVariants as note
-use Rattle.sng_history.specs.Causes.{Cause, ByPing, ByLeave, BySource, ByPublish, ByUnsupported, ByBroken, ByPacket, ByUp, ByDown, ByTake, ByReplace, ByTick}
+use Rattle.sng_history.specs.Causes.{Cause, ByPing, ByLeave, BySource, ByRegister, ByPublish, ByUnsupported, ByBroken, ByPacket, ByUp, ByDown, ByTake, ByReplace, ByTick}
 use Rattle.sng_history.specs.Clients.{Around, Client, is_here, is_from, note_by}
-use Rattle.sng_history.specs.State.{State, around, later, asked_by, link_moved}
-use Rattle.sng_history.specs.Verdicts.{ping_verdict, source_ask}
+use Rattle.sng_history.specs.State.{State, around, later, item_asked, asked_by, link_moved, qos_of}
+use Rattle.sng_history.specs.Verdicts.{ping_verdict, source_ask, room, may_ask, name_given, name_in, register_named as note_named, register_by as note_by_may, register_ask, publish_named as publish_note_named, publish_by as publish_note_by, publish_ask}
 use Rattle.sng_history.specs.Answers.{denied_note, refused}
-use Rattle.sng_history.specs.Whole.{frames_of, denied_by, stranger_outs, any_from}
-use Rattle.sng_history.specs.Lawful.{exits_for}
-use Rattle.sng_history.specs.Steps.{outs_by, client_next, next_by, newcomers_for}
+use Rattle.sng_history.specs.Whole.{frames_of, denied_by, replied, stranger_outs, any_from}
+use Rattle.sng_history.specs.Lawful.{fixed_for, exits_for}
+use Rattle.sng_history.specs.Steps.{outs_by, client_next, next_by, newcomers_for, waiting_next, asked_by_all}
 use Rattle.sng_history.specs.Links.{Link}
-use Rattle.sng_history.specs.Exits.{exits_of}
+use Rattle.sng_history.specs.Exits.{agains_of, resending}
+use Rattle.sng_history.specs.Packets.{answer_of, answer_outs}
 use Rattle.sng_history.specs.Good.{Good}
-use Rattle.sng_history.proofs.Plain.{plain_after}
 use Rattle.sng_history.proofs.Says.{part_for, row_for}
 use Rattle.sng_history.proofs.GoodNext.{good_next}
-use Rattle.sng_core.specs.Forms.{place_at, client_at, at_place, moved_if, found_outs, leaves, heard_at, left_at, left_outs, ping_outs, pinged, unsupported_outs, broken_outs}
-use Rattle.sng_core.specs.Moving.{moved_at}
-use Rattle.sng_core.proofs.Leaving.{leaving_plain}
-use Rattle.sng_core.proofs.Found.{found_here, nobody_here, one_outs, one_moves, no_moves, moved_same, any_here, none_here, read_at, within}
+use Rattle.sng_core.specs.Forms.{place_at, client_at, at_place, moved_if, found_outs, heard_at, left_at, left_outs, ping_outs, pinged, unsupported_outs, broken_outs, joined, register_named, register_by, register_judged, register_reply, register_outs, register_next, publish_named as judged_named, publish_by as judged_by, publish_reply, publication_by, items_of, carried_judged, carried_outs, carried_items, carried, answered_next, taken_outs, taken_next, begun_next}
+use Rattle.sng_sessions.specs.Moving.{moved_at}
+use Rattle.sng_core.proofs.Found.{found_here, nobody_here, no_outs, one_outs, one_moves, no_moves, moved_same, any_here, none_here, read_at, within}
 
 -- the cause lets these outs out and leads to this state, which is good
 pub record Makes (s : State) (c : Cause) (row : List Out) (after : State) : Type 0 where
@@ -47,62 +50,70 @@ pub record Makes (s : State) (c : Cause) (row : List Out) (after : State) : Type
 pub makes : (s : State) (c : Cause) (outs : List Out) (after : State) → Good s → outs ≡ outs_by s c → after ≡ next_by s c → Makes s c outs after
 makes s c outs after good is to = record { outs = is; next = to; good = subst Good (sym to) (good_next s c good) }
 
--- a message of one client at the address
-pub record Message (s : State) (c : Cause) (from : Address) : Type 0 where
+-- a message of one client at the address; beside the clients it leads to this state
+pub record Message (s : State) (c : Cause) (from : Address) (base : State) : Type 0 where
   pub of : (y : Client) → is_from c y ≡ is_here y from
   pub quiet : (y : Client) → is_here y from ≡ false → part_for s c y ≡ []
   pub same : (y : Client) → is_here y from ≡ false → client_next s c y ≡ y
   pub outs : outs_by s c ≡ row_for s c
-  pub next : next_by s c ≡ record s { clients = map (client_next s c) (s.clients ++ []) }
+  pub next : next_by s c ≡ record base { clients = map (client_next s c) (s.clients ++ []) }
 
 abbrev with_clients : State → List Client → State
 with_clients s xs = record s { clients = xs }
 
 -- it comes from this client
-pub found_row : (s : State) (c : Cause) (from : Address) (i : ℕ) (x : Client) (outs : List Out) (g : Client → Client) → Good s → Message s c from
+pub found_row : (s : State) (c : Cause) (from : Address) (base : State) (i : ℕ) (x : Client) (outs : List Out) (g : Client → Client) → Good s → Message s c from base
     → place_at from s.clients ≡ Some i → slice_get s.clients i ≡ Some x → (is_here x from ≡ true → outs ≡ part_for s c x) → (is_here x from ≡ true → g x ≡ client_next s c x)
-    → Makes s c outs (record s { clients = moved_at i g s.clients })
-found_row s c from i x outs g good m at read is moves =
+    → Makes s c outs (record base { clients = moved_at i g s.clients })
+found_row s c from base i x outs g good m at read is moves =
     let here = found_here from s.clients i x at read in
     let any : any_from c s.clients ≡ true = any_here c from s.clients i x m.of read here in
-    makes s c outs (record s { clients = moved_at i g s.clients }) good
+    makes s c outs (record base { clients = moved_at i g s.clients }) good
     (is here ∙ (sym (one_outs from (part_for s c) s.clients i x m.quiet good.places read here) ∙ (sym (ap (λ b. if b then flat_map (part_for s c) s.clients else stranger_outs c) any) ∙ sym m.outs)))
-    (ap (with_clients s) (moved_same g (client_next s c) s.clients i x read (moves here)
+    (ap (with_clients base) (moved_same g (client_next s c) s.clients i x read (moves here)
     ∙ (sym (one_moves from (client_next s c) s.clients i x m.same good.places read here) ∙ sym (ap (map (client_next s c)) (append-nil s.clients)))) ∙ sym m.next)
 
 -- or from nobody
-pub stranger_row : (s : State) (c : Cause) (from : Address) → Good s → Message s c from → place_at from s.clients ≡ None → Makes s c (stranger_outs c) s
-stranger_row s c from good m at =
+pub stranger_row : (s : State) (c : Cause) (from : Address) (base : State) → Good s → Message s c from base → place_at from s.clients ≡ None
+    → Makes s c (stranger_outs c) (record base { clients = s.clients })
+stranger_row s c from base good m at =
     let none = nobody_here from s.clients at in
     let any : any_from c s.clients ≡ false = none_here c from s.clients m.of none in
-    makes s c (stranger_outs c) s good
+    makes s c (stranger_outs c) (record base { clients = s.clients }) good
     (sym (ap (λ b. if b then flat_map (part_for s c) s.clients else stranger_outs c) any) ∙ sym m.outs)
-    (ap (with_clients s) (sym (no_moves from (client_next s c) s.clients m.same none) ∙ sym (ap (map (client_next s c)) (append-nil s.clients))) ∙ sym m.next)
+    (ap (with_clients base) (sym (no_moves from (client_next s c) s.clients m.same none) ∙ sym (ap (map (client_next s c)) (append-nil s.clients))) ∙ sym m.next)
 
 -- from whomever it comes
-pub message_row : (s : State) (c : Cause) (from : Address) (f : Client → List Out) (g : Client → Client) (place : Option ℕ) → Good s → Message s c from → place_at from s.clients ≡ place
+pub message_row : (s : State) (c : Cause) (from : Address) (f : Client → List Out) (g : Client → Client) (place : Option ℕ) → Good s → Message s c from s → place_at from s.clients ≡ place
     → ((x : Client) → is_here x from ≡ true → f x ≡ part_for s c x) → ((x : Client) → is_here x from ≡ true → g x ≡ client_next s c x)
     → Makes s c (found_outs c f (at_place s.clients place)) (record s { clients = moved_if place g s.clients })
-message_row s c from f g None good m at is moves = stranger_row s c from good m at
+message_row s c from f g None good m at is moves = stranger_row s c from s good m at
 message_row s c from f g (Some i) good m at is moves =
     let x = client_at s.clients i in
-    found_row s c from i x (f x) g good m at (read_at s.clients i (within from s.clients i at)) (is x) (moves x)
+    found_row s c from s i x (f x) g good m at (read_at s.clients i (within from s.clients i at)) (is x) (moves x)
 
 -- ---- each kind of message
 
-pub ping_message : (s : State) (from : Address) (client : Option (List ℕ)) → Message s (ByPing from client) from
+pub ping_message : (s : State) (from : Address) (client : Option (List ℕ)) → Message s (ByPing from client) from s
 ping_message s from client = record { of = λ y. refl; quiet = λ y off. rw off refl; same = λ y off. rw off refl; outs = refl; next = refl }
 
-pub leave_message : (s : State) (from : Address) → Message s (ByLeave from) from
+pub leave_message : (s : State) (from : Address) → Message s (ByLeave from) from s
 leave_message s from = record { of = λ y. refl; quiet = λ y off. rw off refl; same = λ y off. rw off refl; outs = refl; next = refl }
 
-pub publish_message : (s : State) (from : Address) (p : Publish) → Message s (ByPublish from p) from
+pub register_message : (s : State) (from : Address) (r : Register) → Message s (ByRegister from r) from s
+register_message s from r = record { of = λ y. refl; quiet = λ y off. rw off refl; same = λ y off. rw off refl; outs = refl; next = refl }
+
+-- what a PUBLISH of a client adds to what waits
+abbrev published : State → Address → Publish → List Item
+published s from p = flat_map (λ x. asked_by_all p (fixed_for s (ByPublish from p) x)) s.clients
+
+pub publish_message : (s : State) (from : Address) (p : Publish) → Message s (ByPublish from p) from (joined s (published s from p))
 publish_message s from p = record { of = λ y. refl; quiet = λ y off. rw off refl; same = λ y off. rw off refl; outs = refl; next = refl }
 
-pub unsupported_message : (s : State) (from : Address) (message : SnFrame) → Message s (ByUnsupported from message) from
+pub unsupported_message : (s : State) (from : Address) (message : SnFrame) → Message s (ByUnsupported from message) from s
 unsupported_message s from message = record { of = λ y. refl; quiet = λ y off. rw off refl; same = λ y off. rw off refl; outs = refl; next = refl }
 
-pub broken_message : (s : State) (from : Address) (rule : Denial) → Message s (ByBroken from rule) from
+pub broken_message : (s : State) (from : Address) (rule : Denial) → Message s (ByBroken from rule) from s
 broken_message s from rule = record { of = λ y. refl; quiet = λ y off. rw off refl; same = λ y off. rw off refl; outs = refl; next = refl }
 
 -- ---- a DISCONNECT
@@ -128,13 +139,124 @@ ping_row s from client good =
     message_row s (ByPing from client) from (pinged from client) (heard_at s.clock) (place_at from s.clients) good (ping_message s from client) refl
     (λ x here. ping_outs_by s from client x (ping_verdict client x) refl here) (λ x here. ping_next_by s from client x (ping_verdict client x) refl here)
 
--- ---- a message that is not taken
+-- ---- a REGISTER
+
+said_named : (policy : Policy) (x : Client) (named : Result (List ℕ) Denial)
+    → let j = register_named policy x named in note_named policy x named ≡ note.Register (who.Client x.id) j.name j.outcome
+said_named policy x (Ok name) = refl
+said_named policy x (Err rule) = refl
+
+said_by : (policy : Policy) (x : Client) (text : List ℕ) (may : Outcome)
+    → let j = register_by policy x text may in note_by_may policy x text may ≡ note.Register (who.Client x.id) j.name j.outcome
+said_by policy x text Allowed = said_named policy x (name_given text)
+said_by policy x text (Denied rule) = refl
+
+-- how it comes out is its note
+register_said : (policy : Policy) (x : Client) (text : List ℕ)
+    → let j = register_judged policy x text in register_ask policy x text ≡ note.Register (who.Client x.id) j.name j.outcome
+register_said policy x text = said_by policy x text (may_ask policy x)
+
+register_replied : (clock : ℕ) (from : Address) (r : Register) (x : Client) (name : Option (List ℕ)) (o : Outcome)
+    → register_reply r.msg_id x name o ≡ replied (ByRegister from r) (heard_at clock x) name o
+register_replied clock from r x (Some name) Allowed = refl
+register_replied clock from r x None Allowed = refl
+register_replied clock from r x (Some name) (Denied rule) = refl
+register_replied clock from r x None (Denied rule) = refl
+
+register_part : (s : State) (from : Address) (r : Register) (x : Client) → is_here x from ≡ true → register_outs s.policy r.msg_id r.name x ≡ part_for s (ByRegister from r) x
+register_part s from r x here =
+    let a = around s (ByRegister from r) in
+    let y = heard_at s.clock x in
+    let j = register_judged s.policy x r.name in
+    rw here (ap (λ outs. Note (note.Register (who.Client x.id) j.name j.outcome) ∷ outs) (register_replied s.clock from r x j.name j.outcome ∙ sym (append-nil (replied (ByRegister from r) y j.name j.outcome)))
+    ∙ ap (λ said. Note said ∷ (frames_of a y said ++ [])) (sym (register_said s.policy x r.name)))
+
+register_moves : (s : State) (from : Address) (r : Register) (x : Client) → is_here x from ≡ true → register_next s.policy s.clock r.name x ≡ client_next s (ByRegister from r) x
+register_moves s from r x here =
+    let a = around s (ByRegister from r) in
+    rw here (ap (λ said. note_by a said (heard_at s.clock x)) (sym (register_said s.policy x r.name)))
+
+pub register_row : (s : State) (from : Address) (r : Register) → Good s
+    → Makes s (ByRegister from r) (found_outs (ByRegister from r) (register_outs s.policy r.msg_id r.name) (at_place s.clients (place_at from s.clients)))
+    (record s { clients = moved_if (place_at from s.clients) (register_next s.policy s.clock r.name) s.clients })
+register_row s from r good =
+    message_row s (ByRegister from r) from (register_outs s.policy r.msg_id r.name) (register_next s.policy s.clock r.name) (place_at from s.clients) good (register_message s from r) refl
+    (register_part s from r) (register_moves s from r)
+
+-- ---- a PUBLISH of a client
+
+published_named : (s : State) (x : Client) (q : Qos) (named : Result (List ℕ) Denial)
+    → let j = judged_named s.policy (room s q) x named in publish_note_named s x q named ≡ note.Publish (who.Client x.id) j.name j.outcome
+published_named s x q (Ok name) = refl
+published_named s x q (Err rule) = refl
+
+published_by : (s : State) (x : Client) (p : Publish) (may : Outcome)
+    → let j = judged_by s.policy (room s (qos_of p.flags.qos)) x p.flags.id_type p.topic_id may in publish_note_by s x p may ≡ note.Publish (who.Client x.id) j.name j.outcome
+published_by s x p Allowed = published_named s x (qos_of p.flags.qos) (name_in s.policy (Some x.ids) p.flags.id_type p.topic_id)
+published_by s x p (Denied rule) = refl
+
+publish_said : (s : State) (x : Client) (p : Publish) → let j = carried_judged s p x in publish_ask s x p ≡ note.Publish (who.Client x.id) j.name j.outcome
+publish_said s x p = published_by s x p (may_ask s.policy x)
+
+publish_replied : (clock : ℕ) (from : Address) (p : Publish) (x : Client) (name : Option (List ℕ)) (o : Outcome)
+    → publish_reply x.address p o ≡ replied (ByPublish from p) (heard_at clock x) name o
+publish_replied clock from p x name Allowed = refl
+publish_replied clock from p x name (Denied rule) = refl
+
+publish_part : (s : State) (from : Address) (p : Publish) (x : Client) → is_here x from ≡ true → carried_outs s p x ≡ part_for s (ByPublish from p) x
+publish_part s from p x here =
+    let a = around s (ByPublish from p) in
+    let y = heard_at s.clock x in
+    let j = carried_judged s p x in
+    rw here (ap (λ outs. Note (note.Publish (who.Client x.id) j.name j.outcome) ∷ outs) (publish_replied s.clock from p x j.name j.outcome ∙ sym (append-nil (replied (ByPublish from p) y j.name j.outcome)))
+    ∙ ap (λ said. Note said ∷ (frames_of a y said ++ [])) (sym (publish_said s x p)))
+
+publish_moves : (s : State) (from : Address) (p : Publish) (x : Client) → is_here x from ≡ true → heard_at s.clock x ≡ client_next s (ByPublish from p) x
+publish_moves s from p x here =
+    let a = around s (ByPublish from p) in
+    rw here (ap (λ said. note_by a said (heard_at s.clock x)) (sym (publish_said s x p)))
+
+items_asked : (id : List ℕ) (p : Publish) (name : Option (List ℕ)) (o : Outcome) → items_of (publication_by id p name o) ≡ item_asked (who.Client id) name o p
+items_asked id p (Some name) Allowed = refl
+items_asked id p (Some name) (Denied rule) = refl
+items_asked id p None Allowed = refl
+items_asked id p None (Denied rule) = refl
+
+-- what waits is joined by the publish of the client that is there
+publish_items : (s : State) (from : Address) (p : Publish) (i : ℕ) (x : Client) → Good s → slice_get s.clients i ≡ Some x → is_here x from ≡ true → published s from p ≡ carried_items s p x
+publish_items s from p i x good read here =
+    let c = ByPublish from p in
+    let j = carried_judged s p x in
+    one_outs from (λ y. asked_by_all p (fixed_for s c y)) s.clients i x (λ y off. rw off refl) good.places read here
+    ∙ (rw here (append-nil (asked_by (publish_ask s x p) p)) ∙ (ap (λ said. asked_by said p) (publish_said s x p) ∙ sym (items_asked x.id p j.name j.outcome)))
+
+-- nobody adds anything
+publish_nothing : (s : State) (from : Address) (p : Publish) → place_at from s.clients ≡ None → published s from p ≡ []
+publish_nothing s from p at = no_outs from (λ y. asked_by_all p (fixed_for s (ByPublish from p) y)) s.clients (λ y off. rw off refl) (nobody_here from s.clients at)
+
+abbrev carried_to : State → List Item → List Client → State
+carried_to s items xs = record (joined s items) { clients = xs }
+
+carried_found : (s : State) (from : Address) (p : Publish) (place : Option ℕ) → Good s → place_at from s.clients ≡ place
+    → Makes s (ByPublish from p) (found_outs (ByPublish from p) (carried_outs s p) (at_place s.clients place)) (carried s p place)
+carried_found s from p None good at =
+    subst (Makes s (ByPublish from p) (stranger_outs (ByPublish from p)))
+    (ap (λ items. carried_to s items s.clients) (publish_nothing s from p at) ∙ ap (λ items. record s { link = record s.link { waiting = items } }) (append-nil s.link.waiting))
+    (stranger_row s (ByPublish from p) from (joined s (published s from p)) good (publish_message s from p) at)
+carried_found s from p (Some i) good at =
+    let x = client_at s.clients i in
+    let read : slice_get s.clients i ≡ Some x = read_at s.clients i (within from s.clients i at) in
+    let here = found_here from s.clients i x at read in
+    subst (Makes s (ByPublish from p) (carried_outs s p x))
+    (ap (λ items. carried_to s items (moved_at i (heard_at s.clock) s.clients)) (publish_items s from p i x good read here))
+    (found_row s (ByPublish from p) from (joined s (published s from p)) i x (carried_outs s p x) (heard_at s.clock) good (publish_message s from p) at read
+    (publish_part s from p x) (publish_moves s from p x))
 
 pub publish_row : (s : State) (from : Address) (p : Publish) → Good s
-    → Makes s (ByPublish from p) (found_outs (ByPublish from p) (unsupported_outs (frame.Publish p)) (at_place s.clients (place_at from s.clients))) (record s { clients = moved_if (place_at from s.clients) (heard_at s.clock) s.clients })
-publish_row s from p good =
-    message_row s (ByPublish from p) from (unsupported_outs (frame.Publish p)) (heard_at s.clock) (place_at from s.clients) good (publish_message s from p) refl
-    (λ x here. rw here (ap (λ more. Note (note.Publish (who.Client x.id) None (Denied NotSupported)) ∷ more) (sym (append-nil (refused x.address (frame.Publish p) NotSupported))))) (λ x here. rw here refl)
+    → Makes s (ByPublish from p) (found_outs (ByPublish from p) (carried_outs s p) (at_place s.clients (place_at from s.clients))) (carried s p (place_at from s.clients))
+publish_row s from p good = carried_found s from p (place_at from s.clients) good refl
+
+-- ---- a message that is not taken
 
 denied_frames : (s : State) (from : Address) (all : SnFrame) (x : Client) (message : SnFrame)
     → frames_of (around s (ByUnsupported from all)) x (denied_note message (who.Client x.id) NotSupported) ≡ refused x.address all NotSupported
@@ -246,43 +368,38 @@ source_row s from p good =
     makes s (BySource from p) (Note (source_ask s from.ip p) ∷ []) (record s { link = record s.link { waiting = s.link.waiting ++ asked_by (source_ask s from.ip p) p } }) good refl
     (ap (with_all s (s.link.waiting ++ asked_by (source_ask s from.ip p) p)) (sym (idle_clients s (BySource from p) (record { none = refl; same = λ x. refl }))))
 
-pub packet_row : (s : State) (p : Packet) → Good s → Makes s (ByPacket p) (Note (note.Frame who.Broker (Denied NotSupported)) ∷ []) s
+pub packet_row : (s : State) (p : Packet) → Good s → Makes s (ByPacket p) (answer_outs s.up s.link (answer_of p)) (answered_next s (answer_of p))
 packet_row s p good =
-    makes s (ByPacket p) (Note (note.Frame who.Broker (Denied NotSupported)) ∷ []) s good refl (ap (with_clients s) (sym (idle_clients s (ByPacket p) (record { none = refl; same = λ x. refl }))))
+    makes s (ByPacket p) (answer_outs s.up s.link (answer_of p)) (answered_next s (answer_of p)) good refl
+    (ap (with_clients (answered_next s (answer_of p))) (sym (idle_clients s (ByPacket p) (record { none = refl; same = λ x. refl }))))
 
-pub up_row : (s : State) → Good s → Makes s ByUp [] (record s { up = true; link = record s.link { waiting = if s.up then publishes s.link.waiting else s.link.waiting; pinged = s.clock } })
+pub up_row : (s : State) → Good s → Makes s ByUp (resending s.link.in_flight (agains_of s.policy s.link.in_flight)) (begun_next s)
 up_row s good =
-    makes s ByUp [] (record s { up = true; link = record s.link { waiting = if s.up then publishes s.link.waiting else s.link.waiting; pinged = s.clock } }) good refl
-    (ap (with_clients (record s { up = true; link = record s.link { waiting = if s.up then publishes s.link.waiting else s.link.waiting; pinged = s.clock } })) (sym (idle_clients s ByUp (record { none = refl; same = λ x. refl }))))
+    makes s ByUp (resending s.link.in_flight (agains_of s.policy s.link.in_flight)) (begun_next s) good refl
+    (ap (with_clients (begun_next s)) (sym (idle_clients s ByUp (record { none = refl; same = λ x. refl }))))
 
 pub down_row : (s : State) → Good s → Makes s ByDown [] (record s { up = false; link = record s.link { waiting = publishes s.link.waiting } })
 down_row s good =
     makes s ByDown [] (record s { up = false; link = record s.link { waiting = publishes s.link.waiting } }) good refl
     (ap (with_clients (record s { up = false; link = record s.link { waiting = publishes s.link.waiting } })) (sym (idle_clients s ByDown (record { none = refl; same = λ x. refl }))))
 
-abbrev pub taken_outs : State → List Out
-taken_outs s = if s.up then flat_map (leaves s.policy) s.link.waiting else []
+take_outs : (s : State) (up : Bool) → s.up ≡ up → taken_outs s ≡ outs_by s ByTake
+take_outs s true is = rw is refl
+take_outs s false is = rw is refl
 
-abbrev pub taken_next : State → State
-taken_next s = record s { link = record s.link { waiting = if s.up then [] else s.link.waiting } }
-
-take_outs : (s : State) (up : Bool) → s.up ≡ up → Good s → taken_outs s ≡ outs_by s ByTake
-take_outs s true is good = rw is (sym (leaving_plain s.policy s.link s.link.waiting good.plain))
-take_outs s false is good = rw is refl
+take_link : (s : State) (up : Bool) → s.up ≡ up → (taken_next s).link ≡ record (link_moved s ByTake (exits_for s ByTake)) { waiting = waiting_next s ByTake }
+take_link s true is = rw is refl
+take_link s false is = rw is refl
 
 abbrev with_link : State → Link → State
-with_link s link = record s { link = record link { waiting = if s.up then [] else s.link.waiting } }
-
-take_link : (s : State) (up : Bool) → s.up ≡ up → Good s → link_moved s ByTake (exits_for s ByTake) ≡ s.link
-take_link s true is good = rw is (plain_after s.link s.link.waiting (exits_of s.policy s.link.waiting) good.plain)
-take_link s false is good = rw is refl
+with_link s link = record s { link = link }
 
 pub take_row : (s : State) → Good s → Makes s ByTake (taken_outs s) (taken_next s)
 take_row s good =
     makes s ByTake (taken_outs s) (taken_next s) good
-    (take_outs s s.up refl good)
+    (take_outs s s.up refl)
     (ap (with_clients (taken_next s)) (sym (idle_clients s ByTake (record { none = refl; same = λ x. refl })))
-    ∙ ap (λ link. with_clients (with_link s link) (map (client_next s ByTake) (s.clients ++ []))) (sym (take_link s s.up refl good)))
+    ∙ ap (λ link. with_link (with_clients s (map (client_next s ByTake) (s.clients ++ []))) link) (take_link s s.up refl))
 
 pub replace_row : (s : State) (policy : Policy) → Good s → Makes s (ByReplace policy) [] (record s { policy = policy })
 replace_row s policy good =

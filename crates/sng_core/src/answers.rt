@@ -12,7 +12,8 @@ use sng_frames::{
 use sng_text::Octets;
 use std::alloc::{AllocError, Global};
 
-/// The note of a message that is denied before a name was read: of an ask under its own kind, of any other as a frame.
+/// The note of a message that is denied before a name was read: of an ask under its own kind, of any other as
+/// a frame.
 pub fn denied_note(message: &SnFrame, who: Who, rule: Denial) -> Decision
     ensures { result ≡ denied_note message.now who rule }
 {

@@ -1,14 +1,14 @@
 //! One datagram: as the message that it holds it is brought to who takes it (MQTT-SN 1.2, 5).
 ghost use Rattle.std.specs.Prelude.{◌≡◌, IfOk, OnOk, OnErr};
 ghost use Rattle.sng_frames.specs.Reading.{frame_of};
-ghost use Rattle.sng_history.specs.Causes.{ByConnect, ByPing, ByLeave, BySource, ByPublish, ByUnsupported, ByBroken, datagram_cause, frame_cause, publish_cause, disconnect_cause};
+ghost use Rattle.sng_history.specs.Causes.{ByConnect, ByPing, ByLeave, BySource, ByRegister, ByPublish, ByUnsupported, ByBroken, datagram_cause, frame_cause, publish_cause, disconnect_cause};
 ghost use Rattle.sng_history.specs.Good.{Good};
 ghost use Rattle.sng_history.specs.Steps.{outs_by, next_by};
 
 use crate::parts::Parts;
-use crate::{entry, messages};
+use crate::{entry, messages, register};
 use sng_book::{Address, Denial, Outs};
-use sng_frames::{Connect, FrameFault, FrameQos, Publish, SnFrame, decode};
+use sng_frames::{Connect, FrameFault, FrameQos, Publish, Register, SnFrame, decode};
 use sng_text::ClientId;
 use std::alloc::{AllocError, Global};
 
@@ -21,8 +21,10 @@ impl Parts {
         datagram: &[u8],
     ) -> Result<Outs, AllocError>
         requires { Good self.old }
-        ensures outs { IfOk result (λ outs. outs ≡ outs_by self.old (datagram_cause from (frame_of datagram.now))) }
-        ensures next { OnOk result (self.new ≡ next_by self.old (datagram_cause from (frame_of datagram.now))) }
+        ensures outs { IfOk result (λ outs. outs
+            ≡ outs_by self.old (datagram_cause from (frame_of datagram.now))) }
+        ensures next { OnOk result (self.new
+            ≡ next_by self.old (datagram_cause from (frame_of datagram.now))) }
         ensures err { OnErr result (self.new ≡ self.old) }
     {
         match decode(alloc, datagram) {
@@ -60,11 +62,7 @@ impl Parts {
                 from,
                 SnFrame::WillMessage(message),
             ),
-            SnFrame::Register(register) => self.unsupported(
-                alloc,
-                from,
-                SnFrame::Register(register),
-            ),
+            SnFrame::Register(register) => self.register(alloc, from, register),
             SnFrame::RegisterAck(answer) => self.unsupported(
                 alloc,
                 from,
@@ -151,6 +149,23 @@ impl Parts {
         Ok(outs)
     }
 
+    /// A REGISTER.
+    fn register(
+        &mut self,
+        alloc: Global,
+        from: Address,
+        register: Register,
+    ) -> Result<Outs, AllocError>
+        requires { Good self.old }
+        ensures outs { IfOk result (λ outs. outs ≡ outs_by self.old (ByRegister from register)) }
+        ensures next { OnOk result (self.new ≡ next_by self.old (ByRegister from register)) }
+        ensures err { OnErr result (self.new ≡ self.old) }
+    {
+        let sessions = &mut self.sessions;
+        let outs = register::register(alloc, &self.policy, self.clock, from, register, sessions)?;
+        Ok(outs)
+    }
+
     /// A PUBLISH, by its QoS.
     fn publish(
         &mut self,
@@ -159,8 +174,10 @@ impl Parts {
         publish: Publish,
     ) -> Result<Outs, AllocError>
         requires { Good self.old }
-        ensures outs { IfOk result (λ outs. outs ≡ outs_by self.old (publish_cause from publish publish.flags.qos)) }
-        ensures next { OnOk result (self.new ≡ next_by self.old (publish_cause from publish publish.flags.qos)) }
+        ensures outs { IfOk result (λ outs. outs
+            ≡ outs_by self.old (publish_cause from publish publish.flags.qos)) }
+        ensures next { OnOk result (self.new
+            ≡ next_by self.old (publish_cause from publish publish.flags.qos)) }
         ensures err { OnErr result (self.new ≡ self.old) }
     {
         match publish.flags.qos {
@@ -189,7 +206,7 @@ impl Parts {
         ensures next { OnOk result (self.new ≡ next_by self.old (ByPublish from publish)) }
         ensures err { OnErr result (self.new ≡ self.old) }
     {
-        let outs = messages::publish(alloc, self.clock, from, &publish, &mut self.sessions)?;
+        let outs = self.carry_from(alloc, from, publish)?;
         Ok(outs)
     }
 

@@ -1,15 +1,15 @@
-//! A CONNECT (MQTT-SN 1.2, 5.4.4, 6.2 and 6.14): what it lets out is planned first, and the last call that can fail comes before the
-//! first change.
+//! A CONNECT (MQTT-SN 1.2, 5.4.4, 6.2 and 6.14): what it lets out is planned first, and the last call that
+//! can fail comes before the first change.
 ghost use Rattle.std.specs.Prelude.{◌≡◌, ◌++◌, IfOk, OnOk, OnErr};
 ghost use Rattle.sng_history.specs.Verdicts.{entry_by};
 ghost use Rattle.sng_core.specs.Forms.{place_at, place_of, at_place, moved_if, heard_at, entered, moved_outs, put_out, accepted_outs, refused_outs, connect_outs, connect_next};
 
 use crate::answers::{code_of, connack, dismissed};
-use crate::sessions::Sessions;
 use crate::verdict::entry;
 use sng_book::{Address, Decision, Denial, Out, Outcome, Outs};
 use sng_frames::{Connect, ReturnCode};
 use sng_grants::Policy;
+use sng_sessions::Sessions;
 use sng_text::ClientId;
 use std::alloc::{AllocError, Global};
 
@@ -22,8 +22,10 @@ pub fn connect(
     connect: Connect,
     sessions: &mut Sessions,
 ) -> Result<Outs, AllocError>
-    ensures outs { IfOk result (λ outs. outs ≡ connect_outs from connect.client_id sessions.old (entry_by policy.now sessions.old connect)) }
-    ensures next { OnOk result (sessions.new ≡ connect_next clock from connect sessions.old (entry_by policy.now sessions.old connect)) }
+    ensures outs { IfOk result (λ outs. outs
+        ≡ connect_outs from connect.client_id sessions.old (entry_by policy.now sessions.old connect)) }
+    ensures next { OnOk result (sessions.new
+        ≡ connect_next clock from connect sessions.old (entry_by policy.now sessions.old connect)) }
     ensures err { OnErr result (sessions.new ≡ sessions.old) }
 {
     match entry(policy, sessions, &connect)? {
@@ -45,7 +47,7 @@ fn accept(
     ensures err { OnErr result (sessions.new ≡ sessions.old) }
 {
     let outs = accepted_outs(alloc, from, &connect.client_id, sessions)?;
-    sessions.enter(from, connect, clock)?;
+    sessions.enter(alloc, from, connect, clock)?;
     Ok(outs)
 }
 
@@ -73,7 +75,8 @@ fn moved_outs(
     sessions: &Sessions,
     outs: &mut Outs,
 ) -> Result<(), AllocError>
-    ensures { OnOk result (outs.new ≡ outs.old ++ moved_outs from (at_place sessions.now (place_of id.now sessions.now))) }
+    ensures { OnOk result (outs.new ≡ outs.old
+        ++ moved_outs from (at_place sessions.now (place_of id.now sessions.now))) }
 {
     if let Some(place) = sessions.find(id) {
         let before = sessions.address(place);
@@ -91,7 +94,8 @@ fn put_out(
     sessions: &Sessions,
     outs: &mut Outs,
 ) -> Result<(), AllocError>
-    ensures { OnOk result (outs.new ≡ outs.old ++ put_out id.now (at_place sessions.now (place_at from sessions.now))) }
+    ensures { OnOk result (outs.new ≡ outs.old
+        ++ put_out id.now (at_place sessions.now (place_at from sessions.now))) }
 {
     if let Some(place) = sessions.at(from) {
         let other = sessions.id(place);
@@ -112,7 +116,8 @@ fn refuse(
     sessions: &mut Sessions,
 ) -> Result<Outs, AllocError>
     ensures outs { IfOk result (λ outs. outs ≡ refused_outs from id.now rule) }
-    ensures next { OnOk result (sessions.new ≡ moved_if (place_at from sessions.old) (heard_at clock) sessions.old) }
+    ensures next { OnOk result (sessions.new
+        ≡ moved_if (place_at from sessions.old) (heard_at clock) sessions.old) }
     ensures err { OnErr result (sessions.new ≡ sessions.old) }
 {
     let mut outs = Outs::with_capacity(alloc, 2)?;

@@ -1,19 +1,18 @@
-//! The core of the gateway: a pure step machine. One event in, all that it lets out; the state after it stays in the core. A step
-//! plans with all its allocations first, and its commit cannot fail, so a step whose allocation failed changes nothing.
+//! The core of the gateway: a pure step machine. One event in, all that it lets out; the state after it stays
+//! in the core. A step plans with all its allocations first, and its commit cannot fail, so a step whose
+//! allocation failed changes nothing.
 #![tactic(auto)]
 
 mod answers;
 mod datagram;
 mod entry;
-mod exit;
-mod forwarding;
 pub mod history;
 pub mod machine;
 mod messages;
+mod packets;
 mod parts;
-mod places;
-pub mod session;
-pub mod sessions;
+mod publish;
+mod register;
 mod source;
 mod verdict;
 

@@ -27,7 +27,8 @@ impl Model for Core {
 }
 
 impl Core {
-    /// The state before any event: nothing is granted, the broker's connection is down, nothing waits, and no client was accepted.
+    /// The state before any event: nothing is granted, the broker's connection is down, nothing waits, and no
+    /// client was accepted.
     pub fn new(alloc: Global) -> Result<Core, AllocError>
         ensures { IfOk result (λ core. Leads opening [] core) }
     {
@@ -36,8 +37,9 @@ impl Core {
         })
     }
 
-    /// One step. After any lawful history that leads to the state before, the row of this event and these outs may come, and
-    /// leads to the state after. An `Err` is a failed allocation; nothing changed, and there is no row.
+    /// One step. After any lawful history that leads to the state before, the row of this event and these
+    /// outs may come, and leads to the state after. An `Err` is a failed allocation; nothing changed, and
+    /// there is no row.
     pub fn step(&mut self, alloc: Global, event: Event) -> Result<Outs, AllocError>
         ensures kept { IfOk result (λ outs. Keeps self.old event outs self.new) }
         ensures err { OnErr result (self.new ≡ self.old) }

@@ -1,19 +1,18 @@
-//! Messages of one client, which is found by the address (MQTT-SN 1.2, 6.11 and 6.14): what is let out is planned first, and what
-//! changes cannot fail.
-ghost use Rattle.std.specs.Prelude.{◌≡◌, ◌<◌, ◌∷◌, [], length, None, IfOk, OnOk, OnErr};
+//! Messages of one client, which is found by the address (MQTT-SN 1.2, 6.11 and 6.14): what is let out is
+//! planned first, and what changes cannot fail.
+ghost use Rattle.std.specs.Prelude.{◌≡◌, ◌<◌, ◌∷◌, [], length, IfOk, OnOk, OnErr};
 ghost use Rattle.sng_history.specs.Answers.{dismissed};
-ghost use Rattle.sng_frames.specs.declared.frame.SnFrame.TheVariants as frame;
-ghost use Rattle.sng_history.specs.Causes.{ByPing, ByLeave, ByPublish, ByUnsupported, ByBroken};
-ghost use Rattle.sng_history.specs.Verdicts.{is_active, names_other};
+ghost use Rattle.sng_history.specs.Causes.{ByPing, ByLeave, ByUnsupported, ByBroken};
+ghost use Rattle.sng_history.specs.Verdicts.{names_other};
 ghost use Rattle.sng_history.specs.Whole.{stranger_outs};
 ghost use Rattle.sng_core.specs.Forms.{place_at, client_at, at_place, moved_if, heard_at, left_at, found_outs, left_outs, pinged, unsupported_outs, broken_outs};
 
-use crate::answers::{code_of, denied_note, dismissed, only, pong, refused};
-use crate::sessions::Sessions;
+use crate::answers::{denied_note, dismissed, only, pong, refused};
+use crate::verdict::is_active;
 use sng_book::{Address, Decision, Denial, Out, Outcome, Outs, Who};
-use sng_frames::{Publish, SnFrame, TopicAck, write_publish_ack};
-use sng_states::ClientState;
-use sng_text::{ClientId, Octets};
+use sng_frames::SnFrame;
+use sng_sessions::Sessions;
+use sng_text::ClientId;
 use std::alloc::{AllocError, Global};
 
 /// A DISCONNECT without Duration: the client leaves.
@@ -23,12 +22,14 @@ pub fn leave(
     from: Address,
     sessions: &mut Sessions,
 ) -> Result<Outs, AllocError>
-    ensures outs { IfOk result (λ outs. outs ≡ found_outs (ByLeave from) left_outs (at_place sessions.old (place_at from sessions.old))) }
-    ensures next { OnOk result (sessions.new ≡ moved_if (place_at from sessions.old) (left_at clock) sessions.old) }
+    ensures outs { IfOk result (λ outs. outs
+        ≡ found_outs (ByLeave from) left_outs (at_place sessions.old (place_at from sessions.old))) }
+    ensures next { OnOk result (sessions.new
+        ≡ moved_if (place_at from sessions.old) (left_at clock) sessions.old) }
     ensures err { OnErr result (sessions.new ≡ sessions.old) }
 {
     let Some(place) = sessions.at(from) else {
-        let outs = no_session(alloc, from)?;
+        let outs = no_session_frame(alloc, from)?;
         return Ok(outs);
     };
     let outs = left_outs(alloc, sessions, place)?;
@@ -54,12 +55,15 @@ pub fn ping(
     client: Option<ClientId>,
     sessions: &mut Sessions,
 ) -> Result<Outs, AllocError>
-    ensures outs { IfOk result (λ outs. outs ≡ found_outs (ByPing from client) (pinged from client) (at_place sessions.old (place_at from sessions.old))) }
-    ensures next { OnOk result (sessions.new ≡ moved_if (place_at from sessions.old) (heard_at clock) sessions.old) }
+    ensures outs { IfOk result (λ outs. outs
+        ≡ found_outs (ByPing from client) (pinged from client)
+        (at_place sessions.old (place_at from sessions.old))) }
+    ensures next { OnOk result (sessions.new
+        ≡ moved_if (place_at from sessions.old) (heard_at clock) sessions.old) }
     ensures err { OnErr result (sessions.new ≡ sessions.old) }
 {
     let Some(place) = sessions.at(from) else {
-        let outs = no_session(alloc, from)?;
+        let outs = no_session_frame(alloc, from)?;
         return Ok(outs);
     };
     let outs = pinged(alloc, from, &client, sessions, place)?;
@@ -99,19 +103,6 @@ fn names_other(client: &Option<ClientId>, own: &ClientId) -> bool
     }
 }
 
-fn is_active(phase: ClientState) -> bool
-    ensures { result ≡ is_active phase }
-{
-    match phase {
-        ClientState::Active => true,
-        ClientState::Dialogue => false,
-        ClientState::Asleep => false,
-        ClientState::Awake => false,
-        ClientState::Disconnected => false,
-        ClientState::Lost => false,
-    }
-}
-
 /// The note of a client's message that asks for nothing and is denied.
 fn denied_frame(
     alloc: Global,
@@ -129,50 +120,6 @@ fn denied_frame(
     )
 }
 
-/// A PUBLISH of a session, which is not taken yet.
-pub fn publish(
-    alloc: Global,
-    clock: u64,
-    from: Address,
-    publish: &Publish,
-    sessions: &mut Sessions,
-) -> Result<Outs, AllocError>
-    ensures outs { IfOk result (λ outs. outs ≡ found_outs (ByPublish from publish.now) (unsupported_outs (frame.Publish publish.now)) (at_place sessions.old (place_at from sessions.old))) }
-    ensures next { OnOk result (sessions.new ≡ moved_if (place_at from sessions.old) (heard_at clock) sessions.old) }
-    ensures err { OnErr result (sessions.new ≡ sessions.old) }
-{
-    let Some(place) = sessions.at(from) else {
-        let outs = no_session_publish(alloc, from)?;
-        return Ok(outs);
-    };
-    let outs = publish_outs(alloc, publish, sessions, place)?;
-    sessions.hear(place, clock);
-    Ok(outs)
-}
-
-fn publish_outs(
-    alloc: Global,
-    publish: &Publish,
-    sessions: &Sessions,
-    place: usize,
-) -> Result<Outs, AllocError>
-    requires { place < length sessions.now }
-    ensures { IfOk result (λ outs. outs ≡ unsupported_outs (frame.Publish publish.now) (client_at sessions.now place)) }
-{
-    let who = Who::Client(sessions.id(place).copy()?);
-    let denied = Outcome::Denied(Denial::NotSupported);
-    let mut outs = Outs::with_capacity(alloc, 2)?;
-    outs.push(Out::Note(Decision::Publish(who, None, denied)))?;
-    let ack = TopicAck {
-        topic_id: publish.topic_id,
-        msg_id: publish.msg_id,
-        code: code_of(&Denial::NotSupported),
-    };
-    let datagram = write_publish_ack(alloc, ack)?;
-    outs.push(Out::Send(sessions.address(place), Octets::from(datagram)))?;
-    Ok(outs)
-}
-
 /// A message of a type or form that is not taken.
 pub fn unsupported(
     alloc: Global,
@@ -181,8 +128,11 @@ pub fn unsupported(
     message: &SnFrame,
     sessions: &mut Sessions,
 ) -> Result<Outs, AllocError>
-    ensures outs { IfOk result (λ outs. outs ≡ found_outs (ByUnsupported from message.now) (unsupported_outs message.now) (at_place sessions.old (place_at from sessions.old))) }
-    ensures next { OnOk result (sessions.new ≡ moved_if (place_at from sessions.old) (heard_at clock) sessions.old) }
+    ensures outs { IfOk result (λ outs. outs
+        ≡ found_outs (ByUnsupported from message.now) (unsupported_outs message.now)
+        (at_place sessions.old (place_at from sessions.old))) }
+    ensures next { OnOk result (sessions.new
+        ≡ moved_if (place_at from sessions.old) (heard_at clock) sessions.old) }
     ensures err { OnErr result (sessions.new ≡ sessions.old) }
 {
     let Some(place) = sessions.at(from) else {
@@ -224,7 +174,9 @@ pub fn broken(
     rule: Denial,
     sessions: &Sessions,
 ) -> Result<Outs, AllocError>
-    ensures { IfOk result (λ outs. outs ≡ found_outs (ByBroken from rule) (broken_outs rule) (at_place sessions.now (place_at from sessions.now))) }
+    ensures { IfOk result (λ outs. outs
+        ≡ found_outs (ByBroken from rule) (broken_outs rule)
+        (at_place sessions.now (place_at from sessions.now))) }
 {
     let Some(place) = sessions.at(from) else {
         let note = Decision::Frame(Who::Address(from), Outcome::Denied(rule));
@@ -233,25 +185,21 @@ pub fn broken(
     denied_frame(alloc, sessions, place, rule)
 }
 
-/// A message that needs a session comes from an address that has none: it is noted, and answered by DISCONNECT.
-fn no_session(alloc: Global, from: Address) -> Result<Outs, AllocError>
-    ensures { IfOk result (λ outs. outs ≡ stranger_outs (ByLeave from)) }
+/// A message that needs a session comes from an address that has none: it is noted, and answered by
+/// DISCONNECT.
+pub fn no_session(alloc: Global, from: Address, note: Decision) -> Result<Outs, AllocError>
+    ensures { IfOk result (λ outs. outs ≡ Out.Note note ∷ dismissed from ∷ []) }
 {
-    let note = Decision::Frame(Who::Address(from), Outcome::Denied(Denial::NoSession));
     let mut outs = Outs::with_capacity(alloc, 2)?;
     outs.push(Out::Note(note))?;
     outs.push(dismissed(alloc, from)?)?;
     Ok(outs)
 }
 
-/// The same for a PUBLISH.
-fn no_session_publish(alloc: Global, from: Address) -> Result<Outs, AllocError>
-    ensures { IfOk result (λ outs. outs ≡
-        Out.Note (Decision.Publish (Who.Address from) None (Outcome.Denied Denial.NoSession)) ∷ dismissed from ∷ []) }
+/// The same of a message that asks for nothing.
+fn no_session_frame(alloc: Global, from: Address) -> Result<Outs, AllocError>
+    ensures { IfOk result (λ outs. outs ≡ stranger_outs (ByLeave from)) }
 {
-    let note = Decision::Publish(Who::Address(from), None, Outcome::Denied(Denial::NoSession));
-    let mut outs = Outs::with_capacity(alloc, 2)?;
-    outs.push(Out::Note(note))?;
-    outs.push(dismissed(alloc, from)?)?;
-    Ok(outs)
+    let denied = Outcome::Denied(Denial::NoSession);
+    no_session(alloc, from, Decision::Frame(Who::Address(from), denied))
 }

@@ -1,20 +1,16 @@
 //! The parts of the gateway's state, and one step of them.
-ghost use Rattle.std.specs.Prelude.{◌≡◌, [], true, false, if◌then◌else◌, IfOk, OnOk, OnErr};
+ghost use Rattle.std.specs.Prelude.{◌≡◌, false, IfOk, OnOk, OnErr};
 ghost use Rattle.sng_outbox.specs.Sending.{publishes};
-ghost use Rattle.std.specs.List.{flat_map};
-ghost use Rattle.sng_core.specs.Forms.{leaves};
-ghost use Rattle.sng_history.specs.Causes.{ByPacket};
+ghost use Rattle.sng_history.specs.Exits.{agains_of, resending};
 ghost use Rattle.sng_history.specs.State.{opening, later};
 ghost use Rattle.sng_history.specs.Good.{Good};
-ghost use Rattle.sng_history.specs.Steps.{outs_by, next_by, outs_of, next_of};
+ghost use Rattle.sng_history.specs.Steps.{outs_of, next_of};
+ghost use Rattle.sng_core.specs.Forms.{taken_outs, taken_next, begun_next};
 
-use crate::answers::only;
-use crate::forwarding::leaving;
-use crate::sessions::Sessions;
-use mqtt_frames::Packet;
-use sng_book::{Decision, Denial, Event, Out, Outcome, Outs, Who};
+use sng_book::{Event, Outs};
 use sng_grants::Policy;
-use sng_outbox::Outbox;
+use sng_link::Link;
+use sng_sessions::Sessions;
 use std::alloc::{AllocError, Global};
 use std::marker::Model;
 
@@ -24,23 +20,21 @@ pub struct Parts {
     pub policy: Policy,
     pub clock: u64,
     pub is_up: bool,
-    pub outbox: Outbox,
-    /// The clock, in ms, as the connection began.
-    pub pinged: u64,
+    pub link: Link,
     pub sessions: Sessions,
 }
 
 impl Model for Parts {
-    ghost use Rattle.std.specs.Prelude.{[]};
     ghost use Rattle.sng_history.specs.State.{State};
 
     ghost Value = { State };
 
-    ghost view = { λ p. record { policy = p.policy; clock = p.clock; up = p.is_up; link = record { waiting = p.outbox.waiting; in_flight = p.outbox.in_flight; last = 0; wanted = []; pinged = p.pinged }; clients = p.sessions } };
+    ghost view = { λ p. record { policy = p.policy; clock = p.clock; up = p.is_up; link = p.link; clients = p.sessions } };
 }
 
 impl Parts {
-    /// Before any event nothing is granted, the broker's connection is down, nothing waits, and no client was accepted.
+    /// Before any event nothing is granted, the broker's connection is down, nothing waits, and no client was
+    /// accepted.
     pub fn new(alloc: Global) -> Result<Parts, AllocError>
         ensures { IfOk result (λ parts. parts ≡ opening) }
     {
@@ -48,8 +42,7 @@ impl Parts {
             policy: Policy::new(alloc),
             clock: 0,
             is_up: false,
-            outbox: Outbox::new(alloc)?,
-            pinged: 0,
+            link: Link::new(alloc)?,
             sessions: Sessions::new(alloc),
         })
     }
@@ -64,10 +57,7 @@ impl Parts {
         match event {
             Event::Datagram(from, datagram) => self.datagram(alloc, from, datagram.as_slice()),
             Event::Broker(packet) => self.packet(alloc, packet),
-            Event::Up => {
-                self.begin_connection();
-                Ok(Outs::new(alloc))
-            }
+            Event::Up => self.begin_connection(alloc),
             Event::Down => {
                 self.end_connection();
                 Ok(Outs::new(alloc))
@@ -84,18 +74,6 @@ impl Parts {
         }
     }
 
-    /// A packet of the broker; none is taken yet.
-    fn packet(&mut self, alloc: Global, packet: Packet) -> Result<Outs, AllocError>
-        requires { Good self.old }
-        ensures outs { IfOk result (λ outs. outs ≡ outs_by self.old (ByPacket packet)) }
-        ensures next { OnOk result (self.new ≡ next_by self.old (ByPacket packet)) }
-        ensures err { OnErr result (self.new ≡ self.old) }
-    {
-        let denied = Outcome::Denied(Denial::NotSupported);
-        let outs = only(alloc, Out::Note(Decision::Frame(Who::Broker, denied)))?;
-        Ok(outs)
-    }
-
     /// The clock does not go back.
     fn set_clock(&mut self, clock: u64)
         ensures { self.new ≡ record self.old { clock = later self.old.clock clock } }
@@ -105,21 +83,21 @@ impl Parts {
         }
     }
 
-    /// The broker's connection is up. Where one was up, that one ended.
-    fn begin_connection(&mut self)
-        ensures { self.new ≡ record self.old {
-          up = true;
-          link = record self.old.link {
-            waiting = if self.old.up then publishes self.old.link.waiting else self.old.link.waiting;
-            pinged = self.old.clock;
-          };
-        } }
+    /// The broker's connection is up. Where one was up, that one ended; what is in flight is judged and sent
+    /// again.
+    fn begin_connection(&mut self, alloc: Global) -> Result<Outs, AllocError>
+        ensures outs { IfOk result (λ outs. outs
+            ≡ resending self.old.link.in_flight (agains_of self.old.policy self.old.link.in_flight)) }
+        ensures next { OnOk result (self.new ≡ begun_next self.old) }
+        ensures err { OnErr result (self.new ≡ self.old) }
     {
+        let outs = self.link.again(alloc, &self.policy)?;
         if self.is_up {
             self.end_connection();
         }
         self.is_up = true;
-        self.pinged = self.clock;
+        self.link.begin(self.clock);
+        Ok(outs)
     }
 
     /// The broker's connection is lost: of what waits the publishes stay.
@@ -127,25 +105,19 @@ impl Parts {
         ensures { self.new ≡ record self.old { up = false; link = record self.old.link { waiting = publishes self.old.link.waiting } } }
     {
         self.is_up = false;
-        self.outbox.keep_publishes();
+        self.link.keep_publishes();
     }
 
     /// What waits leaves, where there is a connection.
     fn take(&mut self, alloc: Global) -> Result<Outs, AllocError>
-        ensures outs { IfOk result (λ outs. outs ≡ (if self.old.up
-            then flat_map (leaves self.old.policy) self.old.link.waiting else [])) }
-        ensures next { OnOk result (self.new ≡ record self.old {
-          link = record self.old.link {
-            waiting = if self.old.up then [] else self.old.link.waiting;
-          };
-        }) }
+        ensures outs { IfOk result (λ outs. outs ≡ taken_outs self.old) }
+        ensures next { OnOk result (self.new ≡ taken_next self.old) }
         ensures err { OnErr result (self.new ≡ self.old) }
     {
         if !self.is_up {
             return Ok(Outs::new(alloc));
         }
-        let outs = leaving(alloc, &self.policy, &self.outbox)?;
-        self.outbox.clear();
+        let outs = self.link.take(alloc, &self.policy)?;
         Ok(outs)
     }
 }

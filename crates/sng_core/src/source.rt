@@ -1,4 +1,5 @@
-//! A PUBLISH without a session, of which only the sender's IPv4 address counts (MQTT-SN 1.2, 6.8). Nothing answers it.
+//! A PUBLISH without a session, of which only the sender's IPv4 address counts (MQTT-SN 1.2, 6.8). Nothing
+//! answers it.
 ghost use Rattle.std.specs.Prelude.{◌≡◌, ◌∷◌, [], IfOk, OnOk, OnErr, Ok, None};
 ghost use Rattle.sng_history.specs.State.{asked_by};
 ghost use Rattle.sng_history.specs.Verdicts.{source_ask, named_ask};
@@ -6,10 +7,10 @@ ghost use Rattle.sng_core.specs.Forms.{joined};
 
 use crate::answers::only;
 use crate::parts::Parts;
-use crate::verdict::name_in;
+use crate::verdict::source_name;
 use sng_book::{Decision, Denial, Out, Outcome, Outs, Who};
 use sng_frames::Publish;
-use sng_outbox::{Item, Origin, Publication};
+use sng_outbox::{Origin, Publication};
 use sng_policy::lists_source;
 use sng_text::{Qos, TopicName};
 use std::alloc::{AllocError, Global};
@@ -30,7 +31,7 @@ impl Parts {
         if !lists_source(&self.policy, source) {
             return publish_denied(alloc, Who::Source(source), Denial::UnknownSource);
         }
-        match name_in(alloc, &self.policy, publish.flags.id_type, publish.topic_id)? {
+        match source_name(alloc, &self.policy, publish.flags.id_type, publish.topic_id)? {
             Ok(name) => self.named_ask(alloc, source, name, publish),
             Err(rule) => publish_denied(alloc, Who::Source(source), rule),
         }
@@ -50,23 +51,20 @@ impl Parts {
         ensures err { OnErr result (self.new ≡ self.old) }
     {
         let origin = Origin::Source(source);
-        let verdict = self.verdict(&origin, &name)?;
+        let verdict = self.verdict(&origin, &name, Qos::AtMostOnce)?;
         let is_allowed = verdict.is_allowed();
         let asked = Decision::Publish(Who::Source(source), Some(name.copy()?), verdict);
         let outs = only(alloc, Out::Note(asked))?;
         if is_allowed {
             let retain = publish.flags.retain;
             let payload = publish.payload;
-            let item = Item::Publish(Publication {
+            self.link.push(Publication {
                 origin,
                 name,
                 payload,
                 qos: Qos::AtMostOnce,
                 retain,
             });
-            if self.outbox.push(item).is_err() {
-                unreachable!()
-            }
         }
         Ok(outs)
     }

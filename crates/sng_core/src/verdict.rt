@@ -1,23 +1,29 @@
 //! How an ask is judged as it comes: the first rule in the documented order that forbids it.
-ghost use Rattle.std.specs.Prelude.{◌≡◌, ◌<◌, length, nat_lt, None, IfOk, Ok, Err};
+ghost use Rattle.std.specs.Prelude.{◌≡◌, ◌<◌, length, nat_lt, Some, None, IfOk, Ok, Err, if◌then◌else◌};
+ghost use Rattle.sng_text.specs.Texts.{is_name};
+ghost use Rattle.sng_policy.specs.Grants.{topic};
+ghost use Rattle.sng_ids.specs.Ids.{name_of};
 ghost use Rattle.sng_history.specs.declared.limits.TheConstants.{MAX_CLIENTS};
 ghost use Rattle.sng_history.specs.State.{is_known};
-ghost use Rattle.sng_history.specs.Verdicts.{verdict, room, name_in, entry_by};
+ghost use Rattle.sng_history.specs.Verdicts.{verdict, room, and_then, name_in, octets_of, predefined_name, told_name, entry_by, may_ask, is_active};
+ghost use Rattle.sng_core.specs.Forms.{client_at, unread};
 
-use crate::exit::exit;
 use crate::parts::Parts;
-use crate::sessions::Sessions;
 use sng_book::{Denial, IdKind, Outcome, Place};
 use sng_frames::{Connect, TopicIdType};
 use sng_grants::Policy;
 use sng_history::MAX_CLIENTS;
+use sng_ids::IdTable;
+use sng_link::exit::exit;
 use sng_outbox::Origin;
 use sng_policy::{lists, topic};
-use sng_text::{ClientId, TextFault, TopicName};
+use sng_sessions::Sessions;
+use sng_states::ClientState;
+use sng_text::{ClientId, Qos, TextFault, TopicName};
 use std::alloc::{AllocError, Global};
 
-/// The verdict on a CONNECT (MQTT-SN 1.2, 5.4.4). One that asks for a will is not taken yet. An `Err` is a failed allocation, for a
-/// denial that shows the client.
+/// The verdict on a CONNECT (MQTT-SN 1.2, 5.4.4). One that asks for a will is not taken yet. An `Err` is a
+/// failed allocation, for a denial that shows the client.
 pub fn entry(policy: &Policy, sessions: &Sessions, connect: &Connect) -> Result<Outcome, AllocError>
     ensures { IfOk result (λ outcome. outcome ≡ entry_by policy.now sessions.now connect.now) }
 {
@@ -42,33 +48,104 @@ fn is_known(sessions: &Sessions, id: &ClientId) -> bool
     sessions.find(id).is_some()
 }
 
+/// How an ask of a client came out, and the name that was read, where one was.
+#[derive(Debug, Drop)]
+pub struct Judged {
+    pub name: Option<TopicName>,
+    pub outcome: Outcome,
+}
+
+/// An ask that is denied before a name was read.
+pub fn unread(rule: Denial) -> Judged
+    ensures { result ≡ unread rule }
+{
+    Judged {
+        name: None,
+        outcome: Outcome::Denied(rule),
+    }
+}
+
+/// An equal name, where there is one, in memory of its own.
+pub fn copy_name(name: &Option<TopicName>) -> Result<Option<TopicName>, AllocError>
+    ensures { IfOk result (λ copied. copied ≡ name.now) }
+{
+    match name {
+        Some(name) => Ok(Some(name.copy()?)),
+        None => Ok(None),
+    }
+}
+
+/// Whether the client at this place may ask at all: it has its turn, and the policy lists it. An `Err` is a
+/// failed allocation.
+pub fn may_ask(policy: &Policy, sessions: &Sessions, place: usize) -> Result<Outcome, AllocError>
+    requires { place < length sessions.now }
+    ensures { IfOk result (λ outcome. outcome ≡ may_ask policy.now (client_at sessions.now place)) }
+{
+    if !is_active(sessions.phase(place)) {
+        return Ok(Outcome::Denied(Denial::OutOfTurn));
+    }
+    let id = sessions.id(place);
+    if lists(policy, id) {
+        Ok(Outcome::Allowed)
+    } else {
+        Ok(Outcome::Denied(Denial::NoScope(id.copy()?)))
+    }
+}
+
+/// Whether a client is awake and connected.
+pub fn is_active(phase: ClientState) -> bool
+    ensures { result ≡ is_active phase }
+{
+    match phase {
+        ClientState::Active => true,
+        ClientState::Dialogue => false,
+        ClientState::Asleep => false,
+        ClientState::Awake => false,
+        ClientState::Disconnected => false,
+        ClientState::Lost => false,
+    }
+}
+
+/// The first of two rules that forbids.
+pub fn and_then(first: Outcome, next: Outcome) -> Outcome
+    ensures { result ≡ and_then first next }
+{
+    match first {
+        Outcome::Allowed => next,
+        Outcome::Denied(rule) => Outcome::Denied(rule),
+    }
+}
+
 impl Parts {
-    /// The verdict on a publish under the name. An `Err` is a failed allocation, for a denial that shows the name or the client.
-    pub(crate) fn verdict(&self, origin: &Origin, name: &TopicName) -> Result<Outcome, AllocError>
-        ensures { IfOk result (λ outcome. outcome ≡ verdict self.now origin.now name.now) }
+    /// The verdict on a publish under the name at this QoS. An `Err` is a failed allocation, for a denial
+    /// that shows the name or the client.
+    pub(crate) fn verdict(
+        &self,
+        origin: &Origin,
+        name: &TopicName,
+        qos: Qos,
+    ) -> Result<Outcome, AllocError>
+        ensures { IfOk result (λ outcome. outcome ≡ verdict self.now origin.now name.now qos) }
     {
-        match exit(&self.policy, origin, name)? {
-            Outcome::Allowed => Ok(self.room()),
-            Outcome::Denied(denial) => Ok(Outcome::Denied(denial)),
-        }
+        let judged = exit(&self.policy, origin, name)?;
+        Ok(and_then(judged, self.room(qos)))
     }
 
-    /// Whether there is a connection, and room for one more.
-    fn room(&self) -> Outcome
-        ensures { result ≡ room self.now }
+    /// Whether there is a connection, and room for one more publish at this QoS.
+    pub(crate) fn room(&self, qos: Qos) -> Outcome
+        ensures { result ≡ room self.now qos }
     {
-        if !self.is_up {
-            Outcome::Denied(Denial::UpstreamDown)
-        } else if self.outbox.is_full() {
-            Outcome::Denied(Denial::Full(Place::Outbox))
+        if self.is_up {
+            self.link.room(qos)
         } else {
-            Outcome::Allowed
+            Outcome::Denied(Denial::UpstreamDown)
         }
     }
 }
 
-/// The name that a topic id stands for in a PUBLISH without a session, or the rule that it breaks. The outer `Err` is a failed allocation.
-pub fn name_in(
+/// The name that a topic id stands for in a PUBLISH without a session, or the rule that it breaks. The outer
+/// `Err` is a failed allocation.
+pub fn source_name(
     alloc: Global,
     policy: &Policy,
     id_type: TopicIdType,
@@ -77,15 +154,59 @@ pub fn name_in(
     ensures { IfOk result (λ named. named ≡ name_in policy.now None id_type id) }
 {
     match id_type {
-        TopicIdType::Short => match TopicName::read(alloc, id.to_be_bytes().as_slice()) {
-            Ok(name) => Ok(Ok(name)),
-            Err(TextFault::Memory) => Err(AllocError),
-            Err(_) => Ok(Err(Denial::BadName)),
-        },
-        TopicIdType::Predefined => match topic(policy, id) {
-            Some(name) => Ok(Ok(name.copy()?)),
-            None => Ok(Err(Denial::UnknownId(IdKind::Predefined, id))),
-        },
+        TopicIdType::Short => short_name(alloc, id),
+        TopicIdType::Predefined => predefined_name(policy, id),
         TopicIdType::Normal | TopicIdType::Reserved => Ok(Err(Denial::IdType)),
+    }
+}
+
+/// The name that a topic id stands for in a PUBLISH of the client with these ids, or the rule that it breaks.
+/// The outer `Err` is a failed allocation.
+pub fn client_name(
+    alloc: Global,
+    policy: &Policy,
+    ids: &IdTable,
+    id_type: TopicIdType,
+    id: u16,
+) -> Result<Result<TopicName, Denial>, AllocError>
+    ensures { IfOk result (λ named. named ≡ name_in policy.now (Some ids.now.ids) id_type id) }
+{
+    match id_type {
+        TopicIdType::Short => short_name(alloc, id),
+        TopicIdType::Predefined => predefined_name(policy, id),
+        TopicIdType::Normal => normal_name(ids, id),
+        TopicIdType::Reserved => Ok(Err(Denial::IdType)),
+    }
+}
+
+/// A short name is the two octets of the id.
+fn short_name(alloc: Global, id: u16) -> Result<Result<TopicName, Denial>, AllocError>
+    ensures { IfOk result (λ named. named
+        ≡ (if is_name (octets_of id) then Ok (octets_of id) else Err Denial.BadName)) }
+{
+    match TopicName::read(alloc, id.to_be_bytes().as_slice()) {
+        Ok(name) => Ok(Ok(name)),
+        Err(TextFault::Memory) => Err(AllocError),
+        Err(_) => Ok(Err(Denial::BadName)),
+    }
+}
+
+/// A predefined id has the name that the policy gives it.
+fn predefined_name(policy: &Policy, id: u16) -> Result<Result<TopicName, Denial>, AllocError>
+    ensures { IfOk result (λ named. named ≡ predefined_name id (topic policy.now id)) }
+{
+    match topic(policy, id) {
+        Some(name) => Ok(Ok(name.copy()?)),
+        None => Ok(Err(Denial::UnknownId(IdKind::Predefined, id))),
+    }
+}
+
+/// A normal id has the name that the client was told with it.
+fn normal_name(ids: &IdTable, id: u16) -> Result<Result<TopicName, Denial>, AllocError>
+    ensures { IfOk result (λ named. named ≡ told_name id (name_of id ids.now.ids)) }
+{
+    match ids.name_of(id) {
+        Some(name) => Ok(Ok(name.copy()?)),
+        None => Ok(Err(Denial::UnknownId(IdKind::Normal, id))),
     }
 }

@@ -85,7 +85,8 @@ fn play_lines<R: BufRead, W: Write>(
     }
 }
 
-/// Plays line by line on a player that has not begun. It is lent, so that nothing of it is dropped at the ends here.
+/// Plays line by line on a player that has not begun. It is lent, so that nothing of it is dropped at the
+/// ends here.
 fn play_on<R: BufRead, W: Write>(
     player: &mut Player,
     alloc: Global,

@@ -9,14 +9,6 @@ use Rattle.sng_queue.specs.Buffers.{Buffer, nothing}
 use Rattle.sng_frames.specs.declared.messages.connect.Connect.{Connect}
 use Rattle.sng_frames.specs.declared.frame.SnFrame.{SnFrame}
 use Rattle.sng_frames.specs.declared.frame.SnFrame.TheVariants as frame
-use Rattle.std.specs.declared.result.Result.{Result}
-use Rattle.std.specs.Prelude.{Ok, Err}
-use Rattle.sng_policy.specs.Grants.{lists_source}
-use Rattle.sng_frames.specs.declared.messages.publish.Publish.{Publish}
-use Rattle.sng_outbox.specs.Sending.{publishes, load}
-use Rattle.sng_outbox.specs.declared.item.Item.{Item}
-use Rattle.sng_outbox.specs.declared.item.Item.TheVariants as item
-use Rattle.sng_outbox.specs.declared.origin.Origin.TheVariants as origin
 use Rattle.sng_book.specs.declared.address.Address.{Address}
 use Rattle.sng_book.specs.declared.decision.Decision.{Decision}
 use Rattle.sng_book.specs.declared.decision.Decision.TheVariants as note
@@ -28,18 +20,18 @@ use Rattle.sng_book.specs.declared.outcome.Outcome.{Outcome}
 use Rattle.sng_book.specs.declared.outcome.Outcome.TheVariants.{Allowed, Denied}
 use Rattle.sng_book.specs.Denials.{is_allowed}
 use Rattle.sng_history.specs.declared.limits.TheConstants.{MAX_CLIENTS}
-use Rattle.sng_history.specs.Causes.{Cause, ByConnect, ByPing, ByLeave, BySource, ByPublish, ByUnsupported, ByBroken, ByPacket, ByUp, ByDown, ByTake, ByReplace, ByTick}
+use Rattle.sng_history.specs.Causes.{Cause, ByConnect, ByPing, ByLeave, BySource, ByRegister, ByPublish, ByUnsupported, ByBroken, ByPacket, ByUp, ByDown, ByTake, ByReplace, ByTick}
 use Rattle.sng_history.specs.Clients.{Around, Client, blank, is_here, is_author, start_by, cleaned, let_in, entered_by, note_by, notes_by, client_by}
-use Rattle.sng_history.specs.State.{State, opening, around, is_known, item_for, asked_by, link_moved}
-use Rattle.sng_history.specs.Verdicts.{ping_verdict, verdict, named_ask, source_ask, name_in, entry, entry_form, entry_scope, entry_room, and_then}
+use Rattle.sng_history.specs.State.{State, opening, around, is_known}
+use Rattle.sng_history.specs.Verdicts.{ping_verdict, register_ask, publish_ask, entry, entry_form, client_scope, entry_room, and_then}
 use Rattle.sng_history.specs.Answers.{denied_note}
-use Rattle.sng_outbox.specs.declared.limits.TheConstants.{MAX_IN_FLIGHT}
-use Rattle.sng_history.specs.Lawful.{fixed_for, denial_of, exits_for}
-use Rattle.sng_history.specs.Steps.{waiting_next, entrants, newcomers_for, client_next, next_by}
+use Rattle.sng_history.specs.Lawful.{fixed_for, denial_of}
+use Rattle.sng_history.specs.Steps.{entrants, newcomers_for, client_next, next_by}
 use Rattle.sng_history.specs.Entering.{hearing}
-use Rattle.sng_history.specs.Good.{Each, Distinct, OnePlace, AtRest, AllPlain, Good}
+use Rattle.sng_history.specs.Good.{Each, Distinct, OnePlace, AtRest, Good}
 use Rattle.sng_history.proofs.Own.{each_all, each_map, each_append, each_mapped}
-use Rattle.sng_history.proofs.Plain.{plain_after, plain_load}
+use Rattle.sng_history.proofs.Asks.{of_register, of_publish}
+use Rattle.sng_history.proofs.Waiting.{plain_next, few_next}
 use Rattle.sng_history.proofs.Kept.{client_id, map_distinct, present_distinct}
 use Rattle.sng_history.proofs.Entries.{entered_next, heard_next}
 use Rattle.sng_history.proofs.Places.{Stays, places_stay, places_entered}
@@ -59,6 +51,7 @@ rest_entered clock (ByConnect from connect) x rest = rest_let_in clock from conn
 rest_entered clock (ByPing from client) x rest = rest
 rest_entered clock (ByLeave from) x rest = rest
 rest_entered clock (BySource from p) x rest = rest
+rest_entered clock (ByRegister from r) x rest = rest
 rest_entered clock (ByPublish from p) x rest = rest
 rest_entered clock (ByUnsupported from message) x rest = rest
 rest_entered clock (ByBroken from rule) x rest = rest
@@ -76,6 +69,7 @@ rest_if false x y one two = two
 note_rest : (a : Around) (said : Decision) (x : Client) → AtRest x → AtRest (note_by a said x)
 note_rest a (note.Connect id outcome) x rest = rest_if (is_allowed outcome) (entered_by a.clock a.cause x) x (rest_entered a.clock a.cause x rest) rest
 note_rest a (note.Left id) x rest = record { quiet = refl; dialogue = refl }
+note_rest a (note.Register whom name outcome) x rest = record { quiet = rest.quiet; dialogue = rest.dialogue }
 note_rest a _ x rest = rest
 
 notes_rest : (a : Around) (notes : List Decision) (x : Client) → AtRest x → AtRest (notes_by a notes x)
@@ -95,6 +89,7 @@ newcomers_rest s (ByConnect from connect) = blank_rest (is_allowed (entry s conn
 newcomers_rest s (ByPing from client) = tt
 newcomers_rest s (ByLeave from) = tt
 newcomers_rest s (BySource from p) = tt
+newcomers_rest s (ByRegister from r) = tt
 newcomers_rest s (ByPublish from p) = tt
 newcomers_rest s (ByUnsupported from message) = tt
 newcomers_rest s (ByBroken from rule) = tt
@@ -196,7 +191,12 @@ places_next s (ByConnect from connect) apart places = entry_places s from connec
 places_next s (ByPing from client) apart places = stay_all s (ByPing from client) refl (λ x. settled_if (around s (ByPing from client)) (is_here x from) (denial_of x.id (ping_verdict client x)) (settled_denial (around s (ByPing from client)) x.id (ping_verdict client x))) places
 places_next s (ByLeave from) apart places = stay_all s (ByLeave from) refl (λ x. settled_if (around s (ByLeave from)) (is_here x from) (note.Left x.id ∷ []) (left_settled (around s (ByLeave from)) x.id, tt)) places
 places_next s (BySource from p) apart places = stay_all s (BySource from p) refl (λ x. tt) places
-places_next s (ByPublish from p) apart places = stay_all s (ByPublish from p) refl (λ x. settled_if (around s (ByPublish from p)) (is_here x from) (denied_note (frame.Publish p) (who.Client x.id) NotSupported ∷ []) (settled_message (around s (ByPublish from p)) (frame.Publish p) x.id NotSupported, tt)) places
+places_next s (ByRegister from r) apart places =
+    let a = around s (ByRegister from r) in
+    stay_all s (ByRegister from r) refl (λ x. settled_if a (is_here x from) (register_ask s.policy x r.name ∷ []) (of_register (Settled a) s.policy x r.name (λ name o y at here. here), tt)) places
+places_next s (ByPublish from p) apart places =
+    let a = around s (ByPublish from p) in
+    stay_all s (ByPublish from p) refl (λ x. settled_if a (is_here x from) (publish_ask s x p ∷ []) (of_publish (Settled a) s x p (λ name o y at here. here), tt)) places
 places_next s (ByUnsupported from message) apart places = stay_all s (ByUnsupported from message) refl (λ x. settled_if (around s (ByUnsupported from message)) (is_here x from) (denied_note message (who.Client x.id) NotSupported ∷ []) (settled_message (around s (ByUnsupported from message)) message x.id NotSupported, tt)) places
 places_next s (ByBroken from rule) apart places = stay_all s (ByBroken from rule) refl (λ x. settled_if (around s (ByBroken from rule)) (is_here x from) (note.Frame (who.Client x.id) (Denied rule) ∷ []) (λ y at here. here, tt)) places
 places_next s (ByPacket p) apart places = stay_all s (ByPacket p) refl (λ x. tt) places
@@ -226,7 +226,7 @@ entry_most s connect (Denied rule) known is k most = rw (append-nil s.clients) m
 entry_most s connect Allowed true is k most = rw (append-nil s.clients) most
 entry_most s connect Allowed false is k most =
     let id = connect.client_id in
-    let room : entry_room s.clients id ≡ Allowed = and_last (entry_scope s.policy id) (entry_room s.clients id) (and_last (entry_form connect) (and_then (entry_scope s.policy id) (entry_room s.clients id)) is) in
+    let room : entry_room s.clients id ≡ Allowed = and_last (client_scope s.policy id) (entry_room s.clients id) (and_last (entry_form connect) (and_then (client_scope s.policy id) (entry_room s.clients id)) is) in
     let fits : nat_lt (length s.clients) MAX_CLIENTS ≡ true = room_means (is_known id s.clients) (nat_lt (length s.clients) MAX_CLIENTS) (Full place.Clients) room k in
     rw (length-append s.clients (blank id ∷ [])) (fits_by (length s.clients) fits)
 
@@ -235,6 +235,7 @@ most_next s (ByConnect from connect) most = entry_most s connect (entry s connec
 most_next s (ByPing from client) most = rw (append-nil s.clients) most
 most_next s (ByLeave from) most = rw (append-nil s.clients) most
 most_next s (BySource from p) most = rw (append-nil s.clients) most
+most_next s (ByRegister from r) most = rw (append-nil s.clients) most
 most_next s (ByPublish from p) most = rw (append-nil s.clients) most
 most_next s (ByUnsupported from message) most = rw (append-nil s.clients) most
 most_next s (ByBroken from rule) most = rw (append-nil s.clients) most
@@ -245,78 +246,6 @@ most_next s ByTake most = rw (append-nil s.clients) most
 most_next s (ByReplace policy) most = rw (append-nil s.clients) most
 most_next s (ByTick clock) most = rw (append-nil s.clients) most
 
--- ---- what waits is plain
-
-plain_append : (xs ys : List Item) → AllPlain xs → AllPlain ys → AllPlain (xs ++ ys)
-plain_append [] ys one two = two
-plain_append (x ∷ xs) ys one two = (one.0, plain_append xs ys one.1 two)
-
-plain_publishes : (items : List Item) → AllPlain items → AllPlain (publishes items)
-plain_publishes [] all = tt
-plain_publishes (item.Publish p ∷ items) all = (all.0, plain_publishes items all.1)
-plain_publishes (item.Subscribe filter ∷ items) all = absurd all.0
-plain_publishes (item.Unsubscribe filter ∷ items) all = absurd all.0
-plain_publishes (item.Acknowledge packet_id ∷ items) all = absurd all.0
-plain_publishes (item.Ping ∷ items) all = absurd all.0
-
-plain_if : (b : Bool) (xs ys : List Item) → AllPlain xs → AllPlain ys → AllPlain (if b then xs else ys)
-plain_if true xs ys one two = one
-plain_if false xs ys one two = two
-
-plain_item : (source name : List ℕ) (p : Publish) (b : Bool) → AllPlain (if b then item_for source name p ∷ [] else [])
-plain_item source name p true = (refl, tt)
-plain_item source name p false = tt
-
-plain_named : (s : State) (source : List ℕ) (p : Publish) (named : Result (List ℕ) Denial) → AllPlain (asked_by (named_ask s source named) p)
-plain_named s source p (Ok name) = plain_item source name p (is_allowed (verdict s (origin.Source source) name))
-plain_named s source p (Err rule) = tt
-
-plain_asked : (s : State) (source : List ℕ) (p : Publish) (listed : Bool) → lists_source s.policy source ≡ listed → AllPlain (asked_by (source_ask s source p) p)
-plain_asked s source p true is = rw is (plain_named s source p (name_in s.policy None p.flags.id_type p.topic_id))
-plain_asked s source p false is = rw is tt
-
-plain_next : (s : State) (c : Cause) → AllPlain s.link.waiting → AllPlain (waiting_next s c)
-plain_next s (ByConnect from connect) all = all
-plain_next s (ByPing from client) all = all
-plain_next s (ByLeave from) all = all
-plain_next s (BySource from p) all = plain_append s.link.waiting (asked_by (source_ask s from.ip p) p) all (plain_asked s from.ip p (lists_source s.policy from.ip) refl)
-plain_next s (ByPublish from p) all = all
-plain_next s (ByUnsupported from message) all = all
-plain_next s (ByBroken from rule) all = all
-plain_next s (ByPacket p) all = all
-plain_next s ByUp all = plain_if s.up (publishes s.link.waiting) s.link.waiting (plain_publishes s.link.waiting all) all
-plain_next s ByDown all = plain_publishes s.link.waiting all
-plain_next s ByTake all = plain_if s.up [] s.link.waiting tt all
-plain_next s (ByReplace policy) all = all
-plain_next s (ByTick clock) all = all
-
--- ---- few are in flight
-
-take_flights : (s : State) (outcomes : List Outcome) (up : Bool) → s.up ≡ up → AllPlain s.link.waiting → (link_moved s ByTake outcomes).in_flight ≡ s.link.in_flight
-take_flights s outcomes true is plain = rw is (ap (λ link. link.in_flight) (plain_after s.link s.link.waiting outcomes plain))
-take_flights s outcomes false is plain = rw is refl
-
-flights_next : (s : State) (c : Cause) (outcomes : List Outcome) → AllPlain s.link.waiting → (link_moved s c outcomes).in_flight ≡ s.link.in_flight
-flights_next s (ByConnect from connect) outcomes plain = refl
-flights_next s (ByPing from client) outcomes plain = refl
-flights_next s (ByLeave from) outcomes plain = refl
-flights_next s (BySource from p) outcomes plain = refl
-flights_next s (ByPublish from p) outcomes plain = refl
-flights_next s (ByUnsupported from message) outcomes plain = refl
-flights_next s (ByBroken from rule) outcomes plain = refl
-flights_next s (ByPacket p) outcomes plain = refl
-flights_next s ByUp outcomes plain = refl
-flights_next s ByDown outcomes plain = refl
-flights_next s ByTake outcomes plain = take_flights s outcomes s.up refl plain
-flights_next s (ByReplace policy) outcomes plain = refl
-flights_next s (ByTick clock) outcomes plain = refl
-
-few_next : (s : State) (c : Cause) → AllPlain s.link.waiting → load (record { waiting = s.link.waiting; in_flight = s.link.in_flight }) ≤ MAX_IN_FLIGHT
-    → load (record { waiting = waiting_next s c; in_flight = (link_moved s c (exits_for s c)).in_flight }) ≤ MAX_IN_FLIGHT
-few_next s c plain few =
-    let before : 0 + length s.link.in_flight ≤ MAX_IN_FLIGHT = rw (plain_load s.link.waiting plain) at few in
-    rw (plain_load (waiting_next s c) (plain_next s c plain), flights_next s c (exits_for s c) plain) before
-
 pub good_next : (s : State) (c : Cause) → Good s → Good (next_by s c)
 good_next s c good = record {
   apart = map_distinct (client_next s c) (s.clients ++ newcomers_for s c) (λ x. client_id (around s c) (fixed_for s c x) x) (present_distinct s c good.apart);
@@ -324,7 +253,7 @@ good_next s c good = record {
   rest = rest_next s c good.rest;
   most = rw (length-map (s.clients ++ newcomers_for s c)) (most_next s c good.most);
   plain = plain_next s c good.plain;
-  few = few_next s c good.plain good.few;
+  few = few_next s c good.places good.few;
 }
 
 pub good_opening : Good opening

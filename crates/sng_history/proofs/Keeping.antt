@@ -14,7 +14,7 @@ use Rattle.sng_book.specs.declared.outcome.Outcome.TheVariants.{Allowed, Denied}
 use Rattle.sng_book.specs.declared.event.Event.{Event}
 use Rattle.sng_book.specs.declared.out.Out.{Out}
 use Rattle.sng_book.specs.declared.out.Out.TheVariants.{Note}
-use Rattle.sng_history.specs.Causes.{Cause, cause_of, ByConnect, ByPing, ByLeave, BySource, ByPublish, ByUnsupported, ByBroken, ByPacket, ByUp, ByDown, ByTake, ByReplace, ByTick}
+use Rattle.sng_history.specs.Causes.{Cause, cause_of, ByConnect, ByPing, ByLeave, BySource, ByRegister, ByPublish, ByUnsupported, ByBroken, ByPacket, ByUp, ByDown, ByTake, ByReplace, ByTick}
 use Rattle.sng_history.specs.Clients.{Client, client_by}
 use Rattle.sng_history.specs.Notes.{notes_of}
 use Rattle.sng_history.specs.State.{State, around, after, state_of, present_in, newcomers, clients_by, waiting_by, asked_by}
@@ -25,7 +25,8 @@ use Rattle.sng_history.specs.Lawful.{LawfulBy, LawfulRow, EachLawful, Keeps, fix
 use Rattle.sng_history.specs.Steps.{notes_for, outs_by, outs_of, newcomers_for, client_next, waiting_next, next_by, next_of}
 use Rattle.sng_history.specs.Good.{Each, Good}
 use Rattle.sng_history.proofs.Own.{each_map, flat_same, map_same}
-use Rattle.sng_history.proofs.Says.{says}
+use Rattle.sng_history.specs.Exits.{resending}
+use Rattle.sng_history.proofs.Says.{says, publish_asks}
 
 -- ---- a row is what its notes make it
 
@@ -57,11 +58,12 @@ whole_same s ByTake m n exits same = take_same s m n exits
 whole_same s (ByPing from client) m n exits same = frame_same s (ByPing from client) m n same
 whole_same s (ByLeave from) m n exits same = frame_same s (ByLeave from) m n same
 whole_same s (BySource from p) m n exits same = refl
+whole_same s (ByRegister from r) m n exits same = frame_same s (ByRegister from r) m n same
 whole_same s (ByPublish from p) m n exits same = frame_same s (ByPublish from p) m n same
 whole_same s (ByUnsupported from message) m n exits same = frame_same s (ByUnsupported from message) m n same
 whole_same s (ByBroken from rule) m n exits same = frame_same s (ByBroken from rule) m n same
 whole_same s (ByPacket p) m n exits same = refl
-whole_same s ByUp m n exits same = refl
+whole_same s ByUp m n exits same = ap (resending s.link.in_flight) exits
 whole_same s ByDown m n exits same = refl
 whole_same s (ByReplace policy) m n exits same = refl
 whole_same s (ByTick clock) m n exits same = refl
@@ -114,7 +116,8 @@ waiting_same s (BySource from p) = ap (λ items. s.link.waiting ++ items) (appen
 waiting_same s (ByConnect from connect) = refl
 waiting_same s (ByPing from client) = refl
 waiting_same s (ByLeave from) = refl
-waiting_same s (ByPublish from p) = refl
+waiting_same s (ByRegister from r) = refl
+waiting_same s (ByPublish from p) = ap (λ items. s.link.waiting ++ items) (publish_asks s from p)
 waiting_same s (ByUnsupported from message) = refl
 waiting_same s (ByBroken from rule) = refl
 waiting_same s (ByPacket p) = refl

@@ -9,7 +9,7 @@ use Rattle.sng_book.specs.Denials.{is_allowed}
 use Rattle.sng_book.specs.declared.address.Address.{Address}
 use Rattle.sng_book.specs.declared.decision.Decision.{Decision}
 use Rattle.sng_book.specs.declared.decision.Decision.TheVariants as note
-use Rattle.sng_history.specs.Causes.{Cause, ByConnect, ByPing, ByLeave, BySource, ByPublish, ByUnsupported, ByBroken, ByPacket, ByUp, ByDown, ByTake, ByReplace, ByTick}
+use Rattle.sng_history.specs.Causes.{Cause, ByConnect, ByPing, ByLeave, BySource, ByRegister, ByPublish, ByUnsupported, ByBroken, ByPacket, ByUp, ByDown, ByTake, ByReplace, ByTick}
 use Rattle.sng_history.specs.Clients.{Around, Client, blank, is_author, start_by, cleaned, let_in, entered_by, note_by, notes_by, client_by}
 use Rattle.sng_history.specs.State.{State, is_known}
 use Rattle.sng_history.specs.Verdicts.{entry}
@@ -30,6 +30,7 @@ entered_id clock (ByConnect from connect) x = let_in_id clock from connect x
 entered_id clock (ByPing from client) x = refl
 entered_id clock (ByLeave from) x = refl
 entered_id clock (BySource from p) x = refl
+entered_id clock (ByRegister from r) x = refl
 entered_id clock (ByPublish from p) x = refl
 entered_id clock (ByUnsupported from message) x = refl
 entered_id clock (ByBroken from rule) x = refl
@@ -47,6 +48,7 @@ if_id false x y same = refl
 note_id : (a : Around) (said : Decision) (x : Client) → (note_by a said x).id ≡ x.id
 note_id a (note.Connect id outcome) x = if_id (is_allowed outcome) (entered_by a.clock a.cause x) x (entered_id a.clock a.cause x)
 note_id a (note.Left id) x = refl
+note_id a (note.Register whom name outcome) x = refl
 note_id a _ x = refl
 
 notes_id : (a : Around) (notes : List Decision) (x : Client) → (notes_by a notes x).id ≡ x.id
@@ -92,6 +94,7 @@ present_distinct s (ByConnect from connect) apart = distinct_new connect.client_
 present_distinct s (ByPing from client) apart = rw (append-nil s.clients) apart
 present_distinct s (ByLeave from) apart = rw (append-nil s.clients) apart
 present_distinct s (BySource from p) apart = rw (append-nil s.clients) apart
+present_distinct s (ByRegister from r) apart = rw (append-nil s.clients) apart
 present_distinct s (ByPublish from p) apart = rw (append-nil s.clients) apart
 present_distinct s (ByUnsupported from message) apart = rw (append-nil s.clients) apart
 present_distinct s (ByBroken from rule) apart = rw (append-nil s.clients) apart

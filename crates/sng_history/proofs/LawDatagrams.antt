@@ -1,37 +1,36 @@
 -- What a lawful row lets out with a datagram, in the views' words.
-use Rattle.std.proofs.Common.{◌≡◌, ℕ, ◌≤◌, true, List, [], ◌∷◌, refl, ap, sym, ◌∙◌, subst, length}
+use Rattle.std.proofs.Common.{◌≡◌, ℕ, ◌≤◌, true, List, ◌∷◌, refl, ap, sym, ◌∙◌, subst, length}
 use Rattle.std.specs.Prelude.{Option, Some, None}
 use Rattle.mqtt_frames.specs.declared.packet.Packet.{Packet}
 use Rattle.sng_frames.specs.declared.fault.FrameFault.{FrameFault}
 use Rattle.sng_frames.specs.declared.fault.FrameFault.TheVariants as fault
 use Rattle.sng_frames.specs.declared.messages.connect.Connect.{Connect}
 use Rattle.sng_frames.specs.declared.messages.publish.Publish.{Publish}
+use Rattle.sng_frames.specs.declared.messages.register.Register.{Register}
 use Rattle.sng_frames.specs.declared.qos.FrameQos.{FrameQos}
 use Rattle.sng_frames.specs.declared.qos.FrameQos.TheVariants as qos
 use Rattle.sng_frames.specs.declared.frame.SnFrame.{SnFrame}
 use Rattle.sng_frames.specs.declared.frame.SnFrame.TheVariants as frame
 use Rattle.sng_book.specs.declared.address.Address.{Address}
-use Rattle.sng_book.specs.declared.decision.Decision.TheVariants as note
-use Rattle.sng_book.specs.declared.decision.Who.TheVariants as who
-use Rattle.sng_book.specs.declared.outcome.Denial.TheVariants.{NotSupported}
-use Rattle.sng_book.specs.declared.outcome.Outcome.TheVariants.{Denied}
 use Rattle.sng_book.specs.declared.event.Event.TheVariants.{Broker}
-use Rattle.sng_book.specs.declared.out.Out.TheVariants.{Note}
 use Rattle.sng_book.specs.declared.row.Row.{Row}
-use Rattle.sng_history.specs.Causes.{Cause, ByConnect, ByPing, ByLeave, BySource, ByPublish, ByUnsupported, ByBroken, rule_of, publish_cause, disconnect_cause, frame_cause, datagram_cause, cause_of}
+use Rattle.sng_history.specs.Causes.{Cause, ByConnect, ByPing, ByLeave, BySource, ByRegister, ByPublish, ByUnsupported, ByBroken, rule_of, publish_cause, disconnect_cause, frame_cause, datagram_cause, cause_of}
 use Rattle.sng_history.specs.State.{opening, state_of}
 use Rattle.sng_history.specs.Lawful.{Lawful}
 use Rattle.sng_history.specs.Steps.{outs_by}
 use Rattle.sng_history.specs.ViewsMessages.{is_without_session}
 use Rattle.sng_history.specs.ViewsClients.{those_at}
 use Rattle.sng_history.specs.LawsAnswers.{Brought, Broken, connect_answer, source_answer, answer_to, no_session, ping_answer, leave_answer, broken_rule, broken_stranger, broken_answer}
-use Rattle.sng_history.specs.LawsUnsupported.{is_of_session, is_exactly_once, is_unsupported, unsupported_stranger, unsupported_answer, publish_stranger}
+use Rattle.sng_history.specs.LawsUnsupported.{is_exactly_once, is_unsupported, unsupported_stranger, unsupported_answer}
+use Rattle.sng_history.specs.LawsAsks.{register_stranger, register_answer, is_of_session, publish_stranger, publish_answer, packet_answer}
 use Rattle.sng_history.proofs.Keeping.{exact_by}
 use Rattle.sng_history.proofs.SeenState.{stands}
 use Rattle.sng_history.proofs.LawHere.{those_kept, most_here}
 use Rattle.sng_history.proofs.LawEntry.{connect_row}
 use Rattle.sng_history.proofs.LawSource.{source_row}
-use Rattle.sng_history.proofs.LawMessages.{unsupported_row, publish_row, ping_row, leave_row, broken_row}
+use Rattle.sng_history.proofs.LawMessages.{unsupported_row, ping_row, leave_row, broken_row}
+use Rattle.sng_history.proofs.LawAsks.{register_row, publish_row, packet_judged}
+use Rattle.sng_history.proofs.SeenRest.{rest_shown}
 
 -- a lawful row lets out what its cause says
 row_outs : (h : List Row) (row : Row) (c : Cause) → Lawful opening (row ∷ h) → cause_of row.event ≡ c → row.outs ≡ outs_by (state_of opening h) c
@@ -74,10 +73,15 @@ session_cause from p qos.WithoutSession is = absurd (let e = is in cc)
 session_cause from p qos.ExactlyOnce is = absurd (let e = is in cc)
 
 pub publish_law : (h : List Row) (row : Row) (from : Address) (p : Publish) → Lawful opening (row ∷ h) → Brought row from (frame.Publish p) → is_of_session p.flags.qos ≡ true
-    → row.outs ≡ answer_to (publish_stranger from) (unsupported_answer from (frame.Publish p)) (those_at from h)
+    → row.outs ≡ answer_to (publish_stranger from) (publish_answer h from p) (those_at from h)
 publish_law h row from p l brought is =
     row_outs h row (ByPublish from p) l (message_cause row from (frame.Publish p) brought ∙ session_cause from p p.flags.qos is)
-    ∙ publish_row h (state_of opening h) from p (stands h l.0).shown
+    ∙ publish_row h (state_of opening h) from p (stands h l.0).shown (rest_shown h l.0).in_flight
+
+pub register_law : (h : List Row) (row : Row) (from : Address) (r : Register) → Lawful opening (row ∷ h) → Brought row from (frame.Register r)
+    → row.outs ≡ answer_to (register_stranger from) (register_answer h from r) (those_at from h)
+register_law h row from r l brought =
+    row_outs h row (ByRegister from r) l (message_cause row from (frame.Register r) brought) ∙ register_row h (state_of opening h) from r (stands h l.0).shown
 
 pub ping_law : (h : List Row) (row : Row) (from : Address) (named : Option (List ℕ)) → Lawful opening (row ∷ h) → Brought row from (frame.PingRequest named)
     → row.outs ≡ answer_to (no_session from) (ping_answer h from named) (those_at from h)
@@ -101,6 +105,7 @@ sleep_cause from None is = absurd (let e = is in cc)
 
 unsupported_cause : (from : Address) (message : SnFrame) → is_unsupported message ≡ true → frame_cause from message ≡ ByUnsupported from message
 unsupported_cause from (frame.Connect connect) is = absurd (let e = is in cc)
+unsupported_cause from (frame.Register r) is = absurd (let e = is in cc)
 unsupported_cause from (frame.PingRequest client) is = absurd (let e = is in cc)
 unsupported_cause from (frame.Publish p) is = twice_cause from p p.flags.qos is
 unsupported_cause from (frame.Disconnect duration) is = sleep_cause from duration is
@@ -124,6 +129,5 @@ broken_law h row from broke l broken =
     row_outs h row (ByBroken from (broken_rule broke)) l (ap cause_of broken.event ∙ (ap (datagram_cause from) broken.reads ∙ ap (ByBroken from) (rule_same broke)))
     ∙ broken_row h (state_of opening h) from (broken_rule broke) (stands h l.0).shown
 
-pub packet_law : (h : List Row) (row : Row) (packet : Packet) → Lawful opening (row ∷ h) → row.event ≡ Broker packet
-    → row.outs ≡ Note (note.Frame who.Broker (Denied NotSupported)) ∷ []
-packet_law h row packet l is = row_outs h row (cause_of (Broker packet)) l (ap cause_of is)
+pub packet_law : (h : List Row) (row : Row) (packet : Packet) → Lawful opening (row ∷ h) → row.event ≡ Broker packet → row.outs ≡ packet_answer h packet
+packet_law h row packet l is = row_outs h row (cause_of (Broker packet)) l (ap cause_of is) ∙ packet_judged h (state_of opening h) packet (stands h l.0).shown

@@ -55,7 +55,7 @@ entry_ruled h s c shown =
     rw (sym shown.policy, sym shown.order, known_among c.client_id s.clients, length_ids s.clients)
     (ruled c.client_id (c.protocol_id == 1) c.flags.will (lists s.policy c.client_id) (is_known c.client_id s.clients) (nat_lt (length s.clients) 256))
 
-code_same : (rule : Denial) → code_of rule ≡ code_for rule
+pub code_same : (rule : Denial) → code_of rule ≡ code_for rule
 code_same (UnknownId kind id) = refl
 code_same UpstreamDown = refl
 code_same (Full place) = refl

@@ -1,8 +1,8 @@
--- What a row lets out for the broker: at a take while up what waits, at any other row nothing.
-use Rattle.std.proofs.Common.{◌≡◌, ℕ, Bool, true, false, List, [], ◌∷◌, ◌++◌, map, refl, ap, if◌then◌else◌}
-use Rattle.std.specs.Prelude.{Some, Option}
+-- What a take while up lets out for the broker: what waits, each with its note and its own packet.
+use Rattle.std.proofs.Common.{◌≡◌, ℕ, Bool, true, false, List, [], ◌∷◌, ◌++◌, map, refl, ap, ◌∙◌, if◌then◌else◌}
+use Rattle.std.specs.Prelude.{Some, Option, is_some}
 use Rattle.sng_grants.specs.declared.policy.Policy.{Policy}
-use Rattle.sng_outbox.specs.Sending.{publishes}
+use Rattle.sng_outbox.specs.Sending.{publishes, is_at_least_once}
 use Rattle.sng_outbox.specs.declared.item.Item.{Item}
 use Rattle.sng_outbox.specs.declared.item.Item.TheVariants as item
 use Rattle.sng_outbox.specs.declared.item.Publication.{Publication}
@@ -25,14 +25,17 @@ use Rattle.sng_history.proofs.LawRules.{exit_ruled}
 
 -- ---- a take
 
--- its packet is its own, with a packet id at QoS 1 alone
-own_packet : (link : Link) (p : Publication) (qos : Qos) → p.qos ≡ qos → Carries p (Some (packet_of p (packet_id_by link p.qos)))
-own_packet link p AtMostOnce is = record { packet_id = packet_id_by link p.qos; own = refl; numbered = λ once. rw is refl }
-own_packet link p AtLeastOnce is = record { packet_id = packet_id_by link p.qos; own = refl; numbered = λ once. absurd (let f : true ≡ false = rw is at once in cc) }
+-- its packet is its own, with a packet id just at QoS 1
+numbered_by : (link : Link) (q : Qos) → is_some (packet_id_by link q) ≡ is_at_least_once q
+numbered_by link AtMostOnce = refl
+numbered_by link AtLeastOnce = refl
+
+own_packet : (link : Link) (p : Publication) → Carries p (Some (packet_of p (packet_id_by link p.qos)))
+own_packet link p = record { packet_id = packet_id_by link p.qos; own = refl; numbered = numbered_by link p.qos }
 
 departs_first : (policy : Policy) (link : Link) (p : Publication) (ps : List Publication) (outs : List Out) (o : Outcome) → o ≡ judged (publish_rules policy p.origin p.name)
     → AllDepart policy ps (departures outs) → AllDepart policy (p ∷ ps) (departures (forwarded p (packet_id_by link p.qos) o ++ outs))
-departs_first policy link p ps outs Allowed is rest = (record { whom = refl; name = refl; judgement = is; packet = λ allowed. own_packet link p p.qos refl }, rest)
+departs_first policy link p ps outs Allowed is rest = (record { whom = refl; name = refl; judgement = is; packet = λ allowed. own_packet link p }, rest)
 departs_first policy link p ps outs (Denied rule) is rest = (record { whom = refl; name = refl; judgement = is; packet = λ allowed. absurd (let f : false ≡ true = allowed in cc) }, rest)
 
 pub all_depart : (policy : Policy) (link : Link) (items : List Item) → AllDepart policy (publications items) (departures (leaving link items (exits_of policy items)))
@@ -56,7 +59,7 @@ all_announced policy link (item.Publish p ∷ items) lets =
     announced_first p (packet_id_by link p.qos) o (leaving (exited link p o) items (exits_of policy items)) (λ b. all_announced policy (exited link p o) items b) lets
 all_announced policy link (item.Subscribe filter ∷ items) lets = all_announced policy link items lets
 all_announced policy link (item.Unsubscribe filter ∷ items) lets = all_announced policy link items lets
-all_announced policy link (item.Acknowledge packet_id ∷ items) lets = all_announced policy link items lets
+all_announced policy link (item.Acknowledge packet_id ∷ items) lets = ((λ is. absurd (let e = is in cc)), all_announced policy link items false)
 all_announced policy link (item.Ping ∷ items) lets = all_announced policy link items lets
 
 -- ---- any other row
@@ -65,8 +68,9 @@ departed_note : (said : Decision) (outs : List Out) → exit_of said ++ exits_in
 departed_note (note.Forward who name outcome) outs none = absurd (let e = none in cc)
 departed_note _ outs none = refl
 
-later_exits : (said : Decision) (outs : List Out) → exit_of said ++ exits_in outs ≡ [] → exits_in outs ≡ []
+pub later_exits : (said : Decision) (outs : List Out) → exit_of said ++ exits_in outs ≡ [] → exits_in outs ≡ []
 later_exits (note.Forward who name outcome) outs none = absurd (let e = none in cc)
+later_exits (note.Again who name outcome) outs none = absurd (let e = none in cc)
 later_exits (note.Connect client outcome) outs none = none
 later_exits _ outs none = none
 
@@ -90,14 +94,23 @@ about_all policy (p ∷ ps) (d ∷ ds) all = rw (all.0.whom, all.0.name, about_a
 about_all policy [] (d ∷ ds) all = absurd all
 about_all policy (p ∷ ps) [] all = absurd all
 
-pub publications_more : (items : List Item) (ps : List Publication) → publications (items ++ map item.Publish ps) ≡ publications items ++ ps
-publications_more [] [] = refl
-publications_more [] (p ∷ ps) = ap (λ rest. p ∷ rest) (publications_more [] ps)
-publications_more (item.Publish p ∷ items) ps = ap (λ rest. p ∷ rest) (publications_more items ps)
-publications_more (item.Subscribe filter ∷ items) ps = publications_more items ps
-publications_more (item.Unsubscribe filter ∷ items) ps = publications_more items ps
-publications_more (item.Acknowledge packet_id ∷ items) ps = publications_more items ps
-publications_more (item.Ping ∷ items) ps = publications_more items ps
+publications_append : (xs ys : List Item) → publications (xs ++ ys) ≡ publications xs ++ publications ys
+publications_append [] ys = refl
+publications_append (item.Publish p ∷ xs) ys = ap (λ rest. p ∷ rest) (publications_append xs ys)
+publications_append (item.Subscribe filter ∷ xs) ys = publications_append xs ys
+publications_append (item.Unsubscribe filter ∷ xs) ys = publications_append xs ys
+publications_append (item.Acknowledge packet_id ∷ xs) ys = publications_append xs ys
+publications_append (item.Ping ∷ xs) ys = publications_append xs ys
+
+-- those of the publishes and acknowledgements that a row adds
+publications_added : (ps : List Publication) (ids : List ℕ) → publications (map item.Publish ps ++ map item.Acknowledge ids) ≡ ps
+publications_added [] [] = refl
+publications_added [] (packet_id ∷ ids) = publications_added [] ids
+publications_added (p ∷ ps) ids = ap (λ rest. p ∷ rest) (publications_added ps ids)
+
+pub publications_more : (items : List Item) (ps : List Publication) (ids : List ℕ) → publications (items ++ (map item.Publish ps ++ map item.Acknowledge ids)) ≡ publications items ++ ps
+publications_more items ps ids =
+    publications_append items (map item.Publish ps ++ map item.Acknowledge ids) ∙ ap (λ rest. publications items ++ rest) (publications_added ps ids)
 
 publications_all : (items : List Item) → publications (publishes items) ≡ publications items
 publications_all [] = refl

@@ -4,7 +4,6 @@ use Rattle.std.specs.Prelude.{Option, Some, None}
 use Rattle.sng_states.specs.declared.state.ClientState.{ClientState}
 use Rattle.sng_states.specs.declared.state.ClientState.TheVariants.{Dialogue, Active, Asleep, Awake, Disconnected, Lost}
 use Rattle.sng_frames.specs.Writing.{written}
-use Rattle.sng_frames.specs.declared.messages.publish.Publish.{Publish}
 use Rattle.sng_frames.specs.declared.frame.SnFrame.{SnFrame}
 use Rattle.sng_frames.specs.declared.frame.SnFrame.TheVariants as frame
 use Rattle.sng_book.specs.declared.address.Address.{Address}
@@ -16,7 +15,7 @@ use Rattle.sng_book.specs.declared.outcome.Outcome.TheVariants.{Allowed, Denied}
 use Rattle.sng_book.specs.declared.out.Out.{Out}
 use Rattle.sng_book.specs.declared.out.Out.TheVariants.{Send, Note}
 use Rattle.sng_book.specs.declared.row.Row.{Row}
-use Rattle.sng_history.specs.Causes.{Cause, ByPing, ByLeave, ByPublish, ByUnsupported, ByBroken}
+use Rattle.sng_history.specs.Causes.{Cause, ByPing, ByLeave, ByUnsupported, ByBroken}
 use Rattle.sng_history.specs.Clients.{Around, Client, is_here}
 use Rattle.sng_history.specs.State.{State}
 use Rattle.sng_history.specs.Verdicts.{names_other, is_active, ping_verdict}
@@ -28,13 +27,13 @@ use Rattle.sng_history.specs.ViewsClients.{those_at}
 use Rattle.sng_history.specs.LawsState.{ClientShown}
 use Rattle.sng_history.specs.LawsAnswers as laws
 use Rattle.sng_history.specs.LawsAnswers.{answer_to, bye, no_session, names_another, ping_answer, leave_answer}
-use Rattle.sng_history.specs.LawsUnsupported.{unsupported_answer, unsupported_stranger, publish_stranger}
+use Rattle.sng_history.specs.LawsUnsupported.{unsupported_answer, unsupported_stranger}
 use Rattle.sng_history.proofs.Places.{here_is}
 use Rattle.sng_history.proofs.SeenClients.{heard_if}
 use Rattle.sng_history.proofs.SeenState.{StateShown}
 use Rattle.sng_history.proofs.LawHere.{row_answer}
 
-abbrev by_cause : State → Cause → Around
+abbrev pub by_cause : State → Cause → Around
 by_cause s c = record { policy = s.policy; clock = s.clock; cause = c }
 
 -- ---- not supported
@@ -60,17 +59,6 @@ unsupported_row h s from message shown =
     row_answer h s from (ByUnsupported from message) (unsupported_answer from message) shown (λ x. refl) (λ x is. unsupported_part s from message x (is_here x from) (here_is x from))
     ∙ ap (λ outs. answer_to outs (unsupported_answer from message) (those_at from h)) (unsupported_note from message)
 
-publish_part : (s : State) (from : Address) (p : Publish) (x : Client) (b : Bool) → (b ≡ true → x.address ≡ from)
-    → (if b then [] else []) ++ spell (by_cause s (ByPublish from p)) (heard_if b s.clock x) (if b then denied_note (frame.Publish p) (who.Client x.id) NotSupported ∷ [] else [])
-    ≡ (if b then unsupported_answer from (frame.Publish p) x.id else [])
-publish_part s from p x true at = ap (λ to. unsupported_answer to (frame.Publish p) x.id) (at refl)
-publish_part s from p x false at = refl
-
-pub publish_row : (h : List Row) (s : State) (from : Address) (p : Publish) → StateShown h s
-    → frame_row s (ByPublish from p) (notes_for s (ByPublish from p)) ≡ answer_to (publish_stranger from) (unsupported_answer from (frame.Publish p)) (those_at from h)
-publish_row h s from p shown =
-    row_answer h s from (ByPublish from p) (unsupported_answer from (frame.Publish p)) shown (λ x. refl) (λ x is. publish_part s from p x (is_here x from) (here_is x from))
-
 -- ---- PINGREQ
 
 -- the answer as the client is kept, and as it is shown
@@ -91,7 +79,7 @@ names_same : (client : Option (List ℕ)) (id : List ℕ) → names_other client
 names_same None id = refl
 names_same (Some named) id = refl
 
-active_same : (phase : ClientState) → is_active phase ≡ laws.is_active (Some phase)
+pub active_same : (phase : ClientState) → is_active phase ≡ laws.is_active (Some phase)
 active_same Active = refl
 active_same Dialogue = refl
 active_same Asleep = refl

@@ -10,17 +10,19 @@ use Rattle.sng_book.specs.declared.event.Event.{Event}
 use Rattle.sng_book.specs.declared.event.Event.TheVariants.{Datagram, Broker, Up, Down, Take, Replace, Tick}
 use Rattle.sng_book.specs.declared.out.Out.{Out}
 use Rattle.sng_book.specs.declared.row.Row.{Row}
-use Rattle.sng_history.specs.Causes.{cause_of, datagram_cause}
+use Rattle.sng_history.specs.Causes.{ByPacket, cause_of, datagram_cause}
+use Rattle.sng_history.specs.Packets.{answer_of}
 use Rattle.sng_history.specs.State.{State, opening, state_of}
 use Rattle.sng_history.specs.Lawful.{Lawful}
 use Rattle.sng_history.specs.Steps.{outs_of}
 use Rattle.sng_history.specs.Views.{policy_in_force, is_up}
-use Rattle.sng_history.specs.ViewsLink.{Departure, publications, asked, asked_with, waiting, left, lets_out, drops, departures, wires_in, sends_in}
+use Rattle.sng_history.specs.ViewsLink.{Departure, publications, asked, asked_with, owed_with, waiting, left, lets_out, drops, departures, wires_in, sends_in}
 use Rattle.sng_history.specs.LawsLink.{about_asked, about_left, LeavesInOrder, AllDepart, EachDeparts, Announced, EachAnnounced, may_send, EachTimely, is_upstream, EachUpstream}
 use Rattle.sng_history.proofs.Says.{says}
 use Rattle.sng_history.proofs.Keeping.{exact_by}
 use Rattle.sng_history.proofs.LawLink.{all_depart, all_unsent, all_announced, no_departures, none_announced, about_all, publications_more, publications_kept}
-use Rattle.sng_history.proofs.LawWires.{datagram_still}
+use Rattle.sng_history.proofs.LawAgain.{none_departed, again_announced, again_unsent}
+use Rattle.sng_history.proofs.LawWires.{datagram_still, packet_wires}
 use Rattle.sng_history.proofs.SeenState.{Stands, stands}
 
 -- ---- one row
@@ -35,8 +37,8 @@ take_departs s false is = rw is refl
 row_departs : (h : List Row) (s : State) (e : Event) → Stands h s → RowDeparts h e (outs_of s e)
 row_departs h s (Datagram from datagram) st =
     no_departures (outs_of s (Datagram from datagram)) ((says s (datagram_cause from (frame_of datagram)) st.good.apart).exits ∙ (datagram_still s from (frame_of datagram)).exits)
-row_departs h s (Broker packet) st = refl
-row_departs h s Up st = refl
+row_departs h s (Broker packet) st = no_departures (outs_of s (Broker packet)) (says s (ByPacket packet) st.good.apart).exits
+row_departs h s Up st = none_departed s.policy s.link.in_flight
 row_departs h s Down st = refl
 row_departs h s Take st = rw (sym st.shown.policy, sym st.shown.waits, sym st.shown.up) (take_departs s s.up refl)
 row_departs h s (Replace policy) st = refl
@@ -48,8 +50,8 @@ take_announced s false is = rw is tt
 
 row_announced : (s : State) (e : Event) → Announced false (outs_of s e)
 row_announced s (Datagram from datagram) = none_announced false (outs_of s (Datagram from datagram)) (datagram_still s from (frame_of datagram)).wires
-row_announced s (Broker packet) = tt
-row_announced s Up = tt
+row_announced s (Broker packet) = none_announced false (outs_of s (Broker packet)) (packet_wires s.up s.link (answer_of packet))
+row_announced s Up = again_announced s.policy s.link.in_flight false
 row_announced s Down = tt
 row_announced s Take = take_announced s s.up refl
 row_announced s (Replace policy) = tt
@@ -57,8 +59,8 @@ row_announced s (Tick clock) = tt
 
 row_timely : (h : List Row) (s : State) (e : Event) → s.up ≡ is_up h → may_send e h ≡ false → wires_in (outs_of s e) ≡ []
 row_timely h s (Datagram from datagram) up never = (datagram_still s from (frame_of datagram)).wires
-row_timely h s (Broker packet) up never = refl
-row_timely h s Up up never = refl
+row_timely h s (Broker packet) up never = packet_wires s.up s.link (answer_of packet)
+row_timely h s Up up never = absurd (let e = never in cc)
 row_timely h s Down up never = refl
 row_timely h s Take up never = rw (up ∙ never) refl
 row_timely h s (Replace policy) up never = refl
@@ -69,7 +71,7 @@ take_unsent s true is = rw is (all_unsent s.policy s.link s.link.waiting)
 take_unsent s false is = rw is refl
 
 row_unsent : (s : State) (e : Event) → is_upstream e ≡ true → sends_in (outs_of s e) ≡ []
-row_unsent s Up is = refl
+row_unsent s Up is = again_unsent s.policy s.link.in_flight
 row_unsent s Down is = refl
 row_unsent s Take is = take_unsent s s.up refl
 row_unsent s (Datagram from datagram) is = absurd (let e = is in cc)
@@ -90,17 +92,17 @@ lefts_append : (xs ys : List Departure) → map about_left (xs ++ ys) ≡ map ab
 lefts_append [] ys = refl
 lefts_append (x ∷ xs) ys = ap (λ rest. about_left x ∷ rest) (lefts_append xs ys)
 
-order_row : (h : List Row) (outs : List Out) (drop b : Bool) (new : List Publication) → LeavesInOrder h
+order_row : (h : List Row) (outs : List Out) (drop b : Bool) (new : List Publication) (ids : List ℕ) → LeavesInOrder h
     → MatchBool b (AllDepart (policy_in_force h) (publications (waiting h)) (departures outs)) (departures outs ≡ [])
-    → abouts (asked h ++ new) ≡ map about_left (left h ++ departures outs) ++ abouts (publications ((if b then [] else (if drop then publishes (waiting h) else waiting h)) ++ map item.Publish new))
-order_row h outs drop true new order all =
+    → abouts (asked h ++ new) ≡ map about_left (left h ++ departures outs) ++ abouts (publications ((if b then [] else (if drop then publishes (waiting h) else waiting h)) ++ (map item.Publish new ++ map item.Acknowledge ids)))
+order_row h outs drop true new ids order all =
     let ds = departures outs in
     abouts_append (asked h) new
     ∙ (ap (λ xs. xs ++ abouts new) (order ∙ (ap (λ xs. map about_left (left h) ++ xs) (sym (about_all (policy_in_force h) (publications (waiting h)) ds all)) ∙ sym (lefts_append (left h) ds)))
-    ∙ ap (λ xs. map about_left (left h ++ ds) ++ abouts xs) (sym (publications_more [] new)))
-order_row h outs drop false new order none =
+    ∙ ap (λ xs. map about_left (left h ++ ds) ++ abouts xs) (sym (publications_more [] new ids)))
+order_row h outs drop false new ids order none =
     let items = if drop then publishes (waiting h) else waiting h in
-    rw (none, append-nil (left h), publications_more items new, publications_kept drop (waiting h), abouts_append (asked h) new, abouts_append (publications (waiting h)) new, order)
+    rw (none, append-nil (left h), publications_more items new ids, publications_kept drop (waiting h), abouts_append (asked h) new, abouts_append (publications (waiting h)) new, order)
     (append_assoc (map about_left (left h)) (abouts (publications (waiting h))) (abouts new))
 
 -- ---- all rows
@@ -116,7 +118,7 @@ links_row : (by : ℕ) (h : List Row) (s : State) (e : Event) (outs : List Out) 
 links_row by h s e outs st is links =
     let departs : RowDeparts h e outs = subst (RowDeparts h e) (sym is) (row_departs h s e st) in
     record {
-      order = order_row h outs (drops e h) (lets_out e h) (asked_with (policy_in_force h) e outs) links.order departs;
+      order = order_row h outs (drops e h) (lets_out e h) (asked_with e outs) (owed_with e h outs) links.order departs;
       depart = (links.depart, departs);
       announced = (links.announced, subst (Announced false) (sym is) (row_announced s e));
       timely = (links.timely, λ never. ap wires_in is ∙ row_timely h s e st.shown.up never);

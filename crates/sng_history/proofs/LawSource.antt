@@ -2,6 +2,7 @@
 use Rattle.std.proofs.Common.{◌≡◌, ℕ, Bool, true, false, List, [], ◌∷◌, refl, ap, sym, if◌then◌else◌, length}
 use Rattle.std.specs.Prelude.{not, nat_lt, Option, Some, None}
 use Rattle.sng_text.specs.Texts.{is_name}
+use Rattle.sng_text.specs.declared.qos.Qos.TheVariants.{AtMostOnce}
 use Rattle.sng_grants.specs.Sources.{scope_of}
 use Rattle.sng_grants.specs.declared.scope.Pair.{Pair}
 use Rattle.sng_policy.specs.Grants.{is_granted, lists_source, topic}
@@ -34,14 +35,14 @@ name_rules s pairs name =
 
 tail_ruled : (s : State) (source name : List ℕ) (pairs : List Pair) (g u r : Bool) → scope_of s.policy.sources source ≡ Some pairs
     → is_granted permission.Publish pairs name ≡ g → s.up ≡ u → nat_lt (length s.link.waiting) 512 ≡ r
-    → verdict s (origin.Source source) name ≡ judged (name_rules s pairs name)
+    → verdict s (origin.Source source) name AtMostOnce ≡ judged (name_rules s pairs name)
 tail_ruled s source name pairs true true true scope granted up free = rw (scope, granted, up, free) refl
 tail_ruled s source name pairs true true false scope granted up full = rw (scope, granted, up, full) refl
 tail_ruled s source name pairs true false r scope granted down free = rw (scope, granted, down) refl
 tail_ruled s source name pairs false u r scope missing up free = rw (scope, missing) refl
 
 name_ruled : (s : State) (source name : List ℕ) (pairs : List Pair) → scope_of s.policy.sources source ≡ Some pairs
-    → verdict s (origin.Source source) name ≡ judged (name_rules s pairs name)
+    → verdict s (origin.Source source) name AtMostOnce ≡ judged (name_rules s pairs name)
 name_ruled s source name pairs scope =
     tail_ruled s source name pairs (is_granted permission.Publish pairs name) s.up (nat_lt (length s.link.waiting) 512) scope refl refl refl
 

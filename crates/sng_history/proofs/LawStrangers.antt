@@ -6,6 +6,8 @@ use Rattle.std.specs.Str.{bytes_eq}
 use Rattle.std.specs.declared.result.Result.{Result}
 use Rattle.sng_grants.specs.declared.policy.Policy.{Policy}
 use Rattle.sng_policy.specs.Grants.{lists_source}
+use Rattle.sng_text.specs.Texts.{is_name}
+use Rattle.sng_outbox.specs.declared.in_flight.InFlight.{InFlight}
 use Rattle.sng_outbox.specs.declared.item.Item.{Item}
 use Rattle.sng_outbox.specs.declared.item.Item.TheVariants as item
 use Rattle.sng_outbox.specs.declared.item.Publication.{Publication}
@@ -14,6 +16,7 @@ use Rattle.sng_frames.specs.Reading.{frame_of}
 use Rattle.sng_frames.specs.declared.fault.FrameFault.{FrameFault}
 use Rattle.sng_frames.specs.declared.messages.connect.Connect.{Connect}
 use Rattle.sng_frames.specs.declared.messages.publish.Publish.{Publish}
+use Rattle.sng_frames.specs.declared.messages.register.Register.{Register}
 use Rattle.sng_frames.specs.declared.qos.FrameQos.{FrameQos}
 use Rattle.sng_frames.specs.declared.qos.FrameQos.TheVariants as qos
 use Rattle.sng_frames.specs.declared.return_code.TheConstants.ReturnCode.{ACCEPTED}
@@ -34,21 +37,23 @@ use Rattle.sng_book.specs.declared.event.Event.TheVariants.{Datagram, Broker, Up
 use Rattle.sng_book.specs.declared.out.Out.{Out}
 use Rattle.sng_book.specs.declared.out.Out.TheVariants.{Send, Wire, Note}
 use Rattle.sng_book.specs.declared.row.Row.{Row}
-use Rattle.sng_history.specs.Causes.{Cause, cause_of, ByConnect, ByPing, ByLeave, BySource, ByPublish, ByUnsupported, ByBroken, datagram_cause, publish_cause, rule_of}
+use Rattle.sng_history.specs.Causes.{Cause, cause_of, ByConnect, ByPing, ByLeave, BySource, ByRegister, ByPublish, ByUnsupported, ByBroken, datagram_cause, publish_cause, rule_of}
 use Rattle.sng_history.specs.Clients.{Client, same_address, is_here}
 use Rattle.sng_history.specs.Notes.{notes_of}
 use Rattle.sng_history.specs.State.{State, opening, state_of, around}
-use Rattle.sng_history.specs.Verdicts.{exit, entry, ping_verdict, named_ask, name_in}
+use Rattle.sng_history.specs.Verdicts.{exit, entry, ping_verdict, named_ask, name_in, register_ask, publish_ask}
 use Rattle.sng_history.specs.Answers.{denied_note, dismissed, connack}
 use Rattle.sng_history.specs.Whole.{part, any_from, stranger_outs, moved, beside, entry_outs}
 use Rattle.sng_history.specs.Lawful.{Lawful, denial_of, fixed_for}
 use Rattle.sng_history.specs.Steps.{notes_for, outs_by, outs_of}
 use Rattle.sng_history.specs.ViewsClients.{left_from, phase_by, phase_after, phase_of, admits, is_admitted, is_among, accepted_by, accepted_in, accepted}
 use Rattle.sng_history.specs.Links.{Link, packet_id_by, exited}
-use Rattle.sng_history.specs.Exits.{exits_of, forwarded, leaving}
+use Rattle.sng_history.specs.Exits.{exits_of, forwarded, leaving, agains_of, sent_again, resending}
+use Rattle.sng_history.specs.Packets.{Answer, Delivers, Acknowledges, Confirms, Strange, answer_of, has_place, owed, misnamed, dropped, answer_outs}
 use Rattle.sng_history.specs.ViewsMessages.{Connects, message_in}
 use Rattle.sng_history.proofs.Keeping.{exact_by}
 use Rattle.sng_history.proofs.Own.{same_self, same_means}
+use Rattle.sng_history.proofs.Asks.{of_register, of_publish}
 use Rattle.sng_history.proofs.Spelled.{part_own, part_other}
 use Rattle.sng_history.proofs.Told.{tells}
 use Rattle.sng_history.proofs.SeenNotes.{phase_notes, admitted_notes, phase_by_notes, admitted_by_notes}
@@ -115,7 +120,12 @@ admitted_unsupported s from message id =
 
 admitted_publish : (s : State) (from : Address) (p : Publish) (id : List ℕ) → is_admitted id (outs_by s (ByPublish from p)) ≡ false
 admitted_publish s from p id =
-    admitted_frame s (ByPublish from p) id (λ x. one_note id (denied_note (frame.Publish p) (who.Client x.id) NotSupported) (is_here x from) refl) refl
+    admitted_frame s (ByPublish from p) id (λ x. one_note id (publish_ask s x p) (is_here x from) (of_publish (λ said. admits id said ≡ false) s x p (λ name o. refl))) refl
+
+admitted_register : (s : State) (from : Address) (r : Register) (id : List ℕ) → is_admitted id (outs_by s (ByRegister from r)) ≡ false
+admitted_register s from r id =
+    admitted_frame s (ByRegister from r) id
+    (λ x. one_note id (register_ask s.policy x r.name) (is_here x from) (of_register (λ said. admits id said ≡ false) s.policy x r.name (λ name o. refl))) refl
 
 admitted_leave : (s : State) (from : Address) (id : List ℕ) → is_admitted id (outs_by s (ByLeave from)) ≡ false
 admitted_leave s from id = admitted_frame s (ByLeave from) id (λ x. one_note id (note.Left x.id) (is_here x from) refl) refl
@@ -198,6 +208,7 @@ datagram_admits : (s : State) (from : Address) (read : Result SnFrame FrameFault
     → is_among id (accepted_by ids (message_in read) (outs_by s (datagram_cause from read))) ≡ false → is_admitted id (outs_by s (datagram_cause from read)) ≡ false
 datagram_admits s from (Ok (frame.Connect connect)) ids id unknown none = connect_admits s from connect ids id (bytes_eq id connect.client_id) refl unknown none
 datagram_admits s from (Ok (frame.Publish p)) ids id unknown none = publish_admits s from p p.flags.qos id
+datagram_admits s from (Ok (frame.Register r)) ids id unknown none = admitted_register s from r id
 datagram_admits s from (Ok (frame.PingRequest client)) ids id unknown none = admitted_ping s from client id
 datagram_admits s from (Ok (frame.Disconnect duration)) ids id unknown none = disconnect_admits s from duration id
 datagram_admits s from (Ok message) ids id unknown none = admitted_unsupported s from message id
@@ -221,10 +232,35 @@ take_admits : (s : State) (id : List ℕ) (b : Bool) → s.up ≡ b → is_admit
 take_admits s id true is = rw is (leaving_admits id s.policy s.link s.link.waiting)
 take_admits s id false is = rw is refl
 
+again_admits : (id : List ℕ) (sent : InFlight) (o : Outcome) (outs : List Out) → is_admitted id outs ≡ false → is_admitted id (sent_again sent o ++ outs) ≡ false
+again_admits id sent Allowed outs rest = rest
+again_admits id sent (Denied rule) outs rest = rest
+
+resending_admits : (id : List ℕ) (policy : Policy) (flights : List InFlight) → is_admitted id (resending flights (agains_of policy flights)) ≡ false
+resending_admits id policy [] = refl
+resending_admits id policy (sent ∷ flights) =
+    again_admits id sent (exit policy sent.publication.origin sent.publication.name) (resending flights (agains_of policy flights)) (resending_admits id policy flights)
+
+misnamed_admits : (id name : List ℕ) (outs : List Out) (b : Bool) → is_name name ≡ b → is_admitted id outs ≡ false → is_admitted id (misnamed name ++ outs) ≡ false
+misnamed_admits id name outs true is rest = rw is rest
+misnamed_admits id name outs false is rest = rw is rest
+
+dropped_admits : (id : List ℕ) (place : Bool) (owes : Option ℕ) → is_admitted id (dropped place owes) ≡ false
+dropped_admits id place None = refl
+dropped_admits id true (Some packet_id) = refl
+dropped_admits id false (Some packet_id) = refl
+
+packet_admits : (s : State) (id : List ℕ) (brought : Answer) → is_admitted id (answer_outs s.up s.link brought) ≡ false
+packet_admits s id (Delivers p) =
+    misnamed_admits id p.name (dropped (has_place s.link) (owed s.up p)) (is_name p.name) refl (dropped_admits id (has_place s.link) (owed s.up p))
+packet_admits s id (Acknowledges packet_id) = refl
+packet_admits s id Confirms = refl
+packet_admits s id Strange = refl
+
 row_admits : (s : State) (e : Event) (ids : List (List ℕ)) (id : List ℕ) → is_among id ids ≡ false → is_among id (accepted_in ids e (outs_of s e)) ≡ false → is_admitted id (outs_of s e) ≡ false
 row_admits s (Datagram from datagram) ids id unknown none = datagram_admits s from (frame_of datagram) ids id unknown none
-row_admits s (Broker packet) ids id unknown none = refl
-row_admits s Up ids id unknown none = refl
+row_admits s (Broker packet) ids id unknown none = packet_admits s id (answer_of packet)
+row_admits s Up ids id unknown none = resending_admits id s.policy s.link.in_flight
 row_admits s Down ids id unknown none = refl
 row_admits s Take ids id unknown none = take_admits s id s.up refl
 row_admits s (Replace policy) ids id unknown none = refl

@@ -1,10 +1,11 @@
--- No row but a take lets a packet out for the broker.
+-- No row of a datagram, nor of a packet of the broker, lets a packet out for the broker.
 use Rattle.std.proofs.Common.{◌≡◌, ℕ, Bool, true, false, List, [], ◌∷◌, ◌++◌, refl, if◌then◌else◌, Ok, Err}
 use Rattle.std.specs.Prelude.{◌&&◌, not, Option, Some, None}
 use Rattle.std.specs.List.{flat_map}
 use Rattle.std.specs.Str.{bytes_eq}
 use Rattle.std.specs.declared.result.Result.{Result}
 use Rattle.sng_states.specs.States.{has_session}
+use Rattle.sng_text.specs.Texts.{is_name}
 use Rattle.sng_frames.specs.declared.fault.FrameFault.{FrameFault}
 use Rattle.sng_frames.specs.declared.messages.connect.Connect.{Connect}
 use Rattle.sng_frames.specs.declared.messages.publish.Publish.{Publish}
@@ -14,23 +15,25 @@ use Rattle.sng_frames.specs.declared.return_code.TheConstants.ReturnCode.{ACCEPT
 use Rattle.sng_frames.specs.declared.frame.SnFrame.{SnFrame}
 use Rattle.sng_frames.specs.declared.frame.SnFrame.TheVariants as frame
 use Rattle.sng_book.specs.declared.address.Address.{Address}
-use Rattle.sng_book.specs.declared.decision.Decision.{Decision}
 use Rattle.sng_book.specs.declared.decision.Decision.TheVariants as note
-use Rattle.sng_book.specs.declared.outcome.Denial.{Denial}
-use Rattle.sng_book.specs.declared.outcome.Denial.TheVariants.{NoSession}
+use Rattle.sng_book.specs.declared.decision.Who.TheVariants as who
+use Rattle.sng_book.specs.declared.outcome.Denial.TheVariants.{BadName}
 use Rattle.sng_book.specs.declared.outcome.Outcome.{Outcome}
 use Rattle.sng_book.specs.declared.outcome.Outcome.TheVariants.{Allowed, Denied}
 use Rattle.sng_book.specs.declared.out.Out.{Out}
 use Rattle.sng_book.specs.declared.out.Out.TheVariants.{Send, Wire, Note}
-use Rattle.sng_history.specs.Causes.{Cause, ByConnect, ByPing, ByLeave, ByPublish, ByUnsupported, ByBroken, datagram_cause, publish_cause, rule_of}
-use Rattle.sng_history.specs.Clients.{Around, Client, same_address, is_author, start_by, note_by}
+use Rattle.sng_history.specs.Causes.{Cause, ByConnect, ByPing, ByLeave, ByRegister, ByPublish, ByUnsupported, ByBroken, datagram_cause, publish_cause, rule_of}
+use Rattle.sng_history.specs.Clients.{Around, Client, same_address}
 use Rattle.sng_history.specs.State.{State, around}
-use Rattle.sng_history.specs.Verdicts.{entry, ping_verdict}
-use Rattle.sng_history.specs.Answers.{refusal, code_of, sent_to, dismissed, connack}
-use Rattle.sng_history.specs.Whole.{Notes, farewell, denied_by, replied, frames_of, spell, pong_by, answer, part, any_from, stranger_outs, frame_row, moved, beside, entry_outs}
+use Rattle.sng_history.specs.Links.{Link}
+use Rattle.sng_history.specs.Packets.{Answer, Delivers, Acknowledges, Confirms, Strange, answer_outs, owed, has_place, dropped}
+use Rattle.sng_history.specs.Verdicts.{entry}
+use Rattle.sng_history.specs.Answers.{dismissed, connack}
+use Rattle.sng_history.specs.Whole.{Notes, part, any_from, stranger_outs, frame_row, moved, beside, entry_outs}
 use Rattle.sng_history.specs.Lawful.{exits_for}
 use Rattle.sng_history.specs.Steps.{outs_by, notes_for}
 use Rattle.sng_history.specs.ViewsLink.{wires_in}
+use Rattle.sng_history.proofs.Sent.{part_wires}
 
 wires_append : (xs ys : List Out) → wires_in xs ≡ [] → wires_in ys ≡ [] → wires_in (xs ++ ys) ≡ []
 wires_append [] ys one two = two
@@ -42,65 +45,12 @@ wires_flat : (f : Client → List Out) (xs : List Client) → ((x : Client) → 
 wires_flat f [] none = refl
 wires_flat f (x ∷ xs) none = wires_append (f x) (flat_map f xs) (none x) (wires_flat f xs none)
 
--- ---- the frames of a note
-
-sent_wires : (to : Address) (o : Option SnFrame) → wires_in (sent_to to o) ≡ []
-sent_wires to None = refl
-sent_wires to (Some message) = refl
-
-farewell_wires : (c : Cause) (to : Address) → wires_in (farewell c to) ≡ []
-farewell_wires (ByLeave from) to = refl
-farewell_wires _ to = refl
-
-ping_wires : (from to : Address) (client : Option (List ℕ)) (rule : Denial) → wires_in (denied_by (ByPing from client) to rule) ≡ []
-ping_wires from to client NoSession = refl
-ping_wires from to client _ = refl
-
-denied_wires : (c : Cause) (to : Address) (rule : Denial) → wires_in (denied_by c to rule) ≡ []
-denied_wires (ByPing from client) to rule = ping_wires from to client rule
-denied_wires (ByPublish from p) to rule = sent_wires to (refusal (frame.Publish p) (code_of rule))
-denied_wires (ByUnsupported from message) to rule = sent_wires to (refusal message (code_of rule))
-denied_wires _ to rule = refl
-
-replied_wires : (c : Cause) (to : Address) (o : Outcome) → wires_in (replied c to o) ≡ []
-replied_wires c to Allowed = refl
-replied_wires c to (Denied rule) = denied_wires c to rule
-
-frames_wires : (a : Around) (x : Client) (said : Decision) → wires_in (frames_of a x said) ≡ []
-frames_wires a x (note.Left id) = farewell_wires a.cause x.address
-frames_wires a x (note.Register who name outcome) = replied_wires a.cause x.address outcome
-frames_wires a x (note.Publish who name outcome) = replied_wires a.cause x.address outcome
-frames_wires a x (note.Subscribe who filter outcome) = replied_wires a.cause x.address outcome
-frames_wires a x (note.Unsubscribe who filter outcome) = replied_wires a.cause x.address outcome
-frames_wires a x (note.Will who name outcome) = replied_wires a.cause x.address outcome
-frames_wires a x (note.Frame who outcome) = replied_wires a.cause x.address outcome
-frames_wires a x _ = refl
-
-spell_wires : (a : Around) (x : Client) (notes : List Decision) → wires_in (spell a x notes) ≡ []
-spell_wires a x [] = refl
-spell_wires a x (said ∷ notes) = wires_append (frames_of a x said) (spell a (note_by a said x) notes) (frames_wires a x said) (spell_wires a (note_by a said x) notes)
-
-pong_wires : (o : Outcome) (to : Address) → wires_in (pong_by o to) ≡ []
-pong_wires Allowed to = refl
-pong_wires (Denied rule) to = refl
-
-answer_wires : (c : Cause) (x : Client) → wires_in (answer c x) ≡ []
-answer_wires (ByPing from client) x = pong_wires (ping_verdict client x) x.address
-answer_wires _ x = refl
-
-author_wires : (c : Cause) (x : Client) (b : Bool) → wires_in (if b then answer c x else []) ≡ []
-author_wires c x true = answer_wires c x
-author_wires c x false = refl
-
-part_wires : (a : Around) (notes : List Decision) (x : Client) → wires_in (part a notes x) ≡ []
-part_wires a notes x =
-    wires_append (if is_author a.cause x then answer a.cause x else []) (spell a (start_by a x) notes) (author_wires a.cause x (is_author a.cause x)) (spell_wires a (start_by a x) notes)
-
 -- ---- the row
 
 stranger_wires : (c : Cause) → wires_in (stranger_outs c) ≡ []
 stranger_wires (ByPing from client) = refl
 stranger_wires (ByLeave from) = refl
+stranger_wires (ByRegister from r) = refl
 stranger_wires (ByPublish from p) = refl
 stranger_wires (ByUnsupported from message) = refl
 stranger_wires (ByBroken from rule) = refl
@@ -158,8 +108,26 @@ disconnect_still s from (Some duration) =
 
 pub datagram_still : (s : State) (from : Address) (read : Result SnFrame FrameFault) → Still s (datagram_cause from read)
 datagram_still s from (Ok (frame.Connect connect)) = record { exits = refl; wires = entry_wires s from connect (notes_for s (ByConnect from connect)) (entry s connect) }
+datagram_still s from (Ok (frame.Register r)) = record { exits = refl; wires = frame_wires s (ByRegister from r) (notes_for s (ByRegister from r)) }
 datagram_still s from (Ok (frame.Publish p)) = publish_still s from p p.flags.qos
 datagram_still s from (Ok (frame.PingRequest client)) = record { exits = refl; wires = frame_wires s (ByPing from client) (notes_for s (ByPing from client)) }
 datagram_still s from (Ok (frame.Disconnect duration)) = disconnect_still s from duration
 datagram_still s from (Ok message) = record { exits = refl; wires = frame_wires s (ByUnsupported from message) (notes_for s (ByUnsupported from message)) }
 datagram_still s from (Err broke) = record { exits = refl; wires = frame_wires s (ByBroken from (rule_of broke)) (notes_for s (ByBroken from (rule_of broke))) }
+
+-- ---- a packet of the broker
+
+misnamed_wires : (good : Bool) (outs : List Out) → wires_in outs ≡ [] → wires_in ((if good then [] else Note (note.Frame who.Broker (Denied BadName)) ∷ []) ++ outs) ≡ []
+misnamed_wires true outs none = none
+misnamed_wires false outs none = none
+
+dropped_wires : (place : Bool) (packet_id : Option ℕ) → wires_in (dropped place packet_id) ≡ []
+dropped_wires place None = refl
+dropped_wires true (Some packet_id) = refl
+dropped_wires false (Some packet_id) = refl
+
+pub packet_wires : (up : Bool) (link : Link) (a : Answer) → wires_in (answer_outs up link a) ≡ []
+packet_wires up link (Delivers p) = misnamed_wires (is_name p.name) (dropped (has_place link) (owed up p)) (dropped_wires (has_place link) (owed up p))
+packet_wires up link (Acknowledges packet_id) = refl
+packet_wires up link Confirms = refl
+packet_wires up link Strange = refl

@@ -1,6 +1,6 @@
 -- What a step lets out has just the notes that the step makes: of each client, and of what leaves.
 use Rattle.std.proofs.Common.{◌≡◌, ℕ, Bool, true, false, List, [], ◌∷◌, ◌++◌, refl, ap, sym, ◌∙◌, subst}
-use Rattle.std.specs.Prelude.{if◌then◌else◌, ◌&&◌, not, Option, None, Ok, Err}
+use Rattle.std.specs.Prelude.{if◌then◌else◌, ◌&&◌, not, Option, Some, None, Ok, Err}
 use Rattle.std.specs.declared.result.Result.{Result}
 use Rattle.std.specs.List.{flat_map}
 use Rattle.std.specs.Str.{bytes_eq}
@@ -9,9 +9,12 @@ use Rattle.sng_policy.specs.Grants.{lists_source}
 use Rattle.sng_states.specs.States.{has_session}
 use Rattle.sng_frames.specs.declared.messages.connect.Connect.{Connect}
 use Rattle.sng_frames.specs.declared.messages.publish.Publish.{Publish}
+use Rattle.sng_frames.specs.declared.messages.register.Register.{Register}
 use Rattle.sng_frames.specs.declared.frame.SnFrame.{SnFrame}
 use Rattle.sng_frames.specs.declared.frame.SnFrame.TheVariants as frame
 use Rattle.sng_frames.specs.declared.return_code.TheConstants.ReturnCode.{ACCEPTED}
+use Rattle.sng_text.specs.Texts.{is_name}
+use Rattle.sng_outbox.specs.declared.in_flight.InFlight.{InFlight}
 use Rattle.sng_outbox.specs.declared.item.Item.{Item}
 use Rattle.sng_outbox.specs.declared.item.Item.TheVariants as item
 use Rattle.sng_outbox.specs.declared.item.Publication.{Publication}
@@ -21,26 +24,27 @@ use Rattle.sng_book.specs.declared.decision.Decision.{Decision}
 use Rattle.sng_book.specs.declared.decision.Decision.TheVariants as note
 use Rattle.sng_book.specs.declared.decision.Who.TheVariants as who
 use Rattle.sng_book.specs.declared.outcome.Denial.{Denial}
-use Rattle.sng_book.specs.declared.outcome.Denial.TheVariants.{NotSupported}
+use Rattle.sng_book.specs.declared.outcome.Denial.TheVariants.{NotSupported, BadName}
 use Rattle.sng_book.specs.declared.outcome.Outcome.{Outcome}
 use Rattle.sng_book.specs.declared.outcome.Outcome.TheVariants.{Allowed, Denied}
 use Rattle.sng_book.specs.declared.out.Out.{Out}
 use Rattle.sng_book.specs.declared.out.Out.TheVariants.{Note}
 use Rattle.sng_book.specs.Denials.{is_allowed}
-use Rattle.sng_history.specs.Causes.{Cause, ByConnect, ByPing, ByLeave, BySource, ByPublish, ByUnsupported, ByBroken, ByPacket, ByUp, ByDown, ByTake, ByReplace, ByTick}
+use Rattle.sng_history.specs.Causes.{Cause, ByConnect, ByPing, ByLeave, BySource, ByRegister, ByPublish, ByUnsupported, ByBroken, ByPacket, ByUp, ByDown, ByTake, ByReplace, ByTick}
 use Rattle.sng_history.specs.Clients.{Client, blank, same_address, is_here, is_from}
 use Rattle.sng_history.specs.Notes.{notes_of, exits_in}
 use Rattle.sng_history.specs.Links.{Link, packet_id_by, exited}
 use Rattle.sng_history.specs.State.{State, around, is_known, newcomers}
 use Rattle.sng_history.specs.Verdicts.{entry, source_ask, named_ask, name_in, exit}
 use Rattle.sng_history.specs.Answers.{code_of, dismissed, connack, denied_note}
-use Rattle.sng_history.specs.Exits.{exits_of, forwarded, leaving}
+use Rattle.sng_history.specs.Exits.{exits_of, forwarded, leaving, agains_of, sent_again, resending}
+use Rattle.sng_history.specs.Packets.{Answer, Delivers, Acknowledges, Confirms, Strange as StrangePacket, answer_of, owed, has_place, dropped, misnamed, answer_outs}
 use Rattle.sng_history.specs.Whole.{part, any_from, stranger_outs, frame_row, moved, beside, entry_row, entry_outs}
 use Rattle.sng_history.specs.Lawful.{fixed_for, exits_for}
-use Rattle.sng_history.specs.Steps.{notes_for, outs_by, entrants, newcomers_for}
+use Rattle.sng_history.specs.Steps.{notes_for, outs_by, entrants, newcomers_for, asked_by_all}
 use Rattle.sng_history.specs.Good.{Each, Distinct}
-use Rattle.sng_history.proofs.Own.{same_self, same_means, flip, notes_append, exits_append, each_all, each_map, each_append, OnlyAbout, absent, each_own, no_exits}
-use Rattle.sng_history.proofs.Spelled.{Mute, mute_none, part_own, part_other, part_exits}
+use Rattle.sng_history.proofs.Own.{same_self, same_means, flip, notes_append, exits_append, asked_all, asks_append, each_all, each_map, each_append, OnlyAbout, absent, each_own, no_exits}
+use Rattle.sng_history.proofs.Spelled.{Mute, mute_none, mute_both, part_own, part_other, part_exits, part_asks}
 use Rattle.sng_history.proofs.Told.{tells}
 use Rattle.sng_history.proofs.Kept.{unknown_away}
 
@@ -104,18 +108,13 @@ all_here s c outs none new exits own = record {
 -- ---- a CONNECT
 
 mute_moved : (x : Client) (same out : Bool) → Mute (if same then (if out then dismissed x.address ∷ [] else []) else [])
-mute_moved x true true = record { notes = λ c. refl; exits = refl }
+mute_moved x true true = record { notes = λ c. refl; exits = refl; asks = λ q. refl }
 mute_moved x true false = mute_none
 mute_moved x false out = mute_none
 
 mute_all : (f : Client → List Out) (xs : List Client) → ((x : Client) → Mute (f x)) → Mute (flat_map f xs)
 mute_all f [] each = mute_none
-mute_all f (x ∷ xs) each =
-    let later = mute_all f xs each in
-    record {
-      notes = λ c. notes_append c (f x) (flat_map f xs) ∙ (ap (λ notes. notes ++ notes_of c (flat_map f xs)) ((each x).notes c) ∙ later.notes c);
-      exits = exits_append (f x) (flat_map f xs) ∙ (ap (λ exits. exits ++ exits_in (flat_map f xs)) (each x).exits ∙ later.exits);
-    }
+mute_all f (x ∷ xs) each = mute_both (f x) (flat_map f xs) (each x) (mute_all f xs each)
 
 moved_all : (from : Address) (id : List ℕ) (xs : List Client) → Mute (flat_map (moved from id) xs)
 moved_all from id xs = mute_all (moved from id) xs (λ x. mute_moved x (bytes_eq id x.id) (has_session x.phase && not (same_address x.address from)))
@@ -255,18 +254,86 @@ take_none : (s : State) (d : List ℕ) (up : Bool) → s.up ≡ up → notes_of 
 take_none s d true is = rw is (leaving_none d s.policy s.link s.link.waiting)
 take_none s d false is = rw is refl
 
+-- ---- what is sent again
+
+again_says : (sent : InFlight) (o : Outcome) (outs : List Out) → exits_in (sent_again sent o ++ outs) ≡ o ∷ exits_in outs
+again_says sent Allowed outs = refl
+again_says sent (Denied rule) outs = refl
+
+pub resending_exits : (policy : Policy) (flights : List InFlight) → exits_in (resending flights (agains_of policy flights)) ≡ agains_of policy flights
+resending_exits policy [] = refl
+resending_exits policy (sent ∷ flights) =
+    let o = exit policy sent.publication.origin sent.publication.name in
+    again_says sent o (resending flights (agains_of policy flights)) ∙ ap (λ outcomes. o ∷ outcomes) (resending_exits policy flights)
+
+again_none : (d : List ℕ) (sent : InFlight) (o : Outcome) (outs : List Out) → notes_of d (sent_again sent o ++ outs) ≡ notes_of d outs
+again_none d sent Allowed outs = refl
+again_none d sent (Denied rule) outs = refl
+
+pub resending_none : (d : List ℕ) (policy : Policy) (flights : List InFlight) → notes_of d (resending flights (agains_of policy flights)) ≡ []
+resending_none d policy [] = refl
+resending_none d policy (sent ∷ flights) =
+    again_none d sent (exit policy sent.publication.origin sent.publication.name) (resending flights (agains_of policy flights)) ∙ resending_none d policy flights
+
+-- ---- a packet of the broker
+
+mute_note : (b : Bool) (said : Decision) → Mute (Note said ∷ []) → Mute (if b then [] else Note said ∷ [])
+mute_note true said m = mute_none
+mute_note false said m = m
+
+mute_dropped : (place : Bool) (o : Option ℕ) → Mute (dropped place o)
+mute_dropped place None = mute_none
+mute_dropped place (Some packet_id) = mute_note place note.Outbox (record { notes = λ c. refl; exits = refl; asks = λ q. refl })
+
+mute_packet : (up : Bool) (link : Link) (a : Answer) → Mute (answer_outs up link a)
+mute_packet up link (Delivers p) =
+    mute_both (misnamed p.name) (dropped (has_place link) (owed up p))
+    (mute_note (is_name p.name) (note.Frame who.Broker (Denied BadName)) (record { notes = λ c. refl; exits = refl; asks = λ q. refl }))
+    (mute_dropped (has_place link) (owed up p))
+mute_packet up link (Acknowledges packet_id) = mute_none
+mute_packet up link Confirms = mute_none
+mute_packet up link StrangePacket = record { notes = λ c. refl; exits = refl; asks = λ q. refl }
+
 -- ---- a publish of a source
 
-mute_named : (s : State) (source : List ℕ) (named : Result (List ℕ) Denial) → Mute (Note (named_ask s source named) ∷ [])
-mute_named s source (Ok name) = record { notes = λ c. refl; exits = refl }
-mute_named s source (Err rule) = record { notes = λ c. refl; exits = refl }
+-- its note is no client's
+pub record Foreign (outs : List Out) : Type 0 where
+  pub notes : (c : List ℕ) → notes_of c outs ≡ []
+  pub exits : exits_in outs ≡ []
 
-mute_ask : (s : State) (source : List ℕ) (p : Publish) (listed : Bool) → lists_source s.policy source ≡ listed → Mute (Note (source_ask s source p) ∷ [])
-mute_ask s source p true is = rw is (mute_named s source (name_in s.policy None p.flags.id_type p.topic_id))
-mute_ask s source p false is = rw is (record { notes = λ c. refl; exits = refl })
+foreign_named : (s : State) (source : List ℕ) (named : Result (List ℕ) Denial) → Foreign (Note (named_ask s source named) ∷ [])
+foreign_named s source (Ok name) = record { notes = λ c. refl; exits = refl }
+foreign_named s source (Err rule) = record { notes = λ c. refl; exits = refl }
 
-pub mute_source : (s : State) (source : List ℕ) (p : Publish) → Mute (Note (source_ask s source p) ∷ [])
-mute_source s source p = mute_ask s source p (lists_source s.policy source) refl
+foreign_ask : (s : State) (source : List ℕ) (p : Publish) (listed : Bool) → lists_source s.policy source ≡ listed → Foreign (Note (source_ask s source p) ∷ [])
+foreign_ask s source p true is = rw is (foreign_named s source (name_in s.policy None p.flags.id_type p.topic_id))
+foreign_ask s source p false is = rw is (record { notes = λ c. refl; exits = refl })
+
+pub foreign_source : (s : State) (source : List ℕ) (p : Publish) → Foreign (Note (source_ask s source p) ∷ [])
+foreign_source s source p = foreign_ask s source p (lists_source s.policy source) refl
+
+foreign : (outs : List Out) → Mute outs → Foreign outs
+foreign outs mute = record { notes = mute.notes; exits = mute.exits }
+
+-- ---- what is asked for
+
+-- the source's own note asks for its publish, and the notes of clients for theirs
+fan_asks : (s : State) (c : Cause) (p : Publish) (xs : List Client) → asked_all p (flat_map (part_for s c) xs) ≡ flat_map (λ x. asked_by_all p (fixed_for s c x)) xs
+fan_asks s c p [] = refl
+fan_asks s c p (x ∷ xs) =
+    asks_append p (part_for s c x) (flat_map (part_for s c) xs)
+    ∙ (ap (λ items. items ++ asked_all p (flat_map (part_for s c) xs)) (part_asks (around s c) (fixed_for s c x) x p)
+    ∙ ap (λ items. asked_by_all p (fixed_for s c x) ++ items) (fan_asks s c p xs))
+
+none_asked : (s : State) (c : Cause) (p : Publish) (xs : List Client) → Each (λ x. fixed_for s c x ≡ []) xs → flat_map (λ x. asked_by_all p (fixed_for s c x)) xs ≡ []
+none_asked s c p [] none = refl
+none_asked s c p (x ∷ xs) none = rw (none.0, none_asked s c p xs none.1) refl
+
+row_asks : (s : State) (c : Cause) (p : Publish) (any : Bool) → any_from c s.clients ≡ any → Strange s c → asked_all p (row_for s c) ≡ flat_map (λ x. asked_by_all p (fixed_for s c x)) s.clients
+row_asks s c p true is strange = rw is (fan_asks s c p s.clients)
+row_asks s c p false is strange =
+    rw is (strange.mute.asks p
+    ∙ sym (none_asked s c p s.clients (each_map (λ x. is_from c x ≡ false) (λ x. fixed_for s c x ≡ []) s.clients strange.quiet (none_from c s.clients is))))
 
 -- ---- each cause
 
@@ -275,42 +342,45 @@ quiet_if true notes is = absurd cc
 quiet_if false notes is = refl
 
 strange_ping : (s : State) (from : Address) (client : Option (List ℕ)) → Strange s (ByPing from client)
-strange_ping s from client = record { mute = record { notes = λ c. refl; exits = refl }; quiet = λ x away. quiet_if (is_here x from) _ away }
+strange_ping s from client = record { mute = record { notes = λ c. refl; exits = refl; asks = λ q. refl }; quiet = λ x away. quiet_if (is_here x from) _ away }
 
 strange_leave : (s : State) (from : Address) → Strange s (ByLeave from)
-strange_leave s from = record { mute = record { notes = λ c. refl; exits = refl }; quiet = λ x away. quiet_if (is_here x from) _ away }
+strange_leave s from = record { mute = record { notes = λ c. refl; exits = refl; asks = λ q. refl }; quiet = λ x away. quiet_if (is_here x from) _ away }
+
+strange_register : (s : State) (from : Address) (r : Register) → Strange s (ByRegister from r)
+strange_register s from r = record { mute = record { notes = λ c. refl; exits = refl; asks = λ q. refl }; quiet = λ x away. quiet_if (is_here x from) _ away }
 
 strange_publish : (s : State) (from : Address) (p : Publish) → Strange s (ByPublish from p)
-strange_publish s from p = record { mute = record { notes = λ c. refl; exits = refl }; quiet = λ x away. quiet_if (is_here x from) _ away }
+strange_publish s from p = record { mute = record { notes = λ c. refl; exits = refl; asks = λ q. refl }; quiet = λ x away. quiet_if (is_here x from) _ away }
 
 strange_broken : (s : State) (from : Address) (rule : Denial) → Strange s (ByBroken from rule)
-strange_broken s from rule = record { mute = record { notes = λ c. refl; exits = refl }; quiet = λ x away. quiet_if (is_here x from) _ away }
+strange_broken s from rule = record { mute = record { notes = λ c. refl; exits = refl; asks = λ q. refl }; quiet = λ x away. quiet_if (is_here x from) _ away }
 
 mute_unsupported : (from : Address) (message : SnFrame) → Mute (Note (denied_note message (who.Address from) NotSupported) ∷ [])
-mute_unsupported from (frame.Connect connect) = record { notes = λ c. refl; exits = refl }
-mute_unsupported from (frame.ConnectAck code) = record { notes = λ c. refl; exits = refl }
-mute_unsupported from frame.WillTopicRequest = record { notes = λ c. refl; exits = refl }
-mute_unsupported from (frame.WillTopic topic) = record { notes = λ c. refl; exits = refl }
-mute_unsupported from frame.WillMessageRequest = record { notes = λ c. refl; exits = refl }
-mute_unsupported from (frame.WillMessage message) = record { notes = λ c. refl; exits = refl }
-mute_unsupported from (frame.Register register) = record { notes = λ c. refl; exits = refl }
-mute_unsupported from (frame.RegisterAck answer) = record { notes = λ c. refl; exits = refl }
-mute_unsupported from (frame.Publish p) = record { notes = λ c. refl; exits = refl }
-mute_unsupported from (frame.PublishAck answer) = record { notes = λ c. refl; exits = refl }
-mute_unsupported from (frame.PublishComplete id) = record { notes = λ c. refl; exits = refl }
-mute_unsupported from (frame.PublishReceived id) = record { notes = λ c. refl; exits = refl }
-mute_unsupported from (frame.PublishRelease id) = record { notes = λ c. refl; exits = refl }
-mute_unsupported from (frame.Subscribe request) = record { notes = λ c. refl; exits = refl }
-mute_unsupported from (frame.SubscribeAck answer) = record { notes = λ c. refl; exits = refl }
-mute_unsupported from (frame.Unsubscribe request) = record { notes = λ c. refl; exits = refl }
-mute_unsupported from (frame.UnsubscribeAck id) = record { notes = λ c. refl; exits = refl }
-mute_unsupported from (frame.PingRequest client) = record { notes = λ c. refl; exits = refl }
-mute_unsupported from frame.PingResponse = record { notes = λ c. refl; exits = refl }
-mute_unsupported from (frame.Disconnect duration) = record { notes = λ c. refl; exits = refl }
-mute_unsupported from (frame.WillTopicUpdate topic) = record { notes = λ c. refl; exits = refl }
-mute_unsupported from (frame.WillTopicResponse code) = record { notes = λ c. refl; exits = refl }
-mute_unsupported from (frame.WillMessageUpdate message) = record { notes = λ c. refl; exits = refl }
-mute_unsupported from (frame.WillMessageResponse code) = record { notes = λ c. refl; exits = refl }
+mute_unsupported from (frame.Connect connect) = record { notes = λ c. refl; exits = refl; asks = λ q. refl }
+mute_unsupported from (frame.ConnectAck code) = record { notes = λ c. refl; exits = refl; asks = λ q. refl }
+mute_unsupported from frame.WillTopicRequest = record { notes = λ c. refl; exits = refl; asks = λ q. refl }
+mute_unsupported from (frame.WillTopic topic) = record { notes = λ c. refl; exits = refl; asks = λ q. refl }
+mute_unsupported from frame.WillMessageRequest = record { notes = λ c. refl; exits = refl; asks = λ q. refl }
+mute_unsupported from (frame.WillMessage message) = record { notes = λ c. refl; exits = refl; asks = λ q. refl }
+mute_unsupported from (frame.Register register) = record { notes = λ c. refl; exits = refl; asks = λ q. refl }
+mute_unsupported from (frame.RegisterAck answer) = record { notes = λ c. refl; exits = refl; asks = λ q. refl }
+mute_unsupported from (frame.Publish p) = record { notes = λ c. refl; exits = refl; asks = λ q. refl }
+mute_unsupported from (frame.PublishAck answer) = record { notes = λ c. refl; exits = refl; asks = λ q. refl }
+mute_unsupported from (frame.PublishComplete id) = record { notes = λ c. refl; exits = refl; asks = λ q. refl }
+mute_unsupported from (frame.PublishReceived id) = record { notes = λ c. refl; exits = refl; asks = λ q. refl }
+mute_unsupported from (frame.PublishRelease id) = record { notes = λ c. refl; exits = refl; asks = λ q. refl }
+mute_unsupported from (frame.Subscribe request) = record { notes = λ c. refl; exits = refl; asks = λ q. refl }
+mute_unsupported from (frame.SubscribeAck answer) = record { notes = λ c. refl; exits = refl; asks = λ q. refl }
+mute_unsupported from (frame.Unsubscribe request) = record { notes = λ c. refl; exits = refl; asks = λ q. refl }
+mute_unsupported from (frame.UnsubscribeAck id) = record { notes = λ c. refl; exits = refl; asks = λ q. refl }
+mute_unsupported from (frame.PingRequest client) = record { notes = λ c. refl; exits = refl; asks = λ q. refl }
+mute_unsupported from frame.PingResponse = record { notes = λ c. refl; exits = refl; asks = λ q. refl }
+mute_unsupported from (frame.Disconnect duration) = record { notes = λ c. refl; exits = refl; asks = λ q. refl }
+mute_unsupported from (frame.WillTopicUpdate topic) = record { notes = λ c. refl; exits = refl; asks = λ q. refl }
+mute_unsupported from (frame.WillTopicResponse code) = record { notes = λ c. refl; exits = refl; asks = λ q. refl }
+mute_unsupported from (frame.WillMessageUpdate message) = record { notes = λ c. refl; exits = refl; asks = λ q. refl }
+mute_unsupported from (frame.WillMessageResponse code) = record { notes = λ c. refl; exits = refl; asks = λ q. refl }
 
 strange_unsupported : (s : State) (from : Address) (message : SnFrame) → Strange s (ByUnsupported from message)
 strange_unsupported s from message = record { mute = mute_unsupported from message; quiet = λ x away. quiet_if (is_here x from) _ away }
@@ -319,22 +389,36 @@ frame_says : (s : State) (c : Cause) → newcomers_for s c ≡ [] → newcomers 
 frame_says s c none new quiet apart strange =
     all_here s c (row_for s c) none new (frame_exits s c (any_from c s.clients) refl strange ∙ sym quiet) (frame_own s c (any_from c s.clients) refl apart strange)
 
-mute_says : (s : State) (c : Cause) (outs : List Out) → newcomers_for s c ≡ [] → newcomers c s.clients outs ≡ newcomers_for s c → exits_for s c ≡ [] → Mute outs → ((x : Client) → fixed_for s c x ≡ []) → Says s c outs
+mute_says : (s : State) (c : Cause) (outs : List Out) → newcomers_for s c ≡ [] → newcomers c s.clients outs ≡ newcomers_for s c → exits_for s c ≡ [] → Foreign outs → ((x : Client) → fixed_for s c x ≡ []) → Says s c outs
 mute_says s c outs none new quiet mute all =
     all_here s c outs none new (mute.exits ∙ sym quiet) (each_all (λ x. notes_of x.id outs ≡ fixed_for s c x) s.clients (λ x. mute.notes x.id ∙ sym (all x)))
+
+-- a PUBLISH of a client asks for what its note allows
+pub publish_asks : (s : State) (from : Address) (p : Publish)
+    → asked_all p (outs_by s (ByPublish from p)) ≡ flat_map (λ x. asked_by_all p (fixed_for s (ByPublish from p) x)) s.clients
+publish_asks s from p = row_asks s (ByPublish from p) p (any_from (ByPublish from p) s.clients) refl (strange_publish s from p)
+
+-- and so does a message that is not supported
+pub unsupported_asks : (s : State) (from : Address) (message : SnFrame) (p : Publish)
+    → asked_all p (outs_by s (ByUnsupported from message)) ≡ flat_map (λ x. asked_by_all p (fixed_for s (ByUnsupported from message) x)) s.clients
+unsupported_asks s from message p =
+    row_asks s (ByUnsupported from message) p (any_from (ByUnsupported from message) s.clients) refl (strange_unsupported s from message)
 
 pub says : (s : State) (c : Cause) → Distinct s.clients → Says s c (outs_by s c)
 says s (ByConnect from connect) apart = entry_says s from connect (entry s connect) refl apart
 says s (ByPing from client) apart = frame_says s (ByPing from client) refl refl refl apart (strange_ping s from client)
 says s (ByLeave from) apart = frame_says s (ByLeave from) refl refl refl apart (strange_leave s from)
+says s (ByRegister from r) apart = frame_says s (ByRegister from r) refl refl refl apart (strange_register s from r)
 says s (ByPublish from p) apart = frame_says s (ByPublish from p) refl refl refl apart (strange_publish s from p)
 says s (ByUnsupported from message) apart = frame_says s (ByUnsupported from message) refl refl refl apart (strange_unsupported s from message)
 says s (ByBroken from rule) apart = frame_says s (ByBroken from rule) refl refl refl apart (strange_broken s from rule)
-says s (BySource from p) apart = mute_says s (BySource from p) (outs_by s (BySource from p)) refl refl refl (mute_source s from.ip p) (λ x. refl)
-says s (ByPacket p) apart = mute_says s (ByPacket p) (outs_by s (ByPacket p)) refl refl refl (record { notes = λ c. refl; exits = refl }) (λ x. refl)
-says s ByUp apart = mute_says s ByUp [] refl refl refl mute_none (λ x. refl)
-says s ByDown apart = mute_says s ByDown [] refl refl refl mute_none (λ x. refl)
+says s (BySource from p) apart = mute_says s (BySource from p) (outs_by s (BySource from p)) refl refl refl (foreign_source s from.ip p) (λ x. refl)
+says s (ByPacket p) apart = mute_says s (ByPacket p) (outs_by s (ByPacket p)) refl refl refl (foreign (outs_by s (ByPacket p)) (mute_packet s.up s.link (answer_of p))) (λ x. refl)
+says s ByUp apart =
+    all_here s ByUp (outs_by s ByUp) refl refl (resending_exits s.policy s.link.in_flight)
+    (each_all (λ x. notes_of x.id (outs_by s ByUp) ≡ fixed_for s ByUp x) s.clients (λ x. resending_none x.id s.policy s.link.in_flight))
+says s ByDown apart = mute_says s ByDown [] refl refl refl (foreign [] mute_none) (λ x. refl)
 says s ByTake apart =
     all_here s ByTake (outs_by s ByTake) refl refl (take_exits s s.up refl) (each_all (λ x. notes_of x.id (outs_by s ByTake) ≡ fixed_for s ByTake x) s.clients (λ x. take_none s x.id s.up refl))
-says s (ByReplace policy) apart = mute_says s (ByReplace policy) [] refl refl refl mute_none (λ x. refl)
-says s (ByTick clock) apart = mute_says s (ByTick clock) [] refl refl refl mute_none (λ x. refl)
+says s (ByReplace policy) apart = mute_says s (ByReplace policy) [] refl refl refl (foreign [] mute_none) (λ x. refl)
+says s (ByTick clock) apart = mute_says s (ByTick clock) [] refl refl refl (foreign [] mute_none) (λ x. refl)

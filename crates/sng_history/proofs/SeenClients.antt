@@ -23,16 +23,17 @@ use Rattle.sng_book.specs.declared.outcome.Denial.{Denial}
 use Rattle.sng_book.specs.declared.outcome.Denial.TheVariants.{NotSupported}
 use Rattle.sng_book.specs.declared.outcome.Outcome.{Outcome}
 use Rattle.sng_book.specs.declared.outcome.Outcome.TheVariants.{Allowed, Denied}
-use Rattle.sng_history.specs.Causes.{Cause, ByConnect, ByPing, ByLeave, ByPublish, ByUnsupported, ByBroken, datagram_cause, publish_cause, rule_of}
+use Rattle.sng_history.specs.Causes.{Cause, ByConnect, ByPing, ByLeave, ByRegister, ByPublish, ByUnsupported, ByBroken, datagram_cause, publish_cause, rule_of}
 use Rattle.sng_history.specs.Clients.{Client, Around, is_here, cleaned, let_in, note_by, notes_by}
 use Rattle.sng_history.specs.State.{State}
-use Rattle.sng_history.specs.Verdicts.{entry, ping_verdict}
+use Rattle.sng_history.specs.Verdicts.{entry, ping_verdict, register_ask, publish_ask}
 use Rattle.sng_history.specs.Answers.{denied_note}
 use Rattle.sng_history.specs.Lawful.{fixed_for, denial_of}
 use Rattle.sng_history.specs.Steps.{client_next}
 use Rattle.sng_history.specs.ViewsMessages.{message_in}
 use Rattle.sng_history.specs.ViewsClients.{phase_by, admits, duration_by, is_spoken}
 use Rattle.sng_history.proofs.Own.{same_self}
+use Rattle.sng_history.proofs.Asks.{of_register, of_publish}
 use Rattle.sng_history.proofs.SeenNotes.{phase_notes, admitted_notes}
 
 -- what was shown before of a client, and of an event: where it came from, what it states, the clock, and whether the client speaks by it
@@ -111,6 +112,21 @@ ping_shows a x from true Allowed = (refl, refl, refl, refl)
 ping_shows a x from true (Denied rule) = (refl, refl, refl, refl)
 ping_shows a x from false o = (refl, refl, refl, refl)
 
+-- what it asks for is noted, and moves nothing of this
+register_shows : (a : Around) (policy : Policy) (x : Client) (from : Option Address) (text : List ℕ) (here : Bool)
+    → let n = if here then register_ask policy x text ∷ [] else [] in
+    Shows x.id (kept_of x from None a.clock here) n (notes_by a n (heard_if here a.clock x))
+register_shows a policy x from text true =
+    of_register (λ said. Shows x.id (kept_of x from None a.clock true) (said ∷ []) (note_by a said (heard_if true a.clock x))) policy x text (λ name o. (refl, refl, refl, refl))
+register_shows a policy x from text false = (refl, refl, refl, refl)
+
+asked_shows : (a : Around) (s : State) (x : Client) (from : Option Address) (p : Publish) (here : Bool)
+    → let n = if here then publish_ask s x p ∷ [] else [] in
+    Shows x.id (kept_of x from None a.clock here) n (notes_by a n (heard_if here a.clock x))
+asked_shows a s x from p true =
+    of_publish (λ said. Shows x.id (kept_of x from None a.clock true) (said ∷ []) (note_by a said (heard_if true a.clock x))) s x p (λ name o. (refl, refl, refl, refl))
+asked_shows a s x from p false = (refl, refl, refl, refl)
+
 -- ---- it leaves, or is let in
 
 leave_shows : (a : Around) (x : Client) (from : Option Address) (stated : Option ℕ) (here : Bool)
@@ -124,11 +140,15 @@ record LetIn (clock : ℕ) (from : Address) (seconds : ℕ) (y : Client) : Type 
   address : y.address ≡ from
   duration : y.duration ≡ seconds
   heard : y.heard ≡ clock
+  ids : y.ids ≡ []
 
 let_in_as : (clean : Bool) (clock : ℕ) (from : Address) (duration : ℕ) (x : Client)
     → LetIn clock from duration (cleaned clean (record x { address = from; phase = Active; ids = []; duration = duration; heard = clock }))
-let_in_as true clock from duration x = record { phase = refl; address = refl; duration = refl; heard = refl }
-let_in_as false clock from duration x = record { phase = refl; address = refl; duration = refl; heard = refl }
+let_in_as true clock from duration x = record { phase = refl; address = refl; duration = refl; heard = refl; ids = refl }
+let_in_as false clock from duration x = record { phase = refl; address = refl; duration = refl; heard = refl; ids = refl }
+
+pub let_in_ids : (clock : ℕ) (from : Address) (connect : Connect) (x : Client) → (let_in clock from connect x).ids ≡ []
+let_in_ids clock from connect x = (let_in_as connect.flags.clean clock from connect.duration x).ids
 
 -- the client whose CONNECT is accepted, whatever was shown before
 pub let_in_shows : (b : Before) (id : List ℕ) (clock : ℕ) (from : Address) (connect : Connect) (x : Client) → b.from ≡ Some from → b.stated ≡ Some connect.duration → b.clock ≡ clock
@@ -168,8 +188,8 @@ publish_shows : (s : State) (x : Client) (from : Address) (p : Publish) (q : Fra
     → let c = publish_cause from p q in
     Shows x.id (kept_of x (Some from) None s.clock (is_spoken (message_in (Ok (frame.Publish (record p { flags = record p.flags { qos = q } })))) && is_here x from)) (fixed_for s c x) (client_next s c x)
 publish_shows s x from p qos.WithoutSession = (refl, refl, refl, refl)
-publish_shows s x from p qos.AtMostOnce = denied_shows (around_by s (ByPublish from p)) x (Some from) None (is_here x from) (frame.Publish p) NotSupported
-publish_shows s x from p qos.AtLeastOnce = denied_shows (around_by s (ByPublish from p)) x (Some from) None (is_here x from) (frame.Publish p) NotSupported
+publish_shows s x from p qos.AtMostOnce = asked_shows (around_by s (ByPublish from p)) s x (Some from) p (is_here x from)
+publish_shows s x from p qos.AtLeastOnce = asked_shows (around_by s (ByPublish from p)) s x (Some from) p (is_here x from)
 publish_shows s x from p qos.ExactlyOnce = denied_shows (around_by s (ByUnsupported from (frame.Publish p))) x (Some from) None (is_here x from) (frame.Publish p) NotSupported
 
 disconnect_shows : (s : State) (x : Client) (from : Address) (duration : Option ℕ)
@@ -184,6 +204,7 @@ pub datagram_shows : (s : State) (x : Client) (from : Address) (read : Result Sn
 datagram_shows s x from (Ok (frame.Connect connect)) =
     connect_shows s.policy s.clock from connect x (bytes_eq connect.client_id x.id) (is_here x from) (entry s connect)
 datagram_shows s x from (Ok (frame.Publish p)) = publish_shows s x from p p.flags.qos
+datagram_shows s x from (Ok (frame.Register r)) = register_shows (around_by s (ByRegister from r)) s.policy x (Some from) r.name (is_here x from)
 datagram_shows s x from (Ok (frame.PingRequest client)) = ping_shows (around_by s (ByPing from client)) x (Some from) (is_here x from) (ping_verdict client x)
 datagram_shows s x from (Ok (frame.Disconnect duration)) = disconnect_shows s x from duration
 datagram_shows s x from (Ok message) = denied_shows (around_by s (ByUnsupported from message)) x (Some from) None (is_here x from) message NotSupported

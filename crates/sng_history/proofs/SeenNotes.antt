@@ -1,13 +1,15 @@
 -- What the rows show of a client is read from the client's own notes.
-use Rattle.std.proofs.Common.{◌≡◌, ℕ, Bool, true, false, List, [], ◌∷◌, ◌++◌, refl, ap, ◌∙◌, if◌then◌else◌}
+use Rattle.std.proofs.Common.{◌≡◌, ℕ, Bool, true, false, List, [], ◌∷◌, ◌++◌, refl, ap, sym, ◌∙◌, if◌then◌else◌}
 use Rattle.std.specs.Prelude.{◌||◌, Option}
 use Rattle.sng_states.specs.declared.state.ClientState.{ClientState}
 use Rattle.sng_book.specs.declared.decision.Decision.{Decision}
 use Rattle.sng_book.specs.declared.decision.Decision.TheVariants as note
 use Rattle.sng_book.specs.declared.out.Out.{Out}
 use Rattle.sng_book.specs.declared.out.Out.TheVariants.{Send, Wire, Note}
-use Rattle.sng_history.specs.Notes.{notes_of, is_of}
-use Rattle.sng_history.specs.ViewsClients.{phase_by, phase_after, admits, is_admitted}
+use Rattle.sng_book.specs.declared.decision.Who.{Who}
+use Rattle.sng_book.specs.declared.decision.Who.TheVariants as who
+use Rattle.sng_history.specs.Notes.{notes_of, is_of, is_client}
+use Rattle.sng_history.specs.ViewsClients.{phase_by, phase_after, admits, is_admitted, speaks_of, names_by, names_after}
 
 abbrev pub phase_notes : List ℕ → List Decision → Option ClientState → Option ClientState
 phase_notes id [] before = before
@@ -16,6 +18,10 @@ phase_notes id (said ∷ notes) before = phase_notes id notes (phase_by id said 
 abbrev pub admitted_notes : List ℕ → List Decision → Bool
 admitted_notes id [] = false
 admitted_notes id (said ∷ notes) = admits id said || admitted_notes id notes
+
+abbrev pub names_notes : List ℕ → List Decision → List (List ℕ) → List (List ℕ)
+names_notes id [] before = before
+names_notes id (said ∷ notes) before = names_notes id notes (names_by id said before)
 
 -- another's note shows nothing of the client
 phase_other : (id : List ℕ) (said : Decision) (before : Option ClientState) → is_of id said ≡ false → phase_by id said before ≡ before
@@ -27,6 +33,17 @@ admits_other : (id : List ℕ) (said : Decision) → is_of id said ≡ false →
 admits_other id (note.Connect client outcome) other = rw other refl
 admits_other id _ other = refl
 
+client_same : (id : List ℕ) (whom : Who) → is_client id whom ≡ speaks_of id whom
+client_same id (who.Client client) = refl
+client_same id (who.Source source) = refl
+client_same id (who.Address address) = refl
+client_same id who.Broker = refl
+
+names_other : (id : List ℕ) (said : Decision) (before : List (List ℕ)) → is_of id said ≡ false → names_by id said before ≡ before
+names_other id (note.Connect client outcome) before other = rw other refl
+names_other id (note.Register whom name outcome) before other = rw (sym (client_same id whom) ∙ other) refl
+names_other id _ before other = refl
+
 phase_note : (id : List ℕ) (said : Decision) (notes : List Decision) (before : Option ClientState) (b : Bool) → is_of id said ≡ b
     → phase_notes id notes (phase_by id said before) ≡ phase_notes id ((if b then said ∷ [] else []) ++ notes) before
 phase_note id said notes before true own = refl
@@ -36,6 +53,11 @@ admitted_note : (id : List ℕ) (said : Decision) (notes : List Decision) (b : B
     → (admits id said || admitted_notes id notes) ≡ admitted_notes id ((if b then said ∷ [] else []) ++ notes)
 admitted_note id said notes true own = refl
 admitted_note id said notes false other = rw (admits_other id said other) refl
+
+names_note : (id : List ℕ) (said : Decision) (notes : List Decision) (before : List (List ℕ)) (b : Bool) → is_of id said ≡ b
+    → names_notes id notes (names_by id said before) ≡ names_notes id ((if b then said ∷ [] else []) ++ notes) before
+names_note id said notes before true own = refl
+names_note id said notes before false other = ap (names_notes id notes) (names_other id said before other)
 
 pub phase_by_notes : (id : List ℕ) (outs : List Out) (before : Option ClientState) → phase_after id outs before ≡ phase_notes id (notes_of id outs) before
 phase_by_notes id [] before = refl
@@ -50,3 +72,10 @@ admitted_by_notes id (Note said ∷ outs) =
     ap (λ later. admits id said || later) (admitted_by_notes id outs) ∙ admitted_note id said (notes_of id outs) (is_of id said) refl
 admitted_by_notes id (Send to datagram ∷ outs) = admitted_by_notes id outs
 admitted_by_notes id (Wire packet ∷ outs) = admitted_by_notes id outs
+
+pub names_by_notes : (id : List ℕ) (outs : List Out) (before : List (List ℕ)) → names_after id outs before ≡ names_notes id (notes_of id outs) before
+names_by_notes id [] before = refl
+names_by_notes id (Note said ∷ outs) before =
+    names_by_notes id outs (names_by id said before) ∙ names_note id said (notes_of id outs) before (is_of id said) refl
+names_by_notes id (Send to datagram ∷ outs) before = names_by_notes id outs before
+names_by_notes id (Wire packet ∷ outs) before = names_by_notes id outs before

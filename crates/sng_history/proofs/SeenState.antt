@@ -33,7 +33,7 @@ use Rattle.sng_history.specs.Steps.{outs_by, outs_of, notes_for, newcomers_for, 
 use Rattle.sng_history.specs.Good.{Each, Good}
 use Rattle.sng_history.specs.Views.{policy_in_force, clock_at, is_up}
 use Rattle.sng_history.specs.ViewsMessages.{message_in}
-use Rattle.sng_history.specs.ViewsClients.{phase_of, address_of, duration_of, heard_of, came_from, stated_in, speaks, is_spoken, is_admitted, is_among, accepted, accepted_in, accepted_by}
+use Rattle.sng_history.specs.ViewsClients.{phase_of, address_of, duration_of, heard_of, came_from, stated_in, speaks, is_spoken, is_admitted, is_among, accepted, accepted_in, accepted_by, names_told}
 use Rattle.sng_history.specs.ViewsLink.{waiting}
 use Rattle.sng_history.specs.LawsState.{ClientShown}
 use Rattle.sng_history.proofs.Own.{same_self, each_with, each_append, each_mapped}
@@ -42,8 +42,9 @@ use Rattle.sng_history.proofs.Says.{says}
 use Rattle.sng_history.proofs.Keeping.{exact_by, next_same}
 use Rattle.sng_history.proofs.Entries.{entering_next}
 use Rattle.sng_history.proofs.GoodNext.{good_next, good_opening}
-use Rattle.sng_history.proofs.SeenNotes.{phase_notes, admitted_notes, phase_by_notes, admitted_by_notes}
-use Rattle.sng_history.proofs.SeenClients.{Before, Shows, kept_of, silent, let_in_shows, datagram_shows}
+use Rattle.sng_history.proofs.SeenNotes.{phase_notes, admitted_notes, names_notes, phase_by_notes, admitted_by_notes, names_by_notes}
+use Rattle.sng_history.proofs.SeenClients.{Before, Shows, kept_of, silent, let_in_ids, let_in_shows, datagram_shows}
+use Rattle.sng_history.proofs.SeenIds.{known, told_next}
 use Rattle.sng_history.proofs.SeenLink.{waits_row}
 
 -- what is kept is what the rows show, with the clients in the order in which each was accepted first
@@ -71,9 +72,9 @@ before_row id e h = record {
 }
 
 shown_by : (by : ℕ) (h : List Row) (e : Event) (outs : List Out) (id : List ℕ) (n : List Decision) (y : Client)
-    → y.id ≡ id → notes_of id outs ≡ n → Shows id (before_row id e h) n y
+    → y.id ≡ id → notes_of id outs ≡ n → Shows id (before_row id e h) n y → y.ids ≡ known (names_notes id n (names_told id h))
     → ClientShown (record { by = by; event = e; outs = outs } ∷ h) y
-shown_by by h e outs id n y same own shows =
+shown_by by h e outs id n y same own shows told =
     let rows = record { by = by; event = e; outs = outs } ∷ h in
     let admitted : is_admitted id outs ≡ admitted_notes id n = admitted_by_notes id outs ∙ ap (admitted_notes id) own in
     record {
@@ -81,6 +82,7 @@ shown_by by h e outs id n y same own shows =
       address = ap (λ i. address_of i rows) same ∙ (ap (λ b. if b then came_from e else address_of id h) admitted ∙ shows.1);
       duration = ap (λ i. duration_of i rows) same ∙ (ap (λ b. if b then stated_in e else duration_of id h) admitted ∙ shows.2);
       heard = ap (λ i. heard_of i rows) same ∙ (ap (λ b. if b || speaks id e h then Some (clock_at h) else heard_of id h) admitted ∙ shows.3);
+      ids = told ∙ ap known (ap (λ ns. names_notes id ns (names_told id h)) (sym own) ∙ (sym (names_by_notes id outs (names_told id h)) ∙ ap (λ i. names_told i rows) (sym same)));
     }
 
 -- the client, who is kept as the rows before show, speaks by the event
@@ -118,6 +120,7 @@ known_row : (by : ℕ) (h : List Row) (s : State) (e : Event) (outs : List Out) 
 known_row by h s e outs x clock shown own =
     shown_by by h e outs x.id (fixed_for s (cause_of e) x) (client_next s (cause_of e) x) (client_id (around s (cause_of e)) (fixed_for s (cause_of e) x) x) own
     (rw (shown.phase, shown.address, shown.duration, shown.heard, sym clock, spoke_same h x e shown) (event_shows s x e))
+    (told_next s (cause_of e) x (names_told x.id h) shown.ids)
 
 -- ---- one that is accepted for the first time
 
@@ -145,6 +148,7 @@ new_row by h s from datagram connect outs read clock is own =
     shown_by by h e outs id (note.Connect id Allowed ∷ []) (client_next s c (blank id)) (client_id (around s c) (fixed_for s c (blank id)) (blank id)) (own ∙ new_notes s from connect is)
     (subst (Shows id (before_row id e h) (note.Connect id Allowed ∷ [])) (sym (new_next s from connect is))
     (let_in_shows (before_row id e h) id s.clock from connect (blank id) refl (rw read refl) (sym clock)))
+    (ap (λ y. y.ids) (new_next s from connect is) ∙ (let_in_ids s.clock from connect (blank id) ∙ (rw (same_self id) refl)))
 
 abbrev NewShown : State → Cause → List Row → List Client → Type 0
 NewShown s c rows xs = Each (λ x. ClientShown rows (client_next s c x)) xs
@@ -316,7 +320,7 @@ shown_row by h s e good shown =
       policy = moved.policy;
       clock = moved.clock;
       up = moved.up;
-      waits = waits_row s e h shown.policy shown.up shown.waits;
+      waits = waits_row s e h shown.up shown.waits;
       order = order_row s e h shown.order;
       clients = clients_row by h s e (outs_of s e) shown.clock shown.clients (says s (cause_of e) good.apart).own;
     }

@@ -13,7 +13,7 @@ use Rattle.sng_book.specs.declared.decision.Decision.TheVariants as note
 use Rattle.sng_book.specs.declared.out.Out.{Out}
 use Rattle.sng_book.specs.declared.out.Out.TheVariants.{Send, Wire, Note}
 use Rattle.sng_book.specs.declared.row.Row.{Row}
-use Rattle.sng_history.specs.Causes.{Cause, cause_of, ByConnect, ByPing, ByLeave, BySource, ByPublish, ByUnsupported, ByBroken, ByPacket, ByUp, ByDown, ByTake, ByReplace, ByTick}
+use Rattle.sng_history.specs.Causes.{Cause, cause_of, ByConnect, ByPing, ByLeave, BySource, ByRegister, ByPublish, ByUnsupported, ByBroken, ByPacket, ByUp, ByDown, ByTake, ByReplace, ByTick}
 use Rattle.sng_history.specs.Clients.{Around, Client, blank, is_author, start_by, cleaned, let_in, entered_by, note_by, notes_by, client_by}
 use Rattle.sng_history.specs.Notes.{notes_of}
 use Rattle.sng_history.specs.State.{State, opening, state_of, around, is_known, newcomer, entered_in, newcomers, present_in}
@@ -22,9 +22,8 @@ use Rattle.sng_history.specs.LawsState.{Untold}
 use Rattle.sng_history.proofs.Own.{each_map, each_append, each_mapped}
 
 untold_cleaned : (clean : Bool) (x : Client) → Untold x → Untold (cleaned clean x)
-untold_cleaned true x u = record { ids = u.ids; number = u.number; buffer = refl; filters = refl; wills = refl }
+untold_cleaned true x u = record { number = u.number; buffer = refl; filters = refl; wills = refl }
 untold_cleaned false x u = record {
-  ids = u.ids;
   number = u.number;
   buffer = ap (λ b. let c : Buffer = record b { exchange = None } in c) u.buffer;
   filters = u.filters;
@@ -34,13 +33,14 @@ untold_cleaned false x u = record {
 untold_let_in : (clock : ℕ) (from : Address) (connect : Connect) (x : Client) → Untold x → Untold (let_in clock from connect x)
 untold_let_in clock from connect x u =
     untold_cleaned connect.flags.clean (record x { address = from; phase = Active; ids = []; duration = connect.duration; heard = clock })
-    (record { ids = refl; number = u.number; buffer = u.buffer; filters = u.filters; wills = u.wills })
+    (record { number = u.number; buffer = u.buffer; filters = u.filters; wills = u.wills })
 
 untold_entered : (clock : ℕ) (c : Cause) (x : Client) → Untold x → Untold (entered_by clock c x)
 untold_entered clock (ByConnect from connect) x u = untold_let_in clock from connect x u
 untold_entered clock (ByPing from client) x u = u
 untold_entered clock (ByLeave from) x u = u
 untold_entered clock (BySource from p) x u = u
+untold_entered clock (ByRegister from r) x u = u
 untold_entered clock (ByPublish from p) x u = u
 untold_entered clock (ByUnsupported from message) x u = u
 untold_entered clock (ByBroken from rule) x u = u
@@ -58,12 +58,12 @@ untold_if false x y one two = two
 untold_note : (a : Around) (said : Decision) (x : Client) → Untold x → Untold (note_by a said x)
 untold_note a (note.Connect id outcome) x u = untold_if (is_allowed outcome) (entered_by a.clock a.cause x) x (untold_entered a.clock a.cause x u) u
 untold_note a (note.Left id) x u = record {
-  ids = u.ids;
   number = u.number;
   buffer = refl;
   filters = u.filters;
   wills = ap (λ w. let v : Wills = record w { stage = Closed } in v) u.wills;
 }
+untold_note a (note.Register whom name outcome) x u = record { number = u.number; buffer = u.buffer; filters = u.filters; wills = u.wills }
 untold_note a _ x u = u
 
 untold_notes : (a : Around) (notes : List Decision) (x : Client) → Untold x → Untold (notes_by a notes x)
@@ -73,11 +73,11 @@ untold_notes a (said ∷ notes) x u = untold_notes a notes (note_by a said x) (u
 untold_client : (a : Around) (notes : List Decision) (x : Client) → Untold x → Untold (client_by a notes x)
 untold_client a notes x u =
     untold_notes a notes (start_by a x)
-    (untold_if (is_author a.cause x) (record x { heard = a.clock }) x (record { ids = u.ids; number = u.number; buffer = u.buffer; filters = u.filters; wills = u.wills }) u)
+    (untold_if (is_author a.cause x) (record x { heard = a.clock }) x (record { number = u.number; buffer = u.buffer; filters = u.filters; wills = u.wills }) u)
 
 -- who is accepted for the first time
 untold_blank : (b : Bool) (id : List ℕ) → Each Untold (if b then blank id ∷ [] else [])
-untold_blank true id = (record { ids = refl; number = refl; buffer = refl; filters = refl; wills = refl }, tt)
+untold_blank true id = (record { number = refl; buffer = refl; filters = refl; wills = refl }, tt)
 untold_blank false id = tt
 
 untold_newcomer : (xs : List Client) (said : Decision) → Each Untold (newcomer xs said)
@@ -95,6 +95,7 @@ untold_newcomers (ByConnect from connect) xs outs = untold_first xs outs
 untold_newcomers (ByPing from client) xs outs = tt
 untold_newcomers (ByLeave from) xs outs = tt
 untold_newcomers (BySource from p) xs outs = tt
+untold_newcomers (ByRegister from r) xs outs = tt
 untold_newcomers (ByPublish from p) xs outs = tt
 untold_newcomers (ByUnsupported from message) xs outs = tt
 untold_newcomers (ByBroken from rule) xs outs = tt

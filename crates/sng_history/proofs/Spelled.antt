@@ -1,86 +1,52 @@
 -- What is let out for a client has the client's notes, and no other.
 use Rattle.std.proofs.Common.{◌≡◌, ℕ, Bool, true, false, List, [], ◌∷◌, ◌++◌, refl, ap, ◌∙◌}
-use Rattle.std.specs.Prelude.{if◌then◌else◌, Some, None}
-use Rattle.std.specs.declared.option.Option.{Option}
+use Rattle.std.specs.Prelude.{if◌then◌else◌}
 use Rattle.std.specs.Str.{bytes_eq}
-use Rattle.sng_frames.specs.declared.frame.SnFrame.{SnFrame}
-use Rattle.sng_frames.specs.declared.frame.SnFrame.TheVariants as frame
-use Rattle.sng_book.specs.declared.address.Address.{Address}
+use Rattle.sng_frames.specs.declared.messages.publish.Publish.{Publish}
 use Rattle.sng_book.specs.declared.decision.Decision.{Decision}
-use Rattle.sng_book.specs.declared.decision.Decision.TheVariants as note
-use Rattle.sng_book.specs.declared.outcome.Denial.{Denial}
-use Rattle.sng_book.specs.declared.outcome.Denial.TheVariants.{NoSession}
-use Rattle.sng_book.specs.declared.outcome.Outcome.{Outcome}
-use Rattle.sng_book.specs.declared.outcome.Outcome.TheVariants.{Allowed, Denied}
 use Rattle.sng_book.specs.declared.out.Out.{Out}
-use Rattle.sng_history.specs.Causes.{Cause, ByConnect, ByPing, ByLeave, BySource, ByPublish, ByUnsupported, ByBroken, ByPacket, ByUp, ByDown, ByTake, ByReplace, ByTick}
+use Rattle.sng_history.specs.Causes.{Cause}
 use Rattle.sng_history.specs.Clients.{Around, Client, is_author, start_by, note_by}
 use Rattle.sng_history.specs.Notes.{notes_of, exits_in, is_of, exit_of}
-use Rattle.sng_history.specs.Verdicts.{ping_verdict}
-use Rattle.sng_history.specs.Answers.{refusal, code_of, sent_to}
-use Rattle.sng_history.specs.Whole.{farewell, denied_by, replied, frames_of, spell, pong_by, answer, part}
-use Rattle.sng_history.proofs.Own.{same_self, notes_append, exits_append}
+use Rattle.sng_history.specs.Whole.{frames_of, spell, answer, part}
+use Rattle.sng_history.specs.State.{asked_by}
+use Rattle.sng_history.specs.Steps.{asked_by_all}
+use Rattle.sng_book.specs.declared.out.Out.TheVariants.{Send, Wire, Note}
+use Rattle.sng_history.proofs.Sent.{AllSent, frames_sent, answer_sent}
+use Rattle.sng_history.proofs.Own.{same_self, notes_append, exits_append, asked_all, asks_append}
 
 -- no note among these
 pub record Mute (outs : List Out) : Type 0 where
   pub notes : (c : List ℕ) → notes_of c outs ≡ []
   pub exits : exits_in outs ≡ []
+  pub asks : (p : Publish) → asked_all p outs ≡ []
 
 pub mute_none : Mute []
-mute_none = record { notes = λ c. refl; exits = refl }
+mute_none = record { notes = λ c. refl; exits = refl; asks = λ p. refl }
 
-mute_farewell : (c : Cause) (to : Address) → Mute (farewell c to)
-mute_farewell (ByLeave from) to = record { notes = λ c. refl; exits = refl }
-mute_farewell _ to = mute_none
+pub mute_both : (xs ys : List Out) → Mute xs → Mute ys → Mute (xs ++ ys)
+mute_both xs ys one two = record {
+  notes = λ c. notes_append c xs ys ∙ (ap (λ notes. notes ++ notes_of c ys) (one.notes c) ∙ two.notes c);
+  exits = exits_append xs ys ∙ (ap (λ exits. exits ++ exits_in ys) one.exits ∙ two.exits);
+  asks = λ p. asks_append p xs ys ∙ (ap (λ items. items ++ asked_all p ys) (one.asks p) ∙ two.asks p);
+}
 
-mute_sent : (to : Address) (o : Option SnFrame) → Mute (sent_to to o)
-mute_sent to None = mute_none
-mute_sent to (Some message) = record { notes = λ c. refl; exits = refl }
-
-mute_ping : (from to : Address) (client : Option (List ℕ)) (rule : Denial) → Mute (denied_by (ByPing from client) to rule)
-mute_ping from to client NoSession = record { notes = λ c. refl; exits = refl }
-mute_ping from to client _ = mute_none
-
-mute_denied : (c : Cause) (to : Address) (rule : Denial) → Mute (denied_by c to rule)
-mute_denied (ByPing from client) to rule = mute_ping from to client rule
-mute_denied (ByPublish from p) to rule = mute_sent to (refusal (frame.Publish p) (code_of rule))
-mute_denied (ByUnsupported from message) to rule = mute_sent to (refusal message (code_of rule))
-mute_denied (ByConnect from connect) to rule = mute_none
-mute_denied (ByLeave from) to rule = mute_none
-mute_denied (BySource from p) to rule = mute_none
-mute_denied (ByBroken from broke) to rule = mute_none
-mute_denied (ByPacket p) to rule = mute_none
-mute_denied ByUp to rule = mute_none
-mute_denied ByDown to rule = mute_none
-mute_denied ByTake to rule = mute_none
-mute_denied (ByReplace policy) to rule = mute_none
-mute_denied (ByTick clock) to rule = mute_none
-
-mute_replied : (c : Cause) (to : Address) (outcome : Outcome) → Mute (replied c to outcome)
-mute_replied c to Allowed = mute_none
-mute_replied c to (Denied rule) = mute_denied c to rule
+-- what is sent to clients has none
+mute_of : (outs : List Out) → AllSent outs → Mute outs
+mute_of [] all = mute_none
+mute_of (Send to datagram ∷ outs) all = let m = mute_of outs all in record { notes = m.notes; exits = m.exits; asks = m.asks }
+mute_of (Note said ∷ outs) all = absurd all
+mute_of (Wire packet ∷ outs) all = absurd all
 
 mute_frames : (a : Around) (x : Client) (said : Decision) → Mute (frames_of a x said)
-mute_frames a x (note.Left id) = mute_farewell a.cause x.address
-mute_frames a x (note.Register who name outcome) = mute_replied a.cause x.address outcome
-mute_frames a x (note.Publish who name outcome) = mute_replied a.cause x.address outcome
-mute_frames a x (note.Subscribe who filter outcome) = mute_replied a.cause x.address outcome
-mute_frames a x (note.Unsubscribe who filter outcome) = mute_replied a.cause x.address outcome
-mute_frames a x (note.Will who name outcome) = mute_replied a.cause x.address outcome
-mute_frames a x (note.Frame who outcome) = mute_replied a.cause x.address outcome
-mute_frames a x _ = mute_none
+mute_frames a x said = mute_of (frames_of a x said) (frames_sent a x said)
+
+mute_answer : (c : Cause) (x : Client) → Mute (answer c x)
+mute_answer c x = mute_of (answer c x) (answer_sent c x)
 
 pub mute_if : (b : Bool) (outs : List Out) → Mute outs → Mute (if b then outs else [])
 mute_if true outs m = m
 mute_if false outs m = mute_none
-
-mute_pong : (outcome : Outcome) (to : Address) → Mute (pong_by outcome to)
-mute_pong Allowed to = record { notes = λ c. refl; exits = refl }
-mute_pong (Denied rule) to = mute_none
-
-mute_answer : (c : Cause) (x : Client) → Mute (answer c x)
-mute_answer (ByPing from client) x = mute_pong (ping_verdict client x) x.address
-mute_answer _ x = mute_none
 
 -- ---- notes about one client
 
@@ -141,3 +107,17 @@ part_exits a notes x about =
     let y = start_by a x in
     exits_append (if is_author a.cause x then answer a.cause x else []) (spell a y notes)
     ∙ (ap (λ more. more ++ exits_in (spell a y notes)) (lead a.cause x).exits ∙ spell_exits a y x.id notes about)
+
+-- what a client's part asks for is what its notes ask for
+spell_asks : (a : Around) (x : Client) (p : Publish) (notes : List Decision) → asked_all p (spell a x notes) ≡ asked_by_all p notes
+spell_asks a x p [] = refl
+spell_asks a x p (said ∷ notes) =
+    let y = note_by a said x in
+    ap (λ more. asked_by said p ++ more)
+    (asks_append p (frames_of a x said) (spell a y notes) ∙ (ap (λ more. more ++ asked_all p (spell a y notes)) ((mute_frames a x said).asks p) ∙ spell_asks a y p notes))
+
+pub part_asks : (a : Around) (notes : List Decision) (x : Client) (p : Publish) → asked_all p (part a notes x) ≡ asked_by_all p notes
+part_asks a notes x p =
+    let y = start_by a x in
+    asks_append p (if is_author a.cause x then answer a.cause x else []) (spell a y notes)
+    ∙ (ap (λ more. more ++ asked_all p (spell a y notes)) ((lead a.cause x).asks p) ∙ spell_asks a y p notes)

@@ -12,13 +12,14 @@ use Rattle.sng_book.specs.declared.outcome.Denial.{Denial}
 use Rattle.sng_book.specs.declared.outcome.Denial.TheVariants.{NotSupported}
 use Rattle.sng_book.specs.declared.outcome.Outcome.{Outcome}
 use Rattle.sng_book.specs.declared.outcome.Outcome.TheVariants.{Allowed, Denied}
-use Rattle.sng_history.specs.Causes.{Cause, ByConnect, ByPing, ByLeave, BySource, ByPublish, ByUnsupported, ByBroken, ByPacket, ByUp, ByDown, ByTake, ByReplace, ByTick}
+use Rattle.sng_history.specs.Causes.{Cause, ByConnect, ByPing, ByLeave, BySource, ByRegister, ByPublish, ByUnsupported, ByBroken, ByPacket, ByUp, ByDown, ByTake, ByReplace, ByTick}
 use Rattle.sng_history.specs.Clients.{Client, is_here}
 use Rattle.sng_history.specs.State.{State}
-use Rattle.sng_history.specs.Verdicts.{entry, ping_verdict}
+use Rattle.sng_history.specs.Verdicts.{entry, ping_verdict, register_ask, publish_ask}
 use Rattle.sng_history.specs.Answers.{denied_note}
 use Rattle.sng_history.specs.Lawful.{denial_of, fixed_for}
 use Rattle.sng_history.proofs.Spelled.{About, AllAbout}
+use Rattle.sng_history.proofs.Asks.{of_register, of_publish}
 
 about_denied : (c : List ℕ) (message : SnFrame) (rule : Denial) → About c (denied_note message (who.Client c) rule)
 about_denied c (frame.Connect connect) rule = record { of = λ d. refl; stays = refl }
@@ -72,7 +73,10 @@ pub tells : (s : State) (c : Cause) (x : Client) → AllAbout x.id (fixed_for s 
 tells s (ByConnect from connect) x = about_entry (bytes_eq connect.client_id x.id) x.id (entry s connect) (is_here x from)
 tells s (ByPing from client) x = about_if (is_here x from) x.id (denial_of x.id (ping_verdict client x)) (about_denial x.id (ping_verdict client x))
 tells s (ByLeave from) x = about_if (is_here x from) x.id (note.Left x.id ∷ []) (about_left x.id, tt)
-tells s (ByPublish from p) x = about_if (is_here x from) x.id (denied_note (frame.Publish p) (who.Client x.id) NotSupported ∷ []) (about_denied x.id (frame.Publish p) NotSupported, tt)
+tells s (ByRegister from r) x =
+    about_if (is_here x from) x.id (register_ask s.policy x r.name ∷ []) (of_register (About x.id) s.policy x r.name (λ name o. record { of = λ d. refl; stays = refl }), tt)
+tells s (ByPublish from p) x =
+    about_if (is_here x from) x.id (publish_ask s x p ∷ []) (of_publish (About x.id) s x p (λ name o. record { of = λ d. refl; stays = refl }), tt)
 tells s (ByUnsupported from message) x = about_if (is_here x from) x.id (denied_note message (who.Client x.id) NotSupported ∷ []) (about_denied x.id message NotSupported, tt)
 tells s (ByBroken from rule) x = about_if (is_here x from) x.id (note.Frame (who.Client x.id) (Denied rule) ∷ []) (about_frame x.id (Denied rule), tt)
 tells s (BySource from p) x = tt

@@ -38,7 +38,7 @@ s2_utf8 = is_utf8-from_IsUtf8 (115 ∷ 50 ∷ []) (IsUtf8-from_ascii (115 ∷ 50
 s2_chars : chars (115 ∷ 50 ∷ []) ≡ 115 ∷ 50 ∷ []
 s2_chars = chars-IsAscii (115 ∷ 50 ∷ []) s2_ascii
 
-home_one : Lawful opening (s1_home one_listed)
+pub home_one : Lawful opening (s1_home one_listed)
 home_one = (((tt, record { whole = refl; exits = refl; clients = tt }), record { whole = refl; exits = refl; clients = tt }), record { whole = rw (s1_utf8, s1_chars) refl; exits = rw (s1_utf8, s1_chars) refl; clients = rw (s1_utf8, s1_chars) (record { fixed = refl }, tt) })
 
 pub refused : Lawful opening not_listed
@@ -57,7 +57,7 @@ both_in : Lawful opening (row (Datagram away connect_s2) (lets_in s2 ∷ welcome
 both_in = (home_both, record { whole = rw (s1_utf8, s1_chars, s2_utf8, s2_chars) refl; exits = rw (s2_utf8, s2_chars) refl; clients = rw (s1_utf8, s1_chars, s2_utf8, s2_chars) (record { fixed = refl }, (record { fixed = rw (s2_utf8, s2_chars) refl }, tt)) })
 
 -- the two CONNECTs as messages, and the states to which they lead
-abbrev hello : List ℕ → Connect
+abbrev pub hello : List ℕ → Connect
 hello id = record {
   flags = record { dup = false; qos = AtMostOnce; retain = false; will = false; clean = true; id_type = Normal };
   protocol_id = 1;
@@ -65,7 +65,7 @@ hello id = record {
   client_id = id;
 }
 
-cause_s1 : (from : Address) → cause_of (Datagram from connect_s1) ≡ ByConnect from (hello s1)
+pub cause_s1 : (from : Address) → cause_of (Datagram from connect_s1) ≡ ByConnect from (hello s1)
 cause_s1 from = rw (s1_utf8, s1_chars) refl
 
 cause_s2 : (from : Address) → cause_of (Datagram from connect_s2) ≡ ByConnect from (hello s2)

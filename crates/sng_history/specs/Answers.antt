@@ -1,13 +1,15 @@
 -- What a message is noted as where it is denied, and what answers it (MQTT-SN 1.2, 5.3.10 and 6.1 to 6.14).
-use Rattle.std.specs.Prelude.{false, List, [], ◌∷◌, Option, Some, None}
+use Rattle.std.specs.Prelude.{ℕ, false, List, [], ◌∷◌, Option, Some, None}
 use Rattle.sng_frames.specs.Writing.{written}
 use Rattle.sng_frames.specs.declared.flags.Flags.{Flags}
 use Rattle.sng_frames.specs.declared.flags.TopicIdType.TheVariants.{Normal}
-use Rattle.sng_frames.specs.declared.qos.FrameQos.TheVariants.{AtMostOnce}
+use Rattle.sng_frames.specs.declared.qos.FrameQos.{FrameQos}
+use Rattle.sng_frames.specs.declared.qos.FrameQos.TheVariants as qos
+use Rattle.sng_frames.specs.declared.messages.publish.Publish.{Publish}
 use Rattle.sng_frames.specs.declared.frame.SnFrame.{SnFrame}
 use Rattle.sng_frames.specs.declared.frame.SnFrame.TheVariants as frame
 use Rattle.sng_frames.specs.declared.return_code.ReturnCode.{ReturnCode}
-use Rattle.sng_frames.specs.declared.return_code.TheConstants.ReturnCode.{CONGESTION, INVALID_TOPIC_ID, NOT_SUPPORTED}
+use Rattle.sng_frames.specs.declared.return_code.TheConstants.ReturnCode.{ACCEPTED, CONGESTION, INVALID_TOPIC_ID, NOT_SUPPORTED}
 use Rattle.sng_book.specs.declared.address.Address.{Address}
 use Rattle.sng_book.specs.declared.decision.Decision.{Decision}
 use Rattle.sng_book.specs.declared.decision.Decision.TheVariants as note
@@ -69,7 +71,7 @@ code_of Gone = NOT_SUPPORTED
 
 -- no flag of a refused SUBACK is set
 abbrev pub no_flags : Flags
-no_flags = record { dup = false; qos = AtMostOnce; retain = false; will = false; clean = false; id_type = Normal }
+no_flags = record { dup = false; qos = qos.AtMostOnce; retain = false; will = false; clean = false; id_type = Normal }
 
 -- the acknowledgement of a client's message that is refused; what is not an ask has none
 abbrev pub refusal : SnFrame → ReturnCode → Option SnFrame
@@ -104,6 +106,16 @@ sent_to to (Some message) = Send to (written message) ∷ []
 
 abbrev pub refused : Address → SnFrame → Denial → List Out
 refused to message rule = sent_to to (refusal message (code_of rule))
+
+-- the acknowledgement of a REGISTER that is allowed tells the id; that of a PUBLISH is sent at QoS 1 (MQTT-SN 1.2, 5.4.11 and 5.4.13)
+abbrev pub regack : Address → ℕ → ℕ → Out
+regack to topic_id msg_id = Send to (written (frame.RegisterAck (record { topic_id = topic_id; msg_id = msg_id; code = ACCEPTED })))
+
+abbrev pub puback : Address → Publish → FrameQos → List Out
+puback to p qos.AtLeastOnce = Send to (written (frame.PublishAck (record { topic_id = p.topic_id; msg_id = p.msg_id; code = ACCEPTED }))) ∷ []
+puback to p qos.AtMostOnce = []
+puback to p qos.ExactlyOnce = []
+puback to p qos.WithoutSession = []
 
 -- a DISCONNECT says that there is no session at the address any more, or none at all (MQTT-SN 1.2, 6.14)
 abbrev pub dismissed : Address → Out

@@ -11,6 +11,7 @@ use Rattle.sng_frames.specs.declared.qos.FrameQos.{FrameQos}
 use Rattle.sng_frames.specs.declared.qos.FrameQos.TheVariants as qos
 use Rattle.sng_frames.specs.declared.messages.connect.Connect.{Connect}
 use Rattle.sng_frames.specs.declared.messages.publish.Publish.{Publish}
+use Rattle.sng_frames.specs.declared.messages.register.Register.{Register}
 use Rattle.sng_frames.specs.declared.frame.SnFrame.{SnFrame}
 use Rattle.sng_frames.specs.declared.frame.SnFrame.TheVariants as frame
 use Rattle.sng_book.specs.declared.address.Address.{Address}
@@ -28,6 +29,8 @@ pub data Cause : Type 0 where
   ByLeave : Address → Cause
   -- a PUBLISH without a session
   BySource : Address → Publish → Cause
+  -- a REGISTER
+  ByRegister : Address → Register → Cause
   -- a PUBLISH of a session, at QoS 0 or 1
   ByPublish : Address → Publish → Cause
   -- a message of a type or form that is not taken
@@ -69,7 +72,7 @@ frame_cause from frame.WillTopicRequest = ByUnsupported from frame.WillTopicRequ
 frame_cause from (frame.WillTopic topic) = ByUnsupported from (frame.WillTopic topic)
 frame_cause from frame.WillMessageRequest = ByUnsupported from frame.WillMessageRequest
 frame_cause from (frame.WillMessage message) = ByUnsupported from (frame.WillMessage message)
-frame_cause from (frame.Register register) = ByUnsupported from (frame.Register register)
+frame_cause from (frame.Register register) = ByRegister from register
 frame_cause from (frame.RegisterAck answer) = ByUnsupported from (frame.RegisterAck answer)
 frame_cause from (frame.PublishAck answer) = ByUnsupported from (frame.PublishAck answer)
 frame_cause from (frame.PublishComplete id) = ByUnsupported from (frame.PublishComplete id)

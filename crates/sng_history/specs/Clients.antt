@@ -1,11 +1,11 @@
 -- One client of the gateway (MQTT-SN 1.2, 6.2 to 6.14): what is kept of it, and how an event and the notes of a row move it.
-use Rattle.std.specs.Prelude.{ℕ, ◌==◌, ◌&&◌, Bool, true, false, List, [], ◌∷◌, if◌then◌else◌, None}
+use Rattle.std.specs.Prelude.{ℕ, ◌==◌, ◌&&◌, Bool, true, false, List, [], ◌∷◌, if◌then◌else◌, Option, Some, None}
 use Rattle.std.specs.Str.{bytes_eq}
 use Rattle.sng_grants.specs.declared.policy.Policy.{Policy}
 use Rattle.sng_states.specs.declared.state.ClientState.{ClientState}
 use Rattle.sng_states.specs.declared.state.ClientState.TheVariants.{Active, Disconnected}
 use Rattle.sng_states.specs.States.{has_session}
-use Rattle.sng_ids.specs.Ids.{Ids}
+use Rattle.sng_ids.specs.Ids.{Ids, id_for, with_name, confirmed}
 use Rattle.sng_queue.specs.Buffers.{Buffer, nothing}
 use Rattle.sng_fan.specs.declared.held.Held.{Held}
 use Rattle.sng_wills.specs.Wills.{Wills}
@@ -14,9 +14,11 @@ use Rattle.sng_frames.specs.declared.messages.connect.Connect.{Connect}
 use Rattle.sng_book.specs.declared.address.Address.{Address}
 use Rattle.sng_book.specs.declared.decision.Decision.{Decision}
 use Rattle.sng_book.specs.declared.decision.Decision.TheVariants as note
+use Rattle.sng_book.specs.declared.outcome.Outcome.{Outcome}
+use Rattle.sng_book.specs.declared.outcome.Outcome.TheVariants.{Allowed, Denied}
 use Rattle.sng_book.specs.Denials.{is_allowed}
 use Rattle.sng_history.specs.Causes.{Cause}
-use Rattle.sng_history.specs.Causes.{ByConnect, ByPing, ByLeave, BySource, ByPublish, ByUnsupported, ByBroken, ByPacket, ByUp, ByDown, ByTake, ByReplace, ByTick}
+use Rattle.sng_history.specs.Causes.{ByConnect, ByPing, ByLeave, BySource, ByRegister, ByPublish, ByUnsupported, ByBroken, ByPacket, ByUp, ByDown, ByTake, ByReplace, ByTick}
 
 -- all that is kept of a client
 pub record Client : Type 0 where
@@ -71,6 +73,7 @@ is_from (ByConnect from connect) x = is_here x from
 is_from (ByPing from client) x = is_here x from
 is_from (ByLeave from) x = is_here x from
 is_from (BySource from p) x = false
+is_from (ByRegister from r) x = is_here x from
 is_from (ByPublish from p) x = is_here x from
 is_from (ByUnsupported from frame) x = is_here x from
 is_from (ByBroken from rule) x = is_here x from
@@ -87,6 +90,7 @@ is_message (ByConnect from connect) = true
 is_message (ByPing from client) = true
 is_message (ByLeave from) = true
 is_message (BySource from p) = false
+is_message (ByRegister from r) = true
 is_message (ByPublish from p) = true
 is_message (ByUnsupported from frame) = true
 is_message (ByBroken from rule) = false
@@ -114,7 +118,6 @@ cleaned clean x =
     else record x { wills = record x.wills { stage = Closed }; buffer = record x.buffer { exchange = None } }
 
 -- a CONNECT is accepted: the client is where it came from, and knows no topic id
-
 abbrev pub let_in : ℕ → Address → Connect → Client → Client
 let_in clock from connect x =
     cleaned connect.flags.clean (record x { address = from; phase = Active; ids = []; duration = connect.duration; heard = clock })
@@ -124,6 +127,7 @@ entered_by clock (ByConnect from connect) x = let_in clock from connect x
 entered_by clock (ByPing from client) x = x
 entered_by clock (ByLeave from) x = x
 entered_by clock (BySource from p) x = x
+entered_by clock (ByRegister from r) x = x
 entered_by clock (ByPublish from p) x = x
 entered_by clock (ByUnsupported from frame) x = x
 entered_by clock (ByBroken from rule) x = x
@@ -138,11 +142,21 @@ entered_by now (ByTick clock) x = x
 abbrev pub gone : Client → Client
 gone x = record x { phase = Disconnected; wills = record x.wills { stage = Closed }; buffer = nothing }
 
+-- the ids once the client was told an id of the name: its old one, or else the next (MQTT-SN 1.2, 6.5)
+abbrev pub told : List ℕ → Ids → Ids
+told name ids = confirmed (id_for name ids) (with_name name ids)
+
+-- a REGISTER that is allowed tells the client an id of its name
+abbrev pub registered : Option (List ℕ) → Outcome → Ids → Ids
+registered (Some name) Allowed ids = told name ids
+registered (Some name) (Denied rule) ids = ids
+registered None outcome ids = ids
+
 -- the client after a note of its own
 abbrev pub note_by : Around → Decision → Client → Client
 note_by a (note.Connect id outcome) x = if is_allowed outcome then entered_by a.clock a.cause x else x
 note_by a (note.Left id) x = gone x
-note_by a (note.Register who name outcome) x = x
+note_by a (note.Register who name outcome) x = record x { ids = registered name outcome x.ids }
 note_by a (note.Publish who name outcome) x = x
 note_by a (note.Subscribe who filter outcome) x = x
 note_by a (note.Unsubscribe who filter outcome) x = x

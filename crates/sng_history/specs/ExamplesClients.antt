@@ -1,14 +1,17 @@
 -- Worked rows of clients: histories that are lawful, and rows that are not.
-use Rattle.std.specs.Prelude.{ℕ, true, false, codes, List, [], ◌∷◌}
+use Rattle.std.specs.Prelude.{ℕ, true, false, codes, List, [], ◌∷◌, Some, None}
 use Rattle.sng_grants.specs.declared.policy.Policy.{Policy}
+use Rattle.mqtt_frames.specs.declared.packet.Packet.TheVariants.{PublishAck}
 use Rattle.sng_book.specs.declared.address.Address.{Address}
-use Rattle.sng_book.specs.declared.decision.Decision.TheVariants.{Connect, Left, Frame}
+use Rattle.sng_book.specs.declared.decision.Decision.TheVariants.{Connect, Left, Frame, Register, Publish, Forward, Again}
 use Rattle.sng_book.specs.declared.decision.Who.TheVariants as who
-use Rattle.sng_book.specs.declared.outcome.Denial.TheVariants.{NoScope, NoSession}
+use Rattle.sng_book.specs.declared.outcome.Denial.TheVariants.{NoScope, NoSession, UnknownId, MissingPub}
+use Rattle.sng_book.specs.declared.outcome.IdKind.TheVariants.{Normal}
+use Rattle.sng_book.specs.declared.outcome.Outcome.{Outcome}
 use Rattle.sng_book.specs.declared.outcome.Outcome.TheVariants.{Allowed, Denied}
-use Rattle.sng_book.specs.declared.event.Event.TheVariants.{Datagram, Up, Replace}
+use Rattle.sng_book.specs.declared.event.Event.TheVariants.{Datagram, Broker, Up, Down, Take, Replace}
 use Rattle.sng_book.specs.declared.out.Out.{Out}
-use Rattle.sng_book.specs.declared.out.Out.TheVariants.{Send, Note}
+use Rattle.sng_book.specs.declared.out.Out.TheVariants.{Send, Wire, Note}
 use Rattle.sng_book.specs.declared.row.Row.{Row}
 use Rattle.sng_history.specs.State.{State, opening, state_of}
 use Rattle.sng_history.specs.Examples.{row}
@@ -106,3 +109,90 @@ pings =
 -- the state in which `s1` is at home
 abbrev pub at_home : State
 at_home = state_of opening (s1_home both_listed)
+
+-- ---- what a client asks for
+
+abbrev pub t1 : List ℕ
+t1 = codes "t/1"
+
+abbrev pub t2 : List ℕ
+t2 = codes "t/2"
+
+-- REGISTER of `t/1` with the MsgId 1, and of `t/2` with the MsgId 2
+abbrev pub register_t1 : List ℕ
+register_t1 = 0x09 ∷ 0x0a ∷ 0x00 ∷ 0x00 ∷ 0x00 ∷ 0x01 ∷ 0x74 ∷ 0x2f ∷ 0x31 ∷ []
+
+abbrev pub register_t2 : List ℕ
+register_t2 = 0x09 ∷ 0x0a ∷ 0x00 ∷ 0x00 ∷ 0x00 ∷ 0x02 ∷ 0x74 ∷ 0x2f ∷ 0x32 ∷ []
+
+-- REGACK: `t/1` has the id 1; and a code with no id
+abbrev pub registered_t1 : Out
+registered_t1 = Send home (0x07 ∷ 0x0b ∷ 0x00 ∷ 0x01 ∷ 0x00 ∷ 0x01 ∷ 0x00 ∷ [])
+
+abbrev pub unregistered_t2 : Out
+unregistered_t2 = Send home (0x07 ∷ 0x0b ∷ 0x00 ∷ 0x00 ∷ 0x00 ∷ 0x02 ∷ 0x03 ∷ [])
+
+-- PUBLISH at QoS 1 under the id 1 with the payload `31` and the MsgId 5, and PUBACK that accepts it, and that refuses it
+abbrev pub publish_t1 : List ℕ
+publish_t1 = 0x08 ∷ 0x0c ∷ 0x20 ∷ 0x00 ∷ 0x01 ∷ 0x00 ∷ 0x05 ∷ 0x31 ∷ []
+
+abbrev pub accepted_t1 : Out
+accepted_t1 = Send home (0x07 ∷ 0x0d ∷ 0x00 ∷ 0x01 ∷ 0x00 ∷ 0x05 ∷ 0x00 ∷ [])
+
+abbrev pub refused_t1 : Out
+refused_t1 = Send home (0x07 ∷ 0x0d ∷ 0x00 ∷ 0x01 ∷ 0x00 ∷ 0x05 ∷ 0x03 ∷ [])
+
+-- PUBLISH at QoS 0 under the id 9, which was not told, and its PUBACK
+abbrev pub publish_9 : List ℕ
+publish_9 = 0x08 ∷ 0x0c ∷ 0x00 ∷ 0x00 ∷ 0x09 ∷ 0x00 ∷ 0x00 ∷ 0x31 ∷ []
+
+abbrev pub refused_9 : Out
+refused_9 = Send home (0x07 ∷ 0x0d ∷ 0x00 ∷ 0x09 ∷ 0x00 ∷ 0x00 ∷ 0x02 ∷ [])
+
+abbrev pub registers : List ℕ → Outcome → Out
+registers name outcome = Note (Register (who.Client s1) (Some name) outcome)
+
+abbrev pub asks_t1 : Outcome → Out
+asks_t1 outcome = Note (Publish (who.Client s1) (Some t1) outcome)
+
+abbrev pub forward_t1 : Outcome → Out
+forward_t1 outcome = Note (Forward (who.Client s1) t1 outcome)
+
+abbrev pub again_t1 : Outcome → Out
+again_t1 outcome = Note (Again (who.Client s1) t1 outcome)
+
+-- the MQTT PUBLISH of `t/1` at QoS 1 with the payload `31` and this packet id
+abbrev pub packet_t1 : ℕ → Out
+packet_t1 id = Wire (0x32 ∷ 0x08 ∷ 0x00 ∷ 0x03 ∷ 0x74 ∷ 0x2f ∷ 0x31 ∷ 0x00 ∷ id ∷ 0x31 ∷ [])
+
+-- `s1` is told the id 1 of `t/1`
+abbrev pub told_t1 : List Row
+told_t1 = row (Datagram home register_t1) (registers t1 Allowed ∷ registered_t1 ∷ []) ∷ s1_home one_listed
+
+-- a name that is not granted gets no id, and an id that was not told has no name
+abbrev pub untold : List Row
+untold =
+    row (Datagram home publish_9) (Note (Publish (who.Client s1) None (Denied (UnknownId Normal 9))) ∷ refused_9 ∷ [])
+    ∷ row (Datagram home register_t2) (registers t2 (Denied (MissingPub t2)) ∷ unregistered_t2 ∷ []) ∷ told_t1
+
+-- it publishes, and the publish leaves and is in flight
+abbrev pub asked_t1 : List Row
+asked_t1 = row (Datagram home publish_t1) (asks_t1 Allowed ∷ accepted_t1 ∷ []) ∷ told_t1
+
+abbrev pub flies_t1 : List Row
+flies_t1 = row Take (forward_t1 Allowed ∷ packet_t1 1 ∷ []) ∷ asked_t1
+
+-- over a new connection it is sent again, until the broker acknowledges it
+abbrev pub acknowledged_t1 : List Row
+acknowledged_t1 = row Up [] ∷ row (Broker (PublishAck 1)) [] ∷ row Up (again_t1 Allowed ∷ packet_t1 1 ∷ []) ∷ row Down [] ∷ flies_t1
+
+-- the state in which `s1` knows the id 1; in which one publish is in flight and another one waits; and in which one is in flight, and
+-- nothing is granted any more
+abbrev pub knows_t1 : State
+knows_t1 = state_of opening told_t1
+
+abbrev pub flies_and_waits : State
+flies_and_waits = state_of opening (row (Datagram home publish_t1) (asks_t1 Allowed ∷ accepted_t1 ∷ []) ∷ flies_t1)
+
+abbrev pub flies_ungranted : State
+flies_ungranted = state_of opening (row (Replace both_listed) [] ∷ flies_t1)

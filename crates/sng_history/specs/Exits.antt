@@ -1,8 +1,9 @@
 -- How what waits leaves for the broker.
-use Rattle.std.specs.Prelude.{ℕ, false, List, [], ◌∷◌, ◌++◌, Option}
+use Rattle.std.specs.Prelude.{ℕ, false, List, [], ◌∷◌, ◌++◌, Option, Some}
 use Rattle.sng_grants.specs.declared.policy.Policy.{Policy}
 use Rattle.mqtt_frames.specs.Packets.{written}
 use Rattle.mqtt_frames.specs.declared.packet.Packet.TheVariants as packet
+use Rattle.sng_outbox.specs.declared.in_flight.InFlight.{InFlight}
 use Rattle.sng_outbox.specs.declared.item.Item.{Item}
 use Rattle.sng_outbox.specs.declared.item.Item.TheVariants as item
 use Rattle.sng_outbox.specs.declared.item.Publication.{Publication}
@@ -19,6 +20,10 @@ use Rattle.sng_history.specs.Verdicts.{exit}
 abbrev pub packet_of : Publication → Option ℕ → List ℕ
 packet_of p packet_id = written (packet.Publish (record { dup = false; retain = p.retain; packet_id = packet_id; name = p.name; payload = p.payload }))
 
+-- the packet that acknowledges a message of the broker (MQTT 3.1.1, 3.4)
+abbrev pub acknowledged : ℕ → Out
+acknowledged packet_id = Wire (written (packet.PublishAck packet_id))
+
 -- the outcomes of items that leave under the policy; of the items a publish alone is judged
 abbrev pub exits_of : Policy → List Item → List Outcome
 exits_of policy [] = []
@@ -33,7 +38,8 @@ abbrev pub forwarded : Publication → Option ℕ → Outcome → List Out
 forwarded p packet_id Allowed = Note (note.Forward (who_of p.origin) p.name Allowed) ∷ Wire (packet_of p packet_id) ∷ []
 forwarded p packet_id (Denied denial) = Note (note.Forward (who_of p.origin) p.name (Denied denial)) ∷ []
 
--- items leave on the link, in order, with the outcomes of the publishes among them. Nothing asks for another item yet, and none goes out
+-- items leave on the link, in order, with the outcomes of the publishes among them, and each acknowledgement goes out. Nothing asks for
+-- another item yet
 abbrev pub leaving : Link → List Item → List Outcome → List Out
 leaving link [] outcomes = []
 leaving link (item.Publish p ∷ items) [] = []
@@ -41,5 +47,22 @@ leaving link (item.Publish p ∷ items) (outcome ∷ outcomes) =
     forwarded p (packet_id_by link p.qos) outcome ++ leaving (exited link p outcome) items outcomes
 leaving link (item.Subscribe filter ∷ items) outcomes = leaving link items outcomes
 leaving link (item.Unsubscribe filter ∷ items) outcomes = leaving link items outcomes
-leaving link (item.Acknowledge packet_id ∷ items) outcomes = leaving link items outcomes
+leaving link (item.Acknowledge packet_id ∷ items) outcomes = acknowledged packet_id ∷ leaving link items outcomes
 leaving link (item.Ping ∷ items) outcomes = leaving link items outcomes
+
+-- the outcomes of the publishes in flight under the policy, as a connection begins
+abbrev pub agains_of : Policy → List InFlight → List Outcome
+agains_of policy [] = []
+agains_of policy (sent ∷ flights) = exit policy sent.publication.origin sent.publication.name ∷ agains_of policy flights
+
+-- a publish in flight is judged again; where it is allowed it is sent under its packet id, as a new message of the new session (MQTT 3.1.1,
+-- 3.3.1.1 and 4.4)
+abbrev pub sent_again : InFlight → Outcome → List Out
+sent_again sent Allowed =
+    Note (note.Again (who_of sent.publication.origin) sent.publication.name Allowed) ∷ Wire (packet_of sent.publication (Some sent.packet_id)) ∷ []
+sent_again sent (Denied denial) = Note (note.Again (who_of sent.publication.origin) sent.publication.name (Denied denial)) ∷ []
+
+abbrev pub resending : List InFlight → List Outcome → List Out
+resending [] outcomes = []
+resending (sent ∷ flights) [] = []
+resending (sent ∷ flights) (outcome ∷ outcomes) = sent_again sent outcome ++ resending flights outcomes

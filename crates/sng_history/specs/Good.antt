@@ -3,7 +3,6 @@
 use Rattle.std.specs.Prelude.{ℕ, ◌≡◌, ◌≤◌, false, not, ◌&&◌, List, [], ◌∷◌, length}
 use Rattle.std.specs.Str.{bytes_eq}
 use Rattle.sng_states.specs.States.{in_dialogue}
-use Rattle.sng_text.specs.declared.qos.Qos.TheVariants.{AtMostOnce}
 use Rattle.sng_outbox.specs.Sending.{load}
 use Rattle.sng_outbox.specs.declared.limits.TheConstants.{MAX_IN_FLIGHT}
 use Rattle.sng_outbox.specs.declared.item.Item.{Item}
@@ -43,12 +42,12 @@ pub record AtRest (x : Client) : Type 0 where
   pub quiet : x.buffer ≡ nothing
   pub dialogue : in_dialogue x.phase ≡ not (is_closed x.wills.stage)
 
--- what waits is a publish at QoS 0, as nothing asks for more yet
+-- what waits is a publish or an acknowledgement, as nothing asks for more yet
 abbrev pub IsPlain : Item → Type 0
-IsPlain (item.Publish p) = p.qos ≡ AtMostOnce
+IsPlain (item.Publish p) = Unit {0}
 IsPlain (item.Subscribe filter) = ⊥
 IsPlain (item.Unsubscribe filter) = ⊥
-IsPlain (item.Acknowledge packet_id) = ⊥
+IsPlain (item.Acknowledge packet_id) = Unit {0}
 IsPlain item.Ping = ⊥
 
 abbrev pub AllPlain : List Item → Type 0
@@ -56,9 +55,15 @@ AllPlain [] = Unit {0}
 AllPlain (one ∷ items) = IsPlain one × AllPlain items
 
 pub record Good (s : State) : Type 0 where
+  -- no two clients have one id,
   pub apart : Distinct s.clients
+  -- nor are at one address
   pub places : OnePlace s.clients
+  -- nothing is left to do for any of them
   pub rest : Each AtRest s.clients
+  -- there are no more than may be
   pub most : length s.clients ≤ MAX_CLIENTS
+  -- nothing waits for the broker that nobody asks for yet
   pub plain : AllPlain s.link.waiting
+  -- no more publishes at QoS 1 wait or are in flight than may
   pub few : load (record { waiting = s.link.waiting; in_flight = s.link.in_flight }) ≤ MAX_IN_FLIGHT

@@ -1,7 +1,6 @@
 -- Which histories are lawful.
 use Rattle.std.specs.Prelude.{ℕ, ◌≡◌, List, [], ◌∷◌, if◌then◌else◌}
 use Rattle.std.specs.Str.{bytes_eq}
-use Rattle.sng_frames.specs.declared.frame.SnFrame.TheVariants as frame
 use Rattle.sng_book.specs.Denials.{is_allowed}
 use Rattle.sng_book.specs.declared.decision.Decision.{Decision}
 use Rattle.sng_book.specs.declared.decision.Decision.TheVariants as note
@@ -13,27 +12,29 @@ use Rattle.sng_book.specs.declared.event.Event.{Event}
 use Rattle.sng_book.specs.declared.out.Out.{Out}
 use Rattle.sng_book.specs.declared.row.Row.{Row}
 use Rattle.sng_history.specs.Causes.{Cause, cause_of}
-use Rattle.sng_history.specs.Causes.{ByConnect, ByPing, ByLeave, BySource, ByPublish, ByUnsupported, ByBroken, ByPacket, ByUp, ByDown, ByTake, ByReplace, ByTick}
+use Rattle.sng_history.specs.Causes.{ByConnect, ByPing, ByLeave, BySource, ByRegister, ByPublish, ByUnsupported, ByBroken, ByPacket, ByUp, ByDown, ByTake, ByReplace, ByTick}
 use Rattle.sng_history.specs.Clients.{Client, is_here}
 use Rattle.sng_history.specs.Notes.{notes_of, exits_in}
 use Rattle.sng_history.specs.State.{State, state_of, Leads, present_in}
-use Rattle.sng_history.specs.Verdicts.{entry, ping_verdict}
+use Rattle.sng_history.specs.Verdicts.{entry, ping_verdict, register_ask, publish_ask}
 use Rattle.sng_history.specs.Answers.{denied_note}
-use Rattle.sng_history.specs.Exits.{exits_of}
+use Rattle.sng_history.specs.Exits.{exits_of, agains_of}
 use Rattle.sng_history.specs.Whole.{whole_by, notes_in}
 
--- the outcomes with which items have to leave: at a take while up each item that waits, judged by the policy in force
+-- the outcomes with which publishes have to leave: at a take while up each that waits, and as a connection begins each that is in flight,
+-- judged by the policy in force
 abbrev pub exits_for : State → Cause → List Outcome
 exits_for s ByTake = if s.up then exits_of s.policy s.link.waiting else []
 exits_for s (ByConnect from connect) = []
 exits_for s (ByPing from client) = []
 exits_for s (ByLeave from) = []
 exits_for s (BySource from p) = []
+exits_for s (ByRegister from r) = []
 exits_for s (ByPublish from p) = []
 exits_for s (ByUnsupported from message) = []
 exits_for s (ByBroken from rule) = []
 exits_for s (ByPacket p) = []
-exits_for s ByUp = []
+exits_for s ByUp = agains_of s.policy s.link.in_flight
 exits_for s ByDown = []
 exits_for s (ByReplace policy) = []
 exits_for s (ByTick clock) = []
@@ -43,8 +44,8 @@ abbrev pub denial_of : List ℕ → Outcome → List Decision
 denial_of id Allowed = []
 denial_of id (Denied rule) = note.Frame (who.Client id) (Denied rule) ∷ []
 
--- the notes that the cause fixes of a client, as it is before the row: its CONNECT with the verdict, that it leaves, and a message of its
--- own that is denied
+-- the notes that the cause fixes of a client, as it is before the row: its CONNECT, REGISTER or PUBLISH with the verdict, that it leaves,
+-- and any other message of its own that is denied
 abbrev pub fixed_for : State → Cause → Client → List Decision
 fixed_for s (ByConnect from connect) x =
     if bytes_eq connect.client_id x.id
@@ -53,7 +54,8 @@ fixed_for s (ByConnect from connect) x =
 fixed_for s (ByPing from client) x = if is_here x from then denial_of x.id (ping_verdict client x) else []
 fixed_for s (ByLeave from) x = if is_here x from then note.Left x.id ∷ [] else []
 fixed_for s (BySource from p) x = []
-fixed_for s (ByPublish from p) x = if is_here x from then denied_note (frame.Publish p) (who.Client x.id) NotSupported ∷ [] else []
+fixed_for s (ByRegister from r) x = if is_here x from then register_ask s.policy x r.name ∷ [] else []
+fixed_for s (ByPublish from p) x = if is_here x from then publish_ask s x p ∷ [] else []
 fixed_for s (ByUnsupported from message) x = if is_here x from then denied_note message (who.Client x.id) NotSupported ∷ [] else []
 fixed_for s (ByBroken from rule) x = if is_here x from then note.Frame (who.Client x.id) (Denied rule) ∷ [] else []
 fixed_for s (ByPacket p) x = []
@@ -76,7 +78,7 @@ EachLawful s c outs (x ∷ xs) = LawfulFor s c x (notes_of x.id outs) × EachLaw
 pub record LawfulBy (s : State) (c : Cause) (outs : List Out) : Type 0 where
   -- the outs are what the cause and the row's notes make them: each frame and packet has its place, and there is no other
   pub whole : outs ≡ whole_by s c (notes_in outs)
-  -- just what has to leave leaves, each item with its outcome
+  -- just what has to leave leaves, each publish with its outcome
   pub exits : exits_in outs ≡ exits_for s c
   -- and each client with whom the row deals has the notes that it may have
   pub clients : EachLawful s c outs (present_in c s.clients outs)

@@ -1,5 +1,5 @@
 -- What leaves for the broker in a lawful history, in the views' words.
-use Rattle.std.specs.Prelude.{ℕ, ◌/◌, ◌≡◌, ◌==◌, Bool, true, false, List, [], ◌∷◌, ◌++◌, map, MatchBool, Option, Some, None}
+use Rattle.std.specs.Prelude.{ℕ, ◌/◌, ◌≡◌, ◌==◌, Bool, true, false, List, [], ◌∷◌, ◌++◌, map, MatchBool, Option, Some, is_some}
 use Rattle.sng_grants.specs.declared.policy.Policy.{Policy}
 use Rattle.mqtt_frames.specs.Packets.{written}
 use Rattle.mqtt_frames.specs.declared.packet.Packet.TheVariants as packet
@@ -33,12 +33,12 @@ LeavesInOrder h = map about_asked (asked h) ≡ map about_left (left h) ++ map a
 
 -- ---- judged, and with its own bytes
 
--- the packet is the MQTT PUBLISH of the publish (MQTT 3.1.1, 3.3): its own name, payload and Retain, sent once, and a packet id at QoS 1
--- alone
+-- the packet is the MQTT PUBLISH of the publish (MQTT 3.1.1, 3.3): its own name, payload and Retain, without DUP, and a packet id just at
+-- QoS 1
 pub record Carries (p : Publication) (sent : Option (List ℕ)) : Type 0 where
   pub packet_id : Option ℕ
   pub own : sent ≡ Some (written (packet.Publish (record { dup = false; retain = p.retain; packet_id = packet_id; name = p.name; payload = p.payload })))
-  pub numbered : is_at_least_once p.qos ≡ false → packet_id ≡ None
+  pub numbered : is_some packet_id ≡ is_at_least_once p.qos
 
 -- the publish leaves so under the policy: it is judged for its own origin and name, and where that allows it, its own packet follows
 pub record Departs (policy : Policy) (p : Publication) (d : Departure) : Type 0 where

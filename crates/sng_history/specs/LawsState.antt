@@ -1,12 +1,13 @@
 -- What is kept of a client, in the views' words.
-use Rattle.std.specs.Prelude.{◌≡◌, List, [], Some, None}
+use Rattle.std.specs.Prelude.{ℕ, ◌≡◌, ◌≤◌, true, false, List, [], ◌∷◌, ◌++◌, map, length, Some, None}
 use Rattle.sng_book.specs.declared.row.Row.{Row}
 use Rattle.sng_queue.specs.Buffers.{nothing}
 use Rattle.sng_wills.specs.declared.will.Stage.TheVariants.{Closed}
 use Rattle.sng_history.specs.Clients.{Client}
 use Rattle.sng_history.specs.Links.{Link}
 use Rattle.sng_history.specs.Views.{began}
-use Rattle.sng_history.specs.ViewsClients.{phase_of, address_of, duration_of, heard_of}
+use Rattle.sng_history.specs.ViewsClients.{phase_of, address_of, duration_of, heard_of, is_among, names_told}
+use Rattle.sng_history.specs.ViewsFlight.{in_flight, last_id}
 
 -- what is kept of a client is what the rows show of it
 pub record ClientShown (h : List Row) (x : Client) : Type 0 where
@@ -14,20 +15,31 @@ pub record ClientShown (h : List Row) (x : Client) : Type 0 where
   pub address : address_of x.id h ≡ Some x.address
   pub duration : duration_of x.id h ≡ Some x.duration
   pub heard : heard_of x.id h ≡ Some x.heard
+  -- the k-th name that it was told has id k, and the client knows each
+  pub ids : x.ids ≡ map (λ name. (name, true)) (names_told x.id h)
 
--- what the link holds beside what waits: nothing was sent that is to be acknowledged yet, no filter is wanted, and the connection began
--- when the rows show
+-- what the link holds beside what waits: the publishes in flight, the packet id that was given last and when the connection began are what
+-- the rows show, and no filter is wanted yet
 pub record RestShown (h : List Row) (link : Link) : Type 0 where
-  pub in_flight : link.in_flight ≡ []
-  pub last : link.last ≡ 0
+  pub in_flight : link.in_flight ≡ in_flight h
+  pub last : link.last ≡ last_id h
   pub wanted : link.wanted ≡ []
   pub pinged : link.pinged ≡ began h
 
--- what nothing moves of a client yet: it was told no topic id and sent no message, nothing waits for it, no filter stands for it, and it
--- has no will
+-- what nothing moves of a client yet: it was sent no message, nothing waits for it, no filter stands for it, and it has no will
 pub record Untold (x : Client) : Type 0 where
-  pub ids : x.ids ≡ []
   pub number : x.number ≡ 0
   pub buffer : x.buffer ≡ nothing
   pub filters : x.filters ≡ []
   pub wills : x.wills ≡ record { stage = Closed; will = None }
+
+-- no name stands twice
+abbrev pub NoneTwice : List (List ℕ) → Type 0
+NoneTwice [] = Unit {0}
+NoneTwice (name ∷ names) = (is_among name names ≡ false) × NoneTwice names
+
+-- the names of before stand where they stood, and at most one more stands behind them
+pub record OneMore (before after : List (List ℕ)) : Type 0 where
+  pub more : List (List ℕ)
+  pub behind : after ≡ before ++ more
+  pub one : length more ≤ 1

@@ -13,11 +13,10 @@ use Rattle.sng_book.specs.declared.decision.Decision.{Decision}
 use Rattle.sng_book.specs.declared.decision.Decision.TheVariants as note
 use Rattle.sng_book.specs.declared.decision.Who.{Who}
 use Rattle.sng_book.specs.declared.decision.Who.TheVariants as who
-use Rattle.sng_book.specs.declared.outcome.Denial.TheVariants.{NotSupported, NoSession}
+use Rattle.sng_book.specs.declared.outcome.Denial.TheVariants.{NotSupported}
 use Rattle.sng_book.specs.declared.outcome.Outcome.TheVariants.{Denied}
 use Rattle.sng_book.specs.declared.out.Out.{Out}
 use Rattle.sng_book.specs.declared.out.Out.TheVariants.{Send, Note}
-use Rattle.sng_history.specs.LawsAnswers.{bye}
 
 -- QoS 2
 abbrev pub is_exactly_once : FrameQos → Bool
@@ -26,16 +25,10 @@ is_exactly_once qos.AtMostOnce = false
 is_exactly_once qos.AtLeastOnce = false
 is_exactly_once qos.WithoutSession = false
 
--- QoS 0 or 1
-abbrev pub is_of_session : FrameQos → Bool
-is_of_session qos.AtMostOnce = true
-is_of_session qos.AtLeastOnce = true
-is_of_session qos.ExactlyOnce = false
-is_of_session qos.WithoutSession = false
-
--- all but CONNECT, PINGREQ, DISCONNECT without Duration, and PUBLISH of another QoS than 2
+-- all but CONNECT, REGISTER, PINGREQ, DISCONNECT without Duration, and PUBLISH of another QoS than 2
 abbrev pub is_unsupported : SnFrame → Bool
 is_unsupported (frame.Connect connect) = false
+is_unsupported (frame.Register register) = false
 is_unsupported (frame.PingRequest client) = false
 is_unsupported (frame.Disconnect duration) = is_some duration
 is_unsupported (frame.Publish p) = is_exactly_once p.flags.qos
@@ -44,7 +37,6 @@ is_unsupported frame.WillTopicRequest = true
 is_unsupported (frame.WillTopic topic) = true
 is_unsupported frame.WillMessageRequest = true
 is_unsupported (frame.WillMessage message) = true
-is_unsupported (frame.Register register) = true
 is_unsupported (frame.RegisterAck answer) = true
 is_unsupported (frame.PublishAck answer) = true
 is_unsupported (frame.PublishComplete id) = true
@@ -123,7 +115,3 @@ unsupported_stranger from message = Note (noted_as (who.Address from) message) �
 
 abbrev pub unsupported_answer : Address → SnFrame → List ℕ → List Out
 unsupported_answer from message id = Note (noted_as (who.Client id) message) ∷ map (λ ack. Send from (written ack)) (acknowledged message)
-
--- a PUBLISH of a session by nobody has no session
-abbrev pub publish_stranger : Address → List Out
-publish_stranger from = Note (note.Publish (who.Address from) None (Denied NoSession)) ∷ bye from ∷ []

@@ -2,6 +2,7 @@ pub mod Causes
 pub mod Notes
 pub mod Clients
 pub mod Links
+pub mod Packets
 pub mod State
 pub mod Verdicts
 pub mod Answers
@@ -15,10 +16,13 @@ pub mod Views
 pub mod ViewsMessages
 pub mod ViewsClients
 pub mod ViewsLink
+pub mod ViewsFlight
 pub mod LawsState
 pub mod LawsRules
 pub mod LawsLink
+pub mod LawsFlight
 pub mod LawsAnswers
 pub mod LawsUnsupported
+pub mod LawsAsks
 pub mod Examples
 pub mod ExamplesClients

@@ -56,6 +56,13 @@ abbrev pub exited : Link → Publication → Outcome → Link
 exited link p Allowed = sent_by link p p.qos
 exited link p (Denied rule) = link
 
+-- of the publishes in flight those that are still allowed, with an outcome for each
+abbrev pub still_in_flight : List InFlight → List Outcome → List InFlight
+still_in_flight [] outcomes = []
+still_in_flight (sent ∷ flights) [] = sent ∷ flights
+still_in_flight (sent ∷ flights) (Allowed ∷ outcomes) = sent ∷ still_in_flight flights outcomes
+still_in_flight (sent ∷ flights) (Denied rule ∷ outcomes) = still_in_flight flights outcomes
+
 -- the link once these items left with these outcomes of the publishes among them
 abbrev pub link_after : Link → List Item → List Outcome → Link
 link_after link [] outcomes = link

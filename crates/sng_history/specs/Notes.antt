@@ -44,7 +44,7 @@ abbrev pub notes_of : List ℕ → List Out → List Decision
 notes_of id [] = []
 notes_of id (out ∷ outs) = said_of id out ++ notes_of id outs
 
--- the note is of an item that leaves
+-- the note is of a publish that leaves, or that leaves again
 abbrev pub exit_of : Decision → List Outcome
 exit_of (note.Forward who name outcome) = outcome ∷ []
 exit_of (note.Connect client outcome) = []
@@ -56,7 +56,7 @@ exit_of (note.Will who name outcome) = []
 exit_of (note.Announce client name) = []
 exit_of (note.Hand client name outcome) = []
 exit_of (note.Retry client name outcome) = []
-exit_of (note.Again who name outcome) = []
+exit_of (note.Again who name outcome) = outcome ∷ []
 exit_of (note.End client filter outcome) = []
 exit_of (note.Lost client) = []
 exit_of (note.Left client) = []
@@ -68,7 +68,7 @@ exits_of_out (Note said) = exit_of said
 exits_of_out (Send to datagram) = []
 exits_of_out (Wire packet) = []
 
--- the outcomes of the items that leave in a row, in order
+-- the outcomes of the publishes that leave in a row, in order
 abbrev pub exits_in : List Out → List Outcome
 exits_in [] = []
 exits_in (out ∷ outs) = exits_of_out out ++ exits_in outs

@@ -3,12 +3,16 @@
 use Rattle.std.specs.Prelude.{ℕ, ◌≡◌, nat_le, Bool, true, false, ◌||◌, ◌&&◌, not, List, [], ◌∷◌, ◌++◌, map, if◌then◌else◌, Option, Some, None}
 use Rattle.std.specs.List.{flat_map}
 use Rattle.std.specs.Str.{bytes_eq}
-use Rattle.sng_text.specs.declared.qos.Qos.TheVariants.{AtMostOnce}
+use Rattle.sng_text.specs.declared.qos.Qos.{Qos}
+use Rattle.sng_text.specs.declared.qos.Qos.TheVariants.{AtMostOnce, AtLeastOnce}
 use Rattle.sng_grants.specs.declared.policy.Policy.{Policy}
+use Rattle.sng_frames.specs.declared.qos.FrameQos.{FrameQos}
+use Rattle.sng_frames.specs.declared.qos.FrameQos.TheVariants as qos
 use Rattle.sng_frames.specs.declared.messages.publish.Publish.{Publish}
 use Rattle.sng_outbox.specs.Sending.{publishes}
 use Rattle.sng_outbox.specs.declared.item.Item.{Item}
 use Rattle.sng_outbox.specs.declared.item.Item.TheVariants as item
+use Rattle.sng_outbox.specs.declared.origin.Origin.{Origin}
 use Rattle.sng_outbox.specs.declared.origin.Origin.TheVariants as origin
 use Rattle.sng_book.specs.Denials.{is_allowed}
 use Rattle.sng_book.specs.declared.decision.Decision.{Decision}
@@ -21,10 +25,11 @@ use Rattle.sng_book.specs.declared.out.Out.{Out}
 use Rattle.sng_book.specs.declared.out.Out.TheVariants.{Send, Wire, Note}
 use Rattle.sng_book.specs.declared.row.Row.{Row}
 use Rattle.sng_history.specs.Causes.{Cause, cause_of}
-use Rattle.sng_history.specs.Causes.{ByConnect, ByPing, ByLeave, BySource, ByPublish, ByUnsupported, ByBroken, ByPacket, ByUp, ByDown, ByTake, ByReplace, ByTick}
+use Rattle.sng_history.specs.Causes.{ByConnect, ByPing, ByLeave, BySource, ByRegister, ByPublish, ByUnsupported, ByBroken, ByPacket, ByUp, ByDown, ByTake, ByReplace, ByTick}
 use Rattle.sng_history.specs.Clients.{Client, Around, blank, client_by}
 use Rattle.sng_history.specs.Notes.{notes_of, exits_in}
-use Rattle.sng_history.specs.Links.{Link, idle, link_after}
+use Rattle.sng_history.specs.Links.{Link, idle, link_after, still_in_flight}
+use Rattle.sng_history.specs.Packets.{answer_of, acknowledgements, answered}
 
 -- the policy in force, the clock in ms, whether the broker's connection is up, the link, and the clients, in the order in which each was
 -- accepted first
@@ -45,6 +50,7 @@ policy_by (ByConnect from connect) before = before
 policy_by (ByPing from client) before = before
 policy_by (ByLeave from) before = before
 policy_by (BySource from p) before = before
+policy_by (ByRegister from r) before = before
 policy_by (ByPublish from p) before = before
 policy_by (ByUnsupported from frame) before = before
 policy_by (ByBroken from rule) before = before
@@ -64,6 +70,7 @@ clock_by (ByConnect from connect) before = before
 clock_by (ByPing from client) before = before
 clock_by (ByLeave from) before = before
 clock_by (BySource from p) before = before
+clock_by (ByRegister from r) before = before
 clock_by (ByPublish from p) before = before
 clock_by (ByUnsupported from frame) before = before
 clock_by (ByBroken from rule) before = before
@@ -79,6 +86,7 @@ up_by (ByConnect from connect) before = before
 up_by (ByPing from client) before = before
 up_by (ByLeave from) before = before
 up_by (BySource from p) before = before
+up_by (ByRegister from r) before = before
 up_by (ByPublish from p) before = before
 up_by (ByUnsupported from frame) before = before
 up_by (ByBroken from rule) before = before
@@ -128,6 +136,7 @@ newcomers (ByConnect from connect) xs outs = entered_in xs outs
 newcomers (ByPing from client) xs outs = []
 newcomers (ByLeave from) xs outs = []
 newcomers (BySource from p) xs outs = []
+newcomers (ByRegister from r) xs outs = []
 newcomers (ByPublish from p) xs outs = []
 newcomers (ByUnsupported from frame) xs outs = []
 newcomers (ByBroken from rule) xs outs = []
@@ -145,16 +154,23 @@ present_in c xs outs = xs ++ newcomers c xs outs
 abbrev pub clients_by : State → Cause → List Out → List Client
 clients_by s c outs = map (λ x. client_by (around s c) (notes_of x.id outs) x) (present_in c s.clients outs)
 
--- the item of a publish that a source asked for under this name: without a session it has QoS 0 upstream
-abbrev pub item_for : List ℕ → List ℕ → Publish → Item
-item_for source name p =
-    item.Publish (record { origin = origin.Source source; name = name; payload = p.payload; qos = AtMostOnce; retain = p.flags.retain })
+-- the item of a publish that was asked for under this name, at this QoS
+abbrev pub item_for : Origin → List ℕ → Qos → Publish → Item
+item_for asker name q p = item.Publish (record { origin = asker; name = name; payload = p.payload; qos = q; retain = p.flags.retain })
 
--- what an ask adds to what waits: the item of a publish that a source asked for, where it was allowed
+-- the QoS at which a publish of a client goes on to the broker
+abbrev pub qos_of : FrameQos → Qos
+qos_of qos.AtMostOnce = AtMostOnce
+qos_of qos.AtLeastOnce = AtLeastOnce
+qos_of qos.ExactlyOnce = AtMostOnce
+qos_of qos.WithoutSession = AtMostOnce
+
+-- what an ask adds to what waits: the item of the publish, where it was allowed. Without a session it has QoS 0 upstream
 abbrev pub item_asked : Who → Option (List ℕ) → Outcome → Publish → List Item
-item_asked (who.Source source) (Some name) outcome p = if is_allowed outcome then item_for source name p ∷ [] else []
+item_asked (who.Source source) (Some name) outcome p = if is_allowed outcome then item_for (origin.Source source) name AtMostOnce p ∷ [] else []
 item_asked (who.Source source) None outcome p = []
-item_asked (who.Client client) name outcome p = []
+item_asked (who.Client client) (Some name) outcome p = if is_allowed outcome then item_for (origin.Client client) name (qos_of p.flags.qos) p ∷ [] else []
+item_asked (who.Client client) None outcome p = []
 item_asked (who.Address address) name outcome p = []
 item_asked who.Broker name outcome p = []
 
@@ -189,7 +205,8 @@ asked_in (ByConnect from connect) outs = []
 asked_in (ByPing from client) outs = []
 asked_in (ByLeave from) outs = []
 asked_in (BySource from p) outs = flat_map (asked_out p) outs
-asked_in (ByPublish from p) outs = []
+asked_in (ByRegister from r) outs = []
+asked_in (ByPublish from p) outs = flat_map (asked_out p) outs
 asked_in (ByUnsupported from frame) outs = []
 asked_in (ByBroken from rule) outs = []
 asked_in (ByPacket p) outs = []
@@ -205,27 +222,30 @@ waiting_by s (ByConnect from connect) outs = s.link.waiting
 waiting_by s (ByPing from client) outs = s.link.waiting
 waiting_by s (ByLeave from) outs = s.link.waiting
 waiting_by s (BySource from p) outs = s.link.waiting ++ asked_in (BySource from p) outs
-waiting_by s (ByPublish from p) outs = s.link.waiting
+waiting_by s (ByRegister from r) outs = s.link.waiting
+waiting_by s (ByPublish from p) outs = s.link.waiting ++ asked_in (ByPublish from p) outs
 waiting_by s (ByUnsupported from frame) outs = s.link.waiting
 waiting_by s (ByBroken from rule) outs = s.link.waiting
-waiting_by s (ByPacket p) outs = s.link.waiting
+waiting_by s (ByPacket p) outs = s.link.waiting ++ acknowledgements s.up s.link (answer_of p)
 waiting_by s ByUp outs = if s.up then publishes s.link.waiting else s.link.waiting
 waiting_by s ByDown outs = publishes s.link.waiting
 waiting_by s ByTake outs = if s.up then [] else s.link.waiting
 waiting_by s (ByReplace policy) outs = s.link.waiting
 waiting_by s (ByTick clock) outs = s.link.waiting
 
--- what leaves at a take while up moves the link, and a connection begins at the clock
+-- what leaves at a take while up moves the link, a packet of the broker may answer a publish in flight, and as a connection begins those
+-- in flight that are denied now are forgotten
 abbrev pub link_moved : State → Cause → List Outcome → Link
 link_moved s (ByConnect from connect) outcomes = s.link
 link_moved s (ByPing from client) outcomes = s.link
 link_moved s (ByLeave from) outcomes = s.link
 link_moved s (BySource from p) outcomes = s.link
+link_moved s (ByRegister from r) outcomes = s.link
 link_moved s (ByPublish from p) outcomes = s.link
 link_moved s (ByUnsupported from frame) outcomes = s.link
 link_moved s (ByBroken from rule) outcomes = s.link
-link_moved s (ByPacket p) outcomes = s.link
-link_moved s ByUp outcomes = record s.link { pinged = s.clock }
+link_moved s (ByPacket p) outcomes = answered s.link (answer_of p)
+link_moved s ByUp outcomes = record s.link { in_flight = still_in_flight s.link.in_flight outcomes; pinged = s.clock }
 link_moved s ByDown outcomes = s.link
 link_moved s ByTake outcomes = if s.up then link_after s.link s.link.waiting outcomes else s.link
 link_moved s (ByReplace policy) outcomes = s.link

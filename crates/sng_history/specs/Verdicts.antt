@@ -5,6 +5,8 @@ use Rattle.std.specs.Prelude.{ℕ, ◌/◌, ◌%◌, ◌==◌, ◌&&◌, ◌||�
 use Rattle.std.specs.Str.{bytes_eq}
 use Rattle.std.specs.declared.result.Result.{Result}
 use Rattle.sng_text.specs.Texts.{is_name}
+use Rattle.sng_text.specs.declared.qos.Qos.{Qos}
+use Rattle.sng_text.specs.declared.qos.Qos.TheVariants.{AtMostOnce, AtLeastOnce}
 use Rattle.sng_grants.specs.declared.policy.Policy.{Policy}
 use Rattle.sng_policy.specs.Grants.{publish_grant, source_grant, lists, lists_source, topic}
 use Rattle.sng_policy.specs.declared.grant.Grant.{Grant}
@@ -13,7 +15,8 @@ use Rattle.sng_frames.specs.declared.messages.connect.Connect.{Connect}
 use Rattle.sng_frames.specs.declared.messages.publish.Publish.{Publish}
 use Rattle.sng_frames.specs.declared.flags.TopicIdType.{TopicIdType}
 use Rattle.sng_frames.specs.declared.flags.TopicIdType.TheVariants.{Normal, Predefined, Short, Reserved}
-use Rattle.sng_outbox.specs.declared.limits.TheConstants.{MAX_OUTBOX_ITEMS}
+use Rattle.sng_outbox.specs.Sending.{load}
+use Rattle.sng_outbox.specs.declared.limits.TheConstants.{MAX_IN_FLIGHT}
 use Rattle.sng_outbox.specs.declared.origin.Origin.{Origin}
 use Rattle.sng_outbox.specs.declared.origin.Origin.TheVariants as origin
 use Rattle.sng_book.specs.declared.decision.Decision.{Decision}
@@ -25,12 +28,14 @@ use Rattle.sng_book.specs.declared.outcome.Denial.{Denial}
 use Rattle.sng_book.specs.declared.outcome.Denial.TheVariants.{NotSupported, NoScope, NoSession, UnknownSource, BadName, IdType, UnknownId, MissingPub, MissingSub, OutOfTurn, UpstreamDown, Full}
 use Rattle.sng_book.specs.declared.outcome.Outcome.{Outcome}
 use Rattle.sng_book.specs.declared.outcome.Outcome.TheVariants.{Allowed, Denied}
-use Rattle.sng_ids.specs.Ids.{Ids, name_of}
+use Rattle.sng_ids.specs.Ids.{Ids, name_of, is_full_for}
 use Rattle.sng_states.specs.declared.state.ClientState.{ClientState}
 use Rattle.sng_states.specs.declared.state.ClientState.TheVariants.{Dialogue, Active, Asleep, Awake, Disconnected, Lost}
 use Rattle.sng_history.specs.declared.limits.TheConstants.{MAX_CLIENTS}
 use Rattle.sng_history.specs.Clients.{Client}
-use Rattle.sng_history.specs.State.{State, is_known}
+use Rattle.sng_history.specs.Links.{Link}
+use Rattle.sng_history.specs.Packets.{has_place}
+use Rattle.sng_history.specs.State.{State, is_known, qos_of}
 
 -- the policy does not list who asks
 abbrev pub unlisted : Origin → Denial
@@ -56,13 +61,21 @@ abbrev pub and_then : Outcome → Outcome → Outcome
 and_then Allowed next = next
 and_then (Denied denial) next = Denied denial
 
--- whether there is a connection, and room for one more
-abbrev pub room : State → Outcome
-room s = if s.up then (if nat_lt (length s.link.waiting) MAX_OUTBOX_ITEMS then Allowed else Denied (Full place.Outbox)) else Denied UpstreamDown
+-- one more publish at this QoS may wait or be in flight
+abbrev pub has_flight : Link → Qos → Bool
+has_flight link AtMostOnce = true
+has_flight link AtLeastOnce = nat_lt (load (record { waiting = link.waiting; in_flight = link.in_flight })) MAX_IN_FLIGHT
 
--- a publish under the name is judged: by the policy in force, then by the connection and the room
-abbrev pub verdict : State → Origin → List ℕ → Outcome
-verdict s asker name = and_then (exit s.policy asker name) (room s)
+-- whether there is a connection, and room for one more publish at this QoS: among those in flight, then in the outbox
+abbrev pub room_in : Link → Qos → Outcome
+room_in link q = if has_flight link q then (if has_place link then Allowed else Denied (Full place.Outbox)) else Denied (Full place.InFlight)
+
+abbrev pub room : State → Qos → Outcome
+room s q = if s.up then room_in s.link q else Denied UpstreamDown
+
+-- a publish under the name at this QoS is judged: by the policy in force, then by the connection and the room
+abbrev pub verdict : State → Origin → List ℕ → Qos → Outcome
+verdict s asker name q = and_then (exit s.policy asker name) (room s q)
 
 -- a number as its two octets, the high one first
 abbrev pub octets_of : ℕ → List ℕ
@@ -92,7 +105,7 @@ name_in policy ids Reserved id = Err IdType
 
 -- the note of an ask by a listed source, given the name that was read
 abbrev pub named_ask : State → List ℕ → Result (List ℕ) Denial → Decision
-named_ask s source (Ok name) = note.Publish (who.Source source) (Some name) (verdict s (origin.Source source) name)
+named_ask s source (Ok name) = note.Publish (who.Source source) (Some name) (verdict s (origin.Source source) name AtMostOnce)
 named_ask s source (Err rule) = note.Publish (who.Source source) None (Denied rule)
 
 -- the note of a PUBLISH without a session, of which only the sender's IPv4 address counts
@@ -106,8 +119,9 @@ source_ask s source p =
 abbrev pub entry_form : Connect → Outcome
 entry_form c = if (c.protocol_id == 1) && not c.flags.will then Allowed else Denied NotSupported
 
-abbrev pub entry_scope : Policy → List ℕ → Outcome
-entry_scope policy id = if lists policy id then Allowed else Denied (NoScope id)
+-- the policy lists the client
+abbrev pub client_scope : Policy → List ℕ → Outcome
+client_scope policy id = if lists policy id then Allowed else Denied (NoScope id)
 
 -- a client that was accepted once has its place
 abbrev pub entry_room : List Client → List ℕ → Outcome
@@ -115,7 +129,7 @@ entry_room xs id = if is_known id xs || nat_lt (length xs) MAX_CLIENTS then Allo
 
 -- the verdict on a CONNECT (MQTT-SN 1.2, 5.4.4)
 abbrev pub entry_by : Policy → List Client → Connect → Outcome
-entry_by policy xs c = and_then (entry_form c) (and_then (entry_scope policy c.client_id) (entry_room xs c.client_id))
+entry_by policy xs c = and_then (entry_form c) (and_then (client_scope policy c.client_id) (entry_room xs c.client_id))
 
 abbrev pub entry : State → Connect → Outcome
 entry s c = entry_by s.policy s.clients c
@@ -128,15 +142,52 @@ is_active Awake = false
 is_active Disconnected = false
 is_active Lost = false
 
--- a PINGREQ of a client has its turn where the client is active; one that names another client has no session (MQTT-SN 1.2, 5.4.19).
--- A client does not sleep yet
+-- a message of a client has its turn where the client is active; a client does not sleep yet
 abbrev pub in_turn : Client → Outcome
 in_turn x = if is_active x.phase then Allowed else Denied OutOfTurn
 
--- the PINGREQ names a client, and another one
+-- a PINGREQ may name a client; one that names another client has no session (MQTT-SN 1.2, 5.4.19)
 abbrev pub names_other : Option (List ℕ) → List ℕ → Bool
 names_other None own = false
 names_other (Some id) own = not (bytes_eq id own)
 
 abbrev pub ping_verdict : Option (List ℕ) → Client → Outcome
 ping_verdict client x = if names_other client x.id then Denied NoSession else in_turn x
+
+-- ---- asks of a client
+
+-- a client may ask where it has its turn and the policy lists it
+abbrev pub may_ask : Policy → Client → Outcome
+may_ask policy x = and_then (in_turn x) (client_scope policy x.id)
+
+abbrev pub name_given : List ℕ → Result (List ℕ) Denial
+name_given text = if is_name text then Ok text else Err BadName
+
+-- a name without an id gets one while there are some
+abbrev pub id_room : List ℕ → Ids → Outcome
+id_room name ids = if is_full_for name ids then Denied (Full place.Ids) else Allowed
+
+abbrev pub register_named : Policy → Client → Result (List ℕ) Denial → Decision
+register_named policy x (Ok name) =
+    note.Register (who.Client x.id) (Some name) (and_then (exit policy (origin.Client x.id) name) (id_room name x.ids))
+register_named policy x (Err rule) = note.Register (who.Client x.id) None (Denied rule)
+
+abbrev pub register_by : Policy → Client → List ℕ → Outcome → Decision
+register_by policy x text Allowed = register_named policy x (name_given text)
+register_by policy x text (Denied rule) = note.Register (who.Client x.id) None (Denied rule)
+
+-- the note of a REGISTER of this name (MQTT-SN 1.2, 5.4.10 and 6.5)
+abbrev pub register_ask : Policy → Client → List ℕ → Decision
+register_ask policy x text = register_by policy x text (may_ask policy x)
+
+abbrev pub publish_named : State → Client → Qos → Result (List ℕ) Denial → Decision
+publish_named s x q (Ok name) = note.Publish (who.Client x.id) (Some name) (verdict s (origin.Client x.id) name q)
+publish_named s x q (Err rule) = note.Publish (who.Client x.id) None (Denied rule)
+
+abbrev pub publish_by : State → Client → Publish → Outcome → Decision
+publish_by s x p Allowed = publish_named s x (qos_of p.flags.qos) (name_in s.policy (Some x.ids) p.flags.id_type p.topic_id)
+publish_by s x p (Denied rule) = note.Publish (who.Client x.id) None (Denied rule)
+
+-- the note of a PUBLISH of a client (MQTT-SN 1.2, 5.4.12 and 6.6)
+abbrev pub publish_ask : State → Client → Publish → Decision
+publish_ask s x p = publish_by s x p (may_ask s.policy x)

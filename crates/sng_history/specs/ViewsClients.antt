@@ -1,4 +1,5 @@
--- What the rows show of each client: its state, where it is, when it was heard last, and who was accepted so far.
+-- What the rows show of each client: its state, where it is, when it was heard last, who was accepted so far, and the names that a client
+-- was told topic ids of.
 use Rattle.std.specs.Prelude.{ℕ, Bool, true, false, ◌&&◌, ◌||◌, not, List, [], ◌∷◌, ◌++◌, filter, if◌then◌else◌, Option, Some, None}
 use Rattle.std.specs.Str.{bytes_eq}
 use Rattle.sng_states.specs.declared.state.ClientState.{ClientState}
@@ -9,6 +10,8 @@ use Rattle.sng_book.specs.Denials.{is_allowed}
 use Rattle.sng_book.specs.declared.address.Address.{Address}
 use Rattle.sng_book.specs.declared.decision.Decision.{Decision}
 use Rattle.sng_book.specs.declared.decision.Decision.TheVariants as note
+use Rattle.sng_book.specs.declared.decision.Who.{Who}
+use Rattle.sng_book.specs.declared.decision.Who.TheVariants as who
 use Rattle.sng_book.specs.declared.event.Event.{Event}
 use Rattle.sng_book.specs.declared.event.Event.TheVariants.{Datagram, Broker, Up, Down, Take, Replace, Tick}
 use Rattle.sng_book.specs.declared.out.Out.{Out}
@@ -16,7 +19,7 @@ use Rattle.sng_book.specs.declared.out.Out.TheVariants.{Send, Wire, Note}
 use Rattle.sng_book.specs.declared.row.Row.{Row}
 use Rattle.sng_history.specs.Clients.{same_address}
 use Rattle.sng_history.specs.Views.{clock_at}
-use Rattle.sng_history.specs.ViewsMessages.{Message, Connects, Publishes, Other, message_in, is_without_session}
+use Rattle.sng_history.specs.ViewsMessages.{Message, Connects, Registers, Publishes, Other, message_in, is_without_session}
 
 -- ---- the state of a client
 
@@ -111,6 +114,7 @@ is_at id from h = is_there (phase_of id h) (address_of id h) from
 
 abbrev pub duration_by : Option Message → Option ℕ
 duration_by (Some (Connects connect)) = Some connect.duration
+duration_by (Some (Registers r)) = None
 duration_by (Some (Publishes p)) = None
 duration_by (Some Other) = None
 duration_by None = None
@@ -133,6 +137,7 @@ duration_of id (row ∷ earlier) = if is_admitted id row.outs then stated_in row
 -- a session's message: any but a PUBLISH without a session
 abbrev pub is_spoken : Option Message → Bool
 is_spoken (Some (Connects connect)) = true
+is_spoken (Some (Registers r)) = true
 is_spoken (Some (Publishes p)) = not (is_without_session p.flags.qos)
 is_spoken (Some Other) = true
 is_spoken None = false
@@ -162,6 +167,7 @@ is_among id (one ∷ ids) = bytes_eq id one || is_among id ids
 abbrev pub accepted_by : List (List ℕ) → Option Message → List Out → List (List ℕ)
 accepted_by ids (Some (Connects connect)) outs =
     if is_admitted connect.client_id outs && not (is_among connect.client_id ids) then connect.client_id ∷ [] else []
+accepted_by ids (Some (Registers r)) outs = []
 accepted_by ids (Some (Publishes p)) outs = []
 accepted_by ids (Some Other) outs = []
 accepted_by ids None outs = []
@@ -183,3 +189,48 @@ accepted (row ∷ earlier) = accepted earlier ++ accepted_in (accepted earlier) 
 -- those of them that are at the address
 abbrev pub those_at : Address → List Row → List (List ℕ)
 those_at from h = filter (λ id. is_at id from h) (accepted h)
+
+-- ---- the names that it was told topic ids of
+
+-- the note is of that client
+abbrev pub speaks_of : List ℕ → Who → Bool
+speaks_of id (who.Client client) = bytes_eq id client
+speaks_of id (who.Source source) = false
+speaks_of id (who.Address address) = false
+speaks_of id who.Broker = false
+
+-- a name that was not told yet comes last
+abbrev pub with_name : Option (List ℕ) → List (List ℕ) → List (List ℕ)
+with_name None names = names
+with_name (Some name) names = if is_among name names then names else names ++ name ∷ []
+
+-- a REGISTER that is allowed tells the client an id of its name, and a CONNECT that is accepted begins anew
+abbrev pub names_by : List ℕ → Decision → List (List ℕ) → List (List ℕ)
+names_by id (note.Connect client outcome) before = if bytes_eq id client && is_allowed outcome then [] else before
+names_by id (note.Register whom name outcome) before = if speaks_of id whom && is_allowed outcome then with_name name before else before
+names_by id (note.Left client) before = before
+names_by id (note.Publish whom name outcome) before = before
+names_by id (note.Subscribe whom filter outcome) before = before
+names_by id (note.Unsubscribe whom filter outcome) before = before
+names_by id (note.Will whom name outcome) before = before
+names_by id (note.Announce client name) before = before
+names_by id (note.Hand client name outcome) before = before
+names_by id (note.Retry client name outcome) before = before
+names_by id (note.Forward whom name outcome) before = before
+names_by id (note.Again whom name outcome) before = before
+names_by id (note.End client filter outcome) before = before
+names_by id (note.Lost client) before = before
+names_by id note.Outbox before = before
+names_by id (note.Frame whom outcome) before = before
+
+abbrev pub names_after : List ℕ → List Out → List (List ℕ) → List (List ℕ)
+names_after id [] before = before
+names_after id (Note said ∷ outs) before = names_after id outs (names_by id said before)
+names_after id (Send to datagram ∷ outs) before = names_after id outs before
+names_after id (Wire packet ∷ outs) before = names_after id outs before
+
+-- the names that the client was told ids of since its last accepted CONNECT, in the order in which each was told first: the first has id
+-- 1, and the k-th has id k
+abbrev pub names_told : List ℕ → List Row → List (List ℕ)
+names_told id [] = []
+names_told id (row ∷ earlier) = names_after id row.outs (names_told id earlier)

@@ -1,22 +1,25 @@
 -- What the rows show of the way to the broker: what was asked for, what waits, and what left.
-use Rattle.std.specs.Prelude.{ℕ, ◌/◌, ◌%◌, Bool, true, false, ◌&&◌, ◌||◌, List, [], ◌∷◌, ◌++◌, map, if◌then◌else◌, Option, Some, None}
-use Rattle.sng_text.specs.declared.qos.Qos.TheVariants.{AtMostOnce}
-use Rattle.sng_grants.specs.declared.policy.Policy.{Policy}
-use Rattle.sng_policy.specs.Grants.{topic}
+use Rattle.std.specs.Prelude.{ℕ, Bool, true, false, ◌&&◌, ◌||◌, not, List, [], ◌∷◌, ◌++◌, map, if◌then◌else◌, Option, Some, None}
+use Rattle.sng_text.specs.declared.qos.Qos.{Qos}
+use Rattle.sng_text.specs.declared.qos.Qos.TheVariants.{AtMostOnce, AtLeastOnce}
+use Rattle.mqtt_frames.specs.declared.packet.Packet.{Packet}
+use Rattle.mqtt_frames.specs.declared.packet.Packet.TheVariants as packet
 use Rattle.sng_frames.specs.Reading.{frame_of}
-use Rattle.sng_frames.specs.declared.flags.TopicIdType.{TopicIdType}
-use Rattle.sng_frames.specs.declared.flags.TopicIdType.TheVariants.{Normal, Predefined, Short, Reserved}
+use Rattle.sng_frames.specs.declared.qos.FrameQos.{FrameQos}
+use Rattle.sng_frames.specs.declared.qos.FrameQos.TheVariants as qos
 use Rattle.sng_frames.specs.declared.messages.publish.Publish.{Publish}
 use Rattle.sng_outbox.specs.Sending.{publishes}
 use Rattle.sng_outbox.specs.declared.item.Item.{Item}
 use Rattle.sng_outbox.specs.declared.item.Item.TheVariants as item
 use Rattle.sng_outbox.specs.declared.item.Publication.{Publication}
+use Rattle.sng_outbox.specs.declared.origin.Origin.{Origin}
 use Rattle.sng_outbox.specs.declared.origin.Origin.TheVariants as origin
 use Rattle.sng_book.specs.Denials.{is_allowed}
 use Rattle.sng_book.specs.declared.address.Address.{Address}
 use Rattle.sng_book.specs.declared.decision.Decision.{Decision}
 use Rattle.sng_book.specs.declared.decision.Decision.TheVariants as note
 use Rattle.sng_book.specs.declared.decision.Who.{Who}
+use Rattle.sng_book.specs.declared.decision.Who.TheVariants as who
 use Rattle.sng_book.specs.declared.outcome.Outcome.{Outcome}
 use Rattle.sng_book.specs.declared.outcome.Outcome.TheVariants.{Allowed, Denied}
 use Rattle.sng_book.specs.declared.event.Event.{Event}
@@ -24,72 +27,133 @@ use Rattle.sng_book.specs.declared.event.Event.TheVariants.{Datagram, Broker, Up
 use Rattle.sng_book.specs.declared.out.Out.{Out}
 use Rattle.sng_book.specs.declared.out.Out.TheVariants.{Send, Wire, Note}
 use Rattle.sng_book.specs.declared.row.Row.{Row}
-use Rattle.sng_history.specs.Views.{policy_in_force, is_up}
-use Rattle.sng_history.specs.ViewsMessages.{Message, Connects, Publishes, Other, message_in, is_without_session}
+use Rattle.sng_history.specs.Views.{is_up}
+use Rattle.sng_history.specs.ViewsMessages.{Message, Connects, Registers, Publishes, Other, message_in}
 
 -- ---- what was asked for
 
--- the name that a topic id stands for without a session: a short id's two octets, or what the policy gives a predefined one
-abbrev pub name_under : Policy → TopicIdType → ℕ → Option (List ℕ)
-name_under policy Short id = Some (id / 256 ∷ id % 256 ∷ [])
-name_under policy Predefined id = topic policy id
-name_under policy Normal id = None
-name_under policy Reserved id = None
+-- the QoS to the broker: QoS 1 stays, and any other goes on at QoS 0
+abbrev pub qos_upstream : FrameQos → Qos
+qos_upstream qos.AtLeastOnce = AtLeastOnce
+qos_upstream qos.AtMostOnce = AtMostOnce
+qos_upstream qos.ExactlyOnce = AtMostOnce
+qos_upstream qos.WithoutSession = AtMostOnce
 
--- the note allows a publish that was asked for
-abbrev pub allows_publish : Decision → Bool
-allows_publish (note.Publish who name outcome) = is_allowed outcome
-allows_publish (note.Connect client outcome) = false
-allows_publish (note.Register who name outcome) = false
-allows_publish (note.Subscribe who filter outcome) = false
-allows_publish (note.Unsubscribe who filter outcome) = false
-allows_publish (note.Will who name outcome) = false
-allows_publish (note.Announce client name) = false
-allows_publish (note.Hand client name outcome) = false
-allows_publish (note.Retry client name outcome) = false
-allows_publish (note.Forward who name outcome) = false
-allows_publish (note.Again who name outcome) = false
-allows_publish (note.End client filter outcome) = false
-allows_publish (note.Lost client) = false
-allows_publish (note.Left client) = false
-allows_publish note.Outbox = false
-allows_publish (note.Frame who outcome) = false
+-- the publish of who asked for it, under the name of its note, with the payload and the Retain of its datagram
+abbrev pub publication : Origin → List ℕ → Qos → Publish → Publication
+publication asker name q p = record { origin = asker; name = name; payload = p.payload; qos = q; retain = p.flags.retain }
 
--- the row allows one
-abbrev pub is_publish_allowed : List Out → Bool
-is_publish_allowed [] = false
-is_publish_allowed (Note said ∷ outs) = allows_publish said || is_publish_allowed outs
-is_publish_allowed (Send to datagram ∷ outs) = is_publish_allowed outs
-is_publish_allowed (Wire packet ∷ outs) = is_publish_allowed outs
+-- a client publishes at the QoS of its datagram, and a device without a session at QoS 0; nobody else publishes
+abbrev pub publication_by : Who → Option (List ℕ) → Publish → List Publication
+publication_by (who.Client client) (Some name) p = publication (origin.Client client) name (qos_upstream p.flags.qos) p ∷ []
+publication_by (who.Source source) (Some name) p = publication (origin.Source source) name AtMostOnce p ∷ []
+publication_by (who.Client client) None p = []
+publication_by (who.Source source) None p = []
+publication_by (who.Address address) name p = []
+publication_by who.Broker name p = []
 
--- the publish of a device without a session: its own name, payload and Retain, at QoS 0
-abbrev pub of_source : Address → Publish → Option (List ℕ) → List Publication
-of_source from p None = []
-of_source from p (Some name) =
-    record { origin = origin.Source from.ip; name = name; payload = p.payload; qos = AtMostOnce; retain = p.flags.retain } ∷ []
+-- the publish that a note of the row allows
+abbrev pub allowed_by : Publish → Decision → List Publication
+allowed_by p (note.Publish who name outcome) = if is_allowed outcome then publication_by who name p else []
+allowed_by p (note.Connect client outcome) = []
+allowed_by p (note.Register who name outcome) = []
+allowed_by p (note.Subscribe who filter outcome) = []
+allowed_by p (note.Unsubscribe who filter outcome) = []
+allowed_by p (note.Will who name outcome) = []
+allowed_by p (note.Announce client name) = []
+allowed_by p (note.Hand client name outcome) = []
+allowed_by p (note.Retry client name outcome) = []
+allowed_by p (note.Forward who name outcome) = []
+allowed_by p (note.Again who name outcome) = []
+allowed_by p (note.End client filter outcome) = []
+allowed_by p (note.Lost client) = []
+allowed_by p (note.Left client) = []
+allowed_by p note.Outbox = []
+allowed_by p (note.Frame who outcome) = []
 
--- what a message asks for under the policy, where it is allowed
-abbrev pub asks_for : Policy → Address → Option Message → Bool → List Publication
-asks_for policy from (Some (Publishes p)) granted =
-    if granted && is_without_session p.flags.qos then of_source from p (name_under policy p.flags.id_type p.topic_id) else []
-asks_for policy from (Some (Connects connect)) granted = []
-asks_for policy from (Some Other) granted = []
-asks_for policy from None granted = []
+abbrev pub allowed_in : Publish → List Out → List Publication
+allowed_in p [] = []
+allowed_in p (Note said ∷ outs) = allowed_by p said ++ allowed_in p outs
+allowed_in p (Send to datagram ∷ outs) = allowed_in p outs
+allowed_in p (Wire packet ∷ outs) = allowed_in p outs
 
--- the publish that was asked for and allowed with this event and these outs, under the policy
-abbrev pub asked_with : Policy → Event → List Out → List Publication
-asked_with policy (Datagram from datagram) outs = asks_for policy from (message_in (frame_of datagram)) (is_publish_allowed outs)
-asked_with policy (Broker packet) outs = []
-asked_with policy Up outs = []
-asked_with policy Down outs = []
-asked_with policy Take outs = []
-asked_with policy (Replace replaced) outs = []
-asked_with policy (Tick clock) outs = []
+-- what a message asks for, where it is allowed
+abbrev pub asks_for : Option Message → List Out → List Publication
+asks_for (Some (Publishes p)) outs = allowed_in p outs
+asks_for (Some (Connects connect)) outs = []
+asks_for (Some (Registers r)) outs = []
+asks_for (Some Other) outs = []
+asks_for None outs = []
+
+-- the publish that was asked for and allowed with this event and these outs
+abbrev pub asked_with : Event → List Out → List Publication
+asked_with (Datagram from datagram) outs = asks_for (message_in (frame_of datagram)) outs
+asked_with (Broker sent) outs = []
+asked_with Up outs = []
+asked_with Down outs = []
+asked_with Take outs = []
+asked_with (Replace policy) outs = []
+asked_with (Tick clock) outs = []
 
 -- everything that was ever asked for and allowed, the oldest first
 abbrev pub asked : List Row → List Publication
 asked [] = []
-asked (row ∷ earlier) = asked earlier ++ asked_with (policy_in_force earlier) row.event row.outs
+asked (row ∷ earlier) = asked earlier ++ asked_with row.event row.outs
+
+-- ---- what is owed to the broker
+
+-- the note says that no more could wait
+abbrev pub is_outbox : Decision → Bool
+is_outbox note.Outbox = true
+is_outbox (note.Connect client outcome) = false
+is_outbox (note.Register who name outcome) = false
+is_outbox (note.Publish who name outcome) = false
+is_outbox (note.Subscribe who filter outcome) = false
+is_outbox (note.Unsubscribe who filter outcome) = false
+is_outbox (note.Will who name outcome) = false
+is_outbox (note.Announce client name) = false
+is_outbox (note.Hand client name outcome) = false
+is_outbox (note.Retry client name outcome) = false
+is_outbox (note.Forward who name outcome) = false
+is_outbox (note.Again who name outcome) = false
+is_outbox (note.End client filter outcome) = false
+is_outbox (note.Lost client) = false
+is_outbox (note.Left client) = false
+is_outbox (note.Frame who outcome) = false
+
+abbrev pub is_outbox_noted : List Out → Bool
+is_outbox_noted [] = false
+is_outbox_noted (Note said ∷ outs) = is_outbox said || is_outbox_noted outs
+is_outbox_noted (Send to datagram ∷ outs) = is_outbox_noted outs
+is_outbox_noted (Wire packet ∷ outs) = is_outbox_noted outs
+
+abbrev pub listed : {A : Type 0} → Option A → List A
+listed None = []
+listed (Some x) = x ∷ []
+
+-- a message of the broker has a packet id at QoS 1, under which it is to be acknowledged
+abbrev pub message_id : Packet → List ℕ
+message_id (packet.Publish p) = listed p.packet_id
+message_id (packet.PublishAck packet_id) = []
+message_id (packet.Connect connect) = []
+message_id (packet.ConnectAck answer) = []
+message_id (packet.Subscribe request) = []
+message_id (packet.SubscribeAck answer) = []
+message_id (packet.Unsubscribe request) = []
+message_id (packet.UnsubscribeAck packet_id) = []
+message_id packet.PingRequest = []
+message_id packet.PingResponse = []
+message_id packet.Disconnect = []
+
+-- a message that comes while up is acknowledged, unless the row notes that no more could wait
+abbrev pub owed_with : Event → List Row → List Out → List ℕ
+owed_with (Broker sent) earlier outs = if is_up earlier && not (is_outbox_noted outs) then message_id sent else []
+owed_with (Datagram from datagram) earlier outs = []
+owed_with Up earlier outs = []
+owed_with Down earlier outs = []
+owed_with Take earlier outs = []
+owed_with (Replace policy) earlier outs = []
+owed_with (Tick clock) earlier outs = []
 
 -- ---- what waits
 
@@ -120,10 +184,14 @@ drops (Tick clock) earlier = false
 abbrev pub kept : Event → List Row → List Item → List Item
 kept e earlier items = if lets_out e earlier then [] else (if drops e earlier then publishes items else items)
 
--- what was asked for since the last take while up, without what was dropped
+-- what a row adds to what waits: the publish that is asked for and allowed, and the acknowledgement that is owed
+abbrev pub added : Event → List Row → List Out → List Item
+added e earlier outs = map item.Publish (asked_with e outs) ++ map item.Acknowledge (owed_with e earlier outs)
+
+-- what was added since the last take while up, without what was dropped
 abbrev pub waiting : List Row → List Item
 waiting [] = []
-waiting (row ∷ earlier) = kept row.event earlier (waiting earlier) ++ map item.Publish (asked_with (policy_in_force earlier) row.event row.outs)
+waiting (row ∷ earlier) = kept row.event earlier (waiting earlier) ++ added row.event earlier row.outs
 
 -- the publishes among the items, in order
 abbrev pub publications : List Item → List Publication

@@ -1,4 +1,4 @@
--- What message a datagram holds, as far as the views ask: a CONNECT, a PUBLISH, or another one.
+-- What message a datagram holds, as far as the views ask: a CONNECT, a REGISTER, a PUBLISH, or another one.
 use Rattle.std.specs.Prelude.{Bool, true, false, Option, Some, None, Ok, Err}
 use Rattle.std.specs.declared.result.Result.{Result}
 use Rattle.sng_frames.specs.declared.fault.FrameFault.{FrameFault}
@@ -6,23 +6,25 @@ use Rattle.sng_frames.specs.declared.qos.FrameQos.{FrameQos}
 use Rattle.sng_frames.specs.declared.qos.FrameQos.TheVariants as qos
 use Rattle.sng_frames.specs.declared.messages.connect.Connect.{Connect}
 use Rattle.sng_frames.specs.declared.messages.publish.Publish.{Publish}
+use Rattle.sng_frames.specs.declared.messages.register.Register.{Register}
 use Rattle.sng_frames.specs.declared.frame.SnFrame.{SnFrame}
 use Rattle.sng_frames.specs.declared.frame.SnFrame.TheVariants as frame
 
 pub data Message : Type 0 where
   Connects : Connect → Message
+  Registers : Register → Message
   Publishes : Publish → Message
   Other : Message
 
 abbrev pub message_of : SnFrame → Message
 message_of (frame.Connect connect) = Connects connect
+message_of (frame.Register register) = Registers register
 message_of (frame.Publish p) = Publishes p
 message_of (frame.ConnectAck code) = Other
 message_of frame.WillTopicRequest = Other
 message_of (frame.WillTopic topic) = Other
 message_of frame.WillMessageRequest = Other
 message_of (frame.WillMessage message) = Other
-message_of (frame.Register register) = Other
 message_of (frame.RegisterAck answer) = Other
 message_of (frame.PublishAck answer) = Other
 message_of (frame.PublishComplete id) = Other

@@ -1,47 +1,48 @@
-//! Histories of the gateway: what a reader of the audit book has to believe, and the laws that hold in every lawful one.
-//! The definitions stand in specs/; this crate has no code that runs. Each function here carries, as its contract, laws over
-//! all histories that the gateway's steps can make.
+//! Histories of the gateway: what a reader of the audit book has to believe, and the laws that hold in every
+//! lawful one. The definitions stand in specs/; this crate has no code that runs. Each function here carries,
+//! as its contract, laws over all histories that the gateway's steps can make.
 #![tactic(auto)]
 
 pub mod limits;
 pub mod worked;
 
-ghost use Rattle.std.specs.Prelude.{◌≡◌, ◌≤◌, ℕ, true, false, List, [], ◌∷◌, length, map, Option, None};
+ghost use Rattle.std.specs.Prelude.{◌≡◌, ◌≤◌, ℕ, true, false, List, [], ◌∷◌, length, map, Option, Some, None};
 ghost use Rattle.mqtt_frames.specs.declared.packet.Packet.{Packet};
 ghost use Rattle.sng_frames.specs.declared.fault.FrameFault.{FrameFault};
 ghost use Rattle.sng_frames.specs.declared.frame.SnFrame.{SnFrame};
 ghost use Rattle.sng_frames.specs.declared.frame.SnFrame.TheVariants as frame;
 ghost use Rattle.sng_frames.specs.declared.messages.connect.Connect.{Connect};
 ghost use Rattle.sng_frames.specs.declared.messages.publish.Publish.{Publish};
+ghost use Rattle.sng_frames.specs.declared.messages.register.Register.{Register};
 ghost use Rattle.sng_book.specs.declared.address.Address.{Address};
-ghost use Rattle.sng_book.specs.declared.decision.Decision.TheVariants as note;
-ghost use Rattle.sng_book.specs.declared.decision.Who.TheVariants as who;
 ghost use Rattle.sng_book.specs.declared.event.Event.{Event};
 ghost use Rattle.sng_book.specs.declared.event.Event.TheVariants.{Broker};
 ghost use Rattle.sng_book.specs.declared.out.Out.{Out};
-ghost use Rattle.sng_book.specs.declared.out.Out.TheVariants.{Note};
-ghost use Rattle.sng_book.specs.declared.outcome.Denial.TheVariants.{NotSupported};
-ghost use Rattle.sng_book.specs.declared.outcome.Outcome.TheVariants.{Denied};
+ghost use Rattle.sng_book.specs.declared.outcome.Outcome.TheVariants.{Allowed};
 ghost use Rattle.sng_book.specs.declared.row.Row.{Row};
 ghost use Rattle.sng_history.specs.Good.{Each, Good};
 ghost use Rattle.sng_history.specs.Lawful.{Lawful, LawfulRow, Keeps};
 ghost use Rattle.sng_history.specs.LawsAnswers.{Brought, Broken, connect_answer, source_answer, answer_to, no_session, ping_answer};
 ghost use Rattle.sng_history.specs.LawsAnswers.{leave_answer, broken_stranger, broken_answer};
 ghost use Rattle.sng_history.specs.LawsLink.{LeavesInOrder, EachDeparts, EachAnnounced, EachTimely, EachUpstream};
-ghost use Rattle.sng_history.specs.LawsState.{ClientShown, RestShown, Untold};
-ghost use Rattle.sng_history.specs.LawsUnsupported.{is_of_session, is_unsupported, unsupported_stranger, unsupported_answer};
-ghost use Rattle.sng_history.specs.LawsUnsupported.{publish_stranger};
+ghost use Rattle.sng_history.specs.LawsFlight.{EachReturns, IdsApart, EachPacket};
+ghost use Rattle.sng_history.specs.LawsRules.{judged};
+ghost use Rattle.sng_history.specs.LawsState.{ClientShown, RestShown, Untold, NoneTwice, OneMore};
+ghost use Rattle.sng_history.specs.LawsAsks.{register_stranger, register_answer, is_of_session, publish_stranger, publish_answer};
+ghost use Rattle.sng_history.specs.LawsAsks.{register_rules, id_told, told_as, packet_answer};
+ghost use Rattle.sng_history.specs.LawsUnsupported.{is_unsupported, unsupported_stranger, unsupported_answer};
 ghost use Rattle.sng_history.specs.State.{State, opening, state_of};
 ghost use Rattle.sng_history.specs.Steps.{outs_of, next_of};
 ghost use Rattle.sng_history.specs.Views.{policy_in_force, clock_at, is_up};
-ghost use Rattle.sng_history.specs.ViewsClients.{phase_of, is_among, accepted, those_at};
+ghost use Rattle.sng_history.specs.ViewsClients.{phase_of, is_admitted, is_among, accepted, those_at, names_told};
 ghost use Rattle.sng_history.specs.ViewsLink.{waiting};
 ghost use Rattle.sng_history.specs.ViewsMessages.{is_without_session};
 
 pub use limits::MAX_CLIENTS;
 
-/// A step from a good state keeps a history lawful, and leads to the state after it, which is good again; the opening state is good.
-/// `exactly`: where the state is good a row may come exactly if its outs are those of the step.
+/// A step from a good state keeps a history lawful, and leads to the state after it, which is good again; the
+/// opening state is good. `exactly`: where the state is good a row may come exactly if its outs are those of
+/// the step.
 pub fn step_is_lawful()
     ensures kept { (s : State) → (e : Event) → Good s → Keeps s e (outs_of s e) (next_of s e) }
     ensures opening { Good opening }
@@ -50,35 +51,55 @@ pub fn step_is_lawful()
         → (LawfulRow s e outs → outs ≡ outs_of s e) × (outs ≡ outs_of s e → LawfulRow s e outs) }
 {}
 
-/// The state that a lawful history leads to is what a reader sees who looks back through its rows: the policy of the last
-/// replacement, the greatest tick, whether the last word on the broker's connection is an Up, what was asked for and has not left,
-/// the clients in the order in which each was accepted first, and of each client its state, where it is, the Duration that it stated
-/// and when it was heard last. `strangers`: a client that was never accepted has no state, so the rows show no other client.
+/// The state that a lawful history leads to is what a reader sees who looks back through its rows: the policy
+/// of the last replacement, the greatest tick, whether the last word on the broker's connection is an Up,
+/// what was asked for or is owed to the broker and has not left, the publishes in flight and the packet id
+/// that was given last, the clients in the order in which each was accepted first, and of each client its
+/// state, where it is, the Duration that it stated and when it was heard last; and its topic ids: the k-th
+/// name that it was told since its last accepted CONNECT has id k. `strangers`: a client that was never
+/// accepted has no state, so the rows show no other client.
 pub fn state_is_shown()
     ensures policy { (h : List Row) → Lawful opening h → (state_of opening h).policy ≡ policy_in_force h }
     ensures clock { (h : List Row) → Lawful opening h → (state_of opening h).clock ≡ clock_at h }
     ensures up { (h : List Row) → Lawful opening h → (state_of opening h).up ≡ is_up h }
     ensures waits { (h : List Row) → Lawful opening h → (state_of opening h).link.waiting ≡ waiting h }
     ensures rest { (h : List Row) → Lawful opening h → RestShown h (state_of opening h).link }
-    ensures order { (h : List Row) → Lawful opening h → map (λ x. x.id) (state_of opening h).clients ≡ accepted h }
+    ensures order { (h : List Row) → Lawful opening h
+        → map (λ x. x.id) (state_of opening h).clients ≡ accepted h }
     ensures clients { (h : List Row) → Lawful opening h → Each (ClientShown h) (state_of opening h).clients }
     ensures untold { (h : List Row) → Each Untold (state_of opening h).clients }
-    ensures strangers { (h : List Row) → Lawful opening h → (id : List ℕ) → is_among id (accepted h) ≡ false → phase_of id h ≡ None }
+    ensures strangers { (h : List Row) → Lawful opening h → (id : List ℕ)
+        → is_among id (accepted h) ≡ false → phase_of id h ≡ None }
 {}
 
-/// What leaves for the broker, in every lawful history.
-/// `in_order`: the publishes that left are a beginning of those that were asked for and allowed, in order, and those that wait are
-/// the rest. `judged`: at each take while up the publishes that wait leave, one note for each and in order, each judged by the policy
-/// in force at that row for its own origin and name; one that is allowed is followed at once by its own packet, with its own name,
-/// payload and Retain; at no other row such a note stands. `announced`: no PUBLISH goes to the broker but at once behind a note that
-/// lets it go. `timely`: no packet goes to it but at a take while up, or as a connection begins. `upstream`: with an event of that
+/// What leaves for the broker, in every lawful history. `in_order`: the publishes that left are a beginning
+/// of those that were asked for and allowed, in order, and those that wait are the rest. `judged`: at each
+/// take while up the publishes that wait leave, one note for each and in order, each judged by the policy in
+/// force at that row for its own origin and name; one that is allowed is followed at once by its own packet,
+/// with its own name, payload and Retain, and a packet id just at QoS 1; at no other row such a note stands.
+/// `announced`: no PUBLISH goes to the broker but at once behind a note that lets it go. `timely`: no packet
+/// goes to it but at a take while up, or as a connection begins. `packets`: at a take while up the packets
+/// are those behind the notes and a PUBACK for each acknowledgement that waits, in the order in which all of
+/// them waited; as a connection begins they are those behind the notes. `upstream`: with an event of that
 /// connection alone nothing is sent to a client.
 pub fn publishes_leave_judged()
     ensures in_order { (h : List Row) → Lawful opening h → LeavesInOrder h }
     ensures judged { (h : List Row) → Lawful opening h → EachDeparts h }
     ensures announced { (h : List Row) → Lawful opening h → EachAnnounced h }
     ensures timely { (h : List Row) → Lawful opening h → EachTimely h }
+    ensures packets { (h : List Row) → Lawful opening h → EachPacket h }
     ensures upstream { (h : List Row) → Lawful opening h → EachUpstream h }
+{}
+
+/// What was sent to the broker at QoS 1 and is not acknowledged, in every lawful history. `judged`: as a
+/// connection begins each publish in flight is judged again, one note for each and in order, by the policy in
+/// force at that row for its own origin and name; one that is allowed is followed at once by its own packet,
+/// as a new one under its own packet id; at no other row such a note stands. `ids`: the packet ids of those
+/// in flight are from 1 to 65535, and no two are equal, so an id that is given is that of no publish in
+/// flight.
+pub fn publishes_return_judged()
+    ensures judged { (h : List Row) → Lawful opening h → EachReturns h }
+    ensures ids { (h : List Row) → Lawful opening h → IdsApart h }
 {}
 
 /// In every lawful history at most one client is at an address.
@@ -86,47 +107,91 @@ pub fn one_client_at_an_address()
     ensures { (h : List Row) → Lawful opening h → (from : Address) → length (those_at from h) ≤ 1 }
 {}
 
-/// In every lawful history a row whose datagram holds a CONNECT begins with its note, with the first rule that forbids it, in this
-/// order: a ProtocolId other than 1 and a will are not supported; a client that the policy in force does not list has no scope; and a
-/// client that was never accepted finds its place full where 256 were. One that is denied is answered by the rule's code. As one is
-/// accepted, the client is dismissed where it was, if that is elsewhere, another client at the address leaves, and CONNACK comes last.
-/// Nothing else is let out.
+/// In every lawful history a row whose datagram holds a CONNECT begins with its note, with the first rule
+/// that forbids it, in this order: a ProtocolId other than 1 and a will are not supported; a client that the
+/// policy in force does not list has no scope; and a client that was never accepted finds its place full
+/// where 256 were. One that is denied is answered by the rule's code. As one is accepted, the client is
+/// dismissed where it was, if that is elsewhere, another client at the address leaves, and CONNACK comes
+/// last. Nothing else is let out.
 pub fn connects_are_judged()
     ensures { (h : List Row) → (row : Row) → (from : Address) → (connect : Connect) → Lawful opening (row ∷ h)
         → Brought row from (frame.Connect connect) → row.outs ≡ connect_answer h from connect }
 {}
 
-/// In every lawful history a row whose datagram holds a PUBLISH without a session has one note, with the first rule that forbids it, in
-/// this order: a source that the policy in force does not list; a topic id whose type needs a session; a short id that is no name; a
-/// predefined id without a name; no pair with `pub` whose filter matches; a connection that is down; and 512 items that wait. Nothing
-/// else is let out.
+/// In every lawful history a row whose datagram holds a PUBLISH without a session has one note, with the
+/// first rule that forbids it, in this order: a source that the policy in force does not list; a topic id
+/// whose type needs a session; a short id that is no name; a predefined id without a name; no pair with `pub`
+/// whose filter matches; a connection that is down; and 512 items that wait. Nothing else is let out.
 pub fn device_publishes_are_judged()
     ensures { (h : List Row) → (row : Row) → (from : Address) → (p : Publish) → Lawful opening (row ∷ h)
-        → Brought row from (frame.Publish p) → is_without_session p.flags.qos ≡ true → row.outs ≡ source_answer h from p }
+        → Brought row from (frame.Publish p) → is_without_session p.flags.qos ≡ true
+        → row.outs ≡ source_answer h from p }
+{}
+
+/// In every lawful history an ask of a client is noted with the first rule that forbids it, and answered.
+/// From an address at which no client is it has no session, and is answered by DISCONNECT. `registers`: the
+/// rules for a REGISTER are, in this order: a client that is not active is out of turn; one that the policy
+/// in force does not list has no scope; a text that is no topic name; no pair with `pub` whose filter
+/// matches; and a name without an id where 128 names were told. REGACK answers, with the id of the name where
+/// it is allowed: its place among the names told, or the next. `publishes`: the rules for a PUBLISH of QoS 0
+/// or 1 are the first two of these; a topic id of the reserved type; a short id that is no name; a predefined
+/// id without a name; an id that was not told; no pair with `pub` whose filter matches; a connection that is
+/// down; at QoS 1, 128 publishes of QoS 1 that wait or are in flight; and 512 items that wait. PUBACK answers
+/// one that is denied, and one of QoS 1 that is allowed.
+pub fn asks_are_judged()
+    ensures registers { (h : List Row) → (row : Row) → (from : Address) → (r : Register)
+        → Lawful opening (row ∷ h)
+        → Brought row from (frame.Register r)
+        → row.outs ≡ answer_to (register_stranger from) (register_answer h from r) (those_at from h) }
+    ensures publishes { (h : List Row) → (row : Row) → (from : Address) → (p : Publish)
+        → Lawful opening (row ∷ h)
+        → Brought row from (frame.Publish p) → is_of_session p.flags.qos ≡ true
+        → row.outs ≡ answer_to (publish_stranger from) (publish_answer h from p) (those_at from h) }
+{}
+
+/// The topic ids of a client, in every lawful history. `told`: the id that REGACK tells stands for the name
+/// of the REGISTER from that row on. `kept`: an id keeps its name until the client connects anew, since a row
+/// that does not accept the client leaves the names that it was told where they stood, and tells it at most
+/// one more, behind them. `once`: no name has two ids.
+pub fn ids_keep_their_names()
+    ensures told { (h : List Row) → (row : Row) → (from : Address) → (r : Register) → (id : List ℕ)
+        → Lawful opening (row ∷ h)
+        → Brought row from (frame.Register r) → those_at from h ≡ id ∷ []
+        → judged (register_rules h id r.name) ≡ Allowed
+        → told_as (id_told r.name (names_told id h)) (names_told id (row ∷ h)) ≡ Some r.name }
+    ensures once { (h : List Row) → (id : List ℕ) → NoneTwice (names_told id h) }
+    ensures kept { (h : List Row) → (row : Row) → (id : List ℕ) → Lawful opening (row ∷ h)
+        → is_among id (accepted h) ≡ true
+        → is_admitted id row.outs ≡ false → OneMore (names_told id h) (names_told id (row ∷ h)) }
 {}
 
 /// In every lawful history any other datagram is answered to the client at its address, or else to nobody's.
-/// `pings`: a PINGREQ that names another client has no session and is answered by DISCONNECT, one of a client that is not active is
-/// out of turn, any other is answered by PINGRESP without a note. `leaves`: by DISCONNECT without Duration the client leaves, and
-/// DISCONNECT answers. A PINGREQ, a DISCONNECT and a PUBLISH of QoS 0 or 1 from an address at which no client is have no session, and
-/// are answered by DISCONNECT. `publishes`, `unsupported`: other messages are not supported, which an acknowledgement says to a client
-/// where the message asks for one. `broken`: what is no message is noted alone. `packets`: so is each packet of the broker.
+/// `pings`: a PINGREQ that names another client has no session and is answered by DISCONNECT, one of a client
+/// that is not active is out of turn, any other is answered by PINGRESP without a note. `leaves`: by
+/// DISCONNECT without Duration the client leaves, and DISCONNECT answers. A PINGREQ and a DISCONNECT from an
+/// address at which no client is have no session, and are answered by DISCONNECT. `unsupported`: other
+/// messages are not supported, which an acknowledgement says to a client where the message asks for one.
+/// `broken`: what is no message is noted alone. `packets`: of a packet of the broker a message under a text
+/// that is no topic name is noted, and an acknowledgement that is owed while 512 items wait; what
+/// acknowledges or answers the gateway lets nothing out; and any other is not supported.
 pub fn messages_are_answered()
-    ensures pings { (h : List Row) → (row : Row) → (from : Address) → (named : Option (List ℕ)) → Lawful opening (row ∷ h)
+    ensures pings { (h : List Row) → (row : Row) → (from : Address) → (named : Option (List ℕ))
+        → Lawful opening (row ∷ h)
         → Brought row from (frame.PingRequest named)
         → row.outs ≡ answer_to (no_session from) (ping_answer h from named) (those_at from h) }
     ensures leaves { (h : List Row) → (row : Row) → (from : Address) → Lawful opening (row ∷ h)
         → Brought row from (frame.Disconnect None)
         → row.outs ≡ answer_to (no_session from) (leave_answer from) (those_at from h) }
-    ensures publishes { (h : List Row) → (row : Row) → (from : Address) → (p : Publish) → Lawful opening (row ∷ h)
-        → Brought row from (frame.Publish p) → is_of_session p.flags.qos ≡ true
-        → row.outs ≡ answer_to (publish_stranger from) (unsupported_answer from (frame.Publish p)) (those_at from h) }
-    ensures unsupported { (h : List Row) → (row : Row) → (from : Address) → (message : SnFrame) → Lawful opening (row ∷ h)
+    ensures unsupported { (h : List Row) → (row : Row) → (from : Address) → (message : SnFrame)
+        → Lawful opening (row ∷ h)
         → Brought row from message → is_unsupported message ≡ true
-        → row.outs ≡ answer_to (unsupported_stranger from message) (unsupported_answer from message) (those_at from h) }
-    ensures broken { (h : List Row) → (row : Row) → (from : Address) → (broke : FrameFault) → Lawful opening (row ∷ h)
+        → row.outs ≡ answer_to (unsupported_stranger from message) (unsupported_answer from message)
+        (those_at from h) }
+    ensures broken { (h : List Row) → (row : Row) → (from : Address) → (broke : FrameFault)
+        → Lawful opening (row ∷ h)
         → Broken row from broke
         → row.outs ≡ answer_to (broken_stranger from broke) (broken_answer broke) (those_at from h) }
-    ensures packets { (h : List Row) → (row : Row) → (packet : Packet) → Lawful opening (row ∷ h) → row.event ≡ Broker packet
-        → row.outs ≡ Note (note.Frame who.Broker (Denied NotSupported)) ∷ [] }
+    ensures packets { (h : List Row) → (row : Row) → (packet : Packet) → Lawful opening (row ∷ h)
+        → row.event ≡ Broker packet
+        → row.outs ≡ packet_answer h packet }
 {}

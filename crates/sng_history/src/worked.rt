@@ -10,11 +10,13 @@ ghost use Rattle.sng_history.specs.Examples.{unknown_source, without_up, strange
 ghost use Rattle.sng_history.specs.Examples.{waits, waits_replaced, waits_down};
 ghost use Rattle.sng_history.specs.ExamplesClients.{home, away, s1, s2, connect_s1, connect_s2, disconnect, lets_in, welcome, bye};
 ghost use Rattle.sng_history.specs.ExamplesClients.{not_listed, moves, takes_over, goes, pings, at_home};
+ghost use Rattle.sng_history.specs.ExamplesClients.{t1, publish_t1, asks_t1, forward_t1, again_t1, packet_t1, refused_t1};
+ghost use Rattle.sng_history.specs.ExamplesClients.{untold, acknowledged_t1, knows_t1, flies_and_waits, flies_ungranted};
 
-/// Lawful histories of devices without a session: a publish that is granted goes out, with a Length of one octet or of three; a
-/// source that is not listed and one without a connection are denied; a session that is not there and what is not a frame are noted; a
-/// publish whose grant was replaced while it waited is denied as it leaves; and one that waits while the connection is down leaves over
-/// the next one.
+/// Lawful histories of devices without a session: a publish that is granted goes out, with a Length of one
+/// octet or of three; a source that is not listed and one without a connection are denied; a session that is
+/// not there and what is not a frame are noted; a publish whose grant was replaced while it waited is denied
+/// as it leaves; and one that waits while the connection is down leaves over the next one.
 pub fn lawful_rows()
     ensures short { Lawful opening (stored_run publish_ab) }
     ensures long { Lawful opening (stored_run publish_ab_long) }
@@ -25,8 +27,9 @@ pub fn lawful_rows()
     ensures kept { Lawful opening kept_while_down }
 {}
 
-/// Rows that may not come: a packet without its note, a take that keeps everything back, a publish that is not judged as it
-/// leaves, one that leaves while the connection is down, the outs of another event, and a denial of what is granted.
+/// Rows that may not come: a packet without its note, a take that keeps everything back, a publish that is
+/// not judged as it leaves, one that leaves while the connection is down, the outs of another event, and a
+/// denial of what is granted.
 pub fn unlawful_rows()
     ensures unnoted { LawfulRow waits Take (packet_ab ∷ []) → ⊥ }
     ensures kept_back { LawfulRow waits Take [] → ⊥ }
@@ -37,9 +40,10 @@ pub fn unlawful_rows()
         (asked_ab source (Denied (MissingPub (codes "ab"))) ∷ []) → ⊥ }
 {}
 
-/// Lawful histories of clients: one that is listed is let in and one that is not is refused; a client that comes from another address is
-/// dismissed where it was, and has no session there any more; one that comes to the address of another puts that one out; a client
-/// leaves; and a PINGREQ that names another client has no session, where one that names none is answered.
+/// Lawful histories of clients: one that is listed is let in and one that is not is refused; a client that
+/// comes from another address is dismissed where it was, and has no session there any more; one that comes to
+/// the address of another puts that one out; a client leaves; and a PINGREQ that names another client has no
+/// session, where one that names none is answered.
 pub fn lawful_clients()
     ensures refused { Lawful opening not_listed }
     ensures moved { Lawful opening moves }
@@ -48,10 +52,28 @@ pub fn lawful_clients()
     ensures pinged { Lawful opening pings }
 {}
 
-/// Rows that may not come while a client is at home: another one is let in there and the first is not told to leave; it comes from
-/// elsewhere and where it was is not answered; and it takes its leave, which is not noted.
+/// Rows that may not come while a client is at home: another one is let in there and the first is not told to
+/// leave; it comes from elsewhere and where it was is not answered; and it takes its leave, which is not
+/// noted.
 pub fn unlawful_clients()
     ensures both_there { LawfulRow at_home (Datagram home connect_s2) (lets_in s2 ∷ welcome home ∷ []) → ⊥ }
     ensures unanswered { LawfulRow at_home (Datagram away connect_s1) (lets_in s1 ∷ welcome away ∷ []) → ⊥ }
     ensures unnoted { LawfulRow at_home (Datagram home disconnect) (bye home ∷ []) → ⊥ }
+{}
+
+/// Lawful histories of what a client asks for: a REGISTER of a name that is not granted is refused, and a
+/// PUBLISH under an id that was not told; and a publish at QoS 1 is accepted, leaves, is sent again over a
+/// new connection, and no more once the broker acknowledged it.
+pub fn lawful_asks()
+    ensures refused { Lawful opening untold }
+    ensures acknowledged { Lawful opening acknowledged_t1 }
+{}
+
+/// Rows that may not come: a publish leaves under the packet id of one that is in flight; one that is in
+/// flight is sent again though it is not granted any more; and a PUBLISH is refused that is granted.
+pub fn unlawful_asks()
+    ensures reused { LawfulRow flies_and_waits Take (forward_t1 Allowed ∷ packet_t1 1 ∷ []) → ⊥ }
+    ensures unjudged { LawfulRow flies_ungranted Up (again_t1 Allowed ∷ packet_t1 1 ∷ []) → ⊥ }
+    ensures denied { LawfulRow knows_t1 (Datagram home publish_t1)
+        (asks_t1 (Denied (MissingPub t1)) ∷ refused_t1 ∷ []) → ⊥ }
 {}

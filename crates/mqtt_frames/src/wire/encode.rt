@@ -1,16 +1,13 @@
 //! Writing packets (MQTT 3.1.1, sections 2 and 3).
-ghost use Rattle.std.specs.Prelude.{◌≡◌, ◌≢◌, ◌≤◌, ◌<◌, ◌↔◌, length, Err, IfOk, OnOk, SomeIff, ◌++◌, false};
-ghost use Rattle.std.specs.Prelude.{None};
+ghost use Rattle.std.specs.Prelude.{◌≡◌, ◌≢◌, ◌≤◌, ◌<◌, ◌↔◌, length, Err, IfOk, OnOk, SomeIff, ◌++◌};
 ghost use Rattle.mqtt_frames.specs.Packets.{first_byte, body, written};
 ghost use Rattle.mqtt_frames.specs.Grammar.{Spells, HasNoSpelling};
-ghost use Rattle.mqtt_frames.specs.Parts.{publish_of_parts};
 
 use crate::limits::MAX_PACKET;
 use crate::{
     Packet, StreamFault, acknowledgements, connect, fields, first, publish, remaining, spellable,
     subscribe, unsubscribe,
 };
-use sng_text::{Octets, TopicName};
 use std::alloc::{AllocError, Global};
 
 /// The bytes that a packet is sent as, with the shortest Remaining Length. Allocates once.
@@ -103,21 +100,4 @@ fn push_body(bytes: &mut Vec<u8>, packet: &Packet) -> Result<(), AllocError>
         Packet::Unsubscribe(unsubscribe) => unsubscribe::push(bytes, unsubscribe),
         Packet::PingRequest | Packet::PingResponse | Packet::Disconnect => Ok(()),
     }
-}
-
-/// The PUBLISH of a message at QoS 0, sent for the first time. Allocates once.
-pub fn write_publish(
-    alloc: Global,
-    name: &TopicName,
-    payload: &[u8],
-    retain: bool,
-) -> Result<Octets, AllocError>
-    ensures { IfOk result (λ o. o ≡ written (publish_of_parts name.now payload.now retain None false)) }
-{
-    let name = name.text();
-    let rest = 2 + name.len() + payload.len();
-    let mut bytes = remaining::front(alloc, first::PUBLISH + fields::flag(retain, 1), rest)?;
-    fields::push_text(&mut bytes, name)?;
-    bytes.extend_from_slice(payload)?;
-    Ok(Octets::from(bytes))
 }

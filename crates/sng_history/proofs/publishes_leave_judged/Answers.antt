@@ -1,4 +1,5 @@
 use Rattle.sng_history.proofs.LawRows.{links}
+use Rattle.sng_history.proofs.LawFlight.{each_packet}
 use Rattle.sng_history.proofs.publishes_leave_judged.Goals as goal
 
 pub returns : goal.returns
@@ -7,5 +8,6 @@ returns c = record {
   judged = λ h l. (links h l).depart;
   announced = λ h l. (links h l).announced;
   timely = λ h l. (links h l).timely;
+  packets = each_packet;
   upstream = λ h l. (links h l).upstream;
 }

@@ -1,20 +1,9 @@
-use Rattle.std.proofs.Common.{subst, sym, ◌∙◌, ap}
-use Rattle.sng_history.specs.Causes.{ByPublish}
+use Rattle.std.proofs.Common.{◌∙◌}
 use Rattle.sng_core.proofs.Rows.{publish_row}
-use Rattle.sng_history.specs.State.{State}
-use Rattle.sng_history.specs.Steps.{outs_by, next_by}
-use Rattle.sng_history.specs.Good.{Good}
-use Rattle.sng_core.specs.contracts.parts.Parts.{the_view}
 use Rattle.sng_core.proofs.parts.Parts.carry.Goals as goal
 
 pub returns-clause-outs : goal.returns-clause-outs
-returns-clause-outs c =
-    let s : State = the_view c.self.inside in
-    let good : Good s = subst Good (sym c.self.view_is) c.requires in
-    c.in_ok-outs.ensures.outs ∙ ((publish_row s c.args.from c.args.publish good).outs ∙ ap (λ t. outs_by t (ByPublish c.args.from c.args.publish)) c.self.view_is)
+returns-clause-outs c = c.in_ok-outs.ensures.outs ∙ (publish_row c.args.self.now c.args.from c.args.publish c.requires).outs
 
 pub returns-clause-next : goal.returns-clause-next
-returns-clause-next c =
-    let s : State = the_view c.self.inside in
-    let good : Good s = subst Good (sym c.self.view_is) c.requires in
-    rw c.in_ok-outs.ensures.next ((publish_row s c.args.from c.args.publish good).next ∙ ap (λ t. next_by t (ByPublish c.args.from c.args.publish)) c.self.view_is)
+returns-clause-next c = c.in_ok-outs.ensures.next ∙ (publish_row c.args.self.now c.args.from c.args.publish c.requires).next

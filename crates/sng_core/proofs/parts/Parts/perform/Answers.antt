@@ -1,19 +1,23 @@
-use Rattle.std.proofs.Common.{◌≡◌, List, [], if◌then◌else◌, subst, sym, ◌∙◌, ap, IfOk, OnOk, Ok, Err}
+use Rattle.std.proofs.Common.{◌≡◌, List, subst, sym, ◌∙◌, ap, IfOk, OnOk, Ok, Err}
 use Rattle.std.specs.declared.result.Result.{Result}
 use Rattle.sng_book.specs.declared.event.Event.{Event}
 use Rattle.sng_book.specs.declared.event.Event.TheVariants as event
 use Rattle.sng_book.specs.declared.out.Out.{Out}
 use Rattle.sng_history.specs.State.{State}
 use Rattle.sng_history.specs.Steps.{outs_of, next_of}
-use Rattle.std.specs.List.{flat_map}
 use Rattle.sng_history.specs.Good.{Good}
-use Rattle.sng_core.specs.Forms.{leaves}
+use Rattle.sng_core.specs.Forms.{taken_outs, taken_next, begun_next}
 use Rattle.sng_core.specs.contracts.parts.Parts.{the_view}
 use Rattle.sng_core.proofs.Rows.{up_row, down_row, take_row, replace_row, tick_row}
 use Rattle.sng_core.proofs.parts.Parts.perform.Goals as goal
 
+up_next : {E : Type 0} (s after : State) (e : Event) (result : Result (List Out) E) → Good s → e ≡ event.Up → OnOk result (after ≡ begun_next s) → OnOk result (after ≡ next_of s e)
+up_next s after e (Ok outs) good is next = next ∙ ((up_row s good).next ∙ sym (ap (next_of s) is))
+up_next s after e (Err fault) good is next = tt
+
 pub returns-in-Up-clause-next : goal.returns-in-Up-clause-next
-returns-in-Up-clause-next c = c.begin_connection.ensures ∙ ((up_row c.args.self.now c.requires).next ∙ sym (ap (next_of c.args.self.now) c.in-Up.is))
+returns-in-Up-clause-next c =
+    up_next c.args.self.now c.begin_connection.new.self c.args.event c.begin_connection.result c.requires c.in-Up.is c.begin_connection.ensures.next
 
 pub returns-in-Down-clause-next : goal.returns-in-Down-clause-next
 returns-in-Down-clause-next c = c.end_connection.ensures ∙ ((down_row c.args.self.now c.requires).next ∙ sym (ap (next_of c.args.self.now) c.in-Down.is))
@@ -27,16 +31,14 @@ returns-in-Replace-clause-next c =
 pub returns-in-Tick-clause-next : goal.returns-in-Tick-clause-next
 returns-in-Tick-clause-next c = c.set_clock.ensures ∙ ((tick_row c.args.self.now c.in-Tick.clock c.requires).next ∙ sym (ap (next_of c.args.self.now) c.in-Tick.is))
 
-take_next : {E : Type 0} (s after : State) (e : Event) (result : Result (List Out) E) → Good s → e ≡ event.Take
-    → OnOk result (after ≡ record s { link = record s.link { waiting = if s.up then [] else s.link.waiting } }) → OnOk result (after ≡ next_of s e)
+take_next : {E : Type 0} (s after : State) (e : Event) (result : Result (List Out) E) → Good s → e ≡ event.Take → OnOk result (after ≡ taken_next s) → OnOk result (after ≡ next_of s e)
 take_next s after e (Ok outs) good is next = next ∙ ((take_row s good).next ∙ sym (ap (next_of s) is))
 take_next s after e (Err fault) good is next = tt
 
 pub returns-in-Take-clause-next : goal.returns-in-Take-clause-next
 returns-in-Take-clause-next c = take_next c.args.self.now c.take.new.self c.args.event c.take.result c.requires c.in-Take.is c.take.ensures.next
 
-take_outs : {E : Type 0} (s : State) (e : Event) (result : Result (List Out) E) → Good s → e ≡ event.Take
-    → IfOk result (λ outs. outs ≡ (if s.up then flat_map (leaves s.policy) s.link.waiting else [])) → IfOk result (λ outs. outs ≡ outs_of s e)
+take_outs : {E : Type 0} (s : State) (e : Event) (result : Result (List Out) E) → Good s → e ≡ event.Take → IfOk result (λ outs. outs ≡ taken_outs s) → IfOk result (λ outs. outs ≡ outs_of s e)
 take_outs s e (Ok outs) good is made = made ∙ ((take_row s good).outs ∙ sym (ap (outs_of s) is))
 take_outs s e (Err fault) good is made = tt
 

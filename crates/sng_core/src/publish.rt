@@ -1,0 +1,231 @@
+//! A PUBLISH of a client at QoS 0 or 1 (MQTT-SN 1.2, 5.4.12, 5.4.13 and 6.6): what is let out is planned
+//! first, and what changes cannot fail.
+ghost use Rattle.std.specs.Prelude.{◌≡◌, ◌<◌, ◌∷◌, ◌++◌, [], length, Some, IfOk, OnOk, OnErr};
+ghost use Rattle.sng_frames.specs.Writing.{written};
+ghost use Rattle.sng_history.specs.Answers.{puback};
+ghost use Rattle.sng_history.specs.Causes.{ByPublish};
+ghost use Rattle.sng_history.specs.State.{qos_of};
+ghost use Rattle.sng_history.specs.Verdicts.{name_in};
+ghost use Rattle.sng_core.specs.Forms.{place_at, client_at, at_place, found_outs, publish_judged, publish_named, publish_reply, publish_noted, publication_by, carried_outs, carried};
+
+use crate::answers::code_of;
+use crate::messages::no_session;
+use crate::parts::Parts;
+use crate::verdict::{Judged, and_then, client_name, copy_name, may_ask, unread};
+use sng_book::{Address, Decision, Denial, Out, Outcome, Outs, Who};
+use sng_frames::{
+    FrameQos, Publish, ReturnCode, SnFrame, TopicAck, TopicIdType, write_publish_ack,
+};
+use sng_grants::Policy;
+use sng_link::exit::exit;
+use sng_outbox::{Origin, Publication};
+use sng_sessions::Sessions;
+use sng_text::{ClientId, Octets, Qos, TopicName};
+use std::alloc::{AllocError, Global};
+
+impl Parts {
+    /// A PUBLISH from this address, at QoS 0 or 1. What is allowed joins what waits.
+    pub fn carry_from(
+        &mut self,
+        alloc: Global,
+        from: Address,
+        publish: Publish,
+    ) -> Result<Outs, AllocError>
+        ensures outs { IfOk result (λ outs. outs
+            ≡ found_outs (ByPublish from publish) (carried_outs self.old publish)
+            (at_place self.old.clients (place_at from self.old.clients))) }
+        ensures next { OnOk result (self.new ≡ carried self.old publish (place_at from self.old.clients)) }
+        ensures err { OnErr result (self.new ≡ self.old) }
+    {
+        let Some(place) = self.sessions.at(from) else {
+            let denied = Outcome::Denied(Denial::NoSession);
+            let note = Decision::Publish(Who::Address(from), None, denied);
+            let outs = no_session(alloc, from, note)?;
+            return Ok(outs);
+        };
+        let room = self.room(qos_of(publish.flags.qos));
+        let judged = judged(alloc, &self.policy, room, &self.sessions, place, &publish)?;
+        let outs = noted(alloc, &publish, &self.sessions, place, &judged)?;
+        let asked = publication(self.sessions.id(place), publish, judged)?;
+        self.sessions.hear(place, self.clock);
+        if let Some(publication) = asked {
+            self.link.push(publication);
+        }
+        Ok(outs)
+    }
+}
+
+/// The QoS at which a publish of a client goes on to the broker.
+fn qos_of(qos: FrameQos) -> Qos
+    ensures { result ≡ qos_of qos }
+{
+    match qos {
+        FrameQos::AtMostOnce => Qos::AtMostOnce,
+        FrameQos::AtLeastOnce => Qos::AtLeastOnce,
+        FrameQos::ExactlyOnce => Qos::AtMostOnce,
+        FrameQos::WithoutSession => Qos::AtMostOnce,
+    }
+}
+
+/// How the PUBLISH of the client at this place comes out, given whether there is room for it.
+fn judged(
+    alloc: Global,
+    policy: &Policy,
+    room: Outcome,
+    sessions: &Sessions,
+    place: usize,
+    publish: &Publish,
+) -> Result<Judged, AllocError>
+    requires { place < length sessions.now }
+    ensures { IfOk result (λ j. j ≡ publish_judged policy.now room (client_at sessions.now place)
+        publish.now.flags.id_type publish.now.topic_id) }
+{
+    match may_ask(policy, sessions, place)? {
+        Outcome::Allowed => {
+            let id_type = publish.flags.id_type;
+            let named = name_read(alloc, policy, sessions, place, id_type, publish.topic_id)?;
+            judged_name(policy, room, sessions, place, named)
+        }
+        Outcome::Denied(rule) => Ok(unread(rule)),
+    }
+}
+
+/// The name that the topic id stands for, or the rule that it breaks.
+fn name_read(
+    alloc: Global,
+    policy: &Policy,
+    sessions: &Sessions,
+    place: usize,
+    id_type: TopicIdType,
+    id: u16,
+) -> Result<Result<TopicName, Denial>, AllocError>
+    requires { place < length sessions.now }
+    ensures { IfOk result (λ named. named
+        ≡ name_in policy.now (Some (client_at sessions.now place).ids) id_type id) }
+{
+    client_name(alloc, policy, sessions.ids(place), id_type, id)
+}
+
+/// How the PUBLISH of a client that may ask comes out, given the name that was read.
+fn judged_name(
+    policy: &Policy,
+    room: Outcome,
+    sessions: &Sessions,
+    place: usize,
+    named: Result<TopicName, Denial>,
+) -> Result<Judged, AllocError>
+    requires { place < length sessions.now }
+    ensures { IfOk result (λ j. j ≡ publish_named policy.now room (client_at sessions.now place) named) }
+{
+    match named {
+        Ok(name) => {
+            let origin = Origin::Client(sessions.id(place).copy()?);
+            let outcome = and_then(exit(policy, &origin, &name)?, room);
+            Ok(Judged {
+                name: Some(name),
+                outcome,
+            })
+        }
+        Err(rule) => Ok(unread(rule)),
+    }
+}
+
+/// The note, and the PUBACK.
+fn noted(
+    alloc: Global,
+    publish: &Publish,
+    sessions: &Sessions,
+    place: usize,
+    judged: &Judged,
+) -> Result<Outs, AllocError>
+    requires { place < length sessions.now }
+    ensures { IfOk result (λ outs. outs
+        ≡ publish_noted publish.now (client_at sessions.now place) judged.now) }
+{
+    let who = Who::Client(sessions.id(place).copy()?);
+    let name = copy_name(&judged.name)?;
+    let outcome = judged.outcome.copy()?;
+    let mut outs = Outs::with_capacity(alloc, 2)?;
+    outs.push(Out::Note(Decision::Publish(who, name, outcome)))?;
+    reply(
+        alloc,
+        publish,
+        sessions.address(place),
+        &judged.outcome,
+        &mut outs,
+    )?;
+    Ok(outs)
+}
+
+/// The PUBACK: at QoS 1, and wherever the publish is refused.
+fn reply(
+    alloc: Global,
+    publish: &Publish,
+    to: Address,
+    outcome: &Outcome,
+    outs: &mut Outs,
+) -> Result<(), AllocError>
+    ensures { OnOk result (outs.new ≡ outs.old ++ publish_reply to publish.now outcome.now) }
+{
+    match outcome {
+        Outcome::Allowed => puback(alloc, to, publish, outs),
+        Outcome::Denied(rule) => puback_of(alloc, to, publish, code_of(rule), outs),
+    }
+}
+
+/// The PUBACK of a publish that is allowed, at QoS 1 alone.
+fn puback(alloc: Global, to: Address, publish: &Publish, outs: &mut Outs) -> Result<(), AllocError>
+    ensures { OnOk result (outs.new ≡ outs.old ++ puback to publish.now publish.now.flags.qos) }
+{
+    match publish.flags.qos {
+        FrameQos::AtLeastOnce => puback_of(alloc, to, publish, ReturnCode::ACCEPTED, outs),
+        FrameQos::AtMostOnce => Ok(()),
+        FrameQos::ExactlyOnce => Ok(()),
+        FrameQos::WithoutSession => Ok(()),
+    }
+}
+
+/// The PUBACK with the publish's TopicId and MsgId and this code.
+fn puback_of(
+    alloc: Global,
+    to: Address,
+    publish: &Publish,
+    code: ReturnCode,
+    outs: &mut Outs,
+) -> Result<(), AllocError>
+    ensures { OnOk result (outs.new ≡ outs.old ++ Out.Send to (written (SnFrame.PublishAck
+        (record { topic_id = publish.now.topic_id; msg_id = publish.now.msg_id; code = code }))) ∷ []) }
+{
+    let ack = TopicAck {
+        topic_id: publish.topic_id,
+        msg_id: publish.msg_id,
+        code,
+    };
+    let datagram = write_publish_ack(alloc, ack)?;
+    outs.push(Out::Send(to, Octets::from(datagram)))?;
+    Ok(())
+}
+
+/// The publish that was asked for, where it was allowed. An `Err` is a failed allocation.
+fn publication(
+    id: &ClientId,
+    publish: Publish,
+    judged: Judged,
+) -> Result<Option<Publication>, AllocError>
+    ensures { IfOk result (λ asked. asked ≡ publication_by id.now publish judged.name judged.outcome) }
+{
+    let Judged { name, outcome } = judged;
+    let Some(name) = name else {
+        return Ok(None);
+    };
+    match outcome {
+        Outcome::Allowed => Ok(Some(Publication {
+            origin: Origin::Client(id.copy()?),
+            name,
+            payload: publish.payload,
+            qos: qos_of(publish.flags.qos),
+            retain: publish.flags.retain,
+        })),
+        Outcome::Denied(_) => Ok(None),
+    }
+}

@@ -1,0 +1,335 @@
+-- What a client asks for is judged by the law's tables, and answered so; and what a packet of the broker lets out.
+use Rattle.std.proofs.Common.{◌≡◌, ℕ, zero, suc, ◌+◌, Bool, true, false, List, [], ◌∷◌, ◌++◌, length, refl, ap, sym, ◌∙◌, if◌then◌else◌, arith}
+use Rattle.std.specs.Prelude.{◌&&◌, not, nat_lt, nat_le, filter, count_by, slice_get, Option, Some, None, is_none, is_some}
+use Rattle.std.specs.List.{position_or_len}
+use Rattle.std.specs.Str.{bytes_eq}
+use Rattle.std.proofs.lemmas.Bool.Decides.{nat_tests}
+use Rattle.std.proofs.lemmas.List.{append-nil}
+use Rattle.std.proofs.lemmas.List.Sums.{sum_by-append}
+use Rattle.sng_text.specs.Texts.{is_name}
+use Rattle.sng_grants.specs.Sources.{scope_of}
+use Rattle.sng_grants.specs.declared.policy.Policy.{Policy}
+use Rattle.sng_policy.specs.Grants.{lists, topic}
+use Rattle.mqtt_frames.specs.declared.packet.Packet.{Packet}
+use Rattle.mqtt_frames.specs.declared.packet.Packet.TheVariants as packet
+use Rattle.sng_ids.specs.Ids.{id_for, name_of, is_full_for}
+use Rattle.sng_frames.specs.declared.flags.TopicIdType.{TopicIdType}
+use Rattle.sng_frames.specs.declared.flags.TopicIdType.TheVariants.{Normal, Predefined, Short, Reserved}
+use Rattle.sng_frames.specs.declared.qos.FrameQos.{FrameQos}
+use Rattle.sng_frames.specs.declared.qos.FrameQos.TheVariants as qos
+use Rattle.sng_frames.specs.declared.messages.publish.Publish.{Publish}
+use Rattle.sng_frames.specs.declared.messages.register.Register.{Register}
+use Rattle.sng_outbox.specs.Sending.{is_at_least_once, asks_for_ack, load}
+use Rattle.sng_outbox.specs.declared.item.Item.{Item}
+use Rattle.sng_outbox.specs.declared.item.Item.TheVariants as item
+use Rattle.sng_outbox.specs.declared.item.Publication.{Publication}
+use Rattle.sng_outbox.specs.declared.origin.Origin.TheVariants as origin
+use Rattle.sng_book.specs.declared.address.Address.{Address}
+use Rattle.sng_book.specs.declared.decision.Decision.TheVariants as note
+use Rattle.sng_book.specs.declared.decision.Who.TheVariants as who
+use Rattle.sng_book.specs.declared.outcome.IdKind.TheVariants as kind
+use Rattle.sng_book.specs.declared.outcome.Place.TheVariants as place
+use Rattle.sng_book.specs.declared.outcome.Denial.TheVariants.{NoScope, BadName, IdType, UnknownId, MissingPub, OutOfTurn, UpstreamDown, Full}
+use Rattle.sng_book.specs.declared.outcome.Outcome.{Outcome}
+use Rattle.sng_book.specs.declared.outcome.Outcome.TheVariants.{Allowed, Denied}
+use Rattle.sng_book.specs.declared.out.Out.TheVariants.{Note}
+use Rattle.sng_book.specs.declared.row.Row.{Row}
+use Rattle.sng_history.specs.Causes.{ByRegister, ByPublish}
+use Rattle.sng_history.specs.Clients.{Client, is_here}
+use Rattle.sng_history.specs.Packets.{answer_of, misnamed, dropped, answer_outs}
+use Rattle.sng_history.specs.State.{State, qos_of}
+use Rattle.sng_history.specs.Verdicts.{and_then, exit, verdict, has_flight, octets_of, name_in, is_active, register_ask, publish_ask, publish_named}
+use Rattle.sng_history.specs.Whole.{spell, replied, frame_row}
+use Rattle.sng_history.specs.Steps.{notes_for}
+use Rattle.sng_history.specs.Views.{policy_in_force}
+use Rattle.sng_history.specs.ViewsClients.{phase_of, is_among, names_told, those_at}
+use Rattle.sng_history.specs.ViewsLink.{waiting, publications}
+use Rattle.sng_history.specs.LawsState.{ClientShown}
+use Rattle.sng_history.specs.ViewsFlight.{in_flight}
+use Rattle.sng_history.specs.LawsRules.{Rule, judged, may_publish}
+use Rattle.sng_history.specs.LawsAnswers as laws
+use Rattle.sng_history.specs.LawsAnswers.{answer_to, is_bad_short, is_nameless, or_empty}
+use Rattle.sng_history.specs.LawsAsks as asks
+use Rattle.sng_history.specs.LawsAsks.{register_rules, id_told, regack, register_stranger, register_answer, is_acknowledged, is_reserved, told_as, is_untold, name_meant, unacknowledged, session_rules, puback, publish_stranger, publish_answer, packet_answer}
+use Rattle.sng_history.proofs.Places.{here_is}
+use Rattle.sng_history.proofs.SeenClients.{heard_if}
+use Rattle.sng_history.proofs.SeenIds.{known, length_known, place_known, id_known}
+use Rattle.sng_history.proofs.SeenState.{StateShown}
+use Rattle.sng_history.proofs.LawRules.{exit_ruled}
+use Rattle.sng_history.proofs.LawHere.{row_answer}
+use Rattle.sng_history.proofs.LawEntry.{code_same}
+use Rattle.sng_history.proofs.LawMessages.{by_cause, active_same}
+
+-- ---- what the policy says to a client that it lists
+
+missing_if : (b : Bool) (name : List ℕ) → (if not b then Denied (MissingPub name) else Allowed) ≡ (if b then Allowed else Denied (MissingPub name))
+missing_if true name = refl
+missing_if false name = refl
+
+listed_exit : (policy : Policy) (id name : List ℕ) → lists policy id ≡ true
+    → exit policy (origin.Client id) name ≡ (if may_publish (scope_of policy.clients id) name then Allowed else Denied (MissingPub name))
+listed_exit policy id name listed =
+    exit_ruled policy (origin.Client id) name ∙ (rw listed (missing_if (may_publish (scope_of policy.clients id) name) name))
+
+-- ---- a REGISTER
+
+most_by : (n m : ℕ) → nat_le m n ≡ not (nat_lt n m)
+most_by n m = grind (arith, nat_tests)
+
+none_if : (b : Bool) (n : ℕ) → is_none (let o : Option ℕ = if b then Some n else None in o) ≡ not b
+none_if true n = refl
+none_if false n = refl
+
+full_known : (name : List ℕ) (names : List (List ℕ)) → is_full_for name (known names) ≡ (not (is_among name names) && not (nat_lt (length names) 128))
+full_known name names =
+    rw (place_known name names, length_known names, none_if (is_among name names) (position_or_len (bytes_eq name) names), most_by (length names) 128) refl
+
+-- the note of a REGISTER, by what the rules ask
+abbrev register_table : List ℕ → List ℕ → Bool → Bool → Bool → Bool → Bool → List Rule
+register_table id name a l n g f =
+    (not a, OutOfTurn) ∷ (not l, NoScope id) ∷ (not n, BadName) ∷ (not g, MissingPub name) ∷ (f, Full place.Ids) ∷ []
+
+register_said : (policy : Policy) (x : Client) (text : List ℕ) (a l n g f : Bool) → is_active x.phase ≡ a → lists policy x.id ≡ l → is_name text ≡ n
+    → may_publish (scope_of policy.clients x.id) text ≡ g → is_full_for text x.ids ≡ f
+    → register_ask policy x text ≡ note.Register (who.Client x.id) (if (a && l) && n then Some text else None) (judged (register_table x.id text a l n g f))
+register_said policy x text false l n g f active listed named granted full = rw active refl
+register_said policy x text true false n g f active listed named granted full = rw (active, listed) refl
+register_said policy x text true true false g f active listed named granted full = rw (active, listed, named) refl
+register_said policy x text true true true false f active listed named granted full =
+    rw (active, listed, named, listed_exit policy x.id text listed, granted) refl
+register_said policy x text true true true true true active listed named granted full =
+    rw (active, listed, named, listed_exit policy x.id text listed, granted, full) refl
+register_said policy x text true true true true false active listed named granted full =
+    rw (active, listed, named, listed_exit policy x.id text listed, granted, full) refl
+
+-- what is allowed has its name
+pub register_named_so : (id text : List ℕ) (a l n g f : Bool) → judged (register_table id text a l n g f) ≡ Allowed
+    → (let o : Option (List ℕ) = if (a && l) && n then Some text else None in o) ≡ Some text
+register_named_so id text true true true g f is = refl
+register_named_so id text false l n g f is = absurd cc
+register_named_so id text true false n g f is = absurd cc
+register_named_so id text true true false g f is = absurd cc
+
+-- what follows the note
+regack_by : (s : State) (from : Address) (r : Register) (y : Client) (id : ℕ) (name : Option (List ℕ)) (o : Outcome) → (o ≡ Allowed → name ≡ Some r.name) → id_for r.name y.ids ≡ id
+    → replied (ByRegister from r) y name o ≡ regack y.address id r o ∷ []
+regack_by s from r y id (Some name) Allowed named is =
+    let e : Some name ≡ Some r.name = named refl in
+    let same : name ≡ r.name = cc in
+    rw (same, is) refl
+regack_by s from r y id None Allowed named is = absurd (let e : None ≡ Some r.name = named refl in cc)
+regack_by s from r y id name (Denied rule) named is = rw (code_same rule) refl
+
+register_spelled : (s : State) (from : Address) (r : Register) (y : Client) (id : ℕ) (name : Option (List ℕ)) (o : Outcome) → (o ≡ Allowed → name ≡ Some r.name) → id_for r.name y.ids ≡ id
+    → spell (by_cause s (ByRegister from r)) y (note.Register (who.Client y.id) name o ∷ []) ≡ Note (note.Register (who.Client y.id) name o) ∷ regack y.address id r o ∷ []
+register_spelled s from r y id name o named is = ap (λ outs. Note (note.Register (who.Client y.id) name o) ∷ (outs ++ [])) (regack_by s from r y id name o named is)
+
+-- the verdict on a REGISTER, as the rows show it
+register_judged : (h : List Row) (s : State) (x : Client) (text : List ℕ) → StateShown h s → ClientShown h x
+    → register_ask s.policy x text ≡ note.Register (who.Client x.id) (if asks.may_ask h x.id && is_name text then Some text else None) (judged (register_rules h x.id text))
+register_judged h s x text shown is =
+    let names = names_told x.id h in
+    rw (is.phase, sym (active_same x.phase), sym shown.policy)
+    (register_said s.policy x text (is_active x.phase) (lists s.policy x.id) (is_name text) (may_publish (scope_of s.policy.clients x.id) text) (not (is_among text names) && not (nat_lt (length names) 128)) refl refl refl refl
+    (ap (is_full_for text) is.ids ∙ full_known text names))
+
+register_there : (h : List Row) (s : State) (from : Address) (r : Register) (x : Client) → StateShown h s → ClientShown h x
+    → spell (by_cause s (ByRegister from r)) (heard_if true s.clock x) (register_ask s.policy x r.name ∷ []) ≡ register_answer h x.address r x.id
+register_there h s from r x shown is =
+    let y : Client = heard_if true s.clock x in
+    let policy = policy_in_force h in
+    let names = names_told x.id h in
+    ap (λ said. spell (by_cause s (ByRegister from r)) y (said ∷ [])) (register_judged h s x r.name shown is)
+    ∙ register_spelled s from r y (id_told r.name names) (if asks.may_ask h x.id && is_name r.name then Some r.name else None) (judged (register_rules h x.id r.name))
+    (register_named_so x.id r.name (laws.is_active (phase_of x.id h)) (lists policy x.id) (is_name r.name) (may_publish (scope_of policy.clients x.id) r.name) (not (is_among r.name names) && not (nat_lt (length names) 128)))
+    (ap (id_for r.name) is.ids ∙ id_known r.name names)
+
+register_part : (h : List Row) (s : State) (from : Address) (r : Register) (x : Client) (b : Bool) → StateShown h s → ClientShown h x → (b ≡ true → x.address ≡ from)
+    → (if b then [] else []) ++ spell (by_cause s (ByRegister from r)) (heard_if b s.clock x) (if b then register_ask s.policy x r.name ∷ [] else [])
+    ≡ (if b then register_answer h from r x.id else [])
+register_part h s from r x true shown is at = register_there h s from r x shown is ∙ ap (λ to. register_answer h to r x.id) (at refl)
+register_part h s from r x false shown is at = refl
+
+pub register_row : (h : List Row) (s : State) (from : Address) (r : Register) → StateShown h s
+    → frame_row s (ByRegister from r) (notes_for s (ByRegister from r)) ≡ answer_to (register_stranger from) (register_answer h from r) (those_at from h)
+register_row h s from r shown =
+    row_answer h s from (ByRegister from r) (register_answer h from r) shown (λ x. refl) (λ x is. register_part h s from r x (is_here x from) shown is (here_is x from))
+
+-- ---- a PUBLISH of a session
+
+-- what forbids a publish under a name
+abbrev name_table : List ℕ → Bool → Bool → Bool → Bool → List Rule
+name_table name g u f r = (not g, MissingPub name) ∷ (not u, UpstreamDown) ∷ (f, Full place.InFlight) ∷ (not r, Full place.Outbox) ∷ []
+
+name_judged : (name : List ℕ) (g u f r : Bool)
+    → and_then (if g then Allowed else Denied (MissingPub name)) (if u then (if not f then (if r then Allowed else Denied (Full place.Outbox)) else Denied (Full place.InFlight)) else Denied UpstreamDown)
+    ≡ judged (name_table name g u f r)
+name_judged name false u f r = refl
+name_judged name true false f r = refl
+name_judged name true true true r = refl
+name_judged name true true false true = refl
+name_judged name true true false false = refl
+
+-- how many of these ask for an acknowledgement
+load_cons : (one : Item) (items : List Item) → count_by asks_for_ack (one ∷ items) ≡ (if asks_for_ack one then 1 else 0) + count_by asks_for_ack items
+load_cons one items = omega (arith, sum_by-append (λ i. if asks_for_ack i then 1 else 0) (one ∷ []) items)
+
+load_step : (b : Bool) (n : ℕ) (p : Publication) (ps : List Publication) → n ≡ length ps → (if b then 1 else 0) + n ≡ length (let all : List Publication = if b then p ∷ ps else ps in all)
+load_step true n p ps is = omega (arith, is)
+load_step false n p ps is = omega (arith, is)
+
+load_shown : (items : List Item) → count_by asks_for_ack items ≡ length (filter (λ p. is_at_least_once p.qos) (publications items))
+load_shown [] = refl
+load_shown (item.Publish p ∷ items) =
+    load_cons (item.Publish p) items
+    ∙ load_step (is_at_least_once p.qos) (count_by asks_for_ack items) p (filter (λ p. is_at_least_once p.qos) (publications items)) (load_shown items)
+load_shown (item.Subscribe text ∷ items) = omega (arith, load_cons (item.Subscribe text) items, load_shown items)
+load_shown (item.Unsubscribe text ∷ items) = omega (arith, load_cons (item.Unsubscribe text) items, load_shown items)
+load_shown (item.Acknowledge packet_id ∷ items) = omega (arith, load_cons (item.Acknowledge packet_id) items, load_shown items)
+load_shown (item.Ping ∷ items) = omega (arith, load_cons item.Ping items, load_shown items)
+
+load_same : (h : List Row) (s : State) → StateShown h s → s.link.in_flight ≡ in_flight h → load (record { waiting = s.link.waiting; in_flight = s.link.in_flight }) ≡ unacknowledged h
+load_same h s shown flights =
+    ap (λ n. n + length s.link.in_flight) (load_shown s.link.waiting)
+    ∙ (ap (λ items. length (filter (λ p. is_at_least_once p.qos) (publications items)) + length s.link.in_flight) shown.waits
+    ∙ ap (λ sent. length (filter (λ p. is_at_least_once p.qos) (publications (waiting h))) + length sent) flights)
+
+-- there is no place among those in flight
+abbrev is_crowded : State → FrameQos → Bool
+is_crowded s q = is_acknowledged q && not (nat_lt (load (record { waiting = s.link.waiting; in_flight = s.link.in_flight })) 128)
+
+not_not : (b : Bool) → b ≡ not (not b)
+not_not true = refl
+not_not false = refl
+
+flight_free : (s : State) (q : FrameQos) → has_flight s.link (qos_of q) ≡ not (is_crowded s q)
+flight_free s qos.AtLeastOnce = not_not (nat_lt (load (record { waiting = s.link.waiting; in_flight = s.link.in_flight })) 128)
+flight_free s qos.AtMostOnce = refl
+flight_free s qos.ExactlyOnce = refl
+flight_free s qos.WithoutSession = refl
+
+-- what forbids a publish of a client under a name, as the state says it
+abbrev state_table : State → List ℕ → List ℕ → FrameQos → List Rule
+state_table s id name q =
+    name_table name (may_publish (scope_of s.policy.clients id) name) s.up (is_crowded s q) (nat_lt (length s.link.waiting) 512)
+
+verdict_judged : (s : State) (id name : List ℕ) (q : FrameQos) → lists s.policy id ≡ true → verdict s (origin.Client id) name (qos_of q) ≡ judged (state_table s id name q)
+verdict_judged s id name q listed =
+    rw (listed_exit s.policy id name listed, flight_free s q)
+    (name_judged name (may_publish (scope_of s.policy.clients id) name) s.up (is_crowded s q) (nat_lt (length s.link.waiting) 512))
+
+-- what forbids a publish of a client that may ask
+abbrev type_table : State → List ℕ → List (List ℕ) → TopicIdType → ℕ → FrameQos → List Rule
+type_table s id told type topic_id q =
+    (is_reserved type, IdType)
+    ∷ (is_bad_short type topic_id, BadName)
+    ∷ (is_nameless s.policy type topic_id, UnknownId kind.Predefined topic_id)
+    ∷ (is_untold told type topic_id, UnknownId kind.Normal topic_id)
+    ∷ state_table s id (or_empty (name_meant s.policy told type topic_id)) q
+
+abbrev TypeJudged : State → Client → List (List ℕ) → TopicIdType → ℕ → FrameQos → Type 0
+TypeJudged s x told type topic_id q =
+    publish_named s x (qos_of q) (name_in s.policy (Some (known told)) type topic_id)
+    ≡ note.Publish (who.Client x.id) (name_meant s.policy told type topic_id) (judged (type_table s x.id told type topic_id q))
+
+short_judged : (s : State) (x : Client) (told : List (List ℕ)) (topic_id : ℕ) (q : FrameQos) (b : Bool) → lists s.policy x.id ≡ true → is_name (octets_of topic_id) ≡ b
+    → TypeJudged s x told Short topic_id q
+short_judged s x told topic_id q true listed good = rw good (ap (note.Publish (who.Client x.id) (Some (octets_of topic_id))) (verdict_judged s x.id (octets_of topic_id) q listed))
+short_judged s x told topic_id q false listed bad = rw bad refl
+
+predefined_judged : (s : State) (x : Client) (told : List (List ℕ)) (topic_id : ℕ) (q : FrameQos) (t : Option (List ℕ)) → lists s.policy x.id ≡ true → topic s.policy topic_id ≡ t
+    → TypeJudged s x told Predefined topic_id q
+predefined_judged s x told topic_id q (Some name) listed is = rw is (ap (note.Publish (who.Client x.id) (Some name)) (verdict_judged s x.id name q listed))
+predefined_judged s x told topic_id q None listed is = rw is refl
+
+named_at : (names : List (List ℕ)) (place : ℕ) → name_of (suc place) (known names) ≡ slice_get names place
+named_at [] place = refl
+named_at (name ∷ names) zero = refl
+named_at (name ∷ names) (suc place) = named_at names place
+
+named_as : (id : ℕ) (names : List (List ℕ)) → name_of id (known names) ≡ told_as id names
+named_as zero names = refl
+named_as (suc place) names = named_at names place
+
+normal_judged : (s : State) (x : Client) (told : List (List ℕ)) (topic_id : ℕ) (q : FrameQos) (t : Option (List ℕ)) → lists s.policy x.id ≡ true → told_as topic_id told ≡ t
+    → TypeJudged s x told Normal topic_id q
+normal_judged s x told topic_id q (Some name) listed is =
+    rw (named_as topic_id told, is) (ap (note.Publish (who.Client x.id) (Some name)) (verdict_judged s x.id name q listed))
+normal_judged s x told topic_id q None listed is = rw (named_as topic_id told, is) refl
+
+type_judged : (s : State) (x : Client) (told : List (List ℕ)) (type : TopicIdType) (topic_id : ℕ) (q : FrameQos) → lists s.policy x.id ≡ true → TypeJudged s x told type topic_id q
+type_judged s x told Short topic_id q listed = short_judged s x told topic_id q (is_name (octets_of topic_id)) listed refl
+type_judged s x told Predefined topic_id q listed = predefined_judged s x told topic_id q (topic s.policy topic_id) listed refl
+type_judged s x told Normal topic_id q listed = normal_judged s x told topic_id q (told_as topic_id told) listed refl
+type_judged s x told Reserved topic_id q listed = refl
+
+publish_said : (s : State) (x : Client) (told : List (List ℕ)) (p : Publish) (a l : Bool) → is_active x.phase ≡ a → lists s.policy x.id ≡ l → x.ids ≡ known told
+    → publish_ask s x p
+    ≡ note.Publish (who.Client x.id) (if a && l then name_meant s.policy told p.flags.id_type p.topic_id else None)
+    (judged ((not a, OutOfTurn) ∷ (not l, NoScope x.id) ∷ type_table s x.id told p.flags.id_type p.topic_id p.flags.qos))
+publish_said s x told p false l active listed is = rw active refl
+publish_said s x told p true false active listed is = rw (active, listed) refl
+publish_said s x told p true true active listed is =
+    rw (active, listed, is) (type_judged s x told p.flags.id_type p.topic_id p.flags.qos listed)
+
+-- what follows the note
+puback_by : (s : State) (from : Address) (p : Publish) (y : Client) (name : Option (List ℕ)) (o : Outcome) (q : FrameQos) → p.flags.qos ≡ q
+    → replied (ByPublish from p) y name o ≡ puback y.address p o
+puback_by s from p y name (Denied rule) q is = rw (code_same rule) refl
+puback_by s from p y name Allowed qos.AtMostOnce is = rw is refl
+puback_by s from p y name Allowed qos.AtLeastOnce is = rw is refl
+puback_by s from p y name Allowed qos.ExactlyOnce is = rw is refl
+puback_by s from p y name Allowed qos.WithoutSession is = rw is refl
+
+-- the verdict on a PUBLISH, as the rows show it
+publish_judged : (h : List Row) (s : State) (x : Client) (p : Publish) → StateShown h s → s.link.in_flight ≡ in_flight h → ClientShown h x
+    → publish_ask s x p
+    ≡ note.Publish (who.Client x.id) (if asks.may_ask h x.id then name_meant (policy_in_force h) (names_told x.id h) p.flags.id_type p.topic_id else None) (judged (session_rules h x.id p))
+publish_judged h s x p shown flights is =
+    let told = names_told x.id h in
+    rw (is.phase, sym (active_same x.phase), sym shown.policy, sym shown.up, sym (load_same h s shown flights), sym shown.waits)
+    (publish_said s x told p (is_active x.phase) (lists s.policy x.id) refl refl is.ids)
+
+publish_there : (h : List Row) (s : State) (from : Address) (p : Publish) (x : Client) → StateShown h s → s.link.in_flight ≡ in_flight h → ClientShown h x
+    → spell (by_cause s (ByPublish from p)) (heard_if true s.clock x) (publish_ask s x p ∷ []) ≡ publish_answer h x.address p x.id
+publish_there h s from p x shown flights is =
+    let y : Client = heard_if true s.clock x in
+    let name = if asks.may_ask h x.id then name_meant (policy_in_force h) (names_told x.id h) p.flags.id_type p.topic_id else None in
+    let o = judged (session_rules h x.id p) in
+    ap (λ said. spell (by_cause s (ByPublish from p)) y (said ∷ [])) (publish_judged h s x p shown flights is)
+    ∙ ap (λ outs. Note (note.Publish (who.Client x.id) name o) ∷ outs) (append-nil (replied (ByPublish from p) y name o) ∙ puback_by s from p y name o p.flags.qos refl)
+
+publish_part : (h : List Row) (s : State) (from : Address) (p : Publish) (x : Client) (b : Bool) → StateShown h s → s.link.in_flight ≡ in_flight h → ClientShown h x → (b ≡ true → x.address ≡ from)
+    → (if b then [] else []) ++ spell (by_cause s (ByPublish from p)) (heard_if b s.clock x) (if b then publish_ask s x p ∷ [] else [])
+    ≡ (if b then publish_answer h from p x.id else [])
+publish_part h s from p x true shown flights is at = publish_there h s from p x shown flights is ∙ ap (λ to. publish_answer h to p x.id) (at refl)
+publish_part h s from p x false shown flights is at = refl
+
+pub publish_row : (h : List Row) (s : State) (from : Address) (p : Publish) → StateShown h s → s.link.in_flight ≡ in_flight h
+    → frame_row s (ByPublish from p) (notes_for s (ByPublish from p)) ≡ answer_to (publish_stranger from) (publish_answer h from p) (those_at from h)
+publish_row h s from p shown flights =
+    row_answer h s from (ByPublish from p) (publish_answer h from p) shown (λ x. refl) (λ x is. publish_part h s from p x (is_here x from) shown flights is (here_is x from))
+
+-- ---- a packet of the broker
+
+message_by : (name : List ℕ) (owes : Option ℕ) (u r : Bool)
+    → misnamed name ++ dropped r (if u then owes else None)
+    ≡ (if is_name name then [] else Note (note.Frame who.Broker (Denied BadName)) ∷ []) ++ (if is_some owes && (u && not r) then Note note.Outbox ∷ [] else [])
+message_by name None true r = refl
+message_by name None false r = refl
+message_by name (Some packet_id) false r = refl
+message_by name (Some packet_id) true true = refl
+message_by name (Some packet_id) true false = refl
+
+pub packet_judged : (h : List Row) (s : State) (sent : Packet) → StateShown h s → answer_outs s.up s.link (answer_of sent) ≡ packet_answer h sent
+packet_judged h s (packet.Publish p) shown = rw (sym shown.up, sym shown.waits) (message_by p.name p.packet_id s.up (nat_lt (length s.link.waiting) 512))
+packet_judged h s (packet.PublishAck packet_id) shown = refl
+packet_judged h s (packet.SubscribeAck answer) shown = refl
+packet_judged h s (packet.UnsubscribeAck packet_id) shown = refl
+packet_judged h s packet.PingResponse shown = refl
+packet_judged h s (packet.Connect connect) shown = refl
+packet_judged h s (packet.ConnectAck answer) shown = refl
+packet_judged h s (packet.Subscribe request) shown = refl
+packet_judged h s (packet.Unsubscribe request) shown = refl
+packet_judged h s packet.PingRequest shown = refl
+packet_judged h s packet.Disconnect shown = refl

@@ -1,0 +1,85 @@
+-- The laws of what is in flight and of each packet, by induction over the rows.
+use Rattle.std.proofs.Common.{◌≡◌, Bool, true, false, List, [], ◌∷◌, refl, ap, sym, ◌∙◌, subst, MatchBool, if◌then◌else◌}
+use Rattle.sng_frames.specs.Reading.{frame_of}
+use Rattle.sng_book.specs.declared.event.Event.{Event}
+use Rattle.sng_book.specs.declared.event.Event.TheVariants.{Datagram, Broker, Up, Down, Take, Replace, Tick}
+use Rattle.sng_book.specs.declared.out.Out.{Out}
+use Rattle.sng_book.specs.declared.row.Row.{Row}
+use Rattle.sng_history.specs.Causes.{ByPacket, cause_of, datagram_cause}
+use Rattle.sng_history.specs.Packets.{answer_of}
+use Rattle.sng_history.specs.State.{State, opening, state_of}
+use Rattle.sng_history.specs.Lawful.{Lawful}
+use Rattle.sng_history.specs.Steps.{outs_of}
+use Rattle.sng_history.specs.Views.{policy_in_force, is_up}
+use Rattle.sng_history.specs.ViewsLink.{departures, wires_in}
+use Rattle.sng_history.specs.ViewsFlight.{agains, in_flight}
+use Rattle.sng_history.specs.LawsFlight.{AllReturn, is_beginning, EachReturns, AreIds, IdsApart, packets_for, packets_at, EachPacket}
+use Rattle.sng_history.proofs.Says.{says}
+use Rattle.sng_history.proofs.Keeping.{exact_by}
+use Rattle.sng_history.proofs.SeenState.{Stands, stands}
+use Rattle.sng_history.proofs.FlightIds.{ids_of}
+use Rattle.sng_history.proofs.SeenRest.{flights_shown}
+use Rattle.sng_history.proofs.LawAgain.{all_return, again_wires, none_again, take_wires, no_agains}
+use Rattle.sng_history.proofs.LawWires.{datagram_still, packet_wires}
+
+-- ---- judged again
+
+abbrev RowReturns : List Row → Event → List Out → Type 0
+RowReturns h e outs = MatchBool (is_beginning e) (AllReturn (policy_in_force h) (in_flight h) (agains outs)) (agains outs ≡ [])
+
+take_returns : (s : State) (b : Bool) → s.up ≡ b → agains (outs_of s Take) ≡ []
+take_returns s true is = rw is (none_again s.policy s.link s.link.waiting)
+take_returns s false is = rw is refl
+
+row_returns : (h : List Row) (s : State) (e : Event) → Stands h s → s.link.in_flight ≡ in_flight h → RowReturns h e (outs_of s e)
+row_returns h s (Datagram from datagram) st flights =
+    no_agains (outs_of s (Datagram from datagram)) ((says s (datagram_cause from (frame_of datagram)) st.good.apart).exits ∙ (datagram_still s from (frame_of datagram)).exits)
+row_returns h s (Broker sent) st flights = no_agains (outs_of s (Broker sent)) (says s (ByPacket sent) st.good.apart).exits
+row_returns h s Up st flights =
+    subst (λ policy. AllReturn policy (in_flight h) (agains (outs_of s Up))) st.shown.policy
+    (subst (λ fs. AllReturn s.policy fs (agains (outs_of s Up))) flights (all_return s.policy s.link.in_flight))
+row_returns h s Down st flights = refl
+row_returns h s Take st flights = take_returns s s.up refl
+row_returns h s (Replace policy) st flights = refl
+row_returns h s (Tick clock) st flights = refl
+
+pub each_returns : (h : List Row) → Lawful opening h → EachReturns h
+each_returns [] l = tt
+each_returns (row ∷ h) l =
+    let s = state_of opening h in (
+      each_returns h l.0,
+      subst (RowReturns h row.event) (sym (exact_by s (cause_of row.event) row.outs l.1)) (row_returns h s row.event (stands h l.0) (flights_shown h l.0).shown.in_flight),
+    )
+
+-- ---- packet ids
+
+pub ids_apart : (h : List Row) → Lawful opening h → IdsApart h
+ids_apart h l =
+    let are = flights_shown h l in
+    subst (λ fs. AreIds (ids_of fs)) are.shown.in_flight are.fit.ids
+
+-- ---- each packet
+
+take_packets : (s : State) (b : Bool) → s.up ≡ b → wires_in (outs_of s Take) ≡ (if b then packets_for s.link.waiting (departures (outs_of s Take)) else [])
+take_packets s true is = rw is (take_wires s.policy s.link s.link.waiting)
+take_packets s false is = rw is refl
+
+row_packets : (h : List Row) (s : State) (e : Event) → Stands h s → wires_in (outs_of s e) ≡ packets_at e h (outs_of s e)
+row_packets h s (Datagram from datagram) st = (datagram_still s from (frame_of datagram)).wires
+row_packets h s (Broker sent) st = packet_wires s.up s.link (answer_of sent)
+row_packets h s Up st = again_wires s.policy s.link.in_flight
+row_packets h s Down st = refl
+row_packets h s Take st =
+    let ds = departures (outs_of s Take) in
+    take_packets s s.up refl
+    ∙ (ap (λ up. if up then packets_for s.link.waiting ds else []) st.shown.up ∙ ap (λ items. if is_up h then packets_for items ds else []) st.shown.waits)
+row_packets h s (Replace policy) st = refl
+row_packets h s (Tick clock) st = refl
+
+pub each_packet : (h : List Row) → Lawful opening h → EachPacket h
+each_packet [] l = tt
+each_packet (row ∷ h) l =
+    let s = state_of opening h in (
+      each_packet h l.0,
+      subst (λ outs. wires_in outs ≡ packets_at row.event h outs) (sym (exact_by s (cause_of row.event) row.outs l.1)) (row_packets h s row.event (stands h l.0)),
+    )

@@ -1,0 +1,307 @@
+-- What waits for the broker after a step is publishes and acknowledgements, and no more publishes at QoS 1 wait or are in flight than may.
+use Rattle.std.proofs.Common.{◌≡◌, ◌≤◌, ◌<◌, ◌+◌, ℕ, Bool, true, false, List, [], ◌∷◌, ◌++◌, length, refl, ap, sym, ◌∙◌, subst, arith, ◌⊎◌, inl, inr}
+use Rattle.std.specs.Prelude.{if◌then◌else◌, ◌&&◌, nat_lt, count_by, Option, Some, None, Ok, Err}
+use Rattle.std.specs.declared.result.Result.{Result}
+use Rattle.std.specs.List.{flat_map}
+use Rattle.std.proofs.lemmas.List.{append-nil}
+use Rattle.std.proofs.lemmas.List.Sums.{sum_by-append}
+use Rattle.std.proofs.lemmas.Bool.Decides.{nat_tests}
+use Rattle.sng_text.specs.declared.qos.Qos.{Qos}
+use Rattle.sng_text.specs.declared.qos.Qos.TheVariants.{AtMostOnce, AtLeastOnce}
+use Rattle.sng_policy.specs.Grants.{lists_source}
+use Rattle.sng_frames.specs.declared.messages.publish.Publish.{Publish}
+use Rattle.sng_outbox.specs.Sending.{publishes, asks_for_ack, is_at_least_once, load, has_id, without_first}
+use Rattle.sng_outbox.specs.declared.limits.TheConstants.{MAX_IN_FLIGHT}
+use Rattle.sng_outbox.specs.declared.in_flight.InFlight.{InFlight}
+use Rattle.sng_outbox.specs.declared.item.Item.{Item}
+use Rattle.sng_outbox.specs.declared.item.Item.TheVariants as item
+use Rattle.sng_outbox.specs.declared.item.Publication.{Publication}
+use Rattle.sng_outbox.specs.declared.origin.Origin.{Origin}
+use Rattle.sng_outbox.specs.declared.origin.Origin.TheVariants as origin
+use Rattle.sng_outbox.proofs.LoadLemmas.{counted-front, counted-publishes}
+use Rattle.sng_book.specs.declared.address.Address.{Address}
+use Rattle.sng_book.specs.declared.decision.Decision.{Decision}
+use Rattle.sng_book.specs.declared.decision.Decision.TheVariants as note
+use Rattle.sng_book.specs.declared.decision.Who.{Who}
+use Rattle.sng_book.specs.declared.decision.Who.TheVariants as who
+use Rattle.sng_book.specs.declared.outcome.Denial.{Denial}
+use Rattle.sng_book.specs.declared.outcome.Denial.TheVariants.{UpstreamDown, Full}
+use Rattle.sng_book.specs.declared.outcome.Place.TheVariants as place
+use Rattle.sng_book.specs.declared.outcome.Outcome.{Outcome}
+use Rattle.sng_book.specs.declared.outcome.Outcome.TheVariants.{Allowed, Denied}
+use Rattle.sng_book.specs.Denials.{is_allowed}
+use Rattle.sng_history.specs.Causes.{Cause, ByConnect, ByPing, ByLeave, BySource, ByRegister, ByPublish, ByUnsupported, ByBroken, ByPacket, ByUp, ByDown, ByTake, ByReplace, ByTick}
+use Rattle.sng_history.specs.Clients.{Client, is_here}
+use Rattle.sng_history.specs.Links.{Link, next_packet_id, sent_by, exited, link_after, still_in_flight}
+use Rattle.sng_history.specs.Packets.{Answer, Delivers, Acknowledges, Confirms, Strange, answer_of, owed, has_place, acknowledgement, acknowledgements, answered}
+use Rattle.sng_history.specs.State.{State, item_for, item_asked, asked_by, qos_of, link_moved}
+use Rattle.sng_history.specs.Verdicts.{exit, and_then, has_flight, room_in, room, verdict, named_ask, source_ask, name_in, may_ask, publish_named, publish_by, publish_ask}
+use Rattle.sng_history.specs.Exits.{exits_of}
+use Rattle.sng_history.specs.Lawful.{fixed_for, exits_for}
+use Rattle.sng_history.specs.Steps.{asked_by_all, waiting_next}
+use Rattle.sng_history.specs.Good.{Each, Apart, OnePlace, AllPlain}
+
+-- ---- what waits is publishes and acknowledgements
+
+plain_append : (xs ys : List Item) → AllPlain xs → AllPlain ys → AllPlain (xs ++ ys)
+plain_append [] ys one two = two
+plain_append (x ∷ xs) ys one two = (one.0, plain_append xs ys one.1 two)
+
+plain_publishes : (items : List Item) → AllPlain items → AllPlain (publishes items)
+plain_publishes [] all = tt
+plain_publishes (item.Publish p ∷ items) all = (all.0, plain_publishes items all.1)
+plain_publishes (item.Subscribe filter ∷ items) all = absurd all.0
+plain_publishes (item.Unsubscribe filter ∷ items) all = absurd all.0
+plain_publishes (item.Acknowledge packet_id ∷ items) all = plain_publishes items all.1
+plain_publishes (item.Ping ∷ items) all = absurd all.0
+
+plain_if : (b : Bool) (xs ys : List Item) → AllPlain xs → AllPlain ys → AllPlain (if b then xs else ys)
+plain_if true xs ys one two = one
+plain_if false xs ys one two = two
+
+plain_item : (asker : Origin) (name : List ℕ) (q : Qos) (p : Publish) (b : Bool) → AllPlain (if b then item_for asker name q p ∷ [] else [])
+plain_item asker name q p b = plain_if b (item_for asker name q p ∷ []) [] (tt, tt) tt
+
+plain_ask : (whom : Who) (name : Option (List ℕ)) (o : Outcome) (p : Publish) → AllPlain (item_asked whom name o p)
+plain_ask (who.Source source) (Some name) o p = plain_item (origin.Source source) name AtMostOnce p (is_allowed o)
+plain_ask (who.Client client) (Some name) o p = plain_item (origin.Client client) name (qos_of p.flags.qos) p (is_allowed o)
+plain_ask (who.Source source) None o p = tt
+plain_ask (who.Client client) None o p = tt
+plain_ask (who.Address address) name o p = tt
+plain_ask who.Broker name o p = tt
+
+plain_said : (said : Decision) (p : Publish) → AllPlain (asked_by said p)
+plain_said (note.Publish whom name o) p = plain_ask whom name o p
+plain_said _ p = tt
+
+plain_all : (p : Publish) (notes : List Decision) → AllPlain (asked_by_all p notes)
+plain_all p [] = tt
+plain_all p (said ∷ notes) = plain_append (asked_by said p) (asked_by_all p notes) (plain_said said p) (plain_all p notes)
+
+plain_flat : (f : Client → List Item) (xs : List Client) → ((x : Client) → AllPlain (f x)) → AllPlain (flat_map f xs)
+plain_flat f [] each = tt
+plain_flat f (x ∷ xs) each = plain_append (f x) (flat_map f xs) (each x) (plain_flat f xs each)
+
+plain_owed : (place : Bool) (o : Option ℕ) → AllPlain (acknowledgement place o)
+plain_owed place None = tt
+plain_owed place (Some packet_id) = plain_if place (item.Acknowledge packet_id ∷ []) [] (tt, tt) tt
+
+plain_answer : (up : Bool) (link : Link) (a : Answer) → AllPlain (acknowledgements up link a)
+plain_answer up link (Delivers p) = plain_owed (has_place link) (owed up p)
+plain_answer up link (Acknowledges packet_id) = tt
+plain_answer up link Confirms = tt
+plain_answer up link Strange = tt
+
+pub plain_next : (s : State) (c : Cause) → AllPlain s.link.waiting → AllPlain (waiting_next s c)
+plain_next s (ByConnect from connect) all = all
+plain_next s (ByPing from client) all = all
+plain_next s (ByLeave from) all = all
+plain_next s (BySource from p) all = plain_append s.link.waiting (asked_by (source_ask s from.ip p) p) all (plain_said (source_ask s from.ip p) p)
+plain_next s (ByRegister from r) all = all
+plain_next s (ByPublish from p) all =
+    let adds : Client → List Item = λ x. asked_by_all p (fixed_for s (ByPublish from p) x) in
+    plain_append s.link.waiting (flat_map adds s.clients) all (plain_flat adds s.clients (λ x. plain_all p (fixed_for s (ByPublish from p) x)))
+plain_next s (ByUnsupported from message) all = all
+plain_next s (ByBroken from rule) all = all
+plain_next s (ByPacket p) all = plain_append s.link.waiting (acknowledgements s.up s.link (answer_of p)) all (plain_answer s.up s.link (answer_of p))
+plain_next s ByUp all = plain_if s.up (publishes s.link.waiting) s.link.waiting (plain_publishes s.link.waiting all) all
+plain_next s ByDown all = plain_publishes s.link.waiting all
+plain_next s ByTake all = plain_if s.up [] s.link.waiting tt all
+plain_next s (ByReplace policy) all = all
+plain_next s (ByTick clock) all = all
+
+-- ---- how many of them ask for an acknowledgement
+
+abbrev acks : List Item → ℕ
+acks items = count_by asks_for_ack items
+
+-- no more wait or are in flight than may
+abbrev Few : List Item → List InFlight → Type 0
+Few items flights = acks items + length flights ≤ MAX_IN_FLIGHT
+
+acks_append : (xs ys : List Item) → acks (xs ++ ys) ≡ acks xs + acks ys
+acks_append xs ys = sum_by-append (λ i. if asks_for_ack i then 1 else 0) xs ys
+
+more : (xs ys : List Item) (n : ℕ) → acks ys + (acks xs + n) ≤ MAX_IN_FLIGHT → acks (xs ++ ys) + n ≤ MAX_IN_FLIGHT
+more xs ys n few = omega (arith, acks_append xs ys)
+
+-- ---- a publish of a source, which never does
+
+unasked : (asker : Origin) (name : List ℕ) (p : Publish) (b : Bool) → acks (if b then item_for asker name AtMostOnce p ∷ [] else []) ≡ 0
+unasked asker name p true = refl
+unasked asker name p false = refl
+
+named_acks : (s : State) (source : List ℕ) (p : Publish) (named : Result (List ℕ) Denial) → acks (asked_by (named_ask s source named) p) ≡ 0
+named_acks s source p (Ok name) = unasked (origin.Source source) name p (is_allowed (verdict s (origin.Source source) name AtMostOnce))
+named_acks s source p (Err rule) = refl
+
+source_acks : (s : State) (source : List ℕ) (p : Publish) (listed : Bool) → lists_source s.policy source ≡ listed → acks (asked_by (source_ask s source p) p) ≡ 0
+source_acks s source p true is = rw is (named_acks s source p (name_in s.policy None p.flags.id_type p.topic_id))
+source_acks s source p false is = rw is refl
+
+-- ---- a publish of a client, which finds room
+
+within : (n : ℕ) → nat_lt n MAX_IN_FLIGHT ≡ true → n < MAX_IN_FLIGHT
+within n is = grind (arith, nat_tests)
+
+allowed_second : (a b : Outcome) → and_then a b ≡ Allowed → b ≡ Allowed
+allowed_second Allowed b is = is
+allowed_second (Denied rule) b is = absurd cc
+
+has_it : (has fits : Bool) → (if has then (if fits then Allowed else Denied (Full place.Outbox)) else Denied (Full place.InFlight)) ≡ Allowed → has ≡ true
+has_it true fits is = refl
+has_it false fits is = absurd cc
+
+up_room : (up : Bool) (o : Outcome) → (if up then o else Denied UpstreamDown) ≡ Allowed → o ≡ Allowed
+up_room true o is = is
+up_room false o is = absurd cc
+
+flight_room : (s : State) → room s AtLeastOnce ≡ Allowed → load (record { waiting = s.link.waiting; in_flight = s.link.in_flight }) < MAX_IN_FLIGHT
+flight_room s is =
+    within (load (record { waiting = s.link.waiting; in_flight = s.link.in_flight }))
+    (has_it (has_flight s.link AtLeastOnce) (has_place s.link) (up_room s.up (room_in s.link AtLeastOnce) is))
+
+item_acks : (asker : Origin) (name : List ℕ) (q : Qos) (p : Publish) (o : Outcome) (n : ℕ) → n ≤ MAX_IN_FLIGHT → (o ≡ Allowed → q ≡ AtLeastOnce → n < MAX_IN_FLIGHT)
+    → acks (if is_allowed o then item_for asker name q p ∷ [] else []) + n ≤ MAX_IN_FLIGHT
+item_acks asker name AtMostOnce p Allowed n few fits = omega (arith, few)
+item_acks asker name AtLeastOnce p Allowed n few fits = omega (arith, fits refl refl)
+item_acks asker name q p (Denied rule) n few fits = omega (arith, few)
+
+verdict_room : (s : State) (asker : Origin) (name : List ℕ) (q : Qos) → verdict s asker name q ≡ Allowed → q ≡ AtLeastOnce
+    → load (record { waiting = s.link.waiting; in_flight = s.link.in_flight }) < MAX_IN_FLIGHT
+verdict_room s asker name q is once = flight_room s (subst (λ r. room s r ≡ Allowed) once (allowed_second (exit s.policy asker name) (room s q) is))
+
+-- the publish adds no more than there is room for
+abbrev Fits : State → List Item → Type 0
+Fits s items = acks items + (acks s.link.waiting + length s.link.in_flight) ≤ MAX_IN_FLIGHT
+
+fits_none : (s : State) → Few s.link.waiting s.link.in_flight → Fits s []
+fits_none s few = omega (arith, few)
+
+named_fits : (s : State) (x : Client) (p : Publish) (named : Result (List ℕ) Denial) → Few s.link.waiting s.link.in_flight → Fits s (asked_by (publish_named s x (qos_of p.flags.qos) named) p)
+named_fits s x p (Ok name) few =
+    let q = qos_of p.flags.qos in
+    item_acks (origin.Client x.id) name q p (verdict s (origin.Client x.id) name q) (acks s.link.waiting + length s.link.in_flight) few (verdict_room s (origin.Client x.id) name q)
+named_fits s x p (Err rule) few = fits_none s few
+
+judged_fits : (s : State) (x : Client) (p : Publish) (may : Outcome) → Few s.link.waiting s.link.in_flight → Fits s (asked_by (publish_by s x p may) p)
+judged_fits s x p Allowed few = named_fits s x p (name_in s.policy (Some x.ids) p.flags.id_type p.topic_id) few
+judged_fits s x p (Denied rule) few = fits_none s few
+
+one_fits : (s : State) (x : Client) (p : Publish) (here : Bool) → Few s.link.waiting s.link.in_flight → Fits s (asked_by_all p (if here then publish_ask s x p ∷ [] else []))
+one_fits s x p true few = subst (Fits s) (sym (append-nil (asked_by (publish_ask s x p) p))) (judged_fits s x p (may_ask s.policy x) few)
+one_fits s x p false few = fits_none s few
+
+-- of those at the address there is one at most
+abbrev Sole : (Client → List Item) → List Client → Type 0
+Sole f xs = (flat_map f xs ≡ []) ⊎ ((x : Client) × (flat_map f xs ≡ f x))
+
+none_here : (from : Address) (f : Client → List Item) (x : Client) (xs : List Client) → ((y : Client) → is_here y from ≡ false → f y ≡ []) → is_here x from ≡ true → Each (Apart x) xs → flat_map f xs ≡ []
+none_here from f x [] quiet at apart = refl
+none_here from f x (y ∷ ys) quiet at apart =
+    let off : is_here y from ≡ false = (let e : (is_here x from && is_here y from) ≡ false = apart.0 from in rw at at e) in
+    rw (quiet y off) (none_here from f x ys quiet at apart.1)
+
+sole_by : (from : Address) (f : Client → List Item) (x : Client) (xs : List Client) (b : Bool) → is_here x from ≡ b → ((y : Client) → is_here y from ≡ false → f y ≡ []) → Each (Apart x) xs → Sole f xs → Sole f (x ∷ xs)
+sole_by from f x xs true at quiet apart rest = inr (x, ap (λ items. f x ++ items) (none_here from f x xs quiet at apart) ∙ append-nil (f x))
+sole_by from f x xs false at quiet apart rest =
+    let none : flat_map f (x ∷ xs) ≡ flat_map f xs = ap (λ items. items ++ flat_map f xs) (quiet x at) in
+    elim rest [ inl nobody ↦ inl (none ∙ nobody) | inr one ↦ inr (one.0, none ∙ one.1) ]
+
+sole : (from : Address) (f : Client → List Item) (xs : List Client) → ((y : Client) → is_here y from ≡ false → f y ≡ []) → OnePlace xs → Sole f xs
+sole from f [] quiet places = inl refl
+sole from f (x ∷ xs) quiet places = sole_by from f x xs (is_here x from) refl quiet places.0 (sole from f xs quiet places.1)
+
+all_fit : (s : State) (f : Client → List Item) (xs : List Client) → Few s.link.waiting s.link.in_flight → ((x : Client) → Fits s (f x)) → Sole f xs → Fits s (flat_map f xs)
+all_fit s f xs few each one = elim one [ inl nobody ↦ rw nobody (fits_none s few) | inr found ↦ rw found.1 (each found.0) ]
+
+-- ---- what is in flight
+
+less_by : (b : Bool) (sent : InFlight) (flights rest : List InFlight) → length rest ≤ length flights → length (if b then flights else sent ∷ rest) ≤ length (sent ∷ flights)
+less_by true sent flights rest less = omega arith
+less_by false sent flights rest less = omega (arith, less)
+
+without_less : (flights : List InFlight) (packet_id : ℕ) → length (without_first flights packet_id) ≤ length flights
+without_less [] packet_id = omega arith
+without_less (sent ∷ flights) packet_id = less_by (has_id packet_id sent) sent flights (without_first flights packet_id) (without_less flights packet_id)
+
+answered_less : (link : Link) (a : Answer) → length (answered link a).in_flight ≤ length link.in_flight
+answered_less link (Acknowledges packet_id) = without_less link.in_flight packet_id
+answered_less link (Delivers p) = omega arith
+answered_less link Confirms = omega arith
+answered_less link Strange = omega arith
+
+still_less : (flights : List InFlight) (outcomes : List Outcome) → length (still_in_flight flights outcomes) ≤ length flights
+still_less [] outcomes = omega arith
+still_less (sent ∷ flights) [] = omega arith
+still_less (sent ∷ flights) (Allowed ∷ outcomes) = omega (arith, still_less flights outcomes)
+still_less (sent ∷ flights) (Denied rule ∷ outcomes) = omega (arith, still_less flights outcomes)
+
+length_push : (xs : List InFlight) (x : InFlight) → length (xs ++ x ∷ []) ≡ length xs + 1
+length_push [] x = refl
+length_push (y ∷ xs) x = omega (arith, length_push xs x)
+
+sent_more : (link : Link) (p : Publication) (q : Qos) → length (sent_by link p q).in_flight ≤ (if is_at_least_once q then 1 else 0) + length link.in_flight
+sent_more link p AtMostOnce = omega arith
+sent_more link p AtLeastOnce = omega (arith, length_push link.in_flight (record { packet_id = next_packet_id link; publication = p }))
+
+exited_more : (link : Link) (p : Publication) (o : Outcome) → length (exited link p o).in_flight ≤ (if is_at_least_once p.qos then 1 else 0) + length link.in_flight
+exited_more link p Allowed = sent_more link p p.qos
+exited_more link p (Denied rule) = omega arith
+
+after_more : (link : Link) (items : List Item) (outcomes : List Outcome) → length (link_after link items outcomes).in_flight ≤ acks items + length link.in_flight
+after_more link [] outcomes = omega arith
+after_more link (item.Publish p ∷ items) [] = omega arith
+after_more link (item.Publish p ∷ items) (o ∷ outcomes) =
+    omega (arith, exited_more link p o, after_more (exited link p o) items outcomes, counted-front (item.Publish p) items)
+after_more link (item.Subscribe filter ∷ items) outcomes = omega (arith, after_more link items outcomes, counted-front (item.Subscribe filter) items)
+after_more link (item.Unsubscribe filter ∷ items) outcomes = omega (arith, after_more link items outcomes, counted-front (item.Unsubscribe filter) items)
+after_more link (item.Acknowledge packet_id ∷ items) outcomes = omega (arith, after_more link items outcomes, counted-front (item.Acknowledge packet_id) items)
+after_more link (item.Ping ∷ items) outcomes = omega (arith, after_more link items outcomes, counted-front item.Ping items)
+
+-- ---- each cause
+
+owed_acks : (place : Bool) (o : Option ℕ) → acks (acknowledgement place o) ≡ 0
+owed_acks place None = refl
+owed_acks true (Some packet_id) = refl
+owed_acks false (Some packet_id) = refl
+
+answer_acks : (up : Bool) (link : Link) (a : Answer) → acks (acknowledgements up link a) ≡ 0
+answer_acks up link (Delivers p) = owed_acks (has_place link) (owed up p)
+answer_acks up link (Acknowledges packet_id) = refl
+answer_acks up link Confirms = refl
+answer_acks up link Strange = refl
+
+up_few : (up : Bool) (items : List Item) (n m : ℕ) → n ≤ m → acks items + m ≤ MAX_IN_FLIGHT → acks (if up then publishes items else items) + n ≤ MAX_IN_FLIGHT
+up_few true items n m less few = omega (arith, counted-publishes items)
+up_few false items n m less few = omega arith
+
+take_few : (s : State) (up : Bool) → s.up ≡ up → Few s.link.waiting s.link.in_flight → Few (waiting_next s ByTake) (link_moved s ByTake (exits_for s ByTake)).in_flight
+take_few s true is few = rw is (omega (arith, few, after_more s.link s.link.waiting (exits_of s.policy s.link.waiting)))
+take_few s false is few = rw is few
+
+publish_few : (s : State) (from : Address) (p : Publish) → OnePlace s.clients → Few s.link.waiting s.link.in_flight → Few (waiting_next s (ByPublish from p)) s.link.in_flight
+publish_few s from p places few =
+    let adds : Client → List Item = λ x. asked_by_all p (fixed_for s (ByPublish from p) x) in
+    more s.link.waiting (flat_map adds s.clients) (length s.link.in_flight)
+    (all_fit s adds s.clients few (λ x. one_fits s x p (is_here x from) few) (sole from adds s.clients (λ y off. rw off refl) places))
+
+pub few_next : (s : State) (c : Cause) → OnePlace s.clients → Few s.link.waiting s.link.in_flight → Few (waiting_next s c) (link_moved s c (exits_for s c)).in_flight
+few_next s (ByConnect from connect) places few = few
+few_next s (ByPing from client) places few = few
+few_next s (ByLeave from) places few = few
+few_next s (BySource from p) places few =
+    more s.link.waiting (asked_by (source_ask s from.ip p) p) (length s.link.in_flight) (omega (arith, source_acks s from.ip p (lists_source s.policy from.ip) refl))
+few_next s (ByRegister from r) places few = few
+few_next s (ByPublish from p) places few = publish_few s from p places few
+few_next s (ByUnsupported from message) places few = few
+few_next s (ByBroken from rule) places few = few
+few_next s (ByPacket p) places few =
+    more s.link.waiting (acknowledgements s.up s.link (answer_of p)) (length (answered s.link (answer_of p)).in_flight)
+    (omega (arith, answer_acks s.up s.link (answer_of p), answered_less s.link (answer_of p)))
+few_next s ByUp places few =
+    up_few s.up s.link.waiting (length (still_in_flight s.link.in_flight (exits_for s ByUp))) (length s.link.in_flight) (still_less s.link.in_flight (exits_for s ByUp)) few
+few_next s ByDown places few = omega (arith, counted-publishes s.link.waiting)
+few_next s ByTake places few = take_few s s.up refl few
+few_next s (ByReplace policy) places few = few
+few_next s (ByTick clock) places few = few

@@ -1,0 +1,5 @@
+use Rattle.sng_history.proofs.LawNames.{name_told, names_kept, names_once}
+use Rattle.sng_history.proofs.ids_keep_their_names.Goals as goal
+
+pub returns : goal.returns
+returns c = record { told = name_told; once = names_once; kept = names_kept }

@@ -1,0 +1,81 @@
+-- What a packet of the broker brings, and how it moves the link (MQTT 3.1.1, 3.3, 3.4 and 4.3.2).
+use Rattle.std.specs.Prelude.{ℕ, nat_lt, Bool, List, [], ◌∷◌, ◌++◌, length, if◌then◌else◌, Option, Some, None}
+use Rattle.sng_text.specs.Texts.{is_name}
+use Rattle.mqtt_frames.specs.declared.packet.Publish.{Publish}
+use Rattle.mqtt_frames.specs.declared.packet.Packet.{Packet}
+use Rattle.mqtt_frames.specs.declared.packet.Packet.TheVariants as packet
+use Rattle.sng_outbox.specs.Sending.{without_first}
+use Rattle.sng_outbox.specs.declared.limits.TheConstants.{MAX_OUTBOX_ITEMS}
+use Rattle.sng_outbox.specs.declared.item.Item.{Item}
+use Rattle.sng_outbox.specs.declared.item.Item.TheVariants as item
+use Rattle.sng_book.specs.declared.decision.Decision.TheVariants as note
+use Rattle.sng_book.specs.declared.decision.Who.TheVariants as who
+use Rattle.sng_book.specs.declared.outcome.Denial.TheVariants.{NotSupported, BadName}
+use Rattle.sng_book.specs.declared.outcome.Outcome.TheVariants.{Denied}
+use Rattle.sng_book.specs.declared.out.Out.{Out}
+use Rattle.sng_book.specs.declared.out.Out.TheVariants.{Note}
+use Rattle.sng_history.specs.Links.{Link}
+
+pub data Answer : Type 0 where
+  -- a message
+  Delivers : Publish → Answer
+  -- the end of the publish in flight with this packet id
+  Acknowledges : ℕ → Answer
+  -- what nothing waits for
+  Confirms : Answer
+  -- a packet that a server does not send, or that is not taken
+  Strange : Answer
+
+abbrev pub answer_of : Packet → Answer
+answer_of (packet.Publish p) = Delivers p
+answer_of (packet.PublishAck packet_id) = Acknowledges packet_id
+answer_of (packet.SubscribeAck answer) = Confirms
+answer_of (packet.UnsubscribeAck packet_id) = Confirms
+answer_of packet.PingResponse = Confirms
+answer_of (packet.Connect connect) = Strange
+answer_of (packet.ConnectAck answer) = Strange
+answer_of (packet.Subscribe request) = Strange
+answer_of (packet.Unsubscribe request) = Strange
+answer_of packet.PingRequest = Strange
+answer_of packet.Disconnect = Strange
+
+-- the packet id of a message that is to be acknowledged: at QoS 1, while there is a connection
+abbrev pub owed : Bool → Publish → Option ℕ
+owed up p = if up then p.packet_id else None
+
+-- one more item may wait
+abbrev pub has_place : Link → Bool
+has_place link = nat_lt (length link.waiting) MAX_OUTBOX_ITEMS
+
+-- the acknowledgement waits where there is place, and else it is dropped and noted
+abbrev pub acknowledgement : Bool → Option ℕ → List Item
+acknowledgement place None = []
+acknowledgement place (Some packet_id) = if place then item.Acknowledge packet_id ∷ [] else []
+
+abbrev pub dropped : Bool → Option ℕ → List Out
+dropped place None = []
+dropped place (Some packet_id) = if place then [] else Note note.Outbox ∷ []
+
+abbrev pub acknowledgements : Bool → Link → Answer → List Item
+acknowledgements up link (Delivers p) = acknowledgement (has_place link) (owed up p)
+acknowledgements up link (Acknowledges packet_id) = []
+acknowledgements up link Confirms = []
+acknowledgements up link Strange = []
+
+-- a PUBACK ends the publish in flight with its packet id
+abbrev pub answered : Link → Answer → Link
+answered link (Acknowledges packet_id) = record link { in_flight = without_first link.in_flight packet_id }
+answered link (Delivers p) = link
+answered link Confirms = link
+answered link Strange = link
+
+-- a message under a text that is not a topic name is noted
+abbrev pub misnamed : List ℕ → List Out
+misnamed name = if is_name name then [] else Note (note.Frame who.Broker (Denied BadName)) ∷ []
+
+-- what a packet lets out. Nobody holds a subscription yet, so a message goes to nobody
+abbrev pub answer_outs : Bool → Link → Answer → List Out
+answer_outs up link (Delivers p) = misnamed p.name ++ dropped (has_place link) (owed up p)
+answer_outs up link (Acknowledges packet_id) = []
+answer_outs up link Confirms = []
+answer_outs up link Strange = Note (note.Frame who.Broker (Denied NotSupported)) ∷ []

@@ -1,0 +1,129 @@
+-- What the rows show of the publishes that were sent to the broker at QoS 1: which of them are in flight, and under which packet id.
+use Rattle.std.specs.Prelude.{ℕ, ◌+◌, ◌-◌, ◌*◌, ◌==◌, not, List, [], ◌∷◌, ◌++◌, length, drop, filter, if◌then◌else◌, Option, Some, None}
+use Rattle.mqtt_frames.specs.declared.packet.Packet.{Packet}
+use Rattle.mqtt_frames.specs.declared.packet.Packet.TheVariants as packet
+use Rattle.sng_outbox.specs.Sending.{is_at_least_once}
+use Rattle.sng_outbox.specs.declared.in_flight.InFlight.{InFlight}
+use Rattle.sng_outbox.specs.declared.item.Publication.{Publication}
+use Rattle.sng_book.specs.Denials.{is_allowed}
+use Rattle.sng_book.specs.declared.decision.Decision.{Decision}
+use Rattle.sng_book.specs.declared.decision.Decision.TheVariants as note
+use Rattle.sng_book.specs.declared.outcome.Outcome.TheVariants.{Allowed, Denied}
+use Rattle.sng_book.specs.declared.event.Event.{Event}
+use Rattle.sng_book.specs.declared.event.Event.TheVariants.{Datagram, Broker, Up, Down, Take, Replace, Tick}
+use Rattle.sng_book.specs.declared.out.Out.{Out}
+use Rattle.sng_book.specs.declared.out.Out.TheVariants.{Send, Wire, Note}
+use Rattle.sng_book.specs.declared.row.Row.{Row}
+use Rattle.sng_history.specs.ViewsLink.{Departure, packet_next, departures, lets_out, publications, waiting}
+
+-- ---- what was judged again
+
+-- a publish in flight that is judged again, seen as one that leaves
+abbrev pub return : Decision → List Out → List Departure
+return (note.Again who name Allowed) outs = record { whom = who; name = name; outcome = Allowed; packet = packet_next outs } ∷ []
+return (note.Again who name (Denied rule)) outs = record { whom = who; name = name; outcome = Denied rule; packet = None } ∷ []
+return (note.Connect client outcome) outs = []
+return (note.Register who name outcome) outs = []
+return (note.Publish who name outcome) outs = []
+return (note.Subscribe who filter outcome) outs = []
+return (note.Unsubscribe who filter outcome) outs = []
+return (note.Will who name outcome) outs = []
+return (note.Announce client name) outs = []
+return (note.Hand client name outcome) outs = []
+return (note.Retry client name outcome) outs = []
+return (note.Forward who name outcome) outs = []
+return (note.End client filter outcome) outs = []
+return (note.Lost client) outs = []
+return (note.Left client) outs = []
+return note.Outbox outs = []
+return (note.Frame who outcome) outs = []
+
+-- the publishes that are judged again in a row, in order
+abbrev pub agains : List Out → List Departure
+agains [] = []
+agains (Note said ∷ outs) = return said outs ++ agains outs
+agains (Send to datagram ∷ outs) = agains outs
+agains (Wire packet ∷ outs) = agains outs
+
+-- ---- what is in flight
+
+-- a number by its two octets, the high one first
+abbrev pub number_in : List ℕ → ℕ
+number_in [] = 0
+number_in (high ∷ []) = 0
+number_in (high ∷ low ∷ octets) = high * 256 + low
+
+-- in a PUBLISH at QoS 1 the packet id stands just before the payload (MQTT 3.1.1, 3.3.2.2)
+abbrev pub id_before : List ℕ → List ℕ → ℕ
+id_before payload sent = number_in (drop (length sent - (length payload + 2)) sent)
+
+-- the packet id that the packet of the publish shows
+abbrev pub id_shown : Publication → Option (List ℕ) → ℕ
+id_shown p None = 0
+id_shown p (Some sent) = id_before p.payload sent
+
+-- a publish that left, allowed and at QoS 1, is in flight
+abbrev pub flight_of : Publication → Departure → List InFlight
+flight_of p d =
+    if is_allowed d.outcome
+    then (if is_at_least_once p.qos then record { packet_id = id_shown p d.packet; publication = p } ∷ [] else [])
+    else []
+
+-- those of publishes and of how they left, one for each and in order
+abbrev pub flights_of : List Publication → List Departure → List InFlight
+flights_of [] ds = []
+flights_of (p ∷ ps) [] = []
+flights_of (p ∷ ps) (d ∷ ds) = flight_of p d ++ flights_of ps ds
+
+-- of what leaves in the row, what is in flight from then on
+abbrev pub launched : Event → List Row → List Out → List InFlight
+launched e earlier outs = if lets_out e earlier then flights_of (publications (waiting earlier)) (departures outs) else []
+
+-- all but those with this packet id
+abbrev pub others : ℕ → List InFlight → List InFlight
+others packet_id flights = filter (λ sent. not (sent.packet_id == packet_id)) flights
+
+-- a PUBACK of the broker ends the one with its packet id
+abbrev pub unanswered : Packet → List InFlight → List InFlight
+unanswered (packet.PublishAck packet_id) flights = others packet_id flights
+unanswered (packet.Publish p) flights = flights
+unanswered (packet.Connect connect) flights = flights
+unanswered (packet.ConnectAck answer) flights = flights
+unanswered (packet.Subscribe request) flights = flights
+unanswered (packet.SubscribeAck answer) flights = flights
+unanswered (packet.Unsubscribe request) flights = flights
+unanswered (packet.UnsubscribeAck packet_id) flights = flights
+unanswered packet.PingRequest flights = flights
+unanswered packet.PingResponse flights = flights
+unanswered packet.Disconnect flights = flights
+
+-- of those that are judged again, those that are allowed
+abbrev pub allowed_again : List InFlight → List Departure → List InFlight
+allowed_again [] ds = []
+allowed_again (sent ∷ flights) [] = sent ∷ flights
+allowed_again (sent ∷ flights) (d ∷ ds) = if is_allowed d.outcome then sent ∷ allowed_again flights ds else allowed_again flights ds
+
+-- of those in flight, those that stay so
+abbrev pub staying : Event → List Out → List InFlight → List InFlight
+staying (Broker sent) outs flights = unanswered sent flights
+staying Up outs flights = allowed_again flights (agains outs)
+staying (Datagram from datagram) outs flights = flights
+staying Down outs flights = flights
+staying Take outs flights = flights
+staying (Replace policy) outs flights = flights
+staying (Tick clock) outs flights = flights
+
+-- the publishes in flight, in the order of their sending: they left allowed at QoS 1, had no PUBACK since, and were not denied again
+abbrev pub in_flight : List Row → List InFlight
+in_flight [] = []
+in_flight (row ∷ earlier) = staying row.event row.outs (in_flight earlier) ++ launched row.event earlier row.outs
+
+-- the packet id of the last of these, or else the one before
+abbrev pub last_among : List InFlight → ℕ → ℕ
+last_among [] before = before
+last_among (sent ∷ flights) before = last_among flights sent.packet_id
+
+-- the packet id of the last publish that left at QoS 1, 0 before any
+abbrev pub last_id : List Row → ℕ
+last_id [] = 0
+last_id (row ∷ earlier) = last_among (launched row.event earlier row.outs) (last_id earlier)

@@ -1,0 +1,4 @@
+pub mod Marks
+pub mod Parting
+pub mod Planning
+pub mod Taken

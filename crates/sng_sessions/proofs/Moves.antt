@@ -1,0 +1,427 @@
+-- The index follows as a client moves.
+use Rattle.std.proofs.Common.{◌≡◌, ℕ, zero, suc, arith, Bool, true, false, ◌&&◌, List, [], ◌∷◌, ◌++◌, map, Option, Some, None, unwrap_or, is_some, slice_get, append-nil, eqb, refl, sym, ap, subst, ◌∙◌, true≢false, if◌then◌else◌}
+use Rattle.std.specs.Str.{bytes_eq}
+use Rattle.std.proofs.lemmas.Bool.{eqb-true}
+use Rattle.std.specs.Cmp.Lexicographic.{bytes_decides}
+use Rattle.std.specs.List.{position_or_len}
+use Rattle.std.specs.Map.{keys_of, values_of, lookup}
+use Rattle.indexmap.specs.IndexMap.{set_value_at, insert_entry}
+use Rattle.sng_book.specs.declared.address.Address.{Address}
+use Rattle.sng_frames.specs.declared.messages.connect.Connect.{Connect}
+use Rattle.sng_ids.specs.Ids.{Ids, Table}
+use Rattle.sng_book.specs.declared.outcome.Outcome.TheVariants.{Allowed}
+use Rattle.sng_states.specs.States.{has_session}
+use Rattle.sng_states.specs.declared.state.ClientState.TheVariants.{Active}
+use Rattle.sng_history.specs.Clients.{Client, same_address, is_here, let_in, blank, told}
+use Rattle.sng_history.specs.State.{is_known}
+use Rattle.sng_history.specs.Good.{Away, Distinct}
+use Rattle.sng_sessions.specs.declared.session.Presence.{Presence}
+use Rattle.sng_sessions.specs.declared.session.Session.{Session}
+use Rattle.sng_history.specs.Entering.{left_at, entering, entered}
+use Rattle.sng_sessions.specs.Standing.{client_at, told_at}
+use Rattle.sng_sessions.specs.Places.{client_of, clients_of, holds_at, stands_at, is_place, points_at, presence_in, was_at, Indexed, moved_at, vacated, settled}
+use Rattle.sng_sessions.proofs.Looks.{is_place-self, is_place-same, points-same}
+
+address-same : (a b : Address) → same_address a b ≡ true → a ≡ b
+address-same a b same = by (bytes_eq a.ip b.ip) (eqb a.port b.port) refl refl same
+  where
+    by : (one two : Bool) → bytes_eq a.ip b.ip ≡ one → eqb a.port b.port ≡ two → (one && two) ≡ true → a ≡ b
+    by true true is_ip is_port both =
+        let ip = (bytes_decides a.ip b.ip).0 is_ip in
+        let port = eqb-true a.port b.port is_port in
+        λ i. record { ip = ip i; port = port i }
+    by true false is_ip is_port both = absurd (true≢false (sym both))
+    by false two is_ip is_port both = absurd (true≢false (sym both))
+
+-- one client moves from where it was to where it is now, and the look-ups follow
+pub record Moved (look after : Address → Option ℕ) (xs ys : List Client) (at : ℕ) (was now : Address → Bool) : Type 0 where
+  pub before : (from : Address) → stands_at from xs at ≡ was from
+  pub here : (from : Address) → stands_at from ys at ≡ now from
+  pub others : (from : Address) (place : ℕ) → is_place at place ≡ false → stands_at from ys place ≡ stands_at from xs place
+  pub looks : (from : Address) → after from ≡ (if now from then Some at else (if was from then None else look from))
+  -- where it is now no other was
+  pub alone : (from : Address) (place : ℕ) → now from ≡ true → is_place at place ≡ false → stands_at from xs place ≡ false
+
+pub indexed-moved : (look after : Address → Option ℕ) (xs ys : List Client) (at : ℕ) (was now : Address → Bool)
+    → Indexed look xs → Moved look after xs ys at was now → Indexed after ys
+indexed-moved look after xs ys at was now indexed m from place = own (is_place at place) refl
+  where
+    look_other : is_place at place ≡ false → was from ≡ true → points_at place (look from) ≡ false
+    look_other other is =
+        let found : look from ≡ Some at = points-same at (look from) (indexed from at ∙ m.before from ∙ is) in
+        ap (points_at place) found ∙ other
+
+    at_own : (b w : Bool) → now from ≡ b → was from ≡ w → points_at at (if b then Some at else (if w then None else look from)) ≡ b
+    at_own true w is is_was = is_place-self at
+    at_own false true is is_was = refl
+    at_own false false is is_was = indexed from at ∙ m.before from ∙ is_was
+
+    at_other : (b w : Bool) → now from ≡ b → was from ≡ w → is_place at place ≡ false
+        → points_at place (if b then Some at else (if w then None else look from)) ≡ stands_at from xs place
+    at_other true w is is_was other = other ∙ sym (m.alone from place is other)
+    at_other false true is is_was other = sym (look_other other is_was) ∙ indexed from place
+    at_other false false is is_was other = indexed from place
+
+    own : (same : Bool) → is_place at place ≡ same → points_at place (after from) ≡ stands_at from ys place
+    own true same =
+        rw (← is_place-same at place same, m.looks from, m.here from) (at_own (now from) (was from) refl refl)
+    own false other =
+        rw (m.looks from, m.others from place other) (at_other (now from) (was from) refl refl other)
+
+-- ---- a move at a place
+
+pub clients-set : (entries : List (List ℕ × Session)) (place : ℕ) (session after : Session) (f : Client → Client)
+    → slice_get (values_of entries) place ≡ Some session → ((id : List ℕ) → f (client_of (id, session)) ≡ client_of (id, after))
+    → clients_of (set_value_at entries place after) ≡ moved_at place f (clients_of entries)
+clients-set [] place session after f found moves = refl
+clients-set (entry ∷ entries) zero session after f found moves =
+    let same : entry.1 ≡ session = ap (λ o. unwrap_or o entry.1) found in
+    ap (λ x. x ∷ clients_of entries) (sym (moves entry.0) ∙ ap (λ s. f (client_of (entry.0, s))) (sym same))
+clients-set (entry ∷ entries) (suc place) session after f found moves =
+    ap (λ rest. client_of entry ∷ rest) (clients-set entries place session after f found moves)
+
+-- past the end nothing moves
+pub moved_at-past : (entries : List (List ℕ × Session)) (place : ℕ) (f : Client → Client) → slice_get (values_of entries) place ≡ None
+    → moved_at place f (clients_of entries) ≡ clients_of entries
+moved_at-past [] place f none = refl
+moved_at-past (entry ∷ entries) zero f none = absurd (true≢false (ap is_some none))
+moved_at-past (entry ∷ entries) (suc place) f none = ap (λ rest. client_of entry ∷ rest) (moved_at-past entries place f none)
+
+-- the same session at its place changes nothing
+pub clients-same : (entries : List (List ℕ × Session)) (place : ℕ) (session after : Session) → slice_get (values_of entries) place ≡ Some session
+    → ((id : List ℕ) → client_of (id, session) ≡ client_of (id, after)) → clients_of (set_value_at entries place after) ≡ clients_of entries
+clients-same [] place session after found same = refl
+clients-same (entry ∷ entries) zero session after found same =
+    let old : entry.1 ≡ session = ap (λ o. unwrap_or o entry.1) found in
+    ap (λ x. x ∷ clients_of entries) (sym (same entry.0) ∙ ap (λ s. client_of (entry.0, s)) (sym old))
+clients-same (entry ∷ entries) (suc place) session after found same =
+    ap (λ rest. client_of entry ∷ rest) (clients-same entries place session after found same)
+
+-- a client as its presence and ids have it
+abbrev kept_as : List ℕ → Presence → Ids → Client
+kept_as id at ids = record (blank id) { address = at.address; phase = at.phase; duration = at.duration; heard = at.heard; ids = ids }
+
+pub client-same : (id : List ℕ) (session after : Session) → after.presence ≡ session.presence → after.ids.ids ≡ session.ids.ids
+    → client_of (id, session) ≡ client_of (id, after)
+client-same id session after one two = ap (λ at. kept_as id at session.ids.ids) (sym one) ∙ ap (kept_as id after.presence) (sym two)
+
+-- the client of a session that is heard and told a name
+pub client-told : (id name : List ℕ) (clock : ℕ) (session after : Session) → after.presence ≡ record session.presence { heard = clock }
+    → after.ids.ids ≡ told name session.ids.ids → told_at clock (Some name) Allowed (client_of (id, session)) ≡ client_of (id, after)
+client-told id name clock session after one two =
+    ap (λ at. kept_as id at (told name session.ids.ids)) (sym one) ∙ ap (kept_as id after.presence) (sym two)
+
+-- a test that the move keeps passes where it did
+pub holds_at-kept : (test : Client → Bool) (f : Client → Client) → ((x : Client) → test (f x) ≡ test x)
+    → (xs : List Client) (at place : ℕ) → holds_at test (moved_at at f xs) place ≡ holds_at test xs place
+holds_at-kept test f keeps [] at place = refl
+holds_at-kept test f keeps (x ∷ xs) zero zero = keeps x
+holds_at-kept test f keeps (x ∷ xs) zero (suc place) = refl
+holds_at-kept test f keeps (x ∷ xs) (suc at) zero = refl
+holds_at-kept test f keeps (x ∷ xs) (suc at) (suc place) = holds_at-kept test f keeps xs at place
+
+-- no other client moves
+holds_at-other : (test : Client → Bool) (f : Client → Client) (xs : List Client) (at place : ℕ) → is_place at place ≡ false
+    → holds_at test (moved_at at f xs) place ≡ holds_at test xs place
+holds_at-other test f [] at place other = refl
+holds_at-other test f (x ∷ xs) zero zero other = absurd (true≢false other)
+holds_at-other test f (x ∷ xs) zero (suc place) other = refl
+holds_at-other test f (x ∷ xs) (suc at) zero other = refl
+holds_at-other test f (x ∷ xs) (suc at) (suc place) other = holds_at-other test f xs at place other
+
+-- who left is nowhere
+stands_at-left : (clock : ℕ) (from : Address) (xs : List Client) (at : ℕ) → stands_at from (moved_at at (left_at clock) xs) at ≡ false
+stands_at-left clock from [] at = refl
+stands_at-left clock from (x ∷ xs) zero = refl
+stands_at-left clock from (x ∷ xs) (suc at) = stands_at-left clock from xs at
+
+stands_at-was : (from : Address) (entries : List (List ℕ × Session)) (at : ℕ)
+    → stands_at from (clients_of entries) at ≡ was_at (presence_in (slice_get (values_of entries) at)) from
+stands_at-was from [] at = refl
+stands_at-was from (entry ∷ entries) zero = refl
+stands_at-was from (entry ∷ entries) (suc at) = stands_at-was from entries at
+
+pub left-indexed : (look after : Address → Option ℕ) (entries : List (List ℕ × Session)) (at clock : ℕ)
+    → Indexed look (clients_of entries)
+    → ((from : Address) → after from ≡ (if was_at (presence_in (slice_get (values_of entries) at)) from then None else look from))
+    → Indexed after (moved_at at (left_at clock) (clients_of entries))
+left-indexed look after entries at clock indexed looks =
+    indexed-moved look after xs (moved_at at (left_at clock) xs) at (was_at (presence_in (slice_get (values_of entries) at))) (λ from. false) indexed (record {
+      before = λ from. stands_at-was from entries at;
+      here = λ from. stands_at-left clock from xs at;
+      others = λ from place other. holds_at-other (λ x. is_here x from) (left_at clock) xs at place other;
+      looks = looks;
+      alone = λ from place now other. absurd (true≢false (sym now));
+    })
+  where
+    xs : List Client
+    xs = clients_of entries
+
+-- ---- whoever is at the address leaves
+
+-- a move of each client that passes the test and is not the named one: there is none, or one
+if-same : (b : Bool) (x : Client) → (if b then x else x) ≡ x
+if-same true x = refl
+if-same false x = refl
+
+map_none : (named test : Client → Bool) (f : Client → Client) (xs : List Client) → ((place : ℕ) → holds_at test xs place ≡ false)
+    → map (λ x. if named x then x else (if test x then f x else x)) xs ≡ xs
+map_none named test f [] is = refl
+map_none named test f (x ∷ xs) is =
+    rw (is zero, map_none named test f xs (λ place. is (suc place)), if-same (named x) x) refl
+
+map_only : (named test : Client → Bool) (f : Client → Client) (xs : List Client) (found : ℕ)
+    → ((place : ℕ) → holds_at test xs place ≡ is_place found place)
+    → map (λ x. if named x then x else (if test x then f x else x)) xs ≡ moved_at found (λ x. if named x then x else f x) xs
+map_only named test f [] found is = refl
+map_only named test f (x ∷ xs) zero is =
+    rw (is zero, map_none named test f xs (λ place. is (suc place))) refl
+map_only named test f (x ∷ xs) (suc found) is =
+    rw (is zero, map_only named test f xs found (λ place. is (suc place)), if-same (named x) x) refl
+
+moved_named : (named : Client → Bool) (f : Client → Client) (xs : List Client) (found : ℕ) → holds_at named xs found ≡ true
+    → moved_at found (λ x. if named x then x else f x) xs ≡ xs
+moved_named named f [] found is = refl
+moved_named named f (x ∷ xs) zero is = rw is refl
+moved_named named f (x ∷ xs) (suc found) is = ap (λ rest. x ∷ rest) (moved_named named f xs found is)
+
+moved_unnamed : (named : Client → Bool) (f : Client → Client) (xs : List Client) (found : ℕ) → holds_at named xs found ≡ false
+    → moved_at found (λ x. if named x then x else f x) xs ≡ moved_at found f xs
+moved_unnamed named f [] found is = refl
+moved_unnamed named f (x ∷ xs) zero is = rw is refl
+moved_unnamed named f (x ∷ xs) (suc found) is = ap (λ rest. x ∷ rest) (moved_unnamed named f xs found is)
+
+stands_only : (look : Address → Option ℕ) (xs : List Client) (from : Address) (o : Option ℕ) → Indexed look xs → look from ≡ o
+    → (place : ℕ) → stands_at from xs place ≡ points_at place o
+stands_only look xs from o indexed is place = sym (indexed from place) ∙ ap (points_at place) is
+
+pub vacated-none : (look : Address → Option ℕ) (xs : List Client) (clock : ℕ) (from : Address) (id : List ℕ) → Indexed look xs → look from ≡ None
+    → map (vacated clock from id) xs ≡ xs
+vacated-none look xs clock from id indexed is =
+    map_none (λ x. bytes_eq id x.id) (λ x. is_here x from) (left_at clock) xs (stands_only look xs from None indexed is)
+
+pub vacated-own : (look : Address → Option ℕ) (xs : List Client) (clock : ℕ) (from : Address) (id : List ℕ) (found : ℕ) → Indexed look xs
+    → look from ≡ Some found → holds_at (λ x. bytes_eq id x.id) xs found ≡ true → map (vacated clock from id) xs ≡ xs
+vacated-own look xs clock from id found indexed is named =
+    map_only (λ x. bytes_eq id x.id) (λ x. is_here x from) (left_at clock) xs found (stands_only look xs from (Some found) indexed is)
+    ∙ moved_named (λ x. bytes_eq id x.id) (left_at clock) xs found named
+
+pub vacated-other : (look : Address → Option ℕ) (xs : List Client) (clock : ℕ) (from : Address) (id : List ℕ) (found : ℕ) → Indexed look xs
+    → look from ≡ Some found → holds_at (λ x. bytes_eq id x.id) xs found ≡ false
+    → map (vacated clock from id) xs ≡ moved_at found (left_at clock) xs
+vacated-other look xs clock from id found indexed is named =
+    map_only (λ x. bytes_eq id x.id) (λ x. is_here x from) (left_at clock) xs found (stands_only look xs from (Some found) indexed is)
+    ∙ moved_unnamed (λ x. bytes_eq id x.id) (left_at clock) xs found named
+
+-- so no other client is at the address
+own_alone : (clock : ℕ) (from : Address) (id : List ℕ) (x : Client) (named here : Bool) → bytes_eq id x.id ≡ named → is_here x from ≡ here
+    → is_here (vacated clock from id x) from ≡ true → bytes_eq id (vacated clock from id x).id ≡ true
+own_alone clock from id x true here is is_there there = rw is is
+own_alone clock from id x false true is is_there there =
+    absurd (true≢false (sym there ∙ (rw (is, is_there) refl)))
+own_alone clock from id x false false is is_there there =
+    absurd (true≢false (sym there ∙ (rw (is, is_there) is_there)))
+
+pub vacated-alone : (clock : ℕ) (from : Address) (id : List ℕ) (xs : List Client) (place : ℕ)
+    → stands_at from (map (vacated clock from id) xs) place ≡ true → holds_at (λ x. bytes_eq id x.id) (map (vacated clock from id) xs) place ≡ true
+vacated-alone clock from id [] place there = there
+vacated-alone clock from id (x ∷ xs) zero there =
+    own_alone clock from id x (bytes_eq id x.id) (is_here x from) refl refl there
+vacated-alone clock from id (x ∷ xs) (suc place) there = vacated-alone clock from id xs place there
+
+-- the key at a place is the id of the client there
+pub named-key : (id : List ℕ) (entries : List (List ℕ × Session)) (place : ℕ) (entry : List ℕ × Session) → slice_get entries place ≡ Some entry
+    → holds_at (λ x. bytes_eq id x.id) (clients_of entries) place ≡ bytes_eq id entry.0
+named-key id [] place entry found = absurd (true≢false (sym (ap is_some found)))
+named-key id (first ∷ entries) zero entry found = ap (λ o. bytes_eq id (unwrap_or o first).0) found
+named-key id (first ∷ entries) (suc place) entry found = named-key id entries place entry found
+
+pub named-none : (id : List ℕ) (entries : List (List ℕ × Session)) (place : ℕ) → slice_get entries place ≡ None
+    → holds_at (λ x. bytes_eq id x.id) (clients_of entries) place ≡ false
+named-none id [] place none = refl
+named-none id (first ∷ entries) zero none = absurd (true≢false (ap is_some none))
+named-none id (first ∷ entries) (suc place) none = named-none id entries place none
+
+-- the session at a place is the client's
+pub session-there : (entries : List (List ℕ × Session)) (place : ℕ) (session : Session) → slice_get (values_of entries) place ≡ Some session
+    → client_of ((client_at (clients_of entries) place).id, session) ≡ client_at (clients_of entries) place
+session-there [] place session found = absurd (true≢false (sym (ap is_some found)))
+session-there (entry ∷ entries) zero session found =
+    let one : entry.1 ≡ session = ap (λ o. unwrap_or o entry.1) found in
+    ap (λ s. client_of (entry.0, s)) (sym one)
+session-there (entry ∷ entries) (suc place) session found = session-there entries place session found
+
+-- and the key its id
+pub key-there : (entries : List (List ℕ × Session)) (place : ℕ) (entry : List ℕ × Session) → slice_get entries place ≡ Some entry
+    → entry.0 ≡ (client_at (clients_of entries) place).id
+key-there [] place entry found = absurd (true≢false (sym (ap is_some found)))
+key-there (first ∷ entries) zero entry found = ap (λ o. (unwrap_or o first).0) (sym found)
+key-there (first ∷ entries) (suc place) entry found = key-there entries place entry found
+
+-- ---- the client that connects
+
+-- where its key is, or would be
+abbrev pub place_for : List ℕ → List (List ℕ × Session) → ℕ
+place_for id entries = position_or_len (bytes_eq id) (keys_of entries)
+
+next_place : (id : List ℕ) (entry : List ℕ × Session) (entries : List (List ℕ × Session)) → bytes_eq id entry.0 ≡ false
+    → place_for id (entry ∷ entries) ≡ suc (place_for id entries)
+next_place id entry entries is = rw is (omega arith)
+
+module _ (id : List ℕ) (session : Session) where
+  settled-before : (from : Address) (entries : List (List ℕ × Session))
+      → stands_at from (clients_of entries) (place_for id entries) ≡ was_at (presence_in (lookup (bytes_eq id) entries)) from
+  settled-before from [] = refl
+  settled-before from (entry ∷ entries) = by (bytes_eq id entry.0) refl (settled-before from entries)
+    where
+      by : (same : Bool) → bytes_eq id entry.0 ≡ same
+          → stands_at from (clients_of entries) (place_for id entries) ≡ was_at (presence_in (lookup (bytes_eq id) entries)) from
+          → stands_at from (clients_of (entry ∷ entries)) (place_for id (entry ∷ entries)) ≡ was_at (presence_in (lookup (bytes_eq id) (entry ∷ entries))) from
+      by true is rest = rw is refl
+      by false is rest = rw (next_place id entry entries is, is) rest
+
+  settled-here : (from : Address) (entries : List (List ℕ × Session))
+      → stands_at from (clients_of (insert_entry bytes_eq entries id session)) (place_for id entries) ≡ was_at (Some session.presence) from
+  settled-here from [] = refl
+  settled-here from (entry ∷ entries) = by (bytes_eq id entry.0) refl (settled-here from entries)
+    where
+      by : (same : Bool) → bytes_eq id entry.0 ≡ same
+          → stands_at from (clients_of (insert_entry bytes_eq entries id session)) (place_for id entries) ≡ was_at (Some session.presence) from
+          → stands_at from (clients_of (insert_entry bytes_eq (entry ∷ entries) id session)) (place_for id (entry ∷ entries)) ≡ was_at (Some session.presence) from
+      by true is rest = rw is refl
+      by false is rest = rw (next_place id entry entries is, is) rest
+
+  settled-others : (from : Address) (entries : List (List ℕ × Session)) (place : ℕ) → is_place (place_for id entries) place ≡ false
+      → stands_at from (clients_of (insert_entry bytes_eq entries id session)) place ≡ stands_at from (clients_of entries) place
+  settled-others from [] zero other = absurd (true≢false other)
+  settled-others from [] (suc place) other = refl
+  settled-others from (entry ∷ entries) place other =
+      by (bytes_eq id entry.0) refl place other (λ later. settled-others from entries later)
+    where
+      by : (same : Bool) → bytes_eq id entry.0 ≡ same → (place : ℕ) → is_place (place_for id (entry ∷ entries)) place ≡ false
+          → ((later : ℕ) → is_place (place_for id entries) later ≡ false
+          → stands_at from (clients_of (insert_entry bytes_eq entries id session)) later ≡ stands_at from (clients_of entries) later)
+          → stands_at from (clients_of (insert_entry bytes_eq (entry ∷ entries) id session)) place ≡ stands_at from (clients_of (entry ∷ entries)) place
+      by true is zero other rest = absurd (true≢false (sym (rw is refl) ∙ other))
+      by true is (suc place) other rest = rw is refl
+      by false is zero other rest = rw is refl
+      by false is (suc place) other rest =
+          rw is (rest place (sym (ap (λ at. is_place at (suc place)) (next_place id entry entries is)) ∙ other))
+
+  -- none of these has the id
+  named-away : (xs : List Client) → Away id xs → (place : ℕ) → holds_at (λ x. bytes_eq id x.id) xs place ≡ false
+  named-away [] away place = refl
+  named-away (x ∷ xs) away zero = away.0
+  named-away (x ∷ xs) away (suc place) = named-away xs away.1 place
+
+  away_of : (key : List ℕ) (xs : List Client) → bytes_eq id key ≡ true → Away key xs → Away id xs
+  away_of key xs same away = subst (λ i. Away i xs) (sym ((bytes_decides id key).0 same)) away
+
+  -- one client at most has the id
+  named-once : (entries : List (List ℕ × Session)) → Distinct (clients_of entries) → (place : ℕ) → is_place (place_for id entries) place ≡ false
+      → holds_at (λ x. bytes_eq id x.id) (clients_of entries) place ≡ false
+  named-once [] apart place other = refl
+  named-once (entry ∷ entries) apart place other =
+      by (bytes_eq id entry.0) refl place other (λ later. named-once entries apart.1 later)
+    where
+      by : (same : Bool) → bytes_eq id entry.0 ≡ same → (place : ℕ) → is_place (place_for id (entry ∷ entries)) place ≡ false
+          → ((later : ℕ) → is_place (place_for id entries) later ≡ false → holds_at (λ x. bytes_eq id x.id) (clients_of entries) later ≡ false)
+          → holds_at (λ x. bytes_eq id x.id) (clients_of (entry ∷ entries)) place ≡ false
+      by true is zero other rest = absurd (true≢false (sym (rw is refl) ∙ other))
+      by true is (suc place) other rest = named-away (clients_of entries) (away_of entry.0 (clients_of entries) is apart.0) place
+      by false is zero other rest = is
+      by false is (suc place) other rest =
+          rest place (sym (ap (λ at. is_place at (suc place)) (next_place id entry entries is)) ∙ other)
+
+  -- the entries after the insertion are the clients as it settles
+  kept_away : (xs : List Client) → Away id xs → map (λ x. if bytes_eq id x.id then client_of (x.id, session) else x) xs ≡ xs
+  kept_away [] away = refl
+  kept_away (x ∷ xs) away = rw (away.0, kept_away xs away.1) refl
+
+  pub clients-insert : (entries : List (List ℕ × Session)) → Distinct (clients_of entries)
+      → clients_of (insert_entry bytes_eq entries id session) ≡ settled id session (clients_of entries)
+  clients-insert [] apart = refl
+  clients-insert (entry ∷ entries) apart = by (bytes_eq id entry.0) refl (clients-insert entries apart.1)
+    where
+      by : (same : Bool) → bytes_eq id entry.0 ≡ same
+          → clients_of (insert_entry bytes_eq entries id session) ≡ settled id session (clients_of entries)
+          → clients_of (insert_entry bytes_eq (entry ∷ entries) id session) ≡ settled id session (clients_of (entry ∷ entries))
+      by true is rest =
+          rw (is, kept_away (clients_of entries) (away_of entry.0 (clients_of entries) is apart.0), append-nil (clients_of entries)) refl
+      by false is rest = rw (is, rest) refl
+
+  pub settled-indexed : (look after : Address → Option ℕ) (entries : List (List ℕ × Session)) → Indexed look (clients_of entries)
+      → Distinct (clients_of entries) → has_session session.presence.phase ≡ true
+      → ((place : ℕ) → stands_at session.presence.address (clients_of entries) place ≡ true
+      → holds_at (λ x. bytes_eq id x.id) (clients_of entries) place ≡ true)
+      → ((from : Address) → after from ≡ (if same_address session.presence.address from then Some (place_for id entries)
+      else (if was_at (presence_in (lookup (bytes_eq id) entries)) from then None else look from)))
+      → Indexed after (clients_of (insert_entry bytes_eq entries id session))
+  settled-indexed look after entries indexed apart there alone looks =
+      indexed-moved look after (clients_of entries) (clients_of (insert_entry bytes_eq entries id session)) (place_for id entries)
+      (was_at (presence_in (lookup (bytes_eq id) entries))) (same_address session.presence.address) indexed (record {
+        before = λ from. settled-before from entries;
+        here = λ from. settled-here from entries ∙ (rw there refl);
+        others = λ from place other. settled-others from entries place other;
+        looks = looks;
+        alone = λ from place now other. nobody from place now other (stands_at from (clients_of entries) place) refl;
+      })
+    where
+      nobody : (from : Address) (place : ℕ) → same_address session.presence.address from ≡ true → is_place (place_for id entries) place ≡ false
+          → (b : Bool) → stands_at from (clients_of entries) place ≡ b → stands_at from (clients_of entries) place ≡ false
+      nobody from place now other false is = is
+      nobody from place now other true is =
+          let same : session.presence.address ≡ from = address-same session.presence.address from now in
+          let named = alone place (ap (λ a. stands_at a (clients_of entries) place) same ∙ is) in
+          absurd (true≢false (sym named ∙ named-once entries apart place other))
+
+-- ---- a CONNECT that is accepted
+
+known_vacated : (clock : ℕ) (from : Address) (id : List ℕ) (xs : List Client) → is_known id (map (vacated clock from id) xs) ≡ is_known id xs
+known_vacated clock from id [] = refl
+known_vacated clock from id (x ∷ xs) =
+    rw (by (bytes_eq id x.id) (is_here x from) refl refl, known_vacated clock from id xs) refl
+  where
+    by : (named here : Bool) → bytes_eq id x.id ≡ named → is_here x from ≡ here → bytes_eq id (vacated clock from id x).id ≡ bytes_eq id x.id
+    by true here is is_there = rw is is
+    by false true is is_there = rw (is, is_there) is
+    by false false is is_there = rw (is, is_there) is
+
+-- the session of an accepted CONNECT
+abbrev pub session_by : ℕ → Address → Connect → Table → Session
+session_by clock from connect ids = record { presence = record { address = from; phase = Active; duration = connect.duration; heard = clock }; ids = ids }
+
+let_in-same : (clock : ℕ) (from : Address) (connect : Connect) (ids : Table) → ids.ids ≡ [] → (entry : List ℕ × Session) (clean : Bool) → connect.flags.clean ≡ clean
+    → client_of (entry.0, session_by clock from connect ids) ≡ let_in clock from connect (client_of entry)
+let_in-same clock from connect ids none entry true is = rw (is, none) refl
+let_in-same clock from connect ids none entry false is = rw (is, none) refl
+
+let_in-blank : (clock : ℕ) (from : Address) (connect : Connect) (ids : Table) → ids.ids ≡ [] → (clean : Bool) → connect.flags.clean ≡ clean
+    → client_of (connect.client_id, session_by clock from connect ids) ≡ let_in clock from connect (blank connect.client_id)
+let_in-blank clock from connect ids none true is = rw (is, none) refl
+let_in-blank clock from connect ids none false is = rw (is, none) refl
+
+entering-same : (clock : ℕ) (from : Address) (connect : Connect) (ids : Table) → ids.ids ≡ [] → (entries : List (List ℕ × Session))
+    → map (λ x. if bytes_eq connect.client_id x.id then client_of (x.id, session_by clock from connect ids) else x)
+    (map (vacated clock from connect.client_id) (clients_of entries))
+    ≡ map (entering clock from connect) (clients_of entries)
+entering-same clock from connect ids none [] = refl
+entering-same clock from connect ids none (entry ∷ entries) =
+    let x = client_of entry in
+    λ i. by (bytes_eq connect.client_id entry.0) (is_here x from) refl refl i ∷ entering-same clock from connect ids none entries i
+  where
+    by : (named here : Bool) → bytes_eq connect.client_id entry.0 ≡ named → is_here (client_of entry) from ≡ here
+        → (let y = vacated clock from connect.client_id (client_of entry) in
+        if bytes_eq connect.client_id y.id then client_of (y.id, session_by clock from connect ids) else y)
+        ≡ entering clock from connect (client_of entry)
+    by true here is is_there = rw (is, is) (let_in-same clock from connect ids none entry connect.flags.clean refl)
+    by false true is is_there = rw (is, is_there, is) refl
+    by false false is is_there = rw (is, is_there, is) refl
+
+pub settled-entered : (clock : ℕ) (from : Address) (connect : Connect) (ids : Table) → ids.ids ≡ [] → (entries : List (List ℕ × Session))
+    → settled connect.client_id (session_by clock from connect ids) (map (vacated clock from connect.client_id) (clients_of entries))
+    ≡ entered clock from connect (clients_of entries)
+settled-entered clock from connect ids none entries =
+    let known = known_vacated clock from connect.client_id (clients_of entries) in
+    let new = let_in-blank clock from connect ids none connect.flags.clean refl in
+    λ i. entering-same clock from connect ids none entries i ++ (if known i then [] else new i ∷ [])

@@ -1,0 +1,17 @@
+-- Once the address is clear, the client settles there.
+use Rattle.std.proofs.Common.{◌≡◌, true, sym, ap, ◌∙◌, subst}
+use Rattle.std.specs.Str.{bytes_eq}
+use Rattle.sng_sessions.specs.Places.{settled, stands_at, holds_at}
+use Rattle.sng_sessions.proofs.Moves.{settled-entered, vacated-alone, session_by}
+use Rattle.sng_sessions.proofs.places.admit.Goals as goal
+
+pub settle-requires-clause-alone : goal.settle-requires-clause-alone
+settle-requires-clause-alone c =
+    λ place. subst (λ xs. stands_at c.args.from xs place ≡ true → holds_at (λ x. bytes_eq c.args.connect.client_id x.id) xs place ≡ true)
+    (sym c.vacate.ensures.clients) (vacated-alone c.args.clock c.args.from c.args.connect.client_id _ place)
+
+pub returns-clause-clients : goal.returns-clause-clients
+returns-clause-clients c =
+    c.settle.ensures.clients
+    ∙ ap (settled c.args.connect.client_id (session_by c.args.clock c.args.from c.args.connect c.new.result)) c.vacate.ensures.clients
+    ∙ settled-entered c.args.clock c.args.from c.args.connect c.new.result c.new.ensures c.args.clients.now.entries

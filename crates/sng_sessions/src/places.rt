@@ -1,0 +1,199 @@
+//! Changes of the clients together with the index from addresses to their places.
+ghost use Rattle.std.specs.Prelude.{◌≡◌, ℕ, ◌<◌, ◌≤◌, true, false, Some, None, map, if◌then◌else◌, OnOk, OnErr};
+ghost use Rattle.std.specs.Str.{bytes_eq};
+ghost use Rattle.indexmap.specs.IndexMap.{get, keys, spare};
+ghost use Rattle.sng_book.specs.declared.address.Address.{Address as address_type};
+ghost use Rattle.sng_states.specs.States.{has_session};
+ghost use Rattle.sng_history.specs.Clients.{same_address};
+ghost use Rattle.sng_ids.specs.Ids.{is_full_for};
+ghost use Rattle.sng_book.specs.declared.outcome.Outcome.TheVariants.{Allowed};
+ghost use Rattle.sng_history.specs.Clients.{told};
+ghost use Rattle.sng_history.specs.Entering.{left_at, entered};
+ghost use Rattle.sng_sessions.specs.Standing.{client_at, told_at};
+ghost use Rattle.sng_sessions.specs.Places.{clients_of, holds_at, stands_at, presence_in, was_at, Indexed, moved_at, vacated, settled};
+
+use crate::session::{Presence, Session};
+use indexmap::IndexMap;
+use sng_book::Address;
+use sng_frames::Connect;
+use sng_ids::IdTable;
+use sng_states::ClientState;
+use sng_text::{ClientId, TopicName};
+use std::alloc::{AllocError, Global};
+
+/// The client at this place leaves, and its address is free. Takes no memory.
+pub fn leave_at(
+    clients: &mut IndexMap<ClientId, Session>,
+    places: &mut IndexMap<Address, usize>,
+    place: usize,
+    clock: u64,
+)
+    requires { Indexed (get same_address places.old) (clients_of clients.old.entries) }
+    ensures clients { clients_of clients.new.entries
+        ≡ moved_at place (left_at clock) (clients_of clients.old.entries) }
+    ensures indexed { Indexed (get same_address places.new) (clients_of clients.new.entries) }
+    ensures room { spare clients.old ≤ spare clients.new }
+    ensures place_room { spare places.old ≤ spare places.new }
+{
+    if let Some(session) = clients.get_index_mut(place) {
+        release(places, Some(session.presence));
+        session.presence.phase = ClientState::Disconnected;
+        session.presence.heard = clock;
+    }
+}
+
+/// The address at which a client was is free. Takes no memory.
+fn release(places: &mut IndexMap<Address, usize>, before: Option<Presence>)
+    ensures looks { (from : address_type) → get same_address places.new from
+        ≡ (if was_at before from then None else get same_address places.old from) }
+    ensures room { spare places.old ≤ spare places.new }
+{
+    if let Some(presence) = before {
+        if presence.phase.has_session() {
+            places.swap_remove(&presence.address);
+        }
+    }
+}
+
+/// The client that connects is where its CONNECT came from, and whoever else is there leaves. Takes no
+/// memory.
+pub fn admit(
+    alloc: Global,
+    clients: &mut IndexMap<ClientId, Session>,
+    places: &mut IndexMap<Address, usize>,
+    from: Address,
+    connect: Connect,
+    clock: u64,
+)
+    requires indexed { Indexed (get same_address places.old) (clients_of clients.old.entries) }
+    requires room { 0 < spare clients.old }
+    requires place_room { 0 < spare places.old }
+    ensures clients { clients_of clients.new.entries
+        ≡ entered clock from connect (clients_of clients.old.entries) }
+    ensures indexed { Indexed (get same_address places.new) (clients_of clients.new.entries) }
+{
+    vacate(clients, places, from, &connect.client_id, clock);
+    let session = Session {
+        presence: Presence {
+            address: from,
+            phase: ClientState::Active,
+            duration: connect.duration,
+            heard: clock,
+        },
+        ids: IdTable::new(alloc),
+    };
+    settle(clients, places, connect.client_id, session);
+}
+
+/// Whoever is at the address and has another id leaves.
+fn vacate(
+    clients: &mut IndexMap<ClientId, Session>,
+    places: &mut IndexMap<Address, usize>,
+    from: Address,
+    id: &ClientId,
+    clock: u64,
+)
+    requires { Indexed (get same_address places.old) (clients_of clients.old.entries) }
+    ensures clients { clients_of clients.new.entries
+        ≡ map (vacated clock from id.now) (clients_of clients.old.entries) }
+    ensures indexed { Indexed (get same_address places.new) (clients_of clients.new.entries) }
+    ensures room { spare clients.old ≤ spare clients.new }
+    ensures place_room { spare places.old ≤ spare places.new }
+{
+    if let Some(place) = places.get(&from).copied() {
+        if !is_named(clients, place, id) {
+            leave_at(clients, places, place, clock);
+        }
+    }
+}
+
+/// Whether the client at this place has the id.
+fn is_named(clients: &IndexMap<ClientId, Session>, place: usize, id: &ClientId) -> bool
+    ensures { result ≡ holds_at (λ x. bytes_eq id.now x.id) (clients_of clients.now.entries) place }
+{
+    match clients.get_index(place) {
+        Some((key, _)) => id == key,
+        None => false,
+    }
+}
+
+/// The client with this id is kept so from now on, where nobody else is. One that was not known comes last.
+fn settle(
+    clients: &mut IndexMap<ClientId, Session>,
+    places: &mut IndexMap<Address, usize>,
+    id: ClientId,
+    session: Session,
+)
+    requires indexed { Indexed (get same_address places.old) (clients_of clients.old.entries) }
+    requires there { has_session session.presence.phase ≡ true }
+    requires alone { (place : ℕ) → stands_at session.presence.address
+        (clients_of clients.old.entries) place ≡ true
+        → holds_at (λ x. bytes_eq id x.id) (clients_of clients.old.entries) place ≡ true }
+    requires room { 0 < spare clients.old }
+    requires place_room { 0 < spare places.old }
+    ensures clients { clients_of clients.new.entries ≡ settled id session (clients_of clients.old.entries) }
+    ensures indexed { Indexed (get same_address places.new) (clients_of clients.new.entries) }
+{
+    // `len` is called for its clause that the keys are apart.
+    let _count = clients.len();
+    let address = session.presence.address;
+    match clients.insert_full(id, session) {
+        Ok((place, before)) => {
+            release(places, presence_in(before));
+            match places.insert(address, place) {
+                Ok(_) => {}
+                Err(_) => unreachable!(),
+            }
+        }
+        Err(_) => unreachable!(),
+    }
+}
+
+/// Where the client of a session is, if there is one.
+fn presence_in(session: Option<Session>) -> Option<Presence>
+    ensures { result ≡ presence_in session }
+{
+    match session {
+        Some(session) => Some(session.presence),
+        None => None,
+    }
+}
+
+/// The client at this place is heard, and is told the id that the name has from now on. An `Err` is a failed
+/// allocation; nothing that contracts see changed.
+pub fn tell_at(
+    clients: &mut IndexMap<ClientId, Session>,
+    place: usize,
+    name: TopicName,
+    clock: u64,
+) -> Result<(), AllocError>
+    requires { is_full_for name (client_at (clients_of clients.old.entries) place).ids ≡ false }
+    ensures ok { OnOk result (clients_of clients.new.entries
+        ≡ moved_at place (told_at clock (Some name) Allowed) (clients_of clients.old.entries)) }
+    ensures err { OnErr result (clients_of clients.new.entries ≡ clients_of clients.old.entries) }
+{
+    match clients.get_index_mut(place) {
+        Some(session) => {
+            tell(session, name, clock)?;
+            Ok(())
+        }
+        None => Ok(()),
+    }
+}
+
+/// The same of one session.
+fn tell(session: &mut Session, name: TopicName, clock: u64) -> Result<(), AllocError>
+    requires { is_full_for name session.old.ids.ids ≡ false }
+    ensures ok { OnOk result ((session.new.presence ≡ record session.old.presence { heard = clock })
+        × (session.new.ids.ids ≡ told name session.old.ids.ids)) }
+    ensures err { OnErr result ((session.new.presence ≡ session.old.presence) ×
+        (session.new.ids.ids ≡ session.old.ids.ids)) }
+{
+    session.ids.room(1)?;
+    match session.ids.give(name) {
+        Ok(id) => session.ids.confirm(id),
+        Err(_) => unreachable!(),
+    }
+    session.presence.heard = clock;
+    Ok(())
+}

@@ -1,0 +1,25 @@
+//! What is kept of one client.
+use sng_book::Address;
+use sng_ids::IdTable;
+use sng_states::ClientState;
+
+/// Where a client is, and how it stands with the gateway.
+#[derive(Clone, Copy, Debug)]
+pub struct Presence {
+    /// Where its last accepted CONNECT came from.
+    pub address: Address,
+    /// How it stands with the gateway.
+    pub phase: ClientState,
+    /// The Duration that it stated, in seconds.
+    pub duration: u16,
+    /// The clock as it was last heard, in ms.
+    pub heard: u64,
+}
+
+/// What is kept of one client beside its id.
+#[derive(Debug, Drop)]
+pub struct Session {
+    pub presence: Presence,
+    /// The topic ids that it was told since its last accepted CONNECT.
+    pub ids: IdTable,
+}

@@ -1,0 +1,551 @@
+#!/usr/bin/env python3
+"""random_scripts.py [--scripts N] [--first SEED] [SNG]
+random_scripts.py --show SEED
+
+Plays random scripts through SNG (if none is given, through the proved program where it lies in crates/sng/out
+and is newer than every source, and else through one build without proof) and compares all that it prints,
+and its exit status, with what the model in gateway_model.py says. The scripts are those of the seeds from
+SEED (0) on, N (300) of them, so that each run plays the same ones; with --show one of them is printed.
+
+A few addresses, clients and names meet often, and a few long scripts fill what is limited. A script that is
+answered otherwise is printed with its seed and the first line that differs, and the exit status is 1. So it
+is where the first 300 scripts meet not all of MET: then they are too tame. A new kind of line is a function
+of World here, with its line in WEIGHTS, and a method of the model.
+"""
+import argparse
+import base64
+import json
+import os
+import random
+import re
+import shutil
+import subprocess
+import sys
+import tempfile
+
+sys.dont_write_bytecode = True
+import end_to_end
+import gateway_model
+
+SCRIPTS, SECONDS, MOST_SHOWN = 300, 120, 1000
+# `rt try` gives no answer beyond 1 MiB of output
+MOST_PRINTED = 1024 * 1024
+# What the scripts of the gate have to meet: how some line begins, with a star for any word
+MET = """
+row * 0 replace
+row * 0 up
+row * 0 down
+row * 0 take
+row * 0 datagram
+row * 0 broker
+line * unreadable
+refused policy *
+refused broker 1
+refused broker 2
+refused broker 3
+refused broker 4
+note frame * - 1
+note frame * - 2
+note frame * - 4
+note frame broker - 2
+note frame broker - 6
+note outbox broker - 22 Full Outbox
+note connect * - allowed
+note connect * - 2
+note connect * - 3
+note connect * - 22 Full Clients
+note left * - done
+note register * * allowed
+note register * - 3
+note register * - 4
+note register * - 6
+note register * * 10
+note register * * 22 Full Ids
+note publish * * allowed
+note publish * - 2
+note publish * - 3
+note publish * - 4
+note publish * - 5
+note publish * - 6
+note publish * - 8
+note publish * - 9 UnknownId normal
+note publish * - 9 UnknownId predefined
+note publish * * 10
+note publish * * 21
+note publish * * 22 Full InFlight
+note publish * * 22 Full Outbox
+note forward * * allowed
+note forward * * 3
+note forward * * 5
+note forward * * 10
+note again * * allowed
+note again * * 3
+note again * * 10
+""".strip().splitlines()
+NAMES = ['ab', 'a/b', 'a/b/c', 't/1', 't', 'é', '$SYS/x', 'x y', '/', 'n%', 'a//b', 'm' * 130, 'l' * 300]
+BAD_NAMES = [b'', b'a+', b'+', b'#', b'a/#', b'a\0', b'\xff', b'\xed\xa0\x80']
+BAD_SHORT = [b'a+', b'#a', b'\0a', b'\xff\xff', b'\xc3a']
+FILTERS = ['#', '+', 'a/#', 'a/+', '+/b', 't/+', '+/+/+', '$SYS/#', '/#', 'a/b/#', 'x', '+/#']
+ADDRESSES = ['10.0.0.7:4000', '10.0.0.7:4001', '10.0.0.8:4000', '10.0.0.9:4000']
+CLIENTS = ['s1', 's2', 's3', 'ü', 'a client of 23 charact.']
+BAD_POLICIES = [
+    '', '{', '[]', '{"version":2}', '{"version":1.0}', '{"version":1,"client":{}}', '{"clients":{}}',
+    '{"version":1,"clients":{"s1":[["a+",["pub"]]]}}', '{"version":1,"clients":{"s1":[["a",["get"]]]}}',
+    '{"version":1,"clients":{"s1":"W1siYWIiLFsicHViIl1dXQ=="}}', '{"version":1,"clients":{"":[]}}',
+    '{"version":1,"sources":{"10.0.0.07":[]}}', '{"version":1,"topics":{"65535":"a"}}',
+    '{"version":1,"topics":{"1":"a/#"}}', '{"version":1,"clients":{"s1":[%s]}}' % ','.join(['["a",[]]'] * 65),
+]
+WORDS = [['pub'], ['pub'], ['pub', 'sub'], ['sub', 'pub', 'pub'], ['sub'], []]
+UNREADABLE = ['x', 'up ', 'take now', 'from 10.0.0.9:4000', 'from 10.0.0.9 0216', 'from 10.0.0.9:65536 0216',
+              'from 10.0.0.9:4000 021', 'from 10.0.0.9:4000 02 16', 'from 10.0.0.09:4000 0216', 'policy',
+              'broker', 'broker -', 'broker d', 'broker d0 00', 'broker 0x']
+# Which kinds of lines a script has, and how often one comes beside another
+WEIGHTS = {
+    'policy': 3, 'up': 6, 'take': 9, 'connect': 8, 'register': 12, 'publish': 30,
+    'bad_policy': 1, 'down': 2, 'bad_connect': 1.5, 'disconnect': 2, 'pingreq': 3, 'fresh_register': 1,
+    'source_publish': 8, 'other_frame': 4, 'malformed': 2, 'broker_puback': 6, 'broker_publish': 6,
+    'broker_other': 2, 'broker_cut': 2, 'broker_fault': 0.7, 'turn': 3, 'empty': 0.5,
+}
+# Those that no script leaves out
+ALWAYS = ('policy', 'up', 'take', 'connect', 'register', 'publish')
+
+
+def frame(kind, *parts, is_long=False):
+    """A frame of this MsgType: in the spelling of three octets where the other does not do, or is_long."""
+    body = bytes([kind]) + b''.join(parts)
+    if is_long or len(body) + 1 > 255:
+        return b'\1' + (len(body) + 3).to_bytes(2, 'big') + body
+    return bytes([len(body) + 1]) + body
+
+
+def packet(first, body, spare=0):
+    """An MQTT packet, its Remaining Length with so many spare bytes."""
+    length = gateway_model.remaining_length(len(body))
+    if spare:
+        length = length[:-1] + bytes([length[-1] | 0x80]) + b'\x80' * (spare - 1) + b'\0'
+    return bytes([first]) + length + body
+
+
+def number(value):
+    return value.to_bytes(2, 'big')
+
+
+class World:
+    """What the lines of one script are drawn from. Each method of a name in WEIGHTS answers a line."""
+
+    def __init__(self, seed):
+        self.random = random.Random(seed)
+        self.addresses = self.random.sample(ADDRESSES, self.one((2, 2, 3, 4)))
+        self.clients = self.random.sample(CLIENTS, self.one((2, 3, 4)))
+        self.names = self.random.sample(NAMES, self.among(3, 5))
+        self.filters = [name for name in self.names if len(name) <= 200] + self.random.sample(FILTERS, 3)
+        self.fresh = 0
+        self.is_generous = False
+        # Each script leaves some kinds out and has others more often, so that scripts are unlike one another
+        self.weights = {kind: weight * self.one((1, 1, 1, 2) if kind in ALWAYS else (0, 1, 1, 1, 2, 4))
+                        for kind, weight in WEIGHTS.items()}
+
+    def among(self, low, high):
+        return self.random.randint(low, high)
+
+    def one(self, values):
+        return self.random.choice(values)
+
+    def chance(self, share):
+        return self.random.random() < share
+
+    def line(self):
+        kinds = list(self.weights)
+        kind = self.random.choices(kinds, [self.weights[kind] for kind in kinds])[0]
+        return getattr(self, kind)()
+
+    # Words of lines
+
+    def datagram(self, octets, address=None):
+        word = octets.hex() or '-'
+        if address is None:
+            address = self.one(self.addresses[:len(self.clients)] * 4 + self.addresses)
+        return 'from %s %s' % (address, word.upper() if self.chance(0.1) else word)
+
+    def sent(self, kind, *parts, address=None):
+        return self.datagram(frame(kind, *parts, is_long=self.chance(0.1)), address)
+
+    def name(self, bad=0.1):
+        return self.one(BAD_NAMES) if self.chance(bad) else self.one(self.names).encode()
+
+    def message_id(self):
+        return number(self.one((0, 1, 2, 5, 0x1234, 65_535)))
+
+    def payload(self):
+        if self.chance(0.05):
+            return b'p' * self.one((110, 120, 240, 250, 2035, 2036, 2037, 2038, 2039, 2040))
+        return b'payload'[:self.among(0, 4)]
+
+    def client(self):
+        return self.one(self.clients).encode()
+
+    # The policy
+
+    def scope(self):
+        if self.is_generous or self.chance(0.35):
+            return [['#', ['pub', 'sub']], ['$SYS/#', ['pub']]]
+        pairs = [[self.one(self.filters), self.one(WORDS)] for _ in range(self.one((0, 2, 3, 4, 5)))]
+        if self.chance(0.2):
+            return base64.urlsafe_b64encode(json.dumps(pairs).encode()).decode().rstrip('=')
+        return pairs
+
+    def policy(self):
+        clients = {name: self.scope() for name in self.clients if self.is_generous or self.chance(0.9)}
+        ips = sorted({address.split(':')[0] for address in self.addresses})
+        sources = {ip: self.scope() for ip in ips if self.is_generous or self.chance(0.8)}
+        topics = {str(number): self.one(self.names) for number in range(1, 5) if self.chance(0.8)}
+        parts = {'version': 1, 'clients': clients, 'sources': sources, 'topics': topics}
+        return 'policy ' + json.dumps(parts, ensure_ascii=self.chance(0.5))
+
+    def bad_policy(self):
+        return 'policy ' + self.one(BAD_POLICIES)
+
+    # The connection
+
+    def up(self):
+        return 'up'
+
+    def down(self):
+        return 'down'
+
+    def take(self):
+        return 'take'
+
+    def turn(self):
+        """A few lines at once that decide over what waits and what is in flight."""
+        kinds = [self.publish, self.source_publish, self.policy, self.take, self.down, self.up]
+        return '\n'.join(self.one(kinds)() for _ in range(self.among(2, 4)))
+
+    def empty(self):
+        return ''
+
+    # Messages of clients
+
+    def connect(self):
+        """A CONNECT, mostly from where this client mostly is."""
+        place = self.among(0, len(self.clients) - 1)
+        home = self.addresses[place % len(self.addresses)] if self.chance(0.8) else None
+        flags = bytes([self.one((0, 4, 4, 0xe7))])
+        return self.sent(4, flags, b'\1', self.message_id(), self.clients[place].encode(), address=home)
+
+    def bad_connect(self):
+        client = self.one((self.client(), self.client(), b'nobody', b'', b'x' * 24, b'\0', 'ü'.encode() * 23))
+        return self.sent(4, bytes([self.one((4, 8, 12))]), bytes([self.one((0, 1, 1, 2))]), b'\0\0', client)
+
+    def disconnect(self):
+        return self.sent(0x18, self.one((b'', b'', b'', b'\0\0', b'\1\2', b'\1')))
+
+    def pingreq(self):
+        return self.sent(0x16, self.one((b'', b'', self.client(), self.client(), b'nobody', b'\0')))
+
+    def register(self):
+        return self.sent(0x0a, number(self.among(0, 2)), self.message_id(), self.name())
+
+    def fresh_register(self):
+        self.fresh += 1
+        return self.sent(0x0a, b'\0\0', self.message_id(), b'n/%d' % self.fresh)
+
+    def topic(self, id_type):
+        """Two octets for a topic id of this type."""
+        if id_type == gateway_model.SHORT and self.chance(0.9):
+            short = [name.encode() for name in self.names if len(name.encode()) == 2]
+            return self.one(BAD_SHORT if self.chance(0.1) else short + [b'ab', b't/'])
+        return number(self.one((0, 9, 65_535)) if self.chance(0.05) else self.one((1, 1, 2, 2, 3, 4)))
+
+    def flags(self, qos, id_type):
+        return bytes([qos << 5 | self.one((0, 0, 0x10, 0x80, 0x1c)) | id_type])
+
+    def publish(self):
+        qos = self.one((0, 0, 0, 0, 0, 0, 1, 1, 1, 1, 1, 1, 1, 1, 2))
+        id_type = self.one((0, 0, 0, 0, 0, 0, 1, 1, 1, 1, 1, 1, 2, 2, 2, 2, 3))
+        return self.sent(0x0c, self.flags(qos, id_type), self.topic(id_type), self.message_id(),
+                         self.payload())
+
+    def source_publish(self):
+        id_type = self.one((0, 1, 1, 1, 1, 2, 2, 2, 2, 3))
+        return self.sent(0x0c, self.flags(3, id_type), self.topic(id_type), b'\0\0', self.payload())
+
+    def other_frame(self):
+        """A message that is not taken, or one that only a gateway sends."""
+        kind, part = self.one([
+            (0x05, b'\0'), (0x06, b''), (0x07, b''), (0x07, b'\0w/1'), (0x08, b''), (0x09, b'gone'),
+            (0x0b, b'\0\1\0\1\0'), (0x0d, b'\0\1\0\1\0'), (0x0e, b'\0\1'), (0x0f, b'\0\1'), (0x10, b'\0\1'),
+            (0x12, b'\x20' + self.message_id() + b'a/#'), (0x12, b'\1' + self.message_id() + b'\0\4'),
+            (0x13, b'\0\0\1\0\1\0'), (0x14, b'\0' + self.message_id() + b'a/#'),
+            (0x14, b'\2' + self.message_id() + b'ab'), (0x15, b'\0\1'), (0x17, b''), (0x1a, b''),
+            (0x1a, b'\0w/1'), (0x1b, b'\0'), (0x1c, b''), (0x1c, b'gone'), (0x1d, b'\0'),
+            (0x00, b'\1\0\0'), (0x01, b'\0'), (0x02, b'\1'), (0xfe, b'\1\2\3'),
+        ])
+        return self.sent(kind, part)
+
+    def malformed(self):
+        """Octets that are mostly no frame: those of a frame, with some lost, added or changed."""
+        octets = bytearray(self.one((frame(4, b'\4\1\0\0s1'), frame(0x0c, b'\x62ab\0\0x'), frame(0x16),
+                                     frame(0x16, is_long=True), frame(0x12, b'\1\0\1abc'), frame(0xfe),
+                                     frame(0x03), frame(0x00, b'\1'), b'\1', b'\1\0\3', b'\1\xfe',
+                                     frame(0x0c, b'\x62ab\0\0', b'x' * 2039), frame(0xfe, b'x' * 2050))))
+        change = self.among(0, 3)
+        if change == 0 and octets:
+            octets.pop()
+        elif change == 1:
+            octets += b'x'
+        elif change == 2:
+            octets[self.among(0, len(octets) - 1)] = self.among(0, 255)
+        return self.datagram(bytes(octets))
+
+    # Packets of the broker
+
+    def puback(self):
+        return packet(0x40, number(self.among(1, 8)), self.one((0, 0, 0, 1)))
+
+    def published(self):
+        qos = self.one((0, 1, 1))
+        name = self.name()
+        body = number(len(name)) + name + (number(self.among(1, 9)) if qos else b'') + self.payload()
+        return packet(0x30 | qos << 1 | self.one((0, 0, 1, 8, 9)), body, self.one((0, 0, 0, 1)))
+
+    def other_packet(self):
+        return self.one((
+            packet(0x10, b'\0\4MQTT\4\2\0\x3c\0\2gw'), packet(0x20, b'\0\0'), packet(0x20, b'\1\5'),
+            packet(0x82, b'\0\1\0\1a\1'), packet(0x90, b'\0\1\x80'), packet(0x90, b'\0\1\0\2', 2),
+            packet(0xa2, b'\0\1\0\3a/#'), packet(0xb0, b'\0\1'), packet(0xc0, b''), packet(0xd0, b'', 3),
+            packet(0xd0, b''), packet(0xe0, b'')))
+
+    def faulty_packet(self):
+        return self.one((
+            b'\x36\x02', b'\x30\xff\xff\xff\xff', b'\x30\xf1\xa2\x04', b'\x32\xed\xa2\x04', b'\x00\x00',
+            packet(0x34, b'\0\1a\0\1'), packet(0x3d, b''), packet(0x50, b'\0\1'), packet(0x62, b'\0\1'),
+            packet(0x70, b'\0\1'), packet(0x10, b'\0\4MQTT\4\xc2'), packet(0x10, b'\0\4MQTT\5\2\0\0\0\0'),
+            packet(0x10, b'\0\4MQTT\4\2\0\0\0\2g'), packet(0x20, b'\2\0'), packet(0x20, b'\0'),
+            packet(0x30, b'\0'), packet(0x30, b'\0\2a'), packet(0x32, b'\0\1a\0\0'), packet(0x32, b'\0\1a\0'),
+            packet(0x40, b'\0\0'), packet(0x40, b'\0\1\0'), packet(0x82, b'\0\1'), packet(0x82, b'\0\1\0\1a'),
+            packet(0x82, b'\0\1\0\1a\3'), packet(0x90, b'\0\1'), packet(0x90, b'\0\1\3'),
+            packet(0xa2, b'\0\1'), packet(0xa2, b'\0\1\0\2a'), packet(0xb0, b'\0'), packet(0xc0, b'x'),
+            packet(0xd1, b'')))
+
+    def piece(self, *packets):
+        return 'broker ' + b''.join(packets).hex()
+
+    def broker_puback(self):
+        return self.piece(*(self.puback() for _ in range(self.one((1, 1, 1, 3)))))
+
+    def broker_publish(self):
+        return self.piece(*(self.published() for _ in range(self.one((1, 1, 1, 2, 5)))))
+
+    def broker_other(self):
+        return self.piece(self.other_packet())
+
+    def broker_cut(self):
+        """Two lines, between which a packet is cut, and perhaps a third between them."""
+        whole = self.published() + self.puback()
+        place = self.among(1, len(whole) - 1)
+        between = [self.line()] if self.chance(0.3) else []
+        return '\n'.join([self.piece(whole[:place]), *between, self.piece(whole[place:])])
+
+    def broker_fault(self):
+        before = [self.puback()] if self.chance(0.5) else []
+        return self.piece(*before, self.faulty_packet(), *before)
+
+
+# Whole scripts
+
+
+def mixed(world):
+    """A short script of everything."""
+    front = [world.policy(), world.up()] + [world.connect() for _ in range(2 * len(world.clients))]
+    lines = front if world.chance(0.9) else []
+    lines += [world.line() for _ in range(world.among(26, 70))]
+    return lines + [world.one(UNREADABLE), 'up'] * world.chance(0.05)
+
+
+def heavy(world, lines, **weights):
+    """A long script in which everything is granted: many lines of these kinds, and then some of all kinds."""
+    world.is_generous = True
+    world.weights = {'policy': 0.3, 'register': 2, 'publish': 2, 'pingreq': 1, 'other_frame': 1, **weights}
+    front = [world.policy(), world.up()] + [world.connect() for _ in range(6)]
+    front += [world.line() for _ in range(lines)]
+    world.weights = WEIGHTS
+    return front + [world.line() for _ in range(60)]
+
+
+def many_ids(world):
+    """A client is told as many names as it may have ids."""
+    world.clients, world.addresses = world.clients[:1], world.addresses[:1]
+    return heavy(world, 300, fresh_register=40, register=10)
+
+
+def many_in_flight(world):
+    """Publishes of QoS 1 wait and are in flight, as many as may be."""
+    return heavy(world, 700, publish=70, take=5, broker_puback=3, up=1, down=0.2, policy=1, register=10)
+
+
+def many_items(world):
+    """The outbox fills, with publishes and with what acknowledges the broker's."""
+    return heavy(world, 800, publish=40, source_publish=10, broker_publish=20, broker_puback=2)
+
+
+def many_clients(world):
+    """More clients come than are ever accepted, under two policies."""
+    clients = ['c%d' % count for count in range(300)]
+    world.random.shuffle(clients)
+    lines = []
+    for part in (clients[:200], clients[150:]):
+        world.clients = part
+        lines += [world.policy()]
+        for name in world.random.sample(part, len(part)):
+            lines += [world.sent(4, b'\4\1\0\0', name.encode())]
+            lines += [world.line()] * world.chance(0.2)
+    return lines
+
+
+def many_packet_ids(world):
+    """Packet ids begin anew, and skip those of a few publishes that are in flight from before. At last all
+    that is in flight is sent again, which is not in the order of the ids."""
+    name, address = world.one(world.names), world.one(world.addresses)
+    policy = {'version': 1, 'clients': {'s1': [['#', ['pub']], [name, ['pub']]]}, 'topics': {'1': name}}
+    lines = ['policy ' + json.dumps(policy), 'up', 'from %s 08040401000a7331' % address]
+    kept = {world.among(1, 40) for _ in range(6)} | {65_535}
+    count, batch = 0, 40
+    while count < 65_600:
+        lines += ['from %s 080c21000100%02x78' % (address, turn) for turn in range(batch)] + ['take']
+        ids = [place % 65_535 + 1 for place in range(count, count + batch)]
+        lines.append('broker ' + b''.join(packet(0x40, number(it)) for it in ids if it not in kept).hex())
+        count += batch
+    return lines + ['from %s 080c210001000178' % address, 'take', 'down', 'up', 'take', 'up']
+
+
+# The kinds of the first scripts; all others are mixed
+LONG = [many_ids] * 2 + [many_in_flight] * 3 + [many_items] * 3 + [many_clients, many_packet_ids]
+
+
+def script(seed):
+    world = World(seed)
+    lines = (LONG[seed] if seed < len(LONG) else mixed)(world)
+    return '\n'.join(lines).encode() + b'\n' * world.chance(0.9)
+
+
+# Playing them
+
+
+def by_program(program, scripts):
+    """The status and the output of each script, by a program that is built; no status where it hangs."""
+    for text in scripts:
+        try:
+            done = subprocess.run([program, 'play'], input=text, stdout=subprocess.PIPE, timeout=SECONDS)
+            yield done.returncode, done.stdout
+        except subprocess.TimeoutExpired:
+            yield None, b''
+
+
+def lay_crate(room):
+    """A crate that only plays, beside a copy of the code, as `sample` lays it: it builds twice as fast."""
+    for source in sorted(os.listdir(os.path.join(end_to_end.ROOT, 'crates'))):
+        path = os.path.join('crates', source, 'src')
+        shutil.copytree(os.path.join(end_to_end.ROOT, path), os.path.join(room, path))
+    shutil.copy(os.path.join(end_to_end.ROOT, 'HANDLES'), room)
+    with open(os.path.join(end_to_end.ROOT, 'sample')) as file:
+        main = re.search(r"<<'END'\n(.*?)\nEND\n", file.read(), re.S)[1]
+    crate = os.path.join(room, 'crates', 'first_look')
+    os.makedirs(os.path.join(crate, 'src'))
+    with open(os.path.join(crate, 'src', 'main.rt'), 'w') as file:
+        file.write(main + '\n')
+    with open(os.path.join(end_to_end.ROOT, 'crates.txt')) as file:
+        crates = file.read()
+    with open(os.path.join(room, 'crates.txt'), 'w') as file:
+        file.write(crates + 'first_look: sng_gateway\n')
+    subprocess.run(['git', 'init', '-q', room], check=True)
+    return crate
+
+
+def by_build_without_proof(scripts, more=()):
+    """The status and the output of each script, or none where it gave no answer, by one build without proof.
+    The build is told `more` flags of `rt try`."""
+    with tempfile.TemporaryDirectory() as room, tempfile.TemporaryDirectory() as cases:
+        for place, text in enumerate(scripts):
+            with open(os.path.join(cases, 'c%05d' % place), 'wb') as file:
+                file.write(text)
+        done = subprocess.run(['rt', 'try', *more, '--cases', cases], cwd=lay_crate(room),
+                              stdin=subprocess.DEVNULL, stdout=subprocess.PIPE, stderr=subprocess.PIPE)
+    ended = re.findall(rb'^case=c(\d+) run=ended status=(\d+) ', done.stderr, re.M)
+    if not ended:
+        raise SystemExit('the scripts were not played\n' + done.stderr.decode(errors='replace')[-3000:])
+    status = {int(place): int(found) for place, found in ended}
+    parts = re.split(rb'^== c(\d+)\n', done.stdout, flags=re.M)[1:]
+    printed = {int(place): text for place, text in zip(parts[::2], parts[1::2])}
+    for place in range(len(scripts)):
+        yield status.get(place), printed.get(place, b'')
+
+
+def difference(found, wanted):
+    """The first line of two outputs that is not the same, with its number."""
+    found, wanted = found.split(b'\n'), wanted.split(b'\n')
+    ends = b'(the end)'
+    for place in range(max(len(found), len(wanted)) + 1):
+        one, other = [lines[place] if place < len(lines) else ends for lines in (found, wanted)]
+        if one != other or one == ends:
+            return place + 1, one, other
+
+
+def report(seed, text, found, wanted):
+    """Prints a script that was answered otherwise."""
+    lines = text.decode().split('\n')
+    print('seed %d: this script' % seed)
+    print('\n'.join(line[:200] for line in lines[:MOST_SHOWN]))
+    if len(lines) > MOST_SHOWN:
+        print('.. (%d lines more; --show %d prints them)' % (len(lines) - MOST_SHOWN, seed))
+    place, one, other = difference(found[1], wanted[1])
+    print('seed %d: status %s, wanted %d; line %d of the output' % (seed, found[0], wanted[0], place))
+    print('  found  %s\n  wanted %s' % (one.decode(errors='replace')[:500], other.decode()[:500]))
+
+
+def unmet(outputs):
+    """What the outputs of the gate's scripts have to show and do not, the longest outputs aside."""
+    printed = b''.join(output for output in outputs if len(output) < MOST_PRINTED).decode()
+    patterns = {begin: '^%s\\b' % re.escape(begin).replace('\\*', '\\S+') for begin in MET}
+    return [begin for begin, pattern in patterns.items() if not re.search(pattern, printed, re.M)]
+
+
+def read_arguments():
+    reader = argparse.ArgumentParser(description='Plays random scripts, and compares them with a model.')
+    reader.add_argument('program', metavar='SNG', nargs='?')
+    reader.add_argument('--scripts', type=int, default=SCRIPTS)
+    reader.add_argument('--first', type=int, default=0)
+    reader.add_argument('--show', type=int)
+    return reader.parse_args()
+
+
+def played(program, texts):
+    return by_program(program, texts) if program else by_build_without_proof(texts)
+
+
+def main():
+    given = read_arguments()
+    if given.show is not None:
+        sys.stdout.buffer.write(script(given.show))
+        return 0
+    program = given.program or (end_to_end.PROVED if end_to_end.is_current() else None)
+    print('random scripts, by', program or 'a build without proof', flush=True)
+    scripts = {seed: script(seed) for seed in range(given.first, given.first + given.scripts)}
+    wanted = {seed: gateway_model.play(text) for seed, text in scripts.items()}
+    missing = unmet(output for _, output in wanted.values()) if list(scripts) == list(range(SCRIPTS)) else []
+    for begin in missing:
+        print('no script meets:', begin)
+    seeds = [seed for seed in scripts if program or len(wanted[seed][1]) < MOST_PRINTED]
+    if len(seeds) < len(scripts):
+        print('left to the proved program: seeds', [seed for seed in scripts if seed not in seeds])
+    failed = 0
+    for seed, found in zip(seeds, played(program, [scripts[seed] for seed in seeds])):
+        if found != wanted[seed]:
+            failed += 1
+            report(seed, scripts[seed], found, wanted[seed])
+    print('%d passed, %d failed' % (len(seeds) - failed, failed))
+    return 1 if failed or missing else 0
+
+
+if __name__ == '__main__':
+    sys.exit(main())
