@@ -1,10 +1,10 @@
 //! What of a filter alone decides which depths it reaches.
-ghost use Rattle.std.specs.Prelude.{◌≡◌, ◌==◌, ◌-◌, true, count_by, get_or, length};
+ghost use Rattle.std.specs.Prelude.{◌≡◌, ◌==◌, ◌-◌, ◌≤◌, true, count_by, get_or, length};
 ghost use Rattle.sng_text.specs.Texts.{is_filter};
 ghost use Rattle.sng_cover.specs.Gathered.{IsShape};
 ghost use Rattle.sng_cover.specs.Reaches.{shape_reaches};
 
-use sng_text::TopicFilter;
+use sng_text::{MAX_FILTER, TopicFilter};
 
 /// How many levels a filter has, and whether it ends in `#`.
 #[derive(Clone, Copy)]
@@ -23,7 +23,7 @@ impl Shape {
     {
         // in a filter `#` stands at the end alone, as a level
         let text = filter.text();
-        let slashes = slash_count(text);
+        let slashes = usize::from(slash_count(text));
         if ends_in_hash(text) {
             Shape {
                 fixed: slashes,
@@ -49,8 +49,9 @@ impl Shape {
     }
 }
 
-/// How many slashes the text has.
-fn slash_count(text: &[u8]) -> usize
+/// How many slashes the text has: they fit one byte, and a narrow count is a quick one.
+fn slash_count(text: &[u8]) -> u8
+    requires { length text.now ≤ MAX_FILTER }
     ensures { result ≡ count_by (λ b. b == 47) text.now }
 {
     let mut count = 0;

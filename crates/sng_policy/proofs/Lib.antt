@@ -1,2 +1,3 @@
 pub mod NameLemmas
 pub mod SubscriptionLemmas
+pub mod SameLemmas

@@ -12,7 +12,8 @@ use Rattle.sng_policy.specs.declared.grant.Grant.TheVariants.{Allowed, NoScope, 
 use Rattle.sng_policy.specs.Grants.{permits, is_granted, grant_by}
 use Rattle.sng_policy.specs.Laws.{Grants, Says, NamesAreExact}
 
-some_pair : (permitted fits more : Bool) → ((permitted && fits) || more) ≡ true → ((permitted ≡ true) × (fits ≡ true)) ⊎ (more ≡ true)
+-- some pair passes both tests, or a later one does
+pub some_pair : (permitted fits more : Bool) → ((permitted && fits) || more) ≡ true → ((permitted ≡ true) × (fits ≡ true)) ⊎ (more ≡ true)
 some_pair true true more is = inl (refl, refl)
 some_pair true false more is = inr is
 some_pair false fits more is = inr is

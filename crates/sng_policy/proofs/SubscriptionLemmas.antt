@@ -1,8 +1,10 @@
 -- The answers of a policy on subscriptions against what they say.
-use Rattle.std.proofs.Common.{◌≡◌, ◌↔◌, ℕ, Bool, true, false, ◌&&◌, ◌||◌, List, [], ◌∷◌, ◌++◌, not, Some, None, refl, sym, ap, subst, ◌∙◌, inl, inr, if◌then◌else◌}
+use Rattle.std.proofs.Common.{◌≡◌, ◌↔◌, ℕ, Bool, true, false, ◌&&◌, ◌||◌, List, [], ◌∷◌, not, Some, None, refl, sym, ap, subst, ◌∙◌, inl, inr, if◌then◌else◌}
 use Rattle.std.specs.declared.option.Option.{Option}
-use Rattle.std.proofs.lemmas.Bool.{and_parts}
+use Rattle.std.proofs.lemmas.Bool.{and_parts, or_right}
 use Rattle.std.proofs.lemmas.List.Elements.{All-from_recursion, recursion_from_All}
+use Rattle.std.proofs.lemmas.Slice.Eq.{bytes_eq-Decides}
+use Rattle.std.specs.Str.{bytes_eq}
 use Rattle.std.specs.List.{All, AllByRecursion as AllOf}
 use Rattle.sng_text.specs.Texts.{is_filter, is_name}
 use Rattle.sng_text.specs.Matching.{matches}
@@ -20,9 +22,9 @@ use Rattle.sng_grants.specs.declared.scope.Pair.{Pair}
 use Rattle.sng_policy.specs.declared.permission.Permission.TheVariants.{Subscribe}
 use Rattle.sng_policy.specs.declared.grant.Grant.{Grant}
 use Rattle.sng_policy.specs.declared.grant.Grant.TheVariants.{Allowed, NoScope, MissingSub, Uncovered}
-use Rattle.sng_policy.specs.Grants.{is_granted, grant_by, grant_of_cover, subscribe_by, subscribe_grant}
+use Rattle.sng_policy.specs.Grants.{is_granted, has_filter, grant_by, grant_of_cover, subscribe_by, subscribe_grant}
 use Rattle.sng_policy.specs.Laws.{EachIsGranted, SaysOfFilter, HasFilters, SubscriptionsAreExact, JoinsReceiving, SubscribingIsReceiving}
-use Rattle.sng_policy.proofs.NameLemmas.{granted, by_grants}
+use Rattle.sng_policy.proofs.NameLemmas.{some_pair, granted, by_grants}
 
 -- the names that the filters with `sub` grant are those that the pairs grant for subscribing
 same_by : (pair : Pair) (pairs : List Pair) (name : List ℕ) (b : Bool) → inclusion.is_granted (subscribed pairs) name ≡ is_granted Subscribe pairs name
@@ -47,6 +49,23 @@ filters_of (pair ∷ pairs) are = filters_by pair pairs pair.subscribes are.0 (f
 pub scope-has_filters : (pairs : List Pair) → All (λ pair. is_filter pair.filter ≡ true) pairs → HasFilters (Some pairs)
 scope-has_filters pairs are =
     All-from_recursion (λ (filter : List ℕ). is_filter filter ≡ true) (subscribed pairs) (filters_of pairs (recursion_from_All (λ (pair : Pair). is_filter pair.filter ≡ true) pairs are))
+
+-- a filter that a pair with `sub` has itself is included
+own_granted : (pairs : List Pair) (filter name : List ℕ) → has_filter pairs filter ≡ true → matches filter name ≡ true → is_granted Subscribe pairs name ≡ true
+own_granted [] filter name has matching = absurd (cc)
+own_granted (pair ∷ pairs) filter name has matching =
+    elim (some_pair pair.subscribes (bytes_eq pair.filter filter) (has_filter pairs filter) has) [
+      | inl here ↦
+          let same : pair.filter ≡ filter = (bytes_eq-Decides pair.filter filter).0 here.1 in
+          rw (here.0, same, matching) refl
+      | inr more ↦ or_right (pair.subscribes && matches pair.filter name) (is_granted Subscribe pairs name) (own_granted pairs filter name more matching)
+    ]
+
+pub own-included : (pairs : List Pair) (filter : List ℕ) → is_filter filter ≡ true → All (λ pair. is_filter pair.filter ≡ true) pairs → has_filter pairs filter ≡ true
+    → cover_of filter (subscribed pairs) ≡ cover.Included
+own-included pairs filter is are has =
+    let filters = filters_of pairs (recursion_from_All (λ (pair : Pair). is_filter pair.filter ≡ true) pairs are) in
+    (right filter (subscribed pairs) is filters).0.1 (λ name named matching. same_granted pairs name ∙ own_granted pairs filter name has matching)
 
 -- the gap in an answer
 gap_in : Grant → List ℕ

@@ -1,7 +1,11 @@
 -- What a policy allows (RFC 9431, 2.3): a scope is a list of pairs, and each pair permits what it says for
 -- the names that its filter matches.
-use Rattle.std.specs.Prelude.{ℕ, Bool, false, ◌&&◌, ◌||◌, List, [], ◌∷◌, if◌then◌else◌, Some, None, is_some}
+use Rattle.std.specs.Prelude.{ℕ, Bool, true, false, ◌&&◌, ◌||◌, List, [], ◌∷◌, if◌then◌else◌}
+use Rattle.std.specs.Prelude.{Some, None, is_some}
 use Rattle.std.specs.declared.option.Option.{Option}
+use Rattle.std.specs.Bool.{beq}
+use Rattle.std.specs.Cmp.Lexicographic.{pointwise}
+use Rattle.std.specs.Str.{bytes_eq}
 use Rattle.sng_text.specs.Matching.{matches}
 use Rattle.sng_cover.specs.Covering.{cover_of}
 use Rattle.sng_cover.specs.declared.answer.Cover.{Cover}
@@ -33,6 +37,22 @@ topic policy id = name_of policy.topics id
 abbrev pub topic_id : Policy → List ℕ → Option ℕ
 topic_id policy name = id_of policy.topics name
 
+-- two pairs say the same: the same filter, and the same permissions
+abbrev pub same_pair : Pair → Pair → Bool
+same_pair pair other = bytes_eq pair.filter other.filter
+    && (beq pair.publishes other.publishes && beq pair.subscribes other.subscribes)
+
+-- two scopes are the same, pair by pair, or both absent
+abbrev pub same_scopes : Option (List Pair) → Option (List Pair) → Bool
+same_scopes None None = true
+same_scopes None (Some others) = false
+same_scopes (Some pairs) None = false
+same_scopes (Some pairs) (Some others) = pointwise same_pair pairs others
+
+-- the client has the very same scope under both policies, or neither lists it
+abbrev pub same_scope : Policy → Policy → List ℕ → Bool
+same_scope before after client = same_scopes (scope_of before.clients client) (scope_of after.clients client)
+
 -- the pair has the permission
 abbrev pub permits : Permission → Pair → Bool
 permits Publish pair = pair.publishes
@@ -61,6 +81,11 @@ source_grant policy source name = grant_by Publish UnknownSource MissingPub (sco
 -- to a message with the name for the client
 abbrev pub receive_grant : Policy → List ℕ → List ℕ → Grant
 receive_grant policy client name = grant_by Subscribe NoScope MissingSub (scope_of policy.clients client) name
+
+-- some pair with `sub` has this very filter
+abbrev pub has_filter : List Pair → List ℕ → Bool
+has_filter [] filter = false
+has_filter (pair ∷ pairs) filter = (pair.subscribes && bytes_eq pair.filter filter) || has_filter pairs filter
 
 -- an answer on inclusion as a grant
 abbrev pub grant_of_cover : Cover → Grant

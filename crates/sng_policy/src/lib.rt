@@ -10,7 +10,7 @@ pub mod permission;
 pub mod subscriptions;
 
 pub use grant::Grant;
-pub use listed::{lists, lists_source, topic, topic_id};
+pub use listed::{lists, lists_source, same_scope, topic, topic_id};
 pub use names::{may_publish, may_receive, source_may_publish};
 pub use permission::Permission;
 pub use subscriptions::may_subscribe;

@@ -1,8 +1,9 @@
 //! Whom and what a policy lists. No call here takes memory, and each finds its entry without a walk over the
 //! policy.
-ghost use Rattle.std.specs.Prelude.{◌≡◌};
+ghost use Rattle.std.specs.Prelude.{◌≡◌, ◌↔◌, IsTrue};
 ghost use Rattle.std.specs.Option.{option_copied};
-ghost use Rattle.sng_policy.specs.Grants.{lists, lists_source, topic, topic_id};
+ghost use Rattle.sng_grants.specs.Sources.{scope_of};
+ghost use Rattle.sng_policy.specs.Grants.{lists, lists_source, same_scope, topic, topic_id};
 
 use sng_grants::Policy;
 use sng_text::{ClientId, TopicName};
@@ -19,6 +20,21 @@ pub fn lists_source(policy: &Policy, source: [u8; 4]) -> bool
     ensures { result ≡ lists_source policy.now source }
 {
     policy.sources.get(&source).is_some()
+}
+
+/// Whether the client has the very same scope under both policies: the same pairs in the same order, each
+/// with the same filter and permissions. It has where neither policy lists it, too. Takes no memory, and one
+/// look at each pair, up to the first that differs.
+pub fn same_scope(before: &Policy, after: &Policy, client: &ClientId) -> bool
+    ensures value { result ≡ same_scope before.now after.now client.now }
+    ensures same { IsTrue result
+        ↔ (scope_of before.now.clients client.now ≡ scope_of after.now.clients client.now) }
+{
+    match (before.clients.get(client), after.clients.get(client)) {
+        (None, None) => true,
+        (Some(scope), Some(other)) => scope.pairs() == other.pairs(),
+        _ => false,
+    }
 }
 
 /// The name that the policy gives to a predefined topic id (MQTT-SN 1.2, 6.7), where it gives one.

@@ -9,7 +9,7 @@ use Rattle.sng_cover.specs.declared.answer.Cover.TheVariants.{Included}
 use Rattle.sng_cover.specs.declared.question.Question.{Question}
 use Rattle.sng_grants.specs.declared.scope.Pair.{Pair}
 use Rattle.sng_grants.specs.Scopes.{subscribed}
-use Rattle.sng_policy.proofs.SubscriptionLemmas.{scope-has_filters}
+use Rattle.sng_policy.proofs.SubscriptionLemmas.{own-included, scope-has_filters}
 use Rattle.sng_grants.proofs.ScopeLemmas.{subscribed-append}
 use Rattle.sng_policy.proofs.subscriptions.cover_by.Goals as goal
 use Rattle.sng_policy.proofs.subscriptions.cover_by.Goals.{then-pair+else-is_covered, else-pair}
@@ -29,6 +29,11 @@ with_next : (filter : List ℕ) (pairs : List Pair) (i : ℕ) (pair : Pair) (que
     → Gathered question filter (subscribed (take (i + 1) pairs))
 with_next filter pairs i pair question within is subscribes gathered =
     rw (next_filters pairs i pair within is, subscribes) gathered
+
+pub returns-then-has_filter : goal.returns-then-has_filter
+returns-then-has_filter c =
+    let has = sym c.has_filter.ensures ∙ c.if-has_filter.true in
+    sym (own-included c.args.pairs.now c.args.filter.now c.requires.filter c.requires.filters has)
 
 pub is_covered-requires : goal.is_covered-requires
 is_covered-requires c =
