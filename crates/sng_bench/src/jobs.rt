@@ -42,6 +42,8 @@ pub enum Job {
     ReadPolicy,
     /// Judging 31 filters that stand for each of these clients.
     Judge(Standing),
+    /// Asking of each of these clients whether its scope is the same under a policy that replaces this one.
+    SameScope,
     /// Reading a small PUBLISH of MQTT-SN.
     Decode,
     /// Writing it.
@@ -75,8 +77,10 @@ impl Job {
             "may-receive" => Some(Job::MayReceive),
             "may-subscribe" => Some(Job::MaySubscribe),
             "read-policy" => Some(Job::ReadPolicy),
+            "judge-own" => Some(Job::Judge(Standing::Own)),
             "judge-granted" => Some(Job::Judge(Standing::Granted)),
             "judge-denied" => Some(Job::Judge(Standing::Denied)),
+            "same-scope" => Some(Job::SameScope),
             "decode" => Some(Job::Decode),
             "encode" => Some(Job::Encode),
             "feed-small-1" => Some(Job::Feed(Packets::Small, 1)),
@@ -105,6 +109,7 @@ impl Job {
             Job::MaySubscribe => judging::subscribe_times(alloc, times),
             Job::ReadPolicy => judging::read_times(alloc, times),
             Job::Judge(standing) => judging::judge_times(alloc, standing, times),
+            Job::SameScope => judging::same_times(alloc, times),
             Job::Decode => decode_times(alloc, times),
             Job::Encode => encode_times(alloc, times),
             Job::Feed(packets, size) => feed_times(alloc, packets, size, times),

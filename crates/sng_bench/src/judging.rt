@@ -1,8 +1,8 @@
 //! Jobs over policies: reading one, and asking it.
 use crate::jobs::{NotDone, done};
-use crate::policies;
+use crate::policies::{self, Edition};
 use sng_grants::{Clients, Policy, Sources};
-use sng_policy::{Grant, may_publish, may_receive, may_subscribe, source_may_publish};
+use sng_policy::{Grant, may_publish, may_receive, may_subscribe, same_scope, source_may_publish};
 use sng_scope::read_policy;
 use sng_text::{ClientId, TopicFilter, TopicName};
 use std::alloc::Global;
@@ -10,7 +10,9 @@ use std::alloc::Global;
 /// Filters that stand for a client when its policy is replaced.
 #[derive(Clone, Copy, Debug, PartialEq, Eq)]
 pub enum Standing {
-    /// One pair grants each, the K-th filter's is the 2K-th.
+    /// Each is the filter of a pair itself, the K-th that of the 2K-th.
+    Own,
+    /// One pair grants each, with a wider filter: the K-th filter's is the 2K-th.
     Granted,
     /// No pair grants any.
     Denied,
@@ -21,7 +23,7 @@ const STANDING: u32 = 31;
 
 /// Reads the text of the policy. The sum is of the text's bytes and the policy's clients.
 pub fn read_times(alloc: Global, times: u32) -> Result<u64, NotDone> {
-    let text = policies::text(alloc)?;
+    let text = policies::text(alloc, Edition::First)?;
     let mut total: u64 = 0;
     for _ in 0..times {
         let policy = done(read_policy(alloc, text.as_str().as_bytes()))?;
@@ -33,8 +35,7 @@ pub fn read_times(alloc: Global, times: u32) -> Result<u64, NotDone> {
 
 /// Judges all filters that stand for the clients of the policy.
 pub fn judge_times(alloc: Global, standing: Standing, times: u32) -> Result<u64, NotDone> {
-    let text = policies::text(alloc)?;
-    let policy = done(read_policy(alloc, text.as_str().as_bytes()))?;
+    let policy = policy(alloc, Edition::First)?;
     let clients = clients(alloc)?;
     let standing = all_standing(alloc, standing)?;
     let mut total: u64 = 0;
@@ -47,6 +48,29 @@ pub fn judge_times(alloc: Global, standing: Standing, times: u32) -> Result<u64,
         }
     }
     Ok(total)
+}
+
+/// Compares the scopes of all clients under the policy and the one that replaces it. The sum is of those that
+/// are the same.
+pub fn same_times(alloc: Global, times: u32) -> Result<u64, NotDone> {
+    let before = policy(alloc, Edition::First)?;
+    let after = policy(alloc, Edition::Second)?;
+    let clients = clients(alloc)?;
+    let mut total: u64 = 0;
+    for _ in 0..times {
+        for client in &clients {
+            if same_scope(&before, &after, client) {
+                total = total.wrapping_add(1);
+            }
+        }
+    }
+    Ok(total)
+}
+
+/// The policy, read from its text.
+fn policy(alloc: Global, edition: Edition) -> Result<Policy, NotDone> {
+    let text = policies::text(alloc, edition)?;
+    done(read_policy(alloc, text.as_str().as_bytes()))
 }
 
 /// A number of the answer.
@@ -88,6 +112,7 @@ fn standing_of(
     for number in 0..STANDING {
         let pair = 2 * number;
         let text = done(match standing {
+            Standing::Own => format!(in alloc; "plant/a{client}/d{pair}/+"),
             Standing::Granted => format!(in alloc; "plant/a{client}/d{pair}/t"),
             Standing::Denied => format!(in alloc; "plant/a{client}/e{number}/t"),
         })?;

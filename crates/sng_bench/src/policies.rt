@@ -10,15 +10,24 @@ pub const CLIENTS: u32 = 256;
 /// How many pairs each of them has.
 pub const PAIRS: u32 = 64;
 
-/// The text of a policy: clients c0, c1 and so on, each with filters plant/aC/dK/+ for both permissions.
-pub fn text(alloc: Global) -> Result<String, NotDone> {
+/// Two policies, of which one replaces the other.
+#[derive(Clone, Copy, Debug, PartialEq, Eq)]
+pub enum Edition {
+    /// Each pair has both permissions.
+    First,
+    /// The last pair of each eighth client has `sub` alone.
+    Second,
+}
+
+/// The text of a policy: clients c0, c1 and so on, each with filters plant/aC/dK/+.
+pub fn text(alloc: Global, edition: Edition) -> Result<String, NotDone> {
     let mut text = String::new(alloc);
     done(text.push_str("{\"version\":1,\"clients\":{"))?;
     for client in 0..CLIENTS {
         let comma = if client == 0 { "" } else { "," };
         let head = done(format!(in alloc; "{comma}\"c{client}\":["))?;
         done(text.push_str(head.as_str()))?;
-        push_pairs(alloc, &mut text, client)?;
+        push_pairs(alloc, &mut text, edition, client)?;
         done(text.push_str("]"))?;
     }
     done(text.push_str("}}"))?;
@@ -26,15 +35,30 @@ pub fn text(alloc: Global) -> Result<String, NotDone> {
 }
 
 /// Appends the pairs of a client.
-fn push_pairs(alloc: Global, text: &mut String, client: u32) -> Result<(), NotDone> {
+fn push_pairs(
+    alloc: Global,
+    text: &mut String,
+    edition: Edition,
+    client: u32,
+) -> Result<(), NotDone> {
     for pair in 0..PAIRS {
         let comma = if pair == 0 { "" } else { "," };
+        let permissions = permissions(edition, client, pair);
         let pair = done(format!(in alloc;
-            "{comma}[\"plant/a{client}/d{pair}/+\",[\"pub\",\"sub\"]]"
+            "{comma}[\"plant/a{client}/d{pair}/+\",[{permissions}]]"
         ))?;
         done(text.push_str(pair.as_str()))?;
     }
     Ok(())
+}
+
+/// What a pair of a client permits.
+fn permissions(edition: Edition, client: u32, pair: u32) -> &'static str {
+    if edition == Edition::Second && client % 8 == 7 && pair == PAIRS - 1 {
+        "\"sub\""
+    } else {
+        "\"pub\",\"sub\""
+    }
 }
 
 /// The filter of this text.
