@@ -14,3 +14,4 @@ pub mod Opened
 pub mod Right
 pub mod Answered
 pub mod Covered
+pub mod AlikeLemmas

@@ -7,9 +7,10 @@ ghost use Rattle.sng_text.specs.Levels.{levels_of, levels_left};
 ghost use Rattle.sng_text.specs.Texts.{is_filter, is_in_place, is_plus};
 ghost use Rattle.sng_cover.specs.Reaches.{fits, fits_levels, after_first};
 
+use crate::alike::past_alike;
 use sng_text::bytes::{begins_hash, begins_plus};
 use sng_text::matching::{begins_wild, is_reserved};
-use sng_text::{TopicFilter, past_common, split_level};
+use sng_text::{TopicFilter, split_level};
 
 /// Whether the granted filter's levels fit the asked filter's candidates. Ends at the first level that does
 /// not fit.
@@ -25,12 +26,12 @@ pub fn fits(asked: &TopicFilter, granted: &TopicFilter) -> bool
     fits_levels(asked, granted)
 }
 
-/// The same, `$` aside. What both texts have in common at first is walked as bytes.
+/// The same, `$` aside.
 fn fits_levels(asked: &[u8], granted: &[u8]) -> bool
     requires { is_in_place (levels_of granted.now) ≡ true }
     ensures { result ≡ fits_levels (levels_of asked.now) (levels_of granted.now) }
 {
-    let (left, own) = past_common(granted, asked);
+    let (left, own) = past_alike(granted, asked);
     let Some(left) = left else {
         return true;
     };

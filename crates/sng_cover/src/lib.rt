@@ -2,6 +2,7 @@
 //! which name shows it (MQTT 3.1.1, 4.7).
 #![tactic(auto)]
 
+mod alike;
 pub mod answer;
 mod depths;
 mod fitting;
