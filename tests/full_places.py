@@ -1,12 +1,16 @@
 """full_places.py
 
 Scripts that fill what is limited, with what the program is to print, for end_to_end.py: the topic ids of a
-client, the publishes at QoS 1 that are in flight or wait, and what waits for the broker, by acknowledgements.
+client, by REGISTER and by SUBSCRIBE, its subscriptions, the publishes at QoS 1 that are in flight or wait,
+and what waits for the broker, by acknowledgements and beside subscriptions that begin and end.
 """
-ADDRESS = '10.0.0.9:4000'
-MOST_IDS, MOST_IN_FLIGHT, MOST_ITEMS = 128, 128, 512
-CONNECT, CONNECTED = '08040401003c7331', 'send %s 030500' % ADDRESS
+ADDRESS, OTHER_ADDRESS = '10.0.0.9:4000', '10.0.0.9:4001'
+MOST_IDS, MOST_SUBSCRIPTIONS, MOST_IN_FLIGHT, MOST_ITEMS = 128, 32, 128, 512
+CONNECT, CONNECT_OTHER = '08040401003c7331', '08040401003c7332'
 POLICY = 'policy {"version":1,"clients":{"s1":[["#",["pub"]]]},"topics":{"4":"t/4"}}'
+BOTH = ('policy {"version":1,"clients":{"s1":[["#",["pub","sub"]]],"s2":[["#",["sub"]]]},'
+        '"topics":{"4":"t/4"}}')
+FULL = 'note outbox broker - 22 Full Outbox'
 
 
 class Story:
@@ -24,13 +28,14 @@ class Story:
         self.lines.append(line)
         self.row(kind, *outs)
 
-    def hear(self, octets, note, answer=None):
-        """A datagram of the client, with its note and, where it is answered, the answer's octets."""
-        answers = ['send %s %s' % (ADDRESS, answer)] if answer else []
-        self.give('from %s %s' % (ADDRESS, octets), 'datagram', 'note ' + note, *answers)
+    def hear(self, octets, note, answer=None, address=ADDRESS, outs=()):
+        """A datagram of a client, with its note, what else goes out behind it and, where it is answered, the
+        answer's octets."""
+        answers = ['send %s %s' % (address, answer)] if answer else []
+        self.give('from %s %s' % (address, octets), 'datagram', 'note ' + note, *outs, *answers)
 
-    def begin(self):
-        self.give(POLICY, 'replace')
+    def begin(self, policy=POLICY):
+        self.give(policy, 'replace')
         self.give('up', 'up')
         self.hear(CONNECT, 'connect s1 - allowed', '030500')
 
@@ -44,6 +49,24 @@ def register(name):
 
 def publish(flags, topic_id, msg_id):
     return '080c%02x%04x%04x78' % (flags, topic_id, msg_id)
+
+
+def subscribe(pattern, flags=0x20):
+    return '%02x12%02x0007%s' % (5 + len(pattern), flags, pattern.encode().hex())
+
+
+def unsubscribe(pattern):
+    return '%02x14000007%s' % (5 + len(pattern), pattern.encode().hex())
+
+
+def subscribed(packet_id, pattern):
+    """The broker is sent a SUBSCRIBE."""
+    return 'wire 82%02x%04x%04x%s01' % (5 + len(pattern), packet_id, len(pattern), pattern.encode().hex())
+
+
+def unsubscribed(packet_id, pattern):
+    """The broker is sent an UNSUBSCRIBE."""
+    return 'wire a2%02x%04x%04x%s' % (4 + len(pattern), packet_id, len(pattern), pattern.encode().hex())
 
 
 def ids_that_fill():
@@ -66,8 +89,8 @@ def ids_that_fill():
 
 
 def in_flight_that_fills():
-    """Of publishes at QoS 1 as many are taken as may be in flight or wait. Those at QoS 0 are taken still, and
-    each PUBACK makes room for one more."""
+    """Of publishes at QoS 1 as many are taken as may be in flight or wait. Those at QoS 0 are taken still,
+    and each PUBACK makes room for one more."""
     story = Story()
     story.begin()
     allowed, full = 'publish s1 t/4 allowed', 'publish s1 t/4 22 Full InFlight'
@@ -106,7 +129,146 @@ def acknowledgements_that_fill():
     return story.whole()
 
 
+def ids_that_fill_by_subscriptions():
+    """A name that is subscribed to as a text is told an id, until 128 names were told. Then one without an id
+    is denied, and so is its REGISTER; what needs no normal id is allowed still, until 32 filters stand. A
+    CONNECT clears the ids."""
+    story = Story()
+    story.begin(BOTH)
+    for number in range(1, MOST_IDS):
+        name = 'n/%d' % number
+        story.hear(register(name), 'register s1 %s allowed' % name, '070b%04x000700' % number)
+    story.hear(subscribe('n/128'), 'subscribe s1 n/128 allowed', '0813200080000700')
+    story.hear(subscribe('n/129'), 'subscribe s1 n/129 22 Full Ids', '0813000000000701')
+    story.hear(subscribe('t/4'), 'subscribe s1 t/4 22 Full Ids', '0813000000000701')
+    story.hear(register('n/129'), 'register s1 n/129 22 Full Ids', '070b0000000701')
+    story.hear(subscribe('n/1'), 'subscribe s1 n/1 allowed', '0813200001000700')
+    story.hear(subscribe('n/128', 0), 'subscribe s1 n/128 allowed', '0813000080000700')
+    story.hear('07122100070004', 'subscribe s1 t/4 allowed', '0813200004000700')
+    story.hear(subscribe('ab', 0x22), 'subscribe s1 ab allowed', '0813200000000700')
+    story.hear(subscribe('cd'), 'subscribe s1 cd allowed', '0813200000000700')
+    filters = ['f/%d/+' % number for number in range(6, MOST_SUBSCRIPTIONS + 1)]
+    for pattern in filters:
+        story.hear(subscribe(pattern), 'subscribe s1 %s allowed' % pattern, '0813200000000700')
+    story.hear(subscribe('n/129'), 'subscribe s1 n/129 22 Full Ids', '0813000000000701')
+    story.hear(subscribe('n/2'), 'subscribe s1 n/2 22 Full Subscriptions', '0813000000000701')
+    story.hear(subscribe('f/+'), 'subscribe s1 f/+ 22 Full Subscriptions', '0813000000000701')
+    story.hear(unsubscribe('n/1'), 'unsubscribe s1 n/1 allowed', '04150007')
+    story.hear(subscribe('n/129'), 'subscribe s1 n/129 22 Full Ids', '0813000000000701')
+    story.give('down', 'down')
+    story.hear(subscribe('n/129'), 'subscribe s1 n/129 21 UpstreamDown', '0813000000000701')
+    story.hear('08040001003c7331', 'connect s1 - allowed', '030500')
+    standing = ['n/128', 't/4', 'ab', 'cd'] + filters
+    story.give('up', 'up', *[subscribed(place, it) for place, it in enumerate(standing, 1)])
+    story.hear(subscribe('n/129'), 'subscribe s1 n/129 allowed', '0813200001000700')
+    story.hear(subscribe('n/128'), 'subscribe s1 n/128 allowed', '0813200002000700')
+    story.give('take', 'take', subscribed(32, 'n/129'), subscribed(33, 'n/128'))
+    return story.whole()
+
+
+def subscriptions_that_fill():
+    """A client holds 32 filters. One more is denied however it is asked for, one that stands is not; each
+    that ends makes room for one more."""
+    story = Story()
+    story.begin(BOTH)
+    filters = ['f/%d/#' % number for number in range(1, MOST_SUBSCRIPTIONS + 1)]
+    for pattern in filters:
+        story.hear(subscribe(pattern), 'subscribe s1 %s allowed' % pattern, '0813200000000700')
+    story.hear(subscribe('f/33/#'), 'subscribe s1 f/33/# 22 Full Subscriptions', '0813000000000701')
+    story.hear(subscribe('ab', 0x22), 'subscribe s1 ab 22 Full Subscriptions', '0813000000000701')
+    story.hear('07122100070004', 'subscribe s1 t/4 22 Full Subscriptions', '0813000000000701')
+    story.hear(subscribe('f/1/#', 0), 'subscribe s1 f/1/# allowed', '0813000000000700')
+    wires = [subscribed(place, it) for place, it in enumerate(filters + ['f/1/#'], 1)]
+    story.give('take', 'take', *wires)
+    story.hear(unsubscribe('f/2/#'), 'unsubscribe s1 f/2/# allowed', '04150007')
+    story.hear('07122100070004', 'subscribe s1 t/4 allowed', '0813200004000700')
+    story.hear(subscribe('f/2/#'), 'subscribe s1 f/2/# 22 Full Subscriptions', '0813000000000701')
+    story.give('take', 'take', unsubscribed(34, 'f/2/#'), subscribed(35, 't/4'))
+    story.give('broker 9003002080', 'broker', 'note end s1 f/32/# 14 BrokerRefused')
+    story.hear(subscribe('n/1'), 'subscribe s1 n/1 allowed', '0813200001000700')
+    story.hear(subscribe('n/2'), 'subscribe s1 n/2 22 Full Subscriptions', '0813000000000701')
+    standing = ['f/1/#'] + filters[2:-1] + ['t/4', 'n/1']
+    wires = [subscribed(place, it) for place, it in enumerate(standing, 36)]
+    story.give('up', 'up', *wires)
+    story.hear(CONNECT, 'connect s1 - allowed', '030500')
+    story.hear(subscribe('n/2'), 'subscribe s1 n/2 allowed', '0813200001000700')
+    gone = [unsubscribed(place, it) for place, it in enumerate(standing, 68)]
+    story.give('take', 'take', *gone, subscribed(100, 'n/2'))
+    return story.whole()
+
+
+def items_that_fill_beside_subscriptions():
+    """Where 512 items wait a SUBSCRIBE is denied, of a filter that stands, too. An UNSUBSCRIBE that the
+    broker is owed then is noted and never sent, as one of a client, a new policy and a clean CONNECT end a
+    filter. None is owed where the filter did not stand, or somebody holds it still."""
+    story = Story()
+    story.begin(BOTH)
+    story.hear(CONNECT_OTHER, 'connect s2 - allowed', '030500', OTHER_ADDRESS)
+    for pattern in ('a/#', 'b/#', 'c/#', 'd/#', 'e/#', 'f/#', 'g/#'):
+        story.hear(subscribe(pattern), 'subscribe s1 %s allowed' % pattern, '0813200000000700')
+    for pattern in ('c/#', 'f/#'):
+        story.hear(subscribe(pattern), 'subscribe s2 %s allowed' % pattern, '0813200000000700', OTHER_ADDRESS)
+    wires = [subscribed(place, it + '/#') for place, it in enumerate('abcdefgcf', 1)]
+    story.give('take', 'take', *wires)
+    packet_ids = range(1, MOST_ITEMS)
+    story.lines.append('broker ' + ''.join('320500017a%04x' % packet_id for packet_id in packet_ids))
+    for _ in packet_ids:
+        story.row('broker')
+    story.hear(unsubscribe('a/#'), 'unsubscribe s1 a/# allowed', '04150007')
+    story.hear(unsubscribe('b/#'), 'unsubscribe s1 b/# allowed', '04150007', outs=[FULL])
+    story.hear(unsubscribe('b/#'), 'unsubscribe s1 b/# allowed', '04150007')
+    story.hear(subscribe('h/#'), 'subscribe s1 h/# 22 Full Outbox', '0813000000000701')
+    story.hear(subscribe('d/#', 0), 'subscribe s1 d/# 22 Full Outbox', '0813000000000701')
+    policy = 'policy {"version":1,"clients":{"s1":[["e/#",["sub"]],["f/#",["sub"]],["g/#",["sub"]]],"s2":%s}}'
+    story.give(policy % '[["f/#",["sub"]]]', 'replace', 'note end s1 c/# 12 Uncovered c/# c',
+               'note end s1 d/# 12 Uncovered d/# d', FULL, 'note end s2 c/# 12 Uncovered c/# c', FULL)
+    story.hear(CONNECT, 'connect s1 - allowed', '030500', outs=[FULL, FULL])
+    story.give('take', 'take', *['wire 4002%04x' % it for it in packet_ids], unsubscribed(10, 'a/#'))
+    story.give('take', 'take')
+    story.hear(subscribe('e/#'), 'subscribe s1 e/# allowed', '0813200000000700')
+    story.give('up', 'up', subscribed(11, 'f/#'), subscribed(12, 'e/#'))
+    return story.whole()
+
+
+def subscriptions_that_fill_the_outbox():
+    """What waits may be SUBSCRIBEs alone. With one place left, of two filters that end the first has it."""
+    story = Story()
+    story.begin(BOTH)
+    allowed, answer = 'subscribe s1 a/# allowed', '0813200000000700'
+    for _ in range(MOST_ITEMS):
+        story.hear(subscribe('a/#'), allowed, answer)
+    story.hear(subscribe('a/#'), 'subscribe s1 a/# 22 Full Outbox', '0813000000000701')
+    story.give('down', 'down')
+    story.give('up', 'up', subscribed(1, 'a/#'))
+    story.hear(subscribe('b/#'), 'subscribe s1 b/# allowed', answer)
+    for _ in range(2, MOST_ITEMS):
+        story.hear(subscribe('a/#'), allowed, answer)
+    story.give('policy {"version":1}', 'replace', 'note end s1 a/# 3 NoScope s1',
+               'note end s1 b/# 3 NoScope s1', FULL)
+    story.give('take', 'take', unsubscribed(2, 'a/#'))
+    return story.whole()
+
+
+def publishes_that_fill_without_a_connection():
+    """Publishes that wait leave no place for an UNSUBSCRIBE either, also once the connection is lost."""
+    story = Story()
+    story.begin(BOTH)
+    story.hear(subscribe('a/#'), 'subscribe s1 a/# allowed', '0813200000000700')
+    story.give('take', 'take', subscribed(1, 'a/#'))
+    for _ in range(MOST_ITEMS):
+        story.hear(publish(0x01, 4, 0), 'publish s1 t/4 allowed')
+    story.give('down', 'down')
+    story.hear(unsubscribe('a/#'), 'unsubscribe s1 a/# allowed', '04150007', outs=[FULL])
+    story.give('up', 'up')
+    story.give('take', 'take', *['note forward s1 t/4 allowed', 'wire 30060003742f3478'] * MOST_ITEMS)
+    story.give('take', 'take')
+    return story.whole()
+
+
 def scripts():
     """Each script: its name, its text, what is printed."""
-    for each in (ids_that_fill, in_flight_that_fills, acknowledgements_that_fill):
+    for each in (ids_that_fill, in_flight_that_fills, acknowledgements_that_fill,
+                 ids_that_fill_by_subscriptions, subscriptions_that_fill,
+                 items_that_fill_beside_subscriptions, subscriptions_that_fill_the_outbox,
+                 publishes_that_fill_without_a_connection):
         yield (each.__name__.replace('_', '-'), *each())

@@ -74,6 +74,29 @@ note publish * * 10
 note publish * * 21
 note publish * * 22 Full InFlight
 note publish * * 22 Full Outbox
+note subscribe * * allowed
+note subscribe * - 3
+note subscribe * - 4
+note subscribe * - 6
+note subscribe * - 7
+note subscribe * - 8
+note subscribe * - 9 UnknownId predefined
+note subscribe * * 12
+note subscribe * * 21
+note subscribe * * 22 Full Ids
+note subscribe * * 22 Full Subscriptions
+note subscribe * * 22 Full Outbox
+note unsubscribe * * allowed
+note unsubscribe * - 4
+note unsubscribe * - 6
+note unsubscribe * - 7
+note unsubscribe * - 8
+note unsubscribe * - 9 UnknownId predefined
+note end * * 3
+note end * * 12
+note end * * 14
+wire 82*
+wire a2*
 note forward * * allowed
 note forward * * 3
 note forward * * 5
@@ -85,7 +108,9 @@ note again * * 10
 NAMES = ['ab', 'a/b', 'a/b/c', 't/1', 't', 'é', '$SYS/x', 'x y', '/', 'n%', 'a//b', 'm' * 130, 'l' * 300]
 BAD_NAMES = [b'', b'a+', b'+', b'#', b'a/#', b'a\0', b'\xff', b'\xed\xa0\x80']
 BAD_SHORT = [b'a+', b'#a', b'\0a', b'\xff\xff', b'\xc3a']
-FILTERS = ['#', '+', 'a/#', 'a/+', '+/b', 't/+', '+/+/+', '$SYS/#', '/#', 'a/b/#', 'x', '+/#']
+BAD_FILTERS = [b'', b'a+', b'+a', b'##', b'#/a', b'a/#/b', b'a\0', b'\xff', b'\xed\xa0\x80', b'f' * 201]
+FILTERS = ['#', '+', 'a/#', 'a/+', '+/b', 't/+', '+/+/+', '$SYS/#', '/#', 'a/b/#', 'x', '+/#', 'a', 'a/+/#',
+           '+/x', 'xx/+', 'x/#', 'f' * 200, 'w/' * 80 + '+']
 ADDRESSES = ['10.0.0.7:4000', '10.0.0.7:4001', '10.0.0.8:4000', '10.0.0.9:4000']
 CLIENTS = ['s1', 's2', 's3', 'ü', 'a client of 23 charact.']
 BAD_POLICIES = [
@@ -95,19 +120,21 @@ BAD_POLICIES = [
     '{"version":1,"sources":{"10.0.0.07":[]}}', '{"version":1,"topics":{"65535":"a"}}',
     '{"version":1,"topics":{"1":"a/#"}}', '{"version":1,"clients":{"s1":[%s]}}' % ','.join(['["a",[]]'] * 65),
 ]
-WORDS = [['pub'], ['pub'], ['pub', 'sub'], ['sub', 'pub', 'pub'], ['sub'], []]
+WORDS = [['pub'], ['pub'], ['pub', 'sub'], ['sub', 'pub', 'pub'], ['sub'], ['sub'], []]
 UNREADABLE = ['x', 'up ', 'take now', 'from 10.0.0.9:4000', 'from 10.0.0.9 0216', 'from 10.0.0.9:65536 0216',
               'from 10.0.0.9:4000 021', 'from 10.0.0.9:4000 02 16', 'from 10.0.0.09:4000 0216', 'policy',
               'broker', 'broker -', 'broker d', 'broker d0 00', 'broker 0x']
 # Which kinds of lines a script has, and how often one comes beside another
 WEIGHTS = {
-    'policy': 3, 'up': 6, 'take': 9, 'connect': 8, 'register': 12, 'publish': 30,
+    'policy': 4, 'up': 6, 'take': 9, 'connect': 8, 'register': 12, 'publish': 30, 'subscribe': 20,
     'bad_policy': 1, 'down': 2, 'bad_connect': 1.5, 'disconnect': 2, 'pingreq': 3, 'fresh_register': 1,
-    'source_publish': 8, 'other_frame': 4, 'malformed': 2, 'broker_puback': 6, 'broker_publish': 6,
-    'broker_other': 2, 'broker_cut': 2, 'broker_fault': 0.7, 'turn': 3, 'empty': 0.5,
+    'source_publish': 8, 'unsubscribe': 6, 'fresh_subscribe': 1, 'other_frame': 4, 'malformed': 2,
+    'broker_puback': 6, 'broker_publish': 6, 'broker_suback': 6, 'broker_other': 2, 'broker_cut': 2,
+    'broker_fault': 0.7, 'turn': 4, 'empty': 0.5,
 }
-# Those that no script leaves out
-ALWAYS = ('policy', 'up', 'take', 'connect', 'register', 'publish')
+# Those that no script leaves out, and those that some scripts are about
+ALWAYS = ('policy', 'up', 'take', 'connect', 'register', 'publish', 'subscribe')
+SUBSCRIBING = ('policy', 'subscribe', 'unsubscribe', 'broker_suback', 'take')
 
 
 def frame(kind, *parts, is_long=False):
@@ -138,12 +165,18 @@ class World:
         self.addresses = self.random.sample(ADDRESSES, self.one((2, 2, 3, 4)))
         self.clients = self.random.sample(CLIENTS, self.one((2, 3, 4)))
         self.names = self.random.sample(NAMES, self.among(3, 5))
-        self.filters = [name for name in self.names if len(name) <= 200] + self.random.sample(FILTERS, 3)
-        self.fresh = 0
+        self.filters = [name for name in self.names if len(name) <= 200]
+        self.filters += self.random.sample(FILTERS, self.among(3, 5))
+        # How many fresh names were drawn, which packet ids the broker answers as those of SUBSCRIBEs, and the
+        # scopes that each client or source was given
+        self.fresh, self.most_suback = 0, 12
+        self.given = {}
         self.is_generous = False
         # Each script leaves some kinds out and has others more often, so that scripts are unlike one another
         self.weights = {kind: weight * self.one((1, 1, 1, 2) if kind in ALWAYS else (0, 1, 1, 1, 2, 4))
                         for kind, weight in WEIGHTS.items()}
+        if self.chance(0.35):
+            self.weights.update((kind, 3 * self.weights[kind]) for kind in SUBSCRIBING)
 
     def among(self, low, high):
         return self.random.randint(low, high)
@@ -164,7 +197,7 @@ class World:
     def datagram(self, octets, address=None):
         word = octets.hex() or '-'
         if address is None:
-            address = self.one(self.addresses[:len(self.clients)] * 4 + self.addresses)
+            address = self.one(self.addresses[:len(self.clients)] * 8 + self.addresses)
         return 'from %s %s' % (address, word.upper() if self.chance(0.1) else word)
 
     def sent(self, kind, *parts, address=None):
@@ -186,18 +219,34 @@ class World:
 
     # The policy
 
-    def scope(self):
-        if self.is_generous or self.chance(0.35):
-            return [['#', ['pub', 'sub']], ['$SYS/#', ['pub']]]
-        pairs = [[self.one(self.filters), self.one(WORDS)] for _ in range(self.one((0, 2, 3, 4, 5)))]
-        if self.chance(0.2):
+    def pair(self):
+        return [self.one(self.filters), self.one(WORDS)]
+
+    def pairs(self, whose):
+        """The pairs of a scope: new ones, or what was given before, perhaps with a change."""
+        earlier = self.given.get(whose)
+        if self.is_generous:
+            return [['#', ['pub'] if earlier and self.chance(0.3) else ['pub', 'sub']], ['$SYS/#', ['pub']]]
+        if not earlier or self.chance(0.4):
+            some = [self.pair() for _ in range(self.one((0, 2, 3, 4, 5)))]
+            return [['#', ['pub', 'sub']], ['$SYS/#', ['pub']]] if self.chance(0.4) else some
+        pairs = list(self.one((earlier[-1], earlier[-1], self.one(earlier))))
+        change = self.one(('none', 'less', 'less', 'more'))
+        if change == 'less' and pairs:
+            pairs.remove(self.one(pairs))
+        return pairs + [self.pair()] * (change == 'more')
+
+    def scope(self, whose):
+        pairs = self.pairs(whose)
+        self.given.setdefault(whose, []).append(pairs)
+        if self.chance(0.1):
             return base64.urlsafe_b64encode(json.dumps(pairs).encode()).decode().rstrip('=')
         return pairs
 
     def policy(self):
-        clients = {name: self.scope() for name in self.clients if self.is_generous or self.chance(0.9)}
+        clients = {name: self.scope(name) for name in self.clients if self.is_generous or self.chance(0.9)}
         ips = sorted({address.split(':')[0] for address in self.addresses})
-        sources = {ip: self.scope() for ip in ips if self.is_generous or self.chance(0.8)}
+        sources = {ip: self.scope(ip) for ip in ips if self.is_generous or self.chance(0.8)}
         topics = {str(number): self.one(self.names) for number in range(1, 5) if self.chance(0.8)}
         parts = {'version': 1, 'clients': clients, 'sources': sources, 'topics': topics}
         return 'policy ' + json.dumps(parts, ensure_ascii=self.chance(0.5))
@@ -217,8 +266,9 @@ class World:
         return 'take'
 
     def turn(self):
-        """A few lines at once that decide over what waits and what is in flight."""
-        kinds = [self.publish, self.source_publish, self.policy, self.take, self.down, self.up]
+        """A few lines at once that decide over what waits, what is in flight and what stands."""
+        kinds = [self.publish, self.source_publish, self.policy, self.take, self.down, self.up,
+                 self.subscribe, self.unsubscribe, self.broker_suback]
         return '\n'.join(self.one(kinds)() for _ in range(self.among(2, 4)))
 
     def empty(self):
@@ -229,8 +279,8 @@ class World:
     def connect(self):
         """A CONNECT, mostly from where this client mostly is."""
         place = self.among(0, len(self.clients) - 1)
-        home = self.addresses[place % len(self.addresses)] if self.chance(0.8) else None
-        flags = bytes([self.one((0, 4, 4, 0xe7))])
+        home = self.addresses[place % len(self.addresses)] if self.chance(0.9) else None
+        flags = bytes([self.one((0, 0, 0, 0xf3, 4, 0xe7))])
         return self.sent(4, flags, b'\1', self.message_id(), self.clients[place].encode(), address=home)
 
     def bad_connect(self):
@@ -270,16 +320,41 @@ class World:
         id_type = self.one((0, 1, 1, 1, 1, 2, 2, 2, 2, 3))
         return self.sent(0x0c, self.flags(3, id_type), self.topic(id_type), b'\0\0', self.payload())
 
+    def filter(self):
+        """The text of a filter, often of one that is granted to somebody, and at times what is none."""
+        if self.chance(0.08):
+            return self.one(BAD_FILTERS)
+        if self.fresh and self.chance(0.15):
+            return b'n/%d' % self.among(1, self.fresh)
+        granted = [pattern for whose in self.clients for pattern, words in self.given.get(whose, [[]])[-1]
+                   if 'sub' in words]
+        return self.one(granted if granted and self.chance(0.6) else self.filters + FILTERS[:4]).encode()
+
+    def ask_for_filter(self, kind):
+        """A SUBSCRIBE or UNSUBSCRIBE, mostly of a text."""
+        id_type = self.one((0, 0, 0, 0, 0, 0, 0, 0, 0, 0, 1, 1, 1, 2, 2, 2, 3))
+        topic = self.topic(id_type) if id_type in (1, 2) else self.filter()
+        return self.sent(kind, self.flags(self.among(0, 3), id_type), self.message_id(), topic)
+
+    def subscribe(self):
+        return self.ask_for_filter(0x12)
+
+    def unsubscribe(self):
+        return self.ask_for_filter(0x14)
+
+    def fresh_subscribe(self):
+        self.fresh += 1
+        name = b'n/%d' % self.fresh + self.one((b'', b'', b'/+'))
+        return self.sent(0x12, self.flags(self.among(0, 3), 0), self.message_id(), name)
+
     def other_frame(self):
         """A message that is not taken, or one that only a gateway sends."""
         kind, part = self.one([
             (0x05, b'\0'), (0x06, b''), (0x07, b''), (0x07, b'\0w/1'), (0x08, b''), (0x09, b'gone'),
             (0x0b, b'\0\1\0\1\0'), (0x0d, b'\0\1\0\1\0'), (0x0e, b'\0\1'), (0x0f, b'\0\1'), (0x10, b'\0\1'),
-            (0x12, b'\x20' + self.message_id() + b'a/#'), (0x12, b'\1' + self.message_id() + b'\0\4'),
-            (0x13, b'\0\0\1\0\1\0'), (0x14, b'\0' + self.message_id() + b'a/#'),
-            (0x14, b'\2' + self.message_id() + b'ab'), (0x15, b'\0\1'), (0x17, b''), (0x1a, b''),
-            (0x1a, b'\0w/1'), (0x1b, b'\0'), (0x1c, b''), (0x1c, b'gone'), (0x1d, b'\0'),
-            (0x00, b'\1\0\0'), (0x01, b'\0'), (0x02, b'\1'), (0xfe, b'\1\2\3'),
+            (0x13, b'\0\0\1\0\1\0'), (0x15, b'\0\1'), (0x17, b''), (0x1a, b''), (0x1a, b'\0w/1'),
+            (0x1b, b'\0'), (0x1c, b''), (0x1c, b'gone'), (0x1d, b'\0'), (0x00, b'\1\0\0'), (0x01, b'\0'),
+            (0x02, b'\1'), (0xfe, b'\1\2\3'),
         ])
         return self.sent(kind, part)
 
@@ -309,12 +384,16 @@ class World:
         body = number(len(name)) + name + (number(self.among(1, 9)) if qos else b'') + self.payload()
         return packet(0x30 | qos << 1 | self.one((0, 0, 1, 8, 9)), body, self.one((0, 0, 0, 1)))
 
+    def suback(self, packet_id):
+        """An answer to a SUBSCRIBE, which as often as not refuses it; only its first code counts."""
+        codes = self.one((b'\0', b'\1', b'\1', b'\2', b'\x80', b'\x80', b'\x80', b'\x80\1', b'\1\x80'))
+        return packet(0x90, number(packet_id) + codes, self.one((0, 0, 0, 2)))
+
     def other_packet(self):
         return self.one((
             packet(0x10, b'\0\4MQTT\4\2\0\x3c\0\2gw'), packet(0x20, b'\0\0'), packet(0x20, b'\1\5'),
-            packet(0x82, b'\0\1\0\1a\1'), packet(0x90, b'\0\1\x80'), packet(0x90, b'\0\1\0\2', 2),
-            packet(0xa2, b'\0\1\0\3a/#'), packet(0xb0, b'\0\1'), packet(0xc0, b''), packet(0xd0, b'', 3),
-            packet(0xd0, b''), packet(0xe0, b'')))
+            packet(0x82, b'\0\1\0\1a\1'), packet(0xa2, b'\0\1\0\3a/#'), packet(0xb0, b'\0\1'),
+            packet(0xc0, b''), packet(0xd0, b'', 3), packet(0xd0, b''), packet(0xe0, b'')))
 
     def faulty_packet(self):
         return self.one((
@@ -337,12 +416,17 @@ class World:
     def broker_publish(self):
         return self.piece(*(self.published() for _ in range(self.one((1, 1, 1, 2, 5)))))
 
+    def broker_suback(self):
+        """Answers to the SUBSCRIBEs of some packet ids in a row, if there are such."""
+        first, many = self.among(1, self.most_suback), self.one((1, 1, 2, self.most_suback // 3))
+        return self.piece(*(self.suback(first + place) for place in range(many)))
+
     def broker_other(self):
         return self.piece(self.other_packet())
 
     def broker_cut(self):
         """Two lines, between which a packet is cut, and perhaps a third between them."""
-        whole = self.published() + self.puback()
+        whole = self.one((self.published(), self.suback(self.among(1, self.most_suback)))) + self.puback()
         place = self.among(1, len(whole) - 1)
         between = [self.line()] if self.chance(0.3) else []
         return '\n'.join([self.piece(whole[:place]), *between, self.piece(whole[place:])])
@@ -357,16 +441,19 @@ class World:
 
 def mixed(world):
     """A short script of everything."""
-    front = [world.policy(), world.up()] + [world.connect() for _ in range(2 * len(world.clients))]
+    front = [world.policy(), world.up()] + [world.connect() for _ in range(3 * len(world.clients))]
+    if world.chance(0.5):
+        front += [world.subscribe() for _ in range(world.among(2, 8))] + [world.take()]
     lines = front if world.chance(0.9) else []
-    lines += [world.line() for _ in range(world.among(26, 70))]
+    lines += [world.line() for _ in range(world.among(30, 80))]
     return lines + [world.one(UNREADABLE), 'up'] * world.chance(0.05)
 
 
 def heavy(world, lines, **weights):
     """A long script in which everything is granted: many lines of these kinds, and then some of all kinds."""
     world.is_generous = True
-    world.weights = {'policy': 0.3, 'register': 2, 'publish': 2, 'pingreq': 1, 'other_frame': 1, **weights}
+    world.weights = {'policy': 0.3, 'register': 2, 'publish': 2, 'pingreq': 1, 'subscribe': 1,
+                     'unsubscribe': 0.5, 'other_frame': 1, **weights}
     front = [world.policy(), world.up()] + [world.connect() for _ in range(6)]
     front += [world.line() for _ in range(lines)]
     world.weights = WEIGHTS
@@ -376,7 +463,20 @@ def heavy(world, lines, **weights):
 def many_ids(world):
     """A client is told as many names as it may have ids."""
     world.clients, world.addresses = world.clients[:1], world.addresses[:1]
-    return heavy(world, 300, fresh_register=40, register=10)
+    return heavy(world, 300, fresh_register=40, register=10, fresh_subscribe=5, subscribe=5, unsubscribe=5)
+
+
+def many_subscriptions(world):
+    """A client holds as many filters as it may, and gives some of them up."""
+    world.clients, world.addresses = world.clients[:1], world.addresses[:1]
+    return heavy(world, 250, fresh_subscribe=20, subscribe=5, unsubscribe=4, take=4, broker_suback=1, up=0.5)
+
+
+def many_holders(world):
+    """A few clients hold a few filters, the same ones mostly, which begin and end in any order."""
+    world.most_suback = 60
+    return heavy(world, 300, subscribe=30, unsubscribe=10, connect=4, take=8, up=2, down=0.5, broker_suback=5,
+                 policy=1)
 
 
 def many_in_flight(world):
@@ -385,8 +485,10 @@ def many_in_flight(world):
 
 
 def many_items(world):
-    """The outbox fills, with publishes and with what acknowledges the broker's."""
-    return heavy(world, 800, publish=40, source_publish=10, broker_publish=20, broker_puback=2)
+    """The outbox fills, with publishes, with what acknowledges the broker's and with subscriptions that begin
+    and end."""
+    return heavy(world, 1000, publish=40, source_publish=10, broker_publish=20, broker_puback=2, subscribe=20,
+                 unsubscribe=4, connect=1, policy=1)
 
 
 def many_clients(world):
@@ -404,23 +506,31 @@ def many_clients(world):
 
 
 def many_packet_ids(world):
-    """Packet ids begin anew, and skip those of a few publishes that are in flight from before. At last all
-    that is in flight is sent again, which is not in the order of the ids."""
+    """Packet ids begin anew, and skip those of a few publishes that are in flight and of a few SUBSCRIBEs
+    that are open from before; the first of these is that of the very filter that is asked for anew then. At
+    last all that is in flight is sent again, which is not in the order of the ids."""
     name, address = world.one(world.names), world.one(world.addresses)
-    policy = {'version': 1, 'clients': {'s1': [['#', ['pub']], [name, ['pub']]]}, 'topics': {'1': name}}
+    scope = [['#', ['pub', 'sub']], [name, ['pub']]]
+    policy = {'version': 1, 'clients': {'s1': scope}, 'topics': {'1': name}}
     lines = ['policy ' + json.dumps(policy), 'up', 'from %s 08040401000a7331' % address]
-    kept = {world.among(1, 40) for _ in range(6)} | {65_535}
-    count, batch = 0, 40
-    while count < 65_600:
-        lines += ['from %s 080c21000100%02x78' % (address, turn) for turn in range(batch)] + ['take']
-        ids = [place % 65_535 + 1 for place in range(count, count + batch)]
+    publish = 'from %s 080c21000100%%02x78' % address
+    subscribe, unsubscribe = ['from %s 07%s20000166%%02x' % (address, kind) for kind in ('12', '14')]
+    lines += [subscribe % it for it in range(0x31, 0x37)] + ['take', 'broker 90030002019003000502']
+    lines += [unsubscribe % 0x33, 'take']
+    kept = {world.among(8, 40) for _ in range(6)} | {65_535}
+    count, batch = 7, 40
+    while count < 65_535:
+        ids = range(count + 1, min(count + batch, 65_535) + 1)
+        lines += [publish % turn for turn in range(len(ids))] + ['take']
         lines.append('broker ' + b''.join(packet(0x40, number(it)) for it in ids if it not in kept).hex())
         count += batch
+    lines += [subscribe % 0x31] + [publish % turn for turn in range(batch)] + ['take']
     return lines + ['from %s 080c210001000178' % address, 'take', 'down', 'up', 'take', 'up']
 
 
 # The kinds of the first scripts; all others are mixed
-LONG = [many_ids] * 2 + [many_in_flight] * 3 + [many_items] * 3 + [many_clients, many_packet_ids]
+LONG = ([many_ids] * 2 + [many_subscriptions] * 2 + [many_holders] * 4 + [many_in_flight] * 3
+        + [many_items] * 3 + [many_clients, many_packet_ids])
 
 
 def script(seed):

@@ -1,5 +1,12 @@
 pub mod Found
 pub mod Asked
 pub mod Rows
+pub mod SubscribeRows
+pub mod OneEnds
+pub mod UnsubscribeRows
+pub mod Replacing
+pub mod Planning
+pub mod Refusing
+pub mod Releasing
 pub mod Connected
 pub mod RunLemmas

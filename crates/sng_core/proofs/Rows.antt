@@ -11,9 +11,10 @@ use Rattle.sng_frames.specs.declared.messages.publish.Publish.{Publish}
 use Rattle.sng_frames.specs.declared.frame.SnFrame.{SnFrame}
 use Rattle.sng_frames.specs.declared.frame.SnFrame.TheVariants as frame
 use Rattle.sng_grants.specs.declared.policy.Policy.{Policy}
-use Rattle.mqtt_frames.specs.declared.packet.Packet.{Packet}
 use Rattle.sng_outbox.specs.Sending.{publishes}
 use Rattle.sng_outbox.specs.declared.item.Item.{Item}
+use Rattle.sng_outbox.specs.declared.item.Publication.{Publication}
+use Rattle.sng_fan.specs.Subscriptions.{stands}
 use Rattle.sng_book.specs.declared.address.Address.{Address}
 use Rattle.sng_book.specs.declared.decision.Who.TheVariants as who
 use Rattle.sng_book.specs.declared.outcome.Denial.{Denial}
@@ -23,21 +24,22 @@ use Rattle.sng_book.specs.declared.outcome.Outcome.TheVariants.{Allowed, Denied}
 use Rattle.sng_book.specs.declared.out.Out.{Out}
 use Rattle.sng_book.specs.declared.out.Out.TheVariants.{Note}
 use Rattle.sng_book.specs.declared.decision.Decision.TheVariants as note
-use Rattle.sng_history.specs.Causes.{Cause, ByPing, ByLeave, BySource, ByRegister, ByPublish, ByUnsupported, ByBroken, ByPacket, ByUp, ByDown, ByTake, ByReplace, ByTick}
-use Rattle.sng_history.specs.Clients.{Around, Client, is_here, is_from, note_by}
-use Rattle.sng_history.specs.State.{State, around, later, item_asked, asked_by, link_moved, qos_of}
+use Rattle.sng_history.specs.Causes.{Request, ToPing, ToLeave, ToRegister, ToPublish, Untaken, Cause, ByMessage, BySource, ByBroken, ByUp, ByDown, ByTake, ByTick}
+use Rattle.sng_history.specs.Clients.{Client, is_here, is_from, start_by, note_by, notes_by}
+use Rattle.sng_history.specs.State.{State, around, later, item_asked, asked_by, qos_of, joined as joined_wanted}
+use Rattle.sng_history.specs.Standing.{Release}
 use Rattle.sng_history.specs.Verdicts.{ping_verdict, source_ask, room, may_ask, name_given, name_in, register_named as note_named, register_by as note_by_may, register_ask, publish_named as publish_note_named, publish_by as publish_note_by, publish_ask}
 use Rattle.sng_history.specs.Answers.{denied_note, refused}
-use Rattle.sng_history.specs.Whole.{frames_of, denied_by, replied, stranger_outs, any_from}
-use Rattle.sng_history.specs.Lawful.{fixed_for, exits_for}
-use Rattle.sng_history.specs.Steps.{outs_by, client_next, next_by, newcomers_for, waiting_next, asked_by_all}
-use Rattle.sng_history.specs.Links.{Link}
-use Rattle.sng_history.specs.Exits.{agains_of, resending}
-use Rattle.sng_history.specs.Packets.{answer_of, answer_outs}
+use Rattle.sng_history.specs.Whole.{frames_of, denied_to, replied, stranger_to, any_from}
+use Rattle.sng_history.specs.Lawful.{fixed_for}
+use Rattle.sng_history.specs.Steps.{outs_by, client_next, next_by, newcomers_for, asked_by_all, asked_for}
+use Rattle.sng_history.specs.Links.{Link, Wanted, resumed, filters_wanted, subscribe_sent, subscribes_sent}
+use Rattle.sng_history.specs.Exits.{agains_of, beginning}
 use Rattle.sng_history.specs.Good.{Good}
-use Rattle.sng_history.proofs.Says.{part_for, row_for}
+use Rattle.sng_history.proofs.Says.{part_for, row_for, drops_for}
+use Rattle.sng_history.proofs.Endless.{Endless, denied_stays, is_still, is_quiet, still_endless, endless_drops, endless_link, still_link}
 use Rattle.sng_history.proofs.GoodNext.{good_next}
-use Rattle.sng_core.specs.Forms.{place_at, client_at, at_place, moved_if, found_outs, heard_at, left_at, left_outs, ping_outs, pinged, unsupported_outs, broken_outs, joined, register_named, register_by, register_judged, register_reply, register_outs, register_next, publish_named as judged_named, publish_by as judged_by, publish_reply, publication_by, items_of, carried_judged, carried_outs, carried_items, carried, answered_next, taken_outs, taken_next, begun_next}
+use Rattle.sng_core.specs.Forms.{place_at, client_at, at_place, moved_if, found_outs, heard_at, left_at, left_outs, ping_outs, pinged, unsupported_outs, broken_outs, joined, register_named, register_by, register_judged, register_reply, register_outs, register_next, publish_named as judged_named, publish_by as judged_by, publish_reply, publication_by, items_of, carried_judged, carried_outs, carried_items, carried, taken_outs, taken_next, begun_next}
 use Rattle.sng_sessions.specs.Moving.{moved_at}
 use Rattle.sng_core.proofs.Found.{found_here, nobody_here, no_outs, one_outs, one_moves, no_moves, moved_same, any_here, none_here, read_at, within}
 
@@ -50,93 +52,127 @@ pub record Makes (s : State) (c : Cause) (row : List Out) (after : State) : Type
 pub makes : (s : State) (c : Cause) (outs : List Out) (after : State) → Good s → outs ≡ outs_by s c → after ≡ next_by s c → Makes s c outs after
 makes s c outs after good is to = record { outs = is; next = to; good = subst Good (sym to) (good_next s c good) }
 
--- a message of one client at the address; beside the clients it leads to this state
-pub record Message (s : State) (c : Cause) (from : Address) (base : State) : Type 0 where
+-- a message of one client at the address, which ends no subscription; beside the clients it leads to this state
+pub record Message (s : State) (c : Cause) (from : Address) (stranger : List Out) (base : State) : Type 0 where
   pub of : (y : Client) → is_from c y ≡ is_here y from
-  pub quiet : (y : Client) → is_here y from ≡ false → part_for s c y ≡ []
+  pub quiet : (y : Client) → is_here y from ≡ false → part_for s c [] y ≡ []
   pub same : (y : Client) → is_here y from ≡ false → client_next s c y ≡ y
-  pub outs : outs_by s c ≡ row_for s c
+  pub kept : drops_for s c ≡ []
+  pub outs : outs_by s c ≡ row_for s c stranger
   pub next : next_by s c ≡ record base { clients = map (client_next s c) (s.clients ++ []) }
 
 abbrev with_clients : State → List Client → State
 with_clients s xs = record s { clients = xs }
 
+-- the row of those at the address, or of nobody
+abbrev row_by : State → Cause → List Out → Bool → List Release → List Out
+row_by s c stranger any dropped = if any then flat_map (part_for s c dropped) s.clients else stranger
+
 -- it comes from this client
-pub found_row : (s : State) (c : Cause) (from : Address) (base : State) (i : ℕ) (x : Client) (outs : List Out) (g : Client → Client) → Good s → Message s c from base
-    → place_at from s.clients ≡ Some i → slice_get s.clients i ≡ Some x → (is_here x from ≡ true → outs ≡ part_for s c x) → (is_here x from ≡ true → g x ≡ client_next s c x)
+pub found_row : (s : State) (c : Cause) (from : Address) (stranger : List Out) (base : State) (i : ℕ) (x : Client) (outs : List Out) (g : Client → Client) → Good s → Message s c from stranger base
+    → place_at from s.clients ≡ Some i → slice_get s.clients i ≡ Some x → (is_here x from ≡ true → outs ≡ part_for s c [] x) → (is_here x from ≡ true → g x ≡ client_next s c x)
     → Makes s c outs (record base { clients = moved_at i g s.clients })
-found_row s c from base i x outs g good m at read is moves =
+found_row s c from stranger base i x outs g good m at read is moves =
     let here = found_here from s.clients i x at read in
     let any : any_from c s.clients ≡ true = any_here c from s.clients i x m.of read here in
     makes s c outs (record base { clients = moved_at i g s.clients }) good
-    (is here ∙ (sym (one_outs from (part_for s c) s.clients i x m.quiet good.places read here) ∙ (sym (ap (λ b. if b then flat_map (part_for s c) s.clients else stranger_outs c) any) ∙ sym m.outs)))
+    (is here
+    ∙ (sym (one_outs from (part_for s c []) s.clients i x m.quiet good.places read here)
+    ∙ (sym (ap (λ dropped. row_by s c stranger true dropped) m.kept) ∙ (sym (ap (λ b. row_by s c stranger b (drops_for s c)) any) ∙ sym m.outs))))
     (ap (with_clients base) (moved_same g (client_next s c) s.clients i x read (moves here)
     ∙ (sym (one_moves from (client_next s c) s.clients i x m.same good.places read here) ∙ sym (ap (map (client_next s c)) (append-nil s.clients)))) ∙ sym m.next)
 
 -- or from nobody
-pub stranger_row : (s : State) (c : Cause) (from : Address) (base : State) → Good s → Message s c from base → place_at from s.clients ≡ None
-    → Makes s c (stranger_outs c) (record base { clients = s.clients })
-stranger_row s c from base good m at =
+pub stranger_row : (s : State) (c : Cause) (from : Address) (stranger : List Out) (base : State) → Good s → Message s c from stranger base → place_at from s.clients ≡ None
+    → Makes s c stranger (record base { clients = s.clients })
+stranger_row s c from stranger base good m at =
     let none = nobody_here from s.clients at in
     let any : any_from c s.clients ≡ false = none_here c from s.clients m.of none in
-    makes s c (stranger_outs c) (record base { clients = s.clients }) good
-    (sym (ap (λ b. if b then flat_map (part_for s c) s.clients else stranger_outs c) any) ∙ sym m.outs)
+    makes s c stranger (record base { clients = s.clients }) good
+    (sym (ap (λ b. row_by s c stranger b (drops_for s c)) any) ∙ sym m.outs)
     (ap (with_clients base) (sym (no_moves from (client_next s c) s.clients m.same none) ∙ sym (ap (map (client_next s c)) (append-nil s.clients))) ∙ sym m.next)
 
 -- from whomever it comes
-pub message_row : (s : State) (c : Cause) (from : Address) (f : Client → List Out) (g : Client → Client) (place : Option ℕ) → Good s → Message s c from s → place_at from s.clients ≡ place
-    → ((x : Client) → is_here x from ≡ true → f x ≡ part_for s c x) → ((x : Client) → is_here x from ≡ true → g x ≡ client_next s c x)
-    → Makes s c (found_outs c f (at_place s.clients place)) (record s { clients = moved_if place g s.clients })
-message_row s c from f g None good m at is moves = stranger_row s c from s good m at
-message_row s c from f g (Some i) good m at is moves =
+pub message_row : (s : State) (c : Cause) (from : Address) (stranger : List Out) (f : Client → List Out) (g : Client → Client) (place : Option ℕ) → Good s → Message s c from stranger s
+    → place_at from s.clients ≡ place → ((x : Client) → is_here x from ≡ true → f x ≡ part_for s c [] x) → ((x : Client) → is_here x from ≡ true → g x ≡ client_next s c x)
+    → Makes s c (found_outs stranger f (at_place s.clients place)) (record s { clients = moved_if place g s.clients })
+message_row s c from stranger f g None good m at is moves = stranger_row s c from stranger s good m at
+message_row s c from stranger f g (Some i) good m at is moves =
     let x = client_at s.clients i in
-    found_row s c from s i x (f x) g good m at (read_at s.clients i (within from s.clients i at)) (is x) (moves x)
+    found_row s c from stranger s i x (f x) g good m at (read_at s.clients i (within from s.clients i at)) (is x) (moves x)
 
 -- ---- each kind of message
 
-pub ping_message : (s : State) (from : Address) (client : Option (List ℕ)) → Message s (ByPing from client) from s
-ping_message s from client = record { of = λ y. refl; quiet = λ y off. rw off refl; same = λ y off. rw off refl; outs = refl; next = refl }
+abbrev with_link : State → Link → State
+with_link s link = record s { link = link }
 
-pub leave_message : (s : State) (from : Address) → Message s (ByLeave from) from s
-leave_message s from = record { of = λ y. refl; quiet = λ y off. rw off refl; same = λ y off. rw off refl; outs = refl; next = refl }
+-- one that ends nothing
+pub request_message : (s : State) (from : Address) (request : Request) (link : Link) → Endless s (ByMessage from request) → (next_by s (ByMessage from request)).link ≡ link
+    → Message s (ByMessage from request) from (stranger_to from request) (record s { link = link })
+request_message s from request link e is =
+    let c = ByMessage from request in
+    record {
+      of = λ y. refl;
+      quiet = λ y off. rw off refl;
+      same = λ y off. rw off refl;
+      kept = endless_drops s c e;
+      outs = refl;
+      next = ap (λ l. let t : State = record s { link = l; clients = map (client_next s c) (s.clients ++ []) } in t) is;
+    }
 
-pub register_message : (s : State) (from : Address) (r : Register) → Message s (ByRegister from r) from s
-register_message s from r = record { of = λ y. refl; quiet = λ y off. rw off refl; same = λ y off. rw off refl; outs = refl; next = refl }
+-- one that asks for nothing, either
+pub still_message : (s : State) (from : Address) (request : Request) → Good s → is_still request ≡ true → is_quiet request ≡ true → Message s (ByMessage from request) from (stranger_to from request) s
+still_message s from request good still quiet =
+    let e = still_endless s from request still in request_message s from request s.link e (still_link s from request good e quiet)
 
--- what a PUBLISH of a client adds to what waits
-abbrev published : State → Address → Publish → List Item
-published s from p = flat_map (λ x. asked_by_all p (fixed_for s (ByPublish from p) x)) s.clients
+abbrev broken_from : Address → Denial → List Out
+broken_from from rule = Note (note.Frame (who.Address from) (Denied rule)) ∷ []
 
-pub publish_message : (s : State) (from : Address) (p : Publish) → Message s (ByPublish from p) from (joined s (published s from p))
-publish_message s from p = record { of = λ y. refl; quiet = λ y off. rw off refl; same = λ y off. rw off refl; outs = refl; next = refl }
+broken_same : (s : State) (from : Address) (rule : Denial) (x : Client) (here : Bool)
+    → (let a = around s (ByBroken from rule) in (notes_by a (if here then note.Frame (who.Client x.id) (Denied rule) ∷ [] else []) (start_by a x)).filters ≡ x.filters)
+broken_same s from rule x true = refl
+broken_same s from rule x false = refl
 
-pub unsupported_message : (s : State) (from : Address) (message : SnFrame) → Message s (ByUnsupported from message) from s
-unsupported_message s from message = record { of = λ y. refl; quiet = λ y off. rw off refl; same = λ y off. rw off refl; outs = refl; next = refl }
-
-pub broken_message : (s : State) (from : Address) (rule : Denial) → Message s (ByBroken from rule) from s
-broken_message s from rule = record { of = λ y. refl; quiet = λ y off. rw off refl; same = λ y off. rw off refl; outs = refl; next = refl }
+pub broken_message : (s : State) (from : Address) (rule : Denial) → Message s (ByBroken from rule) from (broken_from from rule) s
+broken_message s from rule =
+    let c = ByBroken from rule in
+    record {
+      of = λ y. refl;
+      quiet = λ y off. rw off refl;
+      same = λ y off. rw off refl;
+      kept = endless_drops s c (refl, λ x text is. ap (λ held. stands held text) (broken_same s from rule x (is_here x from)) ∙ is);
+      outs = refl;
+      next = refl;
+    }
 
 -- ---- a DISCONNECT
 
 pub leave_row : (s : State) (from : Address) → Good s
-    → Makes s (ByLeave from) (found_outs (ByLeave from) left_outs (at_place s.clients (place_at from s.clients))) (record s { clients = moved_if (place_at from s.clients) (left_at s.clock) s.clients })
+    → Makes s (ByMessage from ToLeave) (found_outs (stranger_to from ToLeave) left_outs (at_place s.clients (place_at from s.clients)))
+    (record s { clients = moved_if (place_at from s.clients) (left_at s.clock) s.clients })
 leave_row s from good =
-    message_row s (ByLeave from) from left_outs (left_at s.clock) (place_at from s.clients) good (leave_message s from) refl (λ x here. rw here refl) (λ x here. rw here refl)
+    message_row s (ByMessage from ToLeave) from (stranger_to from ToLeave) left_outs (left_at s.clock) (place_at from s.clients) good (still_message s from ToLeave good refl refl) refl
+    (λ x here. rw here refl) (λ x here. rw here refl)
 
 -- ---- a PINGREQ
 
-ping_outs_by : (s : State) (from : Address) (client : Option (List ℕ)) (x : Client) (o : Outcome) → ping_verdict client x ≡ o → is_here x from ≡ true → ping_outs from client x o ≡ part_for s (ByPing from client) x
+ping_outs_by : (s : State) (from : Address) (client : Option (List ℕ)) (x : Client) (o : Outcome) → ping_verdict client x ≡ o → is_here x from ≡ true
+    → ping_outs client x o ≡ part_for s (ByMessage from (ToPing client)) [] x
 ping_outs_by s from client x Allowed is here = rw (here, is) refl
-ping_outs_by s from client x (Denied rule) is here = rw (here, is) (ap (λ more. Note (note.Frame (who.Client x.id) (Denied rule)) ∷ more) (sym (append-nil (denied_by (ByPing from client) x.address rule))))
+ping_outs_by s from client x (Denied rule) is here =
+    rw (here, is) (ap (λ more. Note (note.Frame (who.Client x.id) (Denied rule)) ∷ more) (sym (append-nil (denied_to (ToPing client) x.address rule))))
 
-ping_next_by : (s : State) (from : Address) (client : Option (List ℕ)) (x : Client) (o : Outcome) → ping_verdict client x ≡ o → is_here x from ≡ true → heard_at s.clock x ≡ client_next s (ByPing from client) x
+ping_next_by : (s : State) (from : Address) (client : Option (List ℕ)) (x : Client) (o : Outcome) → ping_verdict client x ≡ o → is_here x from ≡ true
+    → heard_at s.clock x ≡ client_next s (ByMessage from (ToPing client)) x
 ping_next_by s from client x Allowed is here = rw (here, is) refl
 ping_next_by s from client x (Denied rule) is here = rw (here, is) refl
 
 pub ping_row : (s : State) (from : Address) (client : Option (List ℕ)) → Good s
-    → Makes s (ByPing from client) (found_outs (ByPing from client) (pinged from client) (at_place s.clients (place_at from s.clients))) (record s { clients = moved_if (place_at from s.clients) (heard_at s.clock) s.clients })
+    → Makes s (ByMessage from (ToPing client)) (found_outs (stranger_to from (ToPing client)) (pinged client) (at_place s.clients (place_at from s.clients)))
+    (record s { clients = moved_if (place_at from s.clients) (heard_at s.clock) s.clients })
 ping_row s from client good =
-    message_row s (ByPing from client) from (pinged from client) (heard_at s.clock) (place_at from s.clients) good (ping_message s from client) refl
+    message_row s (ByMessage from (ToPing client)) from (stranger_to from (ToPing client)) (pinged client) (heard_at s.clock) (place_at from s.clients) good
+    (still_message s from (ToPing client) good refl refl) refl
     (λ x here. ping_outs_by s from client x (ping_verdict client x) refl here) (λ x here. ping_next_by s from client x (ping_verdict client x) refl here)
 
 -- ---- a REGISTER
@@ -157,31 +193,31 @@ register_said : (policy : Policy) (x : Client) (text : List ℕ)
 register_said policy x text = said_by policy x text (may_ask policy x)
 
 register_replied : (clock : ℕ) (from : Address) (r : Register) (x : Client) (name : Option (List ℕ)) (o : Outcome)
-    → register_reply r.msg_id x name o ≡ replied (ByRegister from r) (heard_at clock x) name o
+    → register_reply r.msg_id x name o ≡ replied (ByMessage from (ToRegister r)) (heard_at clock x) name o
 register_replied clock from r x (Some name) Allowed = refl
 register_replied clock from r x None Allowed = refl
 register_replied clock from r x (Some name) (Denied rule) = refl
 register_replied clock from r x None (Denied rule) = refl
 
-register_part : (s : State) (from : Address) (r : Register) (x : Client) → is_here x from ≡ true → register_outs s.policy r.msg_id r.name x ≡ part_for s (ByRegister from r) x
+register_part : (s : State) (from : Address) (r : Register) (x : Client) → is_here x from ≡ true → register_outs s.policy r.msg_id r.name x ≡ part_for s (ByMessage from (ToRegister r)) [] x
 register_part s from r x here =
-    let a = around s (ByRegister from r) in
+    let a = around s (ByMessage from (ToRegister r)) in
     let y = heard_at s.clock x in
     let j = register_judged s.policy x r.name in
-    rw here (ap (λ outs. Note (note.Register (who.Client x.id) j.name j.outcome) ∷ outs) (register_replied s.clock from r x j.name j.outcome ∙ sym (append-nil (replied (ByRegister from r) y j.name j.outcome)))
-    ∙ ap (λ said. Note said ∷ (frames_of a y said ++ [])) (sym (register_said s.policy x r.name)))
+    rw here (ap (λ outs. Note (note.Register (who.Client x.id) j.name j.outcome) ∷ outs) (register_replied s.clock from r x j.name j.outcome ∙ sym (append-nil (replied (ByMessage from (ToRegister r)) y j.name j.outcome)))
+    ∙ ap (λ said. Note said ∷ (frames_of a [] y said ++ [])) (sym (register_said s.policy x r.name)))
 
-register_moves : (s : State) (from : Address) (r : Register) (x : Client) → is_here x from ≡ true → register_next s.policy s.clock r.name x ≡ client_next s (ByRegister from r) x
+register_moves : (s : State) (from : Address) (r : Register) (x : Client) → is_here x from ≡ true → register_next s.policy s.clock r.name x ≡ client_next s (ByMessage from (ToRegister r)) x
 register_moves s from r x here =
-    let a = around s (ByRegister from r) in
+    let a = around s (ByMessage from (ToRegister r)) in
     rw here (ap (λ said. note_by a said (heard_at s.clock x)) (sym (register_said s.policy x r.name)))
 
 pub register_row : (s : State) (from : Address) (r : Register) → Good s
-    → Makes s (ByRegister from r) (found_outs (ByRegister from r) (register_outs s.policy r.msg_id r.name) (at_place s.clients (place_at from s.clients)))
+    → Makes s (ByMessage from (ToRegister r)) (found_outs (stranger_to from (ToRegister r)) (register_outs s.policy r.msg_id r.name) (at_place s.clients (place_at from s.clients)))
     (record s { clients = moved_if (place_at from s.clients) (register_next s.policy s.clock r.name) s.clients })
 register_row s from r good =
-    message_row s (ByRegister from r) from (register_outs s.policy r.msg_id r.name) (register_next s.policy s.clock r.name) (place_at from s.clients) good (register_message s from r) refl
-    (register_part s from r) (register_moves s from r)
+    message_row s (ByMessage from (ToRegister r)) from (stranger_to from (ToRegister r)) (register_outs s.policy r.msg_id r.name) (register_next s.policy s.clock r.name) (place_at from s.clients) good
+    (still_message s from (ToRegister r) good refl refl) refl (register_part s from r) (register_moves s from r)
 
 -- ---- a PUBLISH of a client
 
@@ -199,21 +235,21 @@ publish_said : (s : State) (x : Client) (p : Publish) → let j = carried_judged
 publish_said s x p = published_by s x p (may_ask s.policy x)
 
 publish_replied : (clock : ℕ) (from : Address) (p : Publish) (x : Client) (name : Option (List ℕ)) (o : Outcome)
-    → publish_reply x.address p o ≡ replied (ByPublish from p) (heard_at clock x) name o
+    → publish_reply x.address p o ≡ replied (ByMessage from (ToPublish p)) (heard_at clock x) name o
 publish_replied clock from p x name Allowed = refl
 publish_replied clock from p x name (Denied rule) = refl
 
-publish_part : (s : State) (from : Address) (p : Publish) (x : Client) → is_here x from ≡ true → carried_outs s p x ≡ part_for s (ByPublish from p) x
+publish_part : (s : State) (from : Address) (p : Publish) (x : Client) → is_here x from ≡ true → carried_outs s p x ≡ part_for s (ByMessage from (ToPublish p)) [] x
 publish_part s from p x here =
-    let a = around s (ByPublish from p) in
+    let a = around s (ByMessage from (ToPublish p)) in
     let y = heard_at s.clock x in
     let j = carried_judged s p x in
-    rw here (ap (λ outs. Note (note.Publish (who.Client x.id) j.name j.outcome) ∷ outs) (publish_replied s.clock from p x j.name j.outcome ∙ sym (append-nil (replied (ByPublish from p) y j.name j.outcome)))
-    ∙ ap (λ said. Note said ∷ (frames_of a y said ++ [])) (sym (publish_said s x p)))
+    rw here (ap (λ outs. Note (note.Publish (who.Client x.id) j.name j.outcome) ∷ outs) (publish_replied s.clock from p x j.name j.outcome ∙ sym (append-nil (replied (ByMessage from (ToPublish p)) y j.name j.outcome)))
+    ∙ ap (λ said. Note said ∷ (frames_of a [] y said ++ [])) (sym (publish_said s x p)))
 
-publish_moves : (s : State) (from : Address) (p : Publish) (x : Client) → is_here x from ≡ true → heard_at s.clock x ≡ client_next s (ByPublish from p) x
+publish_moves : (s : State) (from : Address) (p : Publish) (x : Client) → is_here x from ≡ true → heard_at s.clock x ≡ client_next s (ByMessage from (ToPublish p)) x
 publish_moves s from p x here =
-    let a = around s (ByPublish from p) in
+    let a = around s (ByMessage from (ToPublish p)) in
     rw here (ap (λ said. note_by a said (heard_at s.clock x)) (sym (publish_said s x p)))
 
 items_asked : (id : List ℕ) (p : Publish) (name : Option (List ℕ)) (o : Outcome) → items_of (publication_by id p name o) ≡ item_asked (who.Client id) name o p
@@ -222,44 +258,57 @@ items_asked id p (Some name) (Denied rule) = refl
 items_asked id p None Allowed = refl
 items_asked id p None (Denied rule) = refl
 
+-- what a PUBLISH of a client adds to what waits
+abbrev published : State → Address → Publish → List Item
+published s from p = asked_for s (ByMessage from (ToPublish p))
+
 -- what waits is joined by the publish of the client that is there
 publish_items : (s : State) (from : Address) (p : Publish) (i : ℕ) (x : Client) → Good s → slice_get s.clients i ≡ Some x → is_here x from ≡ true → published s from p ≡ carried_items s p x
 publish_items s from p i x good read here =
-    let c = ByPublish from p in
+    let c = ByMessage from (ToPublish p) in
     let j = carried_judged s p x in
-    one_outs from (λ y. asked_by_all p (fixed_for s c y)) s.clients i x (λ y off. rw off refl) good.places read here
-    ∙ (rw here (append-nil (asked_by (publish_ask s x p) p)) ∙ (ap (λ said. asked_by said p) (publish_said s x p) ∙ sym (items_asked x.id p j.name j.outcome)))
+    one_outs from (λ y. asked_by_all (Some p) (fixed_for s c y)) s.clients i x (λ y off. rw off refl) good.places read here
+    ∙ (rw here (append-nil (asked_by (Some p) (publish_ask s x p))) ∙ (ap (asked_by (Some p)) (publish_said s x p) ∙ sym (items_asked x.id p j.name j.outcome)))
 
 -- nobody adds anything
 publish_nothing : (s : State) (from : Address) (p : Publish) → place_at from s.clients ≡ None → published s from p ≡ []
-publish_nothing s from p at = no_outs from (λ y. asked_by_all p (fixed_for s (ByPublish from p) y)) s.clients (λ y off. rw off refl) (nobody_here from s.clients at)
+publish_nothing s from p at = no_outs from (λ y. asked_by_all (Some p) (fixed_for s (ByMessage from (ToPublish p)) y)) s.clients (λ y off. rw off refl) (nobody_here from s.clients at)
 
-abbrev carried_to : State → List Item → List Client → State
-carried_to s items xs = record (joined s items) { clients = xs }
+-- it wants no filter
+joined_publish : (wanted : List Wanted) (publication : Option Publication) → joined_wanted wanted (items_of publication) ≡ wanted
+joined_publish wanted None = refl
+joined_publish wanted (Some publication) = refl
+
+publish_link : (s : State) (from : Address) (p : Publish) (items : List Item) → Good s → published s from p ≡ items → joined_wanted s.link.wanted items ≡ s.link.wanted
+    → (next_by s (ByMessage from (ToPublish p))).link ≡ record s.link { waiting = s.link.waiting ++ items }
+publish_link s from p items good is wanted =
+    endless_link s from (ToPublish p) good (still_endless s from (ToPublish p) refl) ∙ (rw (is, wanted) refl)
 
 carried_found : (s : State) (from : Address) (p : Publish) (place : Option ℕ) → Good s → place_at from s.clients ≡ place
-    → Makes s (ByPublish from p) (found_outs (ByPublish from p) (carried_outs s p) (at_place s.clients place)) (carried s p place)
+    → Makes s (ByMessage from (ToPublish p)) (found_outs (stranger_to from (ToPublish p)) (carried_outs s p) (at_place s.clients place)) (carried s p place)
 carried_found s from p None good at =
-    subst (Makes s (ByPublish from p) (stranger_outs (ByPublish from p)))
-    (ap (λ items. carried_to s items s.clients) (publish_nothing s from p at) ∙ ap (λ items. record s { link = record s.link { waiting = items } }) (append-nil s.link.waiting))
-    (stranger_row s (ByPublish from p) from (joined s (published s from p)) good (publish_message s from p) at)
+    let e = still_endless s from (ToPublish p) refl in
+    let same : (next_by s (ByMessage from (ToPublish p))).link ≡ s.link =
+    publish_link s from p [] good (publish_nothing s from p at) refl ∙ ap (λ items. let l : Link = record s.link { waiting = items } in l) (append-nil s.link.waiting) in
+    stranger_row s (ByMessage from (ToPublish p)) from (stranger_to from (ToPublish p)) s good (request_message s from (ToPublish p) s.link e same) at
 carried_found s from p (Some i) good at =
     let x = client_at s.clients i in
     let read : slice_get s.clients i ≡ Some x = read_at s.clients i (within from s.clients i at) in
     let here = found_here from s.clients i x at read in
-    subst (Makes s (ByPublish from p) (carried_outs s p x))
-    (ap (λ items. carried_to s items (moved_at i (heard_at s.clock) s.clients)) (publish_items s from p i x good read here))
-    (found_row s (ByPublish from p) from (joined s (published s from p)) i x (carried_outs s p x) (heard_at s.clock) good (publish_message s from p) at read
-    (publish_part s from p x) (publish_moves s from p x))
+    let j = carried_judged s p x in
+    let e = still_endless s from (ToPublish p) refl in
+    let link = publish_link s from p (carried_items s p x) good (publish_items s from p i x good read here) (joined_publish s.link.wanted (publication_by x.id p j.name j.outcome)) in
+    found_row s (ByMessage from (ToPublish p)) from (stranger_to from (ToPublish p)) (joined s (carried_items s p x)) i x (carried_outs s p x) (heard_at s.clock) good
+    (request_message s from (ToPublish p) (record s.link { waiting = s.link.waiting ++ carried_items s p x }) e link) at read (publish_part s from p x) (publish_moves s from p x)
 
 pub publish_row : (s : State) (from : Address) (p : Publish) → Good s
-    → Makes s (ByPublish from p) (found_outs (ByPublish from p) (carried_outs s p) (at_place s.clients (place_at from s.clients))) (carried s p (place_at from s.clients))
+    → Makes s (ByMessage from (ToPublish p)) (found_outs (stranger_to from (ToPublish p)) (carried_outs s p) (at_place s.clients (place_at from s.clients))) (carried s p (place_at from s.clients))
 publish_row s from p good = carried_found s from p (place_at from s.clients) good refl
 
 -- ---- a message that is not taken
 
 denied_frames : (s : State) (from : Address) (all : SnFrame) (x : Client) (message : SnFrame)
-    → frames_of (around s (ByUnsupported from all)) x (denied_note message (who.Client x.id) NotSupported) ≡ refused x.address all NotSupported
+    → frames_of (around s (ByMessage from (Untaken all))) [] x (denied_note message (who.Client x.id) NotSupported) ≡ refused x.address all NotSupported
 denied_frames s from all x (frame.Connect connect) = refl
 denied_frames s from all x (frame.ConnectAck code) = refl
 denied_frames s from all x frame.WillTopicRequest = refl
@@ -285,45 +334,20 @@ denied_frames s from all x (frame.WillTopicResponse code) = refl
 denied_frames s from all x (frame.WillMessageUpdate message) = refl
 denied_frames s from all x (frame.WillMessageResponse code) = refl
 
-denied_stays : (a : Around) (x : Client) (id : List ℕ) (message : SnFrame) → note_by a (denied_note message (who.Client id) NotSupported) x ≡ x
-denied_stays a x id (frame.Connect connect) = refl
-denied_stays a x id (frame.ConnectAck code) = refl
-denied_stays a x id frame.WillTopicRequest = refl
-denied_stays a x id (frame.WillTopic topic) = refl
-denied_stays a x id frame.WillMessageRequest = refl
-denied_stays a x id (frame.WillMessage message) = refl
-denied_stays a x id (frame.Register register) = refl
-denied_stays a x id (frame.RegisterAck answer) = refl
-denied_stays a x id (frame.Publish p) = refl
-denied_stays a x id (frame.PublishAck answer) = refl
-denied_stays a x id (frame.PublishComplete packet) = refl
-denied_stays a x id (frame.PublishReceived packet) = refl
-denied_stays a x id (frame.PublishRelease packet) = refl
-denied_stays a x id (frame.Subscribe request) = refl
-denied_stays a x id (frame.SubscribeAck answer) = refl
-denied_stays a x id (frame.Unsubscribe request) = refl
-denied_stays a x id (frame.UnsubscribeAck packet) = refl
-denied_stays a x id (frame.PingRequest client) = refl
-denied_stays a x id frame.PingResponse = refl
-denied_stays a x id (frame.Disconnect duration) = refl
-denied_stays a x id (frame.WillTopicUpdate topic) = refl
-denied_stays a x id (frame.WillTopicResponse code) = refl
-denied_stays a x id (frame.WillMessageUpdate message) = refl
-denied_stays a x id (frame.WillMessageResponse code) = refl
-
-unsupported_part : (s : State) (from : Address) (message : SnFrame) (x : Client) → is_here x from ≡ true → unsupported_outs message x ≡ part_for s (ByUnsupported from message) x
+unsupported_part : (s : State) (from : Address) (message : SnFrame) (x : Client) → is_here x from ≡ true → unsupported_outs message x ≡ part_for s (ByMessage from (Untaken message)) [] x
 unsupported_part s from message x here =
     rw here (ap (λ more. Note (denied_note message (who.Client x.id) NotSupported) ∷ more)
     (sym (append-nil (refused x.address message NotSupported)) ∙ ap (λ outs. outs ++ []) (sym (denied_frames s from message (heard_at s.clock x) message))))
 
-unsupported_next : (s : State) (from : Address) (message : SnFrame) (x : Client) → is_here x from ≡ true → heard_at s.clock x ≡ client_next s (ByUnsupported from message) x
-unsupported_next s from message x here = rw here (sym (denied_stays (around s (ByUnsupported from message)) (heard_at s.clock x) x.id message))
+unsupported_next : (s : State) (from : Address) (message : SnFrame) (x : Client) → is_here x from ≡ true → heard_at s.clock x ≡ client_next s (ByMessage from (Untaken message)) x
+unsupported_next s from message x here = rw here (sym (denied_stays (around s (ByMessage from (Untaken message))) (heard_at s.clock x) x.id message))
 
 pub unsupported_row : (s : State) (from : Address) (message : SnFrame) → Good s
-    → Makes s (ByUnsupported from message) (found_outs (ByUnsupported from message) (unsupported_outs message) (at_place s.clients (place_at from s.clients))) (record s { clients = moved_if (place_at from s.clients) (heard_at s.clock) s.clients })
+    → Makes s (ByMessage from (Untaken message)) (found_outs (stranger_to from (Untaken message)) (unsupported_outs message) (at_place s.clients (place_at from s.clients)))
+    (record s { clients = moved_if (place_at from s.clients) (heard_at s.clock) s.clients })
 unsupported_row s from message good =
-    message_row s (ByUnsupported from message) from (unsupported_outs message) (heard_at s.clock) (place_at from s.clients) good (unsupported_message s from message) refl
-    (unsupported_part s from message) (unsupported_next s from message)
+    message_row s (ByMessage from (Untaken message)) from (stranger_to from (Untaken message)) (unsupported_outs message) (heard_at s.clock) (place_at from s.clients) good
+    (still_message s from (Untaken message) good refl refl) refl (unsupported_part s from message) (unsupported_next s from message)
 
 -- ---- a datagram that is not a message
 
@@ -339,10 +363,12 @@ moved_nobody : (xs : List Client) (place : Option ℕ) → moved_if place same_c
 moved_nobody xs None = refl
 moved_nobody xs (Some i) = moved_none xs i
 
-pub broken_row : (s : State) (from : Address) (rule : Denial) → Good s → Makes s (ByBroken from rule) (found_outs (ByBroken from rule) (broken_outs rule) (at_place s.clients (place_at from s.clients))) s
+pub broken_row : (s : State) (from : Address) (rule : Denial) → Good s
+    → Makes s (ByBroken from rule) (found_outs (broken_from from rule) (broken_outs rule) (at_place s.clients (place_at from s.clients))) s
 broken_row s from rule good =
-    subst (Makes s (ByBroken from rule) (found_outs (ByBroken from rule) (broken_outs rule) (at_place s.clients (place_at from s.clients)))) (ap (with_clients s) (moved_nobody s.clients (place_at from s.clients)))
-    (message_row s (ByBroken from rule) from (broken_outs rule) same_client (place_at from s.clients) good (broken_message s from rule) refl (λ x here. rw here refl) (λ x here. rw here refl))
+    subst (Makes s (ByBroken from rule) (found_outs (broken_from from rule) (broken_outs rule) (at_place s.clients (place_at from s.clients))))
+    (ap (with_clients s) (moved_nobody s.clients (place_at from s.clients)))
+    (message_row s (ByBroken from rule) from (broken_from from rule) (broken_outs rule) same_client (place_at from s.clients) good (broken_message s from rule) refl (λ x here. rw here refl) (λ x here. rw here refl))
 
 -- ---- what no client is moved by
 
@@ -363,19 +389,23 @@ abbrev with_all : State → List Item → List Client → State
 with_all s items xs = record s { link = record s.link { waiting = items }; clients = xs }
 
 pub source_row : (s : State) (from : Address) (p : Publish) → Good s
-    → Makes s (BySource from p) (Note (source_ask s from.ip p) ∷ []) (record s { link = record s.link { waiting = s.link.waiting ++ asked_by (source_ask s from.ip p) p } })
+    → Makes s (BySource from p) (Note (source_ask s from.ip p) ∷ []) (record s { link = record s.link { waiting = s.link.waiting ++ asked_by (Some p) (source_ask s from.ip p) } })
 source_row s from p good =
-    makes s (BySource from p) (Note (source_ask s from.ip p) ∷ []) (record s { link = record s.link { waiting = s.link.waiting ++ asked_by (source_ask s from.ip p) p } }) good refl
-    (ap (with_all s (s.link.waiting ++ asked_by (source_ask s from.ip p) p)) (sym (idle_clients s (BySource from p) (record { none = refl; same = λ x. refl }))))
+    makes s (BySource from p) (Note (source_ask s from.ip p) ∷ []) (record s { link = record s.link { waiting = s.link.waiting ++ asked_by (Some p) (source_ask s from.ip p) } }) good refl
+    (ap (with_all s (s.link.waiting ++ asked_by (Some p) (source_ask s from.ip p))) (sym (idle_clients s (BySource from p) (record { none = refl; same = λ x. refl }))))
 
-pub packet_row : (s : State) (p : Packet) → Good s → Makes s (ByPacket p) (answer_outs s.up s.link (answer_of p)) (answered_next s (answer_of p))
-packet_row s p good =
-    makes s (ByPacket p) (answer_outs s.up s.link (answer_of p)) (answered_next s (answer_of p)) good refl
-    (ap (with_clients (answered_next s (answer_of p))) (sym (idle_clients s (ByPacket p) (record { none = refl; same = λ x. refl }))))
+subscribes_waiting : (link : Link) (filters : List (List ℕ)) → (subscribes_sent link filters).waiting ≡ link.waiting
+subscribes_waiting link [] = refl
+subscribes_waiting link (filter ∷ filters) = subscribes_waiting (subscribe_sent link filter) filters
 
-pub up_row : (s : State) → Good s → Makes s ByUp (resending s.link.in_flight (agains_of s.policy s.link.in_flight)) (begun_next s)
+-- what waits is the same before what goes out and after it
+pub begun : (s : State) (link : Link) → link ≡ subscribes_sent (resumed s.link s.clock (agains_of s.policy s.link.in_flight)) (filters_wanted s.link)
+    → (let after : State = record s { up = true; link = record link { waiting = if s.up then publishes link.waiting else link.waiting } } in after) ≡ begun_next s
+begun s link is = rw (is, subscribes_waiting (resumed s.link s.clock (agains_of s.policy s.link.in_flight)) (filters_wanted s.link)) refl
+
+pub up_row : (s : State) → Good s → Makes s ByUp (beginning s.link s.clock (agains_of s.policy s.link.in_flight)) (begun_next s)
 up_row s good =
-    makes s ByUp (resending s.link.in_flight (agains_of s.policy s.link.in_flight)) (begun_next s) good refl
+    makes s ByUp (beginning s.link s.clock (agains_of s.policy s.link.in_flight)) (begun_next s) good refl
     (ap (with_clients (begun_next s)) (sym (idle_clients s ByUp (record { none = refl; same = λ x. refl }))))
 
 pub down_row : (s : State) → Good s → Makes s ByDown [] (record s { up = false; link = record s.link { waiting = publishes s.link.waiting } })
@@ -387,12 +417,9 @@ take_outs : (s : State) (up : Bool) → s.up ≡ up → taken_outs s ≡ outs_by
 take_outs s true is = rw is refl
 take_outs s false is = rw is refl
 
-take_link : (s : State) (up : Bool) → s.up ≡ up → (taken_next s).link ≡ record (link_moved s ByTake (exits_for s ByTake)) { waiting = waiting_next s ByTake }
+take_link : (s : State) (up : Bool) → s.up ≡ up → (taken_next s).link ≡ (next_by s ByTake).link
 take_link s true is = rw is refl
 take_link s false is = rw is refl
-
-abbrev with_link : State → Link → State
-with_link s link = record s { link = link }
 
 pub take_row : (s : State) → Good s → Makes s ByTake (taken_outs s) (taken_next s)
 take_row s good =
@@ -400,10 +427,6 @@ take_row s good =
     (take_outs s s.up refl)
     (ap (with_clients (taken_next s)) (sym (idle_clients s ByTake (record { none = refl; same = λ x. refl })))
     ∙ ap (λ link. with_link (with_clients s (map (client_next s ByTake) (s.clients ++ []))) link) (take_link s s.up refl))
-
-pub replace_row : (s : State) (policy : Policy) → Good s → Makes s (ByReplace policy) [] (record s { policy = policy })
-replace_row s policy good =
-    makes s (ByReplace policy) [] (record s { policy = policy }) good refl (ap (with_clients (record s { policy = policy })) (sym (idle_clients s (ByReplace policy) (record { none = refl; same = λ x. refl }))))
 
 pub tick_row : (s : State) (clock : ℕ) → Good s → Makes s (ByTick clock) [] (record s { clock = later s.clock clock })
 tick_row s clock good =

@@ -1,9 +1,6 @@
 -- What code lets out for one client at its place, with no notes and no search.
-use Rattle.std.specs.Prelude.{ℕ, true, ◌&&◌, not, List, [], ◌∷◌, ◌++◌, Option, Some, None, Ok, Err, if◌then◌else◌}
+use Rattle.std.specs.Prelude.{ℕ, true, List, [], ◌∷◌, ◌++◌, Option, Some, None, Ok, Err, if◌then◌else◌}
 use Rattle.std.specs.declared.result.Result.{Result}
-use Rattle.std.specs.Str.{bytes_eq}
-use Rattle.sng_states.specs.States.{has_session}
-use Rattle.sng_frames.specs.declared.return_code.TheConstants.ReturnCode.{ACCEPTED}
 use Rattle.sng_frames.specs.declared.frame.SnFrame.{SnFrame}
 use Rattle.sng_book.specs.declared.address.Address.{Address}
 use Rattle.sng_book.specs.declared.decision.Decision.TheVariants as note
@@ -14,8 +11,8 @@ use Rattle.sng_book.specs.declared.outcome.Outcome.{Outcome}
 use Rattle.sng_book.specs.declared.outcome.Outcome.TheVariants.{Allowed, Denied}
 use Rattle.sng_book.specs.declared.out.Out.{Out}
 use Rattle.sng_book.specs.declared.out.Out.TheVariants.{Note, Send}
-use Rattle.sng_history.specs.Causes.{Cause, ByPing}
-use Rattle.sng_history.specs.Clients.{Client, same_address}
+use Rattle.sng_history.specs.Causes.{ToPing}
+use Rattle.sng_history.specs.Clients.{Client}
 use Rattle.sng_grants.specs.declared.policy.Policy.{Policy}
 use Rattle.sng_outbox.specs.declared.item.Item.{Item}
 use Rattle.sng_outbox.specs.declared.item.Item.TheVariants as item
@@ -29,13 +26,11 @@ use Rattle.sng_frames.specs.Writing.{written}
 use Rattle.sng_frames.specs.declared.flags.TopicIdType.{TopicIdType}
 use Rattle.sng_frames.specs.declared.frame.SnFrame.TheVariants as frame
 use Rattle.sng_frames.specs.declared.messages.publish.Publish.{Publish}
-use Rattle.sng_history.specs.Links.{link_after, still_in_flight}
-use Rattle.sng_history.specs.Packets.{Answer, acknowledgements, answered}
+use Rattle.sng_history.specs.Links.{link_after, resumed, filters_wanted, subscribes_sent}
 use Rattle.sng_history.specs.Verdicts.{exit, and_then, room, ping_verdict, may_ask, name_given, id_room, name_in}
 use Rattle.sng_core.specs.declared.verdict.Judged.{Judged}
-use Rattle.sng_frames.specs.declared.messages.connect.Connect.{Connect}
-use Rattle.sng_history.specs.Answers.{denied_note, refused, code_of, regack, puback, dismissed, connack, pong}
-use Rattle.sng_history.specs.Whole.{denied_by, stranger_outs}
+use Rattle.sng_history.specs.Answers.{denied_note, refused, code_of, regack, puback, dismissed, pong}
+use Rattle.sng_history.specs.Whole.{denied_to}
 use Rattle.sng_sessions.specs.Moving.{moved_at}
 pub use Rattle.sng_history.specs.Entering.{heard_at, left_at, entering, entered, hearing}
 pub use Rattle.sng_sessions.specs.Standing.{place_at, place_of, client_at, told_at}
@@ -54,12 +49,12 @@ abbrev pub left_outs : Client → List Out
 left_outs x = Note (note.Left x.id) ∷ dismissed x.address ∷ []
 
 -- a PINGREQ of a client, with its verdict
-abbrev pub ping_outs : Address → Option (List ℕ) → Client → Outcome → List Out
-ping_outs from client x Allowed = pong x.address ∷ []
-ping_outs from client x (Denied rule) = Note (note.Frame (who.Client x.id) (Denied rule)) ∷ denied_by (ByPing from client) x.address rule
+abbrev pub ping_outs : Option (List ℕ) → Client → Outcome → List Out
+ping_outs client x Allowed = pong x.address ∷ []
+ping_outs client x (Denied rule) = Note (note.Frame (who.Client x.id) (Denied rule)) ∷ denied_to (ToPing client) x.address rule
 
-abbrev pub pinged : Address → Option (List ℕ) → Client → List Out
-pinged from client x = ping_outs from client x (ping_verdict client x)
+abbrev pub pinged : Option (List ℕ) → Client → List Out
+pinged client x = ping_outs client x (ping_verdict client x)
 
 -- a client's message that is not taken
 abbrev pub unsupported_outs : SnFrame → Client → List Out
@@ -70,35 +65,9 @@ abbrev pub broken_outs : Denial → Client → List Out
 broken_outs rule x = Note (note.Frame (who.Client x.id) (Denied rule)) ∷ []
 
 -- what a message lets out, that comes from this client, or from nobody
-abbrev pub found_outs : Cause → (Client → List Out) → Option Client → List Out
-found_outs c f None = stranger_outs c
-found_outs c f (Some x) = f x
-
--- as a CONNECT is accepted, the client is dismissed where it was before
-abbrev pub moved_outs : Address → Option Client → List Out
-moved_outs from None = []
-moved_outs from (Some x) = if has_session x.phase && not (same_address x.address from) then dismissed x.address ∷ [] else []
-
--- and another client at the address leaves
-abbrev pub put_out : List ℕ → Option Client → List Out
-put_out id None = []
-put_out id (Some y) = if bytes_eq id y.id then [] else Note (note.Left y.id) ∷ []
-
-abbrev pub accepted_outs : Address → List ℕ → List Client → List Out
-accepted_outs from id xs =
-    Note (note.Connect id Allowed) ∷ (moved_outs from (at_place xs (place_of id xs)) ++ (put_out id (at_place xs (place_at from xs)) ++ connack from ACCEPTED ∷ []))
-
-abbrev pub refused_outs : Address → List ℕ → Denial → List Out
-refused_outs from id rule = Note (note.Connect id (Denied rule)) ∷ connack from (code_of rule) ∷ []
-
--- a CONNECT with its verdict, and the clients after it
-abbrev pub connect_outs : Address → List ℕ → List Client → Outcome → List Out
-connect_outs from id xs Allowed = accepted_outs from id xs
-connect_outs from id xs (Denied rule) = refused_outs from id rule
-
-abbrev pub connect_next : ℕ → Address → Connect → List Client → Outcome → List Client
-connect_next clock from connect xs Allowed = entered clock from connect xs
-connect_next clock from connect xs (Denied rule) = moved_if (place_at from xs) (heard_at clock) xs
+abbrev pub found_outs : List Out → (Client → List Out) → Option Client → List Out
+found_outs stranger f None = stranger
+found_outs stranger f (Some x) = f x
 
 -- the state with more that waits
 abbrev pub joined : State → List Item → State
@@ -188,10 +157,6 @@ carried s p (Some place) =
 
 -- ---- the link
 
--- the state after a packet of the broker
-abbrev pub answered_next : State → Answer → State
-answered_next s a = record s { link = record (answered s.link a) { waiting = s.link.waiting ++ acknowledgements s.up s.link a } }
-
 -- what waits leaves, where there is a connection
 abbrev pub taken_outs : State → List Out
 taken_outs s = if s.up then leaving s.link s.link.waiting (exits_of s.policy s.link.waiting) else []
@@ -200,13 +165,12 @@ abbrev pub taken_next : State → State
 taken_next s =
     record s { link = if s.up then record (link_after s.link s.link.waiting (exits_of s.policy s.link.waiting)) { waiting = [] } else s.link }
 
--- a connection begins: where one was up, that one ended, and what is in flight is judged and sent again
+-- a connection begins: where one was up, that one ended, what is in flight is judged and sent again, and each filter that is wanted is
+-- subscribed anew
 abbrev pub begun_next : State → State
 begun_next s = record s {
   up = true;
-  link = record s.link {
+  link = record (subscribes_sent (resumed s.link s.clock (agains_of s.policy s.link.in_flight)) (filters_wanted s.link)) {
     waiting = if s.up then publishes s.link.waiting else s.link.waiting;
-    in_flight = still_in_flight s.link.in_flight (agains_of s.policy s.link.in_flight);
-    pinged = s.clock;
   };
 }

@@ -147,7 +147,7 @@ pub fn refused(
 }
 
 /// No flag is set.
-fn no_flags() -> Flags
+pub fn no_flags() -> Flags
     ensures { result ≡ no_flags }
 {
     Flags {

@@ -1,14 +1,15 @@
 //! One datagram: as the message that it holds it is brought to who takes it (MQTT-SN 1.2, 5).
 ghost use Rattle.std.specs.Prelude.{◌≡◌, IfOk, OnOk, OnErr};
 ghost use Rattle.sng_frames.specs.Reading.{frame_of};
-ghost use Rattle.sng_history.specs.Causes.{ByConnect, ByPing, ByLeave, BySource, ByRegister, ByPublish, ByUnsupported, ByBroken, datagram_cause, frame_cause, publish_cause, disconnect_cause};
+ghost use Rattle.sng_history.specs.Causes.{ByConnect, ByMessage, BySource, ByBroken, datagram_cause, frame_cause, publish_cause, disconnect_cause};
+ghost use Rattle.sng_history.specs.Causes.{ToPing, ToLeave, ToRegister, ToPublish, ToSubscribe, ToUnsubscribe, Untaken};
 ghost use Rattle.sng_history.specs.Good.{Good};
 ghost use Rattle.sng_history.specs.Steps.{outs_by, next_by};
 
 use crate::parts::Parts;
-use crate::{entry, messages, register};
+use crate::{messages, register};
 use sng_book::{Address, Denial, Outs};
-use sng_frames::{Connect, FrameFault, FrameQos, Publish, Register, SnFrame, decode};
+use sng_frames::{FrameFault, FrameQos, Publish, Register, SnFrame, TopicRequest, decode};
 use sng_text::ClientId;
 use std::alloc::{AllocError, Global};
 
@@ -88,21 +89,13 @@ impl Parts {
                 from,
                 SnFrame::PublishRelease(id),
             ),
-            SnFrame::Subscribe(request) => self.unsupported(
-                alloc,
-                from,
-                SnFrame::Subscribe(request),
-            ),
+            SnFrame::Subscribe(request) => self.subscribe(alloc, from, request),
             SnFrame::SubscribeAck(answer) => self.unsupported(
                 alloc,
                 from,
                 SnFrame::SubscribeAck(answer),
             ),
-            SnFrame::Unsubscribe(request) => self.unsupported(
-                alloc,
-                from,
-                SnFrame::Unsubscribe(request),
-            ),
+            SnFrame::Unsubscribe(request) => self.unsubscribe(alloc, from, request),
             SnFrame::UnsubscribeAck(id) => self.unsupported(
                 alloc,
                 from,
@@ -132,20 +125,36 @@ impl Parts {
         }
     }
 
-    /// A CONNECT.
-    fn connect(
+    /// A SUBSCRIBE.
+    fn subscribe(
         &mut self,
         alloc: Global,
         from: Address,
-        connect: Connect,
+        request: TopicRequest,
     ) -> Result<Outs, AllocError>
         requires { Good self.old }
-        ensures outs { IfOk result (λ outs. outs ≡ outs_by self.old (ByConnect from connect)) }
-        ensures next { OnOk result (self.new ≡ next_by self.old (ByConnect from connect)) }
+        ensures outs { IfOk result (λ outs. outs ≡ outs_by self.old (ByMessage from (ToSubscribe request))) }
+        ensures next { OnOk result (self.new ≡ next_by self.old (ByMessage from (ToSubscribe request))) }
         ensures err { OnErr result (self.new ≡ self.old) }
     {
-        let sessions = &mut self.sessions;
-        let outs = entry::connect(alloc, &self.policy, self.clock, from, connect, sessions)?;
+        let outs = self.subscribe_from(alloc, from, request)?;
+        Ok(outs)
+    }
+
+    /// An UNSUBSCRIBE.
+    fn unsubscribe(
+        &mut self,
+        alloc: Global,
+        from: Address,
+        request: TopicRequest,
+    ) -> Result<Outs, AllocError>
+        requires { Good self.old }
+        ensures outs { IfOk result (λ outs. outs
+            ≡ outs_by self.old (ByMessage from (ToUnsubscribe request))) }
+        ensures next { OnOk result (self.new ≡ next_by self.old (ByMessage from (ToUnsubscribe request))) }
+        ensures err { OnErr result (self.new ≡ self.old) }
+    {
+        let outs = self.unsubscribe_from(alloc, from, request)?;
         Ok(outs)
     }
 
@@ -157,8 +166,8 @@ impl Parts {
         register: Register,
     ) -> Result<Outs, AllocError>
         requires { Good self.old }
-        ensures outs { IfOk result (λ outs. outs ≡ outs_by self.old (ByRegister from register)) }
-        ensures next { OnOk result (self.new ≡ next_by self.old (ByRegister from register)) }
+        ensures outs { IfOk result (λ outs. outs ≡ outs_by self.old (ByMessage from (ToRegister register))) }
+        ensures next { OnOk result (self.new ≡ next_by self.old (ByMessage from (ToRegister register))) }
         ensures err { OnErr result (self.new ≡ self.old) }
     {
         let sessions = &mut self.sessions;
@@ -202,8 +211,8 @@ impl Parts {
     /// A PUBLISH of a session, at QoS 0 or 1.
     fn carry(&mut self, alloc: Global, from: Address, publish: Publish) -> Result<Outs, AllocError>
         requires { Good self.old }
-        ensures outs { IfOk result (λ outs. outs ≡ outs_by self.old (ByPublish from publish)) }
-        ensures next { OnOk result (self.new ≡ next_by self.old (ByPublish from publish)) }
+        ensures outs { IfOk result (λ outs. outs ≡ outs_by self.old (ByMessage from (ToPublish publish))) }
+        ensures next { OnOk result (self.new ≡ next_by self.old (ByMessage from (ToPublish publish))) }
         ensures err { OnErr result (self.new ≡ self.old) }
     {
         let outs = self.carry_from(alloc, from, publish)?;
@@ -218,8 +227,8 @@ impl Parts {
         client: Option<ClientId>,
     ) -> Result<Outs, AllocError>
         requires { Good self.old }
-        ensures outs { IfOk result (λ outs. outs ≡ outs_by self.old (ByPing from client)) }
-        ensures next { OnOk result (self.new ≡ next_by self.old (ByPing from client)) }
+        ensures outs { IfOk result (λ outs. outs ≡ outs_by self.old (ByMessage from (ToPing client))) }
+        ensures next { OnOk result (self.new ≡ next_by self.old (ByMessage from (ToPing client))) }
         ensures err { OnErr result (self.new ≡ self.old) }
     {
         let outs = messages::ping(alloc, self.clock, from, client, &mut self.sessions)?;
@@ -247,8 +256,8 @@ impl Parts {
     /// A DISCONNECT without Duration.
     fn leave(&mut self, alloc: Global, from: Address) -> Result<Outs, AllocError>
         requires { Good self.old }
-        ensures outs { IfOk result (λ outs. outs ≡ outs_by self.old (ByLeave from)) }
-        ensures next { OnOk result (self.new ≡ next_by self.old (ByLeave from)) }
+        ensures outs { IfOk result (λ outs. outs ≡ outs_by self.old (ByMessage from ToLeave)) }
+        ensures next { OnOk result (self.new ≡ next_by self.old (ByMessage from ToLeave)) }
         ensures err { OnErr result (self.new ≡ self.old) }
     {
         let outs = messages::leave(alloc, self.clock, from, &mut self.sessions)?;
@@ -263,8 +272,8 @@ impl Parts {
         message: SnFrame,
     ) -> Result<Outs, AllocError>
         requires { Good self.old }
-        ensures outs { IfOk result (λ outs. outs ≡ outs_by self.old (ByUnsupported from message)) }
-        ensures next { OnOk result (self.new ≡ next_by self.old (ByUnsupported from message)) }
+        ensures outs { IfOk result (λ outs. outs ≡ outs_by self.old (ByMessage from (Untaken message))) }
+        ensures next { OnOk result (self.new ≡ next_by self.old (ByMessage from (Untaken message))) }
         ensures err { OnErr result (self.new ≡ self.old) }
     {
         let outs = messages::unsupported(alloc, self.clock, from, &message, &mut self.sessions)?;

@@ -6,6 +6,7 @@
 mod answers;
 mod datagram;
 mod entry;
+mod filters;
 pub mod history;
 pub mod machine;
 mod messages;
@@ -13,7 +14,10 @@ mod packets;
 mod parts;
 mod publish;
 mod register;
+mod replace;
 mod source;
+mod subscribe;
+mod unsubscribe;
 mod verdict;
 
 pub use history::run;

@@ -2,9 +2,9 @@
 //! planned first, and what changes cannot fail.
 ghost use Rattle.std.specs.Prelude.{◌≡◌, ◌<◌, ◌∷◌, [], length, IfOk, OnOk, OnErr};
 ghost use Rattle.sng_history.specs.Answers.{dismissed};
-ghost use Rattle.sng_history.specs.Causes.{ByPing, ByLeave, ByUnsupported, ByBroken};
+ghost use Rattle.sng_history.specs.Causes.{ToPing, ToLeave, Untaken};
 ghost use Rattle.sng_history.specs.Verdicts.{names_other};
-ghost use Rattle.sng_history.specs.Whole.{stranger_outs};
+ghost use Rattle.sng_history.specs.Whole.{stranger_to};
 ghost use Rattle.sng_core.specs.Forms.{place_at, client_at, at_place, moved_if, heard_at, left_at, found_outs, left_outs, pinged, unsupported_outs, broken_outs};
 
 use crate::answers::{denied_note, dismissed, only, pong, refused};
@@ -23,7 +23,7 @@ pub fn leave(
     sessions: &mut Sessions,
 ) -> Result<Outs, AllocError>
     ensures outs { IfOk result (λ outs. outs
-        ≡ found_outs (ByLeave from) left_outs (at_place sessions.old (place_at from sessions.old))) }
+        ≡ found_outs (stranger_to from ToLeave) left_outs (at_place sessions.old (place_at from sessions.old))) }
     ensures next { OnOk result (sessions.new
         ≡ moved_if (place_at from sessions.old) (left_at clock) sessions.old) }
     ensures err { OnErr result (sessions.new ≡ sessions.old) }
@@ -56,7 +56,7 @@ pub fn ping(
     sessions: &mut Sessions,
 ) -> Result<Outs, AllocError>
     ensures outs { IfOk result (λ outs. outs
-        ≡ found_outs (ByPing from client) (pinged from client)
+        ≡ found_outs (stranger_to from (ToPing client)) (pinged client)
         (at_place sessions.old (place_at from sessions.old))) }
     ensures next { OnOk result (sessions.new
         ≡ moved_if (place_at from sessions.old) (heard_at clock) sessions.old) }
@@ -66,20 +66,19 @@ pub fn ping(
         let outs = no_session_frame(alloc, from)?;
         return Ok(outs);
     };
-    let outs = pinged(alloc, from, &client, sessions, place)?;
+    let outs = pinged(alloc, &client, sessions, place)?;
     sessions.hear(place, clock);
     Ok(outs)
 }
 
 fn pinged(
     alloc: Global,
-    from: Address,
     client: &Option<ClientId>,
     sessions: &Sessions,
     place: usize,
 ) -> Result<Outs, AllocError>
     requires { place < length sessions.now }
-    ensures { IfOk result (λ outs. outs ≡ pinged from client.now (client_at sessions.now place)) }
+    ensures { IfOk result (λ outs. outs ≡ pinged client.now (client_at sessions.now place)) }
 {
     if names_other(client, sessions.id(place)) {
         let mut outs = denied_frame(alloc, sessions, place, Denial::NoSession)?;
@@ -129,7 +128,7 @@ pub fn unsupported(
     sessions: &mut Sessions,
 ) -> Result<Outs, AllocError>
     ensures outs { IfOk result (λ outs. outs
-        ≡ found_outs (ByUnsupported from message.now) (unsupported_outs message.now)
+        ≡ found_outs (stranger_to from (Untaken message.now)) (unsupported_outs message.now)
         (at_place sessions.old (place_at from sessions.old))) }
     ensures next { OnOk result (sessions.new
         ≡ moved_if (place_at from sessions.old) (heard_at clock) sessions.old) }
@@ -175,7 +174,7 @@ pub fn broken(
     sessions: &Sessions,
 ) -> Result<Outs, AllocError>
     ensures { IfOk result (λ outs. outs
-        ≡ found_outs (ByBroken from rule) (broken_outs rule)
+        ≡ found_outs (Out.Note (Decision.Frame (Who.Address from) (Outcome.Denied rule)) ∷ []) (broken_outs rule)
         (at_place sessions.now (place_at from sessions.now))) }
 {
     let Some(place) = sessions.at(from) else {
@@ -198,7 +197,7 @@ pub fn no_session(alloc: Global, from: Address, note: Decision) -> Result<Outs, 
 
 /// The same of a message that asks for nothing.
 fn no_session_frame(alloc: Global, from: Address) -> Result<Outs, AllocError>
-    ensures { IfOk result (λ outs. outs ≡ stranger_outs (ByLeave from)) }
+    ensures { IfOk result (λ outs. outs ≡ stranger_to from ToLeave) }
 {
     let denied = Outcome::Denied(Denial::NoSession);
     no_session(alloc, from, Decision::Frame(Who::Address(from), denied))

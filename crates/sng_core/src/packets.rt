@@ -1,17 +1,20 @@
-//! A packet of the broker (MQTT 3.1.1, 3.3, 3.4 and 4.3.2). Nobody holds a subscription yet, so a message
-//! goes to nobody.
-ghost use Rattle.std.specs.Prelude.{◌≡◌, ◌∷◌, ◌++◌, [], None, if◌then◌else◌, IfOk, OnOk, OnErr};
+//! A packet of the broker (MQTT 3.1.1, 3.3, 3.4, 3.9 and 4.3.2): what it lets out is planned first, and what
+//! changes cannot fail. A message goes to no client yet.
+ghost use Rattle.std.specs.Prelude.{◌≡◌, ◌∷◌, ◌++◌, ◌<◌, ℕ, [], None, length, map, if◌then◌else◌, IfOk, OnOk, OnErr};
 ghost use Rattle.sng_history.specs.Causes.{ByPacket};
+ghost use Rattle.sng_history.specs.Clients.{without};
 ghost use Rattle.sng_history.specs.Good.{Good};
-ghost use Rattle.sng_history.specs.Packets.{Delivers, answer_of, answer_outs, misnamed, dropped};
+ghost use Rattle.sng_history.specs.Packets.{Delivers, Grants, Refuses, subscribe_answer, answer_of, misnamed, dropped};
 ghost use Rattle.sng_history.specs.Steps.{outs_by, next_by};
-ghost use Rattle.sng_core.specs.Forms.{answered_next};
+ghost use Rattle.sng_sessions.specs.Standing.{client_at};
+ghost use Rattle.sng_core.specs.Refusing.{end_note, end_notes, packet_outs, packet_next};
 
 use crate::answers::only;
 use crate::parts::Parts;
-use mqtt_frames::{Packet, Publish};
+use mqtt_frames::{Packet, Publish, SubscribeAck, SubscribeCode};
 use sng_book::{Decision, Denial, Out, Outcome, Outs, Who};
-use sng_text::{Octets, TopicName};
+use sng_sessions::Sessions;
+use sng_text::{Octets, TopicFilter, TopicName};
 use std::alloc::{AllocError, Global};
 
 impl Parts {
@@ -27,8 +30,8 @@ impl Parts {
     }
 
     fn answer(&mut self, alloc: Global, packet: Packet) -> Result<Outs, AllocError>
-        ensures outs { IfOk result (λ outs. outs ≡ answer_outs self.old.up self.old.link (answer_of packet)) }
-        ensures next { OnOk result (self.new ≡ answered_next self.old (answer_of packet)) }
+        ensures outs { IfOk result (λ outs. outs ≡ packet_outs self.old (answer_of packet)) }
+        ensures next { OnOk result (self.new ≡ packet_next self.old (answer_of packet)) }
         ensures err { OnErr result (self.new ≡ self.old) }
     {
         match packet {
@@ -37,8 +40,8 @@ impl Parts {
                 self.link.acked(packet_id);
                 Ok(Outs::new(alloc))
             }
+            Packet::SubscribeAck(answer) => self.subscribe_answered(alloc, answer),
             // What they answer waits for nothing.
-            Packet::SubscribeAck(_) => Ok(Outs::new(alloc)),
             Packet::UnsubscribeAck(_) => Ok(Outs::new(alloc)),
             Packet::PingResponse => Ok(Outs::new(alloc)),
             // These a server does not send, or not here.
@@ -53,8 +56,8 @@ impl Parts {
 
     /// A message: one at QoS 1 is to be acknowledged, where there is a connection.
     fn deliver(&mut self, alloc: Global, message: Publish) -> Result<Outs, AllocError>
-        ensures outs { IfOk result (λ outs. outs ≡ answer_outs self.old.up self.old.link (Delivers message)) }
-        ensures next { OnOk result (self.new ≡ answered_next self.old (Delivers message)) }
+        ensures outs { IfOk result (λ outs. outs ≡ packet_outs self.old (Delivers message)) }
+        ensures next { OnOk result (self.new ≡ packet_next self.old (Delivers message)) }
         ensures err { OnErr result (self.new ≡ self.old) }
     {
         let owed = owed(self.is_up, message.packet_id);
@@ -66,6 +69,95 @@ impl Parts {
             }
         }
         Ok(outs)
+    }
+
+    /// A SUBACK: the broker keeps the subscription, or refuses it.
+    fn subscribe_answered(
+        &mut self,
+        alloc: Global,
+        answer: SubscribeAck,
+    ) -> Result<Outs, AllocError>
+        ensures outs { IfOk result (λ outs. outs
+            ≡ packet_outs self.old (subscribe_answer answer.packet_id answer.codes)) }
+        ensures next { OnOk result (self.new
+            ≡ packet_next self.old (subscribe_answer answer.packet_id answer.codes)) }
+        ensures err { OnErr result (self.new ≡ self.old) }
+    {
+        if is_refused(answer.codes.as_slice()) {
+            let outs = self.refuse(alloc, answer.packet_id)?;
+            Ok(outs)
+        } else {
+            self.link.subscribe_ack(answer.packet_id);
+            Ok(Outs::new(alloc))
+        }
+    }
+
+    /// The broker refuses the subscription whose SUBSCRIBE has this packet id: the filter stands for nobody any
+    /// more, and is wanted no more. Where none is open nothing happens.
+    fn refuse(&mut self, alloc: Global, packet_id: u16) -> Result<Outs, AllocError>
+        ensures outs { IfOk result (λ outs. outs ≡ packet_outs self.old (Refuses packet_id)) }
+        ensures next { OnOk result (self.new ≡ packet_next self.old (Refuses packet_id)) }
+        ensures err { OnErr result (self.new ≡ self.old) }
+    {
+        let Some(open) = self.link.filter_open(packet_id) else {
+            return Ok(Outs::new(alloc));
+        };
+        let filter = open.copy()?;
+        let outs = ends(alloc, &self.sessions, &filter)?;
+        end_for_all(&mut self.sessions, &filter);
+        self.link.subscribe_ack(packet_id);
+        self.link.unwant(&filter);
+        Ok(outs)
+    }
+}
+
+/// The broker refuses a subscription by the first code of its SUBACK (3.9.3).
+fn is_refused(codes: &[SubscribeCode]) -> bool
+    ensures { (packet_id : ℕ) → subscribe_answer packet_id codes.now
+        ≡ (if result then Refuses packet_id else Grants packet_id) }
+{
+    match codes.first() {
+        Some(SubscribeCode::Refused) => true,
+        Some(SubscribeCode::Granted(_)) => false,
+        None => false,
+    }
+}
+
+/// The notes that the broker refuses the filter, of each client for whom it stands, in order.
+fn ends(alloc: Global, sessions: &Sessions, filter: &TopicFilter) -> Result<Outs, AllocError>
+    ensures { IfOk result (λ outs. outs ≡ end_notes filter.now sessions.now) }
+{
+    let mut outs = Outs::new(alloc);
+    for place in 0..sessions.len() {
+        end(sessions, place, filter, &mut outs)?;
+    }
+    Ok(outs)
+}
+
+/// The note of the client at this place, where the filter stands for it.
+fn end(
+    sessions: &Sessions,
+    place: usize,
+    filter: &TopicFilter,
+    outs: &mut Outs,
+) -> Result<(), AllocError>
+    requires { place < length sessions.now }
+    ensures { OnOk result (outs.new ≡ outs.old ++ end_note filter.now (client_at sessions.now place)) }
+{
+    if sessions.holds(place, filter) {
+        let denied = Outcome::Denied(Denial::BrokerRefused);
+        let note = Decision::End(sessions.id(place).copy()?, filter.copy()?, denied);
+        outs.push(Out::Note(note))?;
+    }
+    Ok(())
+}
+
+/// The filter stands for nobody any more. Takes no memory.
+fn end_for_all(sessions: &mut Sessions, filter: &TopicFilter)
+    ensures { sessions.new ≡ map (without filter.now) sessions.old }
+{
+    for place in 0..sessions.len() {
+        sessions.end(place, filter);
     }
 }
 

@@ -1,7 +1,8 @@
 //! The parts of the gateway's state, and one step of them.
-ghost use Rattle.std.specs.Prelude.{◌≡◌, false, IfOk, OnOk, OnErr};
+ghost use Rattle.std.specs.Prelude.{◌≡◌, ◌<◌, false, length, if◌then◌else◌, IfOk, OnOk, OnErr};
+ghost use Rattle.sng_wanted.specs.declared.limits.TheConstants.{MAX_WANTED};
 ghost use Rattle.sng_outbox.specs.Sending.{publishes};
-ghost use Rattle.sng_history.specs.Exits.{agains_of, resending};
+ghost use Rattle.sng_history.specs.Exits.{agains_of, beginning};
 ghost use Rattle.sng_history.specs.State.{opening, later};
 ghost use Rattle.sng_history.specs.Good.{Good};
 ghost use Rattle.sng_history.specs.Steps.{outs_of, next_of};
@@ -63,10 +64,7 @@ impl Parts {
                 Ok(Outs::new(alloc))
             }
             Event::Take => self.take(alloc),
-            Event::Replace(policy) => {
-                self.policy = policy;
-                Ok(Outs::new(alloc))
-            }
+            Event::Replace(policy) => self.replace(alloc, policy),
             Event::Tick(clock) => {
                 self.set_clock(clock);
                 Ok(Outs::new(alloc))
@@ -84,20 +82,31 @@ impl Parts {
     }
 
     /// The broker's connection is up. Where one was up, that one ended; what is in flight is judged and sent
-    /// again.
+    /// again, and what is wanted is subscribed anew.
     fn begin_connection(&mut self, alloc: Global) -> Result<Outs, AllocError>
+        requires { length self.old.link.wanted < MAX_WANTED }
         ensures outs { IfOk result (λ outs. outs
-            ≡ resending self.old.link.in_flight (agains_of self.old.policy self.old.link.in_flight)) }
+            ≡ beginning self.old.link self.old.clock (agains_of self.old.policy self.old.link.in_flight)) }
         ensures next { OnOk result (self.new ≡ begun_next self.old) }
         ensures err { OnErr result (self.new ≡ self.old) }
     {
-        let outs = self.link.again(alloc, &self.policy)?;
-        if self.is_up {
-            self.end_connection();
-        }
+        let outs = self.link.begin(alloc, &self.policy, self.clock)?;
+        self.drop_items();
         self.is_up = true;
-        self.link.begin(self.clock);
         Ok(outs)
+    }
+
+    /// Where a connection is up, another one begins instead: of what waits the publishes stay.
+    fn drop_items(&mut self)
+        ensures { self.new ≡ record self.old {
+          link = record self.old.link {
+            waiting = if self.old.up then publishes self.old.link.waiting else self.old.link.waiting;
+          };
+        } }
+    {
+        if self.is_up {
+            self.link.keep_publishes();
+        }
     }
 
     /// The broker's connection is lost: of what waits the publishes stay.
@@ -110,6 +119,7 @@ impl Parts {
 
     /// What waits leaves, where there is a connection.
     fn take(&mut self, alloc: Global) -> Result<Outs, AllocError>
+        requires { length self.old.link.wanted < MAX_WANTED }
         ensures outs { IfOk result (λ outs. outs ≡ taken_outs self.old) }
         ensures next { OnOk result (self.new ≡ taken_next self.old) }
         ensures err { OnErr result (self.new ≡ self.old) }

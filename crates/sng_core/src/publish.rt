@@ -3,7 +3,8 @@
 ghost use Rattle.std.specs.Prelude.{◌≡◌, ◌<◌, ◌∷◌, ◌++◌, [], length, Some, IfOk, OnOk, OnErr};
 ghost use Rattle.sng_frames.specs.Writing.{written};
 ghost use Rattle.sng_history.specs.Answers.{puback};
-ghost use Rattle.sng_history.specs.Causes.{ByPublish};
+ghost use Rattle.sng_history.specs.Causes.{ToPublish};
+ghost use Rattle.sng_history.specs.Whole.{stranger_to};
 ghost use Rattle.sng_history.specs.State.{qos_of};
 ghost use Rattle.sng_history.specs.Verdicts.{name_in};
 ghost use Rattle.sng_core.specs.Forms.{place_at, client_at, at_place, found_outs, publish_judged, publish_named, publish_reply, publish_noted, publication_by, carried_outs, carried};
@@ -32,7 +33,7 @@ impl Parts {
         publish: Publish,
     ) -> Result<Outs, AllocError>
         ensures outs { IfOk result (λ outs. outs
-            ≡ found_outs (ByPublish from publish) (carried_outs self.old publish)
+            ≡ found_outs (stranger_to from (ToPublish publish)) (carried_outs self.old publish)
             (at_place self.old.clients (place_at from self.old.clients))) }
         ensures next { OnOk result (self.new ≡ carried self.old publish (place_at from self.old.clients)) }
         ensures err { OnErr result (self.new ≡ self.old) }

@@ -1,6 +1,6 @@
 //! A PUBLISH without a session, of which only the sender's IPv4 address counts (MQTT-SN 1.2, 6.8). Nothing
 //! answers it.
-ghost use Rattle.std.specs.Prelude.{◌≡◌, ◌∷◌, [], IfOk, OnOk, OnErr, Ok, None};
+ghost use Rattle.std.specs.Prelude.{◌≡◌, ◌∷◌, [], IfOk, OnOk, OnErr, Ok, None, Some};
 ghost use Rattle.sng_history.specs.State.{asked_by};
 ghost use Rattle.sng_history.specs.Verdicts.{source_ask, named_ask};
 ghost use Rattle.sng_core.specs.Forms.{joined};
@@ -25,7 +25,7 @@ impl Parts {
     ) -> Result<Outs, AllocError>
         ensures outs { IfOk result (λ outs. outs ≡ Out.Note (source_ask self.old source publish) ∷ []) }
         ensures next { OnOk result (self.new ≡ joined self.old
-            (asked_by (source_ask self.old source publish) publish)) }
+            (asked_by (Some publish) (source_ask self.old source publish))) }
         ensures err { OnErr result (self.new ≡ self.old) }
     {
         if !lists_source(&self.policy, source) {
@@ -47,7 +47,7 @@ impl Parts {
     ) -> Result<Outs, AllocError>
         ensures outs { IfOk result (λ outs. outs ≡ Out.Note (named_ask self.old source (Ok name)) ∷ []) }
         ensures next { OnOk result (self.new ≡ joined self.old
-            (asked_by (named_ask self.old source (Ok name)) publish)) }
+            (asked_by (Some publish) (named_ask self.old source (Ok name)))) }
         ensures err { OnErr result (self.new ≡ self.old) }
     {
         let origin = Origin::Source(source);

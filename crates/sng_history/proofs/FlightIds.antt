@@ -1,20 +1,20 @@
 -- Packet ids: one that is given is free, and a packet shows the one that it was written with.
 use Rattle.std.proofs.Common.{◌≡◌, ℕ, ◌+◌, ◌-◌, ◌*◌, ◌/◌, ◌%◌, ◌≤◌, ◌==◌, Bool, true, false, List, [], ◌∷◌, ◌++◌, map, length, drop, cond, refl, ap, sym, ◌∙◌, subst, arith, length-append}
-use Rattle.std.specs.Prelude.{◌||◌, not, if◌then◌else◌, Some}
+use Rattle.std.specs.Prelude.{◌||◌, not, if◌then◌else◌, Option, Some, None}
 use Rattle.std.proofs.lemmas.Bool.{eqb-true, eqb-false, ne_eqb}
-use Rattle.std.proofs.lemmas.List.{append-nil, append_assoc, length-map}
+use Rattle.std.proofs.lemmas.List.{append_assoc, length-map}
 use Rattle.std.proofs.Math.Seq.{drop-append_seam}
 use Rattle.mqtt_frames.specs.Packets.{number_bytes, text_bytes, first_byte, body}
 use Rattle.mqtt_frames.specs.RemainingLength.{remaining_length}
 use Rattle.mqtt_frames.specs.declared.packet.Packet.TheVariants as packet
-use Rattle.sng_outbox.specs.PacketIds.{is_used, next_id}
+use Rattle.sng_outbox.specs.PacketIds.{is_used}
 use Rattle.sng_outbox.specs.Sending.{has_id, without_first}
 use Rattle.sng_outbox.specs.declared.in_flight.InFlight.{InFlight}
 use Rattle.sng_outbox.specs.declared.item.Publication.{Publication}
 use Rattle.sng_outbox.proofs.IdLemmas.{next_free}
 use Rattle.sng_book.specs.declared.outcome.Outcome.{Outcome}
 use Rattle.sng_book.specs.declared.outcome.Outcome.TheVariants.{Allowed, Denied}
-use Rattle.sng_history.specs.Links.{Link, open_ids, next_packet_id, still_in_flight}
+use Rattle.sng_history.specs.Links.{Link, Wanted, open_id, open_ids, next_packet_id, still_in_flight}
 use Rattle.sng_history.specs.Exits.{packet_of}
 use Rattle.sng_history.specs.ViewsFlight.{number_in, id_before, id_shown, others}
 use Rattle.sng_history.specs.LawsFlight.{AreIds}
@@ -139,11 +139,11 @@ still_ids (sent ∷ flights) (Denied rule ∷ outcomes) are = still_ids flights 
 
 -- ---- the next id
 
--- the packet ids of a link are apart, the last one that was given is in range, and no filter is wanted
+-- the packet ids of a link are apart, the last one that was given is in range, and few filters are wanted
 pub record Fit (link : Link) : Type 0 where
   pub ids : AreIds (ids_of link.in_flight)
   pub last : link.last ≤ 65535
-  pub wanted : link.wanted ≡ []
+  pub few : length link.wanted ≤ 8192
 
 -- an id that may be given to one more publish
 pub record Free (link : Link) (n : ℕ) : Type 0 where
@@ -151,11 +151,23 @@ pub record Free (link : Link) (n : ℕ) : Type 0 where
   pub small : n ≤ 65535
   pub unused : is_used (ids_of link.in_flight) n ≡ false
 
+one_open : (w : Wanted) (wanted : List Wanted) (used : Option ℕ) → length (open_ids wanted) ≤ length wanted → length (open_id used ++ open_ids wanted) ≤ length (w ∷ wanted)
+one_open w wanted None rest = omega (arith, rest)
+one_open w wanted (Some packet_id) rest = omega (arith, rest)
+
+open_few : (wanted : List Wanted) → length (open_ids wanted) ≤ length wanted
+open_few [] = omega arith
+open_few (w ∷ wanted) = one_open w wanted w.open_id (open_few wanted)
+
+first_unused : (xs ys : List ℕ) (n : ℕ) → is_used (xs ++ ys) n ≡ false → is_used xs n ≡ false
+first_unused [] ys n none = refl
+first_unused (x ∷ xs) ys n none =
+    both_false (x == n) (is_used xs n) (first_false (x == n) (is_used (xs ++ ys) n) none) (first_unused xs ys n (later_false (x == n) (is_used (xs ++ ys) n) none))
+
 pub next_is_free : (link : Link) → Fit link → length link.in_flight ≤ 128 → Free link (next_packet_id link)
 next_is_free link fit few =
     let count : length (ids_of link.in_flight) ≡ length link.in_flight = length-map link.in_flight (λ (sent : InFlight). sent.packet_id) in
-    let free = next_free (ids_of link.in_flight) link.last (omega arith) fit.last in
-    let used : ids_of link.in_flight ++ open_ids link.wanted ≡ ids_of link.in_flight =
-    ap (λ wanted. ids_of link.in_flight ++ open_ids wanted) fit.wanted ∙ append-nil (ids_of link.in_flight)
-    in
-    subst (Free link) (ap (λ ids. next_id ids link.last) (sym used)) (record { some = free.0; small = free.1; unused = free.2 })
+    let all : length (ids_of link.in_flight ++ open_ids link.wanted) ≡ length (ids_of link.in_flight) + length (open_ids link.wanted) =
+    length-append (ids_of link.in_flight) (open_ids link.wanted) in
+    let free = next_free (ids_of link.in_flight ++ open_ids link.wanted) link.last (omega (arith, open_few link.wanted, fit.few)) fit.last in
+    record { some = free.0; small = free.1; unused = first_unused (ids_of link.in_flight) (open_ids link.wanted) (next_packet_id link) free.2 }

@@ -1,16 +1,19 @@
 -- A client keeps its id, and ids stay distinct.
 use Rattle.std.proofs.Common.{◌≡◌, ℕ, Bool, true, false, List, [], ◌∷◌, ◌++◌, map, refl, sym, ◌∙◌, subst}
-use Rattle.std.specs.Prelude.{if◌then◌else◌, ◌&&◌, ◌||◌, not}
+use Rattle.std.specs.Prelude.{if◌then◌else◌, ◌&&◌, ◌||◌, not, Option, Some, None}
 use Rattle.std.specs.Str.{bytes_eq}
 use Rattle.std.proofs.lemmas.List.{append-nil}
 use Rattle.sng_states.specs.declared.state.ClientState.TheVariants.{Active}
 use Rattle.sng_frames.specs.declared.messages.connect.Connect.{Connect}
+use Rattle.sng_frames.specs.declared.messages.subscribe.TopicRequest.{TopicRequest}
+use Rattle.sng_book.specs.declared.outcome.Outcome.{Outcome}
+use Rattle.sng_book.specs.declared.outcome.Outcome.TheVariants.{Allowed, Denied}
 use Rattle.sng_book.specs.Denials.{is_allowed}
 use Rattle.sng_book.specs.declared.address.Address.{Address}
 use Rattle.sng_book.specs.declared.decision.Decision.{Decision}
 use Rattle.sng_book.specs.declared.decision.Decision.TheVariants as note
-use Rattle.sng_history.specs.Causes.{Cause, ByConnect, ByPing, ByLeave, BySource, ByRegister, ByPublish, ByUnsupported, ByBroken, ByPacket, ByUp, ByDown, ByTake, ByReplace, ByTick}
-use Rattle.sng_history.specs.Clients.{Around, Client, blank, is_author, start_by, cleaned, let_in, entered_by, note_by, notes_by, client_by}
+use Rattle.sng_history.specs.Causes.{Cause, ByConnect, ByMessage, BySource, ByBroken, ByPacket, ByUp, ByDown, ByTake, ByReplace, ByTick}
+use Rattle.sng_history.specs.Clients.{Around, Client, blank, is_author, start_by, cleaned, let_in, entered_by, subscribed, subscribe_of, unsubscribed, note_by, notes_by, client_by}
 use Rattle.sng_history.specs.State.{State, is_known}
 use Rattle.sng_history.specs.Verdicts.{entry}
 use Rattle.sng_history.specs.Steps.{newcomers_for}
@@ -27,12 +30,8 @@ let_in_id clock from connect x =
 
 entered_id : (clock : ℕ) (c : Cause) (x : Client) → (entered_by clock c x).id ≡ x.id
 entered_id clock (ByConnect from connect) x = let_in_id clock from connect x
-entered_id clock (ByPing from client) x = refl
-entered_id clock (ByLeave from) x = refl
+entered_id clock (ByMessage from request) x = refl
 entered_id clock (BySource from p) x = refl
-entered_id clock (ByRegister from r) x = refl
-entered_id clock (ByPublish from p) x = refl
-entered_id clock (ByUnsupported from message) x = refl
 entered_id clock (ByBroken from rule) x = refl
 entered_id clock (ByPacket p) x = refl
 entered_id clock ByUp x = refl
@@ -45,10 +44,24 @@ if_id : (b : Bool) (x y : Client) → x.id ≡ y.id → (let z : Client = if b t
 if_id true x y same = same
 if_id false x y same = refl
 
+subscribed_id : (r : Option TopicRequest) (filter : Option (List ℕ)) (outcome : Outcome) (x : Client) → (subscribed r filter outcome x).id ≡ x.id
+subscribed_id None filter outcome x = refl
+subscribed_id (Some r) None outcome x = refl
+subscribed_id (Some r) (Some filter) Allowed x = refl
+subscribed_id (Some r) (Some filter) (Denied rule) x = refl
+
+unsubscribed_id : (filter : Option (List ℕ)) (outcome : Outcome) (x : Client) → (unsubscribed filter outcome x).id ≡ x.id
+unsubscribed_id None outcome x = refl
+unsubscribed_id (Some filter) Allowed x = refl
+unsubscribed_id (Some filter) (Denied rule) x = refl
+
 note_id : (a : Around) (said : Decision) (x : Client) → (note_by a said x).id ≡ x.id
 note_id a (note.Connect id outcome) x = if_id (is_allowed outcome) (entered_by a.clock a.cause x) x (entered_id a.clock a.cause x)
 note_id a (note.Left id) x = refl
 note_id a (note.Register whom name outcome) x = refl
+note_id a (note.Subscribe whom filter outcome) x = subscribed_id (subscribe_of a.cause) filter outcome x
+note_id a (note.Unsubscribe whom filter outcome) x = unsubscribed_id filter outcome x
+note_id a (note.End id filter outcome) x = refl
 note_id a _ x = refl
 
 notes_id : (a : Around) (notes : List Decision) (x : Client) → (notes_by a notes x).id ≡ x.id
@@ -91,12 +104,8 @@ distinct_new c xs false known is apart = rw (append-nil xs) apart
 
 pub present_distinct : (s : State) (c : Cause) → Distinct s.clients → Distinct (s.clients ++ newcomers_for s c)
 present_distinct s (ByConnect from connect) apart = distinct_new connect.client_id s.clients (is_allowed (entry s connect)) (is_known connect.client_id s.clients) refl apart
-present_distinct s (ByPing from client) apart = rw (append-nil s.clients) apart
-present_distinct s (ByLeave from) apart = rw (append-nil s.clients) apart
+present_distinct s (ByMessage from request) apart = rw (append-nil s.clients) apart
 present_distinct s (BySource from p) apart = rw (append-nil s.clients) apart
-present_distinct s (ByRegister from r) apart = rw (append-nil s.clients) apart
-present_distinct s (ByPublish from p) apart = rw (append-nil s.clients) apart
-present_distinct s (ByUnsupported from message) apart = rw (append-nil s.clients) apart
 present_distinct s (ByBroken from rule) apart = rw (append-nil s.clients) apart
 present_distinct s (ByPacket p) apart = rw (append-nil s.clients) apart
 present_distinct s ByUp apart = rw (append-nil s.clients) apart

@@ -1,5 +1,5 @@
 -- What a new connection lets out for the broker: what is in flight, each with its note and its own packet.
-use Rattle.std.proofs.Common.{◌≡◌, ℕ, Bool, true, false, List, [], ◌∷◌, ◌++◌, refl, ◌∙◌}
+use Rattle.std.proofs.Common.{◌≡◌, ℕ, Bool, true, false, List, [], ◌∷◌, ◌++◌, refl, sym, ◌∙◌}
 use Rattle.std.specs.Prelude.{Option}
 use Rattle.sng_grants.specs.declared.policy.Policy.{Policy}
 use Rattle.sng_outbox.specs.declared.in_flight.InFlight.{InFlight}
@@ -13,67 +13,82 @@ use Rattle.sng_book.specs.declared.outcome.Outcome.TheVariants.{Allowed, Denied}
 use Rattle.sng_book.specs.declared.out.Out.{Out}
 use Rattle.sng_book.specs.declared.out.Out.TheVariants.{Send, Wire, Note}
 use Rattle.sng_history.specs.Notes.{exits_in, exit_of}
-use Rattle.sng_history.specs.Links.{Link, packet_id_by, exited}
+use Rattle.sng_history.specs.Links.{Link, wants, next_packet_id, packet_id_by, exited, subscribe_sent, subscribe_left, unsubscribe_left}
 use Rattle.sng_history.specs.Verdicts.{exit}
-use Rattle.sng_history.specs.Exits.{exits_of, forwarded, leaving, agains_of, sent_again, resending}
-use Rattle.sng_history.specs.ViewsLink.{departures, wires_in, sends_in}
+use Rattle.sng_history.specs.Exits.{exits_of, forwarded, subscribe_leaves, unsubscribe_leaves, subscribing, leaving, agains_of, sent_again, resending}
+use Rattle.sng_history.specs.ViewsLink.{Departure, departures, wires_in, sends_in}
 use Rattle.sng_history.specs.ViewsFlight.{return, agains}
 use Rattle.sng_history.specs.LawsRules.{judged, publish_rules}
 use Rattle.sng_history.specs.LawsLink.{Announced}
-use Rattle.sng_history.specs.LawsFlight.{AllReturn, packets_of, packets_for}
+use Rattle.sng_history.specs.LawsFlight.{AllReturn, packets_of, PacketsFor, AllSubscribe}
+use Rattle.sng_history.proofs.Wanted.{left_same, same_wants}
 use Rattle.sng_history.proofs.LawRules.{exit_ruled}
-use Rattle.sng_history.proofs.LawLink.{later_exits}
+use Rattle.sng_history.proofs.LawLink.{Wires, subscribe_wires, unsubscribe_wires, later_exits}
 
--- ---- as a connection begins
+-- ---- packets without notes
 
-returns_first : (policy : Policy) (sent : InFlight) (flights : List InFlight) (outs : List Out) (o : Outcome)
-    → o ≡ judged (publish_rules policy sent.publication.origin sent.publication.name) → AllReturn policy flights (agains outs)
-    → AllReturn policy (sent ∷ flights) (agains (sent_again sent o ++ outs))
-returns_first policy sent flights outs Allowed is rest = (record { whom = refl; name = refl; judgement = is; packet = λ allowed. refl }, rest)
-returns_first policy sent flights outs (Denied rule) is rest = (record { whom = refl; name = refl; judgement = is; packet = λ allowed. absurd (let f : false ≡ true = allowed in cc) }, rest)
+pub wires_again : (xs ys : List Out) → Wires xs → agains (xs ++ ys) ≡ agains ys
+wires_again [] ys are = refl
+wires_again (Wire sent ∷ xs) ys are = wires_again xs ys are.1
+wires_again (Send to datagram ∷ xs) ys are = absurd are
+wires_again (Note said ∷ xs) ys are = absurd are
 
-pub all_return : (policy : Policy) (flights : List InFlight) → AllReturn policy flights (agains (resending flights (agains_of policy flights)))
-all_return policy [] = tt
-all_return policy (sent ∷ flights) =
-    returns_first policy sent flights (resending flights (agains_of policy flights)) (exit policy sent.publication.origin sent.publication.name)
-    (exit_ruled policy sent.publication.origin sent.publication.name) (all_return policy flights)
+-- ---- as a connection begins, with the packets that follow
 
-announced_first : (sent : InFlight) (o : Outcome) (outs : List Out) → ((lets : Bool) → Announced lets outs) → (lets : Bool) → Announced lets (sent_again sent o ++ outs)
-announced_first sent Allowed outs rest lets = ((λ is. refl), rest false)
-announced_first sent (Denied rule) outs rest lets = rest false
+returns_first : (policy : Policy) (sent : InFlight) (flights : List InFlight) (outs more : List Out) (o : Outcome)
+    → o ≡ judged (publish_rules policy sent.publication.origin sent.publication.name) → AllReturn policy flights (agains (outs ++ more))
+    → AllReturn policy (sent ∷ flights) (agains ((sent_again sent o ++ outs) ++ more))
+returns_first policy sent flights outs more Allowed is rest = (record { whom = refl; name = refl; judgement = is; packet = λ allowed. refl }, rest)
+returns_first policy sent flights outs more (Denied rule) is rest = (record { whom = refl; name = refl; judgement = is; packet = λ allowed. absurd (let f : false ≡ true = allowed in cc) }, rest)
 
-pub again_announced : (policy : Policy) (flights : List InFlight) (lets : Bool) → Announced lets (resending flights (agains_of policy flights))
-again_announced policy [] lets = tt
-again_announced policy (sent ∷ flights) lets =
-    announced_first sent (exit policy sent.publication.origin sent.publication.name) (resending flights (agains_of policy flights)) (λ b. again_announced policy flights b) lets
+none_return : (policy : Policy) (ds : List Departure) → ds ≡ [] → AllReturn policy [] ds
+none_return policy [] is = tt
+none_return policy (d ∷ ds) is = absurd (let e = is in cc)
 
-departed_first : (sent : InFlight) (o : Outcome) (outs : List Out) → departures (sent_again sent o ++ outs) ≡ departures outs
-departed_first sent Allowed outs = refl
-departed_first sent (Denied rule) outs = refl
+pub all_return : (policy : Policy) (flights : List InFlight) (more : List Out) → agains more ≡ [] → AllReturn policy flights (agains (resending flights (agains_of policy flights) ++ more))
+all_return policy [] more none = none_return policy (agains more) none
+all_return policy (sent ∷ flights) more none =
+    returns_first policy sent flights (resending flights (agains_of policy flights)) more (exit policy sent.publication.origin sent.publication.name)
+    (exit_ruled policy sent.publication.origin sent.publication.name) (all_return policy flights more none)
 
-pub none_departed : (policy : Policy) (flights : List InFlight) → departures (resending flights (agains_of policy flights)) ≡ []
-none_departed policy [] = refl
-none_departed policy (sent ∷ flights) =
-    departed_first sent (exit policy sent.publication.origin sent.publication.name) (resending flights (agains_of policy flights)) ∙ none_departed policy flights
+announced_first : (sent : InFlight) (o : Outcome) (outs more : List Out) → ((lets : Bool) → Announced lets (outs ++ more)) → (lets : Bool) → Announced lets ((sent_again sent o ++ outs) ++ more)
+announced_first sent Allowed outs more rest lets = ((λ is. refl), rest false)
+announced_first sent (Denied rule) outs more rest lets = rest false
 
-unsent_first : (sent : InFlight) (o : Outcome) (outs : List Out) → sends_in (sent_again sent o ++ outs) ≡ sends_in outs
-unsent_first sent Allowed outs = refl
-unsent_first sent (Denied rule) outs = refl
+pub again_announced : (policy : Policy) (flights : List InFlight) (more : List Out) (lets : Bool) → ((b : Bool) → Announced b more) → Announced lets (resending flights (agains_of policy flights) ++ more)
+again_announced policy [] more lets rest = rest lets
+again_announced policy (sent ∷ flights) more lets rest =
+    announced_first sent (exit policy sent.publication.origin sent.publication.name) (resending flights (agains_of policy flights)) more (λ b. again_announced policy flights more b rest) lets
 
-pub again_unsent : (policy : Policy) (flights : List InFlight) → sends_in (resending flights (agains_of policy flights)) ≡ []
-again_unsent policy [] = refl
-again_unsent policy (sent ∷ flights) =
-    unsent_first sent (exit policy sent.publication.origin sent.publication.name) (resending flights (agains_of policy flights)) ∙ again_unsent policy flights
+departed_first : (sent : InFlight) (o : Outcome) (outs more : List Out) → departures ((sent_again sent o ++ outs) ++ more) ≡ departures (outs ++ more)
+departed_first sent Allowed outs more = refl
+departed_first sent (Denied rule) outs more = refl
 
-wires_first : (sent : InFlight) (o : Outcome) (outs : List Out) → wires_in outs ≡ packets_of (agains outs) → wires_in (sent_again sent o ++ outs) ≡ packets_of (agains (sent_again sent o ++ outs))
-wires_first sent Allowed outs rest = rw rest refl
-wires_first sent (Denied rule) outs rest = rest
+pub none_departed : (policy : Policy) (flights : List InFlight) (more : List Out) → departures (resending flights (agains_of policy flights) ++ more) ≡ departures more
+none_departed policy [] more = refl
+none_departed policy (sent ∷ flights) more =
+    departed_first sent (exit policy sent.publication.origin sent.publication.name) (resending flights (agains_of policy flights)) more ∙ none_departed policy flights more
 
--- its packets are those behind its notes
-pub again_wires : (policy : Policy) (flights : List InFlight) → let outs = resending flights (agains_of policy flights) in wires_in outs ≡ packets_of (agains outs)
-again_wires policy [] = refl
-again_wires policy (sent ∷ flights) =
-    wires_first sent (exit policy sent.publication.origin sent.publication.name) (resending flights (agains_of policy flights)) (again_wires policy flights)
+unsent_first : (sent : InFlight) (o : Outcome) (outs more : List Out) → sends_in ((sent_again sent o ++ outs) ++ more) ≡ sends_in (outs ++ more)
+unsent_first sent Allowed outs more = refl
+unsent_first sent (Denied rule) outs more = refl
+
+pub again_unsent : (policy : Policy) (flights : List InFlight) (more : List Out) → sends_in (resending flights (agains_of policy flights) ++ more) ≡ sends_in more
+again_unsent policy [] more = refl
+again_unsent policy (sent ∷ flights) more =
+    unsent_first sent (exit policy sent.publication.origin sent.publication.name) (resending flights (agains_of policy flights)) more ∙ again_unsent policy flights more
+
+wires_first : (sent : InFlight) (o : Outcome) (outs more : List Out) (rest : List (List ℕ)) → wires_in (outs ++ more) ≡ packets_of (agains (outs ++ more)) ++ rest
+    → wires_in ((sent_again sent o ++ outs) ++ more) ≡ packets_of (agains ((sent_again sent o ++ outs) ++ more)) ++ rest
+wires_first sent Allowed outs more rest is = rw is refl
+wires_first sent (Denied rule) outs more rest is = is
+
+-- its packets are those behind its notes, and those that follow
+pub again_wires : (policy : Policy) (flights : List InFlight) (more : List Out) → agains more ≡ []
+    → let outs = resending flights (agains_of policy flights) ++ more in wires_in outs ≡ packets_of (agains outs) ++ wires_in more
+again_wires policy [] more none = rw none refl
+again_wires policy (sent ∷ flights) more none =
+    wires_first sent (exit policy sent.publication.origin sent.publication.name) (resending flights (agains_of policy flights)) more (wires_in more) (again_wires policy flights more none)
 
 -- ---- at a take
 
@@ -86,26 +101,61 @@ none_again policy link [] = refl
 none_again policy link (item.Publish p ∷ items) =
     let o = exit policy p.origin p.name in
     again_first p (packet_id_by link p.qos) o (leaving (exited link p o) items (exits_of policy items)) ∙ none_again policy (exited link p o) items
-none_again policy link (item.Subscribe filter ∷ items) = none_again policy link items
-none_again policy link (item.Unsubscribe filter ∷ items) = none_again policy link items
+none_again policy link (item.Subscribe text ∷ items) =
+    let next = subscribe_left link text in
+    wires_again (subscribe_leaves link text) (leaving next items (exits_of policy items)) (subscribe_wires link text) ∙ none_again policy next items
+none_again policy link (item.Unsubscribe text ∷ items) =
+    let next = unsubscribe_left link text in
+    wires_again (unsubscribe_leaves link text) (leaving next items (exits_of policy items)) (unsubscribe_wires link text) ∙ none_again policy next items
 none_again policy link (item.Acknowledge packet_id ∷ items) = none_again policy link items
 none_again policy link (item.Ping ∷ items) = none_again policy link items
 
-packets_first : (p : Publication) (items : List Item) (packet_id : Option ℕ) (o : Outcome) (outs : List Out) → wires_in outs ≡ packets_for items (departures outs)
-    → wires_in (forwarded p packet_id o ++ outs) ≡ packets_for (item.Publish p ∷ items) (departures (forwarded p packet_id o ++ outs))
-packets_first p items packet_id Allowed outs rest = rw rest refl
-packets_first p items packet_id (Denied rule) outs rest = rest
+packets_first : (held : List ℕ → Bool) (p : Publication) (items : List Item) (packet_id : Option ℕ) (o : Outcome) (outs : List Out) → PacketsFor held items (departures outs) (wires_in outs)
+    → PacketsFor held (item.Publish p ∷ items) (departures (forwarded p packet_id o ++ outs)) (wires_in (forwarded p packet_id o ++ outs))
+packets_first held p items packet_id Allowed outs rest = (wires_in outs, (refl, rest))
+packets_first held p items packet_id (Denied rule) outs rest = (wires_in outs, (refl, rest))
 
--- its packets are those behind its notes, and the acknowledgements in their places
-pub take_wires : (policy : Policy) (link : Link) (items : List Item) → let outs = leaving link items (exits_of policy items) in wires_in outs ≡ packets_for items (departures outs)
-take_wires policy link [] = refl
-take_wires policy link (item.Publish p ∷ items) =
+subscribe_first : (held : List ℕ → Bool) (link : Link) (text : List ℕ) (items : List Item) (outs : List Out) (b : Bool) → wants link.wanted text ≡ b → held text ≡ b → PacketsFor held items (departures outs) (wires_in outs)
+    → PacketsFor held (item.Subscribe text ∷ items) (departures (subscribe_leaves link text ++ outs)) (wires_in (subscribe_leaves link text ++ outs))
+subscribe_first held link text items outs true is same rest = rw (is, same) (wires_in outs, ((_, ((next_packet_id link, refl), refl)), rest))
+subscribe_first held link text items outs false is same rest = rw (is, same) (wires_in outs, (refl, rest))
+
+unsubscribe_first : (held : List ℕ → Bool) (link : Link) (text : List ℕ) (items : List Item) (outs : List Out) (b : Bool) → wants link.wanted text ≡ b → held text ≡ b → PacketsFor held items (departures outs) (wires_in outs)
+    → PacketsFor held (item.Unsubscribe text ∷ items) (departures (unsubscribe_leaves link text ++ outs)) (wires_in (unsubscribe_leaves link text ++ outs))
+unsubscribe_first held link text items outs true is same rest = rw (is, same) (wires_in outs, (refl, rest))
+unsubscribe_first held link text items outs false is same rest = rw (is, same) (wires_in outs, ((_, ((next_packet_id link, refl), refl)), rest))
+
+-- its packets are those behind its notes, and the others in their places
+pub take_wires : (held : List ℕ → Bool) (policy : Policy) (link : Link) (items : List Item) → ((text : List ℕ) → wants link.wanted text ≡ held text)
+    → let outs = leaving link items (exits_of policy items) in PacketsFor held items (departures outs) (wires_in outs)
+take_wires held policy link [] same = refl
+take_wires held policy link (item.Publish p ∷ items) same =
     let o = exit policy p.origin p.name in
-    packets_first p items (packet_id_by link p.qos) o (leaving (exited link p o) items (exits_of policy items)) (take_wires policy (exited link p o) items)
-take_wires policy link (item.Subscribe filter ∷ items) = take_wires policy link items
-take_wires policy link (item.Unsubscribe filter ∷ items) = take_wires policy link items
-take_wires policy link (item.Acknowledge packet_id ∷ items) = rw (take_wires policy link items) refl
-take_wires policy link (item.Ping ∷ items) = take_wires policy link items
+    let next = exited link p o in
+    packets_first held p items (packet_id_by link p.qos) o (leaving next items (exits_of policy items))
+    (take_wires held policy next items (λ text. same_wants next.wanted link.wanted (left_same link (item.Publish p ∷ []) (o ∷ [])) text ∙ same text))
+take_wires held policy link (item.Subscribe text ∷ items) same =
+    let next = subscribe_left link text in
+    subscribe_first held link text items (leaving next items (exits_of policy items)) (wants link.wanted text) refl (sym (same text))
+    (take_wires held policy next items (λ one. same_wants next.wanted link.wanted (left_same link (item.Subscribe text ∷ []) []) one ∙ same one))
+take_wires held policy link (item.Unsubscribe text ∷ items) same =
+    let next = unsubscribe_left link text in
+    unsubscribe_first held link text items (leaving next items (exits_of policy items)) (wants link.wanted text) refl (sym (same text))
+    (take_wires held policy next items (λ one. same_wants next.wanted link.wanted (left_same link (item.Unsubscribe text ∷ []) []) one ∙ same one))
+take_wires held policy link (item.Acknowledge packet_id ∷ items) same = (wires_in (leaving link items (exits_of policy items)), (refl, take_wires held policy link items same))
+take_wires held policy link (item.Ping ∷ items) same = take_wires held policy link items same
+
+-- and those that a new connection begins with
+pub all_subscribe : (link : Link) (texts : List (List ℕ)) → AllSubscribe texts (wires_in (subscribing link texts))
+all_subscribe link [] = refl
+all_subscribe link (text ∷ texts) =
+    let next = subscribe_sent link text in (wires_in (subscribing next texts), ((_, ((next_packet_id link, refl), refl)), all_subscribe next texts))
+
+pub wires_none : (xs : List Out) → Wires xs → agains xs ≡ []
+wires_none [] are = refl
+wires_none (Wire sent ∷ xs) are = wires_none xs are.1
+wires_none (Send to datagram ∷ xs) are = absurd are
+wires_none (Note said ∷ xs) are = absurd are
 
 -- ---- any other row
 

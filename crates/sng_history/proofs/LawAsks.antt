@@ -1,7 +1,8 @@
 -- What a client asks for is judged by the law's tables, and answered so; and what a packet of the broker lets out.
 use Rattle.std.proofs.Common.{◌≡◌, ℕ, zero, suc, ◌+◌, Bool, true, false, List, [], ◌∷◌, ◌++◌, length, refl, ap, sym, ◌∙◌, if◌then◌else◌, arith}
 use Rattle.std.specs.Prelude.{◌&&◌, not, nat_lt, nat_le, filter, count_by, slice_get, Option, Some, None, is_none, is_some}
-use Rattle.std.specs.List.{position_or_len}
+use Rattle.std.specs.List.{position_or_len, find, flat_map}
+use Rattle.std.specs.Option.{option_map}
 use Rattle.std.specs.Str.{bytes_eq}
 use Rattle.std.proofs.lemmas.Bool.Decides.{nat_tests}
 use Rattle.std.proofs.lemmas.List.{append-nil}
@@ -10,6 +11,8 @@ use Rattle.sng_text.specs.Texts.{is_name}
 use Rattle.sng_grants.specs.Sources.{scope_of}
 use Rattle.sng_grants.specs.declared.policy.Policy.{Policy}
 use Rattle.sng_policy.specs.Grants.{lists, topic}
+use Rattle.mqtt_frames.specs.declared.packet.SubscribeCode.{SubscribeCode}
+use Rattle.mqtt_frames.specs.declared.packet.SubscribeCode.TheVariants as code
 use Rattle.mqtt_frames.specs.declared.packet.Packet.{Packet}
 use Rattle.mqtt_frames.specs.declared.packet.Packet.TheVariants as packet
 use Rattle.sng_ids.specs.Ids.{id_for, name_of, is_full_for}
@@ -29,18 +32,26 @@ use Rattle.sng_book.specs.declared.decision.Decision.TheVariants as note
 use Rattle.sng_book.specs.declared.decision.Who.TheVariants as who
 use Rattle.sng_book.specs.declared.outcome.IdKind.TheVariants as kind
 use Rattle.sng_book.specs.declared.outcome.Place.TheVariants as place
-use Rattle.sng_book.specs.declared.outcome.Denial.TheVariants.{NoScope, BadName, IdType, UnknownId, MissingPub, OutOfTurn, UpstreamDown, Full}
+use Rattle.sng_book.specs.declared.outcome.Denial.TheVariants.{NoScope, BadName, IdType, UnknownId, MissingPub, BrokerRefused, OutOfTurn, UpstreamDown, Full}
 use Rattle.sng_book.specs.declared.outcome.Outcome.{Outcome}
 use Rattle.sng_book.specs.declared.outcome.Outcome.TheVariants.{Allowed, Denied}
+use Rattle.sng_fan.specs.Subscriptions.{stands}
+use Rattle.sng_book.specs.declared.out.Out.{Out}
 use Rattle.sng_book.specs.declared.out.Out.TheVariants.{Note}
 use Rattle.sng_book.specs.declared.row.Row.{Row}
-use Rattle.sng_history.specs.Causes.{ByRegister, ByPublish}
+use Rattle.sng_history.specs.Causes.{ByMessage, ByPacket, ToRegister, ToPublish}
 use Rattle.sng_history.specs.Clients.{Client, is_here}
-use Rattle.sng_history.specs.Packets.{answer_of, misnamed, dropped, answer_outs}
-use Rattle.sng_history.specs.State.{State, qos_of}
+use Rattle.sng_history.specs.Packets.{subscribe_answer, answer_of, misnamed, dropped, filter_open, refused_filter, answer_outs}
+use Rattle.sng_history.specs.Links.{Wanted, has_id, is_open}
+use Rattle.sng_history.specs.Lawful.{refused_end}
+use Rattle.sng_history.specs.ViewsStanding.{standing_of, is_its, is_answered, is_refusal, filter_with, wanted}
+use Rattle.sng_history.proofs.Own.{each_map}
+use Rattle.sng_history.proofs.LawEnds.{flat_ids}
+use Rattle.sng_history.specs.State.{State, around, qos_of}
+use Rattle.sng_history.specs.Standing.{Release, holds}
 use Rattle.sng_history.specs.Verdicts.{and_then, exit, verdict, has_flight, octets_of, name_in, is_active, register_ask, publish_ask, publish_named}
-use Rattle.sng_history.specs.Whole.{spell, replied, frame_row}
-use Rattle.sng_history.specs.Steps.{notes_for}
+use Rattle.sng_history.specs.Whole.{spell, replied, stranger_to, drops, frame_row}
+use Rattle.sng_history.specs.Steps.{notes_for, outs_by}
 use Rattle.sng_history.specs.Views.{policy_in_force}
 use Rattle.sng_history.specs.ViewsClients.{phase_of, is_among, names_told, those_at}
 use Rattle.sng_history.specs.ViewsLink.{waiting, publications}
@@ -50,13 +61,13 @@ use Rattle.sng_history.specs.LawsRules.{Rule, judged, may_publish}
 use Rattle.sng_history.specs.LawsAnswers as laws
 use Rattle.sng_history.specs.LawsAnswers.{answer_to, is_bad_short, is_nameless, or_empty}
 use Rattle.sng_history.specs.LawsAsks as asks
-use Rattle.sng_history.specs.LawsAsks.{register_rules, id_told, regack, register_stranger, register_answer, is_acknowledged, is_reserved, told_as, is_untold, name_meant, unacknowledged, session_rules, puback, publish_stranger, publish_answer, packet_answer}
+use Rattle.sng_history.specs.LawsAsks.{register_rules, id_told, regack, register_stranger, register_answer, is_acknowledged, is_reserved, told_as, is_untold, name_meant, unacknowledged, session_rules, puback, publish_stranger, publish_answer, suback_answer, packet_answer}
 use Rattle.sng_history.proofs.Places.{here_is}
 use Rattle.sng_history.proofs.SeenClients.{heard_if}
 use Rattle.sng_history.proofs.SeenIds.{known, length_known, place_known, id_known}
 use Rattle.sng_history.proofs.SeenState.{StateShown}
 use Rattle.sng_history.proofs.LawRules.{exit_ruled}
-use Rattle.sng_history.proofs.LawHere.{row_answer}
+use Rattle.sng_history.proofs.LawHere.{row_answer, each_part}
 use Rattle.sng_history.proofs.LawEntry.{code_same}
 use Rattle.sng_history.proofs.LawMessages.{by_cause, active_same}
 
@@ -73,14 +84,14 @@ listed_exit policy id name listed =
 
 -- ---- a REGISTER
 
-most_by : (n m : ℕ) → nat_le m n ≡ not (nat_lt n m)
+pub most_by : (n m : ℕ) → nat_le m n ≡ not (nat_lt n m)
 most_by n m = grind (arith, nat_tests)
 
 none_if : (b : Bool) (n : ℕ) → is_none (let o : Option ℕ = if b then Some n else None in o) ≡ not b
 none_if true n = refl
 none_if false n = refl
 
-full_known : (name : List ℕ) (names : List (List ℕ)) → is_full_for name (known names) ≡ (not (is_among name names) && not (nat_lt (length names) 128))
+pub full_known : (name : List ℕ) (names : List (List ℕ)) → is_full_for name (known names) ≡ (not (is_among name names) && not (nat_lt (length names) 128))
 full_known name names =
     rw (place_known name names, length_known names, none_if (is_among name names) (position_or_len (bytes_eq name) names), most_by (length names) 128) refl
 
@@ -112,7 +123,7 @@ register_named_so id text true true false g f is = absurd cc
 
 -- what follows the note
 regack_by : (s : State) (from : Address) (r : Register) (y : Client) (id : ℕ) (name : Option (List ℕ)) (o : Outcome) → (o ≡ Allowed → name ≡ Some r.name) → id_for r.name y.ids ≡ id
-    → replied (ByRegister from r) y name o ≡ regack y.address id r o ∷ []
+    → replied (ByMessage from (ToRegister r)) y name o ≡ regack y.address id r o ∷ []
 regack_by s from r y id (Some name) Allowed named is =
     let e : Some name ≡ Some r.name = named refl in
     let same : name ≡ r.name = cc in
@@ -120,9 +131,9 @@ regack_by s from r y id (Some name) Allowed named is =
 regack_by s from r y id None Allowed named is = absurd (let e : None ≡ Some r.name = named refl in cc)
 regack_by s from r y id name (Denied rule) named is = rw (code_same rule) refl
 
-register_spelled : (s : State) (from : Address) (r : Register) (y : Client) (id : ℕ) (name : Option (List ℕ)) (o : Outcome) → (o ≡ Allowed → name ≡ Some r.name) → id_for r.name y.ids ≡ id
-    → spell (by_cause s (ByRegister from r)) y (note.Register (who.Client y.id) name o ∷ []) ≡ Note (note.Register (who.Client y.id) name o) ∷ regack y.address id r o ∷ []
-register_spelled s from r y id name o named is = ap (λ outs. Note (note.Register (who.Client y.id) name o) ∷ (outs ++ [])) (regack_by s from r y id name o named is)
+register_spelled : (s : State) (from : Address) (r : Register) (dropped : List Release) (y : Client) (id : ℕ) (name : Option (List ℕ)) (o : Outcome) → (o ≡ Allowed → name ≡ Some r.name) → id_for r.name y.ids ≡ id
+    → spell (by_cause s (ByMessage from (ToRegister r))) dropped y (note.Register (who.Client y.id) name o ∷ []) ≡ Note (note.Register (who.Client y.id) name o) ∷ regack y.address id r o ∷ []
+register_spelled s from r dropped y id name o named is = ap (λ outs. Note (note.Register (who.Client y.id) name o) ∷ (outs ++ [])) (regack_by s from r y id name o named is)
 
 -- the verdict on a REGISTER, as the rows show it
 register_judged : (h : List Row) (s : State) (x : Client) (text : List ℕ) → StateShown h s → ClientShown h x
@@ -133,27 +144,30 @@ register_judged h s x text shown is =
     (register_said s.policy x text (is_active x.phase) (lists s.policy x.id) (is_name text) (may_publish (scope_of s.policy.clients x.id) text) (not (is_among text names) && not (nat_lt (length names) 128)) refl refl refl refl
     (ap (is_full_for text) is.ids ∙ full_known text names))
 
-register_there : (h : List Row) (s : State) (from : Address) (r : Register) (x : Client) → StateShown h s → ClientShown h x
-    → spell (by_cause s (ByRegister from r)) (heard_if true s.clock x) (register_ask s.policy x r.name ∷ []) ≡ register_answer h x.address r x.id
-register_there h s from r x shown is =
+register_there : (h : List Row) (s : State) (from : Address) (r : Register) (dropped : List Release) (x : Client) → StateShown h s → ClientShown h x
+    → spell (by_cause s (ByMessage from (ToRegister r))) dropped (heard_if true s.clock x) (register_ask s.policy x r.name ∷ []) ≡ register_answer h x.address r x.id
+register_there h s from r dropped x shown is =
     let y : Client = heard_if true s.clock x in
     let policy = policy_in_force h in
     let names = names_told x.id h in
-    ap (λ said. spell (by_cause s (ByRegister from r)) y (said ∷ [])) (register_judged h s x r.name shown is)
-    ∙ register_spelled s from r y (id_told r.name names) (if asks.may_ask h x.id && is_name r.name then Some r.name else None) (judged (register_rules h x.id r.name))
+    ap (λ said. spell (by_cause s (ByMessage from (ToRegister r))) dropped y (said ∷ [])) (register_judged h s x r.name shown is)
+    ∙ register_spelled s from r dropped y (id_told r.name names) (if asks.may_ask h x.id && is_name r.name then Some r.name else None) (judged (register_rules h x.id r.name))
     (register_named_so x.id r.name (laws.is_active (phase_of x.id h)) (lists policy x.id) (is_name r.name) (may_publish (scope_of policy.clients x.id) r.name) (not (is_among r.name names) && not (nat_lt (length names) 128)))
     (ap (id_for r.name) is.ids ∙ id_known r.name names)
 
-register_part : (h : List Row) (s : State) (from : Address) (r : Register) (x : Client) (b : Bool) → StateShown h s → ClientShown h x → (b ≡ true → x.address ≡ from)
-    → (if b then [] else []) ++ spell (by_cause s (ByRegister from r)) (heard_if b s.clock x) (if b then register_ask s.policy x r.name ∷ [] else [])
+register_part : (h : List Row) (s : State) (from : Address) (r : Register) (dropped : List Release) (x : Client) (b : Bool) → StateShown h s → ClientShown h x → (b ≡ true → x.address ≡ from)
+    → (if b then [] else []) ++ spell (by_cause s (ByMessage from (ToRegister r))) dropped (heard_if b s.clock x) (if b then register_ask s.policy x r.name ∷ [] else [])
     ≡ (if b then register_answer h from r x.id else [])
-register_part h s from r x true shown is at = register_there h s from r x shown is ∙ ap (λ to. register_answer h to r x.id) (at refl)
-register_part h s from r x false shown is at = refl
+register_part h s from r dropped x true shown is at = register_there h s from r dropped x shown is ∙ ap (λ to. register_answer h to r x.id) (at refl)
+register_part h s from r dropped x false shown is at = refl
 
 pub register_row : (h : List Row) (s : State) (from : Address) (r : Register) → StateShown h s
-    → frame_row s (ByRegister from r) (notes_for s (ByRegister from r)) ≡ answer_to (register_stranger from) (register_answer h from r) (those_at from h)
+    → let c = ByMessage from (ToRegister r) in
+    frame_row s c (stranger_to from (ToRegister r)) (notes_for s c) ≡ answer_to (register_stranger from) (register_answer h from r) (those_at from h)
 register_row h s from r shown =
-    row_answer h s from (ByRegister from r) (register_answer h from r) shown (λ x. refl) (λ x is. register_part h s from r x (is_here x from) shown is (here_is x from))
+    let c = ByMessage from (ToRegister r) in
+    row_answer h s from c (stranger_to from (ToRegister r)) (register_answer h from r) shown (λ x. refl)
+    (each_part h s from c (register_answer h from r) shown (λ x is. register_part h s from r (drops s c (notes_for s c)) x (is_here x from) shown is (here_is x from)))
 
 -- ---- a PUBLISH of a session
 
@@ -274,7 +288,7 @@ publish_said s x told p true true active listed is =
 
 -- what follows the note
 puback_by : (s : State) (from : Address) (p : Publish) (y : Client) (name : Option (List ℕ)) (o : Outcome) (q : FrameQos) → p.flags.qos ≡ q
-    → replied (ByPublish from p) y name o ≡ puback y.address p o
+    → replied (ByMessage from (ToPublish p)) y name o ≡ puback y.address p o
 puback_by s from p y name (Denied rule) q is = rw (code_same rule) refl
 puback_by s from p y name Allowed qos.AtMostOnce is = rw is refl
 puback_by s from p y name Allowed qos.AtLeastOnce is = rw is refl
@@ -290,25 +304,28 @@ publish_judged h s x p shown flights is =
     rw (is.phase, sym (active_same x.phase), sym shown.policy, sym shown.up, sym (load_same h s shown flights), sym shown.waits)
     (publish_said s x told p (is_active x.phase) (lists s.policy x.id) refl refl is.ids)
 
-publish_there : (h : List Row) (s : State) (from : Address) (p : Publish) (x : Client) → StateShown h s → s.link.in_flight ≡ in_flight h → ClientShown h x
-    → spell (by_cause s (ByPublish from p)) (heard_if true s.clock x) (publish_ask s x p ∷ []) ≡ publish_answer h x.address p x.id
-publish_there h s from p x shown flights is =
+publish_there : (h : List Row) (s : State) (from : Address) (p : Publish) (dropped : List Release) (x : Client) → StateShown h s → s.link.in_flight ≡ in_flight h → ClientShown h x
+    → spell (by_cause s (ByMessage from (ToPublish p))) dropped (heard_if true s.clock x) (publish_ask s x p ∷ []) ≡ publish_answer h x.address p x.id
+publish_there h s from p dropped x shown flights is =
     let y : Client = heard_if true s.clock x in
     let name = if asks.may_ask h x.id then name_meant (policy_in_force h) (names_told x.id h) p.flags.id_type p.topic_id else None in
     let o = judged (session_rules h x.id p) in
-    ap (λ said. spell (by_cause s (ByPublish from p)) y (said ∷ [])) (publish_judged h s x p shown flights is)
-    ∙ ap (λ outs. Note (note.Publish (who.Client x.id) name o) ∷ outs) (append-nil (replied (ByPublish from p) y name o) ∙ puback_by s from p y name o p.flags.qos refl)
+    ap (λ said. spell (by_cause s (ByMessage from (ToPublish p))) dropped y (said ∷ [])) (publish_judged h s x p shown flights is)
+    ∙ ap (λ outs. Note (note.Publish (who.Client x.id) name o) ∷ outs) (append-nil (replied (ByMessage from (ToPublish p)) y name o) ∙ puback_by s from p y name o p.flags.qos refl)
 
-publish_part : (h : List Row) (s : State) (from : Address) (p : Publish) (x : Client) (b : Bool) → StateShown h s → s.link.in_flight ≡ in_flight h → ClientShown h x → (b ≡ true → x.address ≡ from)
-    → (if b then [] else []) ++ spell (by_cause s (ByPublish from p)) (heard_if b s.clock x) (if b then publish_ask s x p ∷ [] else [])
+publish_part : (h : List Row) (s : State) (from : Address) (p : Publish) (dropped : List Release) (x : Client) (b : Bool) → StateShown h s → s.link.in_flight ≡ in_flight h → ClientShown h x → (b ≡ true → x.address ≡ from)
+    → (if b then [] else []) ++ spell (by_cause s (ByMessage from (ToPublish p))) dropped (heard_if b s.clock x) (if b then publish_ask s x p ∷ [] else [])
     ≡ (if b then publish_answer h from p x.id else [])
-publish_part h s from p x true shown flights is at = publish_there h s from p x shown flights is ∙ ap (λ to. publish_answer h to p x.id) (at refl)
-publish_part h s from p x false shown flights is at = refl
+publish_part h s from p dropped x true shown flights is at = publish_there h s from p dropped x shown flights is ∙ ap (λ to. publish_answer h to p x.id) (at refl)
+publish_part h s from p dropped x false shown flights is at = refl
 
 pub publish_row : (h : List Row) (s : State) (from : Address) (p : Publish) → StateShown h s → s.link.in_flight ≡ in_flight h
-    → frame_row s (ByPublish from p) (notes_for s (ByPublish from p)) ≡ answer_to (publish_stranger from) (publish_answer h from p) (those_at from h)
+    → let c = ByMessage from (ToPublish p) in
+    frame_row s c (stranger_to from (ToPublish p)) (notes_for s c) ≡ answer_to (publish_stranger from) (publish_answer h from p) (those_at from h)
 publish_row h s from p shown flights =
-    row_answer h s from (ByPublish from p) (publish_answer h from p) shown (λ x. refl) (λ x is. publish_part h s from p x (is_here x from) shown flights is (here_is x from))
+    let c = ByMessage from (ToPublish p) in
+    row_answer h s from c (stranger_to from (ToPublish p)) (publish_answer h from p) shown (λ x. refl)
+    (each_part h s from c (publish_answer h from p) shown (λ x is. publish_part h s from p (drops s c (notes_for s c)) x (is_here x from) shown flights is (here_is x from)))
 
 -- ---- a packet of the broker
 
@@ -321,15 +338,90 @@ message_by name (Some packet_id) false r = refl
 message_by name (Some packet_id) true true = refl
 message_by name (Some packet_id) true false = refl
 
-pub packet_judged : (h : List Row) (s : State) (sent : Packet) → StateShown h s → answer_outs s.up s.link (answer_of sent) ≡ packet_answer h sent
-packet_judged h s (packet.Publish p) shown = rw (sym shown.up, sym shown.waits) (message_by p.name p.packet_id s.up (nat_lt (length s.link.waiting) 512))
-packet_judged h s (packet.PublishAck packet_id) shown = refl
-packet_judged h s (packet.SubscribeAck answer) shown = refl
-packet_judged h s (packet.UnsubscribeAck packet_id) shown = refl
-packet_judged h s packet.PingResponse shown = refl
-packet_judged h s (packet.Connect connect) shown = refl
-packet_judged h s (packet.ConnectAck answer) shown = refl
-packet_judged h s (packet.Subscribe request) shown = refl
-packet_judged h s (packet.Unsubscribe request) shown = refl
-packet_judged h s packet.PingRequest shown = refl
-packet_judged h s packet.Disconnect shown = refl
+-- what is nobody's
+abbrev NoAck : Packet → Type 0
+NoAck (packet.SubscribeAck answer) = ⊥
+NoAck _ = Unit {0}
+
+answer_judged : (h : List Row) (s : State) (sent : Packet) → NoAck sent → StateShown h s → answer_outs s.up s.link (answer_of sent) ≡ packet_answer h sent
+answer_judged h s (packet.Publish p) other shown = rw (sym shown.up, sym shown.waits) (message_by p.name p.packet_id s.up (nat_lt (length s.link.waiting) 512))
+answer_judged h s (packet.PublishAck packet_id) other shown = refl
+answer_judged h s (packet.SubscribeAck answer) other shown = absurd other
+answer_judged h s (packet.UnsubscribeAck packet_id) other shown = refl
+answer_judged h s packet.PingResponse other shown = refl
+answer_judged h s (packet.Connect connect) other shown = refl
+answer_judged h s (packet.ConnectAck answer) other shown = refl
+answer_judged h s (packet.Subscribe request) other shown = refl
+answer_judged h s (packet.Unsubscribe request) other shown = refl
+answer_judged h s packet.PingRequest other shown = refl
+answer_judged h s packet.Disconnect other shown = refl
+
+-- what ends as the broker refuses a filter
+abbrev ends_out : State → Packet → Option (List ℕ) → Client → List Out
+ends_out s sent text x = spell (around s (ByPacket sent)) [] x (refused_end x text)
+
+none_out : (s : State) (sent : Packet) (xs : List Client) → flat_map (ends_out s sent None) xs ≡ []
+none_out s sent [] = refl
+none_out s sent (x ∷ xs) = none_out s sent xs
+
+end_if : (s : State) (sent : Packet) (x : Client) (text : List ℕ) (b : Bool)
+    → spell (around s (ByPacket sent)) [] x (if b then note.End x.id text (Denied BrokerRefused) ∷ [] else []) ≡ (if b then Note (note.End x.id text (Denied BrokerRefused)) ∷ [] else [])
+end_if s sent x text true = refl
+end_if s sent x text false = refl
+
+end_out : (h : List Row) (s : State) (sent : Packet) (text : List ℕ) (x : Client) → ClientShown h x
+    → ends_out s sent (Some text) x ≡ (if stands (standing_of x.id h) text then Note (note.End x.id text (Denied BrokerRefused)) ∷ [] else [])
+end_out h s sent text x shown =
+    end_if s sent x text (holds text x) ∙ ap (λ held. if stands held text then Note (note.End x.id text (Denied BrokerRefused)) ∷ [] else []) shown.filters
+
+refused_out : (h : List Row) (s : State) (sent : Packet) (text : Option (List ℕ)) → StateShown h s → flat_map (ends_out s sent text) s.clients ≡ suback_answer h text
+refused_out h s sent None shown = none_out s sent s.clients
+refused_out h s sent (Some text) shown =
+    let f : List ℕ → List Out = λ id. if stands (standing_of id h) text then Note (note.End id text (Denied BrokerRefused)) ∷ [] else [] in
+    flat_ids (ends_out s sent (Some text)) f s.clients (each_map (ClientShown h) (λ x. ends_out s sent (Some text) x ≡ f x.id) s.clients (λ x is. end_out h s sent text x is) shown.clients)
+    ∙ ap (flat_map f) shown.order
+
+-- the filter whose open SUBSCRIBE has the packet id
+its_same : (packet_id : ℕ) (last : Option ℕ) → has_id packet_id last ≡ is_its packet_id last
+its_same packet_id None = refl
+its_same packet_id (Some used) = refl
+
+open_same : (wanted : List Wanted) (packet_id : ℕ) → filter_open wanted packet_id ≡ filter_with packet_id wanted
+open_same [] packet_id = refl
+open_same (w ∷ wanted) packet_id = by_first w (is_open packet_id w) (is_answered packet_id w) (its_same packet_id w.open_id) (open_same wanted packet_id)
+  where
+    by_first : (w : Wanted) (a b : Bool) → a ≡ b → filter_open wanted packet_id ≡ filter_with packet_id wanted
+        → option_map (λ v. v.filter) (if a then Some w else find (is_open packet_id) wanted) ≡ option_map (λ v. v.filter) (if b then Some w else find (is_answered packet_id) wanted)
+    by_first w true true same rest = refl
+    by_first w false false same rest = rest
+    by_first w true false same rest = absurd (let e = same in cc)
+    by_first w false true same rest = absurd (let e = same in cc)
+
+suback_out : (h : List Row) (s : State) (sent : Packet) (packet_id : ℕ) (codes : List SubscribeCode) → StateShown h s → s.link.wanted ≡ wanted h
+    → flat_map (ends_out s sent (refused_filter s.link (subscribe_answer packet_id codes))) s.clients ++ answer_outs s.up s.link (subscribe_answer packet_id codes)
+    ≡ (if is_refusal codes then suback_answer h (filter_with packet_id (wanted h)) else [])
+suback_out h s sent packet_id [] shown is = append-nil (flat_map (ends_out s sent None) s.clients) ∙ none_out s sent s.clients
+suback_out h s sent packet_id (code.Granted q ∷ codes) shown is = append-nil (flat_map (ends_out s sent None) s.clients) ∙ none_out s sent s.clients
+suback_out h s sent packet_id (code.Refused ∷ codes) shown is =
+    let text = filter_open s.link.wanted packet_id in
+    append-nil (flat_map (ends_out s sent text) s.clients)
+    ∙ (refused_out h s sent text shown ∙ ap (suback_answer h) (ap (λ all. filter_open all packet_id) is ∙ open_same (wanted h) packet_id))
+
+-- a packet that ends nothing
+other_out : (h : List Row) (s : State) (sent : Packet) → NoAck sent → StateShown h s → refused_filter s.link (answer_of sent) ≡ None → outs_by s (ByPacket sent) ≡ packet_answer h sent
+other_out h s sent other shown none =
+    ap (λ text. flat_map (ends_out s sent text) s.clients ++ answer_outs s.up s.link (answer_of sent)) none
+    ∙ (ap (λ first. first ++ answer_outs s.up s.link (answer_of sent)) (none_out s sent s.clients) ∙ answer_judged h s sent other shown)
+
+pub packet_judged : (h : List Row) (s : State) (sent : Packet) → StateShown h s → s.link.wanted ≡ wanted h → outs_by s (ByPacket sent) ≡ packet_answer h sent
+packet_judged h s (packet.SubscribeAck answer) shown is = suback_out h s (packet.SubscribeAck answer) answer.packet_id answer.codes shown is
+packet_judged h s (packet.Publish p) shown is = other_out h s (packet.Publish p) tt shown refl
+packet_judged h s (packet.PublishAck packet_id) shown is = other_out h s (packet.PublishAck packet_id) tt shown refl
+packet_judged h s (packet.UnsubscribeAck packet_id) shown is = other_out h s (packet.UnsubscribeAck packet_id) tt shown refl
+packet_judged h s packet.PingResponse shown is = other_out h s packet.PingResponse tt shown refl
+packet_judged h s (packet.Connect connect) shown is = other_out h s (packet.Connect connect) tt shown refl
+packet_judged h s (packet.ConnectAck answer) shown is = other_out h s (packet.ConnectAck answer) tt shown refl
+packet_judged h s (packet.Subscribe request) shown is = other_out h s (packet.Subscribe request) tt shown refl
+packet_judged h s (packet.Unsubscribe request) shown is = other_out h s (packet.Unsubscribe request) tt shown refl
+packet_judged h s packet.PingRequest shown is = other_out h s packet.PingRequest tt shown refl
+packet_judged h s packet.Disconnect shown is = other_out h s packet.Disconnect tt shown refl

@@ -7,14 +7,17 @@ use Rattle.sng_frames.specs.declared.fault.FrameFault.TheVariants as fault
 use Rattle.sng_frames.specs.declared.messages.connect.Connect.{Connect}
 use Rattle.sng_frames.specs.declared.messages.publish.Publish.{Publish}
 use Rattle.sng_frames.specs.declared.messages.register.Register.{Register}
+use Rattle.sng_frames.specs.declared.messages.subscribe.TopicRequest.{TopicRequest}
+use Rattle.sng_grants.specs.declared.policy.Policy.{Policy}
 use Rattle.sng_frames.specs.declared.qos.FrameQos.{FrameQos}
 use Rattle.sng_frames.specs.declared.qos.FrameQos.TheVariants as qos
 use Rattle.sng_frames.specs.declared.frame.SnFrame.{SnFrame}
 use Rattle.sng_frames.specs.declared.frame.SnFrame.TheVariants as frame
 use Rattle.sng_book.specs.declared.address.Address.{Address}
-use Rattle.sng_book.specs.declared.event.Event.TheVariants.{Broker}
+use Rattle.sng_book.specs.declared.event.Event.TheVariants.{Broker, Replace}
 use Rattle.sng_book.specs.declared.row.Row.{Row}
-use Rattle.sng_history.specs.Causes.{Cause, ByConnect, ByPing, ByLeave, BySource, ByRegister, ByPublish, ByUnsupported, ByBroken, rule_of, publish_cause, disconnect_cause, frame_cause, datagram_cause, cause_of}
+use Rattle.sng_history.specs.Causes.{ToPing, ToLeave, ToRegister, ToPublish, ToSubscribe, ToUnsubscribe, Untaken, Cause, rule_of, publish_cause, disconnect_cause, frame_cause, datagram_cause, cause_of}
+use Rattle.sng_history.specs.Causes.{ByConnect, ByMessage, BySource, ByBroken, ByReplace}
 use Rattle.sng_history.specs.State.{opening, state_of}
 use Rattle.sng_history.specs.Lawful.{Lawful}
 use Rattle.sng_history.specs.Steps.{outs_by}
@@ -29,8 +32,11 @@ use Rattle.sng_history.proofs.LawHere.{those_kept, most_here}
 use Rattle.sng_history.proofs.LawEntry.{connect_row}
 use Rattle.sng_history.proofs.LawSource.{source_row}
 use Rattle.sng_history.proofs.LawMessages.{unsupported_row, ping_row, leave_row, broken_row}
+use Rattle.sng_history.specs.LawsSubscriptions.{subscribe_stranger, subscribe_answer, unsubscribe_stranger, unsubscribe_answer, replace_answer}
+use Rattle.sng_history.proofs.LawSubscriptions.{subscribe_row, unsubscribe_row, replace_row}
 use Rattle.sng_history.proofs.LawAsks.{register_row, publish_row, packet_judged}
 use Rattle.sng_history.proofs.SeenRest.{rest_shown}
+use Rattle.sng_history.proofs.UpstreamWanted.{wanted_shown}
 
 -- a lawful row lets out what its cause says
 row_outs : (h : List Row) (row : Row) (c : Cause) → Lawful opening (row ∷ h) → cause_of row.event ≡ c → row.outs ≡ outs_by (state_of opening h) c
@@ -66,7 +72,7 @@ source_law h row from p l brought is =
     row_outs h row (BySource from p) l (message_cause row from (frame.Publish p) brought ∙ source_cause from p p.flags.qos is)
     ∙ source_row h (state_of opening h) from p (stands h l.0).shown
 
-session_cause : (from : Address) (p : Publish) (q : FrameQos) → is_of_session q ≡ true → publish_cause from p q ≡ ByPublish from p
+session_cause : (from : Address) (p : Publish) (q : FrameQos) → is_of_session q ≡ true → publish_cause from p q ≡ ByMessage from (ToPublish p)
 session_cause from p qos.AtMostOnce is = refl
 session_cause from p qos.AtLeastOnce is = refl
 session_cause from p qos.WithoutSession is = absurd (let e = is in cc)
@@ -75,37 +81,52 @@ session_cause from p qos.ExactlyOnce is = absurd (let e = is in cc)
 pub publish_law : (h : List Row) (row : Row) (from : Address) (p : Publish) → Lawful opening (row ∷ h) → Brought row from (frame.Publish p) → is_of_session p.flags.qos ≡ true
     → row.outs ≡ answer_to (publish_stranger from) (publish_answer h from p) (those_at from h)
 publish_law h row from p l brought is =
-    row_outs h row (ByPublish from p) l (message_cause row from (frame.Publish p) brought ∙ session_cause from p p.flags.qos is)
+    row_outs h row (ByMessage from (ToPublish p)) l (message_cause row from (frame.Publish p) brought ∙ session_cause from p p.flags.qos is)
     ∙ publish_row h (state_of opening h) from p (stands h l.0).shown (rest_shown h l.0).in_flight
 
 pub register_law : (h : List Row) (row : Row) (from : Address) (r : Register) → Lawful opening (row ∷ h) → Brought row from (frame.Register r)
     → row.outs ≡ answer_to (register_stranger from) (register_answer h from r) (those_at from h)
 register_law h row from r l brought =
-    row_outs h row (ByRegister from r) l (message_cause row from (frame.Register r) brought) ∙ register_row h (state_of opening h) from r (stands h l.0).shown
+    row_outs h row (ByMessage from (ToRegister r)) l (message_cause row from (frame.Register r) brought) ∙ register_row h (state_of opening h) from r (stands h l.0).shown
+
+pub subscribe_law : (h : List Row) (row : Row) (from : Address) (r : TopicRequest) → Lawful opening (row ∷ h) → Brought row from (frame.Subscribe r)
+    → row.outs ≡ answer_to (subscribe_stranger from) (subscribe_answer h from r) (those_at from h)
+subscribe_law h row from r l brought =
+    row_outs h row (ByMessage from (ToSubscribe r)) l (message_cause row from (frame.Subscribe r) brought) ∙ subscribe_row h (state_of opening h) from r (stands h l.0).shown
+
+pub unsubscribe_law : (h : List Row) (row : Row) (from : Address) (r : TopicRequest) → Lawful opening (row ∷ h) → Brought row from (frame.Unsubscribe r)
+    → row.outs ≡ answer_to (unsubscribe_stranger from) (unsubscribe_answer h from r) (those_at from h)
+unsubscribe_law h row from r l brought =
+    row_outs h row (ByMessage from (ToUnsubscribe r)) l (message_cause row from (frame.Unsubscribe r) brought) ∙ unsubscribe_row h (state_of opening h) from r (stands h l.0).shown
+
+pub replace_law : (h : List Row) (row : Row) (policy : Policy) → Lawful opening (row ∷ h) → row.event ≡ Replace policy → row.outs ≡ replace_answer h policy
+replace_law h row policy l is = row_outs h row (ByReplace policy) l (ap cause_of is) ∙ replace_row h (state_of opening h) policy (stands h l.0).shown
 
 pub ping_law : (h : List Row) (row : Row) (from : Address) (named : Option (List ℕ)) → Lawful opening (row ∷ h) → Brought row from (frame.PingRequest named)
     → row.outs ≡ answer_to (no_session from) (ping_answer h from named) (those_at from h)
 ping_law h row from named l brought =
-    row_outs h row (ByPing from named) l (message_cause row from (frame.PingRequest named) brought) ∙ ping_row h (state_of opening h) from named (stands h l.0).shown
+    row_outs h row (ByMessage from (ToPing named)) l (message_cause row from (frame.PingRequest named) brought) ∙ ping_row h (state_of opening h) from named (stands h l.0).shown
 
 pub leave_law : (h : List Row) (row : Row) (from : Address) → Lawful opening (row ∷ h) → Brought row from (frame.Disconnect None)
     → row.outs ≡ answer_to (no_session from) (leave_answer from) (those_at from h)
 leave_law h row from l brought =
-    row_outs h row (ByLeave from) l (message_cause row from (frame.Disconnect None) brought) ∙ leave_row h (state_of opening h) from (stands h l.0).shown
+    row_outs h row (ByMessage from ToLeave) l (message_cause row from (frame.Disconnect None) brought) ∙ leave_row h (state_of opening h) from (stands h l.0).shown
 
-twice_cause : (from : Address) (p : Publish) (q : FrameQos) → is_exactly_once q ≡ true → publish_cause from p q ≡ ByUnsupported from (frame.Publish p)
+twice_cause : (from : Address) (p : Publish) (q : FrameQos) → is_exactly_once q ≡ true → publish_cause from p q ≡ ByMessage from (Untaken (frame.Publish p))
 twice_cause from p qos.ExactlyOnce is = refl
 twice_cause from p qos.AtMostOnce is = absurd (let e = is in cc)
 twice_cause from p qos.AtLeastOnce is = absurd (let e = is in cc)
 twice_cause from p qos.WithoutSession is = absurd (let e = is in cc)
 
-sleep_cause : (from : Address) (duration : Option ℕ) → is_unsupported (frame.Disconnect duration) ≡ true → disconnect_cause from duration ≡ ByUnsupported from (frame.Disconnect duration)
+sleep_cause : (from : Address) (duration : Option ℕ) → is_unsupported (frame.Disconnect duration) ≡ true → disconnect_cause from duration ≡ ByMessage from (Untaken (frame.Disconnect duration))
 sleep_cause from (Some duration) is = refl
 sleep_cause from None is = absurd (let e = is in cc)
 
-unsupported_cause : (from : Address) (message : SnFrame) → is_unsupported message ≡ true → frame_cause from message ≡ ByUnsupported from message
+unsupported_cause : (from : Address) (message : SnFrame) → is_unsupported message ≡ true → frame_cause from message ≡ ByMessage from (Untaken message)
 unsupported_cause from (frame.Connect connect) is = absurd (let e = is in cc)
 unsupported_cause from (frame.Register r) is = absurd (let e = is in cc)
+unsupported_cause from (frame.Subscribe r) is = absurd (let e = is in cc)
+unsupported_cause from (frame.Unsubscribe r) is = absurd (let e = is in cc)
 unsupported_cause from (frame.PingRequest client) is = absurd (let e = is in cc)
 unsupported_cause from (frame.Publish p) is = twice_cause from p p.flags.qos is
 unsupported_cause from (frame.Disconnect duration) is = sleep_cause from duration is
@@ -114,8 +135,8 @@ unsupported_cause from message is = refl
 pub unsupported_law : (h : List Row) (row : Row) (from : Address) (message : SnFrame) → Lawful opening (row ∷ h) → Brought row from message → is_unsupported message ≡ true
     → row.outs ≡ answer_to (unsupported_stranger from message) (unsupported_answer from message) (those_at from h)
 unsupported_law h row from message l brought is =
-    row_outs h row (ByUnsupported from message) l (message_cause row from message brought ∙ unsupported_cause from message is)
-    ∙ unsupported_row h (state_of opening h) from message (stands h l.0).shown
+    row_outs h row (ByMessage from (Untaken message)) l (message_cause row from message brought ∙ unsupported_cause from message is)
+    ∙ unsupported_row h (state_of opening h) from message is (stands h l.0).shown
 
 rule_same : (broke : FrameFault) → rule_of broke ≡ broken_rule broke
 rule_same fault.Malformed = refl
@@ -130,4 +151,4 @@ broken_law h row from broke l broken =
     ∙ broken_row h (state_of opening h) from (broken_rule broke) (stands h l.0).shown
 
 pub packet_law : (h : List Row) (row : Row) (packet : Packet) → Lawful opening (row ∷ h) → row.event ≡ Broker packet → row.outs ≡ packet_answer h packet
-packet_law h row packet l is = row_outs h row (cause_of (Broker packet)) l (ap cause_of is) ∙ packet_judged h (state_of opening h) packet (stands h l.0).shown
+packet_law h row packet l is = row_outs h row (cause_of (Broker packet)) l (ap cause_of is) ∙ packet_judged h (state_of opening h) packet (stands h l.0).shown (wanted_shown h l.0).wanted

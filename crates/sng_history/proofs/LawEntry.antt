@@ -3,6 +3,7 @@ use Rattle.std.proofs.Common.{◌≡◌, ℕ, Bool, true, false, List, [], ◌�
 use Rattle.std.specs.Prelude.{◌&&◌, ◌||◌, ◌==◌, not, nat_lt, filter}
 use Rattle.std.specs.List.{flat_map}
 use Rattle.std.specs.Str.{bytes_eq}
+use Rattle.sng_fan.specs.Subscriptions.{stands}
 use Rattle.sng_policy.specs.Grants.{lists}
 use Rattle.sng_states.specs.States.{has_session}
 use Rattle.sng_frames.specs.declared.messages.connect.Connect.{Connect}
@@ -22,17 +23,24 @@ use Rattle.sng_history.specs.Clients.{Around, Client, same_address, is_here}
 use Rattle.sng_history.specs.State.{State, around, is_known}
 use Rattle.sng_history.specs.Verdicts.{and_then, entry}
 use Rattle.sng_history.specs.Answers.{code_of, dismissed, connack}
-use Rattle.sng_history.specs.Whole.{spell, moved, beside, entry_outs}
-use Rattle.sng_history.specs.Steps.{notes_for}
+use Rattle.sng_history.specs.Whole.{spell, drops, moved, beside, entry_outs}
+use Rattle.sng_history.specs.Steps.{notes_for, client_next}
+use Rattle.sng_history.specs.Lawful.{fixed_for}
+use Rattle.sng_history.specs.Entering.{entering}
+use Rattle.sng_history.specs.Standing.{drop_notes}
 use Rattle.sng_history.specs.Good.{Each, Away, Distinct}
 use Rattle.sng_history.specs.ViewsClients.{phase_of, address_of, is_among}
 use Rattle.sng_history.specs.LawsState.{ClientShown}
 use Rattle.sng_history.specs.LawsRules.{judged}
+use Rattle.sng_history.specs.LawsEnds.{stays_by, clean_answer}
 use Rattle.sng_history.specs.LawsAnswers.{connect_rules, code_for, bye_at, old_place, others_leave, entry_answer, connect_answer}
-use Rattle.sng_history.proofs.Own.{same_means, flat_same, each_all}
+use Rattle.sng_history.proofs.Own.{same_means, flat_same, each_all, each_map}
+use Rattle.sng_history.proofs.Kept.{client_id}
+use Rattle.sng_history.proofs.Entries.{entering_next}
 use Rattle.sng_history.proofs.SeenClients.{heard_if}
 use Rattle.sng_history.proofs.SeenState.{ids_of, known_among, StateShown, Stands}
 use Rattle.sng_history.proofs.LawHere.{here, those_kept}
+use Rattle.sng_history.proofs.LawEnds.{Kept, drops_shown}
 
 -- ---- the verdict
 
@@ -70,7 +78,7 @@ other_by : (s : State) (from : Address) (c : Connect) (x : Client) (own here : B
     → let a : Around = record { policy = s.policy; clock = s.clock; cause = ByConnect from c } in
     (if own
     then []
-    else (if here then [] else []) ++ spell a (heard_if here s.clock x) (if own then note.Connect x.id o ∷ [] else (if is_allowed o then (if here then note.Left x.id ∷ [] else []) else [])))
+    else (if here then [] else []) ++ spell a [] (heard_if here s.clock x) (if own then note.Connect x.id o ∷ [] else (if is_allowed o then (if here then note.Left x.id ∷ [] else []) else [])))
     ≡ (if not own then (if here then leaves x.id ∷ [] else []) else [])
 other_by s from c x true here o is = refl
 other_by s from c x false true Allowed is = refl
@@ -144,12 +152,46 @@ old_row h s from id st =
     place_row h from id s.clients st.shown.clients st.good.apart
     ∙ ap (λ ids. if is_among id ids then bye_at (phase_of id h) (address_of id h) from else []) st.shown.order
 
+-- ---- what a clean one ends
+
+whole : (b : Bool) → b ≡ (b && true)
+whole true = refl
+whole false = refl
+
+either : (b : Bool) → (b && false) ≡ false
+either true = refl
+either false = refl
+
+kept_by : (h : List Row) (s : State) (from : Address) (c : Connect) (x : Client) (clean own here : Bool) → c.flags.clean ≡ clean → bytes_eq c.client_id x.id ≡ own → is_here x from ≡ here
+    → (text : List ℕ) → stands (entering s.clock from c x).filters text ≡ (stands x.filters text && stays_by c x.id text)
+kept_by h s from c x true true here cleans same at text = rw (same, cleans) (nothing (stands x.filters text))
+  where
+    nothing : (b : Bool) → false ≡ (b && false)
+    nothing true = refl
+    nothing false = refl
+kept_by h s from c x false true here cleans same at text = rw (same, cleans) (whole (stands x.filters text))
+kept_by h s from c x clean false true cleans same at text = rw (same, at, either c.flags.clean) (whole (stands x.filters text))
+kept_by h s from c x clean false false cleans same at text = rw (same, at, either c.flags.clean) (whole (stands x.filters text))
+
+kept_entry : (h : List Row) (s : State) (from : Address) (c : Connect) (x : Client) → entry s c ≡ Allowed → ClientShown h x → Kept h (stays_by c) x (client_next s (ByConnect from c) x)
+kept_entry h s from c x is shown = record {
+  id = client_id (around s (ByConnect from c)) (fixed_for s (ByConnect from c) x) x;
+  was = shown.filters;
+  now = λ text. ap (λ y. stands y.filters text) (entering_next s from c x is) ∙ kept_by h s from c x c.flags.clean (bytes_eq c.client_id x.id) (is_here x from) refl refl refl text;
+}
+
+clean_row : (h : List Row) (s : State) (from : Address) (c : Connect) → StateShown h s → entry s c ≡ Allowed
+    → drop_notes (drops s (ByConnect from c) (notes_for s (ByConnect from c))) ≡ clean_answer h c
+clean_row h s from c shown is =
+    drops_shown h s (ByConnect from c) (stays_by c) shown
+    (each_map (ClientShown h) (λ x. Kept h (stays_by c) x (client_next s (ByConnect from c) x)) s.clients (λ x known. kept_entry h s from c x is known) shown.clients)
+
 -- ---- the row
 
 entry_by : (h : List Row) (s : State) (from : Address) (c : Connect) (o : Outcome) → Stands h s → entry s c ≡ o
     → entry_outs s from c (notes_for s (ByConnect from c)) o ≡ entry_answer h from c o
 entry_by h s from c Allowed st is =
-    rw (old_row h s from c.client_id st, others_row h s from c st.shown is) refl
+    rw (old_row h s from c.client_id st, others_row h s from c st.shown is, clean_row h s from c st.shown is) refl
 entry_by h s from c (Denied rule) st is = ap (λ code. Note (note.Connect c.client_id (Denied rule)) ∷ connack from code ∷ []) (code_same rule)
 
 pub connect_row : (h : List Row) (s : State) (from : Address) (c : Connect) → Stands h s → entry_outs s from c (notes_for s (ByConnect from c)) (entry s c) ≡ connect_answer h from c

@@ -1,26 +1,30 @@
 -- The laws of what is in flight and of each packet, by induction over the rows.
-use Rattle.std.proofs.Common.{◌≡◌, Bool, true, false, List, [], ◌∷◌, refl, ap, sym, ◌∙◌, subst, MatchBool, if◌then◌else◌}
+use Rattle.std.proofs.Common.{◌≡◌, ℕ, map, Bool, true, false, List, [], ◌∷◌, refl, sym, ◌∙◌, subst, MatchBool}
 use Rattle.sng_frames.specs.Reading.{frame_of}
 use Rattle.sng_book.specs.declared.event.Event.{Event}
 use Rattle.sng_book.specs.declared.event.Event.TheVariants.{Datagram, Broker, Up, Down, Take, Replace, Tick}
 use Rattle.sng_book.specs.declared.out.Out.{Out}
 use Rattle.sng_book.specs.declared.row.Row.{Row}
-use Rattle.sng_history.specs.Causes.{ByPacket, cause_of, datagram_cause}
-use Rattle.sng_history.specs.Packets.{answer_of}
+use Rattle.sng_history.specs.Causes.{ByPacket, ByUp, ByReplace, cause_of, datagram_cause}
+use Rattle.sng_history.specs.Links.{wants, resumed, filters_wanted}
+use Rattle.sng_history.specs.ViewsStanding.{held_in, wanted}
+use Rattle.sng_history.proofs.LawRows.{anew, anew_wires}
+use Rattle.sng_history.proofs.StandingState.{standing_shown, held_shown}
+use Rattle.sng_history.proofs.UpstreamWanted.{wanted_shown}
 use Rattle.sng_history.specs.State.{State, opening, state_of}
-use Rattle.sng_history.specs.Lawful.{Lawful}
+use Rattle.sng_history.specs.Lawful.{Lawful, exits_for}
 use Rattle.sng_history.specs.Steps.{outs_of}
-use Rattle.sng_history.specs.Views.{policy_in_force, is_up}
+use Rattle.sng_history.specs.Views.{policy_in_force}
 use Rattle.sng_history.specs.ViewsLink.{departures, wires_in}
 use Rattle.sng_history.specs.ViewsFlight.{agains, in_flight}
-use Rattle.sng_history.specs.LawsFlight.{AllReturn, is_beginning, EachReturns, AreIds, IdsApart, packets_for, packets_at, EachPacket}
+use Rattle.sng_history.specs.LawsFlight.{AllReturn, is_beginning, EachReturns, AreIds, IdsApart, PacketsFor, AllSubscribe, PacketsAt, EachPacket}
 use Rattle.sng_history.proofs.Says.{says}
 use Rattle.sng_history.proofs.Keeping.{exact_by}
 use Rattle.sng_history.proofs.SeenState.{Stands, stands}
 use Rattle.sng_history.proofs.FlightIds.{ids_of}
 use Rattle.sng_history.proofs.SeenRest.{flights_shown}
-use Rattle.sng_history.proofs.LawAgain.{all_return, again_wires, none_again, take_wires, no_agains}
-use Rattle.sng_history.proofs.LawWires.{datagram_still, packet_wires}
+use Rattle.sng_history.proofs.LawAgain.{all_return, again_wires, none_again, take_wires, all_subscribe, wires_none, no_agains}
+use Rattle.sng_history.proofs.LawWires.{datagram_still, broker_wires, replace_wires}
 
 -- ---- judged again
 
@@ -37,10 +41,10 @@ row_returns h s (Datagram from datagram) st flights =
 row_returns h s (Broker sent) st flights = no_agains (outs_of s (Broker sent)) (says s (ByPacket sent) st.good.apart).exits
 row_returns h s Up st flights =
     subst (λ policy. AllReturn policy (in_flight h) (agains (outs_of s Up))) st.shown.policy
-    (subst (λ fs. AllReturn s.policy fs (agains (outs_of s Up))) flights (all_return s.policy s.link.in_flight))
+    (subst (λ fs. AllReturn s.policy fs (agains (outs_of s Up))) flights (all_return s.policy s.link.in_flight (anew s) (wires_none (anew s) (anew_wires s))))
 row_returns h s Down st flights = refl
 row_returns h s Take st flights = take_returns s s.up refl
-row_returns h s (Replace policy) st flights = refl
+row_returns h s (Replace policy) st flights = no_agains (outs_of s (Replace policy)) (says s (ByReplace policy) st.good.apart).exits
 row_returns h s (Tick clock) st flights = refl
 
 pub each_returns : (h : List Row) → Lawful opening h → EachReturns h
@@ -60,26 +64,33 @@ ids_apart h l =
 
 -- ---- each packet
 
-take_packets : (s : State) (b : Bool) → s.up ≡ b → wires_in (outs_of s Take) ≡ (if b then packets_for s.link.waiting (departures (outs_of s Take)) else [])
-take_packets s true is = rw is (take_wires s.policy s.link s.link.waiting)
-take_packets s false is = rw is refl
+take_packets : (s : State) (held : List ℕ → Bool) (b : Bool) → s.up ≡ b → ((text : List ℕ) → wants s.link.wanted text ≡ held text)
+    → MatchBool b (PacketsFor held s.link.waiting (departures (outs_of s Take)) (wires_in (outs_of s Take))) (wires_in (outs_of s Take) ≡ [])
+take_packets s held true is same = rw is (take_wires held s.policy s.link s.link.waiting same)
+take_packets s held false is same = rw is refl
 
-row_packets : (h : List Row) (s : State) (e : Event) → Stands h s → wires_in (outs_of s e) ≡ packets_at e h (outs_of s e)
-row_packets h s (Datagram from datagram) st = (datagram_still s from (frame_of datagram)).wires
-row_packets h s (Broker sent) st = packet_wires s.up s.link (answer_of sent)
-row_packets h s Up st = again_wires s.policy s.link.in_flight
-row_packets h s Down st = refl
-row_packets h s Take st =
-    let ds = departures (outs_of s Take) in
-    take_packets s s.up refl
-    ∙ (ap (λ up. if up then packets_for s.link.waiting ds else []) st.shown.up ∙ ap (λ items. if is_up h then packets_for items ds else []) st.shown.waits)
-row_packets h s (Replace policy) st = refl
-row_packets h s (Tick clock) st = refl
+row_packets : (h : List Row) (s : State) (e : Event) → Stands h s → s.link.wanted ≡ wanted h → ((text : List ℕ) → wants s.link.wanted text ≡ held_in h text) → PacketsAt e h (outs_of s e)
+row_packets h s (Datagram from datagram) st is same = (datagram_still s from (frame_of datagram)).wires
+row_packets h s (Broker sent) st is same = broker_wires s sent
+row_packets h s Up st is same = (
+  wires_in (anew s),
+  (
+    again_wires s.policy s.link.in_flight (anew s) (wires_none (anew s) (anew_wires s)),
+    subst (λ all. AllSubscribe (map (λ w. w.filter) all) (wires_in (anew s))) is (all_subscribe (resumed s.link s.clock (exits_for s ByUp)) (filters_wanted s.link)),
+  ),
+)
+row_packets h s Down st is same = refl
+row_packets h s Take st is same = rw (sym st.shown.up, sym st.shown.waits) (take_packets s (held_in h) s.up refl same)
+row_packets h s (Replace policy) st is same = replace_wires s policy
+row_packets h s (Tick clock) st is same = refl
 
 pub each_packet : (h : List Row) → Lawful opening h → EachPacket h
 each_packet [] l = tt
 each_packet (row ∷ h) l =
-    let s = state_of opening h in (
+    let s = state_of opening h in
+    let st = stands h l.0 in (
       each_packet h l.0,
-      subst (λ outs. wires_in outs ≡ packets_at row.event h outs) (sym (exact_by s (cause_of row.event) row.outs l.1)) (row_packets h s row.event (stands h l.0)),
+      subst (PacketsAt row.event h) (sym (exact_by s (cause_of row.event) row.outs l.1))
+          (row_packets h s row.event st (wanted_shown h l.0).wanted
+          (λ text. st.good.wanted_held text ∙ sym (held_shown h s text st.shown.order (standing_shown h l.0).filters))),
     )

@@ -7,7 +7,7 @@ use Rattle.sng_book.specs.declared.out.Out.{Out}
 use Rattle.sng_history.specs.Causes.{Cause}
 use Rattle.sng_history.specs.Clients.{Client, is_here, is_from}
 use Rattle.sng_history.specs.State.{State, around}
-use Rattle.sng_history.specs.Whole.{part, any_from, stranger_outs, frame_row}
+use Rattle.sng_history.specs.Whole.{part, any_from, drops, frame_row}
 use Rattle.sng_history.specs.Lawful.{fixed_for}
 use Rattle.sng_history.specs.Steps.{notes_for}
 use Rattle.sng_history.specs.Good.{Each, Apart, OnePlace}
@@ -21,7 +21,7 @@ use Rattle.sng_history.proofs.SeenState.{ids_of, StateShown}
 abbrev pub here : Address → List Client → List Client
 here from xs = filter (λ x. is_here x from) xs
 
-at_here : (h : List Row) (from : Address) (x : Client) → ClientShown h x → is_at x.id from h ≡ is_here x from
+pub at_here : (h : List Row) (from : Address) (x : Client) → ClientShown h x → is_at x.id from h ≡ is_here x from
 at_here h from x shown = rw (shown.phase, shown.address) refl
 
 keep_if : (b : Bool) (x : Client) (xs : List Client) → (if b then x.id ∷ ids_of xs else ids_of xs) ≡ ids_of (if b then x ∷ xs else xs)
@@ -85,13 +85,19 @@ to_any stranger f [] = refl
 to_any stranger f (id ∷ ids) = refl
 
 -- a message of who is there, or of nobody
-pub row_answer : (h : List Row) (s : State) (from : Address) (c : Cause) (f : List ℕ → List Out) → StateShown h s → ((x : Client) → is_from c x ≡ is_here x from)
-    → ((x : Client) → ClientShown h x → part (around s c) (fixed_for s c x) x ≡ (if is_here x from then f x.id else []))
-    → frame_row s c (notes_for s c) ≡ answer_to (stranger_outs c) f (those_at from h)
-row_answer h s from c f shown same each =
+pub row_answer : (h : List Row) (s : State) (from : Address) (c : Cause) (stranger : List Out) (f : List ℕ → List Out) → StateShown h s → ((x : Client) → is_from c x ≡ is_here x from)
+    → Each (λ x. part (around s c) (drops s c (notes_for s c)) (fixed_for s c x) x ≡ (if is_here x from then f x.id else [])) s.clients
+    → frame_row s c stranger (notes_for s c) ≡ answer_to stranger f (those_at from h)
+row_answer h s from c stranger f shown same each =
     let ids = ids_of (here from s.clients) in
-    let all = flat_map (λ x. part (around s c) (fixed_for s c x) x) s.clients in
-    ap (λ b. if b then all else stranger_outs c) (any_here c from s.clients same)
-    ∙ (ap (λ outs. if is_any ids then outs else stranger_outs c)
-    (flat_here (λ x. part (around s c) (fixed_for s c x) x) f from s.clients (each_map (ClientShown h) (λ x. part (around s c) (fixed_for s c x) x ≡ (if is_here x from then f x.id else [])) s.clients each shown.clients))
-    ∙ (to_any (stranger_outs c) f ids ∙ ap (answer_to (stranger_outs c) f) (sym (those_kept h s from shown))))
+    let g : Client → List Out = λ x. part (around s c) (drops s c (notes_for s c)) (fixed_for s c x) x in
+    ap (λ b. if b then flat_map g s.clients else stranger) (any_here c from s.clients same)
+    ∙ (ap (λ outs. if is_any ids then outs else stranger) (flat_here g f from s.clients each)
+    ∙ (to_any stranger f ids ∙ ap (answer_to stranger f) (sym (those_kept h s from shown))))
+
+-- each client's part, given what the rows show of it
+pub each_part : (h : List Row) (s : State) (from : Address) (c : Cause) (f : List ℕ → List Out) → StateShown h s
+    → ((x : Client) → ClientShown h x → part (around s c) (drops s c (notes_for s c)) (fixed_for s c x) x ≡ (if is_here x from then f x.id else []))
+    → Each (λ x. part (around s c) (drops s c (notes_for s c)) (fixed_for s c x) x ≡ (if is_here x from then f x.id else [])) s.clients
+each_part h s from c f shown each =
+    each_map (ClientShown h) (λ x. part (around s c) (drops s c (notes_for s c)) (fixed_for s c x) x ≡ (if is_here x from then f x.id else [])) s.clients each shown.clients

@@ -1,7 +1,11 @@
 -- What a take while up lets out for the broker: what waits, each with its note and its own packet.
-use Rattle.std.proofs.Common.{◌≡◌, ℕ, Bool, true, false, List, [], ◌∷◌, ◌++◌, map, refl, ap, ◌∙◌, if◌then◌else◌}
-use Rattle.std.specs.Prelude.{Some, Option, is_some}
+use Rattle.std.proofs.Common.{◌≡◌, ℕ, ◌-◌, length, Bool, true, false, List, [], ◌∷◌, ◌++◌, map, refl, ap, sym, subst, ◌∙◌, if◌then◌else◌}
+use Rattle.std.specs.Prelude.{Some, None, Option, is_some}
+use Rattle.std.proofs.lemmas.List.{append-nil}
 use Rattle.sng_grants.specs.declared.policy.Policy.{Policy}
+use Rattle.sng_frames.specs.declared.messages.publish.Publish.{Publish}
+use Rattle.sng_book.specs.declared.event.Event.{Event}
+use Rattle.sng_book.specs.declared.row.Row.{Row}
 use Rattle.sng_outbox.specs.Sending.{publishes, is_at_least_once}
 use Rattle.sng_outbox.specs.declared.item.Item.{Item}
 use Rattle.sng_outbox.specs.declared.item.Item.TheVariants as item
@@ -16,12 +20,79 @@ use Rattle.sng_history.specs.Notes.{exits_in, exit_of}
 use Rattle.sng_history.specs.Verdicts.{exit}
 use Rattle.sng_text.specs.declared.qos.Qos.{Qos}
 use Rattle.sng_text.specs.declared.qos.Qos.TheVariants.{AtMostOnce, AtLeastOnce}
-use Rattle.sng_history.specs.Links.{Link, packet_id_by, exited}
-use Rattle.sng_history.specs.Exits.{packet_of, exits_of, forwarded, leaving}
-use Rattle.sng_history.specs.ViewsLink.{Departure, publications, departure, departures, wires_in, sends_in}
+use Rattle.sng_history.specs.Links.{Link, wants, next_packet_id, packet_id_by, exited, subscribe_sent, subscribe_left, unsubscribe_left}
+use Rattle.sng_history.specs.Exits.{packet_of, exits_of, forwarded, subscribe_packet, unsubscribe_packet, subscribe_leaves, unsubscribe_leaves, subscribing, leaving}
+use Rattle.sng_history.specs.ViewsMessages.{Message, Connects, Registers, Publishes, Subscribes, Unsubscribes, Other, message_at}
+use Rattle.sng_history.specs.ViewsStanding.{begun_by}
+use Rattle.sng_history.specs.ViewsLink.{Departure, allowed_by, publish_in, allowed_of, asks_for, asked_with, owed_with, items_by, items_in, items_for, told_with, added, publications, departure, departures, wires_in, sends_in}
 use Rattle.sng_history.specs.LawsRules.{judged, publish_rules}
-use Rattle.sng_history.specs.LawsLink.{about_asked, about_left, Carries, AllDepart, lets_go, Announced}
+use Rattle.sng_history.specs.LawsLink.{about_asked, about_left, Carries, AllDepart, is_publish_packet, lets_go, Announced}
 use Rattle.sng_history.proofs.LawRules.{exit_ruled}
+
+-- ---- packets without notes
+
+abbrev pub Wires : List Out → Type 0
+Wires [] = Unit {0}
+Wires (Wire sent ∷ outs) = (is_publish_packet sent ≡ false) × Wires outs
+Wires (Send to datagram ∷ outs) = ⊥
+Wires (Note said ∷ outs) = ⊥
+
+subscribe_if : (b : Bool) (packet_id : ℕ) (text : List ℕ) → Wires (if b then subscribe_packet packet_id text ∷ [] else [])
+subscribe_if true packet_id text = (refl, tt)
+subscribe_if false packet_id text = tt
+
+unsubscribe_if : (b : Bool) (packet_id : ℕ) (text : List ℕ) → Wires (if b then [] else unsubscribe_packet packet_id text ∷ [])
+unsubscribe_if true packet_id text = tt
+unsubscribe_if false packet_id text = (refl, tt)
+
+pub subscribe_wires : (link : Link) (text : List ℕ) → Wires (subscribe_leaves link text)
+subscribe_wires link text = subscribe_if (wants link.wanted text) (next_packet_id link) text
+
+pub unsubscribe_wires : (link : Link) (text : List ℕ) → Wires (unsubscribe_leaves link text)
+unsubscribe_wires link text = unsubscribe_if (wants link.wanted text) (next_packet_id link) text
+
+pub subscribing_wires : (link : Link) (texts : List (List ℕ)) → Wires (subscribing link texts)
+subscribing_wires link [] = tt
+subscribing_wires link (text ∷ texts) = (refl, subscribing_wires (subscribe_sent link text) texts)
+
+pub wires_depart : (xs ys : List Out) → Wires xs → departures (xs ++ ys) ≡ departures ys
+wires_depart [] ys are = refl
+wires_depart (Wire sent ∷ xs) ys are = wires_depart xs ys are.1
+wires_depart (Send to datagram ∷ xs) ys are = absurd are
+wires_depart (Note said ∷ xs) ys are = absurd are
+
+pub wires_unsent : (xs ys : List Out) → Wires xs → sends_in (xs ++ ys) ≡ sends_in ys
+wires_unsent [] ys are = refl
+wires_unsent (Wire sent ∷ xs) ys are = wires_unsent xs ys are.1
+wires_unsent (Send to datagram ∷ xs) ys are = absurd are
+wires_unsent (Note said ∷ xs) ys are = absurd are
+
+pub wires_gone : (xs : List Out) → Wires xs → departures xs ≡ []
+wires_gone [] are = refl
+wires_gone (Wire sent ∷ xs) are = wires_gone xs are.1
+wires_gone (Send to datagram ∷ xs) are = absurd are
+wires_gone (Note said ∷ xs) are = absurd are
+
+pub wires_kept : (xs : List Out) → Wires xs → sends_in xs ≡ []
+wires_kept [] are = refl
+wires_kept (Wire sent ∷ xs) are = wires_kept xs are.1
+wires_kept (Send to datagram ∷ xs) are = absurd are
+wires_kept (Note said ∷ xs) are = absurd are
+
+no_publish : (sent : List ℕ) (lets : Bool) → is_publish_packet sent ≡ false → is_publish_packet sent ≡ true → lets ≡ true
+no_publish sent lets never is = absurd (let e : false ≡ true = sym never ∙ is in cc)
+
+pub wires_announced : (xs ys : List Out) (lets : Bool) → Wires xs → ((b : Bool) → Announced b ys) → Announced lets (xs ++ ys)
+wires_announced [] ys lets are rest = rest lets
+wires_announced (Wire sent ∷ xs) ys lets are rest = (no_publish sent lets are.0, wires_announced xs ys false are.1 rest)
+wires_announced (Send to datagram ∷ xs) ys lets are rest = absurd are
+wires_announced (Note said ∷ xs) ys lets are rest = absurd are
+
+pub wires_alone : (xs : List Out) (lets : Bool) → Wires xs → Announced lets xs
+wires_alone [] lets are = tt
+wires_alone (Wire sent ∷ xs) lets are = (no_publish sent lets are.0, wires_alone xs false are.1)
+wires_alone (Send to datagram ∷ xs) lets are = absurd are
+wires_alone (Note said ∷ xs) lets are = absurd are
 
 -- ---- a take
 
@@ -43,8 +114,12 @@ all_depart policy link [] = tt
 all_depart policy link (item.Publish p ∷ items) =
     let o = exit policy p.origin p.name in
     departs_first policy link p (publications items) (leaving (exited link p o) items (exits_of policy items)) o (exit_ruled policy p.origin p.name) (all_depart policy (exited link p o) items)
-all_depart policy link (item.Subscribe filter ∷ items) = all_depart policy link items
-all_depart policy link (item.Unsubscribe filter ∷ items) = all_depart policy link items
+all_depart policy link (item.Subscribe text ∷ items) =
+    let next = subscribe_left link text in
+    subst (AllDepart policy (publications items)) (sym (wires_depart (subscribe_leaves link text) (leaving next items (exits_of policy items)) (subscribe_wires link text))) (all_depart policy next items)
+all_depart policy link (item.Unsubscribe text ∷ items) =
+    let next = unsubscribe_left link text in
+    subst (AllDepart policy (publications items)) (sym (wires_depart (unsubscribe_leaves link text) (leaving next items (exits_of policy items)) (unsubscribe_wires link text))) (all_depart policy next items)
 all_depart policy link (item.Acknowledge packet_id ∷ items) = all_depart policy link items
 all_depart policy link (item.Ping ∷ items) = all_depart policy link items
 
@@ -57,8 +132,12 @@ all_announced policy link [] lets = tt
 all_announced policy link (item.Publish p ∷ items) lets =
     let o = exit policy p.origin p.name in
     announced_first p (packet_id_by link p.qos) o (leaving (exited link p o) items (exits_of policy items)) (λ b. all_announced policy (exited link p o) items b) lets
-all_announced policy link (item.Subscribe filter ∷ items) lets = all_announced policy link items lets
-all_announced policy link (item.Unsubscribe filter ∷ items) lets = all_announced policy link items lets
+all_announced policy link (item.Subscribe text ∷ items) lets =
+    let next = subscribe_left link text in
+    wires_announced (subscribe_leaves link text) (leaving next items (exits_of policy items)) lets (subscribe_wires link text) (λ b. all_announced policy next items b)
+all_announced policy link (item.Unsubscribe text ∷ items) lets =
+    let next = unsubscribe_left link text in
+    wires_announced (unsubscribe_leaves link text) (leaving next items (exits_of policy items)) lets (unsubscribe_wires link text) (λ b. all_announced policy next items b)
 all_announced policy link (item.Acknowledge packet_id ∷ items) lets = ((λ is. absurd (let e = is in cc)), all_announced policy link items false)
 all_announced policy link (item.Ping ∷ items) lets = all_announced policy link items lets
 
@@ -94,7 +173,7 @@ about_all policy (p ∷ ps) (d ∷ ds) all = rw (all.0.whom, all.0.name, about_a
 about_all policy [] (d ∷ ds) all = absurd all
 about_all policy (p ∷ ps) [] all = absurd all
 
-publications_append : (xs ys : List Item) → publications (xs ++ ys) ≡ publications xs ++ publications ys
+pub publications_append : (xs ys : List Item) → publications (xs ++ ys) ≡ publications xs ++ publications ys
 publications_append [] ys = refl
 publications_append (item.Publish p ∷ xs) ys = ap (λ rest. p ∷ rest) (publications_append xs ys)
 publications_append (item.Subscribe filter ∷ xs) ys = publications_append xs ys
@@ -102,15 +181,53 @@ publications_append (item.Unsubscribe filter ∷ xs) ys = publications_append xs
 publications_append (item.Acknowledge packet_id ∷ xs) ys = publications_append xs ys
 publications_append (item.Ping ∷ xs) ys = publications_append xs ys
 
--- those of the publishes and acknowledgements that a row adds
-publications_added : (ps : List Publication) (ids : List ℕ) → publications (map item.Publish ps ++ map item.Acknowledge ids) ≡ ps
-publications_added [] [] = refl
-publications_added [] (packet_id ∷ ids) = publications_added [] ids
-publications_added (p ∷ ps) ids = ap (λ rest. p ∷ rest) (publications_added ps ids)
+publications_published : (ps : List Publication) (items : List Item) → publications (map item.Publish ps ++ items) ≡ ps ++ publications items
+publications_published [] items = refl
+publications_published (p ∷ ps) items = ap (λ rest. p ∷ rest) (publications_published ps items)
 
-pub publications_more : (items : List Item) (ps : List Publication) (ids : List ℕ) → publications (items ++ (map item.Publish ps ++ map item.Acknowledge ids)) ≡ publications items ++ ps
-publications_more items ps ids =
-    publications_append items (map item.Publish ps ++ map item.Acknowledge ids) ∙ ap (λ rest. publications items ++ rest) (publications_added ps ids)
+none_subscribed : (texts : List (List ℕ)) → publications (map item.Subscribe texts) ≡ []
+none_subscribed [] = refl
+none_subscribed (text ∷ texts) = none_subscribed texts
+
+none_told : (texts : List (List ℕ)) (ids : List ℕ) → publications (map item.Unsubscribe texts ++ map item.Acknowledge ids) ≡ []
+none_told [] [] = refl
+none_told [] (packet_id ∷ ids) = none_told [] ids
+none_told (text ∷ texts) ids = none_told texts ids
+
+-- of what notes ask for, the publishes
+by_note : (p : Option Publish) (said : Decision) → publications (items_by p said) ≡ allowed_of p said
+by_note p said =
+    publications_published (allowed_of p said) (map item.Subscribe (begun_by said)) ∙ (ap (λ rest. allowed_of p said ++ rest) (none_subscribed (begun_by said)) ∙ append-nil (allowed_of p said))
+
+in_notes : (p : Option Publish) (outs : List Out) → publications (items_in p outs) ≡ asks_for p outs
+in_notes None [] = refl
+in_notes (Some p) [] = refl
+in_notes None (Note said ∷ outs) =
+    publications_append (items_by None said) (items_in None outs) ∙ (ap (λ first. first ++ publications (items_in None outs)) (by_note None said) ∙ in_notes None outs)
+in_notes (Some p) (Note said ∷ outs) =
+    publications_append (items_by (Some p) said) (items_in (Some p) outs)
+    ∙ (ap (λ first. first ++ publications (items_in (Some p) outs)) (by_note (Some p) said) ∙ ap (λ rest. allowed_by p said ++ rest) (in_notes (Some p) outs))
+in_notes None (Send to datagram ∷ outs) = in_notes None outs
+in_notes (Some p) (Send to datagram ∷ outs) = in_notes (Some p) outs
+in_notes None (Wire packet ∷ outs) = in_notes None outs
+in_notes (Some p) (Wire packet ∷ outs) = in_notes (Some p) outs
+
+for_message : (m : Option Message) (outs : List Out) → publications (items_for m outs) ≡ asks_for (publish_in m) outs
+for_message (Some (Connects connect)) outs = refl
+for_message (Some (Publishes p)) outs = in_notes (publish_in (Some (Publishes p))) outs
+for_message (Some (Registers r)) outs = in_notes None outs
+for_message (Some (Subscribes r)) outs = in_notes None outs
+for_message (Some (Unsubscribes r)) outs = in_notes None outs
+for_message (Some Other) outs = in_notes None outs
+for_message None outs = refl
+
+-- of what a row adds
+pub publications_added : (e : Event) (h : List Row) (items : List Item) (outs : List Out) → publications (added e h items outs) ≡ asked_with e outs
+publications_added e h items outs =
+    let told = map item.Unsubscribe (told_with e h outs (512 - length items)) ++ map item.Acknowledge (owed_with e h outs) in
+    publications_append (items_for (message_at e) outs) told
+    ∙ (ap (λ rest. publications (items_for (message_at e) outs) ++ rest) (none_told (told_with e h outs (512 - length items)) (owed_with e h outs))
+    ∙ (append-nil (publications (items_for (message_at e) outs)) ∙ for_message (message_at e) outs))
 
 publications_all : (items : List Item) → publications (publishes items) ≡ publications items
 publications_all [] = refl
@@ -135,7 +252,11 @@ all_unsent policy link [] = refl
 all_unsent policy link (item.Publish p ∷ items) =
     let o = exit policy p.origin p.name in
     unsent_first p (packet_id_by link p.qos) o (leaving (exited link p o) items (exits_of policy items)) (all_unsent policy (exited link p o) items)
-all_unsent policy link (item.Subscribe filter ∷ items) = all_unsent policy link items
-all_unsent policy link (item.Unsubscribe filter ∷ items) = all_unsent policy link items
+all_unsent policy link (item.Subscribe text ∷ items) =
+    let next = subscribe_left link text in
+    wires_unsent (subscribe_leaves link text) (leaving next items (exits_of policy items)) (subscribe_wires link text) ∙ all_unsent policy next items
+all_unsent policy link (item.Unsubscribe text ∷ items) =
+    let next = unsubscribe_left link text in
+    wires_unsent (unsubscribe_leaves link text) (leaving next items (exits_of policy items)) (unsubscribe_wires link text) ∙ all_unsent policy next items
 all_unsent policy link (item.Acknowledge packet_id ∷ items) = all_unsent policy link items
 all_unsent policy link (item.Ping ∷ items) = all_unsent policy link items

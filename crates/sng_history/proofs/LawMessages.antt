@@ -15,48 +15,54 @@ use Rattle.sng_book.specs.declared.outcome.Outcome.TheVariants.{Allowed, Denied}
 use Rattle.sng_book.specs.declared.out.Out.{Out}
 use Rattle.sng_book.specs.declared.out.Out.TheVariants.{Send, Note}
 use Rattle.sng_book.specs.declared.row.Row.{Row}
-use Rattle.sng_history.specs.Causes.{Cause, ByPing, ByLeave, ByUnsupported, ByBroken}
+use Rattle.sng_history.specs.Causes.{Cause, ByMessage, ToPing, ToLeave, Untaken, ByBroken}
 use Rattle.sng_history.specs.Clients.{Around, Client, is_here}
 use Rattle.sng_history.specs.State.{State}
+use Rattle.sng_history.specs.Standing.{Release}
 use Rattle.sng_history.specs.Verdicts.{names_other, is_active, ping_verdict}
 use Rattle.sng_history.specs.Answers.{denied_note}
-use Rattle.sng_history.specs.Whole.{spell, pong_by, stranger_outs, frame_row}
+use Rattle.sng_history.specs.Whole.{spell, pong_by, stranger_to, drops, frame_row}
 use Rattle.sng_history.specs.Lawful.{denial_of}
 use Rattle.sng_history.specs.Steps.{notes_for}
 use Rattle.sng_history.specs.ViewsClients.{those_at}
 use Rattle.sng_history.specs.LawsState.{ClientShown}
 use Rattle.sng_history.specs.LawsAnswers as laws
 use Rattle.sng_history.specs.LawsAnswers.{answer_to, bye, no_session, names_another, ping_answer, leave_answer}
-use Rattle.sng_history.specs.LawsUnsupported.{unsupported_answer, unsupported_stranger}
+use Rattle.sng_history.specs.LawsUnsupported.{is_unsupported, unsupported_answer, unsupported_stranger}
 use Rattle.sng_history.proofs.Places.{here_is}
 use Rattle.sng_history.proofs.SeenClients.{heard_if}
 use Rattle.sng_history.proofs.SeenState.{StateShown}
-use Rattle.sng_history.proofs.LawHere.{row_answer}
+use Rattle.sng_history.proofs.LawHere.{row_answer, each_part}
 
 abbrev pub by_cause : State → Cause → Around
 by_cause s c = record { policy = s.policy; clock = s.clock; cause = c }
 
 -- ---- not supported
 
-unsupported_spell : (s : State) (from : Address) (message : SnFrame) (x : Client)
-    → spell (by_cause s (ByUnsupported from message)) x (denied_note message (who.Client x.id) NotSupported ∷ []) ≡ unsupported_answer x.address message x.id
-unsupported_spell s from (frame.Register register) x = refl
-unsupported_spell s from message x = refl
+unsupported_spell : (s : State) (from : Address) (message : SnFrame) (dropped : List Release) (x : Client) → is_unsupported message ≡ true
+    → spell (by_cause s (ByMessage from (Untaken message))) dropped x (denied_note message (who.Client x.id) NotSupported ∷ []) ≡ unsupported_answer x.address message x.id
+unsupported_spell s from (frame.Register register) dropped x is = refl
+unsupported_spell s from (frame.Subscribe r) dropped x is = absurd (let e = is in cc)
+unsupported_spell s from (frame.Unsubscribe r) dropped x is = absurd (let e = is in cc)
+unsupported_spell s from message dropped x is = refl
 
-unsupported_part : (s : State) (from : Address) (message : SnFrame) (x : Client) (b : Bool) → (b ≡ true → x.address ≡ from)
-    → (if b then [] else []) ++ spell (by_cause s (ByUnsupported from message)) (heard_if b s.clock x) (if b then denied_note message (who.Client x.id) NotSupported ∷ [] else [])
+unsupported_part : (s : State) (from : Address) (message : SnFrame) (dropped : List Release) (x : Client) (b : Bool) → is_unsupported message ≡ true → (b ≡ true → x.address ≡ from)
+    → (if b then [] else []) ++ spell (by_cause s (ByMessage from (Untaken message))) dropped (heard_if b s.clock x) (if b then denied_note message (who.Client x.id) NotSupported ∷ [] else [])
     ≡ (if b then unsupported_answer from message x.id else [])
-unsupported_part s from message x true at = unsupported_spell s from message (heard_if true s.clock x) ∙ ap (λ to. unsupported_answer to message x.id) (at refl)
-unsupported_part s from message x false at = refl
+unsupported_part s from message dropped x true is at = unsupported_spell s from message dropped (heard_if true s.clock x) is ∙ ap (λ to. unsupported_answer to message x.id) (at refl)
+unsupported_part s from message dropped x false is at = refl
 
-unsupported_note : (from : Address) (message : SnFrame) → stranger_outs (ByUnsupported from message) ≡ unsupported_stranger from message
+unsupported_note : (from : Address) (message : SnFrame) → stranger_to from (Untaken message) ≡ unsupported_stranger from message
 unsupported_note from (frame.Register register) = refl
 unsupported_note from message = refl
 
-pub unsupported_row : (h : List Row) (s : State) (from : Address) (message : SnFrame) → StateShown h s
-    → frame_row s (ByUnsupported from message) (notes_for s (ByUnsupported from message)) ≡ answer_to (unsupported_stranger from message) (unsupported_answer from message) (those_at from h)
-unsupported_row h s from message shown =
-    row_answer h s from (ByUnsupported from message) (unsupported_answer from message) shown (λ x. refl) (λ x is. unsupported_part s from message x (is_here x from) (here_is x from))
+pub unsupported_row : (h : List Row) (s : State) (from : Address) (message : SnFrame) → is_unsupported message ≡ true → StateShown h s
+    → let c = ByMessage from (Untaken message) in
+    frame_row s c (stranger_to from (Untaken message)) (notes_for s c) ≡ answer_to (unsupported_stranger from message) (unsupported_answer from message) (those_at from h)
+unsupported_row h s from message is shown =
+    let c = ByMessage from (Untaken message) in
+    row_answer h s from c (stranger_to from (Untaken message)) (unsupported_answer from message) shown (λ x. refl)
+    (each_part h s from c (unsupported_answer from message) shown (λ x known. unsupported_part s from message (drops s c (notes_for s c)) x (is_here x from) is (here_is x from)))
     ∙ ap (λ outs. answer_to outs (unsupported_answer from message) (those_at from h)) (unsupported_note from message)
 
 -- ---- PINGREQ
@@ -68,12 +74,12 @@ ping_kept to x other active =
     then Note (note.Frame (who.Client x.id) (Denied NoSession)) ∷ bye to ∷ []
     else (if active then Send to (written frame.PingResponse) ∷ [] else Note (note.Frame (who.Client x.id) (Denied OutOfTurn)) ∷ [])
 
-ping_spell : (s : State) (from : Address) (client : Option (List ℕ)) (x : Client) (other active : Bool)
+ping_spell : (s : State) (from : Address) (client : Option (List ℕ)) (dropped : List Release) (x : Client) (other active : Bool)
     → let o = if other then Denied NoSession else (if active then Allowed else Denied OutOfTurn) in
-    pong_by o x.address ++ spell (by_cause s (ByPing from client)) (heard_if true s.clock x) (denial_of x.id o) ≡ ping_kept x.address x other active
-ping_spell s from client x true active = refl
-ping_spell s from client x false true = refl
-ping_spell s from client x false false = refl
+    pong_by o x.address ++ spell (by_cause s (ByMessage from (ToPing client))) dropped (heard_if true s.clock x) (denial_of x.id o) ≡ ping_kept x.address x other active
+ping_spell s from client dropped x true active = refl
+ping_spell s from client dropped x false true = refl
+ping_spell s from client dropped x false false = refl
 
 names_same : (client : Option (List ℕ)) (id : List ℕ) → names_other client id ≡ names_another client id
 names_same None id = refl
@@ -93,44 +99,55 @@ ping_shown h from client x shown at =
     ap (λ to. ping_kept to x (names_another client x.id) (is_active x.phase)) at
     ∙ ap (ping_kept from x (names_another client x.id)) (active_same x.phase ∙ ap laws.is_active (sym shown.phase))
 
-ping_there : (s : State) (from : Address) (client : Option (List ℕ)) (x : Client)
-    → pong_by (ping_verdict client x) x.address ++ spell (by_cause s (ByPing from client)) (heard_if true s.clock x) (denial_of x.id (ping_verdict client x))
+ping_there : (s : State) (from : Address) (client : Option (List ℕ)) (dropped : List Release) (x : Client)
+    → pong_by (ping_verdict client x) x.address ++ spell (by_cause s (ByMessage from (ToPing client))) dropped (heard_if true s.clock x) (denial_of x.id (ping_verdict client x))
     ≡ ping_kept x.address x (names_another client x.id) (is_active x.phase)
-ping_there s from client x =
-    ping_spell s from client x (names_other client x.id) (is_active x.phase) ∙ ap (λ other. ping_kept x.address x other (is_active x.phase)) (names_same client x.id)
+ping_there s from client dropped x =
+    ping_spell s from client dropped x (names_other client x.id) (is_active x.phase) ∙ ap (λ other. ping_kept x.address x other (is_active x.phase)) (names_same client x.id)
 
-ping_part : (h : List Row) (s : State) (from : Address) (client : Option (List ℕ)) (x : Client) (b : Bool) → ClientShown h x → (b ≡ true → x.address ≡ from)
-    → (if b then pong_by (ping_verdict client x) x.address else []) ++ spell (by_cause s (ByPing from client)) (heard_if b s.clock x) (if b then denial_of x.id (ping_verdict client x) else [])
+ping_part : (h : List Row) (s : State) (from : Address) (client : Option (List ℕ)) (dropped : List Release) (x : Client) (b : Bool) → ClientShown h x → (b ≡ true → x.address ≡ from)
+    → (if b then pong_by (ping_verdict client x) x.address else []) ++ spell (by_cause s (ByMessage from (ToPing client))) dropped (heard_if b s.clock x) (if b then denial_of x.id (ping_verdict client x) else [])
     ≡ (if b then ping_answer h from client x.id else [])
-ping_part h s from client x true shown at = ping_there s from client x ∙ ping_shown h from client x shown (at refl)
-ping_part h s from client x false shown at = refl
+ping_part h s from client dropped x true shown at = ping_there s from client dropped x ∙ ping_shown h from client x shown (at refl)
+ping_part h s from client dropped x false shown at = refl
 
 pub ping_row : (h : List Row) (s : State) (from : Address) (client : Option (List ℕ)) → StateShown h s
-    → frame_row s (ByPing from client) (notes_for s (ByPing from client)) ≡ answer_to (no_session from) (ping_answer h from client) (those_at from h)
+    → let c = ByMessage from (ToPing client) in
+    frame_row s c (stranger_to from (ToPing client)) (notes_for s c) ≡ answer_to (no_session from) (ping_answer h from client) (those_at from h)
 ping_row h s from client shown =
-    row_answer h s from (ByPing from client) (ping_answer h from client) shown (λ x. refl) (λ x is. ping_part h s from client x (is_here x from) is (here_is x from))
+    let c = ByMessage from (ToPing client) in
+    row_answer h s from c (stranger_to from (ToPing client)) (ping_answer h from client) shown (λ x. refl)
+    (each_part h s from c (ping_answer h from client) shown (λ x is. ping_part h s from client (drops s c (notes_for s c)) x (is_here x from) is (here_is x from)))
 
 -- ---- DISCONNECT, and what is no message
 
-leave_part : (s : State) (from : Address) (x : Client) (b : Bool) → (b ≡ true → x.address ≡ from)
-    → (if b then [] else []) ++ spell (by_cause s (ByLeave from)) (heard_if b s.clock x) (if b then note.Left x.id ∷ [] else [])
+leave_part : (s : State) (from : Address) (dropped : List Release) (x : Client) (b : Bool) → (b ≡ true → x.address ≡ from)
+    → (if b then [] else []) ++ spell (by_cause s (ByMessage from ToLeave)) dropped (heard_if b s.clock x) (if b then note.Left x.id ∷ [] else [])
     ≡ (if b then leave_answer from x.id else [])
-leave_part s from x true at = ap (λ to. leave_answer to x.id) (at refl)
-leave_part s from x false at = refl
+leave_part s from dropped x true at = ap (λ to. leave_answer to x.id) (at refl)
+leave_part s from dropped x false at = refl
 
 pub leave_row : (h : List Row) (s : State) (from : Address) → StateShown h s
-    → frame_row s (ByLeave from) (notes_for s (ByLeave from)) ≡ answer_to (no_session from) (leave_answer from) (those_at from h)
-leave_row h s from shown = row_answer h s from (ByLeave from) (leave_answer from) shown (λ x. refl) (λ x is. leave_part s from x (is_here x from) (here_is x from))
+    → let c = ByMessage from ToLeave in
+    frame_row s c (stranger_to from ToLeave) (notes_for s c) ≡ answer_to (no_session from) (leave_answer from) (those_at from h)
+leave_row h s from shown =
+    let c = ByMessage from ToLeave in
+    row_answer h s from c (stranger_to from ToLeave) (leave_answer from) shown (λ x. refl)
+    (each_part h s from c (leave_answer from) shown (λ x is. leave_part s from (drops s c (notes_for s c)) x (is_here x from) (here_is x from)))
 
 abbrev broken_note : Denial → List ℕ → List Out
 broken_note rule id = Note (note.Frame (who.Client id) (Denied rule)) ∷ []
 
-broken_part : (s : State) (from : Address) (rule : Denial) (x : Client) (b : Bool)
-    → spell (by_cause s (ByBroken from rule)) x (if b then note.Frame (who.Client x.id) (Denied rule) ∷ [] else []) ≡ (if b then broken_note rule x.id else [])
-broken_part s from rule x true = refl
-broken_part s from rule x false = refl
+broken_part : (s : State) (from : Address) (rule : Denial) (dropped : List Release) (x : Client) (b : Bool)
+    → spell (by_cause s (ByBroken from rule)) dropped x (if b then note.Frame (who.Client x.id) (Denied rule) ∷ [] else []) ≡ (if b then broken_note rule x.id else [])
+broken_part s from rule dropped x true = refl
+broken_part s from rule dropped x false = refl
 
 pub broken_row : (h : List Row) (s : State) (from : Address) (rule : Denial) → StateShown h s
-    → frame_row s (ByBroken from rule) (notes_for s (ByBroken from rule))
+    → let c = ByBroken from rule in
+    frame_row s c (Note (note.Frame (who.Address from) (Denied rule)) ∷ []) (notes_for s c)
     ≡ answer_to (Note (note.Frame (who.Address from) (Denied rule)) ∷ []) (λ id. Note (note.Frame (who.Client id) (Denied rule)) ∷ []) (those_at from h)
-broken_row h s from rule shown = row_answer h s from (ByBroken from rule) (broken_note rule) shown (λ x. refl) (λ x is. broken_part s from rule x (is_here x from))
+broken_row h s from rule shown =
+    let c = ByBroken from rule in
+    row_answer h s from c (Note (note.Frame (who.Address from) (Denied rule)) ∷ []) (broken_note rule) shown (λ x. refl)
+    (each_part h s from c (broken_note rule) shown (λ x is. broken_part s from rule (drops s c (notes_for s c)) x (is_here x from)))

@@ -3,29 +3,37 @@ use Rattle.std.proofs.Common.{◌≡◌, ℕ, Bool, true, false, List, [], ◌�
 use Rattle.std.proofs.lemmas.List.{append-nil, append_assoc}
 use Rattle.sng_frames.specs.Reading.{frame_of}
 use Rattle.sng_outbox.specs.Sending.{publishes}
-use Rattle.sng_outbox.specs.declared.item.Item.TheVariants as item
+use Rattle.sng_outbox.specs.declared.item.Item.{Item}
 use Rattle.sng_outbox.specs.declared.item.Publication.{Publication}
 use Rattle.sng_book.specs.declared.decision.Who.{Who}
 use Rattle.sng_book.specs.declared.event.Event.{Event}
 use Rattle.sng_book.specs.declared.event.Event.TheVariants.{Datagram, Broker, Up, Down, Take, Replace, Tick}
 use Rattle.sng_book.specs.declared.out.Out.{Out}
 use Rattle.sng_book.specs.declared.row.Row.{Row}
-use Rattle.sng_history.specs.Causes.{ByPacket, cause_of, datagram_cause}
-use Rattle.sng_history.specs.Packets.{answer_of}
+use Rattle.sng_history.specs.Causes.{ByPacket, ByUp, ByReplace, cause_of, datagram_cause}
+use Rattle.sng_history.specs.Links.{resumed, filters_wanted}
+use Rattle.sng_history.specs.Exits.{subscribing}
 use Rattle.sng_history.specs.State.{State, opening, state_of}
-use Rattle.sng_history.specs.Lawful.{Lawful}
+use Rattle.sng_history.specs.Lawful.{Lawful, exits_for}
 use Rattle.sng_history.specs.Steps.{outs_of}
 use Rattle.sng_history.specs.Views.{policy_in_force, is_up}
-use Rattle.sng_history.specs.ViewsLink.{Departure, publications, asked, asked_with, owed_with, waiting, left, lets_out, drops, departures, wires_in, sends_in}
+use Rattle.sng_history.specs.ViewsLink.{Departure, publications, asked, asked_with, added, waiting, left, lets_out, drops, departures, wires_in, sends_in}
 use Rattle.sng_history.specs.LawsLink.{about_asked, about_left, LeavesInOrder, AllDepart, EachDeparts, Announced, EachAnnounced, may_send, EachTimely, is_upstream, EachUpstream}
 use Rattle.sng_history.proofs.Says.{says}
 use Rattle.sng_history.proofs.Keeping.{exact_by}
-use Rattle.sng_history.proofs.LawLink.{all_depart, all_unsent, all_announced, no_departures, none_announced, about_all, publications_more, publications_kept}
+use Rattle.sng_history.proofs.LawLink.{all_depart, all_unsent, all_announced, no_departures, none_announced, Wires, subscribing_wires, wires_gone, wires_kept, wires_alone, about_all, publications_append, publications_added, publications_kept}
 use Rattle.sng_history.proofs.LawAgain.{none_departed, again_announced, again_unsent}
-use Rattle.sng_history.proofs.LawWires.{datagram_still, packet_wires}
+use Rattle.sng_history.proofs.LawWires.{datagram_still, broker_wires, replace_wires}
 use Rattle.sng_history.proofs.SeenState.{Stands, stands}
 
 -- ---- one row
+
+-- the SUBSCRIBEs as a connection begins
+abbrev pub anew : State → List Out
+anew s = subscribing (resumed s.link s.clock (exits_for s ByUp)) (filters_wanted s.link)
+
+pub anew_wires : (s : State) → Wires (anew s)
+anew_wires s = subscribing_wires (resumed s.link s.clock (exits_for s ByUp)) (filters_wanted s.link)
 
 abbrev RowDeparts : List Row → Event → List Out → Type 0
 RowDeparts h e outs = MatchBool (lets_out e h) (AllDepart (policy_in_force h) (publications (waiting h)) (departures outs)) (departures outs ≡ [])
@@ -38,10 +46,10 @@ row_departs : (h : List Row) (s : State) (e : Event) → Stands h s → RowDepar
 row_departs h s (Datagram from datagram) st =
     no_departures (outs_of s (Datagram from datagram)) ((says s (datagram_cause from (frame_of datagram)) st.good.apart).exits ∙ (datagram_still s from (frame_of datagram)).exits)
 row_departs h s (Broker packet) st = no_departures (outs_of s (Broker packet)) (says s (ByPacket packet) st.good.apart).exits
-row_departs h s Up st = none_departed s.policy s.link.in_flight
+row_departs h s Up st = none_departed s.policy s.link.in_flight (anew s) ∙ wires_gone (anew s) (anew_wires s)
 row_departs h s Down st = refl
 row_departs h s Take st = rw (sym st.shown.policy, sym st.shown.waits, sym st.shown.up) (take_departs s s.up refl)
-row_departs h s (Replace policy) st = refl
+row_departs h s (Replace policy) st = no_departures (outs_of s (Replace policy)) (says s (ByReplace policy) st.good.apart).exits
 row_departs h s (Tick clock) st = refl
 
 take_announced : (s : State) (b : Bool) → s.up ≡ b → Announced false (outs_of s Take)
@@ -50,20 +58,20 @@ take_announced s false is = rw is tt
 
 row_announced : (s : State) (e : Event) → Announced false (outs_of s e)
 row_announced s (Datagram from datagram) = none_announced false (outs_of s (Datagram from datagram)) (datagram_still s from (frame_of datagram)).wires
-row_announced s (Broker packet) = none_announced false (outs_of s (Broker packet)) (packet_wires s.up s.link (answer_of packet))
-row_announced s Up = again_announced s.policy s.link.in_flight false
+row_announced s (Broker packet) = none_announced false (outs_of s (Broker packet)) (broker_wires s packet)
+row_announced s Up = again_announced s.policy s.link.in_flight (anew s) false (λ b. wires_alone (anew s) b (anew_wires s))
 row_announced s Down = tt
 row_announced s Take = take_announced s s.up refl
-row_announced s (Replace policy) = tt
+row_announced s (Replace policy) = none_announced false (outs_of s (Replace policy)) (replace_wires s policy)
 row_announced s (Tick clock) = tt
 
 row_timely : (h : List Row) (s : State) (e : Event) → s.up ≡ is_up h → may_send e h ≡ false → wires_in (outs_of s e) ≡ []
 row_timely h s (Datagram from datagram) up never = (datagram_still s from (frame_of datagram)).wires
-row_timely h s (Broker packet) up never = packet_wires s.up s.link (answer_of packet)
+row_timely h s (Broker packet) up never = broker_wires s packet
 row_timely h s Up up never = absurd (let e = never in cc)
 row_timely h s Down up never = refl
 row_timely h s Take up never = rw (up ∙ never) refl
-row_timely h s (Replace policy) up never = refl
+row_timely h s (Replace policy) up never = replace_wires s policy
 row_timely h s (Tick clock) up never = refl
 
 take_unsent : (s : State) (b : Bool) → s.up ≡ b → sends_in (outs_of s Take) ≡ []
@@ -71,7 +79,7 @@ take_unsent s true is = rw is (all_unsent s.policy s.link s.link.waiting)
 take_unsent s false is = rw is refl
 
 row_unsent : (s : State) (e : Event) → is_upstream e ≡ true → sends_in (outs_of s e) ≡ []
-row_unsent s Up is = again_unsent s.policy s.link.in_flight
+row_unsent s Up is = again_unsent s.policy s.link.in_flight (anew s) ∙ wires_kept (anew s) (anew_wires s)
 row_unsent s Down is = refl
 row_unsent s Take is = take_unsent s s.up refl
 row_unsent s (Datagram from datagram) is = absurd (let e = is in cc)
@@ -92,17 +100,17 @@ lefts_append : (xs ys : List Departure) → map about_left (xs ++ ys) ≡ map ab
 lefts_append [] ys = refl
 lefts_append (x ∷ xs) ys = ap (λ rest. about_left x ∷ rest) (lefts_append xs ys)
 
-order_row : (h : List Row) (outs : List Out) (drop b : Bool) (new : List Publication) (ids : List ℕ) → LeavesInOrder h
+order_row : (h : List Row) (outs : List Out) (drop b : Bool) (new : List Publication) (more : List Item) → publications more ≡ new → LeavesInOrder h
     → MatchBool b (AllDepart (policy_in_force h) (publications (waiting h)) (departures outs)) (departures outs ≡ [])
-    → abouts (asked h ++ new) ≡ map about_left (left h ++ departures outs) ++ abouts (publications ((if b then [] else (if drop then publishes (waiting h) else waiting h)) ++ (map item.Publish new ++ map item.Acknowledge ids)))
-order_row h outs drop true new ids order all =
+    → abouts (asked h ++ new) ≡ map about_left (left h ++ departures outs) ++ abouts (publications ((if b then [] else (if drop then publishes (waiting h) else waiting h)) ++ more))
+order_row h outs drop true new more is order all =
     let ds = departures outs in
     abouts_append (asked h) new
     ∙ (ap (λ xs. xs ++ abouts new) (order ∙ (ap (λ xs. map about_left (left h) ++ xs) (sym (about_all (policy_in_force h) (publications (waiting h)) ds all)) ∙ sym (lefts_append (left h) ds)))
-    ∙ ap (λ xs. map about_left (left h ++ ds) ++ abouts xs) (sym (publications_more [] new ids)))
-order_row h outs drop false new ids order none =
+    ∙ ap (λ xs. map about_left (left h ++ ds) ++ abouts xs) (sym is))
+order_row h outs drop false new more is order none =
     let items = if drop then publishes (waiting h) else waiting h in
-    rw (none, append-nil (left h), publications_more items new ids, publications_kept drop (waiting h), abouts_append (asked h) new, abouts_append (publications (waiting h)) new, order)
+    rw (none, append-nil (left h), publications_append items more, is, publications_kept drop (waiting h), abouts_append (asked h) new, abouts_append (publications (waiting h)) new, order)
     (append_assoc (map about_left (left h)) (abouts (publications (waiting h))) (abouts new))
 
 -- ---- all rows
@@ -118,7 +126,7 @@ links_row : (by : ℕ) (h : List Row) (s : State) (e : Event) (outs : List Out) 
 links_row by h s e outs st is links =
     let departs : RowDeparts h e outs = subst (RowDeparts h e) (sym is) (row_departs h s e st) in
     record {
-      order = order_row h outs (drops e h) (lets_out e h) (asked_with e outs) (owed_with e h outs) links.order departs;
+      order = order_row h outs (drops e h) (lets_out e h) (asked_with e outs) (added e h (waiting h) outs) (publications_added e h (waiting h) outs) links.order departs;
       depart = (links.depart, departs);
       announced = (links.announced, subst (Announced false) (sym is) (row_announced s e));
       timely = (links.timely, λ never. ap wires_in is ∙ row_timely h s e st.shown.up never);

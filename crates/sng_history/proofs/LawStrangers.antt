@@ -4,7 +4,9 @@ use Rattle.std.specs.Prelude.{◌&&◌, ◌||◌, not, Option, Some, None}
 use Rattle.std.specs.List.{flat_map}
 use Rattle.std.specs.Str.{bytes_eq}
 use Rattle.std.specs.declared.result.Result.{Result}
+use Rattle.std.proofs.lemmas.List.{append-nil}
 use Rattle.sng_grants.specs.declared.policy.Policy.{Policy}
+use Rattle.sng_fan.specs.declared.held.Held.{Held}
 use Rattle.sng_policy.specs.Grants.{lists_source}
 use Rattle.sng_text.specs.Texts.{is_name}
 use Rattle.sng_outbox.specs.declared.in_flight.InFlight.{InFlight}
@@ -16,7 +18,6 @@ use Rattle.sng_frames.specs.Reading.{frame_of}
 use Rattle.sng_frames.specs.declared.fault.FrameFault.{FrameFault}
 use Rattle.sng_frames.specs.declared.messages.connect.Connect.{Connect}
 use Rattle.sng_frames.specs.declared.messages.publish.Publish.{Publish}
-use Rattle.sng_frames.specs.declared.messages.register.Register.{Register}
 use Rattle.sng_frames.specs.declared.qos.FrameQos.{FrameQos}
 use Rattle.sng_frames.specs.declared.qos.FrameQos.TheVariants as qos
 use Rattle.sng_frames.specs.declared.return_code.TheConstants.ReturnCode.{ACCEPTED}
@@ -29,7 +30,7 @@ use Rattle.sng_book.specs.declared.decision.Decision.TheVariants as note
 use Rattle.sng_book.specs.declared.decision.Who.{Who}
 use Rattle.sng_book.specs.declared.decision.Who.TheVariants as who
 use Rattle.sng_book.specs.declared.outcome.Denial.{Denial}
-use Rattle.sng_book.specs.declared.outcome.Denial.TheVariants.{NotSupported, UnknownSource}
+use Rattle.sng_book.specs.declared.outcome.Denial.TheVariants.{NotSupported, UnknownSource, BrokerRefused}
 use Rattle.sng_book.specs.declared.outcome.Outcome.{Outcome}
 use Rattle.sng_book.specs.declared.outcome.Outcome.TheVariants.{Allowed, Denied}
 use Rattle.sng_book.specs.declared.event.Event.{Event}
@@ -37,25 +38,28 @@ use Rattle.sng_book.specs.declared.event.Event.TheVariants.{Datagram, Broker, Up
 use Rattle.sng_book.specs.declared.out.Out.{Out}
 use Rattle.sng_book.specs.declared.out.Out.TheVariants.{Send, Wire, Note}
 use Rattle.sng_book.specs.declared.row.Row.{Row}
-use Rattle.sng_history.specs.Causes.{Cause, cause_of, ByConnect, ByPing, ByLeave, BySource, ByRegister, ByPublish, ByUnsupported, ByBroken, datagram_cause, publish_cause, rule_of}
+use Rattle.sng_history.specs.Causes.{Request, ToPing, ToLeave, ToRegister, ToPublish, ToSubscribe, ToUnsubscribe, Untaken, Cause, cause_of, datagram_cause, publish_cause, rule_of}
+use Rattle.sng_history.specs.Causes.{ByConnect, ByMessage, BySource, ByBroken, ByPacket, ByUp, ByReplace}
 use Rattle.sng_history.specs.Clients.{Client, same_address, is_here}
 use Rattle.sng_history.specs.Notes.{notes_of}
 use Rattle.sng_history.specs.State.{State, opening, state_of, around}
-use Rattle.sng_history.specs.Verdicts.{exit, entry, ping_verdict, named_ask, name_in, register_ask, publish_ask}
+use Rattle.sng_history.specs.Verdicts.{exit, entry, ping_verdict, named_ask, name_in, register_ask, publish_ask, coverage, subscribe_ask, unsubscribe_ask}
 use Rattle.sng_history.specs.Answers.{denied_note, dismissed, connack}
-use Rattle.sng_history.specs.Whole.{part, any_from, stranger_outs, moved, beside, entry_outs}
-use Rattle.sng_history.specs.Lawful.{Lawful, denial_of, fixed_for}
+use Rattle.sng_history.specs.Whole.{part, any_from, stranger_to, drops, client_rows, frame_row, moved, beside, entry_outs}
+use Rattle.sng_history.specs.Standing.{Release, holds, drop_notes}
+use Rattle.sng_history.specs.Lawful.{Lawful, denial_of, fixed_to, end_of, ends_under, refused_end, fixed_for, exits_for}
 use Rattle.sng_history.specs.Steps.{notes_for, outs_by, outs_of}
 use Rattle.sng_history.specs.ViewsClients.{left_from, phase_by, phase_after, phase_of, admits, is_admitted, is_among, accepted_by, accepted_in, accepted}
-use Rattle.sng_history.specs.Links.{Link, packet_id_by, exited}
-use Rattle.sng_history.specs.Exits.{exits_of, forwarded, leaving, agains_of, sent_again, resending}
-use Rattle.sng_history.specs.Packets.{Answer, Delivers, Acknowledges, Confirms, Strange, answer_of, has_place, owed, misnamed, dropped, answer_outs}
+use Rattle.sng_history.specs.Links.{Link, packet_id_by, exited, resumed, filters_wanted, subscribe_left, unsubscribe_left}
+use Rattle.sng_history.specs.Exits.{exits_of, forwarded, subscribe_leaves, unsubscribe_leaves, subscribing, leaving, agains_of, sent_again, resending}
+use Rattle.sng_history.specs.Packets.{Answer, Delivers, Acknowledges, Grants, Refuses, Confirms, Strange, answer_of, has_place, owed, misnamed, dropped, refused_filter, answer_outs}
 use Rattle.sng_history.specs.ViewsMessages.{Connects, message_in}
 use Rattle.sng_history.proofs.Keeping.{exact_by}
 use Rattle.sng_history.proofs.Own.{same_self, same_means}
-use Rattle.sng_history.proofs.Asks.{of_register, of_publish}
+use Rattle.sng_history.proofs.Asks.{of_register, of_publish, of_subscribe, of_unsubscribe}
 use Rattle.sng_history.proofs.Spelled.{part_own, part_other}
 use Rattle.sng_history.proofs.Told.{tells}
+use Rattle.sng_history.proofs.LawLink.{Wires, subscribe_wires, unsubscribe_wires, subscribing_wires}
 use Rattle.sng_history.proofs.SeenNotes.{phase_notes, admitted_notes, phase_by_notes, admitted_by_notes}
 
 -- ---- nobody is accepted
@@ -77,64 +81,87 @@ admitted_flat id f [] none = refl
 admitted_flat id f (x ∷ xs) none = admitted_append id (f x) (flat_map f xs) (none x) (admitted_flat id f xs none)
 
 -- what is let out for a client whose notes accept nobody
-admitted_part : (s : State) (c : Cause) (x : Client) (id : List ℕ) (b : Bool) → bytes_eq id x.id ≡ b → admitted_notes id (fixed_for s c x) ≡ false
-    → is_admitted id (part (around s c) (fixed_for s c x) x) ≡ false
-admitted_part s c x id true is none =
+admitted_part : (s : State) (c : Cause) (dropped : List Release) (x : Client) (id : List ℕ) (b : Bool) → bytes_eq id x.id ≡ b → admitted_notes id (fixed_for s c x) ≡ false
+    → is_admitted id (part (around s c) dropped (fixed_for s c x) x) ≡ false
+admitted_part s c dropped x id true is none =
     let same : id ≡ x.id = same_means id x.id is in
-    let outs = part (around s c) (fixed_for s c x) x in
-    let own : notes_of id outs ≡ fixed_for s c x = ap (λ i. notes_of i outs) same ∙ part_own (around s c) (fixed_for s c x) x (tells s c x) in
+    let outs = part (around s c) dropped (fixed_for s c x) x in
+    let own : notes_of id outs ≡ fixed_for s c x = ap (λ i. notes_of i outs) same ∙ part_own (around s c) dropped (fixed_for s c x) x (tells s c x) in
     admitted_by_notes id outs ∙ (ap (admitted_notes id) own ∙ none)
-admitted_part s c x id false is none =
-    let outs = part (around s c) (fixed_for s c x) x in
-    admitted_by_notes id outs ∙ ap (admitted_notes id) (part_other (around s c) (fixed_for s c x) x id is (tells s c x))
+admitted_part s c dropped x id false is none =
+    let outs = part (around s c) dropped (fixed_for s c x) x in
+    admitted_by_notes id outs ∙ ap (admitted_notes id) (part_other (around s c) dropped (fixed_for s c x) x id is (tells s c x))
 
--- a row of a message accepts nobody
+-- nor does a row accept anybody where no client's notes do
+admitted_rows : (s : State) (c : Cause) (dropped : List Release) (id : List ℕ) → ((x : Client) → admitted_notes id (fixed_for s c x) ≡ false)
+    → is_admitted id (client_rows s c dropped (notes_for s c)) ≡ false
+admitted_rows s c dropped id none =
+    admitted_flat id (λ x. part (around s c) dropped (fixed_for s c x) x) s.clients (λ x. admitted_part s c dropped x id (bytes_eq id x.id) refl (none x))
+
 admitted_either : (id : List ℕ) (outs stranger : List Out) (b : Bool) → is_admitted id outs ≡ false → is_admitted id stranger ≡ false → is_admitted id (if b then outs else stranger) ≡ false
 admitted_either id outs stranger true one two = one
 admitted_either id outs stranger false one two = two
 
-admitted_frame : (s : State) (c : Cause) (id : List ℕ) → ((x : Client) → admitted_notes id (fixed_for s c x) ≡ false) → is_admitted id (stranger_outs c) ≡ false
-    → is_admitted id (if any_from c s.clients then flat_map (λ x. part (around s c) (fixed_for s c x) x) s.clients else stranger_outs c) ≡ false
-admitted_frame s c id none stranger =
-    let f : Client → List Out = λ x. part (around s c) (fixed_for s c x) x in
-    admitted_either id (flat_map f s.clients) (stranger_outs c) (any_from c s.clients) (admitted_flat id f s.clients (λ x. admitted_part s c x id (bytes_eq id x.id) refl (none x))) stranger
+admitted_frame : (s : State) (c : Cause) (stranger : List Out) (id : List ℕ) → ((x : Client) → admitted_notes id (fixed_for s c x) ≡ false) → is_admitted id stranger ≡ false
+    → is_admitted id (frame_row s c stranger (notes_for s c)) ≡ false
+admitted_frame s c stranger id none never =
+    let dropped = drops s c (notes_for s c) in
+    admitted_either id (client_rows s c dropped (notes_for s c)) stranger (any_from c s.clients) (admitted_rows s c dropped id none) never
 
 denied_admits : (id : List ℕ) (message : SnFrame) (whom : Who) (rule : Denial) → admits id (denied_note message whom rule) ≡ false
 denied_admits id (frame.Connect connect) whom rule = refl
 denied_admits id message whom rule = refl
 
-one_note : (id : List ℕ) (said : Decision) (b : Bool) → admits id said ≡ false → admitted_notes id (if b then said ∷ [] else []) ≡ false
-one_note id said true none = rw none refl
-one_note id said false none = refl
+ping_note : (id own : List ℕ) (o : Outcome) → admitted_notes id (denial_of own o) ≡ false
+ping_note id own Allowed = refl
+ping_note id own (Denied rule) = refl
 
-ping_note : (id own : List ℕ) (o : Outcome) (b : Bool) → admitted_notes id (if b then denial_of own o else []) ≡ false
-ping_note id own Allowed true = refl
-ping_note id own (Denied rule) true = refl
-ping_note id own o false = refl
+one_note : (id : List ℕ) (said : Decision) → admits id said ≡ false → admitted_notes id (said ∷ []) ≡ false
+one_note id said none = rw none refl
 
-admitted_unsupported : (s : State) (from : Address) (message : SnFrame) (id : List ℕ) → is_admitted id (outs_by s (ByUnsupported from message)) ≡ false
-admitted_unsupported s from message id =
-    admitted_frame s (ByUnsupported from message) id
-    (λ x. one_note id (denied_note message (who.Client x.id) NotSupported) (is_here x from) (denied_admits id message (who.Client x.id) NotSupported))
-    (ap (λ b. b || false) (denied_admits id message (who.Address from) NotSupported))
+-- no message but a CONNECT accepts anybody
+request_note : (s : State) (request : Request) (x : Client) (id : List ℕ) → admitted_notes id (fixed_to s request x) ≡ false
+request_note s (ToPing client) x id = ping_note id x.id (ping_verdict client x)
+request_note s ToLeave x id = refl
+request_note s (ToRegister r) x id = one_note id (register_ask s.policy x r.name) (of_register (λ said. admits id said ≡ false) s.policy x r.name (λ name o. refl))
+request_note s (ToPublish p) x id = one_note id (publish_ask s x p) (of_publish (λ said. admits id said ≡ false) s x p (λ name o. refl))
+request_note s (ToSubscribe r) x id = one_note id (subscribe_ask s x r) (of_subscribe (λ said. admits id said ≡ false) s x r (λ text o. refl))
+request_note s (ToUnsubscribe r) x id = one_note id (unsubscribe_ask s.policy x r) (of_unsubscribe (λ said. admits id said ≡ false) s.policy x r (λ text o. refl))
+request_note s (Untaken message) x id = one_note id (denied_note message (who.Client x.id) NotSupported) (denied_admits id message (who.Client x.id) NotSupported)
 
-admitted_publish : (s : State) (from : Address) (p : Publish) (id : List ℕ) → is_admitted id (outs_by s (ByPublish from p)) ≡ false
-admitted_publish s from p id =
-    admitted_frame s (ByPublish from p) id (λ x. one_note id (publish_ask s x p) (is_here x from) (of_publish (λ said. admits id said ≡ false) s x p (λ name o. refl))) refl
+note_if : (id : List ℕ) (notes : List Decision) (b : Bool) → admitted_notes id notes ≡ false → admitted_notes id (if b then notes else []) ≡ false
+note_if id notes true none = none
+note_if id notes false none = refl
 
-admitted_register : (s : State) (from : Address) (r : Register) (id : List ℕ) → is_admitted id (outs_by s (ByRegister from r)) ≡ false
-admitted_register s from r id =
-    admitted_frame s (ByRegister from r) id
-    (λ x. one_note id (register_ask s.policy x r.name) (is_here x from) (of_register (λ said. admits id said ≡ false) s.policy x r.name (λ name o. refl))) refl
+stranger_admits : (from : Address) (request : Request) (id : List ℕ) → is_admitted id (stranger_to from request) ≡ false
+stranger_admits from (ToPing client) id = refl
+stranger_admits from ToLeave id = refl
+stranger_admits from (ToRegister r) id = refl
+stranger_admits from (ToPublish p) id = refl
+stranger_admits from (ToSubscribe r) id = refl
+stranger_admits from (ToUnsubscribe r) id = refl
+stranger_admits from (Untaken message) id = ap (λ b. b || false) (denied_admits id message (who.Address from) NotSupported)
 
-admitted_leave : (s : State) (from : Address) (id : List ℕ) → is_admitted id (outs_by s (ByLeave from)) ≡ false
-admitted_leave s from id = admitted_frame s (ByLeave from) id (λ x. one_note id (note.Left x.id) (is_here x from) refl) refl
-
-admitted_ping : (s : State) (from : Address) (client : Option (List ℕ)) (id : List ℕ) → is_admitted id (outs_by s (ByPing from client)) ≡ false
-admitted_ping s from client id = admitted_frame s (ByPing from client) id (λ x. ping_note id x.id (ping_verdict client x) (is_here x from)) refl
+admitted_message : (s : State) (from : Address) (request : Request) (id : List ℕ) → is_admitted id (outs_by s (ByMessage from request)) ≡ false
+admitted_message s from request id =
+    admitted_frame s (ByMessage from request) (stranger_to from request) id (λ x. note_if id (fixed_to s request x) (is_here x from) (request_note s request x id)) (stranger_admits from request id)
 
 admitted_broken : (s : State) (from : Address) (rule : Denial) (id : List ℕ) → is_admitted id (outs_by s (ByBroken from rule)) ≡ false
-admitted_broken s from rule id = admitted_frame s (ByBroken from rule) id (λ x. one_note id (note.Frame (who.Client x.id) (Denied rule)) (is_here x from) refl) refl
+admitted_broken s from rule id =
+    admitted_frame s (ByBroken from rule) (Note (note.Frame (who.Address from) (Denied rule)) ∷ []) id (λ x. note_if id (note.Frame (who.Client x.id) (Denied rule) ∷ []) (is_here x from) refl) refl
+
+-- subscriptions end
+end_note : (id own text : List ℕ) (o : Outcome) (notes : List Decision) → admitted_notes id (end_of own text o ++ notes) ≡ admitted_notes id notes
+end_note id own text Allowed notes = refl
+end_note id own text (Denied rule) notes = refl
+
+ends_note : (policy : Policy) (id own : List ℕ) (held : List Held) → admitted_notes id (ends_under policy own held) ≡ false
+ends_note policy id own [] = refl
+ends_note policy id own (h ∷ held) = end_note id own h.filter (coverage policy own h.filter) (ends_under policy own held) ∙ ends_note policy id own held
+
+refused_note : (x : Client) (id : List ℕ) (text : Option (List ℕ)) → admitted_notes id (refused_end x text) ≡ false
+refused_note x id None = refl
+refused_note x id (Some text) = note_if id (note.End x.id text (Denied BrokerRefused) ∷ []) (holds text x) refl
 
 named_admits : (s : State) (source id : List ℕ) (read : Result (List ℕ) Denial) → admits id (named_ask s source read) ≡ false
 named_admits s source id (Ok name) = refl
@@ -162,33 +189,39 @@ beside_notes s from connect x id false Allowed = refl
 beside_notes s from connect x id here (Denied rule) = refl
 
 beside_if : (s : State) (from : Address) (connect : Connect) (x : Client) (id : List ℕ) (own : Bool) → bytes_eq connect.client_id x.id ≡ own
-    → is_admitted id (if own then [] else part (around s (ByConnect from connect)) (fixed_for s (ByConnect from connect) x) x) ≡ false
+    → is_admitted id (if own then [] else part (around s (ByConnect from connect)) [] (fixed_for s (ByConnect from connect) x) x) ≡ false
 beside_if s from connect x id true is = refl
 beside_if s from connect x id false is =
-    admitted_part s (ByConnect from connect) x id (bytes_eq id x.id) refl (rw is (beside_notes s from connect x id (is_here x from) (entry s connect)))
+    admitted_part s (ByConnect from connect) [] x id (bytes_eq id x.id) refl (rw is (beside_notes s from connect x id (is_here x from) (entry s connect)))
+
+drops_admit : (id : List ℕ) (dropped : List Release) → is_admitted id (drop_notes dropped) ≡ false
+drops_admit id [] = refl
+drops_admit id (r ∷ dropped) = drops_admit id dropped
 
 entry_admits : (s : State) (from : Address) (connect : Connect) (id : List ℕ) (o : Outcome) → bytes_eq id connect.client_id ≡ false
     → is_admitted id (entry_outs s from connect (notes_for s (ByConnect from connect)) o) ≡ false
 entry_admits s from connect id Allowed other =
     let c = ByConnect from connect in
     let f : Client → List Out = beside (around s c) (notes_for s c) connect.client_id in
+    let noted = drop_notes (drops s c (notes_for s c)) in
     rw other
-    (admitted_append id (flat_map (moved from connect.client_id) s.clients) (flat_map f s.clients ++ connack from ACCEPTED ∷ [])
+    (admitted_append id (flat_map (moved from connect.client_id) s.clients) (flat_map f s.clients ++ (noted ++ connack from ACCEPTED ∷ []))
     (admitted_flat id (moved from connect.client_id) s.clients (λ x. moved_if id x (bytes_eq connect.client_id x.id) (has_session x.phase && not (same_address x.address from))))
-    (admitted_append id (flat_map f s.clients) (connack from ACCEPTED ∷ []) (admitted_flat id f s.clients (λ x. beside_if s from connect x id (bytes_eq connect.client_id x.id) refl)) refl))
+    (admitted_append id (flat_map f s.clients) (noted ++ connack from ACCEPTED ∷ []) (admitted_flat id f s.clients (λ x. beside_if s from connect x id (bytes_eq connect.client_id x.id) refl))
+    (admitted_append id noted (connack from ACCEPTED ∷ []) (drops_admit id (drops s c (notes_for s c))) refl)))
 entry_admits s from connect id (Denied rule) other = rw other refl
 
 -- ---- no row accepts a client that it does not count
 
 publish_admits : (s : State) (from : Address) (p : Publish) (q : FrameQos) (id : List ℕ) → is_admitted id (outs_by s (publish_cause from p q)) ≡ false
 publish_admits s from p qos.WithoutSession id = admitted_source s from p id
-publish_admits s from p qos.AtMostOnce id = admitted_publish s from p id
-publish_admits s from p qos.AtLeastOnce id = admitted_publish s from p id
-publish_admits s from p qos.ExactlyOnce id = admitted_unsupported s from (frame.Publish p) id
+publish_admits s from p qos.AtMostOnce id = admitted_message s from (ToPublish p) id
+publish_admits s from p qos.AtLeastOnce id = admitted_message s from (ToPublish p) id
+publish_admits s from p qos.ExactlyOnce id = admitted_message s from (Untaken (frame.Publish p)) id
 
 disconnect_admits : (s : State) (from : Address) (duration : Option ℕ) (id : List ℕ) → is_admitted id (outs_by s (datagram_cause from (Ok (frame.Disconnect duration)))) ≡ false
-disconnect_admits s from None id = admitted_leave s from id
-disconnect_admits s from (Some duration) id = admitted_unsupported s from (frame.Disconnect (Some duration)) id
+disconnect_admits s from None id = admitted_message s from ToLeave id
+disconnect_admits s from (Some duration) id = admitted_message s from (Untaken (frame.Disconnect (Some duration))) id
 
 own_admits : (id : List ℕ) (a known : Bool) → known ≡ false → is_among id (if a && not known then id ∷ [] else []) ≡ false → a ≡ false
 own_admits id true known unknown none =
@@ -208,29 +241,44 @@ datagram_admits : (s : State) (from : Address) (read : Result SnFrame FrameFault
     → is_among id (accepted_by ids (message_in read) (outs_by s (datagram_cause from read))) ≡ false → is_admitted id (outs_by s (datagram_cause from read)) ≡ false
 datagram_admits s from (Ok (frame.Connect connect)) ids id unknown none = connect_admits s from connect ids id (bytes_eq id connect.client_id) refl unknown none
 datagram_admits s from (Ok (frame.Publish p)) ids id unknown none = publish_admits s from p p.flags.qos id
-datagram_admits s from (Ok (frame.Register r)) ids id unknown none = admitted_register s from r id
-datagram_admits s from (Ok (frame.PingRequest client)) ids id unknown none = admitted_ping s from client id
+datagram_admits s from (Ok (frame.Register r)) ids id unknown none = admitted_message s from (ToRegister r) id
+datagram_admits s from (Ok (frame.Subscribe r)) ids id unknown none = admitted_message s from (ToSubscribe r) id
+datagram_admits s from (Ok (frame.Unsubscribe r)) ids id unknown none = admitted_message s from (ToUnsubscribe r) id
+datagram_admits s from (Ok (frame.PingRequest client)) ids id unknown none = admitted_message s from (ToPing client) id
 datagram_admits s from (Ok (frame.Disconnect duration)) ids id unknown none = disconnect_admits s from duration id
-datagram_admits s from (Ok message) ids id unknown none = admitted_unsupported s from message id
+datagram_admits s from (Ok message) ids id unknown none = admitted_message s from (Untaken message) id
 datagram_admits s from (Err broke) ids id unknown none = admitted_broken s from (rule_of broke) id
 
 forwarded_admits : (id : List ℕ) (p : Publication) (packet_id : Option ℕ) (o : Outcome) (outs : List Out) → is_admitted id outs ≡ false → is_admitted id (forwarded p packet_id o ++ outs) ≡ false
 forwarded_admits id p packet_id Allowed outs rest = rest
 forwarded_admits id p packet_id (Denied rule) outs rest = rest
 
+wires_admit : (id : List ℕ) (xs ys : List Out) → Wires xs → is_admitted id (xs ++ ys) ≡ is_admitted id ys
+wires_admit id [] ys are = refl
+wires_admit id (Wire sent ∷ xs) ys are = wires_admit id xs ys are.1
+wires_admit id (Send to datagram ∷ xs) ys are = absurd are
+wires_admit id (Note said ∷ xs) ys are = absurd are
+
 leaving_admits : (id : List ℕ) (policy : Policy) (link : Link) (items : List Item) → is_admitted id (leaving link items (exits_of policy items)) ≡ false
 leaving_admits id policy link [] = refl
 leaving_admits id policy link (item.Publish p ∷ items) =
     let o = exit policy p.origin p.name in
     forwarded_admits id p (packet_id_by link p.qos) o (leaving (exited link p o) items (exits_of policy items)) (leaving_admits id policy (exited link p o) items)
-leaving_admits id policy link (item.Subscribe filter ∷ items) = leaving_admits id policy link items
-leaving_admits id policy link (item.Unsubscribe filter ∷ items) = leaving_admits id policy link items
+leaving_admits id policy link (item.Subscribe text ∷ items) =
+    let next = subscribe_left link text in
+    wires_admit id (subscribe_leaves link text) (leaving next items (exits_of policy items)) (subscribe_wires link text) ∙ leaving_admits id policy next items
+leaving_admits id policy link (item.Unsubscribe text ∷ items) =
+    let next = unsubscribe_left link text in
+    wires_admit id (unsubscribe_leaves link text) (leaving next items (exits_of policy items)) (unsubscribe_wires link text) ∙ leaving_admits id policy next items
 leaving_admits id policy link (item.Acknowledge packet_id ∷ items) = leaving_admits id policy link items
 leaving_admits id policy link (item.Ping ∷ items) = leaving_admits id policy link items
 
 take_admits : (s : State) (id : List ℕ) (b : Bool) → s.up ≡ b → is_admitted id (outs_of s Take) ≡ false
 take_admits s id true is = rw is (leaving_admits id s.policy s.link s.link.waiting)
 take_admits s id false is = rw is refl
+
+wires_alone : (id : List ℕ) (xs : List Out) → Wires xs → is_admitted id xs ≡ false
+wires_alone id xs are = ap (is_admitted id) (sym (append-nil xs)) ∙ wires_admit id xs [] are
 
 again_admits : (id : List ℕ) (sent : InFlight) (o : Outcome) (outs : List Out) → is_admitted id outs ≡ false → is_admitted id (sent_again sent o ++ outs) ≡ false
 again_admits id sent Allowed outs rest = rest
@@ -254,16 +302,25 @@ packet_admits : (s : State) (id : List ℕ) (brought : Answer) → is_admitted i
 packet_admits s id (Delivers p) =
     misnamed_admits id p.name (dropped (has_place s.link) (owed s.up p)) (is_name p.name) refl (dropped_admits id (has_place s.link) (owed s.up p))
 packet_admits s id (Acknowledges packet_id) = refl
+packet_admits s id (Grants packet_id) = refl
+packet_admits s id (Refuses packet_id) = refl
 packet_admits s id Confirms = refl
 packet_admits s id Strange = refl
 
 row_admits : (s : State) (e : Event) (ids : List (List ℕ)) (id : List ℕ) → is_among id ids ≡ false → is_among id (accepted_in ids e (outs_of s e)) ≡ false → is_admitted id (outs_of s e) ≡ false
 row_admits s (Datagram from datagram) ids id unknown none = datagram_admits s from (frame_of datagram) ids id unknown none
-row_admits s (Broker packet) ids id unknown none = packet_admits s id (answer_of packet)
-row_admits s Up ids id unknown none = resending_admits id s.policy s.link.in_flight
+row_admits s (Broker packet) ids id unknown none =
+    let c = ByPacket packet in
+    admitted_append id (client_rows s c [] (notes_for s c)) (answer_outs s.up s.link (answer_of packet))
+    (admitted_rows s c [] id (λ x. refused_note x id (refused_filter s.link (answer_of packet)))) (packet_admits s id (answer_of packet))
+row_admits s Up ids id unknown none =
+    let anew = subscribing (resumed s.link s.clock (exits_for s ByUp)) (filters_wanted s.link) in
+    admitted_append id (resending s.link.in_flight (exits_for s ByUp)) anew (resending_admits id s.policy s.link.in_flight)
+    (wires_alone id anew (subscribing_wires (resumed s.link s.clock (exits_for s ByUp)) (filters_wanted s.link)))
 row_admits s Down ids id unknown none = refl
 row_admits s Take ids id unknown none = take_admits s id s.up refl
-row_admits s (Replace policy) ids id unknown none = refl
+row_admits s (Replace policy) ids id unknown none =
+    let c = ByReplace policy in admitted_rows s c (drops s c (notes_for s c)) id (λ x. ends_note policy id x.id x.filters)
 row_admits s (Tick clock) ids id unknown none = refl
 
 -- ---- all rows

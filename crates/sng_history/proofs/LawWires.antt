@@ -4,6 +4,8 @@ use Rattle.std.specs.Prelude.{◌&&◌, not, Option, Some, None}
 use Rattle.std.specs.List.{flat_map}
 use Rattle.std.specs.Str.{bytes_eq}
 use Rattle.std.specs.declared.result.Result.{Result}
+use Rattle.mqtt_frames.specs.declared.packet.Packet.{Packet}
+use Rattle.sng_grants.specs.declared.policy.Policy.{Policy}
 use Rattle.sng_states.specs.States.{has_session}
 use Rattle.sng_text.specs.Texts.{is_name}
 use Rattle.sng_frames.specs.declared.fault.FrameFault.{FrameFault}
@@ -22,18 +24,20 @@ use Rattle.sng_book.specs.declared.outcome.Outcome.{Outcome}
 use Rattle.sng_book.specs.declared.outcome.Outcome.TheVariants.{Allowed, Denied}
 use Rattle.sng_book.specs.declared.out.Out.{Out}
 use Rattle.sng_book.specs.declared.out.Out.TheVariants.{Send, Wire, Note}
-use Rattle.sng_history.specs.Causes.{Cause, ByConnect, ByPing, ByLeave, ByRegister, ByPublish, ByUnsupported, ByBroken, datagram_cause, publish_cause, rule_of}
+use Rattle.sng_history.specs.Causes.{Request, ToPing, ToLeave, ToRegister, ToPublish, ToSubscribe, ToUnsubscribe, Untaken, Cause, datagram_cause, publish_cause, rule_of}
+use Rattle.sng_history.specs.Causes.{ByConnect, ByMessage, ByBroken, ByPacket, ByReplace}
 use Rattle.sng_history.specs.Clients.{Around, Client, same_address}
 use Rattle.sng_history.specs.State.{State, around}
 use Rattle.sng_history.specs.Links.{Link}
-use Rattle.sng_history.specs.Packets.{Answer, Delivers, Acknowledges, Confirms, Strange, answer_outs, owed, has_place, dropped}
+use Rattle.sng_history.specs.Packets.{Answer, Delivers, Acknowledges, Grants, Refuses, Confirms, Strange, answer_of, answer_outs, owed, has_place, dropped}
 use Rattle.sng_history.specs.Verdicts.{entry}
 use Rattle.sng_history.specs.Answers.{dismissed, connack}
-use Rattle.sng_history.specs.Whole.{Notes, part, any_from, stranger_outs, frame_row, moved, beside, entry_outs}
+use Rattle.sng_history.specs.Whole.{Notes, part, any_from, stranger_to, drops, client_rows, frame_row, moved, beside, entry_outs}
+use Rattle.sng_history.specs.Standing.{Release, drop_notes}
 use Rattle.sng_history.specs.Lawful.{exits_for}
 use Rattle.sng_history.specs.Steps.{outs_by, notes_for}
 use Rattle.sng_history.specs.ViewsLink.{wires_in}
-use Rattle.sng_history.proofs.Sent.{part_wires}
+use Rattle.sng_history.proofs.Sent.{drops_sent, sent_wires, part_wires}
 
 wires_append : (xs ys : List Out) → wires_in xs ≡ [] → wires_in ys ≡ [] → wires_in (xs ++ ys) ≡ []
 wires_append [] ys one two = two
@@ -47,23 +51,25 @@ wires_flat f (x ∷ xs) none = wires_append (f x) (flat_map f xs) (none x) (wire
 
 -- ---- the row
 
-stranger_wires : (c : Cause) → wires_in (stranger_outs c) ≡ []
-stranger_wires (ByPing from client) = refl
-stranger_wires (ByLeave from) = refl
-stranger_wires (ByRegister from r) = refl
-stranger_wires (ByPublish from p) = refl
-stranger_wires (ByUnsupported from message) = refl
-stranger_wires (ByBroken from rule) = refl
-stranger_wires _ = refl
+stranger_wires : (from : Address) (request : Request) → wires_in (stranger_to from request) ≡ []
+stranger_wires from (ToPing client) = refl
+stranger_wires from ToLeave = refl
+stranger_wires from (ToRegister r) = refl
+stranger_wires from (ToPublish p) = refl
+stranger_wires from (ToSubscribe r) = refl
+stranger_wires from (ToUnsubscribe r) = refl
+stranger_wires from (Untaken message) = refl
 
-either_wires : (c : Cause) (outs : List Out) (b : Bool) → wires_in outs ≡ [] → wires_in (if b then outs else stranger_outs c) ≡ []
-either_wires c outs true none = none
-either_wires c outs false none = stranger_wires c
+either_wires : (stranger outs : List Out) (b : Bool) → wires_in stranger ≡ [] → wires_in outs ≡ [] → wires_in (if b then outs else stranger) ≡ []
+either_wires stranger outs true one none = none
+either_wires stranger outs false one none = one
 
-frame_wires : (s : State) (c : Cause) (n : Notes) → wires_in (frame_row s c n) ≡ []
-frame_wires s c n =
-    either_wires c (flat_map (λ x. part (around s c) (n.of x) x) s.clients) (any_from c s.clients)
-    (wires_flat (λ x. part (around s c) (n.of x) x) s.clients (λ x. part_wires (around s c) (n.of x) x))
+pub rows_wires : (s : State) (c : Cause) (dropped : List Release) (n : Notes) → wires_in (client_rows s c dropped n) ≡ []
+rows_wires s c dropped n = wires_flat (λ x. part (around s c) dropped (n.of x) x) s.clients (λ x. part_wires (around s c) dropped (n.of x) x)
+
+frame_wires : (s : State) (c : Cause) (stranger : List Out) (n : Notes) → wires_in stranger ≡ [] → wires_in (frame_row s c stranger n) ≡ []
+frame_wires s c stranger n none =
+    either_wires stranger (client_rows s c (drops s c n) n) (any_from c s.clients) none (rows_wires s c (drops s c n) n)
 
 moved_if : (x : Client) (own away : Bool) → wires_in (if own then (if away then dismissed x.address ∷ [] else []) else []) ≡ []
 moved_if x true true = refl
@@ -73,17 +79,19 @@ moved_if x false away = refl
 moved_wires : (from : Address) (id : List ℕ) (x : Client) → wires_in (moved from id x) ≡ []
 moved_wires from id x = moved_if x (bytes_eq id x.id) (has_session x.phase && not (same_address x.address from))
 
-beside_if : (a : Around) (n : Notes) (x : Client) (own : Bool) → wires_in (if own then [] else part a (n.of x) x) ≡ []
+beside_if : (a : Around) (n : Notes) (x : Client) (own : Bool) → wires_in (if own then [] else part a [] (n.of x) x) ≡ []
 beside_if a n x true = refl
-beside_if a n x false = part_wires a (n.of x) x
+beside_if a n x false = part_wires a [] (n.of x) x
 
 entry_wires : (s : State) (from : Address) (connect : Connect) (n : Notes) (o : Outcome) → wires_in (entry_outs s from connect n o) ≡ []
 entry_wires s from connect n Allowed =
     let a = around s (ByConnect from connect) in
     let id = connect.client_id in
     let others = flat_map (beside a n id) s.clients in
-    wires_append (flat_map (moved from id) s.clients) (others ++ connack from ACCEPTED ∷ []) (wires_flat (moved from id) s.clients (moved_wires from id))
-    (wires_append others (connack from ACCEPTED ∷ []) (wires_flat (beside a n id) s.clients (λ x. beside_if a n x (bytes_eq id x.id))) refl)
+    let noted = drop_notes (drops s (ByConnect from connect) n) in
+    wires_append (flat_map (moved from id) s.clients) (others ++ (noted ++ connack from ACCEPTED ∷ [])) (wires_flat (moved from id) s.clients (moved_wires from id))
+    (wires_append others (noted ++ connack from ACCEPTED ∷ []) (wires_flat (beside a n id) s.clients (λ x. beside_if a n x (bytes_eq id x.id)))
+    (sent_wires noted (connack from ACCEPTED ∷ []) (drops_sent (drops s (ByConnect from connect) n))))
 entry_wires s from connect n (Denied rule) = refl
 
 -- ---- a datagram
@@ -93,27 +101,32 @@ pub record Still (s : State) (c : Cause) : Type 0 where
   pub exits : exits_for s c ≡ []
   pub wires : wires_in (outs_by s c) ≡ []
 
+message_still : (s : State) (from : Address) (request : Request) → Still s (ByMessage from request)
+message_still s from request =
+    let c = ByMessage from request in record { exits = refl; wires = frame_wires s c (stranger_to from request) (notes_for s c) (stranger_wires from request) }
+
 publish_still : (s : State) (from : Address) (p : Publish) (q : FrameQos) → Still s (publish_cause from p q)
 publish_still s from p qos.WithoutSession = record { exits = refl; wires = refl }
-publish_still s from p qos.AtMostOnce = record { exits = refl; wires = frame_wires s (ByPublish from p) (notes_for s (ByPublish from p)) }
-publish_still s from p qos.AtLeastOnce = record { exits = refl; wires = frame_wires s (ByPublish from p) (notes_for s (ByPublish from p)) }
-publish_still s from p qos.ExactlyOnce =
-    record { exits = refl; wires = frame_wires s (ByUnsupported from (frame.Publish p)) (notes_for s (ByUnsupported from (frame.Publish p))) }
+publish_still s from p qos.AtMostOnce = message_still s from (ToPublish p)
+publish_still s from p qos.AtLeastOnce = message_still s from (ToPublish p)
+publish_still s from p qos.ExactlyOnce = message_still s from (Untaken (frame.Publish p))
 
 disconnect_still : (s : State) (from : Address) (duration : Option ℕ) → Still s (datagram_cause from (Ok (frame.Disconnect duration)))
-disconnect_still s from None = record { exits = refl; wires = frame_wires s (ByLeave from) (notes_for s (ByLeave from)) }
-disconnect_still s from (Some duration) =
-    let message = frame.Disconnect (Some duration) in
-    record { exits = refl; wires = frame_wires s (ByUnsupported from message) (notes_for s (ByUnsupported from message)) }
+disconnect_still s from None = message_still s from ToLeave
+disconnect_still s from (Some duration) = message_still s from (Untaken (frame.Disconnect (Some duration)))
 
 pub datagram_still : (s : State) (from : Address) (read : Result SnFrame FrameFault) → Still s (datagram_cause from read)
 datagram_still s from (Ok (frame.Connect connect)) = record { exits = refl; wires = entry_wires s from connect (notes_for s (ByConnect from connect)) (entry s connect) }
-datagram_still s from (Ok (frame.Register r)) = record { exits = refl; wires = frame_wires s (ByRegister from r) (notes_for s (ByRegister from r)) }
+datagram_still s from (Ok (frame.Register r)) = message_still s from (ToRegister r)
 datagram_still s from (Ok (frame.Publish p)) = publish_still s from p p.flags.qos
-datagram_still s from (Ok (frame.PingRequest client)) = record { exits = refl; wires = frame_wires s (ByPing from client) (notes_for s (ByPing from client)) }
+datagram_still s from (Ok (frame.Subscribe r)) = message_still s from (ToSubscribe r)
+datagram_still s from (Ok (frame.Unsubscribe r)) = message_still s from (ToUnsubscribe r)
+datagram_still s from (Ok (frame.PingRequest client)) = message_still s from (ToPing client)
 datagram_still s from (Ok (frame.Disconnect duration)) = disconnect_still s from duration
-datagram_still s from (Ok message) = record { exits = refl; wires = frame_wires s (ByUnsupported from message) (notes_for s (ByUnsupported from message)) }
-datagram_still s from (Err broke) = record { exits = refl; wires = frame_wires s (ByBroken from (rule_of broke)) (notes_for s (ByBroken from (rule_of broke))) }
+datagram_still s from (Ok message) = message_still s from (Untaken message)
+datagram_still s from (Err broke) =
+    let c = ByBroken from (rule_of broke) in
+    record { exits = refl; wires = frame_wires s c (Note (note.Frame (who.Address from) (Denied (rule_of broke))) ∷ []) (notes_for s c) refl }
 
 -- ---- a packet of the broker
 
@@ -129,5 +142,17 @@ dropped_wires false (Some packet_id) = refl
 pub packet_wires : (up : Bool) (link : Link) (a : Answer) → wires_in (answer_outs up link a) ≡ []
 packet_wires up link (Delivers p) = misnamed_wires (is_name p.name) (dropped (has_place link) (owed up p)) (dropped_wires (has_place link) (owed up p))
 packet_wires up link (Acknowledges packet_id) = refl
+packet_wires up link (Grants packet_id) = refl
+packet_wires up link (Refuses packet_id) = refl
 packet_wires up link Confirms = refl
 packet_wires up link Strange = refl
+
+-- the whole row of a packet
+pub broker_wires : (s : State) (sent : Packet) → wires_in (outs_by s (ByPacket sent)) ≡ []
+broker_wires s sent =
+    let c = ByPacket sent in
+    wires_append (client_rows s c [] (notes_for s c)) (answer_outs s.up s.link (answer_of sent)) (rows_wires s c [] (notes_for s c)) (packet_wires s.up s.link (answer_of sent))
+
+-- and that of a replacement
+pub replace_wires : (s : State) (policy : Policy) → wires_in (outs_by s (ByReplace policy)) ≡ []
+replace_wires s policy = let c = ByReplace policy in rows_wires s c (drops s c (notes_for s c)) (notes_for s c)

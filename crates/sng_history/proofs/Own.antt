@@ -1,15 +1,15 @@
 -- The notes of one client among those of many.
 use Rattle.std.proofs.Common.{◌≡◌, ℕ, Bool, true, false, List, [], ◌∷◌, ◌++◌, map, refl, ap, sym, ◌∙◌}
+use Rattle.std.specs.Prelude.{Option}
 use Rattle.std.specs.List.{flat_map}
 use Rattle.std.specs.Str.{bytes_eq}
 use Rattle.std.proofs.lemmas.List.{append-nil, append_assoc}
 use Rattle.std.proofs.lemmas.Slice.Eq.{bytes_eq-Decides}
 use Rattle.sng_frames.specs.declared.messages.publish.Publish.{Publish}
-use Rattle.sng_outbox.specs.declared.item.Item.{Item}
 use Rattle.sng_book.specs.declared.out.Out.{Out}
 use Rattle.sng_history.specs.Clients.{Client}
 use Rattle.sng_history.specs.Notes.{notes_of, said_of, exits_in, exits_of_out}
-use Rattle.sng_history.specs.State.{asked_out}
+use Rattle.sng_history.specs.State.{asked_out, asked_all}
 use Rattle.sng_history.specs.Good.{Each, Away, Distinct}
 
 pub same_self : (c : List ℕ) → bytes_eq c c ≡ true
@@ -34,11 +34,7 @@ pub exits_append : (xs ys : List Out) → exits_in (xs ++ ys) ≡ exits_in xs ++
 exits_append [] ys = refl
 exits_append (x ∷ xs) ys = ap (λ exits. exits_of_out x ++ exits) (exits_append xs ys) ∙ sym (append_assoc (exits_of_out x) (exits_in xs) (exits_in ys))
 
--- what a row asks for by a PUBLISH
-abbrev pub asked_all : Publish → List Out → List Item
-asked_all p outs = flat_map (asked_out p) outs
-
-pub asks_append : (p : Publish) (xs ys : List Out) → asked_all p (xs ++ ys) ≡ asked_all p xs ++ asked_all p ys
+pub asks_append : (p : Option Publish) (xs ys : List Out) → asked_all p (xs ++ ys) ≡ asked_all p xs ++ asked_all p ys
 asks_append p [] ys = refl
 asks_append p (x ∷ xs) ys = ap (λ items. asked_out p x ++ items) (asks_append p xs ys) ∙ sym (append_assoc (asked_out p x) (asked_all p xs) (asked_all p ys))
 

@@ -9,7 +9,6 @@ use Rattle.sng_policy.specs.Grants.{lists_source}
 use Rattle.sng_states.specs.States.{has_session}
 use Rattle.sng_frames.specs.declared.messages.connect.Connect.{Connect}
 use Rattle.sng_frames.specs.declared.messages.publish.Publish.{Publish}
-use Rattle.sng_frames.specs.declared.messages.register.Register.{Register}
 use Rattle.sng_frames.specs.declared.frame.SnFrame.{SnFrame}
 use Rattle.sng_frames.specs.declared.frame.SnFrame.TheVariants as frame
 use Rattle.sng_frames.specs.declared.return_code.TheConstants.ReturnCode.{ACCEPTED}
@@ -24,27 +23,30 @@ use Rattle.sng_book.specs.declared.decision.Decision.{Decision}
 use Rattle.sng_book.specs.declared.decision.Decision.TheVariants as note
 use Rattle.sng_book.specs.declared.decision.Who.TheVariants as who
 use Rattle.sng_book.specs.declared.outcome.Denial.{Denial}
-use Rattle.sng_book.specs.declared.outcome.Denial.TheVariants.{NotSupported, BadName}
+use Rattle.sng_book.specs.declared.outcome.Denial.TheVariants.{NotSupported, NoSession, BadName}
 use Rattle.sng_book.specs.declared.outcome.Outcome.{Outcome}
 use Rattle.sng_book.specs.declared.outcome.Outcome.TheVariants.{Allowed, Denied}
 use Rattle.sng_book.specs.declared.out.Out.{Out}
 use Rattle.sng_book.specs.declared.out.Out.TheVariants.{Note}
 use Rattle.sng_book.specs.Denials.{is_allowed}
-use Rattle.sng_history.specs.Causes.{Cause, ByConnect, ByPing, ByLeave, BySource, ByRegister, ByPublish, ByUnsupported, ByBroken, ByPacket, ByUp, ByDown, ByTake, ByReplace, ByTick}
+use Rattle.sng_history.specs.Causes.{Request, ToPing, ToLeave, ToRegister, ToPublish, ToSubscribe, ToUnsubscribe, Untaken, Cause, publish_asked}
+use Rattle.sng_history.specs.Causes.{ByConnect, ByMessage, BySource, ByBroken, ByPacket, ByUp, ByDown, ByTake, ByReplace, ByTick}
 use Rattle.sng_history.specs.Clients.{Client, blank, same_address, is_here, is_from}
-use Rattle.sng_history.specs.Notes.{notes_of, exits_in}
-use Rattle.sng_history.specs.Links.{Link, packet_id_by, exited}
-use Rattle.sng_history.specs.State.{State, around, is_known, newcomers}
+use Rattle.sng_history.specs.Notes.{notes_of, said_of, exits_in, exits_of_out}
+use Rattle.sng_history.specs.Links.{Link, wants, next_packet_id, packet_id_by, exited, resumed, filters_wanted, subscribe_sent, subscribe_left, unsubscribe_left}
+use Rattle.sng_history.specs.State.{State, around, is_known, newcomers, asked_all, asked_in}
+use Rattle.sng_history.specs.Standing.{Release, drop_notes}
 use Rattle.sng_history.specs.Verdicts.{entry, source_ask, named_ask, name_in, exit}
 use Rattle.sng_history.specs.Answers.{code_of, dismissed, connack, denied_note}
-use Rattle.sng_history.specs.Exits.{exits_of, forwarded, leaving, agains_of, sent_again, resending}
-use Rattle.sng_history.specs.Packets.{Answer, Delivers, Acknowledges, Confirms, Strange as StrangePacket, answer_of, owed, has_place, dropped, misnamed, answer_outs}
-use Rattle.sng_history.specs.Whole.{part, any_from, stranger_outs, frame_row, moved, beside, entry_row, entry_outs}
+use Rattle.sng_history.specs.Exits.{exits_of, forwarded, subscribe_packet, unsubscribe_packet, subscribing, leaving, agains_of, sent_again, resending}
+use Rattle.sng_history.specs.Packets.{Answer, Delivers, Acknowledges, Grants, Refuses, Confirms, Strange as StrangePacket, answer_of, owed, has_place, dropped, misnamed, answer_outs}
+use Rattle.sng_history.specs.Whole.{part, any_from, stranger_to, drops, client_rows, frame_row, moved, beside, entry_row, entry_outs}
 use Rattle.sng_history.specs.Lawful.{fixed_for, exits_for}
-use Rattle.sng_history.specs.Steps.{notes_for, outs_by, entrants, newcomers_for, asked_by_all}
+use Rattle.sng_history.specs.Steps.{notes_for, outs_by, entrants, newcomers_for, asked_by_all, asked_for}
 use Rattle.sng_history.specs.Good.{Each, Distinct}
-use Rattle.sng_history.proofs.Own.{same_self, same_means, flip, notes_append, exits_append, asked_all, asks_append, each_all, each_map, each_append, OnlyAbout, absent, each_own, no_exits}
-use Rattle.sng_history.proofs.Spelled.{Mute, mute_none, mute_both, part_own, part_other, part_exits, part_asks}
+use Rattle.sng_history.proofs.Own.{same_self, same_means, flip, notes_append, exits_append, asks_append, each_all, each_map, each_append, OnlyAbout, absent, each_own, no_exits}
+use Rattle.sng_history.proofs.Spelled.{Mute, mute_none, mute_both, mute_of, part_own, part_other, part_exits, part_asks}
+use Rattle.sng_history.proofs.Sent.{drops_sent}
 use Rattle.sng_history.proofs.Told.{tells}
 use Rattle.sng_history.proofs.Kept.{unknown_away}
 
@@ -56,18 +58,20 @@ pub record Says (s : State) (c : Cause) (outs : List Out) : Type 0 where
 
 -- ---- parts of the clients
 
-abbrev pub part_for : State → Cause → Client → List Out
-part_for s c x = part (around s c) (fixed_for s c x) x
+abbrev pub part_for : State → Cause → List Release → Client → List Out
+part_for s c dropped x = part (around s c) dropped (fixed_for s c x) x
 
-fan_own : (s : State) (c : Cause) → Distinct s.clients → Each (λ x. notes_of x.id (flat_map (part_for s c) s.clients) ≡ fixed_for s c x) s.clients
-fan_own s c apart =
-    each_map (λ x. notes_of x.id (flat_map (part_for s c) s.clients) ≡ notes_of x.id (part_for s c x)) (λ x. notes_of x.id (flat_map (part_for s c) s.clients) ≡ fixed_for s c x) s.clients
-    (λ x own. own ∙ part_own (around s c) (fixed_for s c x) x (tells s c x))
-    (each_own (part_for s c) s.clients (each_all (OnlyAbout (part_for s c)) s.clients (λ x d away. part_other (around s c) (fixed_for s c x) x d away (tells s c x))) apart)
+fan_own : (s : State) (c : Cause) (dropped : List Release) → Distinct s.clients → Each (λ x. notes_of x.id (flat_map (part_for s c dropped) s.clients) ≡ fixed_for s c x) s.clients
+fan_own s c dropped apart =
+    let f = part_for s c dropped in
+    each_map (λ x. notes_of x.id (flat_map f s.clients) ≡ notes_of x.id (f x)) (λ x. notes_of x.id (flat_map f s.clients) ≡ fixed_for s c x) s.clients
+    (λ x own. own ∙ part_own (around s c) dropped (fixed_for s c x) x (tells s c x))
+    (each_own f s.clients (each_all (OnlyAbout f) s.clients (λ x d away. part_other (around s c) dropped (fixed_for s c x) x d away (tells s c x))) apart)
 
-fan_exits : (s : State) (c : Cause) → exits_in (flat_map (part_for s c) s.clients) ≡ []
-fan_exits s c =
-    no_exits (part_for s c) s.clients (each_all (λ x. exits_in (part_for s c x) ≡ []) s.clients (λ x. part_exits (around s c) (fixed_for s c x) x (tells s c x)))
+fan_exits : (s : State) (c : Cause) (dropped : List Release) → exits_in (flat_map (part_for s c dropped) s.clients) ≡ []
+fan_exits s c dropped =
+    let f = part_for s c dropped in
+    no_exits f s.clients (each_all (λ x. exits_in (f x) ≡ []) s.clients (λ x. part_exits (around s c) dropped (fixed_for s c x) x (tells s c x)))
 
 -- ---- a message of one client, or of nobody
 
@@ -79,22 +83,26 @@ pub none_from : (c : Cause) (xs : List Client) → any_from c xs ≡ false → E
 none_from c [] is = tt
 none_from c (x ∷ xs) is = none_from_by c x xs (is_from c x) refl is (none_from c xs)
 
-abbrev pub row_for : State → Cause → List Out
-row_for s c = frame_row s c (notes_for s c)
+abbrev pub drops_for : State → Cause → List Release
+drops_for s c = drops s c (notes_for s c)
+
+abbrev pub row_for : State → Cause → List Out → List Out
+row_for s c stranger = frame_row s c stranger (notes_for s c)
 
 -- what a message from nobody lets out is no client's
-pub record Strange (s : State) (c : Cause) : Type 0 where
-  pub mute : Mute (stranger_outs c)
+pub record Strange (s : State) (c : Cause) (stranger : List Out) : Type 0 where
+  pub mute : Mute stranger
   pub quiet : (x : Client) → is_from c x ≡ false → fixed_for s c x ≡ []
 
-frame_own : (s : State) (c : Cause) (any : Bool) → any_from c s.clients ≡ any → Distinct s.clients → Strange s c → Each (λ x. notes_of x.id (row_for s c) ≡ fixed_for s c x) s.clients
-frame_own s c true is apart strange = rw is (fan_own s c apart)
-frame_own s c false is apart strange =
-    rw is (each_map (λ x. is_from c x ≡ false) (λ x. notes_of x.id (stranger_outs c) ≡ fixed_for s c x) s.clients (λ x away. strange.mute.notes x.id ∙ sym (strange.quiet x away)) (none_from c s.clients is))
+frame_own : (s : State) (c : Cause) (stranger : List Out) (any : Bool) → any_from c s.clients ≡ any → Distinct s.clients → Strange s c stranger
+    → Each (λ x. notes_of x.id (row_for s c stranger) ≡ fixed_for s c x) s.clients
+frame_own s c stranger true is apart strange = rw is (fan_own s c (drops_for s c) apart)
+frame_own s c stranger false is apart strange =
+    rw is (each_map (λ x. is_from c x ≡ false) (λ x. notes_of x.id stranger ≡ fixed_for s c x) s.clients (λ x away. strange.mute.notes x.id ∙ sym (strange.quiet x away)) (none_from c s.clients is))
 
-frame_exits : (s : State) (c : Cause) (any : Bool) → any_from c s.clients ≡ any → Strange s c → exits_in (row_for s c) ≡ []
-frame_exits s c true is strange = rw is (fan_exits s c)
-frame_exits s c false is strange = rw is strange.mute.exits
+frame_exits : (s : State) (c : Cause) (stranger : List Out) (any : Bool) → any_from c s.clients ≡ any → Strange s c stranger → exits_in (row_for s c stranger) ≡ []
+frame_exits s c stranger true is strange = rw is (fan_exits s c (drops_for s c))
+frame_exits s c stranger false is strange = rw is strange.mute.exits
 
 -- nobody is accepted, and each client has its notes
 all_here : (s : State) (c : Cause) (outs : List Out) → newcomers_for s c ≡ [] → newcomers c s.clients outs ≡ newcomers_for s c → exits_in outs ≡ exits_for s c
@@ -123,15 +131,15 @@ abbrev pub beside_for : State → Address → Connect → Client → List Out
 beside_for s from connect = let c = ByConnect from connect in beside (around s c) (notes_for s c) connect.client_id
 
 beside_other_by : (s : State) (from : Address) (connect : Connect) (x : Client) (d : List ℕ) (same : Bool) → bytes_eq d x.id ≡ false
-    → notes_of d (if same then [] else part_for s (ByConnect from connect) x) ≡ []
+    → notes_of d (if same then [] else part_for s (ByConnect from connect) [] x) ≡ []
 beside_other_by s from connect x d true away = refl
 beside_other_by s from connect x d false away =
-    let c = ByConnect from connect in part_other (around s c) (fixed_for s c x) x d away (tells s c x)
+    let c = ByConnect from connect in part_other (around s c) [] (fixed_for s c x) x d away (tells s c x)
 
-beside_exits_by : (s : State) (from : Address) (connect : Connect) (x : Client) (same : Bool) → exits_in (if same then [] else part_for s (ByConnect from connect) x) ≡ []
+beside_exits_by : (s : State) (from : Address) (connect : Connect) (x : Client) (same : Bool) → exits_in (if same then [] else part_for s (ByConnect from connect) [] x) ≡ []
 beside_exits_by s from connect x true = refl
 beside_exits_by s from connect x false =
-    let c = ByConnect from connect in part_exits (around s c) (fixed_for s c x) x (tells s c x)
+    let c = ByConnect from connect in part_exits (around s c) [] (fixed_for s c x) x (tells s c x)
 
 only_beside : (s : State) (from : Address) (connect : Connect) → Each (OnlyAbout (beside_for s from connect)) s.clients
 only_beside s from connect =
@@ -140,22 +148,35 @@ only_beside s from connect =
 abbrev row_accepted : State → Address → Connect → List Out
 row_accepted s from connect = entry_row s from connect (notes_for s (ByConnect from connect))
 
+-- what comes last: the notes of what is dropped, and CONNACK
+abbrev end_accepted : State → Address → Connect → List Out
+end_accepted s from connect = drop_notes (drops_for s (ByConnect from connect)) ++ connack from ACCEPTED ∷ []
+
+mute_end : (s : State) (from : Address) (connect : Connect) → Mute (end_accepted s from connect)
+mute_end s from connect =
+    let dropped = drops_for s (ByConnect from connect) in
+    mute_both (drop_notes dropped) (connack from ACCEPTED ∷ []) (mute_of (drop_notes dropped) (drops_sent dropped)) (record { notes = λ c. refl; exits = refl; asks = λ q. refl })
+
 accepted_notes : (s : State) (from : Address) (connect : Connect) (d : List ℕ)
     → notes_of d (row_accepted s from connect) ≡ notes_of d (flat_map (beside_for s from connect) s.clients) ++ []
 accepted_notes s from connect d =
     let a = flat_map (moved from connect.client_id) s.clients in
     let b = flat_map (beside_for s from connect) s.clients in
-    let end = connack from ACCEPTED ∷ [] in
-    notes_append d a (b ++ end) ∙ (ap (λ notes. notes ++ notes_of d (b ++ end)) ((moved_all from connect.client_id s.clients).notes d) ∙ notes_append d b end)
+    let end = end_accepted s from connect in
+    notes_append d a (b ++ end)
+    ∙ (ap (λ notes. notes ++ notes_of d (b ++ end)) ((moved_all from connect.client_id s.clients).notes d)
+    ∙ (notes_append d b end ∙ ap (λ notes. notes_of d b ++ notes) ((mute_end s from connect).notes d)))
 
 accepted_exits : (s : State) (from : Address) (connect : Connect) → exits_in (row_accepted s from connect) ≡ []
 accepted_exits s from connect =
     let a = flat_map (moved from connect.client_id) s.clients in
     let b = flat_map (beside_for s from connect) s.clients in
-    let end = connack from ACCEPTED ∷ [] in
+    let end = end_accepted s from connect in
     let none : exits_in b ≡ [] =
     no_exits (beside_for s from connect) s.clients (each_all (λ x. exits_in (beside_for s from connect x) ≡ []) s.clients (λ x. beside_exits_by s from connect x (bytes_eq connect.client_id x.id))) in
-    exits_append a (b ++ end) ∙ (ap (λ exits. exits ++ exits_in (b ++ end)) (moved_all from connect.client_id s.clients).exits ∙ (exits_append b end ∙ ap (λ exits. exits ++ []) none))
+    exits_append a (b ++ end)
+    ∙ (ap (λ exits. exits ++ exits_in (b ++ end)) (moved_all from connect.client_id s.clients).exits
+    ∙ (exits_append b end ∙ (ap (λ exits. exits ++ exits_in end) none ∙ (mute_end s from connect).exits)))
 
 -- the notes of the client that connects, and of each other
 accepted_one : (s : State) (from : Address) (connect : Connect) (x : Client) (same : Bool) (b : List Decision) → bytes_eq connect.client_id x.id ≡ same → entry s connect ≡ Allowed
@@ -168,7 +189,7 @@ accepted_one s from connect x true b is may one =
 accepted_one s from connect x false b is may one =
     let c = ByConnect from connect in
     let away : bytes_eq x.id connect.client_id ≡ false = flip x.id connect.client_id is in
-    let all : b ≡ fixed_for s c x = one ∙ (ap (λ t. notes_of x.id (if t then [] else part_for s c x)) is ∙ part_own (around s c) (fixed_for s c x) x (tells s c x)) in
+    let all : b ≡ fixed_for s c x = one ∙ (ap (λ t. notes_of x.id (if t then [] else part_for s c [] x)) is ∙ part_own (around s c) [] (fixed_for s c x) x (tells s c x)) in
     ap (λ t. (if t then note.Connect connect.client_id Allowed ∷ [] else []) ++ (b ++ [])) away ∙ (append-nil b ∙ all)
 
 accepted_own : (s : State) (from : Address) (connect : Connect) → Distinct s.clients → entry s connect ≡ Allowed
@@ -222,13 +243,34 @@ forwarded_says : (p : Publication) (packet_id : Option ℕ) (o : Outcome) (outs 
 forwarded_says p packet_id Allowed outs = refl
 forwarded_says p packet_id (Denied rule) outs = refl
 
+-- an out without exits adds none, and one of nobody adds no note
+wire_exits : (b : Bool) (out : Out) (outs : List Out) → exits_of_out out ≡ [] → exits_in ((if b then out ∷ [] else []) ++ outs) ≡ exits_in outs
+wire_exits true out outs none = ap (λ exits. exits ++ exits_in outs) none
+wire_exits false out outs none = refl
+
+no_wire_exits : (b : Bool) (out : Out) (outs : List Out) → exits_of_out out ≡ [] → exits_in ((if b then [] else out ∷ []) ++ outs) ≡ exits_in outs
+no_wire_exits true out outs none = refl
+no_wire_exits false out outs none = ap (λ exits. exits ++ exits_in outs) none
+
+wire_none : (d : List ℕ) (b : Bool) (out : Out) (outs : List Out) → said_of d out ≡ [] → notes_of d ((if b then out ∷ [] else []) ++ outs) ≡ notes_of d outs
+wire_none d true out outs none = ap (λ notes. notes ++ notes_of d outs) none
+wire_none d false out outs none = refl
+
+no_wire_none : (d : List ℕ) (b : Bool) (out : Out) (outs : List Out) → said_of d out ≡ [] → notes_of d ((if b then [] else out ∷ []) ++ outs) ≡ notes_of d outs
+no_wire_none d true out outs none = refl
+no_wire_none d false out outs none = ap (λ notes. notes ++ notes_of d outs) none
+
 pub leaving_exits : (policy : Policy) (link : Link) (items : List Item) → exits_in (leaving link items (exits_of policy items)) ≡ exits_of policy items
 leaving_exits policy link [] = refl
 leaving_exits policy link (item.Publish p ∷ items) =
     let o = exit policy p.origin p.name in
     forwarded_says p (packet_id_by link p.qos) o (leaving (exited link p o) items (exits_of policy items)) ∙ ap (λ outcomes. o ∷ outcomes) (leaving_exits policy (exited link p o) items)
-leaving_exits policy link (item.Subscribe filter ∷ items) = leaving_exits policy link items
-leaving_exits policy link (item.Unsubscribe filter ∷ items) = leaving_exits policy link items
+leaving_exits policy link (item.Subscribe filter ∷ items) =
+    wire_exits (wants link.wanted filter) (subscribe_packet (next_packet_id link) filter) (leaving (subscribe_left link filter) items (exits_of policy items)) refl
+    ∙ leaving_exits policy (subscribe_left link filter) items
+leaving_exits policy link (item.Unsubscribe filter ∷ items) =
+    no_wire_exits (wants link.wanted filter) (unsubscribe_packet (next_packet_id link) filter) (leaving (unsubscribe_left link filter) items (exits_of policy items)) refl
+    ∙ leaving_exits policy (unsubscribe_left link filter) items
 leaving_exits policy link (item.Acknowledge packet_id ∷ items) = leaving_exits policy link items
 leaving_exits policy link (item.Ping ∷ items) = leaving_exits policy link items
 
@@ -241,8 +283,12 @@ leaving_none d policy link [] = refl
 leaving_none d policy link (item.Publish p ∷ items) =
     let o = exit policy p.origin p.name in
     forwarded_none d p (packet_id_by link p.qos) o (leaving (exited link p o) items (exits_of policy items)) ∙ leaving_none d policy (exited link p o) items
-leaving_none d policy link (item.Subscribe filter ∷ items) = leaving_none d policy link items
-leaving_none d policy link (item.Unsubscribe filter ∷ items) = leaving_none d policy link items
+leaving_none d policy link (item.Subscribe filter ∷ items) =
+    wire_none d (wants link.wanted filter) (subscribe_packet (next_packet_id link) filter) (leaving (subscribe_left link filter) items (exits_of policy items)) refl
+    ∙ leaving_none d policy (subscribe_left link filter) items
+leaving_none d policy link (item.Unsubscribe filter ∷ items) =
+    no_wire_none d (wants link.wanted filter) (unsubscribe_packet (next_packet_id link) filter) (leaving (unsubscribe_left link filter) items (exits_of policy items)) refl
+    ∙ leaving_none d policy (unsubscribe_left link filter) items
 leaving_none d policy link (item.Acknowledge packet_id ∷ items) = leaving_none d policy link items
 leaving_none d policy link (item.Ping ∷ items) = leaving_none d policy link items
 
@@ -275,6 +321,31 @@ resending_none d policy [] = refl
 resending_none d policy (sent ∷ flights) =
     again_none d sent (exit policy sent.publication.origin sent.publication.name) (resending flights (agains_of policy flights)) ∙ resending_none d policy flights
 
+-- the SUBSCRIBEs of a new connection have no notes
+pub mute_subscribing : (link : Link) (filters : List (List ℕ)) → Mute (subscribing link filters)
+mute_subscribing link [] = mute_none
+mute_subscribing link (filter ∷ filters) =
+    mute_both (subscribe_packet (next_packet_id link) filter ∷ []) (subscribing (subscribe_sent link filter) filters)
+    (record { notes = λ c. refl; exits = refl; asks = λ q. refl })
+    (mute_subscribing (subscribe_sent link filter) filters)
+
+abbrev anew : State → List Out
+anew s = subscribing (resumed s.link s.clock (agains_of s.policy s.link.in_flight)) (filters_wanted s.link)
+
+up_exits : (s : State) → exits_in (outs_by s ByUp) ≡ exits_for s ByUp
+up_exits s =
+    let back = resending s.link.in_flight (agains_of s.policy s.link.in_flight) in
+    exits_append back (anew s)
+    ∙ (ap (λ exits. exits_in back ++ exits) (mute_subscribing (resumed s.link s.clock (agains_of s.policy s.link.in_flight)) (filters_wanted s.link)).exits
+    ∙ (append-nil (exits_in back) ∙ resending_exits s.policy s.link.in_flight))
+
+up_none : (s : State) (d : List ℕ) → notes_of d (outs_by s ByUp) ≡ []
+up_none s d =
+    let back = resending s.link.in_flight (agains_of s.policy s.link.in_flight) in
+    notes_append d back (anew s)
+    ∙ (ap (λ notes. notes ++ notes_of d (anew s)) (resending_none d s.policy s.link.in_flight)
+    ∙ (mute_subscribing (resumed s.link s.clock (agains_of s.policy s.link.in_flight)) (filters_wanted s.link)).notes d)
+
 -- ---- a packet of the broker
 
 mute_note : (b : Bool) (said : Decision) → Mute (Note said ∷ []) → Mute (if b then [] else Note said ∷ [])
@@ -291,6 +362,8 @@ mute_packet up link (Delivers p) =
     (mute_note (is_name p.name) (note.Frame who.Broker (Denied BadName)) (record { notes = λ c. refl; exits = refl; asks = λ q. refl }))
     (mute_dropped (has_place link) (owed up p))
 mute_packet up link (Acknowledges packet_id) = mute_none
+mute_packet up link (Grants packet_id) = mute_none
+mute_packet up link (Refuses packet_id) = mute_none
 mute_packet up link Confirms = mute_none
 mute_packet up link StrangePacket = record { notes = λ c. refl; exits = refl; asks = λ q. refl }
 
@@ -318,20 +391,22 @@ foreign outs mute = record { notes = mute.notes; exits = mute.exits }
 -- ---- what is asked for
 
 -- the source's own note asks for its publish, and the notes of clients for theirs
-fan_asks : (s : State) (c : Cause) (p : Publish) (xs : List Client) → asked_all p (flat_map (part_for s c) xs) ≡ flat_map (λ x. asked_by_all p (fixed_for s c x)) xs
-fan_asks s c p [] = refl
-fan_asks s c p (x ∷ xs) =
-    asks_append p (part_for s c x) (flat_map (part_for s c) xs)
-    ∙ (ap (λ items. items ++ asked_all p (flat_map (part_for s c) xs)) (part_asks (around s c) (fixed_for s c x) x p)
-    ∙ ap (λ items. asked_by_all p (fixed_for s c x) ++ items) (fan_asks s c p xs))
+fan_asks : (s : State) (c : Cause) (dropped : List Release) (p : Option Publish) (xs : List Client)
+    → asked_all p (flat_map (part_for s c dropped) xs) ≡ flat_map (λ x. asked_by_all p (fixed_for s c x)) xs
+fan_asks s c dropped p [] = refl
+fan_asks s c dropped p (x ∷ xs) =
+    asks_append p (part_for s c dropped x) (flat_map (part_for s c dropped) xs)
+    ∙ (ap (λ items. items ++ asked_all p (flat_map (part_for s c dropped) xs)) (part_asks (around s c) dropped (fixed_for s c x) x p)
+    ∙ ap (λ items. asked_by_all p (fixed_for s c x) ++ items) (fan_asks s c dropped p xs))
 
-none_asked : (s : State) (c : Cause) (p : Publish) (xs : List Client) → Each (λ x. fixed_for s c x ≡ []) xs → flat_map (λ x. asked_by_all p (fixed_for s c x)) xs ≡ []
+none_asked : (s : State) (c : Cause) (p : Option Publish) (xs : List Client) → Each (λ x. fixed_for s c x ≡ []) xs → flat_map (λ x. asked_by_all p (fixed_for s c x)) xs ≡ []
 none_asked s c p [] none = refl
 none_asked s c p (x ∷ xs) none = rw (none.0, none_asked s c p xs none.1) refl
 
-row_asks : (s : State) (c : Cause) (p : Publish) (any : Bool) → any_from c s.clients ≡ any → Strange s c → asked_all p (row_for s c) ≡ flat_map (λ x. asked_by_all p (fixed_for s c x)) s.clients
-row_asks s c p true is strange = rw is (fan_asks s c p s.clients)
-row_asks s c p false is strange =
+row_asks : (s : State) (c : Cause) (stranger : List Out) (p : Option Publish) (any : Bool) → any_from c s.clients ≡ any → Strange s c stranger
+    → asked_all p (row_for s c stranger) ≡ flat_map (λ x. asked_by_all p (fixed_for s c x)) s.clients
+row_asks s c stranger p true is strange = rw is (fan_asks s c (drops_for s c) p s.clients)
+row_asks s c stranger p false is strange =
     rw is (strange.mute.asks p
     ∙ sym (none_asked s c p s.clients (each_map (λ x. is_from c x ≡ false) (λ x. fixed_for s c x ≡ []) s.clients strange.quiet (none_from c s.clients is))))
 
@@ -341,20 +416,10 @@ quiet_if : (b : Bool) (notes : List Decision) → b ≡ false → (if b then not
 quiet_if true notes is = absurd cc
 quiet_if false notes is = refl
 
-strange_ping : (s : State) (from : Address) (client : Option (List ℕ)) → Strange s (ByPing from client)
-strange_ping s from client = record { mute = record { notes = λ c. refl; exits = refl; asks = λ q. refl }; quiet = λ x away. quiet_if (is_here x from) _ away }
-
-strange_leave : (s : State) (from : Address) → Strange s (ByLeave from)
-strange_leave s from = record { mute = record { notes = λ c. refl; exits = refl; asks = λ q. refl }; quiet = λ x away. quiet_if (is_here x from) _ away }
-
-strange_register : (s : State) (from : Address) (r : Register) → Strange s (ByRegister from r)
-strange_register s from r = record { mute = record { notes = λ c. refl; exits = refl; asks = λ q. refl }; quiet = λ x away. quiet_if (is_here x from) _ away }
-
-strange_publish : (s : State) (from : Address) (p : Publish) → Strange s (ByPublish from p)
-strange_publish s from p = record { mute = record { notes = λ c. refl; exits = refl; asks = λ q. refl }; quiet = λ x away. quiet_if (is_here x from) _ away }
-
-strange_broken : (s : State) (from : Address) (rule : Denial) → Strange s (ByBroken from rule)
-strange_broken s from rule = record { mute = record { notes = λ c. refl; exits = refl; asks = λ q. refl }; quiet = λ x away. quiet_if (is_here x from) _ away }
+-- nobody's PUBLISH asks for nothing
+unasked_publish : (from : Address) (rule : Denial) (p : Option Publish) → asked_all p (Note (note.Publish (who.Address from) None (Denied rule)) ∷ []) ≡ []
+unasked_publish from rule None = refl
+unasked_publish from rule (Some p) = refl
 
 mute_unsupported : (from : Address) (message : SnFrame) → Mute (Note (denied_note message (who.Address from) NotSupported) ∷ [])
 mute_unsupported from (frame.Connect connect) = record { notes = λ c. refl; exits = refl; asks = λ q. refl }
@@ -365,7 +430,7 @@ mute_unsupported from frame.WillMessageRequest = record { notes = λ c. refl; ex
 mute_unsupported from (frame.WillMessage message) = record { notes = λ c. refl; exits = refl; asks = λ q. refl }
 mute_unsupported from (frame.Register register) = record { notes = λ c. refl; exits = refl; asks = λ q. refl }
 mute_unsupported from (frame.RegisterAck answer) = record { notes = λ c. refl; exits = refl; asks = λ q. refl }
-mute_unsupported from (frame.Publish p) = record { notes = λ c. refl; exits = refl; asks = λ q. refl }
+mute_unsupported from (frame.Publish p) = record { notes = λ c. refl; exits = refl; asks = unasked_publish from NotSupported }
 mute_unsupported from (frame.PublishAck answer) = record { notes = λ c. refl; exits = refl; asks = λ q. refl }
 mute_unsupported from (frame.PublishComplete id) = record { notes = λ c. refl; exits = refl; asks = λ q. refl }
 mute_unsupported from (frame.PublishReceived id) = record { notes = λ c. refl; exits = refl; asks = λ q. refl }
@@ -382,43 +447,69 @@ mute_unsupported from (frame.WillTopicResponse code) = record { notes = λ c. re
 mute_unsupported from (frame.WillMessageUpdate message) = record { notes = λ c. refl; exits = refl; asks = λ q. refl }
 mute_unsupported from (frame.WillMessageResponse code) = record { notes = λ c. refl; exits = refl; asks = λ q. refl }
 
-strange_unsupported : (s : State) (from : Address) (message : SnFrame) → Strange s (ByUnsupported from message)
-strange_unsupported s from message = record { mute = mute_unsupported from message; quiet = λ x away. quiet_if (is_here x from) _ away }
+unasked_bye : (from : Address) (p : Option Publish) → asked_all p (Note (note.Publish (who.Address from) None (Denied NoSession)) ∷ dismissed from ∷ []) ≡ []
+unasked_bye from None = refl
+unasked_bye from (Some p) = refl
 
-frame_says : (s : State) (c : Cause) → newcomers_for s c ≡ [] → newcomers c s.clients (row_for s c) ≡ newcomers_for s c → exits_for s c ≡ [] → Distinct s.clients → Strange s c → Says s c (row_for s c)
-frame_says s c none new quiet apart strange =
-    all_here s c (row_for s c) none new (frame_exits s c (any_from c s.clients) refl strange ∙ sym quiet) (frame_own s c (any_from c s.clients) refl apart strange)
+mute_stranger : (from : Address) (request : Request) → Mute (stranger_to from request)
+mute_stranger from (ToPing client) = record { notes = λ c. refl; exits = refl; asks = λ q. refl }
+mute_stranger from ToLeave = record { notes = λ c. refl; exits = refl; asks = λ q. refl }
+mute_stranger from (ToRegister r) = record { notes = λ c. refl; exits = refl; asks = λ q. refl }
+mute_stranger from (ToPublish p) = record { notes = λ c. refl; exits = refl; asks = unasked_bye from }
+mute_stranger from (ToSubscribe r) = record { notes = λ c. refl; exits = refl; asks = λ q. refl }
+mute_stranger from (ToUnsubscribe r) = record { notes = λ c. refl; exits = refl; asks = λ q. refl }
+mute_stranger from (Untaken message) = mute_unsupported from message
+
+strange_message : (s : State) (from : Address) (request : Request) → Strange s (ByMessage from request) (stranger_to from request)
+strange_message s from request = record { mute = mute_stranger from request; quiet = λ x away. quiet_if (is_here x from) _ away }
+
+abbrev broken_outs : Address → Denial → List Out
+broken_outs from rule = Note (note.Frame (who.Address from) (Denied rule)) ∷ []
+
+strange_broken : (s : State) (from : Address) (rule : Denial) → Strange s (ByBroken from rule) (broken_outs from rule)
+strange_broken s from rule = record { mute = record { notes = λ c. refl; exits = refl; asks = λ q. refl }; quiet = λ x away. quiet_if (is_here x from) _ away }
+
+frame_says : (s : State) (c : Cause) (stranger : List Out) → newcomers_for s c ≡ [] → newcomers c s.clients (row_for s c stranger) ≡ newcomers_for s c → exits_for s c ≡ []
+    → Distinct s.clients → Strange s c stranger → Says s c (row_for s c stranger)
+frame_says s c stranger none new quiet apart strange =
+    all_here s c (row_for s c stranger) none new (frame_exits s c stranger (any_from c s.clients) refl strange ∙ sym quiet) (frame_own s c stranger (any_from c s.clients) refl apart strange)
 
 mute_says : (s : State) (c : Cause) (outs : List Out) → newcomers_for s c ≡ [] → newcomers c s.clients outs ≡ newcomers_for s c → exits_for s c ≡ [] → Foreign outs → ((x : Client) → fixed_for s c x ≡ []) → Says s c outs
 mute_says s c outs none new quiet mute all =
     all_here s c outs none new (mute.exits ∙ sym quiet) (each_all (λ x. notes_of x.id outs ≡ fixed_for s c x) s.clients (λ x. mute.notes x.id ∙ sym (all x)))
 
--- a PUBLISH of a client asks for what its note allows
-pub publish_asks : (s : State) (from : Address) (p : Publish)
-    → asked_all p (outs_by s (ByPublish from p)) ≡ flat_map (λ x. asked_by_all p (fixed_for s (ByPublish from p) x)) s.clients
-publish_asks s from p = row_asks s (ByPublish from p) p (any_from (ByPublish from p) s.clients) refl (strange_publish s from p)
+-- the clients' notes, and behind them what is nobody's
+rows_says : (s : State) (c : Cause) (dropped : List Release) (rest : List Out) → newcomers_for s c ≡ [] → newcomers c s.clients (client_rows s c dropped (notes_for s c) ++ rest) ≡ newcomers_for s c
+    → exits_for s c ≡ [] → Distinct s.clients → Mute rest → Says s c (client_rows s c dropped (notes_for s c) ++ rest)
+rows_says s c dropped rest none new quiet apart mute =
+    let own = flat_map (part_for s c dropped) s.clients in
+    all_here s c (own ++ rest) none new
+    (exits_append own rest ∙ (ap (λ exits. exits ++ exits_in rest) (fan_exits s c dropped) ∙ (mute.exits ∙ sym quiet)))
+    (each_map (λ x. notes_of x.id own ≡ fixed_for s c x) (λ x. notes_of x.id (own ++ rest) ≡ fixed_for s c x) s.clients
+    (λ x is. notes_append x.id own rest ∙ (ap (λ notes. notes_of x.id own ++ notes) (mute.notes x.id) ∙ (append-nil (notes_of x.id own) ∙ is)))
+    (fan_own s c dropped apart))
 
--- and so does a message that is not supported
-pub unsupported_asks : (s : State) (from : Address) (message : SnFrame) (p : Publish)
-    → asked_all p (outs_by s (ByUnsupported from message)) ≡ flat_map (λ x. asked_by_all p (fixed_for s (ByUnsupported from message) x)) s.clients
-unsupported_asks s from message p =
-    row_asks s (ByUnsupported from message) p (any_from (ByUnsupported from message) s.clients) refl (strange_unsupported s from message)
+-- a message of a client asks for what its notes allow
+pub message_asks : (s : State) (from : Address) (request : Request)
+    → asked_in (ByMessage from request) (outs_by s (ByMessage from request)) ≡ asked_for s (ByMessage from request)
+message_asks s from request =
+    let c = ByMessage from request in
+    row_asks s c (stranger_to from request) (publish_asked request) (any_from c s.clients) refl (strange_message s from request)
 
 pub says : (s : State) (c : Cause) → Distinct s.clients → Says s c (outs_by s c)
 says s (ByConnect from connect) apart = entry_says s from connect (entry s connect) refl apart
-says s (ByPing from client) apart = frame_says s (ByPing from client) refl refl refl apart (strange_ping s from client)
-says s (ByLeave from) apart = frame_says s (ByLeave from) refl refl refl apart (strange_leave s from)
-says s (ByRegister from r) apart = frame_says s (ByRegister from r) refl refl refl apart (strange_register s from r)
-says s (ByPublish from p) apart = frame_says s (ByPublish from p) refl refl refl apart (strange_publish s from p)
-says s (ByUnsupported from message) apart = frame_says s (ByUnsupported from message) refl refl refl apart (strange_unsupported s from message)
-says s (ByBroken from rule) apart = frame_says s (ByBroken from rule) refl refl refl apart (strange_broken s from rule)
+says s (ByMessage from request) apart =
+    frame_says s (ByMessage from request) (stranger_to from request) refl refl refl apart (strange_message s from request)
+says s (ByBroken from rule) apart = frame_says s (ByBroken from rule) (broken_outs from rule) refl refl refl apart (strange_broken s from rule)
 says s (BySource from p) apart = mute_says s (BySource from p) (outs_by s (BySource from p)) refl refl refl (foreign_source s from.ip p) (λ x. refl)
-says s (ByPacket p) apart = mute_says s (ByPacket p) (outs_by s (ByPacket p)) refl refl refl (foreign (outs_by s (ByPacket p)) (mute_packet s.up s.link (answer_of p))) (λ x. refl)
+says s (ByPacket p) apart =
+    rows_says s (ByPacket p) [] (answer_outs s.up s.link (answer_of p)) refl refl refl apart (mute_packet s.up s.link (answer_of p))
 says s ByUp apart =
-    all_here s ByUp (outs_by s ByUp) refl refl (resending_exits s.policy s.link.in_flight)
-    (each_all (λ x. notes_of x.id (outs_by s ByUp) ≡ fixed_for s ByUp x) s.clients (λ x. resending_none x.id s.policy s.link.in_flight))
+    all_here s ByUp (outs_by s ByUp) refl refl (up_exits s) (each_all (λ x. notes_of x.id (outs_by s ByUp) ≡ fixed_for s ByUp x) s.clients (λ x. up_none s x.id))
 says s ByDown apart = mute_says s ByDown [] refl refl refl (foreign [] mute_none) (λ x. refl)
 says s ByTake apart =
     all_here s ByTake (outs_by s ByTake) refl refl (take_exits s s.up refl) (each_all (λ x. notes_of x.id (outs_by s ByTake) ≡ fixed_for s ByTake x) s.clients (λ x. take_none s x.id s.up refl))
-says s (ByReplace policy) apart = mute_says s (ByReplace policy) [] refl refl refl (foreign [] mute_none) (λ x. refl)
+says s (ByReplace policy) apart =
+    let c = ByReplace policy in
+    subst (Says s c) (append-nil (outs_by s c)) (rows_says s c (drops_for s c) [] refl refl refl apart mute_none)
 says s (ByTick clock) apart = mute_says s (ByTick clock) [] refl refl refl (foreign [] mute_none) (λ x. refl)

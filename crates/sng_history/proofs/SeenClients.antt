@@ -1,5 +1,5 @@
 -- One client as a datagram comes: what is kept of it moves as what the rows show of it.
-use Rattle.std.proofs.Common.{◌≡◌, ℕ, Bool, true, false, List, [], ◌∷◌, refl, ap, sym, ◌∙◌, if◌then◌else◌, Ok, Err}
+use Rattle.std.proofs.Common.{◌≡◌, ℕ, Bool, true, false, List, [], ◌∷◌, ◌++◌, refl, ap, sym, ◌∙◌, if◌then◌else◌, Ok, Err}
 use Rattle.std.specs.Prelude.{◌&&◌, ◌||◌, Option, Some, None}
 use Rattle.std.specs.Str.{bytes_eq}
 use Rattle.std.specs.declared.result.Result.{Result}
@@ -11,6 +11,8 @@ use Rattle.sng_frames.specs.declared.qos.FrameQos.{FrameQos}
 use Rattle.sng_frames.specs.declared.qos.FrameQos.TheVariants as qos
 use Rattle.sng_frames.specs.declared.messages.connect.Connect.{Connect}
 use Rattle.sng_frames.specs.declared.messages.publish.Publish.{Publish}
+use Rattle.sng_fan.specs.declared.held.Held.{Held}
+use Rattle.sng_frames.specs.declared.messages.subscribe.TopicRequest.{TopicRequest}
 use Rattle.sng_frames.specs.declared.frame.SnFrame.{SnFrame}
 use Rattle.sng_frames.specs.declared.frame.SnFrame.TheVariants as frame
 use Rattle.sng_book.specs.Denials.{is_allowed}
@@ -20,20 +22,21 @@ use Rattle.sng_book.specs.declared.decision.Decision.TheVariants as note
 use Rattle.sng_book.specs.declared.decision.Who.{Who}
 use Rattle.sng_book.specs.declared.decision.Who.TheVariants as who
 use Rattle.sng_book.specs.declared.outcome.Denial.{Denial}
-use Rattle.sng_book.specs.declared.outcome.Denial.TheVariants.{NotSupported}
+use Rattle.sng_book.specs.declared.outcome.Denial.TheVariants.{NotSupported, BrokerRefused}
 use Rattle.sng_book.specs.declared.outcome.Outcome.{Outcome}
 use Rattle.sng_book.specs.declared.outcome.Outcome.TheVariants.{Allowed, Denied}
-use Rattle.sng_history.specs.Causes.{Cause, ByConnect, ByPing, ByLeave, ByRegister, ByPublish, ByUnsupported, ByBroken, datagram_cause, publish_cause, rule_of}
-use Rattle.sng_history.specs.Clients.{Client, Around, is_here, cleaned, let_in, note_by, notes_by}
+use Rattle.sng_history.specs.Causes.{Cause, ByConnect, ByMessage, ToPing, ToLeave, ToRegister, ToPublish, ToSubscribe, ToUnsubscribe, Untaken, ByBroken, datagram_cause, publish_cause, rule_of}
+use Rattle.sng_history.specs.Clients.{Client, Around, is_here, cleaned, let_in, subscribed, without, unsubscribed, subscribe_of, note_by, notes_by}
+use Rattle.sng_history.specs.Standing.{holds}
 use Rattle.sng_history.specs.State.{State}
-use Rattle.sng_history.specs.Verdicts.{entry, ping_verdict, register_ask, publish_ask}
+use Rattle.sng_history.specs.Verdicts.{entry, ping_verdict, register_ask, publish_ask, coverage, subscribe_ask, unsubscribe_ask}
 use Rattle.sng_history.specs.Answers.{denied_note}
-use Rattle.sng_history.specs.Lawful.{fixed_for, denial_of}
+use Rattle.sng_history.specs.Lawful.{fixed_for, denial_of, end_of, ends_under, refused_end}
 use Rattle.sng_history.specs.Steps.{client_next}
 use Rattle.sng_history.specs.ViewsMessages.{message_in}
 use Rattle.sng_history.specs.ViewsClients.{phase_by, admits, duration_by, is_spoken}
 use Rattle.sng_history.proofs.Own.{same_self}
-use Rattle.sng_history.proofs.Asks.{of_register, of_publish}
+use Rattle.sng_history.proofs.Asks.{of_register, of_publish, of_subscribe, of_unsubscribe}
 use Rattle.sng_history.proofs.SeenNotes.{phase_notes, admitted_notes}
 
 -- what was shown before of a client, and of an event: where it came from, what it states, the clock, and whether the client speaks by it
@@ -88,8 +91,14 @@ idle : (a : Around) (x : Client) (from : Option Address) (stated : Option ℕ) (
 idle a x from stated spoke said is =
     rw (is.phase x.id (Some x.phase), is.admits x.id, is.same (heard_if spoke a.clock x)) (silent x from stated a.clock spoke)
 
+pub subscribed_none : (r : Option TopicRequest) (o : Outcome) (x : Client) → subscribed r None o x ≡ x
+subscribed_none None o x = refl
+subscribed_none (Some r) o x = refl
+
 denied_idle : (a : Around) (message : SnFrame) (whom : Who) (rule : Denial) → Idle a (denied_note message whom rule)
 denied_idle a (frame.Connect connect) whom rule = record { phase = λ id before. refl; admits = λ id. refl; same = λ x. refl }
+denied_idle a (frame.Subscribe r) whom rule = record { phase = λ id before. refl; admits = λ id. refl; same = λ x. subscribed_none (subscribe_of a.cause) (Denied rule) x }
+denied_idle a (frame.Unsubscribe r) whom rule = record { phase = λ id before. refl; admits = λ id. refl; same = λ x. refl }
 denied_idle a _ whom rule = record { phase = λ id before. refl; admits = λ id. refl; same = λ x. refl }
 
 -- a message of one that is there is denied, and by nobody else
@@ -112,7 +121,94 @@ ping_shows a x from true Allowed = (refl, refl, refl, refl)
 ping_shows a x from true (Denied rule) = (refl, refl, refl, refl)
 ping_shows a x from false o = (refl, refl, refl, refl)
 
+-- ---- notes that move nothing of this
+
+-- of what is shown here the two clients have the same
+pub record Alike (x y : Client) : Type 0 where
+  pub phase : y.phase ≡ x.phase
+  pub address : y.address ≡ x.address
+  pub duration : y.duration ≡ x.duration
+  pub heard : y.heard ≡ x.heard
+
+shows_alike : (id : List ℕ) (b : Before) (n : List Decision) (x y : Client) → Alike x y → Shows id b n x → Shows id b n y
+shows_alike id b n x y same shows = rw (same.phase, same.address, same.duration, same.heard) shows
+
+alike_self : (x : Client) → Alike x x
+alike_self x = record { phase = refl; address = refl; duration = refl; heard = refl }
+
+alike_on : (x y z : Client) → Alike x y → Alike y z → Alike x z
+alike_on x y z one two = record {
+  phase = two.phase ∙ one.phase;
+  address = two.address ∙ one.address;
+  duration = two.duration ∙ one.duration;
+  heard = two.heard ∙ one.heard;
+}
+
+alike_subscribed : (r : Option TopicRequest) (filter : Option (List ℕ)) (o : Outcome) (x : Client) → Alike x (subscribed r filter o x)
+alike_subscribed None filter o x = alike_self x
+alike_subscribed (Some r) None o x = alike_self x
+alike_subscribed (Some r) (Some filter) Allowed x = record { phase = refl; address = refl; duration = refl; heard = refl }
+alike_subscribed (Some r) (Some filter) (Denied rule) x = alike_self x
+
+alike_unsubscribed : (filter : Option (List ℕ)) (o : Outcome) (x : Client) → Alike x (unsubscribed filter o x)
+alike_unsubscribed None o x = alike_self x
+alike_unsubscribed (Some filter) Allowed x = record { phase = refl; address = refl; duration = refl; heard = refl }
+alike_unsubscribed (Some filter) (Denied rule) x = alike_self x
+
+-- its subscriptions end
+pub record Ends (id : List ℕ) (a : Around) (x : Client) (n : List Decision) : Type 0 where
+  pub phase : (before : Option ClientState) → phase_notes id n before ≡ before
+  pub admits : admitted_notes id n ≡ false
+  pub alike : Alike x (notes_by a n x)
+
+pub ends_none : (id : List ℕ) (a : Around) (x : Client) → Ends id a x []
+ends_none id a x = record { phase = λ before. refl; admits = refl; alike = alike_self x }
+
+end_first : (id own text : List ℕ) (a : Around) (x : Client) (o : Outcome) (n : List Decision) → ((y : Client) → Ends id a y n) → Ends id a x (end_of own text o ++ n)
+end_first id own text a x Allowed n rest = rest x
+end_first id own text a x (Denied rule) n rest =
+    let more = rest (without text x) in
+    record {
+      phase = more.phase;
+      admits = more.admits;
+      alike = alike_on x (without text x) (notes_by a n (without text x)) (record { phase = refl; address = refl; duration = refl; heard = refl }) more.alike;
+    }
+
+pub ends_all : (id own : List ℕ) (a : Around) (policy : Policy) (held : List Held) (x : Client) → Ends id a x (ends_under policy own held)
+ends_all id own a policy [] x = ends_none id a x
+ends_all id own a policy (h ∷ held) x =
+    end_first id own h.filter a x (coverage policy own h.filter) (ends_under policy own held) (λ y. ends_all id own a policy held y)
+
+refused_if : (id : List ℕ) (a : Around) (x : Client) (text : List ℕ) (b : Bool) → Ends id a x (if b then note.End x.id text (Denied BrokerRefused) ∷ [] else [])
+refused_if id a x text true =
+    record { phase = λ before. refl; admits = refl; alike = record { phase = refl; address = refl; duration = refl; heard = refl } }
+refused_if id a x text false = ends_none id a x
+
+pub ends_refused : (id : List ℕ) (a : Around) (x : Client) (text : Option (List ℕ)) → Ends id a x (refused_end x text)
+ends_refused id a x None = ends_none id a x
+ends_refused id a x (Some text) = refused_if id a x text (holds text x)
+
+pub ends_show : (x : Client) (a : Around) (clock : ℕ) (n : List Decision) → Ends x.id a x n → Shows x.id (kept_of x None None clock false) n (notes_by a n x)
+ends_show x a clock n ends =
+    shows_alike x.id (kept_of x None None clock false) n x (notes_by a n x) ends.alike (rw (ends.phase (Some x.phase), ends.admits) (refl, refl, refl, refl))
+
 -- what it asks for is noted, and moves nothing of this
+subscribe_shows : (a : Around) (s : State) (x : Client) (from : Option Address) (r : TopicRequest) (here : Bool)
+    → let n = if here then subscribe_ask s x r ∷ [] else [] in
+    Shows x.id (kept_of x from None a.clock here) n (notes_by a n (heard_if here a.clock x))
+subscribe_shows a s x from r true =
+    of_subscribe (λ said. Shows x.id (kept_of x from None a.clock true) (said ∷ []) (note_by a said (heard_if true a.clock x))) s x r
+    (λ filter o. let y = heard_if true a.clock x in shows_alike x.id (kept_of x from None a.clock true) (note.Subscribe (who.Client x.id) filter o ∷ []) y (subscribed (subscribe_of a.cause) filter o y) (alike_subscribed (subscribe_of a.cause) filter o y) (refl, refl, refl, refl))
+subscribe_shows a s x from r false = (refl, refl, refl, refl)
+
+unsubscribe_shows : (a : Around) (policy : Policy) (x : Client) (from : Option Address) (r : TopicRequest) (here : Bool)
+    → let n = if here then unsubscribe_ask policy x r ∷ [] else [] in
+    Shows x.id (kept_of x from None a.clock here) n (notes_by a n (heard_if here a.clock x))
+unsubscribe_shows a policy x from r true =
+    of_unsubscribe (λ said. Shows x.id (kept_of x from None a.clock true) (said ∷ []) (note_by a said (heard_if true a.clock x))) policy x r
+    (λ filter o. let y = heard_if true a.clock x in shows_alike x.id (kept_of x from None a.clock true) (note.Unsubscribe (who.Client x.id) filter o ∷ []) y (unsubscribed filter o y) (alike_unsubscribed filter o y) (refl, refl, refl, refl))
+unsubscribe_shows a policy x from r false = (refl, refl, refl, refl)
+
 register_shows : (a : Around) (policy : Policy) (x : Client) (from : Option Address) (text : List ℕ) (here : Bool)
     → let n = if here then register_ask policy x text ∷ [] else [] in
     Shows x.id (kept_of x from None a.clock here) n (notes_by a n (heard_if here a.clock x))
@@ -188,24 +284,26 @@ publish_shows : (s : State) (x : Client) (from : Address) (p : Publish) (q : Fra
     → let c = publish_cause from p q in
     Shows x.id (kept_of x (Some from) None s.clock (is_spoken (message_in (Ok (frame.Publish (record p { flags = record p.flags { qos = q } })))) && is_here x from)) (fixed_for s c x) (client_next s c x)
 publish_shows s x from p qos.WithoutSession = (refl, refl, refl, refl)
-publish_shows s x from p qos.AtMostOnce = asked_shows (around_by s (ByPublish from p)) s x (Some from) p (is_here x from)
-publish_shows s x from p qos.AtLeastOnce = asked_shows (around_by s (ByPublish from p)) s x (Some from) p (is_here x from)
-publish_shows s x from p qos.ExactlyOnce = denied_shows (around_by s (ByUnsupported from (frame.Publish p))) x (Some from) None (is_here x from) (frame.Publish p) NotSupported
+publish_shows s x from p qos.AtMostOnce = asked_shows (around_by s (ByMessage from (ToPublish p))) s x (Some from) p (is_here x from)
+publish_shows s x from p qos.AtLeastOnce = asked_shows (around_by s (ByMessage from (ToPublish p))) s x (Some from) p (is_here x from)
+publish_shows s x from p qos.ExactlyOnce = denied_shows (around_by s (ByMessage from (Untaken (frame.Publish p)))) x (Some from) None (is_here x from) (frame.Publish p) NotSupported
 
 disconnect_shows : (s : State) (x : Client) (from : Address) (duration : Option ℕ)
     → let c = datagram_cause from (Ok (frame.Disconnect duration)) in
     Shows x.id (before_read s x from (Ok (frame.Disconnect duration))) (fixed_for s c x) (client_next s c x)
-disconnect_shows s x from None = leave_shows (around_by s (ByLeave from)) x (Some from) None (is_here x from)
+disconnect_shows s x from None = leave_shows (around_by s (ByMessage from ToLeave)) x (Some from) None (is_here x from)
 disconnect_shows s x from (Some duration) =
-    denied_shows (around_by s (ByUnsupported from (frame.Disconnect (Some duration)))) x (Some from) None (is_here x from) (frame.Disconnect (Some duration)) NotSupported
+    denied_shows (around_by s (ByMessage from (Untaken (frame.Disconnect (Some duration))))) x (Some from) None (is_here x from) (frame.Disconnect (Some duration)) NotSupported
 
 pub datagram_shows : (s : State) (x : Client) (from : Address) (read : Result SnFrame FrameFault)
     → Shows x.id (before_read s x from read) (fixed_for s (datagram_cause from read) x) (client_next s (datagram_cause from read) x)
 datagram_shows s x from (Ok (frame.Connect connect)) =
     connect_shows s.policy s.clock from connect x (bytes_eq connect.client_id x.id) (is_here x from) (entry s connect)
 datagram_shows s x from (Ok (frame.Publish p)) = publish_shows s x from p p.flags.qos
-datagram_shows s x from (Ok (frame.Register r)) = register_shows (around_by s (ByRegister from r)) s.policy x (Some from) r.name (is_here x from)
-datagram_shows s x from (Ok (frame.PingRequest client)) = ping_shows (around_by s (ByPing from client)) x (Some from) (is_here x from) (ping_verdict client x)
+datagram_shows s x from (Ok (frame.Register r)) = register_shows (around_by s (ByMessage from (ToRegister r))) s.policy x (Some from) r.name (is_here x from)
+datagram_shows s x from (Ok (frame.Subscribe r)) = subscribe_shows (around_by s (ByMessage from (ToSubscribe r))) s x (Some from) r (is_here x from)
+datagram_shows s x from (Ok (frame.Unsubscribe r)) = unsubscribe_shows (around_by s (ByMessage from (ToUnsubscribe r))) s.policy x (Some from) r (is_here x from)
+datagram_shows s x from (Ok (frame.PingRequest client)) = ping_shows (around_by s (ByMessage from (ToPing client))) x (Some from) (is_here x from) (ping_verdict client x)
 datagram_shows s x from (Ok (frame.Disconnect duration)) = disconnect_shows s x from duration
-datagram_shows s x from (Ok message) = denied_shows (around_by s (ByUnsupported from message)) x (Some from) None (is_here x from) message NotSupported
+datagram_shows s x from (Ok message) = denied_shows (around_by s (ByMessage from (Untaken message))) x (Some from) None (is_here x from) message NotSupported
 datagram_shows s x from (Err broke) = broken_shows (around_by s (ByBroken from (rule_of broke))) x (Some from) (is_here x from) (rule_of broke)

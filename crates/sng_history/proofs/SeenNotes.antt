@@ -2,6 +2,7 @@
 use Rattle.std.proofs.Common.{◌≡◌, ℕ, Bool, true, false, List, [], ◌∷◌, ◌++◌, refl, ap, sym, ◌∙◌, if◌then◌else◌}
 use Rattle.std.specs.Prelude.{◌||◌, Option}
 use Rattle.sng_states.specs.declared.state.ClientState.{ClientState}
+use Rattle.sng_frames.specs.declared.messages.subscribe.TopicRequest.{TopicRequest}
 use Rattle.sng_book.specs.declared.decision.Decision.{Decision}
 use Rattle.sng_book.specs.declared.decision.Decision.TheVariants as note
 use Rattle.sng_book.specs.declared.out.Out.{Out}
@@ -19,9 +20,9 @@ abbrev pub admitted_notes : List ℕ → List Decision → Bool
 admitted_notes id [] = false
 admitted_notes id (said ∷ notes) = admits id said || admitted_notes id notes
 
-abbrev pub names_notes : List ℕ → List Decision → List (List ℕ) → List (List ℕ)
-names_notes id [] before = before
-names_notes id (said ∷ notes) before = names_notes id notes (names_by id said before)
+abbrev pub names_notes : Option TopicRequest → List ℕ → List Decision → List (List ℕ) → List (List ℕ)
+names_notes r id [] before = before
+names_notes r id (said ∷ notes) before = names_notes r id notes (names_by r id said before)
 
 -- another's note shows nothing of the client
 phase_other : (id : List ℕ) (said : Decision) (before : Option ClientState) → is_of id said ≡ false → phase_by id said before ≡ before
@@ -39,10 +40,11 @@ client_same id (who.Source source) = refl
 client_same id (who.Address address) = refl
 client_same id who.Broker = refl
 
-names_other : (id : List ℕ) (said : Decision) (before : List (List ℕ)) → is_of id said ≡ false → names_by id said before ≡ before
-names_other id (note.Connect client outcome) before other = rw other refl
-names_other id (note.Register whom name outcome) before other = rw (sym (client_same id whom) ∙ other) refl
-names_other id _ before other = refl
+names_other : (r : Option TopicRequest) (id : List ℕ) (said : Decision) (before : List (List ℕ)) → is_of id said ≡ false → names_by r id said before ≡ before
+names_other r id (note.Connect client outcome) before other = rw other refl
+names_other r id (note.Register whom name outcome) before other = rw (sym (client_same id whom) ∙ other) refl
+names_other r id (note.Subscribe whom filter outcome) before other = rw (sym (client_same id whom) ∙ other) refl
+names_other r id _ before other = refl
 
 phase_note : (id : List ℕ) (said : Decision) (notes : List Decision) (before : Option ClientState) (b : Bool) → is_of id said ≡ b
     → phase_notes id notes (phase_by id said before) ≡ phase_notes id ((if b then said ∷ [] else []) ++ notes) before
@@ -54,10 +56,10 @@ admitted_note : (id : List ℕ) (said : Decision) (notes : List Decision) (b : B
 admitted_note id said notes true own = refl
 admitted_note id said notes false other = rw (admits_other id said other) refl
 
-names_note : (id : List ℕ) (said : Decision) (notes : List Decision) (before : List (List ℕ)) (b : Bool) → is_of id said ≡ b
-    → names_notes id notes (names_by id said before) ≡ names_notes id ((if b then said ∷ [] else []) ++ notes) before
-names_note id said notes before true own = refl
-names_note id said notes before false other = ap (names_notes id notes) (names_other id said before other)
+names_note : (r : Option TopicRequest) (id : List ℕ) (said : Decision) (notes : List Decision) (before : List (List ℕ)) (b : Bool) → is_of id said ≡ b
+    → names_notes r id notes (names_by r id said before) ≡ names_notes r id ((if b then said ∷ [] else []) ++ notes) before
+names_note r id said notes before true own = refl
+names_note r id said notes before false other = ap (names_notes r id notes) (names_other r id said before other)
 
 pub phase_by_notes : (id : List ℕ) (outs : List Out) (before : Option ClientState) → phase_after id outs before ≡ phase_notes id (notes_of id outs) before
 phase_by_notes id [] before = refl
@@ -73,9 +75,9 @@ admitted_by_notes id (Note said ∷ outs) =
 admitted_by_notes id (Send to datagram ∷ outs) = admitted_by_notes id outs
 admitted_by_notes id (Wire packet ∷ outs) = admitted_by_notes id outs
 
-pub names_by_notes : (id : List ℕ) (outs : List Out) (before : List (List ℕ)) → names_after id outs before ≡ names_notes id (notes_of id outs) before
-names_by_notes id [] before = refl
-names_by_notes id (Note said ∷ outs) before =
-    names_by_notes id outs (names_by id said before) ∙ names_note id said (notes_of id outs) before (is_of id said) refl
-names_by_notes id (Send to datagram ∷ outs) before = names_by_notes id outs before
-names_by_notes id (Wire packet ∷ outs) before = names_by_notes id outs before
+pub names_by_notes : (r : Option TopicRequest) (id : List ℕ) (outs : List Out) (before : List (List ℕ)) → names_after r id outs before ≡ names_notes r id (notes_of id outs) before
+names_by_notes r id [] before = refl
+names_by_notes r id (Note said ∷ outs) before =
+    names_by_notes r id outs (names_by r id said before) ∙ names_note r id said (notes_of id outs) before (is_of id said) refl
+names_by_notes r id (Send to datagram ∷ outs) before = names_by_notes r id outs before
+names_by_notes r id (Wire packet ∷ outs) before = names_by_notes r id outs before

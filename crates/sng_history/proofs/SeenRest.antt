@@ -2,7 +2,10 @@
 use Rattle.std.proofs.Common.{◌≡◌, ℕ, ◌+◌, ◌≤◌, Bool, true, false, List, [], ◌∷◌, ◌++◌, length, refl, ap, sym, ◌∙◌, subst, arith, if◌then◌else◌}
 use Rattle.std.specs.Prelude.{count_by, Option, Some, None, Ok, Err}
 use Rattle.std.specs.declared.result.Result.{Result}
-use Rattle.std.proofs.lemmas.List.{append-nil}
+use Rattle.std.proofs.lemmas.List.{append-nil, length-map}
+use Rattle.mqtt_frames.specs.declared.packet.SubscribeAck.{SubscribeAck}
+use Rattle.mqtt_frames.specs.declared.packet.SubscribeCode.{SubscribeCode}
+use Rattle.mqtt_frames.specs.declared.packet.SubscribeCode.TheVariants as code
 use Rattle.mqtt_frames.specs.declared.packet.Packet.{Packet}
 use Rattle.mqtt_frames.specs.declared.packet.Packet.TheVariants as packet
 use Rattle.sng_grants.specs.declared.policy.Policy.{Policy}
@@ -22,10 +25,10 @@ use Rattle.sng_book.specs.declared.event.Event.{Event}
 use Rattle.sng_book.specs.declared.event.Event.TheVariants.{Datagram, Broker, Up, Down, Take, Replace, Tick}
 use Rattle.sng_book.specs.declared.out.Out.{Out}
 use Rattle.sng_book.specs.declared.row.Row.{Row}
-use Rattle.sng_history.specs.Causes.{ByTake, cause_of, datagram_cause, publish_cause, disconnect_cause}
+use Rattle.sng_history.specs.Causes.{ByUp, ByTake, cause_of, datagram_cause, publish_cause, disconnect_cause}
 use Rattle.sng_history.specs.Notes.{exits_in}
-use Rattle.sng_history.specs.Links.{Link, still_in_flight}
-use Rattle.sng_history.specs.Packets.{answer_of, answered}
+use Rattle.sng_history.specs.Links.{Link, opened, closed, next_packet_id, still_in_flight, resumed, filters_wanted, subscribe_sent, subscribes_sent}
+use Rattle.sng_history.specs.Packets.{subscribe_answer, answer_of, answered}
 use Rattle.sng_history.specs.State.{State, opening, state_of, link_moved}
 use Rattle.sng_history.specs.Verdicts.{exit}
 use Rattle.sng_history.specs.Exits.{agains_of, sent_again, resending}
@@ -33,23 +36,30 @@ use Rattle.sng_history.specs.Lawful.{Lawful, exits_for}
 use Rattle.sng_history.specs.Steps.{outs_of}
 use Rattle.sng_history.specs.Views.{clock_at, is_up, began, began_after}
 use Rattle.sng_history.specs.ViewsLink.{publications, departures}
-use Rattle.sng_history.specs.ViewsFlight.{agains, allowed_again, others, flights_of, launched, staying, in_flight, last_among, last_id}
+use Rattle.sng_history.specs.ViewsFlight.{agains, allowed_again, others, flights_of, launched, staying, in_flight}
 use Rattle.sng_history.specs.LawsState.{RestShown}
 use Rattle.sng_history.proofs.Keeping.{exact_by}
 use Rattle.sng_history.proofs.SeenState.{Stands, stands}
-use Rattle.sng_history.proofs.FlightIds.{Fit, without_ids, one_other, still_ids}
+use Rattle.sng_history.proofs.FlightIds.{Fit, Free, next_is_free, without_ids, one_other, still_ids}
+use Rattle.sng_history.proofs.FewWanted.{few_wanted}
+use Rattle.sng_history.proofs.Waiting.{subscribes_flights}
+use Rattle.sng_history.proofs.LawRows.{anew}
+use Rattle.sng_history.proofs.UpstreamWanted.{wanted_shown}
 use Rattle.sng_history.proofs.SeenFlight.{Moves, all_move}
 
 -- what a row makes of the link, but for what waits
 record Moved (h : List Row) (e : Event) (outs : List Out) (link : Link) : Type 0 where
   in_flight : link.in_flight ≡ staying e outs (in_flight h) ++ launched e h outs
-  last : link.last ≡ last_among (launched e h outs) (last_id h)
   pinged : link.pinged ≡ began_after e (clock_at h) (began h)
   fit : Fit link
 
 -- the link is as the rows show
+pub record FlightsShown (h : List Row) (link : Link) : Type 0 where
+  pub in_flight : link.in_flight ≡ in_flight h
+  pub pinged : link.pinged ≡ began h
+
 pub record Flights (h : List Row) (link : Link) : Type 0 where
-  pub shown : RestShown h link
+  pub shown : FlightsShown h link
   pub fit : Fit link
 
 -- ---- an event that moves nothing of it
@@ -58,7 +68,6 @@ unmoved : (h : List Row) (e : Event) (outs : List Out) (link : Link) → staying
     → began_after e (clock_at h) (began h) ≡ began h → Flights h link → Moved h e outs link
 unmoved h e outs link same none began_same was = record {
   in_flight = was.shown.in_flight ∙ (sym (append-nil (in_flight h)) ∙ (ap (λ flights. flights ++ []) (sym same) ∙ ap (λ new. staying e outs (in_flight h) ++ new) (sym none)));
-  last = was.shown.last ∙ ap (λ new. last_among new (last_id h)) (sym none);
   pinged = was.shown.pinged ∙ sym began_same;
   fit = was.fit;
 }
@@ -81,18 +90,34 @@ datagram_still s from (Err broke) outcomes = refl
 
 -- ---- a packet of the broker
 
+closed_flights : (h : List Row) (link : Link) (packet_id : ℕ) → Flights h link → Flights h (record link { wanted = closed link.wanted packet_id })
+closed_flights h link packet_id was =
+    let same : length (closed link.wanted packet_id) ≡ length link.wanted = length-map link.wanted _ in
+    record {
+      shown = record { in_flight = was.shown.in_flight; pinged = was.shown.pinged };
+      fit = record { ids = was.fit.ids; last = was.fit.last; few = omega (arith, same, was.fit.few) };
+    }
+
+suback_moved : (h : List Row) (answer : SubscribeAck) (outs : List Out) (link : Link) (codes : List SubscribeCode) → Flights h link
+    → Moved h (Broker (packet.SubscribeAck answer)) outs (answered link (subscribe_answer answer.packet_id codes))
+suback_moved h answer outs link [] was =
+    unmoved h (Broker (packet.SubscribeAck answer)) outs (record link { wanted = closed link.wanted answer.packet_id }) refl refl refl (closed_flights h link answer.packet_id was)
+suback_moved h answer outs link (code.Refused ∷ codes) was =
+    unmoved h (Broker (packet.SubscribeAck answer)) outs (record link { wanted = closed link.wanted answer.packet_id }) refl refl refl (closed_flights h link answer.packet_id was)
+suback_moved h answer outs link (code.Granted q ∷ codes) was =
+    unmoved h (Broker (packet.SubscribeAck answer)) outs (record link { wanted = closed link.wanted answer.packet_id }) refl refl refl (closed_flights h link answer.packet_id was)
+
 packet_moved : (h : List Row) (sent : Packet) (outs : List Out) (link : Link) → Flights h link → Moved h (Broker sent) outs (answered link (answer_of sent))
 packet_moved h (packet.PublishAck packet_id) outs link was = record {
   in_flight = one_other link.in_flight packet_id was.fit.ids ∙ (ap (others packet_id) was.shown.in_flight ∙ sym (append-nil (others packet_id (in_flight h))));
-  last = was.shown.last;
   pinged = was.shown.pinged;
-  fit = record { ids = without_ids link.in_flight packet_id was.fit.ids; last = was.fit.last; wanted = was.fit.wanted };
+  fit = record { ids = without_ids link.in_flight packet_id was.fit.ids; last = was.fit.last; few = was.fit.few };
 }
 packet_moved h (packet.Publish p) outs link was = unmoved h (Broker (packet.Publish p)) outs link refl refl refl was
 packet_moved h (packet.Connect connect) outs link was = unmoved h (Broker (packet.Connect connect)) outs link refl refl refl was
 packet_moved h (packet.ConnectAck answer) outs link was = unmoved h (Broker (packet.ConnectAck answer)) outs link refl refl refl was
 packet_moved h (packet.Subscribe request) outs link was = unmoved h (Broker (packet.Subscribe request)) outs link refl refl refl was
-packet_moved h (packet.SubscribeAck answer) outs link was = unmoved h (Broker (packet.SubscribeAck answer)) outs link refl refl refl was
+packet_moved h (packet.SubscribeAck answer) outs link was = suback_moved h answer outs link answer.codes was
 packet_moved h (packet.Unsubscribe request) outs link was = unmoved h (Broker (packet.Unsubscribe request)) outs link refl refl refl was
 packet_moved h (packet.UnsubscribeAck packet_id) outs link was = unmoved h (Broker (packet.UnsubscribeAck packet_id)) outs link refl refl refl was
 packet_moved h packet.PingRequest outs link was = unmoved h (Broker packet.PingRequest) outs link refl refl refl was
@@ -101,27 +126,48 @@ packet_moved h packet.Disconnect outs link was = unmoved h (Broker packet.Discon
 
 -- ---- a connection begins
 
-again_first : (sent : InFlight) (flights : List InFlight) (o : Outcome) (outcomes : List Outcome) (outs : List Out)
-    → still_in_flight flights outcomes ≡ allowed_again flights (agains outs)
-    → still_in_flight (sent ∷ flights) (o ∷ outcomes) ≡ allowed_again (sent ∷ flights) (agains (sent_again sent o ++ outs))
-again_first sent flights Allowed outcomes outs rest = ap (λ flights. sent ∷ flights) rest
-again_first sent flights (Denied rule) outcomes outs rest = rest
+again_first : (sent : InFlight) (flights : List InFlight) (o : Outcome) (outcomes : List Outcome) (outs more : List Out)
+    → still_in_flight flights outcomes ≡ allowed_again flights (agains (outs ++ more))
+    → still_in_flight (sent ∷ flights) (o ∷ outcomes) ≡ allowed_again (sent ∷ flights) (agains ((sent_again sent o ++ outs) ++ more))
+again_first sent flights Allowed outcomes outs more rest = ap (λ flights. sent ∷ flights) rest
+again_first sent flights (Denied rule) outcomes outs more rest = rest
 
-again_stays : (policy : Policy) (flights : List InFlight)
-    → still_in_flight flights (agains_of policy flights) ≡ allowed_again flights (agains (resending flights (agains_of policy flights)))
-again_stays policy [] = refl
-again_stays policy (sent ∷ flights) =
-    again_first sent flights (exit policy sent.publication.origin sent.publication.name) (agains_of policy flights) (resending flights (agains_of policy flights)) (again_stays policy flights)
+again_stays : (policy : Policy) (flights : List InFlight) (more : List Out)
+    → still_in_flight flights (agains_of policy flights) ≡ allowed_again flights (agains (resending flights (agains_of policy flights) ++ more))
+again_stays policy [] more = refl
+again_stays policy (sent ∷ flights) more =
+    again_first sent flights (exit policy sent.publication.origin sent.publication.name) (agains_of policy flights) (resending flights (agains_of policy flights)) more (again_stays policy flights more)
 
-up_moved : (h : List Row) (s : State) → s.clock ≡ clock_at h → Flights h s.link
-    → Moved h Up (outs_of s Up) (record s.link { in_flight = still_in_flight s.link.in_flight (agains_of s.policy s.link.in_flight); pinged = s.clock })
-up_moved h s clock was =
+anew_pinged : (link : Link) (texts : List (List ℕ)) → (subscribes_sent link texts).pinged ≡ link.pinged
+anew_pinged link [] = refl
+anew_pinged link (text ∷ texts) = anew_pinged (subscribe_sent link text) texts
+
+anew_fit : (link : Link) (texts : List (List ℕ)) → Fit link → length link.in_flight ≤ 128 → Fit (subscribes_sent link texts)
+anew_fit link [] fit few = fit
+anew_fit link (text ∷ texts) fit few =
+    let free : Free link (next_packet_id link) = next_is_free link fit few in
+    let same : length (opened link.wanted text (next_packet_id link)) ≡ length link.wanted = length-map link.wanted _ in
+    anew_fit (subscribe_sent link text) texts (record { ids = fit.ids; last = free.small; few = omega (arith, same, fit.few) }) few
+
+still_fewer : (flights : List InFlight) (outcomes : List Outcome) → length (still_in_flight flights outcomes) ≤ length flights
+still_fewer [] outcomes = omega arith
+still_fewer (sent ∷ flights) [] = omega arith
+still_fewer (sent ∷ flights) (Allowed ∷ outcomes) = omega (arith, still_fewer flights outcomes)
+still_fewer (sent ∷ flights) (Denied rule ∷ outcomes) = omega (arith, still_fewer flights outcomes)
+
+up_moved : (h : List Row) (s : State) → Stands h s → Flights h s.link → Moved h Up (outs_of s Up) (link_moved s ByUp (exits_for s ByUp))
+up_moved h s st was =
     let outs = outs_of s Up in
+    let begun : Link = resumed s.link s.clock (exits_for s ByUp) in
+    let texts = filters_wanted s.link in
+    let flights = still_in_flight s.link.in_flight (agains_of s.policy s.link.in_flight) in
+    let fit : Fit begun = record { ids = still_ids s.link.in_flight (agains_of s.policy s.link.in_flight) was.fit.ids; last = was.fit.last; few = was.fit.few } in
     record {
-      in_flight = again_stays s.policy s.link.in_flight ∙ (ap (λ flights. allowed_again flights (agains outs)) was.shown.in_flight ∙ sym (append-nil (allowed_again (in_flight h) (agains outs))));
-      last = was.shown.last;
-      pinged = clock;
-      fit = record { ids = still_ids s.link.in_flight (agains_of s.policy s.link.in_flight) was.fit.ids; last = was.fit.last; wanted = was.fit.wanted };
+      in_flight = subscribes_flights begun texts
+          ∙ (again_stays s.policy s.link.in_flight (anew s)
+          ∙ (ap (λ all. allowed_again all (agains outs)) was.shown.in_flight ∙ sym (append-nil (allowed_again (in_flight h) (agains outs)))));
+      pinged = anew_pinged begun texts ∙ st.shown.clock;
+      fit = anew_fit begun texts fit (omega (arith, still_fewer s.link.in_flight (agains_of s.policy s.link.in_flight), st.good.few));
     }
 
 -- ---- what waits leaves
@@ -129,7 +175,7 @@ up_moved h s clock was =
 take_moves : (s : State) (up : Bool) → s.up ≡ up → Fit s.link → length s.link.in_flight + count_by asks_for_ack s.link.waiting ≤ 128
     → Moves s.link (link_moved s ByTake (exits_for s ByTake)) (if up then flights_of (publications s.link.waiting) (departures (outs_of s Take)) else [])
 take_moves s true is fit few = rw is (all_move s.policy s.link s.link.waiting fit few)
-take_moves s false is fit few = rw is (record { in_flight = sym (append-nil s.link.in_flight); last = refl; pinged = refl; fit = fit })
+take_moves s false is fit few = rw is (record { in_flight = sym (append-nil s.link.in_flight); pinged = refl; fit = fit })
 
 take_moved : (h : List Row) (s : State) → Stands h s → Flights h s.link → Moved h Take (outs_of s Take) (link_moved s ByTake (exits_for s ByTake))
 take_moved h s st was =
@@ -141,7 +187,6 @@ take_moved h s st was =
     in
     record {
       in_flight = moves.in_flight ∙ (ap (λ flights. flights ++ new) was.shown.in_flight ∙ ap (λ more. in_flight h ++ more) same);
-      last = moves.last ∙ (ap (last_among new) was.shown.last ∙ ap (λ more. last_among more (last_id h)) same);
       pinged = moves.pinged ∙ was.shown.pinged;
       fit = moves.fit;
     }
@@ -153,14 +198,14 @@ row_moved h s (Datagram from datagram) st was =
     let e = Datagram from datagram in
     subst (Moved h e (outs_of s e)) (sym (datagram_still s from (frame_of datagram) (exits_for s (cause_of e)))) (unmoved h e (outs_of s e) s.link refl refl refl was)
 row_moved h s (Broker sent) st was = packet_moved h sent (outs_of s (Broker sent)) s.link was
-row_moved h s Up st was = up_moved h s st.shown.clock was
+row_moved h s Up st was = up_moved h s st was
 row_moved h s Down st was = unmoved h Down (outs_of s Down) s.link refl refl refl was
 row_moved h s Take st was = take_moved h s st was
 row_moved h s (Replace policy) st was = unmoved h (Replace policy) (outs_of s (Replace policy)) s.link refl refl refl was
 row_moved h s (Tick clock) st was = unmoved h (Tick clock) (outs_of s (Tick clock)) s.link refl refl refl was
 
 pub flights_shown : (h : List Row) → Lawful opening h → Flights h (state_of opening h).link
-flights_shown [] l = record { shown = record { in_flight = refl; last = refl; wanted = refl; pinged = refl }; fit = record { ids = tt; last = omega arith; wanted = refl } }
+flights_shown [] l = record { shown = record { in_flight = refl; pinged = refl }; fit = record { ids = tt; last = omega arith; few = omega arith } }
 flights_shown (row ∷ h) l =
     let s = state_of opening h in
     let c = cause_of row.event in
@@ -170,9 +215,9 @@ flights_shown (row ∷ h) l =
     (subst (λ outs. Moved h row.event outs (link_moved s c (exits_for s c))) (sym (exact_by s c row.outs l.1)) step)
     in
     record {
-      shown = record { in_flight = moved.in_flight; last = moved.last; wanted = moved.fit.wanted; pinged = moved.pinged };
-      fit = record { ids = moved.fit.ids; last = moved.fit.last; wanted = moved.fit.wanted };
+      shown = record { in_flight = moved.in_flight; pinged = moved.pinged };
+      fit = record { ids = moved.fit.ids; last = moved.fit.last; few = few_wanted (state_of opening (row ∷ h)) (stands (row ∷ h) l).good };
     }
 
 pub rest_shown : (h : List Row) → Lawful opening h → RestShown h (state_of opening h).link
-rest_shown h l = (flights_shown h l).shown
+rest_shown h l = let are = (flights_shown h l).shown in record { in_flight = are.in_flight; wanted = (wanted_shown h l).wanted; pinged = are.pinged }

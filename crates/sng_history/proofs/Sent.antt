@@ -1,6 +1,8 @@
--- What a row lets out for clients beside notes is sent to them, so it brings no packet for the broker.
+-- What a row lets out for clients beside their notes is sent to them, so it brings no packet for the broker; only that an UNSUBSCRIBE was
+-- dropped is noted among it.
 use Rattle.std.proofs.Common.{◌≡◌, ℕ, Bool, true, false, List, [], ◌∷◌, ◌++◌, refl, ◌∙◌, if◌then◌else◌}
 use Rattle.std.specs.Prelude.{Option, Some, None}
+use Rattle.std.specs.List.{list_any}
 use Rattle.sng_frames.specs.declared.messages.publish.Publish.{Publish}
 use Rattle.sng_frames.specs.declared.qos.FrameQos.{FrameQos}
 use Rattle.sng_frames.specs.declared.qos.FrameQos.TheVariants as qos
@@ -15,49 +17,57 @@ use Rattle.sng_book.specs.declared.outcome.Outcome.{Outcome}
 use Rattle.sng_book.specs.declared.outcome.Outcome.TheVariants.{Allowed, Denied}
 use Rattle.sng_book.specs.declared.out.Out.{Out}
 use Rattle.sng_book.specs.declared.out.Out.TheVariants.{Send, Wire, Note}
-use Rattle.sng_history.specs.Causes.{Cause, ByConnect, ByPing, ByLeave, BySource, ByRegister, ByPublish, ByUnsupported, ByBroken, ByPacket, ByUp, ByDown, ByTake, ByReplace, ByTick}
+use Rattle.sng_history.specs.Causes.{Request, ToPing, ToLeave, ToRegister, ToPublish, ToSubscribe, ToUnsubscribe, Untaken, Cause, request_of}
 use Rattle.sng_history.specs.Clients.{Around, Client, is_author, start_by, note_by}
+use Rattle.sng_history.specs.Standing.{Release, is_release, drop_notes}
 use Rattle.sng_history.specs.Verdicts.{ping_verdict}
-use Rattle.sng_history.specs.Answers.{refusal, code_of, sent_to, puback}
-use Rattle.sng_history.specs.Whole.{farewell, denied_by, granted_by, replied, frames_of, spell, pong_by, answer, part}
+use Rattle.sng_history.specs.Answers.{refusal, code_of, sent_to, puback, dismissed}
+use Rattle.sng_history.specs.Whole.{takes_leave, farewell, denied_to, denied_by, granted_to, granted_by, replied, dropped_with, frames_of, spell, pong_by, answer_to, answer, part}
 use Rattle.sng_history.specs.ViewsLink.{wires_in}
 
 -- ---- frames
 
--- all of these are sent to clients
+-- each of these is sent to a client, or notes that an item was dropped
 abbrev pub AllSent : List Out → Type 0
 AllSent [] = Unit {0}
 AllSent (Send to datagram ∷ outs) = AllSent outs
-AllSent (Note said ∷ outs) = ⊥
+AllSent (Note said ∷ outs) = (said ≡ note.Outbox) × AllSent outs
 AllSent (Wire packet ∷ outs) = ⊥
+
+both_sent : (xs ys : List Out) → AllSent xs → AllSent ys → AllSent (xs ++ ys)
+both_sent [] ys one two = two
+both_sent (Send to datagram ∷ xs) ys one two = both_sent xs ys one two
+both_sent (Note said ∷ xs) ys one two = (one.0, both_sent xs ys one.1 two)
+both_sent (Wire packet ∷ xs) ys one two = absurd one
 
 refused_sent : (to : Address) (o : Option SnFrame) → AllSent (sent_to to o)
 refused_sent to None = tt
 refused_sent to (Some message) = tt
 
-farewell_sent : (c : Cause) (to : Address) → AllSent (farewell c to)
-farewell_sent (ByLeave from) to = tt
-farewell_sent _ to = tt
+leave_sent : (b : Bool) (to : Address) → AllSent (if b then dismissed to ∷ [] else [])
+leave_sent true to = tt
+leave_sent false to = tt
 
-ping_sent : (from to : Address) (client : Option (List ℕ)) (rule : Denial) → AllSent (denied_by (ByPing from client) to rule)
-ping_sent from to client NoSession = tt
-ping_sent from to client _ = tt
+farewell_sent : (request : Option Request) (to : Address) → AllSent (farewell request to)
+farewell_sent None to = tt
+farewell_sent (Some request) to = leave_sent (takes_leave request) to
 
-denied_sent : (c : Cause) (to : Address) (rule : Denial) → AllSent (denied_by c to rule)
-denied_sent (ByPing from client) to rule = ping_sent from to client rule
-denied_sent (ByRegister from r) to rule = refused_sent to (refusal (frame.Register r) (code_of rule))
-denied_sent (ByPublish from p) to rule = refused_sent to (refusal (frame.Publish p) (code_of rule))
-denied_sent (ByUnsupported from message) to rule = refused_sent to (refusal message (code_of rule))
-denied_sent (ByConnect from connect) to rule = tt
-denied_sent (ByLeave from) to rule = tt
-denied_sent (BySource from p) to rule = tt
-denied_sent (ByBroken from broke) to rule = tt
-denied_sent (ByPacket p) to rule = tt
-denied_sent ByUp to rule = tt
-denied_sent ByDown to rule = tt
-denied_sent ByTake to rule = tt
-denied_sent (ByReplace policy) to rule = tt
-denied_sent (ByTick clock) to rule = tt
+ping_sent : (to : Address) (client : Option (List ℕ)) (rule : Denial) → AllSent (denied_to (ToPing client) to rule)
+ping_sent to client NoSession = tt
+ping_sent to client _ = tt
+
+denied_to_sent : (request : Request) (to : Address) (rule : Denial) → AllSent (denied_to request to rule)
+denied_to_sent (ToPing client) to rule = ping_sent to client rule
+denied_to_sent ToLeave to rule = tt
+denied_to_sent (ToRegister r) to rule = refused_sent to (refusal (frame.Register r) (code_of rule))
+denied_to_sent (ToPublish p) to rule = refused_sent to (refusal (frame.Publish p) (code_of rule))
+denied_to_sent (ToSubscribe r) to rule = refused_sent to (refusal (frame.Subscribe r) (code_of rule))
+denied_to_sent (ToUnsubscribe r) to rule = refused_sent to (refusal (frame.Unsubscribe r) (code_of rule))
+denied_to_sent (Untaken message) to rule = refused_sent to (refusal message (code_of rule))
+
+denied_sent : (request : Option Request) (to : Address) (rule : Denial) → AllSent (denied_by request to rule)
+denied_sent None to rule = tt
+denied_sent (Some request) to rule = denied_to_sent request to rule
 
 puback_sent : (to : Address) (p : Publish) (q : FrameQos) → AllSent (puback to p q)
 puback_sent to p qos.AtLeastOnce = tt
@@ -65,62 +75,79 @@ puback_sent to p qos.AtMostOnce = tt
 puback_sent to p qos.ExactlyOnce = tt
 puback_sent to p qos.WithoutSession = tt
 
-granted_sent : (c : Cause) (x : Client) (name : Option (List ℕ)) → AllSent (granted_by c x name)
-granted_sent (ByRegister from r) x (Some name) = tt
-granted_sent (ByRegister from r) x None = tt
-granted_sent (ByPublish from p) x name = puback_sent x.address p p.flags.qos
-granted_sent (ByConnect from connect) x name = tt
-granted_sent (ByPing from client) x name = tt
-granted_sent (ByLeave from) x name = tt
-granted_sent (BySource from p) x name = tt
-granted_sent (ByUnsupported from message) x name = tt
-granted_sent (ByBroken from rule) x name = tt
-granted_sent (ByPacket p) x name = tt
-granted_sent ByUp x name = tt
-granted_sent ByDown x name = tt
-granted_sent ByTake x name = tt
-granted_sent (ByReplace policy) x name = tt
-granted_sent (ByTick clock) x name = tt
+granted_to_sent : (request : Request) (x : Client) (name : Option (List ℕ)) → AllSent (granted_to request x name)
+granted_to_sent (ToPing client) x name = tt
+granted_to_sent ToLeave x name = tt
+granted_to_sent (ToRegister r) x (Some name) = tt
+granted_to_sent (ToRegister r) x None = tt
+granted_to_sent (ToPublish p) x name = puback_sent x.address p p.flags.qos
+granted_to_sent (ToSubscribe r) x (Some filter) = tt
+granted_to_sent (ToSubscribe r) x None = tt
+granted_to_sent (ToUnsubscribe r) x filter = tt
+granted_to_sent (Untaken message) x name = tt
+
+granted_sent : (request : Option Request) (x : Client) (name : Option (List ℕ)) → AllSent (granted_by request x name)
+granted_sent None x name = tt
+granted_sent (Some request) x name = granted_to_sent request x name
 
 replied_sent : (c : Cause) (x : Client) (name : Option (List ℕ)) (outcome : Outcome) → AllSent (replied c x name outcome)
-replied_sent c x name Allowed = granted_sent c x name
-replied_sent c x name (Denied rule) = denied_sent c x.address rule
+replied_sent c x name Allowed = granted_sent (request_of c) x name
+replied_sent c x name (Denied rule) = denied_sent (request_of c) x.address rule
 
-pub frames_sent : (a : Around) (x : Client) (said : Decision) → AllSent (frames_of a x said)
-frames_sent a x (note.Left id) = farewell_sent a.cause x.address
-frames_sent a x (note.Register who name outcome) = replied_sent a.cause x name outcome
-frames_sent a x (note.Publish who name outcome) = replied_sent a.cause x name outcome
-frames_sent a x (note.Subscribe who filter outcome) = replied_sent a.cause x None outcome
-frames_sent a x (note.Unsubscribe who filter outcome) = replied_sent a.cause x None outcome
-frames_sent a x (note.Will who name outcome) = replied_sent a.cause x name outcome
-frames_sent a x (note.Frame who outcome) = replied_sent a.cause x None outcome
-frames_sent a x _ = tt
+drop_sent : (b : Bool) → AllSent (if b then Note note.Outbox ∷ [] else [])
+drop_sent true = (refl, tt)
+drop_sent false = tt
+
+dropped_sent : (dropped : List Release) (client : List ℕ) (filter : Option (List ℕ)) → AllSent (dropped_with dropped client filter)
+dropped_sent dropped client None = tt
+dropped_sent dropped client (Some filter) = drop_sent (list_any (is_release client filter) dropped)
+
+pub drops_sent : (dropped : List Release) → AllSent (drop_notes dropped)
+drops_sent [] = tt
+drops_sent (r ∷ dropped) = (refl, drops_sent dropped)
+
+pub frames_sent : (a : Around) (dropped : List Release) (x : Client) (said : Decision) → AllSent (frames_of a dropped x said)
+frames_sent a dropped x (note.Left id) = farewell_sent (request_of a.cause) x.address
+frames_sent a dropped x (note.Register who name outcome) = replied_sent a.cause x name outcome
+frames_sent a dropped x (note.Publish who name outcome) = replied_sent a.cause x name outcome
+frames_sent a dropped x (note.Subscribe who filter outcome) = replied_sent a.cause x filter outcome
+frames_sent a dropped x (note.Unsubscribe who filter outcome) =
+    both_sent (dropped_with dropped x.id filter) (replied a.cause x filter outcome) (dropped_sent dropped x.id filter) (replied_sent a.cause x filter outcome)
+frames_sent a dropped x (note.Will who name outcome) = replied_sent a.cause x name outcome
+frames_sent a dropped x (note.Frame who outcome) = replied_sent a.cause x None outcome
+frames_sent a dropped x (note.End id filter outcome) = dropped_sent dropped x.id (Some filter)
+frames_sent a dropped x _ = tt
 
 pong_sent : (o : Outcome) (to : Address) → AllSent (pong_by o to)
 pong_sent Allowed to = tt
 pong_sent (Denied rule) to = tt
 
-pub answer_sent : (c : Cause) (x : Client) → AllSent (answer c x)
-answer_sent (ByPing from client) x = pong_sent (ping_verdict client x) x.address
-answer_sent _ x = tt
+answer_to_sent : (request : Request) (x : Client) → AllSent (answer_to request x)
+answer_to_sent (ToPing client) x = pong_sent (ping_verdict client x) x.address
+answer_to_sent _ x = tt
 
-author_sent : (c : Cause) (x : Client) (b : Bool) → AllSent (if b then answer c x else [])
-author_sent c x true = answer_sent c x
-author_sent c x false = tt
+pub answer_sent : (request : Option Request) (x : Client) → AllSent (answer request x)
+answer_sent None x = tt
+answer_sent (Some request) x = answer_to_sent request x
+
+author_sent : (request : Option Request) (x : Client) (b : Bool) → AllSent (if b then answer request x else [])
+author_sent request x true = answer_sent request x
+author_sent request x false = tt
 
 -- ---- no packets
 
-sent_wires : (xs ys : List Out) → AllSent xs → wires_in (xs ++ ys) ≡ wires_in ys
+pub sent_wires : (xs ys : List Out) → AllSent xs → wires_in (xs ++ ys) ≡ wires_in ys
 sent_wires [] ys sent = refl
 sent_wires (Send to datagram ∷ xs) ys sent = sent_wires xs ys sent
-sent_wires (Note said ∷ xs) ys sent = absurd sent
+sent_wires (Note said ∷ xs) ys sent = sent_wires xs ys sent.1
 sent_wires (Wire packet ∷ xs) ys sent = absurd sent
 
-spell_wires : (a : Around) (x : Client) (notes : List Decision) → wires_in (spell a x notes) ≡ []
-spell_wires a x [] = refl
-spell_wires a x (said ∷ notes) =
-    sent_wires (frames_of a x said) (spell a (note_by a said x) notes) (frames_sent a x said) ∙ spell_wires a (note_by a said x) notes
+spell_wires : (a : Around) (dropped : List Release) (x : Client) (notes : List Decision) → wires_in (spell a dropped x notes) ≡ []
+spell_wires a dropped x [] = refl
+spell_wires a dropped x (said ∷ notes) =
+    sent_wires (frames_of a dropped x said) (spell a dropped (note_by a said x) notes) (frames_sent a dropped x said) ∙ spell_wires a dropped (note_by a said x) notes
 
-pub part_wires : (a : Around) (notes : List Decision) (x : Client) → wires_in (part a notes x) ≡ []
-part_wires a notes x =
-    sent_wires (if is_author a.cause x then answer a.cause x else []) (spell a (start_by a x) notes) (author_sent a.cause x (is_author a.cause x)) ∙ spell_wires a (start_by a x) notes
+pub part_wires : (a : Around) (dropped : List Release) (notes : List Decision) (x : Client) → wires_in (part a dropped notes x) ≡ []
+part_wires a dropped notes x =
+    sent_wires (if is_author a.cause x then answer (request_of a.cause) x else []) (spell a dropped (start_by a x) notes) (author_sent (request_of a.cause) x (is_author a.cause x))
+    ∙ spell_wires a dropped (start_by a x) notes

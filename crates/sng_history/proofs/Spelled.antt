@@ -1,25 +1,26 @@
 -- What is let out for a client has the client's notes, and no other.
 use Rattle.std.proofs.Common.{◌≡◌, ℕ, Bool, true, false, List, [], ◌∷◌, ◌++◌, refl, ap, ◌∙◌}
-use Rattle.std.specs.Prelude.{if◌then◌else◌}
+use Rattle.std.specs.Prelude.{if◌then◌else◌, Option}
 use Rattle.std.specs.Str.{bytes_eq}
 use Rattle.sng_frames.specs.declared.messages.publish.Publish.{Publish}
 use Rattle.sng_book.specs.declared.decision.Decision.{Decision}
 use Rattle.sng_book.specs.declared.out.Out.{Out}
-use Rattle.sng_history.specs.Causes.{Cause}
+use Rattle.sng_history.specs.Causes.{Cause, request_of}
 use Rattle.sng_history.specs.Clients.{Around, Client, is_author, start_by, note_by}
 use Rattle.sng_history.specs.Notes.{notes_of, exits_in, is_of, exit_of}
 use Rattle.sng_history.specs.Whole.{frames_of, spell, answer, part}
-use Rattle.sng_history.specs.State.{asked_by}
+use Rattle.sng_history.specs.Standing.{Release}
+use Rattle.sng_history.specs.State.{asked_by, asked_all}
 use Rattle.sng_history.specs.Steps.{asked_by_all}
 use Rattle.sng_book.specs.declared.out.Out.TheVariants.{Send, Wire, Note}
 use Rattle.sng_history.proofs.Sent.{AllSent, frames_sent, answer_sent}
-use Rattle.sng_history.proofs.Own.{same_self, notes_append, exits_append, asked_all, asks_append}
+use Rattle.sng_history.proofs.Own.{same_self, notes_append, exits_append, asks_append}
 
 -- no note among these
 pub record Mute (outs : List Out) : Type 0 where
   pub notes : (c : List ℕ) → notes_of c outs ≡ []
   pub exits : exits_in outs ≡ []
-  pub asks : (p : Publish) → asked_all p outs ≡ []
+  pub asks : (p : Option Publish) → asked_all p outs ≡ []
 
 pub mute_none : Mute []
 mute_none = record { notes = λ c. refl; exits = refl; asks = λ p. refl }
@@ -32,17 +33,17 @@ mute_both xs ys one two = record {
 }
 
 -- what is sent to clients has none
-mute_of : (outs : List Out) → AllSent outs → Mute outs
+pub mute_of : (outs : List Out) → AllSent outs → Mute outs
 mute_of [] all = mute_none
 mute_of (Send to datagram ∷ outs) all = let m = mute_of outs all in record { notes = m.notes; exits = m.exits; asks = m.asks }
-mute_of (Note said ∷ outs) all = absurd all
+mute_of (Note said ∷ outs) all = let m = mute_of outs all.1 in rw all.0 (record { notes = m.notes; exits = m.exits; asks = m.asks })
 mute_of (Wire packet ∷ outs) all = absurd all
 
-mute_frames : (a : Around) (x : Client) (said : Decision) → Mute (frames_of a x said)
-mute_frames a x said = mute_of (frames_of a x said) (frames_sent a x said)
+mute_frames : (a : Around) (dropped : List Release) (x : Client) (said : Decision) → Mute (frames_of a dropped x said)
+mute_frames a dropped x said = mute_of (frames_of a dropped x said) (frames_sent a dropped x said)
 
-mute_answer : (c : Cause) (x : Client) → Mute (answer c x)
-mute_answer c x = mute_of (answer c x) (answer_sent c x)
+mute_answer : (c : Cause) (x : Client) → Mute (answer (request_of c) x)
+mute_answer c x = mute_of (answer (request_of c) x) (answer_sent (request_of c) x)
 
 pub mute_if : (b : Bool) (outs : List Out) → Mute outs → Mute (if b then outs else [])
 mute_if true outs m = m
@@ -66,58 +67,58 @@ no_note : (b : Bool) (said : Decision) (notes : List Decision) → b ≡ false �
 no_note true said notes is = absurd cc
 no_note false said notes is = refl
 
-pub spell_own : (a : Around) (x : Client) (c : List ℕ) (notes : List Decision) → AllAbout c notes → notes_of c (spell a x notes) ≡ notes
-spell_own a x c [] about = refl
-spell_own a x c (said ∷ notes) about =
+pub spell_own : (a : Around) (dropped : List Release) (x : Client) (c : List ℕ) (notes : List Decision) → AllAbout c notes → notes_of c (spell a dropped x notes) ≡ notes
+spell_own a dropped x c [] about = refl
+spell_own a dropped x c (said ∷ notes) about =
     let y = note_by a said x in
-    own_note (is_of c said) said (notes_of c (frames_of a x said ++ spell a y notes)) (about.0.of c ∙ same_self c)
-    ∙ ap (λ more. said ∷ more) (notes_append c (frames_of a x said) (spell a y notes) ∙ (ap (λ more. more ++ notes_of c (spell a y notes)) ((mute_frames a x said).notes c) ∙ spell_own a y c notes about.1))
+    own_note (is_of c said) said (notes_of c (frames_of a dropped x said ++ spell a dropped y notes)) (about.0.of c ∙ same_self c)
+    ∙ ap (λ more. said ∷ more) (notes_append c (frames_of a dropped x said) (spell a dropped y notes) ∙ (ap (λ more. more ++ notes_of c (spell a dropped y notes)) ((mute_frames a dropped x said).notes c) ∙ spell_own a dropped y c notes about.1))
 
-pub spell_other : (a : Around) (x : Client) (c d : List ℕ) (notes : List Decision) → bytes_eq d c ≡ false → AllAbout c notes → notes_of d (spell a x notes) ≡ []
-spell_other a x c d [] away about = refl
-spell_other a x c d (said ∷ notes) away about =
+pub spell_other : (a : Around) (dropped : List Release) (x : Client) (c d : List ℕ) (notes : List Decision) → bytes_eq d c ≡ false → AllAbout c notes → notes_of d (spell a dropped x notes) ≡ []
+spell_other a dropped x c d [] away about = refl
+spell_other a dropped x c d (said ∷ notes) away about =
     let y = note_by a said x in
-    no_note (is_of d said) said (notes_of d (frames_of a x said ++ spell a y notes)) (about.0.of d ∙ away)
-    ∙ (notes_append d (frames_of a x said) (spell a y notes) ∙ (ap (λ more. more ++ notes_of d (spell a y notes)) ((mute_frames a x said).notes d) ∙ spell_other a y c d notes away about.1))
+    no_note (is_of d said) said (notes_of d (frames_of a dropped x said ++ spell a dropped y notes)) (about.0.of d ∙ away)
+    ∙ (notes_append d (frames_of a dropped x said) (spell a dropped y notes) ∙ (ap (λ more. more ++ notes_of d (spell a dropped y notes)) ((mute_frames a dropped x said).notes d) ∙ spell_other a dropped y c d notes away about.1))
 
-pub spell_exits : (a : Around) (x : Client) (c : List ℕ) (notes : List Decision) → AllAbout c notes → exits_in (spell a x notes) ≡ []
-spell_exits a x c [] about = refl
-spell_exits a x c (said ∷ notes) about =
+pub spell_exits : (a : Around) (dropped : List Release) (x : Client) (c : List ℕ) (notes : List Decision) → AllAbout c notes → exits_in (spell a dropped x notes) ≡ []
+spell_exits a dropped x c [] about = refl
+spell_exits a dropped x c (said ∷ notes) about =
     let y = note_by a said x in
-    ap (λ more. more ++ exits_in (frames_of a x said ++ spell a y notes)) about.0.stays
-    ∙ (exits_append (frames_of a x said) (spell a y notes) ∙ (ap (λ more. more ++ exits_in (spell a y notes)) (mute_frames a x said).exits ∙ spell_exits a y c notes about.1))
+    ap (λ more. more ++ exits_in (frames_of a dropped x said ++ spell a dropped y notes)) about.0.stays
+    ∙ (exits_append (frames_of a dropped x said) (spell a dropped y notes) ∙ (ap (λ more. more ++ exits_in (spell a dropped y notes)) (mute_frames a dropped x said).exits ∙ spell_exits a dropped y c notes about.1))
 
-lead : (c : Cause) (x : Client) → Mute (if is_author c x then answer c x else [])
-lead c x = mute_if (is_author c x) (answer c x) (mute_answer c x)
+lead : (c : Cause) (x : Client) → Mute (if is_author c x then answer (request_of c) x else [])
+lead c x = mute_if (is_author c x) (answer (request_of c) x) (mute_answer c x)
 
-pub part_own : (a : Around) (notes : List Decision) (x : Client) → AllAbout x.id notes → notes_of x.id (part a notes x) ≡ notes
-part_own a notes x about =
+pub part_own : (a : Around) (dropped : List Release) (notes : List Decision) (x : Client) → AllAbout x.id notes → notes_of x.id (part a dropped notes x) ≡ notes
+part_own a dropped notes x about =
     let y = start_by a x in
-    notes_append x.id (if is_author a.cause x then answer a.cause x else []) (spell a y notes)
-    ∙ (ap (λ more. more ++ notes_of x.id (spell a y notes)) ((lead a.cause x).notes x.id) ∙ spell_own a y x.id notes about)
+    notes_append x.id (if is_author a.cause x then answer (request_of a.cause) x else []) (spell a dropped y notes)
+    ∙ (ap (λ more. more ++ notes_of x.id (spell a dropped y notes)) ((lead a.cause x).notes x.id) ∙ spell_own a dropped y x.id notes about)
 
-pub part_other : (a : Around) (notes : List Decision) (x : Client) (d : List ℕ) → bytes_eq d x.id ≡ false → AllAbout x.id notes → notes_of d (part a notes x) ≡ []
-part_other a notes x d away about =
+pub part_other : (a : Around) (dropped : List Release) (notes : List Decision) (x : Client) (d : List ℕ) → bytes_eq d x.id ≡ false → AllAbout x.id notes → notes_of d (part a dropped notes x) ≡ []
+part_other a dropped notes x d away about =
     let y = start_by a x in
-    notes_append d (if is_author a.cause x then answer a.cause x else []) (spell a y notes)
-    ∙ (ap (λ more. more ++ notes_of d (spell a y notes)) ((lead a.cause x).notes d) ∙ spell_other a y x.id d notes away about)
+    notes_append d (if is_author a.cause x then answer (request_of a.cause) x else []) (spell a dropped y notes)
+    ∙ (ap (λ more. more ++ notes_of d (spell a dropped y notes)) ((lead a.cause x).notes d) ∙ spell_other a dropped y x.id d notes away about)
 
-pub part_exits : (a : Around) (notes : List Decision) (x : Client) → AllAbout x.id notes → exits_in (part a notes x) ≡ []
-part_exits a notes x about =
+pub part_exits : (a : Around) (dropped : List Release) (notes : List Decision) (x : Client) → AllAbout x.id notes → exits_in (part a dropped notes x) ≡ []
+part_exits a dropped notes x about =
     let y = start_by a x in
-    exits_append (if is_author a.cause x then answer a.cause x else []) (spell a y notes)
-    ∙ (ap (λ more. more ++ exits_in (spell a y notes)) (lead a.cause x).exits ∙ spell_exits a y x.id notes about)
+    exits_append (if is_author a.cause x then answer (request_of a.cause) x else []) (spell a dropped y notes)
+    ∙ (ap (λ more. more ++ exits_in (spell a dropped y notes)) (lead a.cause x).exits ∙ spell_exits a dropped y x.id notes about)
 
 -- what a client's part asks for is what its notes ask for
-spell_asks : (a : Around) (x : Client) (p : Publish) (notes : List Decision) → asked_all p (spell a x notes) ≡ asked_by_all p notes
-spell_asks a x p [] = refl
-spell_asks a x p (said ∷ notes) =
+spell_asks : (a : Around) (dropped : List Release) (x : Client) (p : Option Publish) (notes : List Decision) → asked_all p (spell a dropped x notes) ≡ asked_by_all p notes
+spell_asks a dropped x p [] = refl
+spell_asks a dropped x p (said ∷ notes) =
     let y = note_by a said x in
-    ap (λ more. asked_by said p ++ more)
-    (asks_append p (frames_of a x said) (spell a y notes) ∙ (ap (λ more. more ++ asked_all p (spell a y notes)) ((mute_frames a x said).asks p) ∙ spell_asks a y p notes))
+    ap (λ more. asked_by p said ++ more)
+    (asks_append p (frames_of a dropped x said) (spell a dropped y notes) ∙ (ap (λ more. more ++ asked_all p (spell a dropped y notes)) ((mute_frames a dropped x said).asks p) ∙ spell_asks a dropped y p notes))
 
-pub part_asks : (a : Around) (notes : List Decision) (x : Client) (p : Publish) → asked_all p (part a notes x) ≡ asked_by_all p notes
-part_asks a notes x p =
+pub part_asks : (a : Around) (dropped : List Release) (notes : List Decision) (x : Client) (p : Option Publish) → asked_all p (part a dropped notes x) ≡ asked_by_all p notes
+part_asks a dropped notes x p =
     let y = start_by a x in
-    asks_append p (if is_author a.cause x then answer a.cause x else []) (spell a y notes)
-    ∙ (ap (λ more. more ++ asked_all p (spell a y notes)) ((lead a.cause x).asks p) ∙ spell_asks a y p notes)
+    asks_append p (if is_author a.cause x then answer (request_of a.cause) x else []) (spell a dropped y notes)
+    ∙ (ap (λ more. more ++ asked_all p (spell a dropped y notes)) ((lead a.cause x).asks p) ∙ spell_asks a dropped y p notes)

@@ -1,6 +1,8 @@
 -- The notes that a cause fixes of a client speak of that client.
-use Rattle.std.proofs.Common.{ℕ, Bool, true, false, List, [], ◌∷◌, refl}
-use Rattle.std.specs.Prelude.{if◌then◌else◌}
+use Rattle.std.proofs.Common.{ℕ, Bool, true, false, List, [], ◌∷◌, ◌++◌, refl}
+use Rattle.std.specs.Prelude.{if◌then◌else◌, Option, Some, None}
+use Rattle.sng_grants.specs.declared.policy.Policy.{Policy}
+use Rattle.sng_fan.specs.declared.held.Held.{Held}
 use Rattle.std.specs.Str.{bytes_eq}
 use Rattle.sng_frames.specs.declared.frame.SnFrame.{SnFrame}
 use Rattle.sng_frames.specs.declared.frame.SnFrame.TheVariants as frame
@@ -9,17 +11,20 @@ use Rattle.sng_book.specs.declared.decision.Decision.{Decision}
 use Rattle.sng_book.specs.declared.decision.Decision.TheVariants as note
 use Rattle.sng_book.specs.declared.decision.Who.TheVariants as who
 use Rattle.sng_book.specs.declared.outcome.Denial.{Denial}
-use Rattle.sng_book.specs.declared.outcome.Denial.TheVariants.{NotSupported}
+use Rattle.sng_book.specs.declared.outcome.Denial.TheVariants.{NotSupported, BrokerRefused}
 use Rattle.sng_book.specs.declared.outcome.Outcome.{Outcome}
 use Rattle.sng_book.specs.declared.outcome.Outcome.TheVariants.{Allowed, Denied}
-use Rattle.sng_history.specs.Causes.{Cause, ByConnect, ByPing, ByLeave, BySource, ByRegister, ByPublish, ByUnsupported, ByBroken, ByPacket, ByUp, ByDown, ByTake, ByReplace, ByTick}
+use Rattle.sng_history.specs.Causes.{Request, ToPing, ToLeave, ToRegister, ToPublish, ToSubscribe, ToUnsubscribe, Untaken, Cause}
+use Rattle.sng_history.specs.Causes.{ByConnect, ByMessage, BySource, ByBroken, ByPacket, ByUp, ByDown, ByTake, ByReplace, ByTick}
 use Rattle.sng_history.specs.Clients.{Client, is_here}
 use Rattle.sng_history.specs.State.{State}
-use Rattle.sng_history.specs.Verdicts.{entry, ping_verdict, register_ask, publish_ask}
+use Rattle.sng_history.specs.Packets.{answer_of, refused_filter}
+use Rattle.sng_history.specs.Standing.{holds}
+use Rattle.sng_history.specs.Verdicts.{entry, ping_verdict, coverage}
 use Rattle.sng_history.specs.Answers.{denied_note}
-use Rattle.sng_history.specs.Lawful.{denial_of, fixed_for}
+use Rattle.sng_history.specs.Lawful.{denial_of, fixed_to, end_of, ends_under, refused_end, fixed_for}
 use Rattle.sng_history.proofs.Spelled.{About, AllAbout}
-use Rattle.sng_history.proofs.Asks.{of_register, of_publish}
+use Rattle.sng_history.proofs.Asks.{of_register, of_publish, of_subscribe, of_unsubscribe}
 
 about_denied : (c : List ℕ) (message : SnFrame) (rule : Denial) → About c (denied_note message (who.Client c) rule)
 about_denied c (frame.Connect connect) rule = record { of = λ d. refl; stays = refl }
@@ -56,6 +61,13 @@ about_frame c outcome = record { of = λ d. refl; stays = refl }
 about_connect : (c : List ℕ) (outcome : Outcome) → About c (note.Connect c outcome)
 about_connect c outcome = record { of = λ d. refl; stays = refl }
 
+about_ended : (c filter : List ℕ) (rule : Denial) → About c (note.End c filter (Denied rule))
+about_ended c filter rule = record { of = λ d. refl; stays = refl }
+
+about_end : (c filter : List ℕ) (outcome : Outcome) (notes : List Decision) → AllAbout c notes → AllAbout c (end_of c filter outcome ++ notes)
+about_end c filter Allowed notes about = about
+about_end c filter (Denied rule) notes about = (about_ended c filter rule, about)
+
 about_denial : (c : List ℕ) (outcome : Outcome) → AllAbout c (denial_of c outcome)
 about_denial c Allowed = tt
 about_denial c (Denied rule) = (about_frame c (Denied rule), tt)
@@ -69,20 +81,31 @@ about_entry : (same : Bool) (c : List ℕ) (outcome : Outcome) (b : Bool)
 about_entry true c outcome b = (about_connect c outcome, tt)
 about_entry false c outcome b = about_if (is_allowed outcome) c (if b then note.Left c ∷ [] else []) (about_if b c (note.Left c ∷ []) (about_left c, tt))
 
+about_ends : (policy : Policy) (c : List ℕ) (held : List Held) → AllAbout c (ends_under policy c held)
+about_ends policy c [] = tt
+about_ends policy c (h ∷ held) = about_end c h.filter (coverage policy c h.filter) (ends_under policy c held) (about_ends policy c held)
+
+about_refused : (x : Client) (filter : Option (List ℕ)) → AllAbout x.id (refused_end x filter)
+about_refused x None = tt
+about_refused x (Some filter) = about_if (holds filter x) x.id (note.End x.id filter (Denied BrokerRefused) ∷ []) (about_ended x.id filter BrokerRefused, tt)
+
+told_to : (s : State) (request : Request) (x : Client) → AllAbout x.id (fixed_to s request x)
+told_to s (ToPing client) x = about_denial x.id (ping_verdict client x)
+told_to s ToLeave x = (about_left x.id, tt)
+told_to s (ToRegister r) x = (of_register (About x.id) s.policy x r.name (λ name o. record { of = λ d. refl; stays = refl }), tt)
+told_to s (ToPublish p) x = (of_publish (About x.id) s x p (λ name o. record { of = λ d. refl; stays = refl }), tt)
+told_to s (ToSubscribe r) x = (of_subscribe (About x.id) s x r (λ filter o. record { of = λ d. refl; stays = refl }), tt)
+told_to s (ToUnsubscribe r) x = (of_unsubscribe (About x.id) s.policy x r (λ filter o. record { of = λ d. refl; stays = refl }), tt)
+told_to s (Untaken message) x = (about_denied x.id message NotSupported, tt)
+
 pub tells : (s : State) (c : Cause) (x : Client) → AllAbout x.id (fixed_for s c x)
 tells s (ByConnect from connect) x = about_entry (bytes_eq connect.client_id x.id) x.id (entry s connect) (is_here x from)
-tells s (ByPing from client) x = about_if (is_here x from) x.id (denial_of x.id (ping_verdict client x)) (about_denial x.id (ping_verdict client x))
-tells s (ByLeave from) x = about_if (is_here x from) x.id (note.Left x.id ∷ []) (about_left x.id, tt)
-tells s (ByRegister from r) x =
-    about_if (is_here x from) x.id (register_ask s.policy x r.name ∷ []) (of_register (About x.id) s.policy x r.name (λ name o. record { of = λ d. refl; stays = refl }), tt)
-tells s (ByPublish from p) x =
-    about_if (is_here x from) x.id (publish_ask s x p ∷ []) (of_publish (About x.id) s x p (λ name o. record { of = λ d. refl; stays = refl }), tt)
-tells s (ByUnsupported from message) x = about_if (is_here x from) x.id (denied_note message (who.Client x.id) NotSupported ∷ []) (about_denied x.id message NotSupported, tt)
+tells s (ByMessage from request) x = about_if (is_here x from) x.id (fixed_to s request x) (told_to s request x)
 tells s (ByBroken from rule) x = about_if (is_here x from) x.id (note.Frame (who.Client x.id) (Denied rule) ∷ []) (about_frame x.id (Denied rule), tt)
+tells s (ByPacket p) x = about_refused x (refused_filter s.link (answer_of p))
+tells s (ByReplace policy) x = about_ends policy x.id x.filters
 tells s (BySource from p) x = tt
-tells s (ByPacket p) x = tt
 tells s ByUp x = tt
 tells s ByDown x = tt
 tells s ByTake x = tt
-tells s (ByReplace policy) x = tt
 tells s (ByTick clock) x = tt

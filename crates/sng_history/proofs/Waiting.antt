@@ -1,6 +1,6 @@
--- What waits for the broker after a step is publishes and acknowledgements, and no more publishes at QoS 1 wait or are in flight than may.
+-- What waits for the broker after a step is no PINGREQ, and no more publishes at QoS 1 wait or are in flight than may.
 use Rattle.std.proofs.Common.{◌≡◌, ◌≤◌, ◌<◌, ◌+◌, ℕ, Bool, true, false, List, [], ◌∷◌, ◌++◌, length, refl, ap, sym, ◌∙◌, subst, arith, ◌⊎◌, inl, inr}
-use Rattle.std.specs.Prelude.{if◌then◌else◌, ◌&&◌, nat_lt, count_by, Option, Some, None, Ok, Err}
+use Rattle.std.specs.Prelude.{if◌then◌else◌, ◌&&◌, nat_lt, count_by, map, take, Option, Some, None, Ok, Err}
 use Rattle.std.specs.declared.result.Result.{Result}
 use Rattle.std.specs.List.{flat_map}
 use Rattle.std.proofs.lemmas.List.{append-nil}
@@ -30,18 +30,20 @@ use Rattle.sng_book.specs.declared.outcome.Place.TheVariants as place
 use Rattle.sng_book.specs.declared.outcome.Outcome.{Outcome}
 use Rattle.sng_book.specs.declared.outcome.Outcome.TheVariants.{Allowed, Denied}
 use Rattle.sng_book.specs.Denials.{is_allowed}
-use Rattle.sng_history.specs.Causes.{Cause, ByConnect, ByPing, ByLeave, BySource, ByRegister, ByPublish, ByUnsupported, ByBroken, ByPacket, ByUp, ByDown, ByTake, ByReplace, ByTick}
+use Rattle.sng_history.specs.Causes.{Request, ToPing, ToLeave, ToRegister, ToPublish, ToSubscribe, ToUnsubscribe, Untaken, Cause, publish_asked}
+use Rattle.sng_history.specs.Causes.{ByConnect, ByMessage, BySource, ByBroken, ByPacket, ByUp, ByDown, ByTake, ByReplace, ByTick}
 use Rattle.sng_history.specs.Clients.{Client, is_here}
-use Rattle.sng_history.specs.Links.{Link, next_packet_id, sent_by, exited, link_after, still_in_flight}
-use Rattle.sng_history.specs.Packets.{Answer, Delivers, Acknowledges, Confirms, Strange, answer_of, owed, has_place, acknowledgement, acknowledgements, answered}
-use Rattle.sng_history.specs.State.{State, item_for, item_asked, asked_by, qos_of, link_moved}
+use Rattle.sng_history.specs.Links.{Link, wants, next_packet_id, sent_by, exited, link_after, still_in_flight, resumed, filters_wanted, subscribe_sent, subscribes_sent, subscribe_left, unsubscribe_left}
+use Rattle.sng_history.specs.Packets.{Answer, Delivers, Acknowledges, Grants, Refuses, Confirms, Strange, answer_of, owed, has_place, acknowledgement, acknowledgements, answered}
+use Rattle.sng_history.specs.State.{State, item_for, item_asked, publish_item, subscribe_item, asked_by, qos_of, waiting_by, link_moved}
+use Rattle.sng_history.specs.Standing.{Release, released, places_left, unsubscribes}
 use Rattle.sng_history.specs.Verdicts.{exit, and_then, has_flight, room_in, room, verdict, named_ask, source_ask, name_in, may_ask, publish_named, publish_by, publish_ask}
 use Rattle.sng_history.specs.Exits.{exits_of}
 use Rattle.sng_history.specs.Lawful.{fixed_for, exits_for}
-use Rattle.sng_history.specs.Steps.{asked_by_all, waiting_next}
+use Rattle.sng_history.specs.Steps.{asked_by_all, asked_for, clients_next}
 use Rattle.sng_history.specs.Good.{Each, Apart, OnePlace, AllPlain}
 
--- ---- what waits is publishes and acknowledgements
+-- ---- what waits is no PINGREQ
 
 plain_append : (xs ys : List Item) → AllPlain xs → AllPlain ys → AllPlain (xs ++ ys)
 plain_append [] ys one two = two
@@ -50,8 +52,8 @@ plain_append (x ∷ xs) ys one two = (one.0, plain_append xs ys one.1 two)
 plain_publishes : (items : List Item) → AllPlain items → AllPlain (publishes items)
 plain_publishes [] all = tt
 plain_publishes (item.Publish p ∷ items) all = (all.0, plain_publishes items all.1)
-plain_publishes (item.Subscribe filter ∷ items) all = absurd all.0
-plain_publishes (item.Unsubscribe filter ∷ items) all = absurd all.0
+plain_publishes (item.Subscribe filter ∷ items) all = plain_publishes items all.1
+plain_publishes (item.Unsubscribe filter ∷ items) all = plain_publishes items all.1
 plain_publishes (item.Acknowledge packet_id ∷ items) all = plain_publishes items all.1
 plain_publishes (item.Ping ∷ items) all = absurd all.0
 
@@ -70,13 +72,23 @@ plain_ask (who.Client client) None o p = tt
 plain_ask (who.Address address) name o p = tt
 plain_ask who.Broker name o p = tt
 
-plain_said : (said : Decision) (p : Publish) → AllPlain (asked_by said p)
-plain_said (note.Publish whom name o) p = plain_ask whom name o p
-plain_said _ p = tt
+plain_publish : (whom : Who) (name : Option (List ℕ)) (o : Outcome) (p : Option Publish) → AllPlain (publish_item whom name o p)
+plain_publish whom name o None = tt
+plain_publish whom name o (Some p) = plain_ask whom name o p
 
-plain_all : (p : Publish) (notes : List Decision) → AllPlain (asked_by_all p notes)
+plain_subscribe : (filter : Option (List ℕ)) (o : Outcome) → AllPlain (subscribe_item filter o)
+plain_subscribe (Some filter) Allowed = (tt, tt)
+plain_subscribe (Some filter) (Denied rule) = tt
+plain_subscribe None o = tt
+
+plain_said : (p : Option Publish) (said : Decision) → AllPlain (asked_by p said)
+plain_said p (note.Publish whom name o) = plain_publish whom name o p
+plain_said p (note.Subscribe whom filter o) = plain_subscribe filter o
+plain_said p _ = tt
+
+plain_all : (p : Option Publish) (notes : List Decision) → AllPlain (asked_by_all p notes)
 plain_all p [] = tt
-plain_all p (said ∷ notes) = plain_append (asked_by said p) (asked_by_all p notes) (plain_said said p) (plain_all p notes)
+plain_all p (said ∷ notes) = plain_append (asked_by p said) (asked_by_all p notes) (plain_said p said) (plain_all p notes)
 
 plain_flat : (f : Client → List Item) (xs : List Client) → ((x : Client) → AllPlain (f x)) → AllPlain (flat_map f xs)
 plain_flat f [] each = tt
@@ -89,25 +101,41 @@ plain_owed place (Some packet_id) = plain_if place (item.Acknowledge packet_id �
 plain_answer : (up : Bool) (link : Link) (a : Answer) → AllPlain (acknowledgements up link a)
 plain_answer up link (Delivers p) = plain_owed (has_place link) (owed up p)
 plain_answer up link (Acknowledges packet_id) = tt
+plain_answer up link (Grants packet_id) = tt
+plain_answer up link (Refuses packet_id) = tt
 plain_answer up link Confirms = tt
 plain_answer up link Strange = tt
 
+plain_released : (rs : List Release) → AllPlain (map (λ r. item.Unsubscribe r.filter) rs)
+plain_released [] = tt
+plain_released (r ∷ rs) = (tt, plain_released rs)
+
+abbrev let_go : State → List Client → List Item
+let_go s after = unsubscribes s.link (released s.clients after)
+
+plain_let_go : (s : State) (after : List Client) → AllPlain (let_go s after)
+plain_let_go s after = plain_released (take (places_left s.link) (released s.clients after))
+
+-- what waits after a step
+abbrev pub waiting_next : State → Cause → List Item
+waiting_next s c = waiting_by s c (asked_for s c) (clients_next s c)
+
 pub plain_next : (s : State) (c : Cause) → AllPlain s.link.waiting → AllPlain (waiting_next s c)
-plain_next s (ByConnect from connect) all = all
-plain_next s (ByPing from client) all = all
-plain_next s (ByLeave from) all = all
-plain_next s (BySource from p) all = plain_append s.link.waiting (asked_by (source_ask s from.ip p) p) all (plain_said (source_ask s from.ip p) p)
-plain_next s (ByRegister from r) all = all
-plain_next s (ByPublish from p) all =
-    let adds : Client → List Item = λ x. asked_by_all p (fixed_for s (ByPublish from p) x) in
-    plain_append s.link.waiting (flat_map adds s.clients) all (plain_flat adds s.clients (λ x. plain_all p (fixed_for s (ByPublish from p) x)))
-plain_next s (ByUnsupported from message) all = all
+plain_next s (ByConnect from connect) all =
+    let after = clients_next s (ByConnect from connect) in plain_append s.link.waiting (let_go s after) all (plain_let_go s after)
+plain_next s (ByMessage from request) all =
+    let c = ByMessage from request in
+    let adds : Client → List Item = λ x. asked_by_all (publish_asked request) (fixed_for s c x) in
+    plain_append s.link.waiting (asked_for s c ++ let_go s (clients_next s c)) all
+    (plain_append (asked_for s c) (let_go s (clients_next s c)) (plain_flat adds s.clients (λ x. plain_all (publish_asked request) (fixed_for s c x))) (plain_let_go s (clients_next s c)))
+plain_next s (BySource from p) all = plain_append s.link.waiting (asked_by (Some p) (source_ask s from.ip p)) all (plain_said (Some p) (source_ask s from.ip p))
 plain_next s (ByBroken from rule) all = all
 plain_next s (ByPacket p) all = plain_append s.link.waiting (acknowledgements s.up s.link (answer_of p)) all (plain_answer s.up s.link (answer_of p))
 plain_next s ByUp all = plain_if s.up (publishes s.link.waiting) s.link.waiting (plain_publishes s.link.waiting all) all
 plain_next s ByDown all = plain_publishes s.link.waiting all
 plain_next s ByTake all = plain_if s.up [] s.link.waiting tt all
-plain_next s (ByReplace policy) all = all
+plain_next s (ByReplace policy) all =
+    let after = clients_next s (ByReplace policy) in plain_append s.link.waiting (let_go s after) all (plain_let_go s after)
 plain_next s (ByTick clock) all = all
 
 -- ---- how many of them ask for an acknowledgement
@@ -131,11 +159,11 @@ unasked : (asker : Origin) (name : List ℕ) (p : Publish) (b : Bool) → acks (
 unasked asker name p true = refl
 unasked asker name p false = refl
 
-named_acks : (s : State) (source : List ℕ) (p : Publish) (named : Result (List ℕ) Denial) → acks (asked_by (named_ask s source named) p) ≡ 0
+named_acks : (s : State) (source : List ℕ) (p : Publish) (named : Result (List ℕ) Denial) → acks (asked_by (Some p) (named_ask s source named)) ≡ 0
 named_acks s source p (Ok name) = unasked (origin.Source source) name p (is_allowed (verdict s (origin.Source source) name AtMostOnce))
 named_acks s source p (Err rule) = refl
 
-source_acks : (s : State) (source : List ℕ) (p : Publish) (listed : Bool) → lists_source s.policy source ≡ listed → acks (asked_by (source_ask s source p) p) ≡ 0
+source_acks : (s : State) (source : List ℕ) (p : Publish) (listed : Bool) → lists_source s.policy source ≡ listed → acks (asked_by (Some p) (source_ask s source p)) ≡ 0
 source_acks s source p true is = rw is (named_acks s source p (name_in s.policy None p.flags.id_type p.topic_id))
 source_acks s source p false is = rw is refl
 
@@ -144,7 +172,8 @@ source_acks s source p false is = rw is refl
 within : (n : ℕ) → nat_lt n MAX_IN_FLIGHT ≡ true → n < MAX_IN_FLIGHT
 within n is = grind (arith, nat_tests)
 
-allowed_second : (a b : Outcome) → and_then a b ≡ Allowed → b ≡ Allowed
+-- the second of two verdicts allows what both do
+pub allowed_second : (a b : Outcome) → and_then a b ≡ Allowed → b ≡ Allowed
 allowed_second Allowed b is = is
 allowed_second (Denied rule) b is = absurd cc
 
@@ -152,7 +181,8 @@ has_it : (has fits : Bool) → (if has then (if fits then Allowed else Denied (F
 has_it true fits is = refl
 has_it false fits is = absurd cc
 
-up_room : (up : Bool) (o : Outcome) → (if up then o else Denied UpstreamDown) ≡ Allowed → o ≡ Allowed
+-- and so does the room of a connection that is up
+pub up_room : (up : Bool) (o : Outcome) → (if up then o else Denied UpstreamDown) ≡ Allowed → o ≡ Allowed
 up_room true o is = is
 up_room false o is = absurd cc
 
@@ -178,18 +208,18 @@ Fits s items = acks items + (acks s.link.waiting + length s.link.in_flight) ≤ 
 fits_none : (s : State) → Few s.link.waiting s.link.in_flight → Fits s []
 fits_none s few = omega (arith, few)
 
-named_fits : (s : State) (x : Client) (p : Publish) (named : Result (List ℕ) Denial) → Few s.link.waiting s.link.in_flight → Fits s (asked_by (publish_named s x (qos_of p.flags.qos) named) p)
+named_fits : (s : State) (x : Client) (p : Publish) (named : Result (List ℕ) Denial) → Few s.link.waiting s.link.in_flight → Fits s (asked_by (Some p) (publish_named s x (qos_of p.flags.qos) named))
 named_fits s x p (Ok name) few =
     let q = qos_of p.flags.qos in
     item_acks (origin.Client x.id) name q p (verdict s (origin.Client x.id) name q) (acks s.link.waiting + length s.link.in_flight) few (verdict_room s (origin.Client x.id) name q)
 named_fits s x p (Err rule) few = fits_none s few
 
-judged_fits : (s : State) (x : Client) (p : Publish) (may : Outcome) → Few s.link.waiting s.link.in_flight → Fits s (asked_by (publish_by s x p may) p)
+judged_fits : (s : State) (x : Client) (p : Publish) (may : Outcome) → Few s.link.waiting s.link.in_flight → Fits s (asked_by (Some p) (publish_by s x p may))
 judged_fits s x p Allowed few = named_fits s x p (name_in s.policy (Some x.ids) p.flags.id_type p.topic_id) few
 judged_fits s x p (Denied rule) few = fits_none s few
 
-one_fits : (s : State) (x : Client) (p : Publish) (here : Bool) → Few s.link.waiting s.link.in_flight → Fits s (asked_by_all p (if here then publish_ask s x p ∷ [] else []))
-one_fits s x p true few = subst (Fits s) (sym (append-nil (asked_by (publish_ask s x p) p))) (judged_fits s x p (may_ask s.policy x) few)
+one_fits : (s : State) (x : Client) (p : Publish) (here : Bool) → Few s.link.waiting s.link.in_flight → Fits s (asked_by_all (Some p) (if here then publish_ask s x p ∷ [] else []))
+one_fits s x p true few = subst (Fits s) (sym (append-nil (asked_by (Some p) (publish_ask s x p)))) (judged_fits s x p (may_ask s.policy x) few)
 one_fits s x p false few = fits_none s few
 
 -- of those at the address there is one at most
@@ -228,6 +258,8 @@ without_less (sent ∷ flights) packet_id = less_by (has_id packet_id sent) sent
 answered_less : (link : Link) (a : Answer) → length (answered link a).in_flight ≤ length link.in_flight
 answered_less link (Acknowledges packet_id) = without_less link.in_flight packet_id
 answered_less link (Delivers p) = omega arith
+answered_less link (Grants packet_id) = omega arith
+answered_less link (Refuses packet_id) = omega arith
 answered_less link Confirms = omega arith
 answered_less link Strange = omega arith
 
@@ -249,13 +281,28 @@ exited_more : (link : Link) (p : Publication) (o : Outcome) → length (exited l
 exited_more link p Allowed = sent_more link p p.qos
 exited_more link p (Denied rule) = omega arith
 
+-- subscriptions leave what is in flight as it is
+subscribe_flights : (link : Link) (filter : List ℕ) (b : Bool) → wants link.wanted filter ≡ b → (subscribe_left link filter).in_flight ≡ link.in_flight
+subscribe_flights link filter true is = rw is refl
+subscribe_flights link filter false is = rw is refl
+
+unsubscribe_flights : (link : Link) (filter : List ℕ) (b : Bool) → wants link.wanted filter ≡ b → (unsubscribe_left link filter).in_flight ≡ link.in_flight
+unsubscribe_flights link filter true is = rw is refl
+unsubscribe_flights link filter false is = rw is refl
+
+pub subscribes_flights : (link : Link) (filters : List (List ℕ)) → (subscribes_sent link filters).in_flight ≡ link.in_flight
+subscribes_flights link [] = refl
+subscribes_flights link (filter ∷ filters) = subscribes_flights (subscribe_sent link filter) filters
+
 after_more : (link : Link) (items : List Item) (outcomes : List Outcome) → length (link_after link items outcomes).in_flight ≤ acks items + length link.in_flight
 after_more link [] outcomes = omega arith
 after_more link (item.Publish p ∷ items) [] = omega arith
 after_more link (item.Publish p ∷ items) (o ∷ outcomes) =
     omega (arith, exited_more link p o, after_more (exited link p o) items outcomes, counted-front (item.Publish p) items)
-after_more link (item.Subscribe filter ∷ items) outcomes = omega (arith, after_more link items outcomes, counted-front (item.Subscribe filter) items)
-after_more link (item.Unsubscribe filter ∷ items) outcomes = omega (arith, after_more link items outcomes, counted-front (item.Unsubscribe filter) items)
+after_more link (item.Subscribe filter ∷ items) outcomes =
+    omega (arith, after_more (subscribe_left link filter) items outcomes, ap length (subscribe_flights link filter (wants link.wanted filter) refl), counted-front (item.Subscribe filter) items)
+after_more link (item.Unsubscribe filter ∷ items) outcomes =
+    omega (arith, after_more (unsubscribe_left link filter) items outcomes, ap length (unsubscribe_flights link filter (wants link.wanted filter) refl), counted-front (item.Unsubscribe filter) items)
 after_more link (item.Acknowledge packet_id ∷ items) outcomes = omega (arith, after_more link items outcomes, counted-front (item.Acknowledge packet_id) items)
 after_more link (item.Ping ∷ items) outcomes = omega (arith, after_more link items outcomes, counted-front item.Ping items)
 
@@ -269,6 +316,8 @@ owed_acks false (Some packet_id) = refl
 answer_acks : (up : Bool) (link : Link) (a : Answer) → acks (acknowledgements up link a) ≡ 0
 answer_acks up link (Delivers p) = owed_acks (has_place link) (owed up p)
 answer_acks up link (Acknowledges packet_id) = refl
+answer_acks up link (Grants packet_id) = refl
+answer_acks up link (Refuses packet_id) = refl
 answer_acks up link Confirms = refl
 answer_acks up link Strange = refl
 
@@ -280,28 +329,79 @@ take_few : (s : State) (up : Bool) → s.up ≡ up → Few s.link.waiting s.link
 take_few s true is few = rw is (omega (arith, few, after_more s.link s.link.waiting (exits_of s.policy s.link.waiting)))
 take_few s false is few = rw is few
 
-publish_few : (s : State) (from : Address) (p : Publish) → OnePlace s.clients → Few s.link.waiting s.link.in_flight → Few (waiting_next s (ByPublish from p)) s.link.in_flight
-publish_few s from p places few =
-    let adds : Client → List Item = λ x. asked_by_all p (fixed_for s (ByPublish from p) x) in
-    more s.link.waiting (flat_map adds s.clients) (length s.link.in_flight)
-    (all_fit s adds s.clients few (λ x. one_fits s x p (is_here x from) few) (sole from adds s.clients (λ y off. rw off refl) places))
+-- only a PUBLISH of QoS 1 asks for an acknowledgement
+item_none : (filter : Option (List ℕ)) (o : Outcome) → acks (subscribe_item filter o) ≡ 0
+item_none (Some filter) Allowed = refl
+item_none (Some filter) (Denied rule) = refl
+item_none None o = refl
+
+said_none : (said : Decision) → acks (asked_by None said) ≡ 0
+said_none (note.Subscribe whom filter o) = item_none filter o
+said_none _ = refl
+
+all_none : (notes : List Decision) → acks (asked_by_all None notes) ≡ 0
+all_none [] = refl
+all_none (said ∷ notes) = omega (arith, acks_append (asked_by None said) (asked_by_all None notes), said_none said, all_none notes)
+
+flat_none : (f : Client → List Item) (xs : List Client) → ((x : Client) → acks (f x) ≡ 0) → acks (flat_map f xs) ≡ 0
+flat_none f [] none = refl
+flat_none f (x ∷ xs) none = omega (arith, acks_append (f x) (flat_map f xs), none x, flat_none f xs none)
+
+released_none : (rs : List Release) → acks (map (λ r. item.Unsubscribe r.filter) rs) ≡ 0
+released_none [] = refl
+released_none (r ∷ rs) = omega (arith, counted-front (item.Unsubscribe r.filter) (map (λ q. item.Unsubscribe q.filter) rs), released_none rs)
+
+let_go_none : (s : State) (after : List Client) → acks (let_go s after) ≡ 0
+let_go_none s after = released_none (take (places_left s.link) (released s.clients after))
+
+abbrev AskedFits : State → Address → Request → Type 0
+AskedFits s from request = Fits s (asked_for s (ByMessage from request))
+
+unasked_fits : (s : State) (from : Address) (request : Request) → publish_asked request ≡ None → Few s.link.waiting s.link.in_flight → AskedFits s from request
+unasked_fits s from request none few =
+    let c = ByMessage from request in
+    let adds : Client → List Item = λ x. asked_by_all (publish_asked request) (fixed_for s c x) in
+    let quiet : acks (flat_map adds s.clients) ≡ 0 = flat_none adds s.clients (λ x. ap (λ p. acks (asked_by_all p (fixed_for s c x))) none ∙ all_none (fixed_for s c x)) in
+    omega (arith, quiet, few)
+
+asked_fits : (s : State) (from : Address) (request : Request) → OnePlace s.clients → Few s.link.waiting s.link.in_flight → AskedFits s from request
+asked_fits s from (ToPublish p) places few =
+    let adds : Client → List Item = λ x. asked_by_all (Some p) (fixed_for s (ByMessage from (ToPublish p)) x) in
+    all_fit s adds s.clients few (λ x. one_fits s x p (is_here x from) few) (sole from adds s.clients (λ y off. rw off refl) places)
+asked_fits s from (ToPing client) places few = unasked_fits s from (ToPing client) refl few
+asked_fits s from ToLeave places few = unasked_fits s from ToLeave refl few
+asked_fits s from (ToRegister r) places few = unasked_fits s from (ToRegister r) refl few
+asked_fits s from (ToSubscribe r) places few = unasked_fits s from (ToSubscribe r) refl few
+asked_fits s from (ToUnsubscribe r) places few = unasked_fits s from (ToUnsubscribe r) refl few
+asked_fits s from (Untaken message) places few = unasked_fits s from (Untaken message) refl few
+
+-- what the broker is told of filters that end needs no room among those
+go_few : (s : State) (after : List Client) → Few s.link.waiting s.link.in_flight → Few (s.link.waiting ++ let_go s after) s.link.in_flight
+go_few s after few = omega (arith, few, acks_append s.link.waiting (let_go s after), let_go_none s after)
+
+message_few : (s : State) (from : Address) (request : Request) → OnePlace s.clients → Few s.link.waiting s.link.in_flight → Few (waiting_next s (ByMessage from request)) s.link.in_flight
+message_few s from request places few =
+    let c = ByMessage from request in
+    let go = let_go s (clients_next s c) in
+    omega (arith, asked_fits s from request places few, acks_append s.link.waiting (asked_for s c ++ go), acks_append (asked_for s c) go, let_go_none s (clients_next s c))
+
+begun_few : (s : State) → Few s.link.waiting s.link.in_flight → Few (waiting_next s ByUp) (link_moved s ByUp (exits_for s ByUp)).in_flight
+begun_few s few =
+    let begun = resumed s.link s.clock (exits_for s ByUp) in
+    rw (subscribes_flights begun (filters_wanted s.link))
+    (up_few s.up s.link.waiting (length begun.in_flight) (length s.link.in_flight) (still_less s.link.in_flight (exits_for s ByUp)) few)
 
 pub few_next : (s : State) (c : Cause) → OnePlace s.clients → Few s.link.waiting s.link.in_flight → Few (waiting_next s c) (link_moved s c (exits_for s c)).in_flight
-few_next s (ByConnect from connect) places few = few
-few_next s (ByPing from client) places few = few
-few_next s (ByLeave from) places few = few
+few_next s (ByConnect from connect) places few = go_few s (clients_next s (ByConnect from connect)) few
+few_next s (ByMessage from request) places few = message_few s from request places few
 few_next s (BySource from p) places few =
-    more s.link.waiting (asked_by (source_ask s from.ip p) p) (length s.link.in_flight) (omega (arith, source_acks s from.ip p (lists_source s.policy from.ip) refl))
-few_next s (ByRegister from r) places few = few
-few_next s (ByPublish from p) places few = publish_few s from p places few
-few_next s (ByUnsupported from message) places few = few
+    more s.link.waiting (asked_by (Some p) (source_ask s from.ip p)) (length s.link.in_flight) (omega (arith, source_acks s from.ip p (lists_source s.policy from.ip) refl))
 few_next s (ByBroken from rule) places few = few
 few_next s (ByPacket p) places few =
     more s.link.waiting (acknowledgements s.up s.link (answer_of p)) (length (answered s.link (answer_of p)).in_flight)
     (omega (arith, answer_acks s.up s.link (answer_of p), answered_less s.link (answer_of p)))
-few_next s ByUp places few =
-    up_few s.up s.link.waiting (length (still_in_flight s.link.in_flight (exits_for s ByUp))) (length s.link.in_flight) (still_less s.link.in_flight (exits_for s ByUp)) few
+few_next s ByUp places few = begun_few s few
 few_next s ByDown places few = omega (arith, counted-publishes s.link.waiting)
 few_next s ByTake places few = take_few s s.up refl few
-few_next s (ByReplace policy) places few = few
+few_next s (ByReplace policy) places few = go_few s (clients_next s (ByReplace policy)) few
 few_next s (ByTick clock) places few = few

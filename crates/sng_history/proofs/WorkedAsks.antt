@@ -39,14 +39,14 @@ t2_utf8 = is_utf8-from_IsUtf8 (116 ∷ 47 ∷ 50 ∷ []) (IsUtf8-from_ascii (116
 abbrev up_one : State
 up_one = record opening { policy = one_listed; up = true }
 
-abbrev inside : State
+abbrev pub inside : State
 inside = after up_one (ByConnect home (hello s1)) (lets_in s1 ∷ welcome home ∷ [])
 
-inside_is : state_of opening (s1_home one_listed) ≡ inside
+pub inside_is : state_of opening (s1_home one_listed) ≡ inside
 inside_is = ap (λ c. after up_one c (lets_in s1 ∷ welcome home ∷ [])) (cause_s1 home)
 
 -- the state after one more row
-abbrev then : State → Event → List Out → State
+abbrev pub then : State → Event → List Out → State
 then s e outs = after s (cause_of e) outs
 
 abbrev knowing : State
@@ -74,7 +74,7 @@ abbrev answered : State → State
 answered s = then s (Broker (PublishAck 1)) []
 
 -- a row may come at a state that is known
-came : (h : List Row) (t : State) (e : Event) (outs : List Out) → state_of opening h ≡ t → LawfulRow t e outs → LawfulRow (state_of opening h) e outs
+pub came : (h : List Row) (t : State) (e : Event) (outs : List Out) → state_of opening h ≡ t → LawfulRow t e outs → LawfulRow (state_of opening h) e outs
 came h t e outs is l = subst (λ t. LawfulRow t e outs) (sym is) l
 
 told : Lawful opening told_t1

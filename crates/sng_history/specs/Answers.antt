@@ -1,11 +1,16 @@
 -- What a message is noted as where it is denied, and what answers it (MQTT-SN 1.2, 5.3.10 and 6.1 to 6.14).
-use Rattle.std.specs.Prelude.{ℕ, false, List, [], ◌∷◌, Option, Some, None}
+use Rattle.std.specs.Prelude.{ℕ, false, List, [], ◌∷◌, if◌then◌else◌, Option, Some, None}
+use Rattle.sng_text.specs.declared.qos.Qos.{Qos}
+use Rattle.sng_text.specs.declared.qos.Qos.TheVariants.{AtMostOnce, AtLeastOnce}
+use Rattle.sng_ids.specs.Ids.{Ids, id_for}
 use Rattle.sng_frames.specs.Writing.{written}
 use Rattle.sng_frames.specs.declared.flags.Flags.{Flags}
-use Rattle.sng_frames.specs.declared.flags.TopicIdType.TheVariants.{Normal}
+use Rattle.sng_frames.specs.declared.flags.TopicIdType.{TopicIdType}
+use Rattle.sng_frames.specs.declared.flags.TopicIdType.TheVariants.{Normal, Predefined, Short, Reserved}
 use Rattle.sng_frames.specs.declared.qos.FrameQos.{FrameQos}
 use Rattle.sng_frames.specs.declared.qos.FrameQos.TheVariants as qos
 use Rattle.sng_frames.specs.declared.messages.publish.Publish.{Publish}
+use Rattle.sng_frames.specs.declared.messages.subscribe.TopicRequest.{TopicRequest}
 use Rattle.sng_frames.specs.declared.frame.SnFrame.{SnFrame}
 use Rattle.sng_frames.specs.declared.frame.SnFrame.TheVariants as frame
 use Rattle.sng_frames.specs.declared.return_code.ReturnCode.{ReturnCode}
@@ -19,6 +24,7 @@ use Rattle.sng_book.specs.declared.outcome.Denial.TheVariants.{Malformed, NotSup
 use Rattle.sng_book.specs.declared.outcome.Outcome.TheVariants.{Denied}
 use Rattle.sng_book.specs.declared.out.Out.{Out}
 use Rattle.sng_book.specs.declared.out.Out.TheVariants.{Send}
+use Rattle.sng_history.specs.Requests.{granted, gets_id, id_in}
 
 -- a message that is denied before a name was read: an ask under its own kind, any other as a frame. A CONNECT has a row of its own
 abbrev pub denied_note : SnFrame → Who → Denial → Decision
@@ -116,6 +122,31 @@ puback to p qos.AtLeastOnce = Send to (written (frame.PublishAck (record { topic
 puback to p qos.AtMostOnce = []
 puback to p qos.ExactlyOnce = []
 puback to p qos.WithoutSession = []
+
+-- the SUBACK of a SUBSCRIBE that is allowed says the QoS that is granted, and the topic id: the predefined one that came, or the one that a
+-- name gets; a filter with wildcards and a name of two octets have none (MQTT-SN 1.2, 5.4.16)
+abbrev pub flags_of : Qos → Flags
+flags_of AtMostOnce = no_flags
+flags_of AtLeastOnce = record no_flags { qos = qos.AtLeastOnce }
+
+abbrev pub id_given : TopicIdType → List ℕ → Ids → List ℕ → ℕ
+id_given Predefined topic ids filter = id_in topic
+id_given Normal topic ids filter = if gets_id Normal filter then id_for filter ids else 0
+id_given Short topic ids filter = 0
+id_given Reserved topic ids filter = 0
+
+abbrev pub suback : Address → TopicRequest → Ids → List ℕ → Out
+suback to r ids filter =
+    Send to (written (frame.SubscribeAck (record {
+      flags = flags_of (granted r.flags.qos);
+      topic_id = id_given r.flags.id_type r.topic ids filter;
+      msg_id = r.msg_id;
+      code = ACCEPTED;
+    })))
+
+-- the UNSUBACK (MQTT-SN 1.2, 5.4.18)
+abbrev pub unsuback : Address → TopicRequest → Out
+unsuback to r = Send to (written (frame.UnsubscribeAck r.msg_id))
 
 -- a DISCONNECT says that there is no session at the address any more, or none at all (MQTT-SN 1.2, 6.14)
 abbrev pub dismissed : Address → Out

@@ -1,5 +1,5 @@
 -- What an event asks of the gateway: a datagram as the message that it holds (MQTT-SN 1.2, 5.4), anything else as it is. A message that
--- is taken one day is one more case here.
+-- is taken one day is one more case of a request.
 use Rattle.std.specs.Prelude.{ℕ, List, Option, Some, None, Ok, Err}
 use Rattle.std.specs.declared.result.Result.{Result}
 use Rattle.sng_grants.specs.declared.policy.Policy.{Policy}
@@ -12,6 +12,7 @@ use Rattle.sng_frames.specs.declared.qos.FrameQos.TheVariants as qos
 use Rattle.sng_frames.specs.declared.messages.connect.Connect.{Connect}
 use Rattle.sng_frames.specs.declared.messages.publish.Publish.{Publish}
 use Rattle.sng_frames.specs.declared.messages.register.Register.{Register}
+use Rattle.sng_frames.specs.declared.messages.subscribe.TopicRequest.{TopicRequest}
 use Rattle.sng_frames.specs.declared.frame.SnFrame.{SnFrame}
 use Rattle.sng_frames.specs.declared.frame.SnFrame.TheVariants as frame
 use Rattle.sng_book.specs.declared.address.Address.{Address}
@@ -20,21 +21,30 @@ use Rattle.sng_book.specs.declared.outcome.Denial.TheVariants.{Malformed, NotSup
 use Rattle.sng_book.specs.declared.event.Event.{Event}
 use Rattle.sng_book.specs.declared.event.Event.TheVariants as event
 
+-- what a message of a session is about, where it is no CONNECT
+pub data Request : Type 0 where
+  -- a PINGREQ, with the client's id where it has one
+  ToPing : Option (List ℕ) → Request
+  -- a DISCONNECT without Duration
+  ToLeave : Request
+  -- a REGISTER
+  ToRegister : Register → Request
+  -- a PUBLISH at QoS 0 or 1
+  ToPublish : Publish → Request
+  -- a SUBSCRIBE
+  ToSubscribe : TopicRequest → Request
+  -- an UNSUBSCRIBE
+  ToUnsubscribe : TopicRequest → Request
+  -- a message of a type or form that is not taken
+  Untaken : SnFrame → Request
+
 pub data Cause : Type 0 where
   -- a CONNECT came from the address
   ByConnect : Address → Connect → Cause
-  -- a PINGREQ, with the client's id where it has one
-  ByPing : Address → Option (List ℕ) → Cause
-  -- a DISCONNECT without Duration
-  ByLeave : Address → Cause
+  -- any other message of a session
+  ByMessage : Address → Request → Cause
   -- a PUBLISH without a session
   BySource : Address → Publish → Cause
-  -- a REGISTER
-  ByRegister : Address → Register → Cause
-  -- a PUBLISH of a session, at QoS 0 or 1
-  ByPublish : Address → Publish → Cause
-  -- a message of a type or form that is not taken
-  ByUnsupported : Address → SnFrame → Cause
   -- a datagram that is not a message, by the rule that it breaks
   ByBroken : Address → Denial → Cause
   -- a packet of the broker
@@ -54,39 +64,39 @@ rule_of fault.Memory = Malformed
 
 abbrev pub publish_cause : Address → Publish → FrameQos → Cause
 publish_cause from p qos.WithoutSession = BySource from p
-publish_cause from p qos.AtMostOnce = ByPublish from p
-publish_cause from p qos.AtLeastOnce = ByPublish from p
-publish_cause from p qos.ExactlyOnce = ByUnsupported from (frame.Publish p)
+publish_cause from p qos.AtMostOnce = ByMessage from (ToPublish p)
+publish_cause from p qos.AtLeastOnce = ByMessage from (ToPublish p)
+publish_cause from p qos.ExactlyOnce = ByMessage from (Untaken (frame.Publish p))
 
 abbrev pub disconnect_cause : Address → Option ℕ → Cause
-disconnect_cause from None = ByLeave from
-disconnect_cause from (Some duration) = ByUnsupported from (frame.Disconnect (Some duration))
+disconnect_cause from None = ByMessage from ToLeave
+disconnect_cause from (Some duration) = ByMessage from (Untaken (frame.Disconnect (Some duration)))
 
 abbrev pub frame_cause : Address → SnFrame → Cause
 frame_cause from (frame.Connect connect) = ByConnect from connect
 frame_cause from (frame.Publish p) = publish_cause from p p.flags.qos
-frame_cause from (frame.PingRequest client) = ByPing from client
+frame_cause from (frame.PingRequest client) = ByMessage from (ToPing client)
 frame_cause from (frame.Disconnect duration) = disconnect_cause from duration
-frame_cause from (frame.ConnectAck code) = ByUnsupported from (frame.ConnectAck code)
-frame_cause from frame.WillTopicRequest = ByUnsupported from frame.WillTopicRequest
-frame_cause from (frame.WillTopic topic) = ByUnsupported from (frame.WillTopic topic)
-frame_cause from frame.WillMessageRequest = ByUnsupported from frame.WillMessageRequest
-frame_cause from (frame.WillMessage message) = ByUnsupported from (frame.WillMessage message)
-frame_cause from (frame.Register register) = ByRegister from register
-frame_cause from (frame.RegisterAck answer) = ByUnsupported from (frame.RegisterAck answer)
-frame_cause from (frame.PublishAck answer) = ByUnsupported from (frame.PublishAck answer)
-frame_cause from (frame.PublishComplete id) = ByUnsupported from (frame.PublishComplete id)
-frame_cause from (frame.PublishReceived id) = ByUnsupported from (frame.PublishReceived id)
-frame_cause from (frame.PublishRelease id) = ByUnsupported from (frame.PublishRelease id)
-frame_cause from (frame.Subscribe request) = ByUnsupported from (frame.Subscribe request)
-frame_cause from (frame.SubscribeAck answer) = ByUnsupported from (frame.SubscribeAck answer)
-frame_cause from (frame.Unsubscribe request) = ByUnsupported from (frame.Unsubscribe request)
-frame_cause from (frame.UnsubscribeAck id) = ByUnsupported from (frame.UnsubscribeAck id)
-frame_cause from frame.PingResponse = ByUnsupported from frame.PingResponse
-frame_cause from (frame.WillTopicUpdate topic) = ByUnsupported from (frame.WillTopicUpdate topic)
-frame_cause from (frame.WillTopicResponse code) = ByUnsupported from (frame.WillTopicResponse code)
-frame_cause from (frame.WillMessageUpdate message) = ByUnsupported from (frame.WillMessageUpdate message)
-frame_cause from (frame.WillMessageResponse code) = ByUnsupported from (frame.WillMessageResponse code)
+frame_cause from (frame.ConnectAck code) = ByMessage from (Untaken (frame.ConnectAck code))
+frame_cause from frame.WillTopicRequest = ByMessage from (Untaken frame.WillTopicRequest)
+frame_cause from (frame.WillTopic topic) = ByMessage from (Untaken (frame.WillTopic topic))
+frame_cause from frame.WillMessageRequest = ByMessage from (Untaken frame.WillMessageRequest)
+frame_cause from (frame.WillMessage message) = ByMessage from (Untaken (frame.WillMessage message))
+frame_cause from (frame.Register register) = ByMessage from (ToRegister register)
+frame_cause from (frame.RegisterAck answer) = ByMessage from (Untaken (frame.RegisterAck answer))
+frame_cause from (frame.PublishAck answer) = ByMessage from (Untaken (frame.PublishAck answer))
+frame_cause from (frame.PublishComplete id) = ByMessage from (Untaken (frame.PublishComplete id))
+frame_cause from (frame.PublishReceived id) = ByMessage from (Untaken (frame.PublishReceived id))
+frame_cause from (frame.PublishRelease id) = ByMessage from (Untaken (frame.PublishRelease id))
+frame_cause from (frame.Subscribe request) = ByMessage from (ToSubscribe request)
+frame_cause from (frame.SubscribeAck answer) = ByMessage from (Untaken (frame.SubscribeAck answer))
+frame_cause from (frame.Unsubscribe request) = ByMessage from (ToUnsubscribe request)
+frame_cause from (frame.UnsubscribeAck id) = ByMessage from (Untaken (frame.UnsubscribeAck id))
+frame_cause from frame.PingResponse = ByMessage from (Untaken frame.PingResponse)
+frame_cause from (frame.WillTopicUpdate topic) = ByMessage from (Untaken (frame.WillTopicUpdate topic))
+frame_cause from (frame.WillTopicResponse code) = ByMessage from (Untaken (frame.WillTopicResponse code))
+frame_cause from (frame.WillMessageUpdate message) = ByMessage from (Untaken (frame.WillMessageUpdate message))
+frame_cause from (frame.WillMessageResponse code) = ByMessage from (Untaken (frame.WillMessageResponse code))
 
 abbrev pub datagram_cause : Address → Result SnFrame FrameFault → Cause
 datagram_cause from (Ok message) = frame_cause from message
@@ -100,3 +110,36 @@ cause_of event.Down = ByDown
 cause_of event.Take = ByTake
 cause_of (event.Replace policy) = ByReplace policy
 cause_of (event.Tick clock) = ByTick clock
+
+-- the PUBLISH of a session that the event holds, where it holds one
+abbrev pub publish_asked : Request → Option Publish
+publish_asked (ToPublish p) = Some p
+publish_asked (ToPing client) = None
+publish_asked ToLeave = None
+publish_asked (ToRegister r) = None
+publish_asked (ToSubscribe r) = None
+publish_asked (ToUnsubscribe r) = None
+publish_asked (Untaken message) = None
+
+-- the SUBSCRIBE
+abbrev pub subscribe_asked : Request → Option TopicRequest
+subscribe_asked (ToSubscribe r) = Some r
+subscribe_asked (ToPing client) = None
+subscribe_asked ToLeave = None
+subscribe_asked (ToRegister r) = None
+subscribe_asked (ToPublish p) = None
+subscribe_asked (ToUnsubscribe r) = None
+subscribe_asked (Untaken message) = None
+
+-- the message that it holds is about this
+abbrev pub request_of : Cause → Option Request
+request_of (ByMessage from request) = Some request
+request_of (ByConnect from connect) = None
+request_of (BySource from p) = None
+request_of (ByBroken from rule) = None
+request_of (ByPacket p) = None
+request_of ByUp = None
+request_of ByDown = None
+request_of ByTake = None
+request_of (ByReplace policy) = None
+request_of (ByTick clock) = None

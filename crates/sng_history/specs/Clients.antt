@@ -1,5 +1,6 @@
 -- One client of the gateway (MQTT-SN 1.2, 6.2 to 6.14): what is kept of it, and how an event and the notes of a row move it.
 use Rattle.std.specs.Prelude.{ℕ, ◌==◌, ◌&&◌, Bool, true, false, List, [], ◌∷◌, if◌then◌else◌, Option, Some, None}
+use Rattle.std.specs.Option.{option_and_then}
 use Rattle.std.specs.Str.{bytes_eq}
 use Rattle.sng_grants.specs.declared.policy.Policy.{Policy}
 use Rattle.sng_states.specs.declared.state.ClientState.{ClientState}
@@ -8,17 +9,20 @@ use Rattle.sng_states.specs.States.{has_session}
 use Rattle.sng_ids.specs.Ids.{Ids, id_for, with_name, confirmed}
 use Rattle.sng_queue.specs.Buffers.{Buffer, nothing}
 use Rattle.sng_fan.specs.declared.held.Held.{Held}
+use Rattle.sng_fan.specs.Subscriptions.{with_filter, without_filter}
 use Rattle.sng_wills.specs.Wills.{Wills}
 use Rattle.sng_wills.specs.declared.will.Stage.TheVariants.{Closed}
 use Rattle.sng_frames.specs.declared.messages.connect.Connect.{Connect}
+use Rattle.sng_frames.specs.declared.messages.subscribe.TopicRequest.{TopicRequest}
 use Rattle.sng_book.specs.declared.address.Address.{Address}
 use Rattle.sng_book.specs.declared.decision.Decision.{Decision}
 use Rattle.sng_book.specs.declared.decision.Decision.TheVariants as note
 use Rattle.sng_book.specs.declared.outcome.Outcome.{Outcome}
 use Rattle.sng_book.specs.declared.outcome.Outcome.TheVariants.{Allowed, Denied}
 use Rattle.sng_book.specs.Denials.{is_allowed}
-use Rattle.sng_history.specs.Causes.{Cause}
-use Rattle.sng_history.specs.Causes.{ByConnect, ByPing, ByLeave, BySource, ByRegister, ByPublish, ByUnsupported, ByBroken, ByPacket, ByUp, ByDown, ByTake, ByReplace, ByTick}
+use Rattle.sng_history.specs.Causes.{Cause, request_of, subscribe_asked}
+use Rattle.sng_history.specs.Causes.{ByConnect, ByMessage, BySource, ByBroken, ByPacket, ByUp, ByDown, ByTake, ByReplace, ByTick}
+use Rattle.sng_history.specs.Requests.{granted, gets_id}
 
 -- all that is kept of a client
 pub record Client : Type 0 where
@@ -70,12 +74,8 @@ blank id = record {
 -- the datagram came from where the client is; one of a source is nobody's
 abbrev pub is_from : Cause → Client → Bool
 is_from (ByConnect from connect) x = is_here x from
-is_from (ByPing from client) x = is_here x from
-is_from (ByLeave from) x = is_here x from
+is_from (ByMessage from request) x = is_here x from
 is_from (BySource from p) x = false
-is_from (ByRegister from r) x = is_here x from
-is_from (ByPublish from p) x = is_here x from
-is_from (ByUnsupported from frame) x = is_here x from
 is_from (ByBroken from rule) x = is_here x from
 is_from (ByPacket p) x = false
 is_from ByUp x = false
@@ -87,12 +87,8 @@ is_from (ByTick clock) x = false
 -- it is a message, by which the client is heard
 abbrev pub is_message : Cause → Bool
 is_message (ByConnect from connect) = true
-is_message (ByPing from client) = true
-is_message (ByLeave from) = true
+is_message (ByMessage from request) = true
 is_message (BySource from p) = false
-is_message (ByRegister from r) = true
-is_message (ByPublish from p) = true
-is_message (ByUnsupported from frame) = true
 is_message (ByBroken from rule) = false
 is_message (ByPacket p) = false
 is_message ByUp = false
@@ -124,12 +120,8 @@ let_in clock from connect x =
 
 abbrev pub entered_by : ℕ → Cause → Client → Client
 entered_by clock (ByConnect from connect) x = let_in clock from connect x
-entered_by clock (ByPing from client) x = x
-entered_by clock (ByLeave from) x = x
+entered_by clock (ByMessage from request) x = x
 entered_by clock (BySource from p) x = x
-entered_by clock (ByRegister from r) x = x
-entered_by clock (ByPublish from p) x = x
-entered_by clock (ByUnsupported from frame) x = x
 entered_by clock (ByBroken from rule) x = x
 entered_by clock (ByPacket p) x = x
 entered_by clock ByUp x = x
@@ -152,21 +144,48 @@ registered (Some name) Allowed ids = told name ids
 registered (Some name) (Denied rule) ids = ids
 registered None outcome ids = ids
 
+-- a SUBSCRIBE that is allowed lets its filter stand, and tells the client an id where the filter is a name that gets one
+abbrev pub standing : TopicRequest → List ℕ → Client → Client
+standing r filter x = record x {
+  filters = with_filter x.filters filter (granted r.flags.qos);
+  ids = if gets_id r.flags.id_type filter then told filter x.ids else x.ids;
+}
+
+abbrev pub subscribed : Option TopicRequest → Option (List ℕ) → Outcome → Client → Client
+subscribed (Some r) (Some filter) Allowed x = standing r filter x
+subscribed (Some r) (Some filter) (Denied rule) x = x
+subscribed (Some r) None outcome x = x
+subscribed None filter outcome x = x
+
+-- the filter stands no more
+abbrev pub without : List ℕ → Client → Client
+without filter x = record x { filters = without_filter x.filters filter }
+
+-- an UNSUBSCRIBE that is allowed ends the subscription to its filter
+abbrev pub unsubscribed : Option (List ℕ) → Outcome → Client → Client
+unsubscribed (Some filter) Allowed x = without filter x
+unsubscribed (Some filter) (Denied rule) x = x
+unsubscribed None outcome x = x
+
+-- the SUBSCRIBE that the cause is, where it is one
+abbrev pub subscribe_of : Cause → Option TopicRequest
+subscribe_of c = option_and_then subscribe_asked (request_of c)
+
 -- the client after a note of its own
 abbrev pub note_by : Around → Decision → Client → Client
 note_by a (note.Connect id outcome) x = if is_allowed outcome then entered_by a.clock a.cause x else x
 note_by a (note.Left id) x = gone x
 note_by a (note.Register who name outcome) x = record x { ids = registered name outcome x.ids }
 note_by a (note.Publish who name outcome) x = x
-note_by a (note.Subscribe who filter outcome) x = x
-note_by a (note.Unsubscribe who filter outcome) x = x
+note_by a (note.Subscribe who filter outcome) x = subscribed (subscribe_of a.cause) filter outcome x
+note_by a (note.Unsubscribe who filter outcome) x = unsubscribed filter outcome x
 note_by a (note.Will who name outcome) x = x
 note_by a (note.Announce id name) x = x
 note_by a (note.Hand id name outcome) x = x
 note_by a (note.Retry id name outcome) x = x
 note_by a (note.Forward who name outcome) x = x
 note_by a (note.Again who name outcome) x = x
-note_by a (note.End id filter outcome) x = x
+note_by a (note.End id filter outcome) x = without filter x
 note_by a (note.Lost id) x = x
 note_by a note.Outbox x = x
 note_by a (note.Frame who outcome) x = x

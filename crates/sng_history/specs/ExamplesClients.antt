@@ -3,9 +3,9 @@ use Rattle.std.specs.Prelude.{ℕ, true, false, codes, List, [], ◌∷◌, Some
 use Rattle.sng_grants.specs.declared.policy.Policy.{Policy}
 use Rattle.mqtt_frames.specs.declared.packet.Packet.TheVariants.{PublishAck}
 use Rattle.sng_book.specs.declared.address.Address.{Address}
-use Rattle.sng_book.specs.declared.decision.Decision.TheVariants.{Connect, Left, Frame, Register, Publish, Forward, Again}
+use Rattle.sng_book.specs.declared.decision.Decision.TheVariants.{Connect, Left, Frame, Register, Publish, Subscribe, Forward, Again, End}
 use Rattle.sng_book.specs.declared.decision.Who.TheVariants as who
-use Rattle.sng_book.specs.declared.outcome.Denial.TheVariants.{NoScope, NoSession, UnknownId, MissingPub}
+use Rattle.sng_book.specs.declared.outcome.Denial.TheVariants.{NoScope, NoSession, UnknownId, MissingPub, Uncovered}
 use Rattle.sng_book.specs.declared.outcome.IdKind.TheVariants.{Normal}
 use Rattle.sng_book.specs.declared.outcome.Outcome.{Outcome}
 use Rattle.sng_book.specs.declared.outcome.Outcome.TheVariants.{Allowed, Denied}
@@ -196,3 +196,34 @@ flies_and_waits = state_of opening (row (Datagram home publish_t1) (asks_t1 Allo
 
 abbrev pub flies_ungranted : State
 flies_ungranted = state_of opening (row (Replace both_listed) [] ∷ flies_t1)
+
+-- ---- a subscription
+
+abbrev pub ab : List ℕ
+ab = codes "a/b"
+
+-- SUBSCRIBE by `a/b` at QoS 1 with the MsgId 7, and SUBACK: QoS 1, the id 1
+abbrev pub subscribe_ab : List ℕ
+subscribe_ab = 0x08 ∷ 0x12 ∷ 0x20 ∷ 0x00 ∷ 0x07 ∷ 0x61 ∷ 0x2f ∷ 0x62 ∷ []
+
+abbrev pub subscribed_ab : Out
+subscribed_ab = Send home (0x08 ∷ 0x13 ∷ 0x20 ∷ 0x00 ∷ 0x01 ∷ 0x00 ∷ 0x07 ∷ 0x00 ∷ [])
+
+abbrev pub subscribes_ab : Outcome → Out
+subscribes_ab outcome = Note (Subscribe (who.Client s1) (Some ab) outcome)
+
+-- `s1` subscribes, by a filter that its scope covers
+abbrev pub stands_ab : List Row
+stands_ab = row (Datagram home subscribe_ab) (subscribes_ab Allowed ∷ subscribed_ab ∷ []) ∷ s1_home one_listed
+
+-- the end of it under a policy that grants nothing: `a/b` itself shows the gap
+abbrev pub ends_ab : Out
+ends_ab = Note (End s1 ab (Denied (Uncovered ab ab)))
+
+-- a replacement ends it
+abbrev pub ended_ab : List Row
+ended_ab = row (Replace both_listed) (ends_ab ∷ []) ∷ stands_ab
+
+-- the state in which the filter stands
+abbrev pub holds_ab : State
+holds_ab = state_of opening stands_ab

@@ -1,8 +1,9 @@
 -- How what waits leaves for the broker.
-use Rattle.std.specs.Prelude.{ℕ, false, List, [], ◌∷◌, ◌++◌, Option, Some}
+use Rattle.std.specs.Prelude.{ℕ, false, List, [], ◌∷◌, ◌++◌, if◌then◌else◌, Option, Some}
 use Rattle.sng_grants.specs.declared.policy.Policy.{Policy}
 use Rattle.mqtt_frames.specs.Packets.{written}
 use Rattle.mqtt_frames.specs.declared.packet.Packet.TheVariants as packet
+use Rattle.mqtt_frames.specs.declared.packet.RequestedQos.TheVariants as requested
 use Rattle.sng_outbox.specs.declared.in_flight.InFlight.{InFlight}
 use Rattle.sng_outbox.specs.declared.item.Item.{Item}
 use Rattle.sng_outbox.specs.declared.item.Item.TheVariants as item
@@ -13,7 +14,7 @@ use Rattle.sng_book.specs.declared.outcome.Outcome.{Outcome}
 use Rattle.sng_book.specs.declared.outcome.Outcome.TheVariants.{Allowed, Denied}
 use Rattle.sng_book.specs.declared.out.Out.{Out}
 use Rattle.sng_book.specs.declared.out.Out.TheVariants.{Wire, Note}
-use Rattle.sng_history.specs.Links.{Link, packet_id_by, exited}
+use Rattle.sng_history.specs.Links.{Link, wants, next_packet_id, packet_id_by, exited, resumed, filters_wanted, subscribe_sent, subscribe_left, unsubscribe_left}
 use Rattle.sng_history.specs.Verdicts.{exit}
 
 -- the packet of a publish: its own name, payload and Retain, and its packet id at QoS 1 (MQTT 3.1.1, 3.3)
@@ -38,15 +39,37 @@ abbrev pub forwarded : Publication → Option ℕ → Outcome → List Out
 forwarded p packet_id Allowed = Note (note.Forward (who_of p.origin) p.name Allowed) ∷ Wire (packet_of p packet_id) ∷ []
 forwarded p packet_id (Denied denial) = Note (note.Forward (who_of p.origin) p.name (Denied denial)) ∷ []
 
--- items leave on the link, in order, with the outcomes of the publishes among them, and each acknowledgement goes out. Nothing asks for
--- another item yet
+-- the packets that subscribe by the filter, at QoS 1, and unsubscribe from it (MQTT 3.1.1, 3.8 and 3.10)
+abbrev pub subscribe_packet : ℕ → List ℕ → Out
+subscribe_packet packet_id filter =
+    Wire (written (packet.Subscribe (record { packet_id = packet_id; requests = record { filter = filter; qos = requested.AtLeastOnce } ∷ [] })))
+
+abbrev pub unsubscribe_packet : ℕ → List ℕ → Out
+unsubscribe_packet packet_id filter = Wire (written (packet.Unsubscribe (record { packet_id = packet_id; filters = filter ∷ [] })))
+
+-- a SUBSCRIBE goes out where its filter is wanted, and an UNSUBSCRIBE where it is not, each with the next packet id
+abbrev pub subscribe_leaves : Link → List ℕ → List Out
+subscribe_leaves link filter = if wants link.wanted filter then subscribe_packet (next_packet_id link) filter ∷ [] else []
+
+abbrev pub unsubscribe_leaves : Link → List ℕ → List Out
+unsubscribe_leaves link filter = if wants link.wanted filter then [] else unsubscribe_packet (next_packet_id link) filter ∷ []
+
+-- a SUBSCRIBE of each of these filters
+abbrev pub subscribing : Link → List (List ℕ) → List Out
+subscribing link [] = []
+subscribing link (filter ∷ filters) = subscribe_packet (next_packet_id link) filter ∷ subscribing (subscribe_sent link filter) filters
+
+-- items leave on the link, in order, with the outcomes of the publishes among them, and each acknowledgement goes out. Nothing asks for a
+-- PINGREQ yet
 abbrev pub leaving : Link → List Item → List Outcome → List Out
 leaving link [] outcomes = []
 leaving link (item.Publish p ∷ items) [] = []
 leaving link (item.Publish p ∷ items) (outcome ∷ outcomes) =
     forwarded p (packet_id_by link p.qos) outcome ++ leaving (exited link p outcome) items outcomes
-leaving link (item.Subscribe filter ∷ items) outcomes = leaving link items outcomes
-leaving link (item.Unsubscribe filter ∷ items) outcomes = leaving link items outcomes
+leaving link (item.Subscribe filter ∷ items) outcomes =
+    subscribe_leaves link filter ++ leaving (subscribe_left link filter) items outcomes
+leaving link (item.Unsubscribe filter ∷ items) outcomes =
+    unsubscribe_leaves link filter ++ leaving (unsubscribe_left link filter) items outcomes
 leaving link (item.Acknowledge packet_id ∷ items) outcomes = acknowledged packet_id ∷ leaving link items outcomes
 leaving link (item.Ping ∷ items) outcomes = leaving link items outcomes
 
@@ -66,3 +89,9 @@ abbrev pub resending : List InFlight → List Outcome → List Out
 resending [] outcomes = []
 resending (sent ∷ flights) [] = []
 resending (sent ∷ flights) (outcome ∷ outcomes) = sent_again sent outcome ++ resending flights outcomes
+
+-- what goes out as a connection begins at this clock: what is in flight, with these outcomes, and then a SUBSCRIBE of each filter that is
+-- wanted
+abbrev pub beginning : Link → ℕ → List Outcome → List Out
+beginning link clock outcomes =
+    resending link.in_flight outcomes ++ subscribing (resumed link clock outcomes) (filters_wanted link)

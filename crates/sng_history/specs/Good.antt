@@ -2,6 +2,9 @@
 -- rest, and there are no more than may be. A history may begin at any state, so no law of rows asks for it.
 use Rattle.std.specs.Prelude.{ℕ, ◌≡◌, ◌≤◌, false, not, ◌&&◌, List, [], ◌∷◌, length}
 use Rattle.std.specs.Str.{bytes_eq}
+use Rattle.sng_grants.specs.declared.policy.Policy.{Policy}
+use Rattle.sng_fan.specs.Subscriptions.{IsOneClients}
+use Rattle.sng_fan.specs.declared.held.Held.{Held}
 use Rattle.sng_states.specs.States.{in_dialogue}
 use Rattle.sng_outbox.specs.Sending.{load}
 use Rattle.sng_outbox.specs.declared.limits.TheConstants.{MAX_IN_FLIGHT}
@@ -10,9 +13,13 @@ use Rattle.sng_outbox.specs.declared.item.Item.TheVariants as item
 use Rattle.sng_queue.specs.Buffers.{nothing}
 use Rattle.sng_wills.specs.Wills.{is_closed}
 use Rattle.sng_book.specs.declared.address.Address.{Address}
+use Rattle.sng_book.specs.declared.outcome.Outcome.TheVariants.{Allowed}
 use Rattle.sng_history.specs.declared.limits.TheConstants.{MAX_CLIENTS}
 use Rattle.sng_history.specs.Clients.{Client, is_here}
+use Rattle.sng_history.specs.Links.{Wanted, wants}
+use Rattle.sng_history.specs.Standing.{is_held}
 use Rattle.sng_history.specs.State.{State}
+use Rattle.sng_history.specs.Verdicts.{coverage}
 
 -- something holds of each client
 abbrev pub Each : (Client → Type 0) → List Client → Type 0
@@ -42,17 +49,27 @@ pub record AtRest (x : Client) : Type 0 where
   pub quiet : x.buffer ≡ nothing
   pub dialogue : in_dialogue x.phase ≡ not (is_closed x.wills.stage)
 
--- what waits is a publish or an acknowledgement, as nothing asks for more yet
+-- what waits is no PINGREQ, as nothing asks for one yet
 abbrev pub IsPlain : Item → Type 0
 IsPlain (item.Publish p) = Unit {0}
-IsPlain (item.Subscribe filter) = ⊥
-IsPlain (item.Unsubscribe filter) = ⊥
+IsPlain (item.Subscribe filter) = Unit {0}
+IsPlain (item.Unsubscribe filter) = Unit {0}
 IsPlain (item.Acknowledge packet_id) = Unit {0}
 IsPlain item.Ping = ⊥
 
 abbrev pub AllPlain : List Item → Type 0
 AllPlain [] = Unit {0}
 AllPlain (one ∷ items) = IsPlain one × AllPlain items
+
+-- each of these filters is allowed to the client by the policy
+abbrev pub AllCovered : Policy → List ℕ → List Held → Type 0
+AllCovered policy client [] = Unit {0}
+AllCovered policy client (h ∷ held) = (coverage policy client h.filter ≡ Allowed) × AllCovered policy client held
+
+-- no filter is wanted twice
+abbrev pub WantedOnce : List Wanted → Type 0
+WantedOnce [] = Unit {0}
+WantedOnce (w ∷ wanted) = (wants wanted w.filter ≡ false) × WantedOnce wanted
 
 pub record Good (s : State) : Type 0 where
   -- no two clients have one id,
@@ -67,3 +84,9 @@ pub record Good (s : State) : Type 0 where
   pub plain : AllPlain s.link.waiting
   -- no more publishes at QoS 1 wait or are in flight than may
   pub few : load (record { waiting = s.link.waiting; in_flight = s.link.in_flight }) ≤ MAX_IN_FLIGHT
+  -- each client's filters stand once, there are no more of them than may be, and the policy in force allows each
+  pub once : Each (λ x. IsOneClients x.filters) s.clients
+  pub covered : Each (λ x. AllCovered s.policy x.id x.filters) s.clients
+  -- just the filters that stand for somebody are wanted, each once
+  pub wanted_once : WantedOnce s.link.wanted
+  pub wanted_held : (filter : List ℕ) → wants s.link.wanted filter ≡ is_held s.clients filter

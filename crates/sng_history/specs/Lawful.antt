@@ -1,22 +1,26 @@
 -- Which histories are lawful.
-use Rattle.std.specs.Prelude.{ℕ, ◌≡◌, List, [], ◌∷◌, if◌then◌else◌}
+use Rattle.std.specs.Prelude.{ℕ, ◌≡◌, List, [], ◌∷◌, ◌++◌, if◌then◌else◌, Option, Some, None}
 use Rattle.std.specs.Str.{bytes_eq}
+use Rattle.sng_grants.specs.declared.policy.Policy.{Policy}
+use Rattle.sng_fan.specs.declared.held.Held.{Held}
 use Rattle.sng_book.specs.Denials.{is_allowed}
 use Rattle.sng_book.specs.declared.decision.Decision.{Decision}
 use Rattle.sng_book.specs.declared.decision.Decision.TheVariants as note
 use Rattle.sng_book.specs.declared.decision.Who.TheVariants as who
-use Rattle.sng_book.specs.declared.outcome.Denial.TheVariants.{NotSupported}
+use Rattle.sng_book.specs.declared.outcome.Denial.TheVariants.{NotSupported, BrokerRefused}
 use Rattle.sng_book.specs.declared.outcome.Outcome.{Outcome}
 use Rattle.sng_book.specs.declared.outcome.Outcome.TheVariants.{Allowed, Denied}
 use Rattle.sng_book.specs.declared.event.Event.{Event}
 use Rattle.sng_book.specs.declared.out.Out.{Out}
 use Rattle.sng_book.specs.declared.row.Row.{Row}
-use Rattle.sng_history.specs.Causes.{Cause, cause_of}
-use Rattle.sng_history.specs.Causes.{ByConnect, ByPing, ByLeave, BySource, ByRegister, ByPublish, ByUnsupported, ByBroken, ByPacket, ByUp, ByDown, ByTake, ByReplace, ByTick}
+use Rattle.sng_history.specs.Causes.{Request, ToPing, ToLeave, ToRegister, ToPublish, ToSubscribe, ToUnsubscribe, Untaken, Cause, cause_of}
+use Rattle.sng_history.specs.Causes.{ByConnect, ByMessage, BySource, ByBroken, ByPacket, ByUp, ByDown, ByTake, ByReplace, ByTick}
 use Rattle.sng_history.specs.Clients.{Client, is_here}
 use Rattle.sng_history.specs.Notes.{notes_of, exits_in}
 use Rattle.sng_history.specs.State.{State, state_of, Leads, present_in}
-use Rattle.sng_history.specs.Verdicts.{entry, ping_verdict, register_ask, publish_ask}
+use Rattle.sng_history.specs.Packets.{answer_of, refused_filter}
+use Rattle.sng_history.specs.Standing.{holds}
+use Rattle.sng_history.specs.Verdicts.{entry, ping_verdict, register_ask, publish_ask, subscribe_ask, unsubscribe_ask, coverage}
 use Rattle.sng_history.specs.Answers.{denied_note}
 use Rattle.sng_history.specs.Exits.{exits_of, agains_of}
 use Rattle.sng_history.specs.Whole.{whole_by, notes_in}
@@ -26,12 +30,8 @@ use Rattle.sng_history.specs.Whole.{whole_by, notes_in}
 abbrev pub exits_for : State → Cause → List Outcome
 exits_for s ByTake = if s.up then exits_of s.policy s.link.waiting else []
 exits_for s (ByConnect from connect) = []
-exits_for s (ByPing from client) = []
-exits_for s (ByLeave from) = []
+exits_for s (ByMessage from request) = []
 exits_for s (BySource from p) = []
-exits_for s (ByRegister from r) = []
-exits_for s (ByPublish from p) = []
-exits_for s (ByUnsupported from message) = []
 exits_for s (ByBroken from rule) = []
 exits_for s (ByPacket p) = []
 exits_for s ByUp = agains_of s.policy s.link.in_flight
@@ -44,25 +44,47 @@ abbrev pub denial_of : List ℕ → Outcome → List Decision
 denial_of id Allowed = []
 denial_of id (Denied rule) = note.Frame (who.Client id) (Denied rule) ∷ []
 
--- the notes that the cause fixes of a client, as it is before the row: its CONNECT, REGISTER or PUBLISH with the verdict, that it leaves,
--- and any other message of its own that is denied
+-- the notes that a message fixes of the client from which it came: its ask with the verdict, that it leaves, and any other message that is
+-- denied
+abbrev pub fixed_to : State → Request → Client → List Decision
+fixed_to s (ToPing client) x = denial_of x.id (ping_verdict client x)
+fixed_to s ToLeave x = note.Left x.id ∷ []
+fixed_to s (ToRegister r) x = register_ask s.policy x r.name ∷ []
+fixed_to s (ToPublish p) x = publish_ask s x p ∷ []
+fixed_to s (ToSubscribe r) x = subscribe_ask s x r ∷ []
+fixed_to s (ToUnsubscribe r) x = unsubscribe_ask s.policy x r ∷ []
+fixed_to s (Untaken message) x = denied_note message (who.Client x.id) NotSupported ∷ []
+
+-- the end of a subscription that is not allowed any more
+abbrev pub end_of : List ℕ → List ℕ → Outcome → List Decision
+end_of client filter Allowed = []
+end_of client filter (Denied rule) = note.End client filter (Denied rule) ∷ []
+
+-- of the filters that stand for a client, in order, those that the policy does not cover end
+abbrev pub ends_under : Policy → List ℕ → List Held → List Decision
+ends_under policy client [] = []
+ends_under policy client (h ∷ held) = end_of client h.filter (coverage policy client h.filter) ++ ends_under policy client held
+
+-- the filter that the broker refuses ends for each client for whom it stands
+abbrev pub refused_end : Client → Option (List ℕ) → List Decision
+refused_end x None = []
+refused_end x (Some filter) = if holds filter x then note.End x.id filter (Denied BrokerRefused) ∷ [] else []
+
+-- the notes that the cause fixes of a client, as it is before the row: its CONNECT with the verdict, that another client puts it out, those
+-- of its message, and the ends of its subscriptions
 abbrev pub fixed_for : State → Cause → Client → List Decision
 fixed_for s (ByConnect from connect) x =
     if bytes_eq connect.client_id x.id
     then note.Connect x.id (entry s connect) ∷ []
     else (if is_allowed (entry s connect) then (if is_here x from then note.Left x.id ∷ [] else []) else [])
-fixed_for s (ByPing from client) x = if is_here x from then denial_of x.id (ping_verdict client x) else []
-fixed_for s (ByLeave from) x = if is_here x from then note.Left x.id ∷ [] else []
+fixed_for s (ByMessage from request) x = if is_here x from then fixed_to s request x else []
 fixed_for s (BySource from p) x = []
-fixed_for s (ByRegister from r) x = if is_here x from then register_ask s.policy x r.name ∷ [] else []
-fixed_for s (ByPublish from p) x = if is_here x from then publish_ask s x p ∷ [] else []
-fixed_for s (ByUnsupported from message) x = if is_here x from then denied_note message (who.Client x.id) NotSupported ∷ [] else []
 fixed_for s (ByBroken from rule) x = if is_here x from then note.Frame (who.Client x.id) (Denied rule) ∷ [] else []
-fixed_for s (ByPacket p) x = []
+fixed_for s (ByPacket p) x = refused_end x (refused_filter s.link (answer_of p))
 fixed_for s ByUp x = []
 fixed_for s ByDown x = []
 fixed_for s ByTake x = []
-fixed_for s (ByReplace policy) x = []
+fixed_for s (ByReplace policy) x = ends_under policy x.id x.filters
 fixed_for s (ByTick clock) x = []
 
 -- a row with this cause may have these notes of the client

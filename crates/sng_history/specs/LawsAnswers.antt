@@ -40,6 +40,7 @@ use Rattle.sng_history.specs.Views.{policy_in_force, is_up}
 use Rattle.sng_history.specs.ViewsClients.{phase_of, address_of, accepted, is_among, those_at}
 use Rattle.sng_history.specs.ViewsLink.{waiting}
 use Rattle.sng_history.specs.LawsRules.{Rule, judged, may_publish}
+use Rattle.sng_history.specs.LawsEnds.{clean_answer}
 
 -- the row is of a datagram from the address, which holds the message
 pub record Brought (row : Row) (from : Address) (message : SnFrame) : Type 0 where
@@ -91,11 +92,14 @@ abbrev pub others_leave : List Row → Address → List ℕ → List Out
 others_leave h from id = map (λ other. Note (note.Left other)) (filter (λ other. not (bytes_eq id other)) (those_at from h))
 
 -- the row begins with the note of the CONNECT; one that is denied is answered by its code. As one is accepted, the client is dismissed
--- where it was before, another client at the address leaves, and CONNACK comes last
+-- where it was before, another client at the address leaves, of the subscriptions that a clean one ends it is noted where the broker is not
+-- told, and CONNACK comes last
 abbrev pub entry_answer : List Row → Address → Connect → Outcome → List Out
 entry_answer h from c (Denied rule) = Note (note.Connect c.client_id (Denied rule)) ∷ connack_to from (code_for rule) ∷ []
 entry_answer h from c Allowed =
-    Note (note.Connect c.client_id Allowed) ∷ (old_place h from c.client_id ++ (others_leave h from c.client_id ++ connack_to from ACCEPTED ∷ []))
+    Note (note.Connect c.client_id Allowed)
+    ∷ (old_place h from c.client_id
+    ++ (others_leave h from c.client_id ++ (clean_answer h c ++ connack_to from ACCEPTED ∷ [])))
 
 abbrev pub connect_answer : List Row → Address → Connect → List Out
 connect_answer h from c = entry_answer h from c (judged (connect_rules h c))

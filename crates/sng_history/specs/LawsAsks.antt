@@ -34,7 +34,9 @@ use Rattle.sng_history.specs.Views.{policy_in_force, is_up}
 use Rattle.sng_history.specs.ViewsClients.{phase_of, is_among, names_told}
 use Rattle.sng_history.specs.ViewsLink.{waiting, publications}
 use Rattle.sng_history.specs.ViewsFlight.{in_flight}
+use Rattle.sng_history.specs.ViewsStanding.{is_refusal, filter_with, wanted}
 use Rattle.sng_history.specs.LawsRules.{Rule, judged, may_publish}
+use Rattle.sng_history.specs.LawsEnds.{refused_answer}
 use Rattle.sng_history.specs.LawsAnswers.{bye, code_for, is_active, is_bad_short, is_nameless, name_read, or_empty}
 
 -- a client may ask while it is active and the policy in force lists it
@@ -174,11 +176,16 @@ message_answer h p =
     (if is_name p.name then [] else Note (note.Frame who.Broker (Denied BadName)) ∷ [])
     ++ (if is_some p.packet_id && (is_up h && not (nat_lt (length (waiting h)) 512)) then Note note.Outbox ∷ [] else [])
 
--- the answers that the gateway waits for let nothing out, and any other packet is not supported
+-- a SUBACK whose first code refuses ends the filter of the SUBSCRIBE that it answers, for each client for whom it stands
+abbrev pub suback_answer : List Row → Option (List ℕ) → List Out
+suback_answer h None = []
+suback_answer h (Some text) = refused_answer h text
+
+-- the other answers that the gateway waits for let nothing out, and any other packet is not supported
 abbrev pub packet_answer : List Row → Packet → List Out
 packet_answer h (packet.Publish p) = message_answer h p
 packet_answer h (packet.PublishAck packet_id) = []
-packet_answer h (packet.SubscribeAck answer) = []
+packet_answer h (packet.SubscribeAck answer) = if is_refusal answer.codes then suback_answer h (filter_with answer.packet_id (wanted h)) else []
 packet_answer h (packet.UnsubscribeAck packet_id) = []
 packet_answer h packet.PingResponse = []
 packet_answer h (packet.Connect connect) = Note (note.Frame who.Broker (Denied NotSupported)) ∷ []

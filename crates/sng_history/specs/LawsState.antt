@@ -7,7 +7,8 @@ use Rattle.sng_history.specs.Clients.{Client}
 use Rattle.sng_history.specs.Links.{Link}
 use Rattle.sng_history.specs.Views.{began}
 use Rattle.sng_history.specs.ViewsClients.{phase_of, address_of, duration_of, heard_of, is_among, names_told}
-use Rattle.sng_history.specs.ViewsFlight.{in_flight, last_id}
+use Rattle.sng_history.specs.ViewsFlight.{in_flight}
+use Rattle.sng_history.specs.ViewsStanding.{standing_of, wanted}
 
 -- what is kept of a client is what the rows show of it
 pub record ClientShown (h : List Row) (x : Client) : Type 0 where
@@ -17,20 +18,19 @@ pub record ClientShown (h : List Row) (x : Client) : Type 0 where
   pub heard : heard_of x.id h ≡ Some x.heard
   -- the k-th name that it was told has id k, and the client knows each
   pub ids : x.ids ≡ map (λ name. (name, true)) (names_told x.id h)
+  pub filters : x.filters ≡ standing_of x.id h
 
--- what the link holds beside what waits: the publishes in flight, the packet id that was given last and when the connection began are what
--- the rows show, and no filter is wanted yet
+-- what the link holds beside what waits: the publishes in flight, the filters that are wanted and when the connection began are what the
+-- rows show
 pub record RestShown (h : List Row) (link : Link) : Type 0 where
   pub in_flight : link.in_flight ≡ in_flight h
-  pub last : link.last ≡ last_id h
-  pub wanted : link.wanted ≡ []
+  pub wanted : link.wanted ≡ wanted h
   pub pinged : link.pinged ≡ began h
 
--- what nothing moves of a client yet: it was sent no message, nothing waits for it, no filter stands for it, and it has no will
+-- what nothing moves of a client yet: it was sent no message, nothing waits for it, and it has no will
 pub record Untold (x : Client) : Type 0 where
   pub number : x.number ≡ 0
   pub buffer : x.buffer ≡ nothing
-  pub filters : x.filters ≡ []
   pub wills : x.wills ≡ record { stage = Closed; will = None }
 
 -- no name stands twice

@@ -25,7 +25,7 @@ is_exactly_once qos.AtMostOnce = false
 is_exactly_once qos.AtLeastOnce = false
 is_exactly_once qos.WithoutSession = false
 
--- all but CONNECT, REGISTER, PINGREQ, DISCONNECT without Duration, and PUBLISH of another QoS than 2
+-- all but CONNECT, REGISTER, SUBSCRIBE, UNSUBSCRIBE, PINGREQ, DISCONNECT without Duration, and PUBLISH of another QoS than 2
 abbrev pub is_unsupported : SnFrame → Bool
 is_unsupported (frame.Connect connect) = false
 is_unsupported (frame.Register register) = false
@@ -42,9 +42,9 @@ is_unsupported (frame.PublishAck answer) = true
 is_unsupported (frame.PublishComplete id) = true
 is_unsupported (frame.PublishReceived id) = true
 is_unsupported (frame.PublishRelease id) = true
-is_unsupported (frame.Subscribe request) = true
+is_unsupported (frame.Subscribe request) = false
 is_unsupported (frame.SubscribeAck answer) = true
-is_unsupported (frame.Unsubscribe request) = true
+is_unsupported (frame.Unsubscribe request) = false
 is_unsupported (frame.UnsubscribeAck id) = true
 is_unsupported frame.PingResponse = true
 is_unsupported (frame.WillTopicUpdate topic) = true

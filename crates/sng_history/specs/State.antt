@@ -20,16 +20,18 @@ use Rattle.sng_book.specs.declared.decision.Decision.TheVariants as note
 use Rattle.sng_book.specs.declared.decision.Who.{Who}
 use Rattle.sng_book.specs.declared.decision.Who.TheVariants as who
 use Rattle.sng_book.specs.declared.outcome.Outcome.{Outcome}
+use Rattle.sng_book.specs.declared.outcome.Outcome.TheVariants.{Allowed, Denied}
 use Rattle.sng_book.specs.declared.event.Event.{Event}
 use Rattle.sng_book.specs.declared.out.Out.{Out}
 use Rattle.sng_book.specs.declared.out.Out.TheVariants.{Send, Wire, Note}
 use Rattle.sng_book.specs.declared.row.Row.{Row}
-use Rattle.sng_history.specs.Causes.{Cause, cause_of}
-use Rattle.sng_history.specs.Causes.{ByConnect, ByPing, ByLeave, BySource, ByRegister, ByPublish, ByUnsupported, ByBroken, ByPacket, ByUp, ByDown, ByTake, ByReplace, ByTick}
+use Rattle.sng_history.specs.Causes.{Cause, cause_of, publish_asked}
+use Rattle.sng_history.specs.Causes.{ByConnect, ByMessage, BySource, ByBroken, ByPacket, ByUp, ByDown, ByTake, ByReplace, ByTick}
 use Rattle.sng_history.specs.Clients.{Client, Around, blank, client_by}
 use Rattle.sng_history.specs.Notes.{notes_of, exits_in}
-use Rattle.sng_history.specs.Links.{Link, idle, link_after, still_in_flight}
+use Rattle.sng_history.specs.Links.{Link, Wanted, idle, wants, link_after, resumed, filters_wanted, subscribes_sent}
 use Rattle.sng_history.specs.Packets.{answer_of, acknowledgements, answered}
+use Rattle.sng_history.specs.Standing.{released, unsubscribes, still_wanted}
 
 -- the policy in force, the clock in ms, whether the broker's connection is up, the link, and the clients, in the order in which each was
 -- accepted first
@@ -47,12 +49,8 @@ opening = record { policy = record { clients = []; sources = []; topics = [] }; 
 -- a replacement puts its policy in force
 abbrev pub policy_by : Cause → Policy → Policy
 policy_by (ByConnect from connect) before = before
-policy_by (ByPing from client) before = before
-policy_by (ByLeave from) before = before
+policy_by (ByMessage from request) before = before
 policy_by (BySource from p) before = before
-policy_by (ByRegister from r) before = before
-policy_by (ByPublish from p) before = before
-policy_by (ByUnsupported from frame) before = before
 policy_by (ByBroken from rule) before = before
 policy_by (ByPacket p) before = before
 policy_by ByUp before = before
@@ -67,12 +65,8 @@ later a b = if nat_le a b then b else a
 
 abbrev pub clock_by : Cause → ℕ → ℕ
 clock_by (ByConnect from connect) before = before
-clock_by (ByPing from client) before = before
-clock_by (ByLeave from) before = before
+clock_by (ByMessage from request) before = before
 clock_by (BySource from p) before = before
-clock_by (ByRegister from r) before = before
-clock_by (ByPublish from p) before = before
-clock_by (ByUnsupported from frame) before = before
 clock_by (ByBroken from rule) before = before
 clock_by (ByPacket p) before = before
 clock_by ByUp before = before
@@ -83,12 +77,8 @@ clock_by (ByTick clock) before = later before clock
 
 abbrev pub up_by : Cause → Bool → Bool
 up_by (ByConnect from connect) before = before
-up_by (ByPing from client) before = before
-up_by (ByLeave from) before = before
+up_by (ByMessage from request) before = before
 up_by (BySource from p) before = before
-up_by (ByRegister from r) before = before
-up_by (ByPublish from p) before = before
-up_by (ByUnsupported from frame) before = before
 up_by (ByBroken from rule) before = before
 up_by (ByPacket p) before = before
 up_by ByUp before = true
@@ -133,12 +123,8 @@ entered_in xs (Wire packet ∷ outs) = []
 
 abbrev pub newcomers : Cause → List Client → List Out → List Client
 newcomers (ByConnect from connect) xs outs = entered_in xs outs
-newcomers (ByPing from client) xs outs = []
-newcomers (ByLeave from) xs outs = []
+newcomers (ByMessage from request) xs outs = []
 newcomers (BySource from p) xs outs = []
-newcomers (ByRegister from r) xs outs = []
-newcomers (ByPublish from p) xs outs = []
-newcomers (ByUnsupported from frame) xs outs = []
 newcomers (ByBroken from rule) xs outs = []
 newcomers (ByPacket p) xs outs = []
 newcomers ByUp xs outs = []
@@ -165,7 +151,7 @@ qos_of qos.AtLeastOnce = AtLeastOnce
 qos_of qos.ExactlyOnce = AtMostOnce
 qos_of qos.WithoutSession = AtMostOnce
 
--- what an ask adds to what waits: the item of the publish, where it was allowed. Without a session it has QoS 0 upstream
+-- the item of a publish that was asked for, where it was allowed. Without a session it has QoS 0 upstream
 abbrev pub item_asked : Who → Option (List ℕ) → Outcome → Publish → List Item
 item_asked (who.Source source) (Some name) outcome p = if is_allowed outcome then item_for (origin.Source source) name AtMostOnce p ∷ [] else []
 item_asked (who.Source source) None outcome p = []
@@ -174,40 +160,49 @@ item_asked (who.Client client) None outcome p = []
 item_asked (who.Address address) name outcome p = []
 item_asked who.Broker name outcome p = []
 
--- what a note of a PUBLISH adds to what waits
-abbrev pub asked_by : Decision → Publish → List Item
-asked_by (note.Publish who name outcome) p = item_asked who name outcome p
-asked_by (note.Connect client outcome) p = []
-asked_by (note.Register who name outcome) p = []
-asked_by (note.Subscribe who filter outcome) p = []
-asked_by (note.Unsubscribe who filter outcome) p = []
-asked_by (note.Will who name outcome) p = []
-asked_by (note.Announce client name) p = []
-asked_by (note.Hand client name outcome) p = []
-asked_by (note.Retry client name outcome) p = []
-asked_by (note.Forward who name outcome) p = []
-asked_by (note.Again who name outcome) p = []
-asked_by (note.End client filter outcome) p = []
-asked_by (note.Lost client) p = []
-asked_by (note.Left client) p = []
-asked_by note.Outbox p = []
-asked_by (note.Frame who outcome) p = []
+abbrev pub publish_item : Who → Option (List ℕ) → Outcome → Option Publish → List Item
+publish_item who name outcome None = []
+publish_item who name outcome (Some p) = item_asked who name outcome p
 
--- what is asked for by a note of the row, and allowed
-abbrev pub asked_out : Publish → Out → List Item
-asked_out p (Note said) = asked_by said p
+-- the item of a subscription that was asked for, where it was allowed
+abbrev pub subscribe_item : Option (List ℕ) → Outcome → List Item
+subscribe_item (Some filter) Allowed = item.Subscribe filter ∷ []
+subscribe_item (Some filter) (Denied rule) = []
+subscribe_item None outcome = []
+
+-- what a note adds to what waits, given the PUBLISH that the row holds
+abbrev pub asked_by : Option Publish → Decision → List Item
+asked_by p (note.Publish who name outcome) = publish_item who name outcome p
+asked_by p (note.Subscribe who filter outcome) = subscribe_item filter outcome
+asked_by p (note.Connect client outcome) = []
+asked_by p (note.Register who name outcome) = []
+asked_by p (note.Unsubscribe who filter outcome) = []
+asked_by p (note.Will who name outcome) = []
+asked_by p (note.Announce client name) = []
+asked_by p (note.Hand client name outcome) = []
+asked_by p (note.Retry client name outcome) = []
+asked_by p (note.Forward who name outcome) = []
+asked_by p (note.Again who name outcome) = []
+asked_by p (note.End client filter outcome) = []
+asked_by p (note.Lost client) = []
+asked_by p (note.Left client) = []
+asked_by p note.Outbox = []
+asked_by p (note.Frame who outcome) = []
+
+abbrev pub asked_out : Option Publish → Out → List Item
+asked_out p (Note said) = asked_by p said
 asked_out p (Send to datagram) = []
 asked_out p (Wire packet) = []
 
--- what is asked for in a row, and allowed
+-- what the notes of a row ask for, where it is allowed
+abbrev pub asked_all : Option Publish → List Out → List Item
+asked_all p outs = flat_map (asked_out p) outs
+
+-- what is asked for in a row, and allowed: only the row of a message asks for anything
 abbrev pub asked_in : Cause → List Out → List Item
+asked_in (ByMessage from request) outs = asked_all (publish_asked request) outs
+asked_in (BySource from p) outs = asked_all (Some p) outs
 asked_in (ByConnect from connect) outs = []
-asked_in (ByPing from client) outs = []
-asked_in (ByLeave from) outs = []
-asked_in (BySource from p) outs = flat_map (asked_out p) outs
-asked_in (ByRegister from r) outs = []
-asked_in (ByPublish from p) outs = flat_map (asked_out p) outs
-asked_in (ByUnsupported from frame) outs = []
 asked_in (ByBroken from rule) outs = []
 asked_in (ByPacket p) outs = []
 asked_in ByUp outs = []
@@ -216,43 +211,65 @@ asked_in ByTake outs = []
 asked_in (ByReplace policy) outs = []
 asked_in (ByTick clock) outs = []
 
--- a take while up leaves nothing; a lost connection, and a new one, leave the publishes alone; else what was asked for joins what waits
-abbrev pub waiting_by : State → Cause → List Out → List Item
-waiting_by s (ByConnect from connect) outs = s.link.waiting
-waiting_by s (ByPing from client) outs = s.link.waiting
-waiting_by s (ByLeave from) outs = s.link.waiting
-waiting_by s (BySource from p) outs = s.link.waiting ++ asked_in (BySource from p) outs
-waiting_by s (ByRegister from r) outs = s.link.waiting
-waiting_by s (ByPublish from p) outs = s.link.waiting ++ asked_in (ByPublish from p) outs
-waiting_by s (ByUnsupported from frame) outs = s.link.waiting
-waiting_by s (ByBroken from rule) outs = s.link.waiting
-waiting_by s (ByPacket p) outs = s.link.waiting ++ acknowledgements s.up s.link (answer_of p)
-waiting_by s ByUp outs = if s.up then publishes s.link.waiting else s.link.waiting
-waiting_by s ByDown outs = publishes s.link.waiting
-waiting_by s ByTake outs = if s.up then [] else s.link.waiting
-waiting_by s (ByReplace policy) outs = s.link.waiting
-waiting_by s (ByTick clock) outs = s.link.waiting
+-- a take while up leaves nothing; a lost connection, and a new one, leave the publishes alone; else what was asked for joins what waits,
+-- and behind it the broker is told of filters that stand for nobody any more. The last list are the clients after the row
+abbrev pub waiting_by : State → Cause → List Item → List Client → List Item
+waiting_by s (ByMessage from request) asked after = s.link.waiting ++ (asked ++ unsubscribes s.link (released s.clients after))
+waiting_by s (BySource from p) asked after = s.link.waiting ++ asked
+waiting_by s (ByConnect from connect) asked after = s.link.waiting ++ unsubscribes s.link (released s.clients after)
+waiting_by s (ByReplace policy) asked after = s.link.waiting ++ unsubscribes s.link (released s.clients after)
+waiting_by s (ByBroken from rule) asked after = s.link.waiting
+waiting_by s (ByPacket p) asked after = s.link.waiting ++ acknowledgements s.up s.link (answer_of p)
+waiting_by s ByUp asked after = if s.up then publishes s.link.waiting else s.link.waiting
+waiting_by s ByDown asked after = publishes s.link.waiting
+waiting_by s ByTake asked after = if s.up then [] else s.link.waiting
+waiting_by s (ByTick clock) asked after = s.link.waiting
 
--- what leaves at a take while up moves the link, a packet of the broker may answer a publish in flight, and as a connection begins those
--- in flight that are denied now are forgotten
+-- what leaves at a take while up moves the link, and a packet of the broker may answer what was sent. As a connection begins, what is in
+-- flight and denied now is forgotten, and each filter that is wanted is subscribed anew
 abbrev pub link_moved : State → Cause → List Outcome → Link
 link_moved s (ByConnect from connect) outcomes = s.link
-link_moved s (ByPing from client) outcomes = s.link
-link_moved s (ByLeave from) outcomes = s.link
+link_moved s (ByMessage from request) outcomes = s.link
 link_moved s (BySource from p) outcomes = s.link
-link_moved s (ByRegister from r) outcomes = s.link
-link_moved s (ByPublish from p) outcomes = s.link
-link_moved s (ByUnsupported from frame) outcomes = s.link
 link_moved s (ByBroken from rule) outcomes = s.link
 link_moved s (ByPacket p) outcomes = answered s.link (answer_of p)
-link_moved s ByUp outcomes = record s.link { in_flight = still_in_flight s.link.in_flight outcomes; pinged = s.clock }
+link_moved s ByUp outcomes = subscribes_sent (resumed s.link s.clock outcomes) (filters_wanted s.link)
 link_moved s ByDown outcomes = s.link
 link_moved s ByTake outcomes = if s.up then link_after s.link s.link.waiting outcomes else s.link
 link_moved s (ByReplace policy) outcomes = s.link
 link_moved s (ByTick clock) outcomes = s.link
 
-abbrev pub link_by : State → Cause → List Out → Link
-link_by s c outs = record (link_moved s c (exits_in outs)) { waiting = waiting_by s c outs }
+-- a filter that is not wanted yet comes last
+abbrev pub with_wanted : List Wanted → List ℕ → List Wanted
+with_wanted wanted filter = if wants wanted filter then wanted else wanted ++ record { filter = filter; open_id = None } ∷ []
+
+-- the filters of the subscriptions among these items are wanted, too
+abbrev pub joined : List Wanted → List Item → List Wanted
+joined wanted [] = wanted
+joined wanted (item.Subscribe filter ∷ items) = joined (with_wanted wanted filter) items
+joined wanted (item.Publish p ∷ items) = joined wanted items
+joined wanted (item.Unsubscribe filter ∷ items) = joined wanted items
+joined wanted (item.Acknowledge packet_id ∷ items) = joined wanted items
+joined wanted (item.Ping ∷ items) = joined wanted items
+
+-- the filters that are wanted: what a SUBSCRIBE asks for joins them, and one that stands for nobody any more is wanted no more
+abbrev pub wanted_by : State → Cause → List Wanted → List Item → List Client → List Wanted
+wanted_by s (ByMessage from request) wanted asked after = joined (still_wanted after wanted) asked
+wanted_by s (ByConnect from connect) wanted asked after = still_wanted after wanted
+wanted_by s (ByReplace policy) wanted asked after = still_wanted after wanted
+wanted_by s (ByPacket p) wanted asked after = still_wanted after wanted
+wanted_by s (BySource from p) wanted asked after = wanted
+wanted_by s (ByBroken from rule) wanted asked after = wanted
+wanted_by s ByUp wanted asked after = wanted
+wanted_by s ByDown wanted asked after = wanted
+wanted_by s ByTake wanted asked after = wanted
+wanted_by s (ByTick clock) wanted asked after = wanted
+
+-- the link after a row: what left with these outcomes, what was asked for, and the clients after it
+abbrev pub link_by : State → Cause → List Outcome → List Item → List Client → Link
+link_by s c outcomes asked after =
+    let moved = link_moved s c outcomes in
+    record moved { waiting = waiting_by s c asked after; wanted = wanted_by s c moved.wanted asked after }
 
 -- the state after a row
 abbrev pub after : State → Cause → List Out → State
@@ -260,7 +277,7 @@ after s c outs = record {
   policy = policy_by c s.policy;
   clock = clock_by c s.clock;
   up = up_by c s.up;
-  link = link_by s c outs;
+  link = link_by s c (exits_in outs) (asked_in c outs) (clients_by s c outs);
   clients = clients_by s c outs;
 }
 

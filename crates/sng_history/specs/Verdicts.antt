@@ -1,18 +1,19 @@
 -- How an ask is judged as it comes, and a publish as it leaves. The first rule in this order that forbids an ask is its verdict:
--- not a frame, not supported, out of turn, no session or no scope or an unknown source, the type of the topic id, not a topic name, an id
--- without a name, the missing grant, the broker's connection, the room.
+-- not a frame, not supported, out of turn, no session or no scope or an unknown source, the type of the topic id, not a topic name or not a
+-- topic filter, an id without a name, the missing grant, the broker's connection, the room.
 use Rattle.std.specs.Prelude.{ℕ, ◌/◌, ◌%◌, ◌==◌, ◌&&◌, ◌||◌, not, nat_lt, Bool, true, false, List, [], ◌∷◌, length, if◌then◌else◌, Option, Some, None, Ok, Err}
 use Rattle.std.specs.Str.{bytes_eq}
 use Rattle.std.specs.declared.result.Result.{Result}
-use Rattle.sng_text.specs.Texts.{is_name}
+use Rattle.sng_text.specs.Texts.{is_name, is_filter}
 use Rattle.sng_text.specs.declared.qos.Qos.{Qos}
 use Rattle.sng_text.specs.declared.qos.Qos.TheVariants.{AtMostOnce, AtLeastOnce}
 use Rattle.sng_grants.specs.declared.policy.Policy.{Policy}
-use Rattle.sng_policy.specs.Grants.{publish_grant, source_grant, lists, lists_source, topic}
+use Rattle.sng_policy.specs.Grants.{publish_grant, source_grant, subscribe_grant, lists, lists_source, topic}
 use Rattle.sng_policy.specs.declared.grant.Grant.{Grant}
 use Rattle.sng_policy.specs.declared.grant.Grant.TheVariants as grant
 use Rattle.sng_frames.specs.declared.messages.connect.Connect.{Connect}
 use Rattle.sng_frames.specs.declared.messages.publish.Publish.{Publish}
+use Rattle.sng_frames.specs.declared.messages.subscribe.TopicRequest.{TopicRequest}
 use Rattle.sng_frames.specs.declared.flags.TopicIdType.{TopicIdType}
 use Rattle.sng_frames.specs.declared.flags.TopicIdType.TheVariants.{Normal, Predefined, Short, Reserved}
 use Rattle.sng_outbox.specs.Sending.{load}
@@ -25,9 +26,10 @@ use Rattle.sng_book.specs.declared.decision.Who.TheVariants as who
 use Rattle.sng_book.specs.declared.outcome.IdKind.TheVariants as kind
 use Rattle.sng_book.specs.declared.outcome.Place.TheVariants as place
 use Rattle.sng_book.specs.declared.outcome.Denial.{Denial}
-use Rattle.sng_book.specs.declared.outcome.Denial.TheVariants.{NotSupported, NoScope, NoSession, UnknownSource, BadName, IdType, UnknownId, MissingPub, MissingSub, OutOfTurn, UpstreamDown, Full}
+use Rattle.sng_book.specs.declared.outcome.Denial.TheVariants.{NotSupported, NoScope, NoSession, UnknownSource, BadName, BadFilter, IdType, UnknownId, MissingPub, MissingSub, Uncovered, OutOfTurn, UpstreamDown, Full}
 use Rattle.sng_book.specs.declared.outcome.Outcome.{Outcome}
 use Rattle.sng_book.specs.declared.outcome.Outcome.TheVariants.{Allowed, Denied}
+use Rattle.sng_fan.specs.Subscriptions.{is_full}
 use Rattle.sng_ids.specs.Ids.{Ids, name_of, is_full_for}
 use Rattle.sng_states.specs.declared.state.ClientState.{ClientState}
 use Rattle.sng_states.specs.declared.state.ClientState.TheVariants.{Dialogue, Active, Asleep, Awake, Disconnected, Lost}
@@ -35,6 +37,7 @@ use Rattle.sng_history.specs.declared.limits.TheConstants.{MAX_CLIENTS}
 use Rattle.sng_history.specs.Clients.{Client}
 use Rattle.sng_history.specs.Links.{Link}
 use Rattle.sng_history.specs.Packets.{has_place}
+use Rattle.sng_history.specs.Requests.{gets_id, id_in}
 use Rattle.sng_history.specs.State.{State, is_known, qos_of}
 
 -- the policy does not list who asks
@@ -191,3 +194,73 @@ publish_by s x p (Denied rule) = note.Publish (who.Client x.id) None (Denied rul
 -- the note of a PUBLISH of a client (MQTT-SN 1.2, 5.4.12 and 6.6)
 abbrev pub publish_ask : State → Client → Publish → Decision
 publish_ask s x p = publish_by s x p (may_ask s.policy x)
+
+-- ---- subscriptions
+
+-- what a policy answers about a filter, as an outcome; a gap is a name that the filter matches and that may not be received
+abbrev pub filter_outcome : List ℕ → List ℕ → Grant → Outcome
+filter_outcome client filter grant.Allowed = Allowed
+filter_outcome client filter grant.NoScope = Denied (NoScope client)
+filter_outcome client filter grant.UnknownSource = Denied UnknownSource
+filter_outcome client filter grant.MissingPub = Denied (MissingPub filter)
+filter_outcome client filter grant.MissingSub = Denied (MissingSub filter)
+filter_outcome client filter (grant.Uncovered gap) = Denied (Uncovered filter gap)
+
+-- what the policy says to a subscription of the client by the filter, as it is asked for and at each replacement
+abbrev pub coverage : Policy → List ℕ → List ℕ → Outcome
+coverage policy client filter = filter_outcome client filter (subscribe_grant policy client filter)
+
+-- a text as a filter
+abbrev pub as_filter : List ℕ → Result (List ℕ) Denial
+as_filter text = if is_filter text then Ok text else Err BadFilter
+
+-- the name of a predefined topic id as a filter
+abbrev pub predefined_filter : ℕ → Option (List ℕ) → Result (List ℕ) Denial
+predefined_filter id None = Err (UnknownId kind.Predefined id)
+predefined_filter id (Some name) = as_filter name
+
+-- the filter that a SUBSCRIBE or an UNSUBSCRIBE names, or the rule that it breaks (MQTT-SN 1.2, 5.4.15 and 5.4.17): a text, the name of a
+-- predefined id, or a short name
+abbrev pub filter_in : Policy → TopicIdType → List ℕ → Result (List ℕ) Denial
+filter_in policy Normal topic_given = as_filter topic_given
+filter_in policy Short topic_given = if is_name topic_given then as_filter topic_given else Err BadName
+filter_in policy Predefined topic_given = predefined_filter (id_in topic_given) (topic policy (id_in topic_given))
+filter_in policy Reserved topic_given = Err IdType
+
+-- whether there is room for the subscription: for an id of its name, for one more filter of the client, in the outbox
+abbrev pub subscribe_room_in : State → Client → TopicRequest → List ℕ → Outcome
+subscribe_room_in s x r filter =
+    if gets_id r.flags.id_type filter && is_full_for filter x.ids
+    then Denied (Full place.Ids)
+    else (if is_full x.filters filter
+    then Denied (Full place.Subscriptions)
+    else (if has_place s.link then Allowed else Denied (Full place.Outbox)))
+
+-- and whether there is a connection
+abbrev pub subscribe_room : State → Client → TopicRequest → List ℕ → Outcome
+subscribe_room s x r filter = if s.up then subscribe_room_in s x r filter else Denied UpstreamDown
+
+abbrev pub subscribe_named : State → Client → TopicRequest → Result (List ℕ) Denial → Decision
+subscribe_named s x r (Ok filter) =
+    note.Subscribe (who.Client x.id) (Some filter) (and_then (coverage s.policy x.id filter) (subscribe_room s x r filter))
+subscribe_named s x r (Err rule) = note.Subscribe (who.Client x.id) None (Denied rule)
+
+abbrev pub subscribe_by : State → Client → TopicRequest → Outcome → Decision
+subscribe_by s x r Allowed = subscribe_named s x r (filter_in s.policy r.flags.id_type r.topic)
+subscribe_by s x r (Denied rule) = note.Subscribe (who.Client x.id) None (Denied rule)
+
+-- the note of a SUBSCRIBE of a client (MQTT-SN 1.2, 5.4.15 and 6.9)
+abbrev pub subscribe_ask : State → Client → TopicRequest → Decision
+subscribe_ask s x r = subscribe_by s x r (may_ask s.policy x)
+
+abbrev pub unsubscribe_named : Client → Result (List ℕ) Denial → Decision
+unsubscribe_named x (Ok filter) = note.Unsubscribe (who.Client x.id) (Some filter) Allowed
+unsubscribe_named x (Err rule) = note.Unsubscribe (who.Client x.id) None (Denied rule)
+
+abbrev pub unsubscribe_by : Policy → Client → TopicRequest → Outcome → Decision
+unsubscribe_by policy x r Allowed = unsubscribe_named x (filter_in policy r.flags.id_type r.topic)
+unsubscribe_by policy x r (Denied rule) = note.Unsubscribe (who.Client x.id) None (Denied rule)
+
+-- the note of an UNSUBSCRIBE of a client, which needs no grant (MQTT-SN 1.2, 5.4.17 and 6.9)
+abbrev pub unsubscribe_ask : Policy → Client → TopicRequest → Decision
+unsubscribe_ask policy x r = unsubscribe_by policy x r (in_turn x)

@@ -4,6 +4,8 @@ use Rattle.std.specs.Prelude.{ℕ, nat_le, Bool, true, false, List, [], ◌∷�
 use Rattle.sng_grants.specs.declared.policy.Policy.{Policy}
 use Rattle.sng_book.specs.declared.event.Event.{Event}
 use Rattle.sng_book.specs.declared.event.Event.TheVariants.{Datagram, Broker, Up, Down, Take, Replace, Tick}
+use Rattle.sng_book.specs.declared.out.Out.{Out}
+use Rattle.sng_book.specs.declared.out.Out.TheVariants.{Send, Wire, Note}
 use Rattle.sng_book.specs.declared.row.Row.{Row}
 
 -- the policy of the last replacement; before any, nothing is granted
@@ -69,3 +71,10 @@ began_after (Tick now) clock before = before
 abbrev pub began : List Row → ℕ
 began [] = 0
 began (row ∷ earlier) = began_after row.event (clock_at earlier) (began earlier)
+
+-- the packets that a row sends to the broker
+abbrev pub wires_in : List Out → List (List ℕ)
+wires_in [] = []
+wires_in (Wire packet ∷ outs) = packet ∷ wires_in outs
+wires_in (Send to datagram ∷ outs) = wires_in outs
+wires_in (Note said ∷ outs) = wires_in outs

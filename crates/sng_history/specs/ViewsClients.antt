@@ -1,11 +1,15 @@
 -- What the rows show of each client: its state, where it is, when it was heard last, who was accepted so far, and the names that a client
 -- was told topic ids of.
-use Rattle.std.specs.Prelude.{ℕ, Bool, true, false, ◌&&◌, ◌||◌, not, List, [], ◌∷◌, ◌++◌, filter, if◌then◌else◌, Option, Some, None}
+use Rattle.std.specs.Prelude.{ℕ, ◌==◌, Bool, true, false, ◌&&◌, ◌||◌, not, List, [], ◌∷◌, ◌++◌, filter, length, if◌then◌else◌, Option, Some, None}
 use Rattle.std.specs.Str.{bytes_eq}
+use Rattle.sng_text.specs.Texts.{is_name}
 use Rattle.sng_states.specs.declared.state.ClientState.{ClientState}
 use Rattle.sng_states.specs.declared.state.ClientState.TheVariants.{Active, Disconnected}
 use Rattle.sng_states.specs.States.{has_session}
 use Rattle.sng_frames.specs.Reading.{frame_of}
+use Rattle.sng_frames.specs.declared.flags.TopicIdType.{TopicIdType}
+use Rattle.sng_frames.specs.declared.flags.TopicIdType.TheVariants.{Normal, Predefined, Short, Reserved}
+use Rattle.sng_frames.specs.declared.messages.subscribe.TopicRequest.{TopicRequest}
 use Rattle.sng_book.specs.Denials.{is_allowed}
 use Rattle.sng_book.specs.declared.address.Address.{Address}
 use Rattle.sng_book.specs.declared.decision.Decision.{Decision}
@@ -19,7 +23,7 @@ use Rattle.sng_book.specs.declared.out.Out.TheVariants.{Send, Wire, Note}
 use Rattle.sng_book.specs.declared.row.Row.{Row}
 use Rattle.sng_history.specs.Clients.{same_address}
 use Rattle.sng_history.specs.Views.{clock_at}
-use Rattle.sng_history.specs.ViewsMessages.{Message, Connects, Registers, Publishes, Other, message_in, is_without_session}
+use Rattle.sng_history.specs.ViewsMessages.{Message, Connects, Registers, Publishes, Subscribes, Unsubscribes, Other, message_in, message_at, subscribe_in, is_without_session}
 
 -- ---- the state of a client
 
@@ -115,6 +119,8 @@ is_at id from h = is_there (phase_of id h) (address_of id h) from
 abbrev pub duration_by : Option Message → Option ℕ
 duration_by (Some (Connects connect)) = Some connect.duration
 duration_by (Some (Registers r)) = None
+duration_by (Some (Subscribes r)) = None
+duration_by (Some (Unsubscribes r)) = None
 duration_by (Some (Publishes p)) = None
 duration_by (Some Other) = None
 duration_by None = None
@@ -138,6 +144,8 @@ duration_of id (row ∷ earlier) = if is_admitted id row.outs then stated_in row
 abbrev pub is_spoken : Option Message → Bool
 is_spoken (Some (Connects connect)) = true
 is_spoken (Some (Registers r)) = true
+is_spoken (Some (Subscribes r)) = true
+is_spoken (Some (Unsubscribes r)) = true
 is_spoken (Some (Publishes p)) = not (is_without_session p.flags.qos)
 is_spoken (Some Other) = true
 is_spoken None = false
@@ -169,6 +177,8 @@ accepted_by ids (Some (Connects connect)) outs =
     if is_admitted connect.client_id outs && not (is_among connect.client_id ids) then connect.client_id ∷ [] else []
 accepted_by ids (Some (Registers r)) outs = []
 accepted_by ids (Some (Publishes p)) outs = []
+accepted_by ids (Some (Subscribes r)) outs = []
+accepted_by ids (Some (Unsubscribes r)) outs = []
 accepted_by ids (Some Other) outs = []
 accepted_by ids None outs = []
 
@@ -204,33 +214,47 @@ abbrev pub with_name : Option (List ℕ) → List (List ℕ) → List (List ℕ)
 with_name None names = names
 with_name (Some name) names = if is_among name names then names else names ++ name ∷ []
 
--- a REGISTER that is allowed tells the client an id of its name, and a CONNECT that is accepted begins anew
-abbrev pub names_by : List ℕ → Decision → List (List ℕ) → List (List ℕ)
-names_by id (note.Connect client outcome) before = if bytes_eq id client && is_allowed outcome then [] else before
-names_by id (note.Register whom name outcome) before = if speaks_of id whom && is_allowed outcome then with_name name before else before
-names_by id (note.Left client) before = before
-names_by id (note.Publish whom name outcome) before = before
-names_by id (note.Subscribe whom filter outcome) before = before
-names_by id (note.Unsubscribe whom filter outcome) before = before
-names_by id (note.Will whom name outcome) before = before
-names_by id (note.Announce client name) before = before
-names_by id (note.Hand client name outcome) before = before
-names_by id (note.Retry client name outcome) before = before
-names_by id (note.Forward whom name outcome) before = before
-names_by id (note.Again whom name outcome) before = before
-names_by id (note.End client filter outcome) before = before
-names_by id (note.Lost client) before = before
-names_by id note.Outbox before = before
-names_by id (note.Frame whom outcome) before = before
+-- a text is told an id as a SUBSCRIBE by it is allowed, where it is a topic name of other than two octets
+abbrev pub tells_id : TopicIdType → List ℕ → Bool
+tells_id Normal text = is_name text && not (length text == 2)
+tells_id Predefined text = false
+tells_id Short text = false
+tells_id Reserved text = false
 
-abbrev pub names_after : List ℕ → List Out → List (List ℕ) → List (List ℕ)
-names_after id [] before = before
-names_after id (Note said ∷ outs) before = names_after id outs (names_by id said before)
-names_after id (Send to datagram ∷ outs) before = names_after id outs before
-names_after id (Wire packet ∷ outs) before = names_after id outs before
+-- the name that is told so, of the filter that the SUBSCRIBE names
+abbrev pub name_subscribed : Option TopicRequest → Option (List ℕ) → Option (List ℕ)
+name_subscribed None filter = None
+name_subscribed (Some r) None = None
+name_subscribed (Some r) (Some filter) = if tells_id r.flags.id_type filter then Some filter else None
+
+-- a REGISTER that is allowed tells the client an id of its name, as may a SUBSCRIBE, and a CONNECT that is accepted begins anew
+abbrev pub names_by : Option TopicRequest → List ℕ → Decision → List (List ℕ) → List (List ℕ)
+names_by r id (note.Connect client outcome) before = if bytes_eq id client && is_allowed outcome then [] else before
+names_by r id (note.Register whom name outcome) before = if speaks_of id whom && is_allowed outcome then with_name name before else before
+names_by r id (note.Left client) before = before
+names_by r id (note.Publish whom name outcome) before = before
+names_by r id (note.Subscribe whom filter outcome) before =
+    if speaks_of id whom && is_allowed outcome then with_name (name_subscribed r filter) before else before
+names_by r id (note.Unsubscribe whom filter outcome) before = before
+names_by r id (note.Will whom name outcome) before = before
+names_by r id (note.Announce client name) before = before
+names_by r id (note.Hand client name outcome) before = before
+names_by r id (note.Retry client name outcome) before = before
+names_by r id (note.Forward whom name outcome) before = before
+names_by r id (note.Again whom name outcome) before = before
+names_by r id (note.End client filter outcome) before = before
+names_by r id (note.Lost client) before = before
+names_by r id note.Outbox before = before
+names_by r id (note.Frame whom outcome) before = before
+
+abbrev pub names_after : Option TopicRequest → List ℕ → List Out → List (List ℕ) → List (List ℕ)
+names_after r id [] before = before
+names_after r id (Note said ∷ outs) before = names_after r id outs (names_by r id said before)
+names_after r id (Send to datagram ∷ outs) before = names_after r id outs before
+names_after r id (Wire packet ∷ outs) before = names_after r id outs before
 
 -- the names that the client was told ids of since its last accepted CONNECT, in the order in which each was told first: the first has id
 -- 1, and the k-th has id k
 abbrev pub names_told : List ℕ → List Row → List (List ℕ)
 names_told id [] = []
-names_told id (row ∷ earlier) = names_after id row.outs (names_told id earlier)
+names_told id (row ∷ earlier) = names_after (subscribe_in (message_at row.event)) id row.outs (names_told id earlier)

@@ -1,9 +1,12 @@
 -- What the rows show of the way to the broker: what was asked for, what waits, and what left.
-use Rattle.std.specs.Prelude.{ℕ, Bool, true, false, ◌&&◌, ◌||◌, not, List, [], ◌∷◌, ◌++◌, map, if◌then◌else◌, Option, Some, None}
+use Rattle.std.specs.Prelude.{ℕ, ◌-◌, Bool, true, false, ◌&&◌, ◌||◌, not, List, [], ◌∷◌, ◌++◌, map, filter, take, length, if◌then◌else◌, Option, Some, None}
+use Rattle.std.specs.List.{list_any}
 use Rattle.sng_text.specs.declared.qos.Qos.{Qos}
 use Rattle.sng_text.specs.declared.qos.Qos.TheVariants.{AtMostOnce, AtLeastOnce}
 use Rattle.mqtt_frames.specs.declared.packet.Packet.{Packet}
 use Rattle.mqtt_frames.specs.declared.packet.Packet.TheVariants as packet
+use Rattle.sng_fan.specs.declared.held.Held.{Held}
+use Rattle.sng_fan.specs.Subscriptions.{stands}
 use Rattle.sng_frames.specs.Reading.{frame_of}
 use Rattle.sng_frames.specs.declared.qos.FrameQos.{FrameQos}
 use Rattle.sng_frames.specs.declared.qos.FrameQos.TheVariants as qos
@@ -28,7 +31,10 @@ use Rattle.sng_book.specs.declared.out.Out.{Out}
 use Rattle.sng_book.specs.declared.out.Out.TheVariants.{Send, Wire, Note}
 use Rattle.sng_book.specs.declared.row.Row.{Row}
 use Rattle.sng_history.specs.Views.{is_up}
-use Rattle.sng_history.specs.ViewsMessages.{Message, Connects, Registers, Publishes, Other, message_in}
+pub use Rattle.sng_history.specs.Views.{wires_in}
+use Rattle.sng_history.specs.ViewsMessages.{Message, Connects, Registers, Publishes, Subscribes, Unsubscribes, Other, message_in, message_at}
+use Rattle.sng_history.specs.ViewsClients.{is_spoken, accepted}
+use Rattle.sng_history.specs.ViewsStanding.{begun_by, standing_after, standing_of}
 
 -- ---- what was asked for
 
@@ -77,23 +83,35 @@ allowed_in p (Note said ∷ outs) = allowed_by p said ++ allowed_in p outs
 allowed_in p (Send to datagram ∷ outs) = allowed_in p outs
 allowed_in p (Wire packet ∷ outs) = allowed_in p outs
 
--- what a message asks for, where it is allowed
-abbrev pub asks_for : Option Message → List Out → List Publication
-asks_for (Some (Publishes p)) outs = allowed_in p outs
-asks_for (Some (Connects connect)) outs = []
-asks_for (Some (Registers r)) outs = []
-asks_for (Some Other) outs = []
+-- a PUBLISH at QoS 2 is not taken
+abbrev pub publish_taken : FrameQos → Publish → Option Publish
+publish_taken qos.AtMostOnce p = Some p
+publish_taken qos.AtLeastOnce p = Some p
+publish_taken qos.WithoutSession p = Some p
+publish_taken qos.ExactlyOnce p = None
+
+-- the PUBLISH among messages
+abbrev pub publish_in : Option Message → Option Publish
+publish_in (Some (Publishes p)) = publish_taken p.flags.qos p
+publish_in (Some (Connects connect)) = None
+publish_in (Some (Registers r)) = None
+publish_in (Some (Subscribes r)) = None
+publish_in (Some (Unsubscribes r)) = None
+publish_in (Some Other) = None
+publish_in None = None
+
+-- the publish that a note allows, of the PUBLISH that the row holds
+abbrev pub allowed_of : Option Publish → Decision → List Publication
+allowed_of None said = []
+allowed_of (Some p) said = allowed_by p said
+
+abbrev pub asks_for : Option Publish → List Out → List Publication
 asks_for None outs = []
+asks_for (Some p) outs = allowed_in p outs
 
 -- the publish that was asked for and allowed with this event and these outs
 abbrev pub asked_with : Event → List Out → List Publication
-asked_with (Datagram from datagram) outs = asks_for (message_in (frame_of datagram)) outs
-asked_with (Broker sent) outs = []
-asked_with Up outs = []
-asked_with Down outs = []
-asked_with Take outs = []
-asked_with (Replace policy) outs = []
-asked_with (Tick clock) outs = []
+asked_with e outs = asks_for (publish_in (message_at e)) outs
 
 -- everything that was ever asked for and allowed, the oldest first
 abbrev pub asked : List Row → List Publication
@@ -184,14 +202,66 @@ drops (Tick clock) earlier = false
 abbrev pub kept : Event → List Row → List Item → List Item
 kept e earlier items = if lets_out e earlier then [] else (if drops e earlier then publishes items else items)
 
--- what a row adds to what waits: the publish that is asked for and allowed, and the acknowledgement that is owed
-abbrev pub added : Event → List Row → List Out → List Item
-added e earlier outs = map item.Publish (asked_with e outs) ++ map item.Acknowledge (owed_with e earlier outs)
+-- what a note asks for, where it allows it: the publish, or the subscription to its filter
+abbrev pub items_by : Option Publish → Decision → List Item
+items_by p said = map item.Publish (allowed_of p said) ++ map item.Subscribe (begun_by said)
+
+abbrev pub items_in : Option Publish → List Out → List Item
+items_in p [] = []
+items_in p (Note said ∷ outs) = items_by p said ++ items_in p outs
+items_in p (Send to datagram ∷ outs) = items_in p outs
+items_in p (Wire packet ∷ outs) = items_in p outs
+
+-- what a message asks for: a CONNECT for nothing
+abbrev pub items_for : Option Message → List Out → List Item
+items_for (Some (Connects connect)) outs = []
+items_for (Some (Publishes p)) outs = items_in (publish_in (Some (Publishes p))) outs
+items_for (Some (Registers r)) outs = items_in None outs
+items_for (Some (Subscribes r)) outs = items_in None outs
+items_for (Some (Unsubscribes r)) outs = items_in None outs
+items_for (Some Other) outs = items_in None outs
+items_for None outs = []
+
+-- the client's filters after a row with this event and these outs
+abbrev pub standing_then : Event → List Row → List Out → List ℕ → List Held
+standing_then e earlier outs id = standing_after (message_at e) id outs (standing_of id earlier)
+
+-- of the filters that stood for the client those that do not any more, in the order in which each stood first
+abbrev pub ceased : Event → List Row → List Out → List ℕ → List (List ℕ)
+ceased e earlier outs id = filter (λ text. not (stands (standing_then e earlier outs id) text)) (map (λ h. h.filter) (standing_of id earlier))
+
+-- each filter as the last client ceases to hold it: the clients before have what stands for them afterwards, and those behind what stood
+abbrev pub released_among : Event → List Row → List Out → List (List ℕ) → List (List ℕ) → List (List ℕ)
+released_among e earlier outs done [] = []
+released_among e earlier outs done (id ∷ ids) =
+    filter (λ text. not (list_any (λ one. stands (standing_then e earlier outs one) text) done || list_any (λ one. stands (standing_of one earlier) text) ids)) (ceased e earlier outs id)
+    ++ released_among e earlier outs (done ++ id ∷ []) ids
+
+-- the broker is told with a message of a session, and with a replacement
+abbrev pub is_told : Event → Bool
+is_told (Datagram from datagram) = is_spoken (message_in (frame_of datagram))
+is_told (Replace policy) = true
+is_told (Broker sent) = false
+is_told Up = false
+is_told Down = false
+is_told Take = false
+is_told (Tick clock) = false
+
+-- the filters of which it is told that they stand for nobody any more, where so many items more may wait
+abbrev pub told_with : Event → List Row → List Out → ℕ → List (List ℕ)
+told_with e earlier outs places = if is_told e then take places (released_among e earlier outs [] (accepted earlier)) else []
+
+-- what a row adds to what waits: what is asked for and allowed, an UNSUBSCRIBE of each filter that stands for nobody any more while there is
+-- place, and the acknowledgement that is owed
+abbrev pub added : Event → List Row → List Item → List Out → List Item
+added e earlier items outs =
+    items_for (message_at e) outs
+    ++ (map item.Unsubscribe (told_with e earlier outs (512 - length items)) ++ map item.Acknowledge (owed_with e earlier outs))
 
 -- what was added since the last take while up, without what was dropped
 abbrev pub waiting : List Row → List Item
 waiting [] = []
-waiting (row ∷ earlier) = kept row.event earlier (waiting earlier) ++ added row.event earlier row.outs
+waiting (row ∷ earlier) = kept row.event earlier (waiting earlier) ++ added row.event earlier (waiting earlier) row.outs
 
 -- the publishes among the items, in order
 abbrev pub publications : List Item → List Publication
@@ -247,13 +317,6 @@ departures (Wire packet ∷ outs) = departures outs
 abbrev pub left : List Row → List Departure
 left [] = []
 left (row ∷ earlier) = left earlier ++ departures row.outs
-
--- the packets that a row sends to the broker
-abbrev pub wires_in : List Out → List (List ℕ)
-wires_in [] = []
-wires_in (Wire packet ∷ outs) = packet ∷ wires_in outs
-wires_in (Send to datagram ∷ outs) = wires_in outs
-wires_in (Note said ∷ outs) = wires_in outs
 
 -- what a row sends to clients, and to whom
 abbrev pub sends_in : List Out → List (Address × List ℕ)

@@ -1,25 +1,33 @@
--- What message a datagram holds, as far as the views ask: a CONNECT, a REGISTER, a PUBLISH, or another one.
+-- What message a datagram holds, as far as the views ask: a CONNECT, a REGISTER, a PUBLISH, a SUBSCRIBE, an UNSUBSCRIBE, or another one.
 use Rattle.std.specs.Prelude.{Bool, true, false, Option, Some, None, Ok, Err}
 use Rattle.std.specs.declared.result.Result.{Result}
+use Rattle.sng_frames.specs.Reading.{frame_of}
 use Rattle.sng_frames.specs.declared.fault.FrameFault.{FrameFault}
 use Rattle.sng_frames.specs.declared.qos.FrameQos.{FrameQos}
 use Rattle.sng_frames.specs.declared.qos.FrameQos.TheVariants as qos
 use Rattle.sng_frames.specs.declared.messages.connect.Connect.{Connect}
 use Rattle.sng_frames.specs.declared.messages.publish.Publish.{Publish}
 use Rattle.sng_frames.specs.declared.messages.register.Register.{Register}
+use Rattle.sng_frames.specs.declared.messages.subscribe.TopicRequest.{TopicRequest}
 use Rattle.sng_frames.specs.declared.frame.SnFrame.{SnFrame}
 use Rattle.sng_frames.specs.declared.frame.SnFrame.TheVariants as frame
+use Rattle.sng_book.specs.declared.event.Event.{Event}
+use Rattle.sng_book.specs.declared.event.Event.TheVariants.{Datagram, Broker, Up, Down, Take, Replace, Tick}
 
 pub data Message : Type 0 where
   Connects : Connect → Message
   Registers : Register → Message
   Publishes : Publish → Message
+  Subscribes : TopicRequest → Message
+  Unsubscribes : TopicRequest → Message
   Other : Message
 
 abbrev pub message_of : SnFrame → Message
 message_of (frame.Connect connect) = Connects connect
 message_of (frame.Register register) = Registers register
 message_of (frame.Publish p) = Publishes p
+message_of (frame.Subscribe r) = Subscribes r
+message_of (frame.Unsubscribe r) = Unsubscribes r
 message_of (frame.ConnectAck code) = Other
 message_of frame.WillTopicRequest = Other
 message_of (frame.WillTopic topic) = Other
@@ -30,9 +38,7 @@ message_of (frame.PublishAck answer) = Other
 message_of (frame.PublishComplete id) = Other
 message_of (frame.PublishReceived id) = Other
 message_of (frame.PublishRelease id) = Other
-message_of (frame.Subscribe request) = Other
 message_of (frame.SubscribeAck answer) = Other
-message_of (frame.Unsubscribe request) = Other
 message_of (frame.UnsubscribeAck id) = Other
 message_of (frame.PingRequest client) = Other
 message_of frame.PingResponse = Other
@@ -46,6 +52,26 @@ message_of (frame.WillMessageResponse code) = Other
 abbrev pub message_in : Result SnFrame FrameFault → Option Message
 message_in (Ok message) = Some (message_of message)
 message_in (Err broke) = None
+
+-- the message that the event is, where it is one
+abbrev pub message_at : Event → Option Message
+message_at (Datagram from datagram) = message_in (frame_of datagram)
+message_at (Broker packet) = None
+message_at Up = None
+message_at Down = None
+message_at Take = None
+message_at (Replace policy) = None
+message_at (Tick clock) = None
+
+-- the SUBSCRIBE among messages
+abbrev pub subscribe_in : Option Message → Option TopicRequest
+subscribe_in (Some (Subscribes r)) = Some r
+subscribe_in (Some (Connects connect)) = None
+subscribe_in (Some (Registers r)) = None
+subscribe_in (Some (Publishes p)) = None
+subscribe_in (Some (Unsubscribes r)) = None
+subscribe_in (Some Other) = None
+subscribe_in None = None
 
 -- a PUBLISH at QoS -1, which belongs to no session
 abbrev pub is_without_session : FrameQos → Bool

@@ -4,6 +4,7 @@
 #![tactic(auto)]
 
 pub mod limits;
+pub mod subscriptions;
 pub mod worked;
 
 ghost use Rattle.std.specs.Prelude.{◌≡◌, ◌≤◌, ℕ, true, false, List, [], ◌∷◌, length, map, Option, Some, None};
@@ -14,9 +15,11 @@ ghost use Rattle.sng_frames.specs.declared.frame.SnFrame.TheVariants as frame;
 ghost use Rattle.sng_frames.specs.declared.messages.connect.Connect.{Connect};
 ghost use Rattle.sng_frames.specs.declared.messages.publish.Publish.{Publish};
 ghost use Rattle.sng_frames.specs.declared.messages.register.Register.{Register};
+ghost use Rattle.sng_frames.specs.declared.messages.subscribe.TopicRequest.{TopicRequest};
+ghost use Rattle.sng_grants.specs.declared.policy.Policy.{Policy};
 ghost use Rattle.sng_book.specs.declared.address.Address.{Address};
 ghost use Rattle.sng_book.specs.declared.event.Event.{Event};
-ghost use Rattle.sng_book.specs.declared.event.Event.TheVariants.{Broker};
+ghost use Rattle.sng_book.specs.declared.event.Event.TheVariants.{Broker, Replace};
 ghost use Rattle.sng_book.specs.declared.out.Out.{Out};
 ghost use Rattle.sng_book.specs.declared.outcome.Outcome.TheVariants.{Allowed};
 ghost use Rattle.sng_book.specs.declared.row.Row.{Row};
@@ -30,6 +33,10 @@ ghost use Rattle.sng_history.specs.LawsRules.{judged};
 ghost use Rattle.sng_history.specs.LawsState.{ClientShown, RestShown, Untold, NoneTwice, OneMore};
 ghost use Rattle.sng_history.specs.LawsAsks.{register_stranger, register_answer, is_of_session, publish_stranger, publish_answer};
 ghost use Rattle.sng_history.specs.LawsAsks.{register_rules, id_told, told_as, packet_answer};
+ghost use Rattle.sng_history.specs.LawsSubscriptions.{subscribe_stranger, subscribe_answer};
+ghost use Rattle.sng_history.specs.LawsSubscriptions.{SubscribesExactly};
+ghost use Rattle.sng_history.specs.LawsSubscriptions.{unsubscribe_stranger, unsubscribe_answer};
+ghost use Rattle.sng_history.specs.LawsSubscriptions.{replace_answer};
 ghost use Rattle.sng_history.specs.LawsUnsupported.{is_unsupported, unsupported_stranger, unsupported_answer};
 ghost use Rattle.sng_history.specs.State.{State, opening, state_of};
 ghost use Rattle.sng_history.specs.Steps.{outs_of, next_of};
@@ -53,11 +60,11 @@ pub fn step_is_lawful()
 
 /// The state that a lawful history leads to is what a reader sees who looks back through its rows: the policy
 /// of the last replacement, the greatest tick, whether the last word on the broker's connection is an Up,
-/// what was asked for or is owed to the broker and has not left, the publishes in flight and the packet id
-/// that was given last, the clients in the order in which each was accepted first, and of each client its
-/// state, where it is, the Duration that it stated and when it was heard last; and its topic ids: the k-th
-/// name that it was told since its last accepted CONNECT has id k. `strangers`: a client that was never
-/// accepted has no state, so the rows show no other client.
+/// what was asked for, is owed or is to be told to the broker and has not left, the publishes in flight, the
+/// filters that stand for anybody, the clients in the order in which each was accepted first, and of each
+/// client its state, where it is, the Duration that it stated and when it was heard last, the filters that
+/// stand for it; and its topic ids: the k-th name that it was told since its last accepted CONNECT has id k.
+/// `strangers`: a client that was never accepted has no state, so the rows show no other client.
 pub fn state_is_shown()
     ensures policy { (h : List Row) → Lawful opening h → (state_of opening h).policy ≡ policy_in_force h }
     ensures clock { (h : List Row) → Lawful opening h → (state_of opening h).clock ≡ clock_at h }
@@ -79,9 +86,11 @@ pub fn state_is_shown()
 /// with its own name, payload and Retain, and a packet id just at QoS 1; at no other row such a note stands.
 /// `announced`: no PUBLISH goes to the broker but at once behind a note that lets it go. `timely`: no packet
 /// goes to it but at a take while up, or as a connection begins. `packets`: at a take while up the packets
-/// are those behind the notes and a PUBACK for each acknowledgement that waits, in the order in which all of
-/// them waited; as a connection begins they are those behind the notes. `upstream`: with an event of that
-/// connection alone nothing is sent to a client.
+/// are those behind the notes, a PUBACK for each acknowledgement that waits, a SUBSCRIBE where its filter
+/// stands for somebody, and an UNSUBSCRIBE where its filter stands for nobody, in the order in which all of
+/// them waited; as a connection begins they are those behind the notes and a SUBSCRIBE for each filter that
+/// stands for anybody, in the order in which each stood first. `upstream`: with an event of that connection
+/// alone nothing is sent to a client.
 pub fn publishes_leave_judged()
     ensures in_order { (h : List Row) → Lawful opening h → LeavesInOrder h }
     ensures judged { (h : List Row) → Lawful opening h → EachDeparts h }
@@ -111,7 +120,8 @@ pub fn one_client_at_an_address()
 /// that forbids it, in this order: a ProtocolId other than 1 and a will are not supported; a client that the
 /// policy in force does not list has no scope; and a client that was never accepted finds its place full
 /// where 256 were. One that is denied is answered by the rule's code. As one is accepted, the client is
-/// dismissed where it was, if that is elsewhere, another client at the address leaves, and CONNACK comes
+/// dismissed where it was, if that is elsewhere, another client at the address leaves, of each filter that a
+/// clean one leaves with nobody it is noted where there is no place to tell the broker, and CONNACK comes
 /// last. Nothing else is let out.
 pub fn connects_are_judged()
     ensures { (h : List Row) → (row : Row) → (from : Address) → (connect : Connect) → Lawful opening (row ∷ h)
@@ -149,6 +159,34 @@ pub fn asks_are_judged()
         → row.outs ≡ answer_to (publish_stranger from) (publish_answer h from p) (those_at from h) }
 {}
 
+/// Subscriptions, in every lawful history. `subscribes`: a SUBSCRIBE of a client is noted with the first rule
+/// that forbids it, in this order: a client that is not active is out of turn; one that the policy in force
+/// does not list has no scope; a topic id of the reserved type; a text, or a name of a predefined or a short
+/// id, that is no topic filter; a short id that is no name; a predefined id without a name; a filter that is
+/// not covered, with a gap; a connection that is down; a text that is a name of other than two octets without
+/// an id where 128 names were told; a filter that does not stand for the client where 32 do; and 512 items
+/// that wait. SUBACK answers, with the QoS that is granted and the topic id. `covered`: where the scope of
+/// the client holds filters, a SUBSCRIBE that is well formed is denied as not covered where its filter
+/// matches a name that may not be received, and the gap is such a name; else it is allowed where there is
+/// room. `unsubscribes`: an UNSUBSCRIBE needs no grant; UNSUBACK answers. `replaces`: as the policy is
+/// replaced, of each client in the order of first acceptance each filter that the new policy does not allow
+/// ends, in the order of first standing, noted with the rule that forbids it. Behind an end that leaves a
+/// filter with nobody it is noted where there is no place to tell the broker. Nothing else is let out.
+pub fn subscriptions_are_judged()
+    ensures subscribes { (h : List Row) → (row : Row) → (from : Address) → (r : TopicRequest)
+        → Lawful opening (row ∷ h)
+        → Brought row from (frame.Subscribe r)
+        → row.outs ≡ answer_to (subscribe_stranger from) (subscribe_answer h from r) (those_at from h) }
+    ensures covered { (h : List Row) → (id : List ℕ) → (r : TopicRequest) → SubscribesExactly h id r }
+    ensures unsubscribes { (h : List Row) → (row : Row) → (from : Address) → (r : TopicRequest)
+        → Lawful opening (row ∷ h)
+        → Brought row from (frame.Unsubscribe r)
+        → row.outs ≡ answer_to (unsubscribe_stranger from) (unsubscribe_answer h from r) (those_at from h) }
+    ensures replaces { (h : List Row) → (row : Row) → (policy : Policy) → Lawful opening (row ∷ h)
+        → row.event ≡ Replace policy
+        → row.outs ≡ replace_answer h policy }
+{}
+
 /// The topic ids of a client, in every lawful history. `told`: the id that REGACK tells stands for the name
 /// of the REGISTER from that row on. `kept`: an id keeps its name until the client connects anew, since a row
 /// that does not accept the client leaves the names that it was told where they stood, and tells it at most
@@ -172,8 +210,10 @@ pub fn ids_keep_their_names()
 /// address at which no client is have no session, and are answered by DISCONNECT. `unsupported`: other
 /// messages are not supported, which an acknowledgement says to a client where the message asks for one.
 /// `broken`: what is no message is noted alone. `packets`: of a packet of the broker a message under a text
-/// that is no topic name is noted, and an acknowledgement that is owed while 512 items wait; what
-/// acknowledges or answers the gateway lets nothing out; and any other is not supported.
+/// that is no topic name is noted, and an acknowledgement that is owed while 512 items wait; a SUBACK that
+/// refuses ends the filter whose open SUBSCRIBE has its packet id, for each client for whom it stands, in the
+/// order of first acceptance; what else acknowledges or answers the gateway lets nothing out; and any other
+/// is not supported.
 pub fn messages_are_answered()
     ensures pings { (h : List Row) → (row : Row) → (from : Address) → (named : Option (List ℕ))
         → Lawful opening (row ∷ h)

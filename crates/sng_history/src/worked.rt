@@ -1,6 +1,6 @@
 //! Worked rows: histories that are lawful by the definitions, and rows that are not.
 ghost use Rattle.std.specs.Prelude.{◌∷◌, [], codes};
-ghost use Rattle.sng_book.specs.declared.event.Event.TheVariants.{Datagram, Up, Take};
+ghost use Rattle.sng_book.specs.declared.event.Event.TheVariants.{Datagram, Up, Take, Replace};
 ghost use Rattle.sng_book.specs.declared.outcome.Denial.TheVariants.{MissingPub};
 ghost use Rattle.sng_book.specs.declared.outcome.Outcome.TheVariants.{Allowed, Denied};
 ghost use Rattle.sng_history.specs.State.{opening};
@@ -11,6 +11,7 @@ ghost use Rattle.sng_history.specs.Examples.{waits, waits_replaced, waits_down};
 ghost use Rattle.sng_history.specs.ExamplesClients.{home, away, s1, s2, connect_s1, connect_s2, disconnect, lets_in, welcome, bye};
 ghost use Rattle.sng_history.specs.ExamplesClients.{not_listed, moves, takes_over, goes, pings, at_home};
 ghost use Rattle.sng_history.specs.ExamplesClients.{t1, publish_t1, asks_t1, forward_t1, again_t1, packet_t1, refused_t1};
+ghost use Rattle.sng_history.specs.ExamplesClients.{both_listed, ended_ab, holds_ab};
 ghost use Rattle.sng_history.specs.ExamplesClients.{untold, acknowledged_t1, knows_t1, flies_and_waits, flies_ungranted};
 
 /// Lawful histories of devices without a session: a publish that is granted goes out, with a Length of one
@@ -76,4 +77,15 @@ pub fn unlawful_asks()
     ensures unjudged { LawfulRow flies_ungranted Up (again_t1 Allowed ∷ packet_t1 1 ∷ []) → ⊥ }
     ensures denied { LawfulRow knows_t1 (Datagram home publish_t1)
         (asks_t1 (Denied (MissingPub t1)) ∷ refused_t1 ∷ []) → ⊥ }
+{}
+
+/// A lawful history of a subscription: a SUBSCRIBE that is covered is allowed, and ends as the policy is
+/// replaced by one that does not cover it.
+pub fn lawful_subscriptions()
+    ensures ended { Lawful opening ended_ab }
+{}
+
+/// A row that may not come: the policy is replaced, and a subscription that it does not cover does not end.
+pub fn unlawful_subscriptions()
+    ensures kept { LawfulRow holds_ab (Replace both_listed) [] → ⊥ }
 {}

@@ -1,8 +1,8 @@
 -- How publishes in flight are parted into those that stay and the others.
 use Rattle.std.proofs.Math.Seq.{drop-cons}
-use Rattle.std.proofs.Common.{◌≡◌, ℕ, zero, suc, ◌+◌, ◌<◌, ◌≤◌, Bool, true, false, List, [], ◌∷◌, ◌++◌, length, map, set, get_or, take, drop, if◌then◌else◌, refl, sym, ◌∙◌, ap, arith}
+use Rattle.std.proofs.Common.{◌≡◌, ℕ, zero, suc, ◌+◌, ◌<◌, ◌≤◌, Bool, true, false, List, [], ◌∷◌, ◌++◌, length, map, get_or, take, drop, if◌then◌else◌, refl, sym, ◌∙◌, ap, arith}
 use Rattle.std.specs.Prelude.{Some, slice_get, remove}
-use Rattle.std.proofs.lemmas.List.{append_assoc, append-nil, map-append, length-append}
+use Rattle.std.proofs.lemmas.List.{append_assoc, append-nil, length-append}
 use Rattle.sng_grants.specs.declared.policy.Policy.{Policy}
 use Rattle.sng_outbox.specs.declared.in_flight.InFlight.{InFlight}
 use Rattle.sng_book.specs.Denials.{is_allowed}
@@ -12,12 +12,11 @@ use Rattle.sng_book.specs.declared.out.Out.{Out}
 use Rattle.sng_history.specs.Links.{still_in_flight}
 use Rattle.sng_history.specs.Exits.{agains_of, resending, sent_again}
 use Rattle.sng_history.specs.Verdicts.{exit}
-use Rattle.sng_link.specs.Flights.{ids_of, AreMarked}
-use Rattle.sng_link.specs.Resending.{staying}
-use Rattle.sng_link.proofs.Marks.{one_less}
+use Rattle.sng_link.specs.Resending.{staying, denied_step, denied_steps}
+use Rattle.sng_link.specs.declared.step.Step.{Step}
 
 -- those that are allowed stay
-staying_allowed : (flights : List InFlight) (outcomes : List Outcome) → staying flights (map is_allowed outcomes) ≡ still_in_flight flights outcomes
+pub staying_allowed : (flights : List InFlight) (outcomes : List Outcome) → staying flights (map is_allowed outcomes) ≡ still_in_flight flights outcomes
 staying_allowed [] outcomes = refl
 staying_allowed (sent ∷ flights) [] = refl
 staying_allowed (sent ∷ flights) (Allowed ∷ outcomes) = ap (λ l. sent ∷ l) (staying_allowed flights outcomes)
@@ -47,37 +46,29 @@ around [] (suc place) = refl
 around (first ∷ flights) zero = refl
 around (first ∷ flights) (suc place) = ap (λ l. first ∷ l) (around flights place)
 
--- the publish at a place is in flight no more, and its packet id is free
-pub one_forgotten : (flights : List InFlight) (marks : List Bool) (place : ℕ) (sent : InFlight) → slice_get flights place ≡ Some sent → AreMarked (ids_of flights) marks
-    → AreMarked (ids_of (remove flights place)) (set marks sent.packet_id false)
-one_forgotten flights marks place sent is are =
-    let id : InFlight → ℕ = λ s. s.packet_id in
-    let before = take place flights in
-    let later = drop (suc place) flights in
-    let apart : flights ≡ before ++ sent ∷ later = sym (around flights place) ∙ ap (λ l. before ++ l) (drop_at flights place sent is) in
-    let ids : ids_of flights ≡ ids_of before ++ sent.packet_id ∷ ids_of later = ap ids_of apart ∙ map-append id before (sent ∷ later) in
-    let left : ids_of (before ++ later) ≡ ids_of before ++ ids_of later = map-append id before later in
-    rw left (one_less (ids_of before) (ids_of later) marks sent.packet_id (rw ids at are))
-
 -- of the publishes in flight those up to a place were judged
-pub record Judged (policy : Policy) (flights : List InFlight) (place : ℕ) (outs_before outs : List Out) (stays : List Bool) : Type 0 where
+pub record Judged (policy : Policy) (flights : List InFlight) (place : ℕ) (outs_before outs : List Out) (stays : List Bool) (log : List Step) : Type 0 where
   pub outs_left : outs ++ resending (drop place flights) (agains_of policy (drop place flights)) ≡ outs_before ++ resending flights (agains_of policy flights)
   pub stays_left : stays ++ map is_allowed (agains_of policy (drop place flights)) ≡ map is_allowed (agains_of policy flights)
+  pub log_left : log ++ denied_steps (drop place flights) (map is_allowed (agains_of policy (drop place flights))) ≡ denied_steps flights (map is_allowed (agains_of policy flights))
 
-pub judged_more : (policy : Policy) (flights : List InFlight) (place : ℕ) (outs_before outs outs_then : List Out) (stays stays_then : List Bool) (sent : InFlight) (stay : Bool)
-    → Judged policy flights place outs_before outs stays → slice_get flights place ≡ Some sent
+pub judged_more : (policy : Policy) (flights : List InFlight) (place : ℕ) (outs_before outs outs_then : List Out) (stays stays_then : List Bool) (log log_then : List Step) (sent : InFlight) (stay : Bool)
+    → Judged policy flights place outs_before outs stays log → slice_get flights place ≡ Some sent
     → outs_then ≡ outs ++ sent_again sent (exit policy sent.publication.origin sent.publication.name) → stay ≡ is_allowed (exit policy sent.publication.origin sent.publication.name)
-    → stays_then ≡ stays ++ stay ∷ [] → Judged policy flights (place + 1) outs_before outs_then stays_then
-judged_more policy flights place outs_before outs outs_then stays stays_then sent stay before is outs_are stay_is stays_are =
+    → stays_then ≡ stays ++ stay ∷ [] → log_then ≡ log ++ denied_step sent.packet_id stay → Judged policy flights (place + 1) outs_before outs_then stays_then log_then
+judged_more policy flights place outs_before outs outs_then stays stays_then log log_then sent stay before is outs_are stay_is stays_are log_is =
     let o = exit policy sent.publication.origin sent.publication.name in
     let next : place + 1 ≡ suc place = omega arith in
     let rest = drop (suc place) flights in
     let here = drop_at flights place sent is in
     let outs_left = rw here at before.outs_left in
     let stays_left = rw here at before.stays_left in
+    let log_left = rw here at before.log_left in
     record {
       outs_left = rw (next, outs_are) (append_assoc outs (sent_again sent o) (resending rest (agains_of policy rest)) ∙ outs_left);
       stays_left = rw (next, stays_are, stay_is) (append_assoc stays (is_allowed o ∷ []) (map is_allowed (agains_of policy rest)) ∙ stays_left);
+      log_left = rw (next, log_is, stay_is)
+          (append_assoc log (denied_step sent.packet_id (is_allowed o)) (denied_steps rest (map is_allowed (agains_of policy rest))) ∙ log_left);
     }
 
 past_all : (flights : List InFlight) (place : ℕ) → length flights ≤ place → drop place flights ≡ []
@@ -86,13 +77,17 @@ past_all [] (suc place) all = refl
 past_all (sent ∷ flights) zero all = absurd (omega arith)
 past_all (sent ∷ flights) (suc place) all = past_all flights place (omega arith)
 
-pub judged_outs : (policy : Policy) (flights : List InFlight) (place : ℕ) (outs_before outs : List Out) (stays : List Bool) → length flights ≤ place → Judged policy flights place outs_before outs stays
+pub judged_outs : (policy : Policy) (flights : List InFlight) (place : ℕ) (outs_before outs : List Out) (stays : List Bool) (log : List Step) → length flights ≤ place → Judged policy flights place outs_before outs stays log
     → outs ≡ outs_before ++ resending flights (agains_of policy flights)
-judged_outs policy flights place outs_before outs stays all judged = sym (append-nil outs) ∙ (rw (past_all flights place all) at judged.outs_left)
+judged_outs policy flights place outs_before outs stays log all judged = sym (append-nil outs) ∙ (rw (past_all flights place all) at judged.outs_left)
 
-pub judged_stays : (policy : Policy) (flights : List InFlight) (place : ℕ) (outs_before outs : List Out) (stays : List Bool) → length flights ≤ place → Judged policy flights place outs_before outs stays
+pub judged_stays : (policy : Policy) (flights : List InFlight) (place : ℕ) (outs_before outs : List Out) (stays : List Bool) (log : List Step) → length flights ≤ place → Judged policy flights place outs_before outs stays log
     → stays ≡ map is_allowed (agains_of policy flights)
-judged_stays policy flights place outs_before outs stays all judged = sym (append-nil stays) ∙ (rw (past_all flights place all) at judged.stays_left)
+judged_stays policy flights place outs_before outs stays log all judged = sym (append-nil stays) ∙ (rw (past_all flights place all) at judged.stays_left)
+
+pub judged_log : (policy : Policy) (flights : List InFlight) (place : ℕ) (outs_before outs : List Out) (stays : List Bool) (log : List Step) → length flights ≤ place
+    → Judged policy flights place outs_before outs stays log → log ≡ denied_steps flights (map is_allowed (agains_of policy flights))
+judged_log policy flights place outs_before outs stays log all judged = sym (append-nil log) ∙ (rw (past_all flights place all) at judged.log_left)
 
 -- of what was in flight this is still, of which the first so many were told to stay, and of the rest it is
 -- still to be said

@@ -1,24 +1,30 @@
--- The publishes in flight, and the marks of their packet ids (MQTT 3.1.1, 2.3.1).
-use Rattle.std.specs.Prelude.{ℕ, ◌≡◌, Bool, false, List, [], ◌∷◌, map}
+-- The publishes in flight and the filters that are wanted, and the marks of their packet ids (MQTT 3.1.1,
+-- 2.3.1).
+pub use Rattle.sng_wanted.specs.Filters.{without_wanted}
+use Rattle.std.specs.Prelude.{ℕ, ◌≡◌, Bool, false, List, [], ◌∷◌, ◌++◌, map}
 use Rattle.sng_outbox.specs.PacketIds.{Numbering, AreInUse, is_used}
 use Rattle.sng_outbox.specs.Sending.{Sending}
 use Rattle.sng_outbox.specs.declared.in_flight.InFlight.{InFlight}
-use Rattle.sng_history.specs.Links.{Link}
+use Rattle.sng_history.specs.Links.{Link, Wanted, open_ids}
 
--- the link by its parts: what waits and is in flight, the packet ids, and when the connection began. No
--- filter stands yet
-abbrev pub link_of : Sending → Numbering → ℕ → Link
-link_of s n pinged = record {
+-- the link by its parts: what waits and is in flight, the packet ids, the filters that are wanted, and when
+-- the connection began
+abbrev pub link_of : Sending → Numbering → List Wanted → ℕ → Link
+link_of s n wanted pinged = record {
   waiting = s.waiting;
   in_flight = s.in_flight;
   last = n.last;
-  wanted = [];
+  wanted = wanted;
   pinged = pinged;
 }
 
 -- the packet ids of publishes in flight, in the order of their sending
 abbrev pub ids_of : List InFlight → List ℕ
 ids_of in_flight = map (λ sent. sent.packet_id) in_flight
+
+-- the packet ids in use: those of publishes in flight, and those of open SUBSCRIBEs
+abbrev pub ids_in_use : List InFlight → List Wanted → List ℕ
+ids_in_use in_flight wanted = ids_of in_flight ++ open_ids wanted
 
 -- no id stands there twice
 abbrev pub AreDistinct : List ℕ → Type 0

@@ -1,3 +1,4 @@
 pub mod Flights
-pub mod Resending
+pub mod Steps
 pub mod Taking
+pub mod Resending

@@ -1,11 +1,11 @@
 -- How items leave one after another where the next packet id is known, and which are in flight then (MQTT
--- 3.1.1, 2.3.1, 3.3 and 3.4).
-use Rattle.std.specs.Prelude.{ℕ, ◌≡◌, ◌≤◌, ◌+◌, true, List, [], ◌∷◌, ◌++◌, length, count_by}
+-- 3.1.1, 2.3.1, 3.3, 3.4, 3.8 and 3.10).
+use Rattle.std.specs.Prelude.{ℕ, ◌≡◌, ◌≤◌, ◌+◌, Bool, List, [], ◌∷◌, ◌++◌, length, count_by, if◌then◌else◌}
 use Rattle.std.specs.Prelude.{Option, Some, None}
 use Rattle.sng_text.specs.declared.qos.Qos.{Qos}
 use Rattle.sng_text.specs.declared.qos.Qos.TheVariants.{AtMostOnce, AtLeastOnce}
 use Rattle.sng_grants.specs.declared.policy.Policy.{Policy}
-use Rattle.sng_outbox.specs.PacketIds.{Numbering, AreInUse, next_id, with_mark}
+use Rattle.sng_outbox.specs.PacketIds.{Numbering, AreInUse, next_id}
 use Rattle.sng_outbox.specs.Sending.{asks_for_ack}
 use Rattle.sng_outbox.specs.declared.limits.TheConstants.{MAX_IN_FLIGHT}
 use Rattle.sng_outbox.specs.declared.in_flight.InFlight.{InFlight}
@@ -15,10 +15,17 @@ use Rattle.sng_outbox.specs.declared.item.Publication.{Publication}
 use Rattle.sng_book.specs.declared.outcome.Outcome.{Outcome}
 use Rattle.sng_book.specs.declared.outcome.Outcome.TheVariants.{Allowed, Denied}
 use Rattle.sng_book.specs.declared.out.Out.{Out}
-use Rattle.sng_history.specs.Links.{Link, next_packet_id, exited, link_after}
-use Rattle.sng_history.specs.Exits.{acknowledged, exits_of, forwarded, leaving}
+use Rattle.sng_history.specs.Good.{WantedOnce}
+use Rattle.sng_history.specs.Links.{Link, Wanted, wants, opened, next_packet_id, exited, subscribe_left}
+use Rattle.sng_history.specs.Links.{unsubscribe_left, link_after}
+use Rattle.sng_history.specs.Exits.{acknowledged, exits_of, forwarded, leaving, subscribe_packet}
+use Rattle.sng_history.specs.Exits.{unsubscribe_packet}
 use Rattle.sng_history.specs.Verdicts.{exit}
-use Rattle.sng_link.specs.Flights.{ids_of, AreMarked}
+use Rattle.sng_wanted.specs.declared.limits.TheConstants.{MAX_WANTED}
+use Rattle.sng_wanted.specs.Filters.{id_for, IsFree}
+use Rattle.sng_link.specs.Flights.{ids_in_use, AreMarked}
+use Rattle.sng_link.specs.Steps.{forth_marks, Logged}
+use Rattle.sng_link.specs.declared.step.Step.{Step}
 
 -- the id is the next one, counted past those in use
 abbrev pub IsNext : Numbering → ℕ → Type 0
@@ -34,43 +41,82 @@ abbrev pub flight_id : Qos → ℕ → Outcome → Option ℕ
 flight_id qos next Allowed = id_at qos next
 flight_id qos next (Denied denial) = None
 
--- what an item lets out
-abbrev pub item_outs : Policy → ℕ → Item → List Out
-item_outs policy next (item.Publish p) = forwarded p (id_at p.qos next) (exit policy p.origin p.name)
-item_outs policy next (item.Subscribe filter) = []
-item_outs policy next (item.Unsubscribe filter) = []
-item_outs policy next (item.Acknowledge packet_id) = acknowledged packet_id ∷ []
-item_outs policy next item.Ping = []
+-- nothing is taken into use
+abbrev pub no_step : Step
+no_step = record { packet_id = None; former = None }
 
--- the packet id under which it is in flight then
-abbrev pub item_id : Policy → ℕ → Item → Option ℕ
-item_id policy next (item.Publish p) = flight_id p.qos next (exit policy p.origin p.name)
-item_id policy next (item.Subscribe filter) = None
-item_id policy next (item.Unsubscribe filter) = None
-item_id policy next (item.Acknowledge packet_id) = None
-item_id policy next item.Ping = None
+-- this packet id is used up, and no former one is free
+abbrev pub step_under : Option ℕ → Step
+step_under packet_id = record { packet_id = packet_id; former = None }
 
--- the numbering once this id was given, where one was
-abbrev pub numbered : Numbering → Option ℕ → Numbering
-numbered n None = n
-numbered n (Some packet_id) = record (with_mark n packet_id true) { last = packet_id }
+-- what an item lets out where these filters are wanted and this is the next packet id
+abbrev pub item_outs : Policy → List Wanted → ℕ → Item → List Out
+item_outs policy wanted next (item.Publish p) = forwarded p (id_at p.qos next) (exit policy p.origin p.name)
+item_outs policy wanted next (item.Subscribe filter) = if wants wanted filter then subscribe_packet next filter ∷ [] else []
+item_outs policy wanted next (item.Unsubscribe filter) = if wants wanted filter then [] else unsubscribe_packet next filter ∷ []
+item_outs policy wanted next (item.Acknowledge packet_id) = acknowledged packet_id ∷ []
+item_outs policy wanted next item.Ping = []
 
--- of a plan, the packet ids under which publishes will be in flight
-abbrev pub given : List (Option ℕ) → List ℕ
-given [] = []
-given (None ∷ plan) = given plan
-given (Some packet_id ∷ plan) = packet_id ∷ given plan
+-- what it takes into use
+abbrev pub item_step : Policy → List Wanted → ℕ → Item → Step
+item_step policy wanted next (item.Publish p) = step_under (flight_id p.qos next (exit policy p.origin p.name))
+item_step policy wanted next (item.Subscribe filter) =
+    if wants wanted filter then record { packet_id = Some next; former = id_for wanted filter } else no_step
+item_step policy wanted next (item.Unsubscribe filter) = if wants wanted filter then no_step else step_under (Some next)
+item_step policy wanted next (item.Acknowledge packet_id) = no_step
+item_step policy wanted next item.Ping = no_step
 
--- for each item that leaves on the link the packet id under which it is in flight then
-abbrev pub plan_of : Policy → Link → List Item → List (Option ℕ)
+-- the id that was given last once this one was, where there is one
+abbrev pub last_after : ℕ → Option ℕ → ℕ
+last_after last None = last
+last_after last (Some packet_id) = packet_id
+
+-- what an UNSUBSCRIBE leaves under nothing keeps
+abbrev pub kept_step : Item → Step → Step
+kept_step (item.Unsubscribe filter) step = no_step
+kept_step (item.Publish p) step = step
+kept_step (item.Subscribe filter) step = step
+kept_step (item.Acknowledge packet_id) step = step
+kept_step item.Ping step = step
+
+-- the numbering once an item left by this step
+abbrev pub numbered : Numbering → Item → Step → Numbering
+numbered n first step =
+    record { marks = forth_marks n.marks (kept_step first step); last = last_after n.last step.packet_id }
+
+abbrev pub opened_by : List Wanted → List ℕ → Option ℕ → List Wanted
+opened_by wanted filter None = wanted
+opened_by wanted filter (Some packet_id) = opened wanted filter packet_id
+
+-- the filters once it left: of a SUBSCRIBE the packet id is the open one
+abbrev pub wanted_after : List Wanted → Item → Step → List Wanted
+wanted_after wanted (item.Subscribe filter) step = opened_by wanted filter step.packet_id
+wanted_after wanted (item.Publish p) step = wanted
+wanted_after wanted (item.Unsubscribe filter) step = wanted
+wanted_after wanted (item.Acknowledge packet_id) step = wanted
+wanted_after wanted item.Ping step = wanted
+
+-- the packet id of a SUBSCRIBE's step is open for no filter
+abbrev pub IsStep : List Wanted → Item → Step → Type 0
+IsStep wanted (item.Subscribe filter) step = IsFree wanted step.packet_id × (step.packet_id ≡ None → step ≡ no_step)
+IsStep wanted (item.Publish p) step = step.former ≡ None
+IsStep wanted (item.Unsubscribe filter) step = Unit {0}
+IsStep wanted (item.Acknowledge packet_id) step = step ≡ no_step
+IsStep wanted item.Ping step = step ≡ no_step
+
+-- the link once the item left
+abbrev pub item_left : Policy → Link → Item → Link
+item_left policy link (item.Publish p) = exited link p (exit policy p.origin p.name)
+item_left policy link (item.Subscribe filter) = subscribe_left link filter
+item_left policy link (item.Unsubscribe filter) = unsubscribe_left link filter
+item_left policy link (item.Acknowledge packet_id) = link
+item_left policy link item.Ping = link
+
+-- the steps of items that leave on the link
+abbrev pub plan_of : Policy → Link → List Item → List Step
 plan_of policy link [] = []
-plan_of policy link (item.Publish p ∷ items) =
-    flight_id p.qos (next_packet_id link) (exit policy p.origin p.name)
-    ∷ plan_of policy (exited link p (exit policy p.origin p.name)) items
-plan_of policy link (item.Subscribe filter ∷ items) = None ∷ plan_of policy link items
-plan_of policy link (item.Unsubscribe filter ∷ items) = None ∷ plan_of policy link items
-plan_of policy link (item.Acknowledge packet_id ∷ items) = None ∷ plan_of policy link items
-plan_of policy link (item.Ping ∷ items) = None ∷ plan_of policy link items
+plan_of policy link (first ∷ items) =
+    item_step policy link.wanted (next_packet_id link) first ∷ plan_of policy (item_left policy link first) items
 
 -- a publish is in flight at QoS 1, where it has a packet id
 abbrev pub flight_at : Publication → Qos → Option ℕ → List InFlight
@@ -86,31 +132,33 @@ flight (item.Acknowledge id) packet_id = []
 flight item.Ping packet_id = []
 
 -- what is in flight once items left by a plan
-abbrev pub flights : List Item → List (Option ℕ) → List InFlight
+abbrev pub flights : List Item → List Step → List InFlight
 flights [] plan = []
 flights (first ∷ items) [] = []
-flights (first ∷ items) (packet_id ∷ plan) = flight first packet_id ++ flights items plan
+flights (first ∷ items) (step ∷ plan) = flight first step.packet_id ++ flights items plan
 
--- where the link was so before, and this is the plan for what left, the link is so now and these items are
--- others that are left: the publishes in flight have the marked packet ids, of which the plan gave some, and
--- there is room for all that is left. Of this nothing is in the outbox yet
-pub record Stands (link : Link) (others : List Item) (plan : List (Option ℕ)) (n : Numbering) (now : Link)
-    : Type 0 where
-  pub unwanted : now.wanted ≡ []
-  pub pinged : now.pinged ≡ link.pinged
+-- the link is so now, with these items left, and its packet ids are numbered so: those of publishes in flight
+-- and of open SUBSCRIBEs are marked, there is room for all that is left, and the steps of the log lead back
+-- to where they began. Of the publishes nothing is in the outbox yet
+pub record Stands (from : List Bool) (first : List Wanted) (others : List Item) (log : List Step)
+    (n : Numbering) (wanted : List Wanted) (now : Link) : Type 0 where
+  pub wanted_is : now.wanted ≡ wanted
+  pub once : WantedOnce now.wanted
+  pub few : length now.wanted ≤ MAX_WANTED
   pub last : n.last ≡ now.last
   pub small : n.last ≤ 65535
-  pub marked : AreMarked (ids_of now.in_flight) n.marks
-  pub grown : ids_of now.in_flight ≡ ids_of link.in_flight ++ given plan
+  pub marked : AreMarked (ids_in_use now.in_flight now.wanted) n.marks
   pub room : count_by asks_for_ack others + length now.in_flight ≤ MAX_IN_FLIGHT
+  pub logged : Logged from first log n.marks now.wanted
 
--- of these items all left but the others, with these outs and by this plan
-pub record Planned (policy : Policy) (link : Link) (items others : List Item) (outs : List Out)
-    (plan : List (Option ℕ)) (n : Numbering) : Type 0 where
+-- of these items all left but the others, with these outs and by these steps
+pub record Planned (policy : Policy) (from : List Bool) (link : Link) (items others : List Item)
+    (outs : List Out) (log : List Step) (n : Numbering) (wanted : List Wanted) : Type 0 where
   pub now : Link
-  pub stands : Stands link others plan n now
+  pub stands : Stands from link.wanted others log n wanted now
+  pub pinged : now.pinged ≡ link.pinged
   pub outs_left : outs ++ leaving now others (exits_of policy others)
       ≡ leaving link items (exits_of policy items)
   pub link_left : link_after now others (exits_of policy others)
       ≡ link_after link items (exits_of policy items)
-  pub plan_left : plan ++ plan_of policy now others ≡ plan_of policy link items
+  pub plan_left : log ++ plan_of policy now others ≡ plan_of policy link items

@@ -6,6 +6,7 @@ mod again;
 pub mod exit;
 mod leaving;
 pub mod link;
+mod step;
 mod taking;
 
 pub use link::Link;

@@ -1,41 +1,48 @@
-//! What is kept of the link to the broker (MQTT 3.1.1, 2.3.1, 4.3.2 and 4.6).
-ghost use Rattle.std.specs.Prelude.{◌≡◌, ◌∷◌, [], ◌++◌, true, IfOk, OnOk, OnErr};
+//! What is kept of the link to the broker (MQTT 3.1.1, 2.3.1, 3.8, 3.9, 3.10, 4.3.2 and 4.6).
+ghost use Rattle.std.specs.Prelude.{◌≡◌, ◌≤◌, ◌<◌, ◌∷◌, [], ◌++◌, true, length, IfOk, OnOk, OnErr};
+ghost use Rattle.std.specs.Option.{option_copied};
 ghost use Rattle.sng_outbox.specs.Sending.{has_room, publishes};
-ghost use Rattle.sng_history.specs.Links.{idle, link_after, still_in_flight};
-ghost use Rattle.sng_history.specs.Exits.{agains_of, exits_of, leaving, resending};
-ghost use Rattle.sng_history.specs.Packets.{has_place, answered, Acknowledges};
+ghost use Rattle.sng_history.specs.Links.{idle, wants, link_after, filters_wanted, resumed, subscribes_sent};
+ghost use Rattle.sng_history.specs.Exits.{agains_of, beginning, exits_of, leaving};
+ghost use Rattle.sng_history.specs.Packets.{has_place, answered, filter_open, Acknowledges, Grants};
+ghost use Rattle.sng_history.specs.Standing.{places_left};
+ghost use Rattle.sng_history.specs.State.{with_wanted};
 ghost use Rattle.sng_history.specs.Verdicts.{has_flight, room_in};
+ghost use Rattle.sng_wanted.specs.declared.limits.TheConstants.{MAX_WANTED};
+ghost use Rattle.sng_link.specs.Flights.{without_wanted};
 
-use crate::again::again;
+use crate::again::begin;
 use crate::taking::take;
 use sng_book::{Denial, Outcome, Outs, Place};
 use sng_grants::Policy;
-use sng_outbox::{Item, MAX_IN_FLIGHT, Outbox, PacketIds, Publication};
-use sng_text::Qos;
+use sng_outbox::{Item, MAX_IN_FLIGHT, MAX_OUTBOX_ITEMS, Outbox, PacketIds, Publication};
+use sng_text::{Qos, TopicFilter};
+use sng_wanted::Wanted;
 use std::alloc::{AllocError, Global};
 use std::marker::Model;
 
-/// What waits for the broker, the publishes in flight to it, the packet ids in use, which are those of the
-/// publishes in flight, and when the connection began. Room for all that may wait and be in flight is made
-/// once. Contracts see the link of a history; no filter stands in it yet.
+/// What waits for the broker, the publishes in flight to it, the filters that are wanted upstream, the packet
+/// ids in use, which are those of the publishes in flight and of the open SUBSCRIBEs, and when the connection
+/// began. Room for all that may wait, be in flight and be wanted is made once. Contracts see the link of a
+/// history.
 #[derive(Drop)]
 pub struct Link {
     outbox: Outbox,
     ids: PacketIds,
+    wanted: Wanted,
     /// The clock, in ms, as the connection began.
     pinged: u64,
 }
 
 impl Model for Link {
-    ghost use Rattle.std.specs.Prelude.{[]};
     ghost use Rattle.sng_history.specs.Links.{Link as LinkRecord};
-    ghost use Rattle.sng_link.specs.Flights.{link_of, ids_of, AreMarked};
+    ghost use Rattle.sng_link.specs.Flights.{link_of, ids_in_use, AreMarked};
 
     ghost Value = { LinkRecord };
 
-    ghost view = { λ l. link_of l.outbox l.ids l.pinged };
+    ghost view = { λ l. link_of l.outbox l.ids l.wanted l.pinged };
 
-    ghost invariant = { λ l. AreMarked (ids_of l.outbox.in_flight) l.ids.marks };
+    ghost invariant = { λ l. AreMarked (ids_in_use l.outbox.in_flight l.wanted) l.ids.marks };
 }
 
 impl Link {
@@ -46,6 +53,7 @@ impl Link {
         Ok(Link {
             outbox: Outbox::new(alloc)?,
             ids: PacketIds::new(alloc)?,
+            wanted: Wanted::new(alloc)?,
             pinged: 0,
         })
     }
@@ -81,6 +89,27 @@ impl Link {
         !self.outbox.is_full()
     }
 
+    /// How many items more may wait.
+    pub fn places_left(&self) -> usize
+        ensures { result ≡ places_left self.now }
+    {
+        MAX_OUTBOX_ITEMS - self.outbox.len()
+    }
+
+    /// Whether the filter is wanted.
+    pub fn wants(&self, filter: &TopicFilter) -> bool
+        ensures { result ≡ wants self.now.wanted filter.now }
+    {
+        self.wanted.is_wanted(filter)
+    }
+
+    /// The filter whose open SUBSCRIBE has this packet id (3.9).
+    pub fn filter_open(&self, packet_id: u16) -> Option<&TopicFilter>
+        ensures { option_copied result ≡ filter_open self.now.wanted packet_id }
+    {
+        self.wanted.opened_by(packet_id)
+    }
+
     /// The publish waits behind all else. Takes no memory.
     pub fn push(&mut self, publication: Publication)
         requires { room_in self.old publication.qos ≡ Outcome.Allowed }
@@ -110,6 +139,53 @@ impl Link {
         }
     }
 
+    /// A SUBSCRIBE of the filter waits behind all else (3.8), and the filter is wanted from then on: its copy
+    /// is kept where it is not wanted yet. Takes no memory.
+    pub fn subscribe(&mut self, filter: TopicFilter, copy: TopicFilter)
+        requires place { has_place self.old ≡ true }
+        requires copy { copy ≡ filter }
+        requires few { length self.old.wanted < MAX_WANTED }
+        ensures { self.new
+            ≡ record self.old {
+              waiting = self.old.waiting ++ Item.Subscribe filter ∷ [];
+              wanted = with_wanted self.old.wanted filter;
+            } }
+    {
+        want(&mut self.wanted, copy);
+        add(&mut self.outbox, Item::Subscribe(filter));
+    }
+
+    /// An UNSUBSCRIBE of the filter waits behind all else (3.10). Takes no memory.
+    pub fn unsubscribe(&mut self, filter: TopicFilter)
+        requires { has_place self.old ≡ true }
+        ensures { self.new
+            ≡ record self.old { waiting = self.old.waiting ++ Item.Unsubscribe filter ∷ [] } }
+    {
+        add(&mut self.outbox, Item::Unsubscribe(filter));
+    }
+
+    /// The filter is wanted no more, and the packet id of its open SUBSCRIBE is free. Takes no memory.
+    pub fn unwant(&mut self, filter: &TopicFilter)
+        ensures { self.new ≡ record self.old { wanted = without_wanted self.old.wanted filter.now } }
+    {
+        // No filter stands twice.
+        let _stand = self.wanted.len();
+        if let Some(packet_id) = self.wanted.end(filter) {
+            self.ids.free(packet_id);
+        }
+    }
+
+    /// A SUBACK ends the open SUBSCRIBE with its packet id, which is free again (3.9). Where there is none
+    /// nothing changes. Takes no memory.
+    pub fn subscribe_ack(&mut self, packet_id: u16)
+        ensures { self.new ≡ answered self.old (Grants packet_id) }
+    {
+        if self.wanted.opened_by(packet_id).is_some() {
+            self.wanted.close(packet_id);
+            self.ids.free(packet_id);
+        }
+    }
+
     /// Of what waits the publishes stay, in order, as a connection ends. What is in flight stays.
     pub fn keep_publishes(&mut self)
         ensures { self.new ≡ record self.old { waiting = publishes self.old.waiting } }
@@ -117,17 +193,36 @@ impl Link {
         self.outbox.keep_publishes();
     }
 
-    /// A connection begins at this time, in ms of the clock.
-    pub fn begin(&mut self, clock: u64)
-        ensures { self.new ≡ record self.old { pinged = clock } }
+    /// A connection begins at this time, in ms of the clock: what goes out. The publishes in flight are
+    /// judged by the policy, in order. Those that are still allowed are sent again under their packet ids
+    /// (3.3.1.1 and 4.4), and the others are in flight no more. Then each filter that is wanted is subscribed
+    /// anew (3.8). An `Err` is a failed allocation, and nothing changes.
+    pub fn begin(&mut self, alloc: Global, policy: &Policy, clock: u64) -> Result<Outs, AllocError>
+        requires few { length self.old.wanted ≤ MAX_WANTED }
+        ensures outs { IfOk result (λ outs. outs
+            ≡ beginning self.old clock (agains_of policy.now self.old.in_flight)) }
+        ensures after { OnOk result (self.new
+            ≡ subscribes_sent (resumed self.old clock (agains_of policy.now self.old.in_flight))
+            (filters_wanted self.old)) }
+        ensures err { OnErr result (self.new ≡ self.old) }
     {
+        let outs = begin(
+            alloc,
+            policy,
+            &mut self.outbox,
+            &mut self.ids,
+            &mut self.wanted,
+        )?;
         self.pinged = clock;
+        Ok(outs)
     }
 
-    /// All that waits leaves, in order, each publish judged by the policy: what it lets out (3.3 and 3.4). An
-    /// allowed publish of QoS 1 is in flight then, under the next packet id. An `Err` is a failed allocation,
-    /// and nothing changes.
+    /// All that waits leaves, in order: what it lets out. Each publish is judged by the policy, and an
+    /// allowed one of QoS 1 is in flight then (3.3). A SUBSCRIBE goes out where its filter is wanted, and is
+    /// its open one then (3.8); an UNSUBSCRIBE where its filter is not (3.10). Each of them has the next
+    /// packet id. An `Err` is a failed allocation, and nothing changes.
     pub fn take(&mut self, alloc: Global, policy: &Policy) -> Result<Outs, AllocError>
+        requires few { length self.old.wanted ≤ MAX_WANTED }
         ensures outs { IfOk result (λ outs. outs
             ≡ leaving self.old self.old.waiting (exits_of policy.now self.old.waiting)) }
         ensures after { OnOk result (self.new
@@ -135,24 +230,13 @@ impl Link {
             { waiting = [] }) }
         ensures err { OnErr result (self.new ≡ self.old) }
     {
-        let outs = take(alloc, policy, &mut self.outbox, &mut self.ids)?;
-        Ok(outs)
-    }
-
-    /// As a connection begins, the publishes in flight are judged by the policy, in order: what they let out.
-    /// Those that are still allowed are sent again under their packet ids (3.3.1.1 and 4.4), and the others
-    /// are in flight no more. An `Err` is a failed allocation, and nothing changes.
-    pub fn again(&mut self, alloc: Global, policy: &Policy) -> Result<Outs, AllocError>
-        ensures outs { IfOk result (λ outs. outs
-            ≡ resending self.old.in_flight (agains_of policy.now self.old.in_flight)) }
-        ensures after { OnOk result (self.new
-            ≡ record self.old {
-              in_flight = still_in_flight self.old.in_flight
-                  (agains_of policy.now self.old.in_flight);
-            }) }
-        ensures err { OnErr result (self.new ≡ self.old) }
-    {
-        let outs = again(alloc, policy, &mut self.outbox, &mut self.ids)?;
+        let outs = take(
+            alloc,
+            policy,
+            &mut self.outbox,
+            &mut self.ids,
+            &mut self.wanted,
+        )?;
         Ok(outs)
     }
 }
@@ -164,5 +248,15 @@ fn add(outbox: &mut Outbox, item: Item)
 {
     if outbox.push(item).is_err() {
         unreachable!()
+    }
+}
+
+/// The filter is wanted, behind all others where it was not yet.
+fn want(wanted: &mut Wanted, filter: TopicFilter)
+    requires { length wanted.old < MAX_WANTED }
+    ensures { wanted.new ≡ with_wanted wanted.old filter }
+{
+    if !wanted.is_wanted(&filter) {
+        wanted.add(filter);
     }
 }

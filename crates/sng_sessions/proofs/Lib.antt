@@ -1,2 +1,5 @@
+pub mod CountLemmas
+pub mod MovedLists
 mod Looks
 mod Moves
+mod Counted

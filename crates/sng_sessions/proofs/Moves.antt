@@ -1,12 +1,13 @@
 -- The index follows as a client moves.
-use Rattle.std.proofs.Common.{◌≡◌, ℕ, zero, suc, arith, Bool, true, false, ◌&&◌, List, [], ◌∷◌, ◌++◌, map, Option, Some, None, unwrap_or, is_some, slice_get, append-nil, eqb, refl, sym, ap, subst, ◌∙◌, true≢false, if◌then◌else◌}
+use Rattle.std.proofs.Common.{◌≡◌, ℕ, zero, suc, ◌<◌, arith, position, Bool, true, false, ◌&&◌, ◌||◌, nat_lt, length, List, [], ◌∷◌, ◌++◌, map, Option, Some, None, unwrap_or, is_some, slice_get, append-nil, eqb, refl, sym, ap, subst, ◌∙◌, true≢false, if◌then◌else◌}
 use Rattle.std.specs.Str.{bytes_eq}
-use Rattle.std.proofs.lemmas.Bool.{eqb-true}
+use Rattle.std.proofs.lemmas.Bool.{eqb-true, ltb-true}
 use Rattle.std.specs.Cmp.Lexicographic.{bytes_decides}
 use Rattle.std.specs.List.{position_or_len}
 use Rattle.std.specs.Map.{keys_of, values_of, lookup}
 use Rattle.indexmap.specs.IndexMap.{set_value_at, insert_entry}
 use Rattle.sng_book.specs.declared.address.Address.{Address}
+use Rattle.sng_fan.specs.declared.held.Held.{Held}
 use Rattle.sng_frames.specs.declared.messages.connect.Connect.{Connect}
 use Rattle.sng_ids.specs.Ids.{Ids, Table}
 use Rattle.sng_book.specs.declared.outcome.Outcome.TheVariants.{Allowed}
@@ -97,19 +98,33 @@ clients-same (entry ∷ entries) zero session after found same =
 clients-same (entry ∷ entries) (suc place) session after found same =
     ap (λ rest. client_of entry ∷ rest) (clients-same entries place session after found same)
 
--- a client as its presence and ids have it
-abbrev kept_as : List ℕ → Presence → Ids → Client
-kept_as id at ids = record (blank id) { address = at.address; phase = at.phase; duration = at.duration; heard = at.heard; ids = ids }
+-- a client as its presence, its ids and its filters have it
+abbrev kept_as : List ℕ → Presence → Ids → List Held → Client
+kept_as id at ids held =
+    record (blank id) { address = at.address; phase = at.phase; duration = at.duration; heard = at.heard; ids = ids; filters = held }
 
 pub client-same : (id : List ℕ) (session after : Session) → after.presence ≡ session.presence → after.ids.ids ≡ session.ids.ids
-    → client_of (id, session) ≡ client_of (id, after)
-client-same id session after one two = ap (λ at. kept_as id at session.ids.ids) (sym one) ∙ ap (kept_as id after.presence) (sym two)
+    → after.filters ≡ session.filters → client_of (id, session) ≡ client_of (id, after)
+client-same id session after one two three = λ i. kept_as id (sym one i) (sym two i) (sym three i)
 
 -- the client of a session that is heard and told a name
 pub client-told : (id name : List ℕ) (clock : ℕ) (session after : Session) → after.presence ≡ record session.presence { heard = clock }
-    → after.ids.ids ≡ told name session.ids.ids → told_at clock (Some name) Allowed (client_of (id, session)) ≡ client_of (id, after)
-client-told id name clock session after one two =
-    ap (λ at. kept_as id at (told name session.ids.ids)) (sym one) ∙ ap (kept_as id after.presence) (sym two)
+    → after.ids.ids ≡ told name session.ids.ids → after.filters ≡ session.filters
+    → told_at clock (Some name) Allowed (client_of (id, session)) ≡ client_of (id, after)
+client-told id name clock session after one two three = λ i. kept_as id (sym one i) (sym two i) (sym three i)
+
+-- the client of a session that begins anew
+pub client-begun : (id : List ℕ) (clock : ℕ) (from : Address) (connect : Connect) (session after : Session)
+    → after.presence ≡ record { address = from; phase = Active; duration = connect.duration; heard = clock } → after.ids.ids ≡ []
+    → after.filters ≡ (if connect.flags.clean then [] else session.filters)
+    → let_in clock from connect (client_of (id, session)) ≡ client_of (id, after)
+client-begun id clock from connect session after one two three =
+    by connect.flags.clean refl ∙ (λ i. kept_as id (sym one i) (sym two i) (sym three i))
+  where
+    by : (clean : Bool) → connect.flags.clean ≡ clean → let_in clock from connect (client_of (id, session))
+        ≡ kept_as id (record { address = from; phase = Active; duration = connect.duration; heard = clock }) [] (if connect.flags.clean then [] else session.filters)
+    by true is = rw is refl
+    by false is = rw is refl
 
 -- a test that the move keeps passes where it did
 pub holds_at-kept : (test : Client → Bool) (f : Client → Client) → ((x : Client) → test (f x) ≡ test x)
@@ -213,6 +228,15 @@ vacated-other look xs clock from id found indexed is named =
     map_only (λ x. bytes_eq id x.id) (λ x. is_here x from) (left_at clock) xs found (stands_only look xs from (Some found) indexed is)
     ∙ moved_unnamed (λ x. bytes_eq id x.id) (left_at clock) xs found named
 
+-- and keeps its filters
+pub vacated-filters : (clock : ℕ) (from : Address) (id : List ℕ) (x : Client) → (vacated clock from id x).filters ≡ x.filters
+vacated-filters clock from id x = by (bytes_eq id x.id) (is_here x from) refl refl
+  where
+    by : (named here : Bool) → bytes_eq id x.id ≡ named → is_here x from ≡ here → (vacated clock from id x).filters ≡ x.filters
+    by true here is is_there = rw is refl
+    by false true is is_there = rw (is, is_there) refl
+    by false false is is_there = rw (is, is_there) refl
+
 -- so no other client is at the address
 own_alone : (clock : ℕ) (from : Address) (id : List ℕ) (x : Client) (named here : Bool) → bytes_eq id x.id ≡ named → is_here x from ≡ here
     → is_here (vacated clock from id x) from ≡ true → bytes_eq id (vacated clock from id x).id ≡ true
@@ -268,6 +292,16 @@ next_place : (id : List ℕ) (entry : List ℕ × Session) (entries : List (List
     → place_for id (entry ∷ entries) ≡ suc (place_for id entries)
 next_place id entry entries is = rw is (omega arith)
 
+module _ (id : List ℕ) where
+  -- none of these has the id
+  named-away : (xs : List Client) → Away id xs → (place : ℕ) → holds_at (λ x. bytes_eq id x.id) xs place ≡ false
+  named-away [] away place = refl
+  named-away (x ∷ xs) away zero = away.0
+  named-away (x ∷ xs) away (suc place) = named-away xs away.1 place
+
+  away_of : (key : List ℕ) (xs : List Client) → bytes_eq id key ≡ true → Away key xs → Away id xs
+  away_of key xs same away = subst (λ i. Away i xs) (sym ((bytes_decides id key).0 same)) away
+
 module _ (id : List ℕ) (session : Session) where
   settled-before : (from : Address) (entries : List (List ℕ × Session))
       → stands_at from (clients_of entries) (place_for id entries) ≡ was_at (presence_in (lookup (bytes_eq id) entries)) from
@@ -308,15 +342,6 @@ module _ (id : List ℕ) (session : Session) where
       by false is (suc place) other rest =
           rw is (rest place (sym (ap (λ at. is_place at (suc place)) (next_place id entry entries is)) ∙ other))
 
-  -- none of these has the id
-  named-away : (xs : List Client) → Away id xs → (place : ℕ) → holds_at (λ x. bytes_eq id x.id) xs place ≡ false
-  named-away [] away place = refl
-  named-away (x ∷ xs) away zero = away.0
-  named-away (x ∷ xs) away (suc place) = named-away xs away.1 place
-
-  away_of : (key : List ℕ) (xs : List Client) → bytes_eq id key ≡ true → Away key xs → Away id xs
-  away_of key xs same away = subst (λ i. Away i xs) (sym ((bytes_decides id key).0 same)) away
-
   -- one client at most has the id
   named-once : (entries : List (List ℕ × Session)) → Distinct (clients_of entries) → (place : ℕ) → is_place (place_for id entries) place ≡ false
       → holds_at (λ x. bytes_eq id x.id) (clients_of entries) place ≡ false
@@ -328,7 +353,7 @@ module _ (id : List ℕ) (session : Session) where
           → ((later : ℕ) → is_place (place_for id entries) later ≡ false → holds_at (λ x. bytes_eq id x.id) (clients_of entries) later ≡ false)
           → holds_at (λ x. bytes_eq id x.id) (clients_of (entry ∷ entries)) place ≡ false
       by true is zero other rest = absurd (true≢false (sym (rw is refl) ∙ other))
-      by true is (suc place) other rest = named-away (clients_of entries) (away_of entry.0 (clients_of entries) is apart.0) place
+      by true is (suc place) other rest = named-away id (clients_of entries) (away_of id entry.0 (clients_of entries) is apart.0) place
       by false is zero other rest = is
       by false is (suc place) other rest =
           rest place (sym (ap (λ at. is_place at (suc place)) (next_place id entry entries is)) ∙ other)
@@ -347,7 +372,7 @@ module _ (id : List ℕ) (session : Session) where
           → clients_of (insert_entry bytes_eq entries id session) ≡ settled id session (clients_of entries)
           → clients_of (insert_entry bytes_eq (entry ∷ entries) id session) ≡ settled id session (clients_of (entry ∷ entries))
       by true is rest =
-          rw (is, kept_away (clients_of entries) (away_of entry.0 (clients_of entries) is apart.0), append-nil (clients_of entries)) refl
+          rw (is, kept_away (clients_of entries) (away_of id entry.0 (clients_of entries) is apart.0), append-nil (clients_of entries)) refl
       by false is rest = rw (is, rest) refl
 
   pub settled-indexed : (look after : Address → Option ℕ) (entries : List (List ℕ × Session)) → Indexed look (clients_of entries)
@@ -387,41 +412,182 @@ known_vacated clock from id (x ∷ xs) =
     by false true is is_there = rw (is, is_there) is
     by false false is is_there = rw (is, is_there) is
 
--- the session of an accepted CONNECT
-abbrev pub session_by : ℕ → Address → Connect → Table → Session
-session_by clock from connect ids = record { presence = record { address = from; phase = Active; duration = connect.duration; heard = clock }; ids = ids }
+-- the session of an accepted CONNECT of a client that was not known
+abbrev pub session_by : ℕ → Address → Connect → Table → List Held → Session
+session_by clock from connect ids held =
+    record { presence = record { address = from; phase = Active; duration = connect.duration; heard = clock }; ids = ids; filters = held }
 
-let_in-same : (clock : ℕ) (from : Address) (connect : Connect) (ids : Table) → ids.ids ≡ [] → (entry : List ℕ × Session) (clean : Bool) → connect.flags.clean ≡ clean
-    → client_of (entry.0, session_by clock from connect ids) ≡ let_in clock from connect (client_of entry)
-let_in-same clock from connect ids none entry true is = rw (is, none) refl
-let_in-same clock from connect ids none entry false is = rw (is, none) refl
+let_in-blank : (clock : ℕ) (from : Address) (connect : Connect) (ids : Table) (held : List Held) → ids.ids ≡ [] → held ≡ [] → (clean : Bool) → connect.flags.clean ≡ clean
+    → client_of (connect.client_id, session_by clock from connect ids held) ≡ let_in clock from connect (blank connect.client_id)
+let_in-blank clock from connect ids held none nothing true is = rw (is, none, nothing) refl
+let_in-blank clock from connect ids held none nothing false is = rw (is, none, nothing) refl
 
-let_in-blank : (clock : ℕ) (from : Address) (connect : Connect) (ids : Table) → ids.ids ≡ [] → (clean : Bool) → connect.flags.clean ≡ clean
-    → client_of (connect.client_id, session_by clock from connect ids) ≡ let_in clock from connect (blank connect.client_id)
-let_in-blank clock from connect ids none true is = rw (is, none) refl
-let_in-blank clock from connect ids none false is = rw (is, none) refl
-
-entering-same : (clock : ℕ) (from : Address) (connect : Connect) (ids : Table) → ids.ids ≡ [] → (entries : List (List ℕ × Session))
-    → map (λ x. if bytes_eq connect.client_id x.id then client_of (x.id, session_by clock from connect ids) else x)
-    (map (vacated clock from connect.client_id) (clients_of entries))
-    ≡ map (entering clock from connect) (clients_of entries)
-entering-same clock from connect ids none [] = refl
-entering-same clock from connect ids none (entry ∷ entries) =
-    let x = client_of entry in
-    λ i. by (bytes_eq connect.client_id entry.0) (is_here x from) refl refl i ∷ entering-same clock from connect ids none entries i
+-- the first of a list that is not known, and the rest
+pub known-first : (id : List ℕ) (x : Client) (xs : List Client) → is_known id (x ∷ xs) ≡ false → (bytes_eq id x.id ≡ false) × (is_known id xs ≡ false)
+known-first id x xs new = by (bytes_eq id x.id) refl new
   where
-    by : (named here : Bool) → bytes_eq connect.client_id entry.0 ≡ named → is_here (client_of entry) from ≡ here
-        → (let y = vacated clock from connect.client_id (client_of entry) in
-        if bytes_eq connect.client_id y.id then client_of (y.id, session_by clock from connect ids) else y)
-        ≡ entering clock from connect (client_of entry)
-    by true here is is_there = rw (is, is) (let_in-same clock from connect ids none entry connect.flags.clean refl)
+    by : (b : Bool) → bytes_eq id x.id ≡ b → (b || is_known id xs) ≡ false → (bytes_eq id x.id ≡ false) × (is_known id xs ≡ false)
+    by true is or = absurd (true≢false or)
+    by false is or = (is, or)
+
+entering-new : (clock : ℕ) (from : Address) (connect : Connect) (session : Session) (xs : List Client) → is_known connect.client_id xs ≡ false
+    → map (λ x. if bytes_eq connect.client_id x.id then client_of (x.id, session) else x) (map (vacated clock from connect.client_id) xs)
+    ≡ map (entering clock from connect) xs
+entering-new clock from connect session [] new = refl
+entering-new clock from connect session (x ∷ xs) new =
+    let first = known-first connect.client_id x xs new in
+    λ i. by (is_here x from) refl first.0 i ∷ entering-new clock from connect session xs first.1 i
+  where
+    by : (here : Bool) → is_here x from ≡ here → bytes_eq connect.client_id x.id ≡ false
+        → (let y = vacated clock from connect.client_id x in if bytes_eq connect.client_id y.id then client_of (y.id, session) else y)
+        ≡ entering clock from connect x
+    by true is_there is = rw (is, is_there, is) refl
+    by false is_there is = rw (is, is_there, is) refl
+
+pub settled-entered : (clock : ℕ) (from : Address) (connect : Connect) (ids : Table) (held : List Held) → ids.ids ≡ [] → held ≡ [] → (xs : List Client)
+    → is_known connect.client_id xs ≡ false
+    → settled connect.client_id (session_by clock from connect ids held) (map (vacated clock from connect.client_id) xs)
+    ≡ entered clock from connect xs
+settled-entered clock from connect ids held none nothing xs unknown =
+    let known = known_vacated clock from connect.client_id xs in
+    let new = let_in-blank clock from connect ids held none nothing connect.flags.clean refl in
+    let all = entering-new clock from connect (session_by clock from connect ids held) xs unknown in
+    λ i. all i ++ (if known i then [] else new i ∷ [])
+
+-- ---- a client that connects again
+
+-- the place of a key that is there is that of the one client with the id
+named-there : (id : List ℕ) (entries : List (List ℕ × Session)) → Distinct (clients_of entries) → place_for id entries < length (keys_of entries)
+    → (place : ℕ) → holds_at (λ x. bytes_eq id x.id) (clients_of entries) place ≡ is_place (place_for id entries) place
+named-there id [] apart within place = absurd (omega arith)
+named-there id (entry ∷ entries) apart within place =
+    by (bytes_eq id entry.0) refl (λ inside later. named-there id entries apart.1 inside later) place
+  where
+    by : (same : Bool) → bytes_eq id entry.0 ≡ same
+        → (place_for id entries < length (keys_of entries) → (later : ℕ)
+        → holds_at (λ x. bytes_eq id x.id) (clients_of entries) later ≡ is_place (place_for id entries) later)
+        → (place : ℕ) → holds_at (λ x. bytes_eq id x.id) (clients_of (entry ∷ entries)) place ≡ is_place (place_for id (entry ∷ entries)) place
+    by true is rest zero = rw is refl
+    by true is rest (suc place) = rw is (named-away id (clients_of entries) (away_of id entry.0 (clients_of entries) is apart.0) place)
+    by false is rest zero = is ∙ sym (ap (λ at. is_place at zero) (next_place id entry entries is))
+    by false is rest (suc place) =
+        let next : place_for id (entry ∷ entries) ≡ suc (place_for id entries) = next_place id entry entries is in
+        rest (omega (arith, next)) place ∙ sym (ap (λ at. is_place at (suc place)) next)
+
+-- a key that is found is the client's
+pub named-found : (id : List ℕ) (entries : List (List ℕ × Session)) (found : ℕ) → Distinct (clients_of entries)
+    → position (bytes_eq id) (keys_of entries) ≡ Some found
+    → (place : ℕ) → holds_at (λ x. bytes_eq id x.id) (clients_of entries) place ≡ is_place found place
+named-found id entries found apart is place = by (nat_lt (place_for id entries) (length (keys_of entries))) refl is
+  where
+    by : (b : Bool) → nat_lt (place_for id entries) (length (keys_of entries)) ≡ b → (if b then Some (place_for id entries) else None) ≡ Some found
+        → holds_at (λ x. bytes_eq id x.id) (clients_of entries) place ≡ is_place found place
+    by true within at =
+        named-there id entries apart (ltb-true (place_for id entries) (length (keys_of entries)) within) place
+        ∙ ap (λ o. is_place (unwrap_or o found) place) at
+    by false within at = absurd (true≢false (sym (ap is_some at)))
+
+-- a client is known where its key is found
+pub known-found : (id : List ℕ) (entries : List (List ℕ × Session)) → is_known id (clients_of entries) ≡ is_some (lookup (bytes_eq id) entries)
+known-found id [] = refl
+known-found id (entry ∷ entries) = by (bytes_eq id entry.0) (known-found id entries)
+  where
+    by : (b : Bool) → is_known id (clients_of entries) ≡ is_some (lookup (bytes_eq id) entries)
+        → (b || is_known id (clients_of entries)) ≡ is_some (if b then Some entry.1 else lookup (bytes_eq id) entries)
+    by true rest = refl
+    by false rest = rest
+
+known-at : (id : List ℕ) (xs : List Client) (place : ℕ) → holds_at (λ x. bytes_eq id x.id) xs place ≡ true → is_known id xs ≡ true
+known-at id [] place is = absurd (true≢false (sym is))
+known-at id (x ∷ xs) zero is = rw is refl
+known-at id (x ∷ xs) (suc place) is = by (bytes_eq id x.id) (known-at id xs place is)
+  where
+    by : (b : Bool) → is_known id xs ≡ true → (b || is_known id xs) ≡ true
+    by true rest = refl
+    by false rest = rest
+
+-- who leaves keeps its id
+named-vacated : (clock : ℕ) (from : Address) (id : List ℕ) (xs : List Client) (place : ℕ)
+    → holds_at (λ x. bytes_eq id x.id) (map (vacated clock from id) xs) place ≡ holds_at (λ x. bytes_eq id x.id) xs place
+named-vacated clock from id [] place = refl
+named-vacated clock from id (x ∷ xs) zero = by (bytes_eq id x.id) (is_here x from) refl refl
+  where
+    by : (named here : Bool) → bytes_eq id x.id ≡ named → is_here x from ≡ here → bytes_eq id (vacated clock from id x).id ≡ bytes_eq id x.id
+    by true here is is_there = rw is is
+    by false true is is_there = rw (is, is_there) is
+    by false false is is_there = rw (is, is_there) is
+named-vacated clock from id (x ∷ xs) (suc place) = named-vacated clock from id xs place
+
+-- nobody else is where it connects from
+pub vacated-sole : (clock : ℕ) (from : Address) (id : List ℕ) (xs : List Client) (found : ℕ)
+    → ((place : ℕ) → holds_at (λ x. bytes_eq id x.id) xs place ≡ is_place found place)
+    → (place : ℕ) → stands_at from (map (vacated clock from id) xs) place ≡ true → is_place found place ≡ true
+vacated-sole clock from id xs found only place there =
+    sym (only place) ∙ sym (named-vacated clock from id xs place) ∙ vacated-alone clock from id xs place there
+
+entering-again : (clock : ℕ) (from : Address) (connect : Connect) (xs : List Client)
+    → map (λ x. if bytes_eq connect.client_id x.id then let_in clock from connect x else x) (map (vacated clock from connect.client_id) xs)
+    ≡ map (entering clock from connect) xs
+entering-again clock from connect [] = refl
+entering-again clock from connect (x ∷ xs) =
+    λ i. by (bytes_eq connect.client_id x.id) (is_here x from) refl refl i ∷ entering-again clock from connect xs i
+  where
+    by : (named here : Bool) → bytes_eq connect.client_id x.id ≡ named → is_here x from ≡ here
+        → (let y = vacated clock from connect.client_id x in if bytes_eq connect.client_id y.id then let_in clock from connect y else y)
+        ≡ entering clock from connect x
+    by true here is is_there = rw (is, is) refl
     by false true is is_there = rw (is, is_there, is) refl
     by false false is is_there = rw (is, is_there, is) refl
 
-pub settled-entered : (clock : ℕ) (from : Address) (connect : Connect) (ids : Table) → ids.ids ≡ [] → (entries : List (List ℕ × Session))
-    → settled connect.client_id (session_by clock from connect ids) (map (vacated clock from connect.client_id) (clients_of entries))
-    ≡ entered clock from connect (clients_of entries)
-settled-entered clock from connect ids none entries =
-    let known = known_vacated clock from connect.client_id (clients_of entries) in
-    let new = let_in-blank clock from connect ids none connect.flags.clean refl in
-    λ i. entering-same clock from connect ids none entries i ++ (if known i then [] else new i ∷ [])
+pub returned-entered : (clock : ℕ) (from : Address) (connect : Connect) (xs : List Client) (found : ℕ)
+    → ((place : ℕ) → holds_at (λ x. bytes_eq connect.client_id x.id) xs place ≡ is_place found place)
+    → moved_at found (let_in clock from connect) (map (vacated clock from connect.client_id) xs) ≡ entered clock from connect xs
+returned-entered clock from connect xs found only =
+    let id = connect.client_id in
+    let known : is_known id xs ≡ true = known-at id xs found (only found ∙ is_place-self found) in
+    sym (map_only (λ x. false) (λ x. bytes_eq id x.id) (let_in clock from connect) (map (vacated clock from id) xs) found
+    (λ place. named-vacated clock from id xs place ∙ only place))
+    ∙ entering-again clock from connect xs
+    ∙ (rw (known, append-nil (map (entering clock from connect) xs)) refl)
+
+-- who connects is at the address
+let_in-here : (clock : ℕ) (at from : Address) (connect : Connect) (x : Client) → is_here (let_in clock at connect x) from ≡ same_address at from
+let_in-here clock at from connect x = by connect.flags.clean refl
+  where
+    by : (clean : Bool) → connect.flags.clean ≡ clean → is_here (let_in clock at connect x) from ≡ same_address at from
+    by true is = rw is refl
+    by false is = rw is refl
+
+stands_at-let_in : (clock : ℕ) (at from : Address) (connect : Connect) (entries : List (List ℕ × Session)) (place : ℕ) (session : Session)
+    → slice_get (values_of entries) place ≡ Some session
+    → stands_at from (moved_at place (let_in clock at connect) (clients_of entries)) place ≡ same_address at from
+stands_at-let_in clock at from connect [] place session found = absurd (true≢false (sym (ap is_some found)))
+stands_at-let_in clock at from connect (entry ∷ entries) zero session found = let_in-here clock at from connect (client_of entry)
+stands_at-let_in clock at from connect (entry ∷ entries) (suc place) session found =
+    stands_at-let_in clock at from connect entries place session found
+
+pub returned-indexed : (look after : Address → Option ℕ) (entries : List (List ℕ × Session)) (at clock : ℕ) (where_from : Address) (connect : Connect)
+    (session : Session) → slice_get (values_of entries) at ≡ Some session → Indexed look (clients_of entries)
+    → ((place : ℕ) → stands_at where_from (clients_of entries) place ≡ true → is_place at place ≡ true)
+    → ((from : Address) → after from ≡ (if same_address where_from from then Some at
+    else (if was_at (Some session.presence) from then None else look from)))
+    → Indexed after (moved_at at (let_in clock where_from connect) (clients_of entries))
+returned-indexed look after entries at clock where_from connect session found indexed sole looks =
+    indexed-moved look after xs (moved_at at (let_in clock where_from connect) xs) at (was_at (Some session.presence)) (same_address where_from) indexed (record {
+      before = λ from. stands_at-was from entries at ∙ ap (λ o. was_at (presence_in o) from) found;
+      here = λ from. stands_at-let_in clock where_from from connect entries at session found;
+      others = λ from place other. holds_at-other (λ x. is_here x from) (let_in clock where_from connect) xs at place other;
+      looks = looks;
+      alone = λ from place now other. nobody from place now other (stands_at from xs place) refl;
+    })
+  where
+    xs : List Client
+    xs = clients_of entries
+
+    nobody : (from : Address) (place : ℕ) → same_address where_from from ≡ true → is_place at place ≡ false
+        → (b : Bool) → stands_at from xs place ≡ b → stands_at from xs place ≡ false
+    nobody from place now other false is = is
+    nobody from place now other true is =
+        let same : where_from ≡ from = address-same where_from from now in
+        let own = sole place (ap (λ a. stands_at a xs place) same ∙ is) in
+        absurd (true≢false (sym own ∙ other))

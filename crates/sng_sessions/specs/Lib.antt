@@ -1,3 +1,4 @@
 pub mod Standing
 pub mod Moving
+pub mod Counts
 pub mod Places

@@ -1,9 +1,12 @@
-//! The clients of the gateway, by where each stands among them (MQTT-SN 1.2, 6.2 to 6.5 and 6.14): what is
-//! kept of each, and an index from addresses to clients, so that a message finds its client by one look-up.
+//! The clients of the gateway, by where each stands among them (MQTT-SN 1.2, 6.2 to 6.5, 6.9 and 6.14): what
+//! is kept of each, an index from addresses to clients, so that a message finds its client by one look-up,
+//! and for how many clients each filter stands.
 #![tactic(auto)]
 
+mod holders;
 mod places;
 pub mod session;
 pub mod sessions;
+mod subscribing;
 
 pub use sessions::Sessions;

@@ -1,5 +1,6 @@
 //! Changes of the clients together with the index from addresses to their places.
-ghost use Rattle.std.specs.Prelude.{◌≡◌, ℕ, ◌<◌, ◌≤◌, true, false, Some, None, map, if◌then◌else◌, OnOk, OnErr};
+ghost use Rattle.std.specs.Prelude.{◌≡◌, ℕ, ◌<◌, ◌≤◌, true, false, List, [], Some, None, map, position, if◌then◌else◌, OnOk, OnErr};
+ghost use Rattle.std.specs.Option.{ForSome};
 ghost use Rattle.std.specs.Str.{bytes_eq};
 ghost use Rattle.indexmap.specs.IndexMap.{get, keys, spare};
 ghost use Rattle.sng_book.specs.declared.address.Address.{Address as address_type};
@@ -7,14 +8,20 @@ ghost use Rattle.sng_states.specs.States.{has_session};
 ghost use Rattle.sng_history.specs.Clients.{same_address};
 ghost use Rattle.sng_ids.specs.Ids.{is_full_for};
 ghost use Rattle.sng_book.specs.declared.outcome.Outcome.TheVariants.{Allowed};
-ghost use Rattle.sng_history.specs.Clients.{told};
-ghost use Rattle.sng_history.specs.Entering.{left_at, entered};
+ghost use Rattle.sng_fan.specs.Subscriptions.{stands};
+ghost use Rattle.sng_history.specs.Clients.{let_in, told};
+ghost use Rattle.sng_history.specs.State.{is_known};
+ghost use Rattle.sng_history.specs.Entering.{heard_at, left_at, entered};
+ghost use Rattle.sng_sessions.specs.Counts.{count_of, one_if, Counted, Follows};
 ghost use Rattle.sng_sessions.specs.Standing.{client_at, told_at};
-ghost use Rattle.sng_sessions.specs.Places.{clients_of, holds_at, stands_at, presence_in, was_at, Indexed, moved_at, vacated, settled};
+ghost use Rattle.sng_sessions.specs.Places.{clients_of, holds_at, stands_at, is_place, presence_in, was_at, Indexed, moved_at, vacated, settled};
 
+use crate::holders::Holders;
 use crate::session::{Presence, Session};
+use crate::subscribing::end_all;
 use indexmap::IndexMap;
 use sng_book::Address;
+use sng_fan::subscriptions::Subscriptions;
 use sng_frames::Connect;
 use sng_ids::IdTable;
 use sng_states::ClientState;
@@ -55,17 +62,20 @@ fn release(places: &mut IndexMap<Address, usize>, before: Option<Presence>)
     }
 }
 
-/// The client that connects is where its CONNECT came from, and whoever else is there leaves. Takes no
-/// memory.
+/// The client that connects, and was not known, is where its CONNECT came from, and whoever else is there
+/// leaves. Takes no memory.
 pub fn admit(
     alloc: Global,
     clients: &mut IndexMap<ClientId, Session>,
     places: &mut IndexMap<Address, usize>,
     from: Address,
     connect: Connect,
+    filters: Subscriptions,
     clock: u64,
 )
     requires indexed { Indexed (get same_address places.old) (clients_of clients.old.entries) }
+    requires new { is_known connect.client_id (clients_of clients.old.entries) ≡ false }
+    requires none { filters ≡ [] }
     requires room { 0 < spare clients.old }
     requires place_room { 0 < spare places.old }
     ensures clients { clients_of clients.new.entries
@@ -81,8 +91,90 @@ pub fn admit(
             heard: clock,
         },
         ids: IdTable::new(alloc),
+        filters,
     };
     settle(clients, places, connect.client_id, session);
+}
+
+/// The client at this place, which connects again, is where its CONNECT came from, and whoever else is there
+/// leaves. A clean CONNECT ends what stood for it. Takes no memory.
+pub fn readmit(
+    clients: &mut IndexMap<ClientId, Session>,
+    places: &mut IndexMap<Address, usize>,
+    holders: &mut Holders,
+    place: usize,
+    from: Address,
+    connect: &Connect,
+    clock: u64,
+)
+    requires indexed { Indexed (get same_address places.old) (clients_of clients.old.entries) }
+    requires counted { Counted holders.old.held (clients_of clients.old.entries) }
+    requires place { position (bytes_eq connect.now.client_id) (keys clients.old) ≡ Some place }
+    requires place_room { 0 < spare places.old }
+    ensures clients { clients_of clients.new.entries
+        ≡ entered clock from connect.now (clients_of clients.old.entries) }
+    ensures indexed { Indexed (get same_address places.new) (clients_of clients.new.entries) }
+    ensures counted { Counted holders.new.held (clients_of clients.new.entries) }
+{
+    // `len` is called for its clause that the keys are apart.
+    let _count = clients.len();
+    vacate(clients, places, from, &connect.client_id, clock);
+    return_at(clients, places, holders, place, from, connect, clock);
+}
+
+/// The client at this place is at the address from now on, where nobody else is, as its CONNECT is accepted.
+fn return_at(
+    clients: &mut IndexMap<ClientId, Session>,
+    places: &mut IndexMap<Address, usize>,
+    holders: &mut Holders,
+    place: usize,
+    from: Address,
+    connect: &Connect,
+    clock: u64,
+)
+    requires indexed { Indexed (get same_address places.old) (clients_of clients.old.entries) }
+    requires counted { Counted holders.old.held (clients_of clients.old.entries) }
+    requires alone { (other : ℕ) → stands_at from (clients_of clients.old.entries) other ≡ true
+        → is_place place other ≡ true }
+    requires place_room { 0 < spare places.old }
+    ensures clients { clients_of clients.new.entries
+        ≡ moved_at place (let_in clock from connect.now) (clients_of clients.old.entries) }
+    ensures indexed { Indexed (get same_address places.new) (clients_of clients.new.entries) }
+    ensures counted { Counted holders.new.held (clients_of clients.new.entries) }
+{
+    if let Some(session) = clients.get_index_mut(place) {
+        release(places, Some(session.presence));
+        begin(session, holders, from, connect, clock);
+        match places.insert(from, place) {
+            Ok(_) => {}
+            Err(_) => unreachable!(),
+        }
+    }
+}
+
+/// A session begins anew: a clean one ends what stood for its client (MQTT-SN 1.2, 6.2 and 6.3).
+fn begin(session: &mut Session, holders: &mut Holders, from: Address, connect: &Connect, clock: u64)
+    requires { (text : List ℕ) → one_if (stands session.old.filters text) ≤ count_of holders.old.held text }
+    ensures presence { session.new.presence ≡ record {
+      address = from;
+      phase = ClientState.Active;
+      duration = connect.now.duration;
+      heard = clock;
+    } }
+    ensures ids { session.new.ids.ids ≡ [] }
+    ensures filters { session.new.filters ≡ (if connect.now.flags.clean then [] else session.old.filters) }
+    ensures counts { Follows holders.old.held holders.new.held session.old.filters session.new.filters }
+{
+    if connect.flags.clean {
+        end_all(&mut session.filters, holders);
+    }
+    session.ids.clear();
+    session.presence = Presence {
+        address: from,
+        phase: ClientState::Active,
+        duration: connect.duration,
+        heard: clock,
+    };
 }
 
 /// Whoever is at the address and has another id leaves.
@@ -159,6 +251,39 @@ fn presence_in(session: Option<Session>) -> Option<Presence>
     }
 }
 
+/// The client at this place is heard. Takes no memory.
+pub fn hear_at(clients: &mut IndexMap<ClientId, Session>, place: usize, clock: u64)
+    ensures { clients_of clients.new.entries
+        ≡ moved_at place (heard_at clock) (clients_of clients.old.entries) }
+{
+    if let Some(session) = clients.get_index_mut(place) {
+        session.presence.heard = clock;
+    }
+}
+
+/// The client at this place is heard, and where a name is given it is told the id that this has from now on.
+/// An `Err` is a failed allocation; nothing that contracts see changed.
+pub fn tell_if(
+    clients: &mut IndexMap<ClientId, Session>,
+    place: usize,
+    name: Option<TopicName>,
+    clock: u64,
+) -> Result<(), AllocError>
+    requires { ForSome name (λ n.
+        is_full_for n (client_at (clients_of clients.old.entries) place).ids ≡ false) }
+    ensures ok { OnOk result (clients_of clients.new.entries
+        ≡ moved_at place (told_at clock name Allowed) (clients_of clients.old.entries)) }
+    ensures err { OnErr result (clients_of clients.new.entries ≡ clients_of clients.old.entries) }
+{
+    match name {
+        Some(name) => tell_at(clients, place, name, clock),
+        None => {
+            hear_at(clients, place, clock);
+            Ok(())
+        }
+    }
+}
+
 /// The client at this place is heard, and is told the id that the name has from now on. An `Err` is a failed
 /// allocation; nothing that contracts see changed.
 pub fn tell_at(
@@ -185,9 +310,11 @@ pub fn tell_at(
 fn tell(session: &mut Session, name: TopicName, clock: u64) -> Result<(), AllocError>
     requires { is_full_for name session.old.ids.ids ≡ false }
     ensures ok { OnOk result ((session.new.presence ≡ record session.old.presence { heard = clock })
-        × (session.new.ids.ids ≡ told name session.old.ids.ids)) }
-    ensures err { OnErr result ((session.new.presence ≡ session.old.presence) ×
-        (session.new.ids.ids ≡ session.old.ids.ids)) }
+        × (session.new.ids.ids ≡ told name session.old.ids.ids)
+        × (session.new.filters ≡ session.old.filters)) }
+    ensures err { OnErr result ((session.new.presence ≡ session.old.presence)
+        × (session.new.ids.ids ≡ session.old.ids.ids)
+        × (session.new.filters ≡ session.old.filters)) }
 {
     session.ids.room(1)?;
     match session.ids.give(name) {

@@ -1,5 +1,6 @@
 //! What is kept of one client.
 use sng_book::Address;
+use sng_fan::subscriptions::Subscriptions;
 use sng_ids::IdTable;
 use sng_states::ClientState;
 
@@ -22,4 +23,6 @@ pub struct Session {
     pub presence: Presence,
     /// The topic ids that it was told since its last accepted CONNECT.
     pub ids: IdTable,
+    /// The filters that stand for it.
+    pub filters: Subscriptions,
 }

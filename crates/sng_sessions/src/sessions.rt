@@ -1,21 +1,28 @@
 //! The clients of the gateway, in the order in which each was accepted first, and where each is.
-ghost use Rattle.std.specs.Prelude.{◌≡◌, ◌<◌, [], length, false, Some, IfSome, OnOk, OnErr, slice_get, map};
-ghost use Rattle.sng_history.specs.Clients.{Client};
+ghost use Rattle.std.specs.Prelude.{◌≡◌, ◌<◌, ◌+◌, ◌||◌, [], length, take, drop, false, Some, IfSome, OnOk, OnErr};
+ghost use Rattle.std.specs.Option.{ForSome};
+ghost use Rattle.sng_fan.specs.Subscriptions.{is_full, IsOneClients};
+ghost use Rattle.sng_history.specs.Clients.{without};
+ghost use Rattle.sng_history.specs.Standing.{holds, is_held};
 ghost use Rattle.sng_history.specs.Good.{Distinct, OnePlace};
 ghost use Rattle.sng_ids.specs.Ids.{is_full_for};
 ghost use Rattle.sng_book.specs.declared.outcome.Outcome.TheVariants.{Allowed};
 ghost use Rattle.sng_history.specs.Entering.{heard_at, left_at, entered};
-ghost use Rattle.sng_sessions.specs.Standing.{place_at, place_of, client_at, told_at};
+ghost use Rattle.sng_sessions.specs.Standing.{place_at, place_of, client_at, told_at, subscribed_at};
 ghost use Rattle.sng_sessions.specs.Places.{moved_at};
 
-use crate::places::{admit, leave_at, tell_at};
+use crate::holders::Holders;
+use crate::places::{admit, hear_at, leave_at, readmit, tell_at, tell_if};
 use crate::session::Session;
+use crate::subscribing::{end_at, stand_at};
 use indexmap::IndexMap;
 use sng_book::Address;
+use sng_fan::Held;
+use sng_fan::subscriptions::Subscriptions;
 use sng_frames::Connect;
 use sng_ids::IdTable;
 use sng_states::ClientState;
-use sng_text::{ClientId, TopicName};
+use sng_text::{ClientId, Qos, TopicFilter, TopicName};
 use std::alloc::{AllocError, Global};
 use std::marker::Model;
 
@@ -25,20 +32,24 @@ use std::marker::Model;
 pub struct Sessions {
     clients: IndexMap<ClientId, Session>,
     places: IndexMap<Address, usize>,
+    holders: Holders,
 }
 
 impl Model for Sessions {
     ghost use Rattle.std.specs.Prelude.{List};
     ghost use Rattle.indexmap.specs.IndexMap.{get};
     ghost use Rattle.sng_history.specs.Clients.{Client, same_address};
+    ghost use Rattle.sng_sessions.specs.Counts.{Counted};
     ghost use Rattle.sng_sessions.specs.Places.{clients_of, Indexed};
 
     ghost Value = { List Client };
 
     ghost view = { λ s. clients_of s.clients.entries };
 
-    // An address leads to the client that is there, so no two clients are at one.
-    ghost invariant = { λ s. Indexed (get same_address s.places) (clients_of s.clients.entries) };
+    // An address leads to the client that is there, so no two clients are at one; and for each filter the
+    // holders say for how many clients it stands.
+    ghost invariant = { λ s. Indexed (get same_address s.places) (clients_of s.clients.entries)
+        × Counted s.holders.held (clients_of s.clients.entries) };
 }
 
 impl Sessions {
@@ -49,6 +60,7 @@ impl Sessions {
         Sessions {
             clients: IndexMap::new(alloc),
             places: IndexMap::new(alloc),
+            holders: Holders::new(alloc),
         }
     }
 
@@ -112,6 +124,40 @@ impl Sessions {
         &self.clients[place].ids
     }
 
+    /// The filters that stand for the client at this place, in order of first standing. Takes no memory.
+    pub fn filters(&self, place: usize) -> &[Held]
+        requires { place < length self.now }
+        ensures value { result.now ≡ (client_at self.now place).filters }
+        ensures once { IsOneClients (client_at self.now place).filters }
+    {
+        self.clients[place].filters.filters()
+    }
+
+    /// Whether the filter stands for the client at this place. Takes no memory.
+    pub fn holds(&self, place: usize, filter: &TopicFilter) -> bool
+        requires { place < length self.now }
+        ensures { result ≡ holds filter.now (client_at self.now place) }
+    {
+        self.clients[place].filters.stands(filter)
+    }
+
+    /// Whether the filter stands for any client: one look-up. Takes no memory.
+    pub fn is_held(&self, filter: &TopicFilter) -> bool
+        ensures { result ≡ is_held self.now filter.now }
+    {
+        self.holders.count(filter) > 0
+    }
+
+    /// Whether the filter stands for a client other than the one at this place: one look-up. Takes no memory.
+    pub fn is_held_by_others(&self, place: usize, filter: &TopicFilter) -> bool
+        requires { place < length self.now }
+        ensures { result ≡ (is_held (take place self.now) filter.now
+            || is_held (drop (place + 1) self.now) filter.now) }
+    {
+        let own = if self.holds(place, filter) { 1 } else { 0 };
+        self.holders.count(filter) > own
+    }
+
     /// The client at this place is heard, and is told the id that the name has from now on. An `Err` is a
     /// failed allocation; nothing changed.
     pub fn tell(&mut self, place: usize, name: TopicName, clock: u64) -> Result<(), AllocError>
@@ -127,9 +173,7 @@ impl Sessions {
     pub fn hear(&mut self, place: usize, clock: u64)
         ensures { self.new ≡ moved_at place (heard_at clock) self.old }
     {
-        if let Some(session) = self.clients.get_index_mut(place) {
-            session.presence.heard = clock;
-        }
+        hear_at(&mut self.clients, place, clock);
     }
 
     /// The client at this place leaves, and its address is free. Takes no memory.
@@ -137,6 +181,53 @@ impl Sessions {
         ensures { self.new ≡ moved_at place (left_at clock) self.old }
     {
         leave_at(&mut self.clients, &mut self.places, place, clock);
+    }
+
+    /// The client at this place is heard, and the filter stands for it at this QoS; where it stood it keeps
+    /// its place. Where a name is given, the client is told the id that this has from now on. The copy is
+    /// what the filter is counted by where nobody held it. An `Err` is a failed allocation; nothing changed.
+    pub fn subscribe(
+        &mut self,
+        place: usize,
+        name: Option<TopicName>,
+        filter: TopicFilter,
+        copy: TopicFilter,
+        qos: Qos,
+        clock: u64,
+    ) -> Result<(), AllocError>
+        requires copy { copy ≡ filter }
+        requires fits { is_full (client_at self.old place).filters filter ≡ false }
+        requires names { ForSome name (λ n. is_full_for n (client_at self.old place).ids ≡ false) }
+        ensures ok { OnOk result (self.new
+            ≡ moved_at place (subscribed_at clock name filter qos) self.old) }
+        ensures err { OnErr result (self.new ≡ self.old) }
+    {
+        self.holders.room()?;
+        tell_if(&mut self.clients, place, name, clock)?;
+        stand_at(
+            &mut self.clients,
+            &mut self.holders,
+            place,
+            filter,
+            copy,
+            qos,
+        );
+        Ok(())
+    }
+
+    /// The client at this place is heard, and the filter stands for it no more. Takes no memory.
+    pub fn unsubscribe(&mut self, place: usize, filter: &TopicFilter, clock: u64)
+        ensures { self.new ≡ moved_at place (λ x. without filter.now (heard_at clock x)) self.old }
+    {
+        self.hear(place, clock);
+        self.end(place, filter);
+    }
+
+    /// The filter stands no more for the client at this place, which is not heard by it. Takes no memory.
+    pub fn end(&mut self, place: usize, filter: &TopicFilter)
+        ensures { self.new ≡ moved_at place (without filter.now) self.old }
+    {
+        end_at(&mut self.clients, &mut self.holders, place, filter);
     }
 
     /// A CONNECT from this address is accepted: whoever else is there leaves. An `Err` is a failed
@@ -151,16 +242,28 @@ impl Sessions {
         ensures ok { OnOk result (self.new ≡ entered clock from connect self.old) }
         ensures err { OnErr result (self.new ≡ self.old) }
     {
-        self.clients.reserve(1)?;
         self.places.reserve(1)?;
-        admit(
-            alloc,
-            &mut self.clients,
-            &mut self.places,
-            from,
-            connect,
-            clock,
-        );
-        Ok(())
+        match self.clients.get_index_of(&connect.client_id) {
+            Some(place) => {
+                let (clients, places) = (&mut self.clients, &mut self.places);
+                readmit(
+                    clients,
+                    places,
+                    &mut self.holders,
+                    place,
+                    from,
+                    &connect,
+                    clock,
+                );
+                Ok(())
+            }
+            None => {
+                let filters = Subscriptions::new(alloc)?;
+                self.clients.reserve(1)?;
+                let (clients, places) = (&mut self.clients, &mut self.places);
+                admit(alloc, clients, places, from, connect, filters, clock);
+                Ok(())
+            }
+        }
     }
 }

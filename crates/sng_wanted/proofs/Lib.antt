@@ -1,2 +1,3 @@
-pub mod OrderLemmas
-pub mod PlaceLemmas
+mod ShownLemmas
+mod PlaceLemmas
+mod OrderLemmas

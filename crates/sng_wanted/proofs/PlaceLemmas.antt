@@ -1,19 +1,16 @@
 -- Which place an open packet id leads to.
-use Rattle.std.proofs.Common.{◌≡◌, ℕ, zero, suc, ◌+◌, ◌<◌, ◌≤◌, ◌==◌, ◌||◌, Bool, true, false, true≢false, List, [], ◌∷◌, Option, Some, None, length, get_or, set, filter, slice_get, position, nat_lt, ◌-◌, cond, if◌then◌else◌, refl, sym, ap, ◌∙◌, arith}
-use Rattle.std.specs.Prelude.{OnOk, IsOk, Ok, Err}
-use Rattle.std.specs.declared.result.Result.{Result}
+use Rattle.std.proofs.Common.{◌≡◌, ℕ, zero, suc, ◌+◌, ◌<◌, ◌≤◌, ◌==◌, ◌||◌, Bool, true, false, true≢false, List, [], ◌∷◌, ◌++◌, Option, Some, None, length, get_or, set, filter, slice_get, nat_lt, cond, if◌then◌else◌, refl, sym, ap, ◌∙◌, arith}
 use Rattle.std.specs.List.{list_any, find}
-use Rattle.std.specs.Map.{lookup}
-use Rattle.std.specs.Str.{bytes_eq}
-use Rattle.std.proofs.lemmas.Bool.{eqb-true, eq-eqb, eqb-false, ltb-true, ltb-false}
+use Rattle.std.specs.Option.{option_map}
+use Rattle.std.proofs.lemmas.Bool.{eqb-true, eq-eqb, eqb-false, ltb-true, ltb-false, false_from_ne_true}
 use Rattle.std.proofs.lemmas.List.{get_or-set_same, get_or-set_other}
 use Rattle.std.proofs.Math.ListN.{length-set}
-use Rattle.indexmap.specs.IndexMap.{insert_entry}
 use Rattle.indexmap.specs.Layout.{set_value_at}
-use Rattle.indexmap.proofs.MapLemmas.{Found-position, insert_entry-first}
-use Rattle.std.specs.Map.{keys_of}
+use Rattle.sng_history.specs.Links.{Wanted, has_id, is_open}
 use Rattle.sng_wanted.specs.declared.want.Want.{Want}
-use Rattle.sng_wanted.specs.Filters.{Entry, open_in, open_at, is_open, has_open, want_for, with_want, one_less, without_one, opening, opened, closed, IsOpenOnce, IsIndexed}
+use Rattle.sng_wanted.specs.declared.want.Want.TheVariants.{Ended, Stands}
+use Rattle.sng_wanted.specs.Filters.{reopened}
+use Rattle.sng_wanted.specs.Shown.{Entry, shown, open_in, open_at, want_of, IsOpenOnce, IsIndexed}
 
 some_is : (a b : ℕ) → Some a ≡ Some b → a ≡ b
 some_is a b same = cc
@@ -22,22 +19,7 @@ some_is a b same = cc
 pub indexed_same : (wanted other : List Entry) (places : List ℕ) → ((p : ℕ) → open_at other p ≡ open_at wanted p) → IsIndexed wanted places → IsIndexed other places
 indexed_same wanted other places same indexed = record { whole = indexed.whole; found = λ p id there. indexed.found p id (sym (same p) ∙ there) }
 
--- an entry that is put in with the open packet id that it had
-pub open_at-insert : (es : List Entry) (text : List ℕ) (w : Want) (p : ℕ) → w.open_id ≡ open_in (want_for es text) → open_at (insert_entry bytes_eq es text w) p ≡ open_at es p
-open_at-insert [] text w zero = λ same. same
-open_at-insert [] text w (suc p) = λ same. refl
-open_at-insert (e ∷ es) text w zero =
-    elim (bytes_eq text e.0) as (λ b. w.open_id ≡ open_in (cond b (Some e.1) (lookup (bytes_eq text) es)) → open_at (if b then (e.0, w) ∷ es else e ∷ insert_entry bytes_eq es text w) zero ≡ e.1.open_id) [
-      | true ↦ λ same. same
-      | false ↦ λ same. refl
-    ]
-open_at-insert (e ∷ es) text w (suc p) =
-    elim (bytes_eq text e.0) as (λ b. w.open_id ≡ open_in (cond b (Some e.1) (lookup (bytes_eq text) es)) → open_at (if b then (e.0, w) ∷ es else e ∷ insert_entry bytes_eq es text w) (suc p) ≡ open_at es p) [
-      | true ↦ λ same. refl
-      | false ↦ λ same. open_at-insert es text w p same
-    ]
-
-open_at-same : (es : List Entry) (place : ℕ) (w : Want) → place < length es → open_at (set_value_at es place w) place ≡ w.open_id
+open_at-same : (es : List Entry) (place : ℕ) (w : Want) → place < length es → open_at (set_value_at es place w) place ≡ open_in w
 open_at-same [] place w within = absurd (omega arith)
 open_at-same (e ∷ es) zero w within = refl
 open_at-same (e ∷ es) (suc place) w within = open_at-same es place w (omega arith)
@@ -51,61 +33,24 @@ open_at-other (e ∷ es) (suc place) w (suc p) differs = open_at-other es place 
 
 -- a change at a place changes what is open there alone
 set_by : (es : List Entry) (place : ℕ) (w : Want) (p : ℕ) (here : Bool) → (p == place) ≡ here → place < length es
-    → open_at (set_value_at es place w) p ≡ (if here then w.open_id else open_at es p)
+    → open_at (set_value_at es place w) p ≡ (if here then open_in w else open_at es p)
 set_by es place w p true is within =
     let at : p ≡ place = eqb-true p place is in ap (λ q. open_at (set_value_at es place w) q) at ∙ open_at-same es place w within
 set_by es place w p false is within = open_at-other es place w p (eqb-false p place is)
 
-pub open_at-set : (es : List Entry) (place : ℕ) (w : Want) (p : ℕ) → place < length es → open_at (set_value_at es place w) p ≡ (if p == place then w.open_id else open_at es p)
+pub open_at-set : (es : List Entry) (place : ℕ) (w : Want) (p : ℕ) → place < length es → open_at (set_value_at es place w) p ≡ (if p == place then open_in w else open_at es p)
 open_at-set es place w p within = set_by es place w p (p == place) refl within
 
-changed_by : (es : List Entry) (place : ℕ) (w : Want) (p : ℕ) (here : Bool) → (p == place) ≡ here → w.open_id ≡ open_at es place → (if here then w.open_id else open_at es p) ≡ open_at es p
-changed_by es place w p true is same = let at : p ≡ place = eqb-true p place is in same ∙ ap (λ q. open_at es q) (sym at)
-changed_by es place w p false is same = refl
-
--- a change that keeps the open packet id
-pub indexed_changed : (es : List Entry) (places : List ℕ) (place : ℕ) (w : Want) → place < length es → w.open_id ≡ open_at es place → IsIndexed es places → IsIndexed (set_value_at es place w) places
-indexed_changed es places place w within same indexed =
-    indexed_same es (set_value_at es place w) places (λ p. open_at-set es place w p within ∙ changed_by es place w p (p == place) refl same) indexed
-
-closing_by : (es : List Entry) (places : List ℕ) (place p id : ℕ) (w : Want) (here : Bool) → (p == place) ≡ here → w.open_id ≡ None → IsIndexed es places
-    → (if here then w.open_id else open_at es p) ≡ Some id → get_or places id 0 ≡ p
+closing_by : (es : List Entry) (places : List ℕ) (place p id : ℕ) (w : Want) (here : Bool) → (p == place) ≡ here → open_in w ≡ None → IsIndexed es places
+    → (if here then open_in w else open_at es p) ≡ Some id → get_or places id 0 ≡ p
 closing_by es places place p id w true is none indexed there = let absent : None ≡ Some id = sym none ∙ there in cc
 closing_by es places place p id w false is none indexed there = indexed.found p id there
 
 -- one that leaves none open at the place
-pub indexed_closed : (es : List Entry) (places : List ℕ) (place : ℕ) (w : Want) → place < length es → w.open_id ≡ None → IsIndexed es places → IsIndexed (set_value_at es place w) places
+pub indexed_closed : (es : List Entry) (places : List ℕ) (place : ℕ) (w : Want) → place < length es → open_in w ≡ None → IsIndexed es places → IsIndexed (set_value_at es place w) places
 indexed_closed es places place w within none indexed = record {
   whole = indexed.whole;
   found = λ p id there. closing_by es places place p id w (p == place) refl none indexed (sym (open_at-set es place w p within) ∙ there);
-}
-
--- something open with the packet id is found
-pub any_open : (es : List Entry) (p id : ℕ) → open_at es p ≡ Some id → list_any (has_open id) es ≡ true
-any_open [] p id there = let absent : None ≡ Some id = there in cc
-any_open (e ∷ es) zero id there =
-    let here : has_open id e ≡ true = ap (λ o. is_open o id) there ∙ eq-eqb id id refl in
-    rw here refl
-any_open (e ∷ es) (suc p) id there =
-    let later : list_any (has_open id) es ≡ true = any_open es p id there in
-    elim (has_open id e) as (λ b. (b || list_any (has_open id) es) ≡ true) [ true ↦ refl | false ↦ later ]
-
-opening_by : (es : List Entry) (places : List ℕ) (place id p other : ℕ) (w : Want) (here : Bool) → (p == place) ≡ here → w.open_id ≡ Some id → id ≤ 65535
-    → list_any (has_open id) es ≡ false → IsIndexed es places → (if here then w.open_id else open_at es p) ≡ Some other → get_or (set places id place) other 0 ≡ p
-opening_by es places place id p other w true is now small fresh indexed there =
-    let at : p ≡ place = eqb-true p place is in
-    let same : id ≡ other = some_is id other (sym now ∙ there) in
-    rw (← same) (get_or-set_same places id place 0 (omega (arith, indexed.whole)) ∙ sym at)
-opening_by es places place id p other w false is now small fresh indexed there =
-    let differs : other ≡ id → ⊥ = λ same. true≢false (sym (any_open es p id (there ∙ ap Some same)) ∙ fresh) in
-    get_or-set_other places id other place 0 differs ∙ indexed.found p other there
-
--- and one that opens a packet id that is not open
-pub indexed_opened : (es : List Entry) (places : List ℕ) (place id : ℕ) (w : Want) → place < length es → w.open_id ≡ Some id → id ≤ 65535 → list_any (has_open id) es ≡ false
-    → IsIndexed es places → IsIndexed (set_value_at es place w) (set places id place)
-indexed_opened es places place id w within now small fresh indexed = record {
-  whole = length-set places id place ∙ indexed.whole;
-  found = λ p other there. opening_by es places place id p other w (p == place) refl now small fresh indexed (sym (open_at-set es place w p within) ∙ there);
 }
 
 -- what leads to places is open once
@@ -115,75 +60,9 @@ once es places indexed p q id first second = sym (indexed.found p id first) ∙ 
 none_open : (id : ℕ) → None ≡ Some id → ⊥
 none_open id absent = cc
 
-none_there : (e : Entry) → None ≡ Some e → ⊥
-none_there e absent = cc
-
-same_entry : (d e : Entry) → Some d ≡ Some e → d ≡ e
-same_entry d e same = cc
-
-first_open : (o : Option ℕ) (id : ℕ) → is_open o id ≡ true → o ≡ Some id
-first_open None id is = absurd (true≢false (sym is))
-first_open (Some used) id is = ap Some (eqb-true used id is)
-
-here_open : (d : Entry) (id : ℕ) → d.1.open_id ≡ Some id → has_open id d ≡ true
-here_open d id now = ap (λ o. is_open o id) now ∙ eq-eqb id id refl
-
 -- the packet id is open at one place alone
 abbrev pub Only : List Entry → ℕ → ℕ → Type 0
 Only es id p = (q : ℕ) → open_at es q ≡ Some id → q ≡ p
-
-later_only : (d : Entry) (es : List Entry) (p id : ℕ) → Only (d ∷ es) id (suc p) → Only es id p
-later_only d es p id only q at = let more : suc q ≡ suc p = only (suc q) at in omega arith
-
-not_first : (d : Entry) (es : List Entry) (p id : ℕ) → Only (d ∷ es) id (suc p) → has_open id d ≡ true → ⊥
-not_first d es p id only is = let first : zero ≡ suc p = only zero (first_open d.1.open_id id is) in omega arith
-
-found_by : (d : Entry) (es : List Entry) (p id : ℕ) (e : Entry) (here : Bool) → has_open id d ≡ here → Only (d ∷ es) id (suc p)
-    → find (has_open id) es ≡ Some e → cond here (Some d) (find (has_open id) es) ≡ Some e
-found_by d es p id e true is only later = absurd (not_first d es p id only is)
-found_by d es p id e false is only later = later
-
--- the filter at the place is the one that is found
-pub found_at : (es : List Entry) (p id : ℕ) (e : Entry) → slice_get es p ≡ Some e → e.1.open_id ≡ Some id → Only es id p → find (has_open id) es ≡ Some e
-found_at [] p id e there now only = absurd (none_there e there)
-found_at (d ∷ es) zero id e there now only =
-    let same : d ≡ e = same_entry d e there in
-    rw (here_open d id (ap (λ x. x.1.open_id) same ∙ now)) there
-found_at (d ∷ es) (suc p) id e there now only =
-    found_by d es p id e (has_open id d) refl only (found_at es p id e there now (later_only d es p id only))
-
-none_by : (d : Entry) (es : List Entry) (id : ℕ) (here : Bool) → has_open id d ≡ here → ((q : ℕ) → open_at (d ∷ es) q ≡ Some id → ⊥) → find (has_open id) es ≡ None
-    → cond here (Some d) (find (has_open id) es) ≡ None
-none_by d es id true is absent later = absurd (absent zero (first_open d.1.open_id id is))
-none_by d es id false is absent later = later
-
--- and where none has it none is found
-pub found_none : (es : List Entry) (id : ℕ) → ((q : ℕ) → open_at es q ≡ Some id → ⊥) → find (has_open id) es ≡ None
-found_none [] id absent = refl
-found_none (d ∷ es) id absent = none_by d es id (has_open id d) refl absent (found_none es id (λ q at. absent (suc q) at))
-
-closed_by : (d : Entry) (es : List Entry) (p id : ℕ) (w : Want) (here : Bool) → has_open id d ≡ here → Only (d ∷ es) id (suc p) → set_value_at es p w ≡ closed id es
-    → d ∷ set_value_at es p w ≡ (if here then (d.0, record d.1 { open_id = None }) ∷ es else d ∷ closed id es)
-closed_by d es p id w true is only later = absurd (not_first d es p id only is)
-closed_by d es p id w false is only later = ap (λ l. d ∷ l) later
-
--- the change at the place closes it
-pub closed_at : (es : List Entry) (p id : ℕ) (e : Entry) (w : Want) → slice_get es p ≡ Some e → e.1.open_id ≡ Some id → Only es id p → w ≡ record e.1 { open_id = None } → set_value_at es p w ≡ closed id es
-closed_at [] p id e w there now only is = refl
-closed_at (d ∷ es) zero id e w there now only is =
-    let same : d ≡ e = same_entry d e there in
-    rw (here_open d id (ap (λ x. x.1.open_id) same ∙ now)) (ap (λ v. (d.0, v) ∷ es) (is ∙ ap (λ x. record x.1 { open_id = None }) (sym same)))
-closed_at (d ∷ es) (suc p) id e w there now only is =
-    closed_by d es p id w (has_open id d) refl only (closed_at es p id e w there now (later_only d es p id only) is)
-
-none_closed_by : (d : Entry) (es : List Entry) (id : ℕ) (here : Bool) → has_open id d ≡ here → ((q : ℕ) → open_at (d ∷ es) q ≡ Some id → ⊥) → closed id es ≡ es
-    → (if here then (d.0, record d.1 { open_id = None }) ∷ es else d ∷ closed id es) ≡ d ∷ es
-none_closed_by d es id true is absent later = absurd (absent zero (first_open d.1.open_id id is))
-none_closed_by d es id false is absent later = ap (λ l. d ∷ l) later
-
-pub closed_none : (es : List Entry) (id : ℕ) → ((q : ℕ) → open_at es q ≡ Some id → ⊥) → closed id es ≡ es
-closed_none [] id absent = refl
-closed_none (d ∷ es) id absent = none_closed_by d es id (has_open id d) refl absent (closed_none es id (λ q at. absent (suc q) at))
 
 -- where it is open it is open alone
 pub only_there : (es : List Entry) (places : List ℕ) (p id : ℕ) → IsIndexed es places → open_at es p ≡ Some id → Only es id p
@@ -210,7 +89,7 @@ kept_from keep (e ∷ es) q id = kept_by keep e es q id (keep e) (λ p. kept_fro
     kept_by keep e es (suc q) id true later there = let found = later q there in (suc found.0, found.1)
     kept_by keep e es q id false later there = let found = later q there in (suc found.0, found.1)
 
-first_kept : (keep : Entry → Bool) (e : Entry) (es : List Entry) (q id : ℕ) → IsOpenOnce (e ∷ es) → e.1.open_id ≡ Some id → open_at (filter keep es) q ≡ Some id → ⊥
+first_kept : (keep : Entry → Bool) (e : Entry) (es : List Entry) (q id : ℕ) → IsOpenOnce (e ∷ es) → open_in e.1 ≡ Some id → open_at (filter keep es) q ≡ Some id → ⊥
 first_kept keep e es q id once now there =
     let found = kept_from keep es q id there in
     let first : zero ≡ suc found.0 = once zero (suc found.0) id now found.1 in omega arith
@@ -276,24 +155,124 @@ noted_all es places count all noted = record { whole = noted.whole; found = λ p
         let above : count ≤ p = ltb-false p count is in
         absurd (none_open id (sym (past_end es p (omega arith)) ∙ there))
 
--- the filter keeps its place, whatever is kept of it
-put_at : (es : List Entry) (text : List ℕ) (place : ℕ) (w : Want) → position (bytes_eq text) (keys_of es) ≡ Some place → set_value_at es place w ≡ insert_entry bytes_eq es text w
-put_at es text place w at = sym (insert_entry-first bytes_eq text w es place (Found-position (bytes_eq text) es place at).first)
+-- something open with the packet id is shown
+pub any_open : (es : List Entry) (p id : ℕ) → open_at es p ≡ Some id → list_any (is_open id) (shown es) ≡ true
+any_open [] p id there = absurd (none_open id there)
+any_open ((k, Ended) ∷ es) zero id there = absurd (none_open id there)
+any_open ((k, Stands o) ∷ es) zero id there =
+    let here : has_id id o ≡ true = ap (λ o. has_id id o) there ∙ eq-eqb id id refl in
+    rw here refl
+any_open ((k, Ended) ∷ es) (suc p) id there = any_open es p id there
+any_open ((k, Stands o) ∷ es) (suc p) id there =
+    let later : list_any (is_open id) (shown es) ≡ true = any_open es p id there in
+    elim (has_id id o) as (λ b. (b || list_any (is_open id) (shown es)) ≡ true) [ true ↦ refl | false ↦ later ]
 
-pub released : (es : List Entry) (text : List ℕ) (place : ℕ) (want w : Want) → position (bytes_eq text) (keys_of es) ≡ Some place → want_for es text ≡ Some want
-    → w ≡ record want { holders = want.holders - 1 } → set_value_at es place w ≡ without_one es text
-released es text place want w at known is = put_at es text place w at ∙ ap (λ v. insert_entry bytes_eq es text v) is ∙ ap (λ o. with_want es text (one_less o)) (sym known)
+opening_by : (es : List Entry) (places : List ℕ) (place id p other : ℕ) (w : Want) (here : Bool) → (p == place) ≡ here → open_in w ≡ Some id → id ≤ 65535
+    → list_any (is_open id) (shown es) ≡ false → IsIndexed es places → (if here then open_in w else open_at es p) ≡ Some other → get_or (set places id place) other 0 ≡ p
+opening_by es places place id p other w true is now small fresh indexed there =
+    let at : p ≡ place = eqb-true p place is in
+    let same : id ≡ other = some_is id other (sym now ∙ there) in
+    rw (← same) (get_or-set_same places id place 0 (omega (arith, indexed.whole)) ∙ sym at)
+opening_by es places place id p other w false is now small fresh indexed there =
+    let differs : other ≡ id → ⊥ = λ same. true≢false (sym (any_open es p id (there ∙ ap Some same)) ∙ fresh) in
+    get_or-set_other places id other place 0 differs ∙ indexed.found p other there
 
-pub opened_at : (es : List Entry) (text : List ℕ) (place id : ℕ) (want w : Want) → position (bytes_eq text) (keys_of es) ≡ Some place → want_for es text ≡ Some want
-    → w ≡ record want { open_id = Some id } → set_value_at es place w ≡ opened es text id
-opened_at es text place id want w at known is = put_at es text place w at ∙ ap (λ v. insert_entry bytes_eq es text v) is ∙ ap (λ o. with_want es text (opening o id)) (sym known)
+-- and one that opens a packet id that is not open
+pub indexed_opened : (es : List Entry) (places : List ℕ) (place id : ℕ) (w : Want) → place < length es → open_in w ≡ Some id → id ≤ 65535 → list_any (is_open id) (shown es) ≡ false
+    → IsIndexed es places → IsIndexed (set_value_at es place w) (set places id place)
+indexed_opened es places place id w within now small fresh indexed = record {
+  whole = length-set places id place ∙ indexed.whole;
+  found = λ p other there. opening_by es places place id p other w (p == place) refl now small fresh indexed (sym (open_at-set es place w p within) ∙ there);
+}
 
--- what holds where it went well, it having gone well
-pub on_ok : {A B : Type 0} (r : Result A B) (P : Type 0) → IsOk r → OnOk r P → P
-on_ok (Ok x) P went there = there
-on_ok (Err x) P went there = absurd (true≢false (sym went))
+-- one more at the end, with no open packet id
+open_more : (es : List Entry) (text : List ℕ) (p : ℕ) → open_at (es ++ (text, Stands None) ∷ []) p ≡ open_at es p
+open_more [] text zero = refl
+open_more [] text (suc p) = refl
+open_more (e ∷ es) text zero = refl
+open_more (e ∷ es) text (suc p) = open_more es text p
 
-pub there_within : (es : List Entry) (p : ℕ) (e : Entry) → slice_get es p ≡ Some e → p < length es
-there_within [] p e there = absurd (none_there e there)
-there_within (d ∷ es) zero e there = omega arith
-there_within (d ∷ es) (suc p) e there = let later = there_within es p e there in omega arith
+pub indexed_more : (es : List Entry) (text : List ℕ) (places : List ℕ) → IsIndexed es places → IsIndexed (es ++ (text, Stands None) ∷ []) places
+indexed_more es text places indexed = indexed_same es (es ++ (text, Stands None) ∷ []) places (open_more es text) indexed
+
+has_open : (o : Option ℕ) (id : ℕ) → has_id id o ≡ true → o ≡ Some id
+has_open None id is = absurd (true≢false (sym is))
+has_open (Some used) id is = ap Some (eqb-true used id is)
+
+closed_off : (o : Option ℕ) (id : ℕ) → (o ≡ Some id → ⊥) → has_id id o ≡ false
+closed_off o id none = false_from_ne_true (has_id id o) (λ is. none (has_open o id is))
+
+-- the packet id is open nowhere
+abbrev pub Nowhere : List Entry → ℕ → Type 0
+Nowhere es id = (q : ℕ) → open_at es q ≡ Some id → ⊥
+
+-- and then what it is reopened with changes nothing
+pub none_reopened : (es : List Entry) (id : ℕ) (former : Option ℕ) → Nowhere es id → reopened (shown es) id former ≡ shown es
+none_reopened [] id former none = refl
+none_reopened ((k, Ended) ∷ es) id former none = none_reopened es id former (λ q. none (suc q))
+none_reopened ((k, Stands o) ∷ es) id former none =
+    let unlike : has_id id o ≡ false = closed_off o id (λ is. none zero is) in
+    rw unlike (ap (λ l. record { filter = k; open_id = o } ∷ l) (none_reopened es id former (λ q. none (suc q))))
+
+pub none_found : (es : List Entry) (id : ℕ) → Nowhere es id → find (is_open id) (shown es) ≡ None
+none_found [] id none = refl
+none_found ((k, Ended) ∷ es) id none = none_found es id (λ q. none (suc q))
+none_found ((k, Stands o) ∷ es) id none =
+    let unlike : has_id id o ≡ false = closed_off o id (λ is. none zero is) in
+    rw unlike (none_found es id (λ q. none (suc q)))
+
+later_nowhere : (e : Entry) (es : List Entry) (id : ℕ) → Only (e ∷ es) id zero → Nowhere es id
+later_nowhere e es id only q there = let none : suc q ≡ zero = only (suc q) there in omega arith
+
+later_only : (e : Entry) (es : List Entry) (p id : ℕ) → Only (e ∷ es) id (suc p) → Only es id p
+later_only e es p id only q at = let more : suc q ≡ suc p = only (suc q) at in omega arith
+
+not_first : (k : List ℕ) (o : Option ℕ) (es : List Entry) (p id : ℕ) → Only ((k, Stands o) ∷ es) id (suc p) → has_id id o ≡ false
+not_first k o es p id only = closed_off o id (λ is. let first : zero ≡ suc p = only zero is in omega arith)
+
+-- the filter at the place is reopened, and no other
+pub at_reopened : (es : List Entry) (p id : ℕ) (former : Option ℕ) → open_at es p ≡ Some id → Only es id p → shown (set_value_at es p (Stands former)) ≡ reopened (shown es) id former
+at_reopened [] p id former there only = absurd (none_open id there)
+at_reopened ((k, Ended) ∷ es) zero id former there only = absurd (none_open id there)
+at_reopened ((k, Stands o) ∷ es) zero id former there only =
+    let here : has_id id o ≡ true = ap (λ o. has_id id o) there ∙ eq-eqb id id refl in
+    rw here (ap (λ l. record { filter = k; open_id = former } ∷ l) (sym (none_reopened es id former (later_nowhere (k, Stands o) es id only))))
+at_reopened ((k, Ended) ∷ es) (suc p) id former there only = at_reopened es p id former there (later_only (k, Ended) es p id only)
+at_reopened ((k, Stands o) ∷ es) (suc p) id former there only =
+    let unlike : has_id id o ≡ false = not_first k o es p id only in
+    rw unlike (ap (λ l. record { filter = k; open_id = o } ∷ l) (at_reopened es p id former there (later_only (k, Stands o) es p id only)))
+
+-- and it is the one that is found
+pub at_found : (es : List Entry) (p id : ℕ) (e : Entry) → slice_get es p ≡ Some e → open_at es p ≡ Some id → Only es id p
+    → option_map (λ (w : Wanted). w.filter) (find (is_open id) (shown es)) ≡ Some e.0
+at_found [] p id e is there only = absurd (none_open id there)
+at_found ((k, Ended) ∷ es) zero id e is there only = absurd (none_open id there)
+at_found ((k, Stands o) ∷ es) zero id e is there only =
+    let here : has_id id o ≡ true = ap (λ o. has_id id o) there ∙ eq-eqb id id refl in
+    rw here (ap (λ (x : Option Entry). option_map (λ (e : Entry). e.0) x) is)
+at_found ((k, Ended) ∷ es) (suc p) id e is there only = at_found es p id e is there (later_only (k, Ended) es p id only)
+at_found ((k, Stands o) ∷ es) (suc p) id e is there only =
+    let unlike : has_id id o ≡ false = not_first k o es p id only in
+    rw unlike (at_found es p id e is there (later_only (k, Stands o) es p id only))
+
+-- where a packet id is open something stands
+pub open_stands : (es : List Entry) (p id : ℕ) → open_at es p ≡ Some id → want_of es p ≡ Some (Stands (Some id))
+open_stands [] p id there = absurd (none_open id there)
+open_stands ((k, Ended) ∷ es) zero id there = absurd (none_open id there)
+open_stands ((k, Stands o) ∷ es) zero id there = ap (λ o. Some (Stands o)) there
+open_stands (e ∷ es) (suc p) id there = open_stands es p id there
+
+pub open_within : (es : List Entry) (p id : ℕ) → open_at es p ≡ Some id → p < length es
+open_within [] p id there = absurd (none_open id there)
+open_within (e ∷ es) zero id there = omega arith
+open_within (e ∷ es) (suc p) id there = let later = open_within es p id there in omega arith
+
+pub stands_within : (es : List Entry) (p : ℕ) (w : Want) → want_of es p ≡ Some w → p < length es
+stands_within [] p w there = absurd (cc)
+stands_within (e ∷ es) zero w there = omega arith
+stands_within (e ∷ es) (suc p) w there = let later = stands_within es p w there in omega arith
+
+pub same_length : (es : List Entry) (p : ℕ) (w : Want) → length (set_value_at es p w) ≡ length es
+same_length [] p w = refl
+same_length (e ∷ es) zero w = refl
+same_length (e ∷ es) (suc p) w = ap suc (same_length es p w)

@@ -1,7 +1,17 @@
-//! The laws of the wanted filters. The functions here only state them: a contract is the law, and a call does nothing.
+//! The laws of the wanted filters. The functions here only state them: a contract is the law, and a call does
+//! nothing.
+ghost use Rattle.std.specs.Prelude.{◌≡◌};
 ghost use Rattle.sng_wanted.specs.Laws.{FirstStandingDecides};
 
-/// The order is that of first standing: where A subscribes F, C subscribes G, B subscribes F and A ends F, it is F, G.
+use crate::MAX_WANTED;
+
+/// The limit.
+pub fn limits()
+    ensures { MAX_WANTED ≡ 8193 }
+{}
+
+/// The order is that of first standing: where F is asked for, then G, and then F again, it is F, G; and once
+/// F ended and is asked for anew, it is G, F.
 pub fn first_standing_decides()
     ensures { FirstStandingDecides }
 {}

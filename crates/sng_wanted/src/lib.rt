@@ -2,8 +2,10 @@
 #![tactic(auto)]
 
 pub mod laws;
-pub mod want;
+pub mod limits;
+mod places;
+mod want;
 pub mod wanted;
 
-pub use want::Want;
+pub use limits::MAX_WANTED;
 pub use wanted::Wanted;

@@ -1,10 +1,11 @@
 //! What is kept of one filter.
 
-/// What is kept of a filter that stands for somebody.
-#[derive(Clone, Copy, Debug, PartialEq, Eq)]
-pub struct Want {
-    /// How many clients hold it.
-    pub holders: u32,
-    /// The packet id of its SUBSCRIBE that waits for its SUBACK (MQTT 3.1.1, 3.9), where one does.
-    pub open_id: Option<u16>,
+/// What is kept of a filter.
+#[derive(Clone, Copy, Debug, Drop)]
+pub enum Want {
+    /// It stands for nobody any more, and is kept only until the next sweep.
+    Ended,
+    /// It stands for somebody, with the packet id of its SUBSCRIBE that waits for its SUBACK (MQTT 3.1.1,
+    /// 3.9), where one does.
+    Stands(Option<u16>),
 }

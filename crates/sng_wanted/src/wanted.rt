@@ -1,13 +1,16 @@
 //! The filters that stand for anybody, in order of first standing.
-ghost use Rattle.std.specs.Prelude.{◌≡◌, ◌≤◌, ◌<◌, ◌+◌, ◌^◌, [], false, length, nat_lt, filter, slice_get, IfOk, OnOk};
-ghost use Rattle.std.specs.List.{list_any, find};
-ghost use Rattle.std.specs.Option.{ForSome, option_copied, option_map};
-ghost use Rattle.indexmap.specs.IndexMap.{spare, IsUnchanged};
-ghost use Rattle.indexmap.specs.Layout.{set_value_at};
-ghost use Rattle.sng_wanted.specs.Filters.{holders_of, with_holder, holders_left, without_one, is_held, has_open};
-ghost use Rattle.sng_wanted.specs.Filters.{want_for, holders_in, open_in, open_at, opened, closed, IsIndexed, IsOpenOnce, IsPlaceOpen};
+ghost use Rattle.std.specs.Prelude.{◌≡◌, ◌≤◌, ◌<◌, [], ◌∷◌, ◌++◌, None, false, length, map, IfOk, OnOk};
+ghost use Rattle.std.specs.List.{list_any};
+ghost use Rattle.std.specs.Option.{option_copied};
+ghost use Rattle.sng_wanted.specs.declared.limits.TheConstants.{MAX_WANTED};
+ghost use Rattle.sng_history.specs.Good.{WantedOnce};
+ghost use Rattle.sng_history.specs.Links.{Wanted as Entry, wants, opened, closed, is_open};
+ghost use Rattle.sng_history.specs.Packets.{filter_open};
+ghost use Rattle.sng_wanted.specs.Filters.{without_wanted, reopened, id_for, IsFree};
+ghost use Rattle.sng_wanted.specs.Shown.{shown};
 
-use crate::Want;
+use crate::places::{ROOM, change, make_room, place_open, standing};
+use crate::want::Want;
 use indexmap::IndexMap;
 use sng_text::TopicFilter;
 use std::alloc::{AllocError, Global};
@@ -16,218 +19,172 @@ use std::marker::Model;
 /// How many numbers a packet id has, 0 among them, which is none.
 const NUMBERS: usize = 65_536;
 
-/// The filters that stand for anybody, in order of first standing, each with how many clients hold it and the packet id of its
-/// open SUBSCRIBE. Found by filter and by packet id in one look-up each. Contracts see the list, and how many filters more
-/// there is room for.
+/// The filters that stand for anybody, in order of first standing, each with the packet id of its open
+/// SUBSCRIBE. Found by filter and by packet id in one look-up each. Room for `MAX_WANTED` is made once, so no
+/// later call takes memory. One that ends stays where it is, and is swept out later. Contracts see those that
+/// stand.
 #[derive(Drop)]
 pub struct Wanted {
     filters: IndexMap<TopicFilter, Want>,
+    /// Empty: where a sweep moves those that stand.
+    other: IndexMap<TopicFilter, Want>,
     /// For the packet id of an open SUBSCRIBE the place of its filter.
     places: Vec<usize>,
+    /// How many filters stand.
+    count: usize,
 }
 
 impl Model for Wanted {
+    ghost use Rattle.std.specs.Prelude.{◌≡◌, ◌≤◌, [], List, length};
     ghost use Rattle.indexmap.specs.IndexMap.{spare};
-    ghost use Rattle.sng_wanted.specs.Filters.{Filters, IsIndexed};
+    ghost use Rattle.sng_history.specs.Links.{Wanted as Entry};
+    ghost use Rattle.sng_wanted.specs.declared.places.TheConstants.{ROOM};
+    ghost use Rattle.sng_wanted.specs.Shown.{shown, IsIndexed, HasRoom};
 
-    ghost Value = { Filters };
+    ghost Value = { List Entry };
 
-    ghost view = { λ w. record { wanted = w.filters.entries; room = spare w.filters } };
+    ghost view = { λ w. shown w.filters.entries };
 
-    ghost invariant = { λ w. IsIndexed w.filters.entries w.places.items };
+    ghost invariant = { λ w. IsIndexed w.filters.entries w.places.items
+        × (w.count ≡ length (shown w.filters.entries))
+        × HasRoom ROOM (length w.filters.entries) (spare w.filters)
+        × (w.other.entries ≡ []) × (ROOM ≤ spare w.other) };
 }
 
 impl Wanted {
-    /// Nothing stands for anybody. Only memory can fail.
+    /// No filter stands. Only memory can fail.
     pub fn new(alloc: Global) -> Result<Wanted, AllocError>
-        ensures { IfOk result (λ w. w.wanted ≡ []) }
+        ensures { IfOk result (λ w. w ≡ []) }
     {
         Ok(Wanted {
-            filters: IndexMap::new(alloc),
+            filters: IndexMap::with_capacity(alloc, ROOM)?,
+            other: IndexMap::with_capacity(alloc, ROOM)?,
             places: vec![in alloc; 0; NUMBERS]?,
+            count: 0,
         })
     }
 
-    /// How many filters stand.
+    /// How many filters stand. None stands twice.
     pub fn len(&self) -> usize
-        ensures { result ≡ length self.now.wanted }
+        ensures len { result ≡ length self.now }
+        ensures once { WantedOnce self.now }
     {
-        self.filters.len()
+        let _kept = self.filters.len();
+        self.count
     }
 
-    /// Makes room for so many filters more. Only memory can fail; no filter changes.
-    pub fn room(&mut self, more: usize) -> Result<(), AllocError>
-        ensures same { self.new.wanted ≡ self.old.wanted }
-        ensures room { OnOk result (more ≤ self.new.room) }
+    /// Whether the filter stands.
+    pub fn is_wanted(&self, filter: &TopicFilter) -> bool
+        ensures { result ≡ wants self.now filter.now }
     {
-        self.filters.reserve(more)
+        match standing(&self.filters, filter) {
+            None => false,
+            Some(_) => true,
+        }
     }
 
-    /// The filter at this place, the one that stood first being at 0, with what is kept of it.
-    pub fn at(&self, place: usize) -> Option<(&TopicFilter, &Want)>
-        ensures { option_map (λ w. (w.0.now, w.1.now)) result ≡ slice_get self.now.wanted place }
+    /// The packet id of the filter's open SUBSCRIBE.
+    pub fn open_id(&self, filter: &TopicFilter) -> Option<u16>
+        ensures { result ≡ id_for self.now filter.now }
     {
-        self.filters.get_index(place)
-    }
-
-    /// What is kept of the filter, where it stands.
-    pub fn want(&self, filter: &TopicFilter) -> Option<Want>
-        ensures { result ≡ want_for self.now.wanted filter.now }
-    {
-        self.filters.get(filter).copied()
+        let (_, open_id) = standing(&self.filters, filter)?;
+        open_id
     }
 
     /// The filter whose open SUBSCRIBE has this packet id.
     pub fn opened_by(&self, packet_id: u16) -> Option<&TopicFilter>
-        ensures { option_copied result ≡ option_map (λ w. w.0) (find (has_open packet_id) self.now.wanted) }
+        ensures { option_copied result ≡ filter_open self.now packet_id }
     {
-        let place = place_open(&self.places, &self.filters, packet_id)?;
+        let place = place_open(&self.filters, &self.places, packet_id)?;
         let (filter, _) = self.filters.get_index(place)?;
         Some(filter)
     }
 
-    /// One client more holds the filter, behind all others where it did not stand. There is room for one, and the filter is
-    /// not one that nobody holds and no `sweep` took out yet: that would keep its old place.
+    /// The filter stands from now on, behind all others. Takes no memory.
     pub fn add(&mut self, filter: TopicFilter)
-        requires room { 0 < self.old.room }
-        requires swept { ForSome (want_for self.old.wanted filter) (λ want. 0 < want.holders) }
-        requires few { holders_of self.old.wanted filter + 1 < 2 ^ 32 }
-        ensures wanted { self.new.wanted ≡ with_holder self.old.wanted filter }
-        ensures room { self.old.room ≤ self.new.room + 1 }
+        requires new { wants self.old filter ≡ false }
+        requires few { length self.old < MAX_WANTED }
+        ensures { self.new ≡ self.old ++ record { filter = filter; open_id = None } ∷ [] }
     {
-        let want = one_more(self.filters.get(&filter).copied());
-        let _stood = self.filters.insert(filter, want).unwrap();
-    }
-
-    /// One client less holds the filter, and how many still do. A filter that nobody holds is in the list until `sweep`.
-    pub fn release(&mut self, filter: &TopicFilter) -> u32
-        ensures left { result ≡ holders_left self.old.wanted filter.now }
-        ensures wanted { self.new.wanted ≡ without_one self.old.wanted filter.now }
-        ensures room { self.old.room ≤ self.new.room }
-    {
-        let Some((place, _, want)) = self.filters.get_full(filter) else {
-            return 0;
-        };
-        let want = Want {
-            holders: want.holders.saturating_sub(1),
-            open_id: want.open_id,
-        };
-        change(&mut self.filters, place, want);
-        want.holders
-    }
-
-    /// Takes the filters out that nobody holds, in one pass. The others stay in order.
-    pub fn sweep(&mut self)
-        ensures wanted { self.new.wanted ≡ filter is_held self.old.wanted }
-        ensures room { self.old.room ≤ self.new.room }
-    {
-        self.filters.retain(
-            |_filter: &TopicFilter, want: &mut Want| -> bool
-                ensures { (result ≡ nat_lt 0 want.old.holders) × (want.new ≡ want.old) }
-            { want.holders > 0 },
+        make_room(
+            &mut self.filters,
+            &mut self.other,
+            &mut self.places,
+            &filter,
         );
-        find_places(&mut self.places, &self.filters);
+        let _new = self.filters.insert(filter, Want::Stands(None)).unwrap();
+        self.count += 1;
     }
 
-    /// The SUBSCRIBE with this packet id, which no other has, is open for the filter from now on, and no earlier one of it.
-    pub fn open_subscribe(&mut self, filter: &TopicFilter, packet_id: u16)
-        requires { list_any (has_open packet_id) self.old.wanted ≡ false }
-        ensures wanted { self.new.wanted ≡ opened self.old.wanted filter.now packet_id }
-        ensures room { self.old.room ≤ self.new.room }
+    /// The filter stands no more: the packet id of its open SUBSCRIBE, where it had one. Takes no memory.
+    pub fn end(&mut self, filter: &TopicFilter) -> Option<u16>
+        ensures open_id { result ≡ id_for self.old filter.now }
+        ensures wanted { self.new ≡ without_wanted self.old filter.now }
     {
-        let Some((place, _, want)) = self.filters.get_full(filter) else {
+        let (place, open_id) = standing(&self.filters, filter)?;
+        change(&mut self.filters, place, Want::Ended);
+        self.count -= 1;
+        open_id
+    }
+
+    /// The SUBSCRIBE with this packet id, which no other has, is open for the filter from now on, and no
+    /// earlier one of it. Takes no memory.
+    pub fn open(&mut self, filter: &TopicFilter, packet_id: u16)
+        requires { list_any (is_open packet_id) self.old ≡ false }
+        ensures { self.new ≡ opened self.old filter.now packet_id }
+    {
+        let Some((place, _)) = standing(&self.filters, filter) else {
             return;
         };
-        let want = Want {
-            holders: want.holders,
-            open_id: Some(packet_id),
-        };
-        change(&mut self.filters, place, want);
+        change(&mut self.filters, place, Want::Stands(Some(packet_id)));
         self.places[usize::from(packet_id)] = place;
     }
 
-    /// The SUBSCRIBE with this packet id is open no more.
-    pub fn close_subscribe(&mut self, packet_id: u16)
-        ensures wanted { self.new.wanted ≡ closed packet_id self.old.wanted }
-        ensures room { self.old.room ≤ self.new.room }
+    /// In place of the open SUBSCRIBE with this packet id, the former one, which no other filter has, is open
+    /// again, or none. Where none has this packet id nothing changes. Takes no memory.
+    pub fn reopen(&mut self, packet_id: u16, former: Option<u16>)
+        requires { IsFree self.old former }
+        ensures { self.new ≡ reopened self.old packet_id former }
     {
-        let Some(place) = place_open(&self.places, &self.filters, packet_id) else {
+        let Some(place) = place_open(&self.filters, &self.places, packet_id) else {
             return;
         };
-        let Some((_, want)) = self.filters.get_index(place) else {
-            return;
-        };
-        let want = Want {
-            holders: want.holders,
-            open_id: None,
-        };
-        change(&mut self.filters, place, want);
-    }
-}
-
-/// What is kept of a filter that one client more holds.
-fn one_more(want: Option<Want>) -> Want
-    requires { holders_in want + 1 < 2 ^ 32 }
-    ensures { result ≡ record { holders = holders_in want + 1; open_id = open_in want } }
-{
-    match want {
-        None => Want {
-            holders: 1,
-            open_id: None,
-        },
-        Some(want) => Want {
-            holders: want.holders + 1,
-            open_id: want.open_id,
-        },
-    }
-}
-
-/// Keeps this of the filter at the place.
-fn change(filters: &mut IndexMap<TopicFilter, Want>, place: usize, want: Want)
-    requires { place < length filters.old.entries }
-    ensures entries { filters.new.entries ≡ set_value_at filters.old.entries place want }
-    ensures room { spare filters.new ≡ spare filters.old }
-{
-    if let Some(kept) = filters.get_index_mut(place) {
-        *kept = want;
-    }
-}
-
-/// The packet id of the open SUBSCRIBE of the filter at the place.
-fn open_at(filters: &IndexMap<TopicFilter, Want>, place: usize) -> Option<u16>
-    ensures { result ≡ open_at filters.now.entries place }
-{
-    let (_, want) = filters.get_index(place)?;
-    want.open_id
-}
-
-/// The place of the filter whose open SUBSCRIBE has this packet id.
-fn place_open(
-    places: &[usize],
-    filters: &IndexMap<TopicFilter, Want>,
-    packet_id: u16,
-) -> Option<usize>
-    requires { IsIndexed filters.now.entries places.now }
-    ensures { IsPlaceOpen filters.now.entries packet_id result }
-{
-    let place = places[usize::from(packet_id)];
-    let open_id = open_at(filters, place)?;
-    if open_id == packet_id {
-        Some(place)
-    } else {
-        None
-    }
-}
-
-/// Notes the places of the filters with an open SUBSCRIBE anew.
-fn find_places(places: &mut [usize], filters: &IndexMap<TopicFilter, Want>)
-    requires whole { length places.old ≡ 65536 }
-    requires once { IsOpenOnce filters.now.entries }
-    ensures { IsIndexed filters.now.entries places.new }
-{
-    for place in 0..filters.len() {
-        if let Some(packet_id) = open_at(filters, place) {
-            places[usize::from(packet_id)] = place;
+        change(&mut self.filters, place, Want::Stands(former));
+        if let Some(former) = former {
+            self.places[usize::from(former)] = place;
         }
     }
+
+    /// The SUBSCRIBE with this packet id is open no more. Takes no memory.
+    pub fn close(&mut self, packet_id: u16)
+        ensures { self.new ≡ closed self.old packet_id }
+    {
+        self.reopen(packet_id, None);
+    }
+
+    /// Copies of the filters that stand, in order. Only memory can fail.
+    pub fn filters(&self, alloc: Global) -> Result<Vec<TopicFilter>, AllocError>
+        ensures { IfOk result (λ filters. filters.items ≡ map (λ w. w.filter) self.now) }
+    {
+        let mut filters = Vec::with_capacity(alloc, self.count)?;
+        for (filter, want) in self.filters.iter() {
+            copy_standing(&mut filters, filter, *want)?;
+        }
+        Ok(filters)
+    }
+}
+
+/// Puts a copy of the filter behind the others, where it stands. Only memory can fail.
+fn copy_standing(
+    copies: &mut Vec<TopicFilter>,
+    filter: &TopicFilter,
+    want: Want,
+) -> Result<(), AllocError>
+    ensures { OnOk result (copies.new.items
+        ≡ copies.old.items ++ map (λ w. w.filter) (shown ((filter.now, want) ∷ []))) }
+{
+    if let Want::Stands(_) = want {
+        copies.push(filter.copy()?)?;
+    }
+    Ok(())
 }

@@ -11,16 +11,12 @@ loop-stay-preserved c =
         parted = rw (w.outbox-is, w.place-is)
             (told_more c.args.outbox.now.in_flight c.args.stays.now c.loop-stay.outbox.in_flight c.loop-stay.place c.loop-stay.stay-index true c.loop-stay-test.true w.if-stay.true before.parted);
         waiting = rw w.outbox-is before.waiting;
-        marked = rw (w.outbox-is, w.ids-is) before.marked;
-        last = rw w.ids-is before.last;
         within = let within = before.within in omega (arith, within, w.place-is);
       }
       | else-stay w ↦ record {
-        parted = rw (w.outbox-is, w.place-is, w.forget.ensures.outbox)
+        parted = rw (w.outbox-is, w.place-is, w.forget.ensures)
             (told_more c.args.outbox.now.in_flight c.args.stays.now c.loop-stay.outbox.in_flight c.loop-stay.place c.loop-stay.stay-index false c.loop-stay-test.true w.if-stay.false before.parted);
-        waiting = rw (w.outbox-is, w.forget.ensures.outbox) before.waiting;
-        marked = rw (w.outbox-is, w.ids-is) w.forget.ensures.marked;
-        last = rw (w.ids-is, w.forget.ensures.last) before.last;
+        waiting = rw (w.outbox-is, w.forget.ensures) before.waiting;
         within = let within = before.within in omega (arith, within, w.place-is);
       }
     ]

@@ -2,4 +2,4 @@ use Rattle.sng_link.proofs.Parting.{Judged}
 use Rattle.sng_link.proofs.again.judge.Given as goal
 
 abbrev pub invariant-loop-place : goal.invariant-loop-place
-invariant-loop-place l = Judged l.policy l.outbox.in_flight l.place l.fn.outs l.outs l.stays.items
+invariant-loop-place l = Judged l.policy l.outbox.in_flight l.place l.fn.outs l.outs l.stays.items l.log.items

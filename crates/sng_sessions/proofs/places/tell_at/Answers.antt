@@ -23,7 +23,7 @@ returns-in_ok-tell-in-Some-clause-ok c =
     let session = c.in-Some.session.now in
     let told = c.in_ok-tell-in-Some.ensures.ok in
     clients-set c.args.clients.now.entries c.args.place session c.tell.new.session (told_at c.args.clock (Some c.args.name) Allowed)
-    (sym c.get_index_mut.ensures.value ∙ ap option_copied_mut c.in-Some.is) (λ id. client-told id c.args.name c.args.clock session c.tell.new.session told.0 told.1)
+    (sym c.get_index_mut.ensures.value ∙ ap option_copied_mut c.in-Some.is) (λ id. client-told id c.args.name c.args.clock session c.tell.new.session told.0 told.1 told.2)
 
 pub returns-in_err-tell-in-Some-clause-err : goal.returns-in_err-tell-in-Some-clause-err
 returns-in_err-tell-in-Some-clause-err c =
@@ -31,7 +31,7 @@ returns-in_err-tell-in-Some-clause-err c =
     let same = c.in_err-tell-in-Some.ensures.err in
     on_err c.from_residual.result
     (clients-same c.args.clients.now.entries c.args.place session c.tell.new.session
-    (sym c.get_index_mut.ensures.value ∙ ap option_copied_mut c.in-Some.is) (λ id. client-same id session c.tell.new.session same.0 same.1))
+    (sym c.get_index_mut.ensures.value ∙ ap option_copied_mut c.in-Some.is) (λ id. client-same id session c.tell.new.session same.0 same.1 same.2))
 
 pub returns-in-None-clause-ok : goal.returns-in-None-clause-ok
 returns-in-None-clause-ok c =

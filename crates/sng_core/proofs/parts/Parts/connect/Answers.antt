@@ -1,20 +1,9 @@
-use Rattle.std.proofs.Common.{subst, sym, ◌∙◌, ap}
-use Rattle.sng_history.specs.Causes.{ByConnect}
+use Rattle.std.proofs.Common.{◌∙◌}
 use Rattle.sng_core.proofs.Connected.{connect_row}
-use Rattle.sng_history.specs.State.{State}
-use Rattle.sng_history.specs.Steps.{outs_by, next_by}
-use Rattle.sng_history.specs.Good.{Good}
-use Rattle.sng_core.specs.contracts.parts.Parts.{the_view}
 use Rattle.sng_core.proofs.parts.Parts.connect.Goals as goal
 
 pub returns-clause-outs : goal.returns-clause-outs
-returns-clause-outs c =
-    let s : State = the_view c.self.inside in
-    let good : Good s = subst Good (sym c.self.view_is) c.requires in
-    c.in_ok-outs.ensures.outs ∙ ((connect_row s c.args.from c.args.connect good).outs ∙ ap (λ t. outs_by t (ByConnect c.args.from c.args.connect)) c.self.view_is)
+returns-clause-outs c = c.in_ok-outs.ensures.outs ∙ (connect_row c.args.self.now c.args.from c.args.connect c.requires).outs
 
 pub returns-clause-next : goal.returns-clause-next
-returns-clause-next c =
-    let s : State = the_view c.self.inside in
-    let good : Good s = subst Good (sym c.self.view_is) c.requires in
-    rw c.in_ok-outs.ensures.next ((connect_row s c.args.from c.args.connect good).next ∙ ap (λ t. next_by t (ByConnect c.args.from c.args.connect)) c.self.view_is)
+returns-clause-next c = c.in_ok-outs.ensures.next ∙ (connect_row c.args.self.now c.args.from c.args.connect c.requires).next

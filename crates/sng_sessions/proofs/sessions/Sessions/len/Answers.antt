@@ -6,4 +6,4 @@ pub returns-clause-apart : goal.returns-clause-apart
 returns-clause-apart c = rw (← c.self.view_is) (distinct c.self.inside.clients.entries c.len.ensures.unique)
 
 pub returns-clause-places : goal.returns-clause-places
-returns-clause-places c = rw (← c.self.view_is) (places _ _ c.self.invariant)
+returns-clause-places c = rw (← c.self.view_is) (places _ _ c.self.invariant.0)

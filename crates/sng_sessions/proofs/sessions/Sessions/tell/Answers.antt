@@ -1,18 +1,25 @@
--- Who is told an id is where it was.
+-- Who is told an id is where it was, and holds what it held.
 use Rattle.std.proofs.Common.{refl, sym, ap, ◌∙◌, Some}
 use Rattle.sng_book.specs.declared.outcome.Outcome.TheVariants.{Allowed}
 use Rattle.sng_history.specs.Clients.{is_here}
+use Rattle.sng_sessions.specs.Counts.{holder_count}
 use Rattle.sng_sessions.specs.Standing.{told_at}
 use Rattle.sng_sessions.specs.Places.{holds_at}
+use Rattle.sng_sessions.proofs.CountLemmas.{holder_count-kept}
 use Rattle.sng_sessions.proofs.Moves.{holds_at-kept}
 use Rattle.sng_sessions.proofs.sessions.Sessions.tell.Goals as goal
 
 pub invariant_of-self : goal.invariant_of-self
-invariant_of-self c =
-    λ from place. c.self.invariant from place ∙ sym (ap (λ xs. holds_at (λ x. is_here x from) xs place) c.in_err-tell_at.ensures.err)
+invariant_of-self c = (
+  λ from place. c.self.invariant.0 from place ∙ sym (ap (λ xs. holds_at (λ x. is_here x from) xs place) c.in_err-tell_at.ensures.err),
+  λ text. c.self.invariant.1 text ∙ sym (ap (holder_count text) c.in_err-tell_at.ensures.err),
+)
 
 pub invariant_of-self-2 : goal.invariant_of-self-2
-invariant_of-self-2 c =
-    λ from place. c.self.invariant from place
-    ∙ sym (ap (λ xs. holds_at (λ x. is_here x from) xs place) c.in_ok-tell_at.ensures.ok
-    ∙ holds_at-kept (λ x. is_here x from) (told_at c.args.clock (Some c.args.name) Allowed) (λ x. refl) _ c.args.place place)
+invariant_of-self-2 c = (
+  λ from place. c.self.invariant.0 from place
+      ∙ sym (ap (λ xs. holds_at (λ x. is_here x from) xs place) c.in_ok-tell_at.ensures.ok
+      ∙ holds_at-kept (λ x. is_here x from) (told_at c.args.clock (Some c.args.name) Allowed) (λ x. refl) _ c.args.place place),
+  λ text. c.self.invariant.1 text ∙ sym (ap (holder_count text) c.in_ok-tell_at.ensures.ok
+      ∙ holder_count-kept text (told_at c.args.clock (Some c.args.name) Allowed) (λ x. refl) _ c.args.place),
+)

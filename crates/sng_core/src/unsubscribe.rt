@@ -1,0 +1,162 @@
+//! An UNSUBSCRIBE of a client (MQTT-SN 1.2, 5.4.17, 5.4.18 and 6.9): what is let out is planned first, and
+//! what changes cannot fail.
+ghost use Rattle.std.specs.Prelude.{◌≡◌, ◌<◌, ◌∷◌, ◌++◌, [], length, Some, true, IfOk, OnOk, OnErr};
+ghost use Rattle.sng_history.specs.Answers.{unsuback};
+ghost use Rattle.sng_history.specs.Causes.{ToUnsubscribe};
+ghost use Rattle.sng_history.specs.Packets.{has_place};
+ghost use Rattle.sng_history.specs.Verdicts.{in_turn};
+ghost use Rattle.sng_history.specs.Whole.{stranger_to};
+ghost use Rattle.sng_core.specs.Forms.{place_at, client_at};
+ghost use Rattle.sng_core.specs.Subscribing.{unsubscribe_judged, unsubscribe_by, unsubscribe_noted, unsubscribe_outs, holds_alone, let_go, untold_of, ends_at, ended};
+
+use crate::filters::{JudgedFilter, copy_filter, filter_read, unread_filter};
+use crate::messages::no_session;
+use crate::parts::Parts;
+use crate::verdict::is_active;
+use sng_book::{Address, Decision, Denial, Out, Outcome, Outs, Who};
+use sng_frames::{TopicRequest, write_unsubscribe_ack};
+use sng_sessions::Sessions;
+use sng_text::{Octets, TopicFilter};
+use std::alloc::{AllocError, Global};
+
+impl Parts {
+    /// An UNSUBSCRIBE from this address. The broker is told where the filter stands for nobody any more.
+    pub fn unsubscribe_from(
+        &mut self,
+        alloc: Global,
+        from: Address,
+        request: TopicRequest,
+    ) -> Result<Outs, AllocError>
+        ensures outs { IfOk result (λ outs. outs
+            ≡ unsubscribe_outs self.old request (place_at from self.old.clients)
+            (stranger_to from (ToUnsubscribe request))) }
+        ensures next { OnOk result (self.new ≡ ended self.old request (place_at from self.old.clients)) }
+        ensures err { OnErr result (self.new ≡ self.old) }
+    {
+        let Some(place) = self.sessions.at(from) else {
+            let denied = Outcome::Denied(Denial::NoSession);
+            let note = Decision::Unsubscribe(Who::Address(from), None, denied);
+            let outs = no_session(alloc, from, note)?;
+            return Ok(outs);
+        };
+        let judged = self.unsubscribe_judged(alloc, place, &request)?;
+        let outs = self.unsubscribe_noted(alloc, &request, place, &judged)?;
+        self.end_judged(place, judged);
+        Ok(outs)
+    }
+
+    /// How the UNSUBSCRIBE of the client at this place comes out.
+    fn unsubscribe_judged(
+        &self,
+        alloc: Global,
+        place: usize,
+        request: &TopicRequest,
+    ) -> Result<JudgedFilter, AllocError>
+        requires { place < length self.now.clients }
+        ensures { IfOk result (λ j. j
+            ≡ unsubscribe_judged self.now.policy request.now (client_at self.now.clients place)) }
+    {
+        if !is_active(self.sessions.phase(place)) {
+            return Ok(unread_filter(Denial::OutOfTurn));
+        }
+        match filter_read(alloc, &self.policy, request)? {
+            Ok(filter) => Ok(JudgedFilter {
+                filter: Some(filter),
+                outcome: Outcome::Allowed,
+            }),
+            Err(rule) => Ok(unread_filter(rule)),
+        }
+    }
+
+    /// The note, that the broker is not told for want of place, and the UNSUBACK.
+    fn unsubscribe_noted(
+        &self,
+        alloc: Global,
+        request: &TopicRequest,
+        place: usize,
+        judged: &JudgedFilter,
+    ) -> Result<Outs, AllocError>
+        requires { place < length self.now.clients }
+        ensures { IfOk result (λ outs. outs ≡ unsubscribe_noted self.now request.now place judged.now) }
+    {
+        let who = Who::Client(self.sessions.id(place).copy()?);
+        let filter = copy_filter(&judged.filter)?;
+        let outcome = judged.outcome.copy()?;
+        let mut outs = Outs::with_capacity(alloc, 3)?;
+        outs.push(Out::Note(Decision::Unsubscribe(who, filter, outcome)))?;
+        self.note_dropped(place, judged, &mut outs)?;
+        outs.push(unsuback(alloc, self.sessions.address(place), request)?)?;
+        Ok(outs)
+    }
+
+    /// Notes that the broker is not told, where it would be told and nothing more may wait.
+    fn note_dropped(
+        &self,
+        place: usize,
+        judged: &JudgedFilter,
+        outs: &mut Outs,
+    ) -> Result<(), AllocError>
+        requires { place < length self.now.clients }
+        ensures { OnOk result (outs.new ≡ outs.old ++ untold_of (has_place self.now.link)
+            (let_go self.now.clients place judged.now.filter judged.now.outcome)) }
+    {
+        let Some(filter) = &judged.filter else {
+            return Ok(());
+        };
+        if !judged.outcome.is_allowed() || self.link.has_place() {
+            return Ok(());
+        }
+        if holds_alone(&self.sessions, place, filter) {
+            outs.push(Out::Note(Decision::Outbox))?;
+        }
+        Ok(())
+    }
+
+    /// The client at this place is heard, and where it was allowed its subscription ends.
+    fn end_judged(&mut self, place: usize, judged: JudgedFilter)
+        requires { place < length self.old.clients }
+        ensures { self.new ≡ ends_at self.old place judged }
+    {
+        let JudgedFilter { filter, outcome } = judged;
+        let Some(filter) = filter else {
+            self.sessions.hear(place, self.clock);
+            return;
+        };
+        match outcome {
+            Outcome::Allowed => self.end_subscription(place, filter),
+            Outcome::Denied(_) => self.sessions.hear(place, self.clock),
+        }
+    }
+
+    /// The subscription of the client at this place to the filter ends.
+    fn end_subscription(&mut self, place: usize, filter: TopicFilter)
+        requires { place < length self.old.clients }
+        ensures { self.new ≡ ends_at self.old place
+            (record { filter = Some filter; outcome = Outcome.Allowed }) }
+    {
+        let is_last = holds_alone(&self.sessions, place, &filter);
+        self.sessions.unsubscribe(place, &filter, self.clock);
+        if is_last {
+            self.link.unwant(&filter);
+            if self.link.has_place() {
+                self.link.unsubscribe(filter);
+            }
+        }
+    }
+}
+
+/// Whether the filter stands for the client at this place, and for nobody else.
+fn holds_alone(sessions: &Sessions, place: usize, filter: &TopicFilter) -> bool
+    requires { place < length sessions.now }
+    ensures { result ≡ holds_alone sessions.now place filter.now }
+{
+    sessions.holds(place, filter) && !sessions.is_held_by_others(place, filter)
+}
+
+/// The UNSUBACK.
+fn unsuback(alloc: Global, to: Address, request: &TopicRequest) -> Result<Out, AllocError>
+    ensures { IfOk result (λ out. out ≡ unsuback to request.now) }
+{
+    let datagram = write_unsubscribe_ack(alloc, request.msg_id)?;
+    Ok(Out::Send(to, Octets::from(datagram)))
+}

@@ -1,0 +1,296 @@
+-- Where no subscription ends in a row, nothing is let go of upstream.
+use Rattle.std.proofs.Common.{◌≡◌, ℕ, Bool, true, false, List, [], ◌∷◌, ◌++◌, map, refl, ap, sym, ◌∙◌}
+use Rattle.std.specs.Prelude.{if◌then◌else◌, ◌||◌, not, filter, Option, Some, None}
+use Rattle.std.specs.List.{flat_map}
+use Rattle.std.specs.Str.{bytes_eq}
+use Rattle.std.proofs.lemmas.List.{append-nil}
+use Rattle.std.proofs.Math.Seq.{drop-nil, take-nil}
+use Rattle.sng_frames.specs.declared.messages.publish.Publish.{Publish}
+use Rattle.sng_outbox.specs.declared.item.Item.{Item}
+use Rattle.sng_outbox.specs.declared.item.Item.TheVariants as item
+use Rattle.sng_fan.specs.declared.held.Held.{Held}
+use Rattle.sng_fan.specs.Subscriptions.{has_text, stands, with_filter}
+use Rattle.sng_frames.specs.declared.messages.subscribe.TopicRequest.{TopicRequest}
+use Rattle.sng_frames.specs.declared.frame.SnFrame.{SnFrame}
+use Rattle.sng_frames.specs.declared.frame.SnFrame.TheVariants as frame
+use Rattle.sng_book.specs.declared.address.Address.{Address}
+use Rattle.sng_book.specs.declared.decision.Decision.{Decision}
+use Rattle.sng_book.specs.declared.decision.Who.TheVariants as who
+use Rattle.sng_book.specs.declared.outcome.Denial.TheVariants.{NotSupported}
+use Rattle.sng_book.specs.declared.outcome.Outcome.{Outcome}
+use Rattle.sng_book.specs.declared.outcome.Outcome.TheVariants.{Allowed, Denied}
+use Rattle.sng_history.specs.Causes.{Request, ToPing, ToLeave, ToRegister, ToPublish, ToSubscribe, ToUnsubscribe, Untaken, Cause, publish_asked}
+use Rattle.sng_history.specs.Causes.{ByMessage}
+use Rattle.sng_history.specs.Requests.{granted}
+use Rattle.sng_history.specs.Clients.{Around, Client, is_here, start_by, subscribed, subscribe_of, note_by, notes_by}
+use Rattle.sng_history.specs.Links.{Wanted, is_filter_of, wants}
+use Rattle.sng_history.specs.Standing.{holds, is_held, ended, released_from, released, dropped_of, unsubscribes, places_left, still_wanted}
+use Rattle.sng_history.specs.State.{State, around, asked_by, joined}
+use Rattle.sng_history.specs.Verdicts.{ping_verdict, subscribe_ask}
+use Rattle.sng_history.specs.Answers.{denied_note}
+use Rattle.sng_history.specs.Lawful.{denial_of, fixed_to, fixed_for}
+use Rattle.sng_history.specs.Steps.{newcomers_for, client_next, clients_next, asked_by_all, asked_for, next_by}
+use Rattle.sng_history.specs.Good.{Good}
+use Rattle.sng_history.proofs.Own.{same_self}
+use Rattle.sng_history.proofs.Asks.{of_register, of_publish, of_unsubscribe}
+use Rattle.sng_history.proofs.Filters.{subscribe_verdict, ask_cases, start_filters}
+use Rattle.sng_history.proofs.Holding.{or_follows, with_stands}
+use Rattle.sng_history.proofs.Says.{drops_for}
+
+-- ---- what stands for a client itself
+
+or_right : (a b : Bool) → b ≡ true → (a || b) ≡ true
+or_right true b is = refl
+or_right false b is = is
+
+-- each of these stands among them
+abbrev pub EachIn : List Held → List Held → Type 0
+EachIn all [] = Unit {0}
+EachIn all (h ∷ held) = (stands all h.filter ≡ true) × EachIn all held
+
+in_more : (g : Held) (all held : List Held) → EachIn all held → EachIn (g ∷ all) held
+in_more g all [] each = tt
+in_more g all (h ∷ held) each = (or_right (has_text h.filter g) (stands all h.filter) each.0, in_more g all held each.1)
+
+pub each_in : (held : List Held) → EachIn held held
+each_in [] = tt
+each_in (h ∷ held) = (ap (λ b. b || stands held h.filter) (same_self h.filter), in_more h held held (each_in held))
+
+-- what stood stands still
+abbrev pub Keeps : Client → Client → Type 0
+Keeps x y = (text : List ℕ) → holds text x ≡ true → holds text y ≡ true
+
+none_of : (all after held : List Held) → ((text : List ℕ) → stands all text ≡ true → stands after text ≡ true) → EachIn all held → filter (λ h. not (stands after h.filter)) held ≡ []
+none_of all after [] keeps each = refl
+none_of all after (h ∷ held) keeps each = rw (keeps h.filter each.0) (none_of all after held keeps each.1)
+
+pub none_ended : (x y : Client) → Keeps x y → ended x y ≡ []
+none_ended x y keeps = ap (map (λ h. h.filter)) (none_of x.filters y.filters x.filters keeps (each_in x.filters))
+
+none_released : (f : Client → Client) (earlier xs : List Client) → ((x : Client) → Keeps x (f x)) → released_from earlier xs (map f xs) ≡ []
+none_released f earlier [] keeps = refl
+none_released f earlier (x ∷ xs) keeps =
+    rw (none_ended x (f x) (keeps x)) (none_released f (earlier ++ f x ∷ []) xs keeps)
+
+-- ---- wanted filters
+
+-- each of these is wanted
+abbrev pub EachWanted : List Wanted → List Wanted → Type 0
+EachWanted all [] = Unit {0}
+EachWanted all (w ∷ wanted) = (wants all w.filter ≡ true) × EachWanted all wanted
+
+wanted_more : (v : Wanted) (all wanted : List Wanted) → EachWanted all wanted → EachWanted (v ∷ all) wanted
+wanted_more v all [] each = tt
+wanted_more v all (w ∷ wanted) each = (or_right (is_filter_of w.filter v) (wants all w.filter) each.0, wanted_more v all wanted each.1)
+
+pub each_wanted : (wanted : List Wanted) → EachWanted wanted wanted
+each_wanted [] = tt
+each_wanted (w ∷ wanted) = (ap (λ b. b || wants wanted w.filter) (same_self w.filter), wanted_more w wanted wanted (each_wanted wanted))
+
+pub all_still : (after : List Client) (all wanted : List Wanted) → ((text : List ℕ) → wants all text ≡ true → is_held after text ≡ true) → EachWanted all wanted → still_wanted after wanted ≡ wanted
+all_still after all [] held each = refl
+all_still after all (w ∷ wanted) held each = rw (held w.filter each.0, all_still after all wanted held each.1) refl
+
+held_still : (f : Client → Client) (xs : List Client) (text : List ℕ) → ((x : Client) → Keeps x (f x)) → is_held xs text ≡ true → is_held (map f xs) text ≡ true
+held_still f [] text keeps is = is
+held_still f (x ∷ xs) text keeps is = or_follows (holds text x) (is_held xs text) (holds text (f x)) (is_held (map f xs) text) (keeps x text) (held_still f xs text keeps) is
+
+-- ---- a row in which no subscription ends
+
+abbrev pub Endless : State → Cause → Type 0
+Endless s c = (newcomers_for s c ≡ []) × ((x : Client) → Keeps x (client_next s c x))
+
+present : (s : State) (c : Cause) → newcomers_for s c ≡ [] → clients_next s c ≡ map (client_next s c) s.clients
+present s c none = ap (λ xs. map (client_next s c) (s.clients ++ xs)) none ∙ ap (map (client_next s c)) (append-nil s.clients)
+
+pub endless_released : (s : State) (c : Cause) → Endless s c → released s.clients (clients_next s c) ≡ []
+endless_released s c e = ap (released s.clients) (present s c e.0) ∙ none_released (client_next s c) [] s.clients e.1
+
+-- nothing is let go of upstream,
+pub endless_unsubscribes : (s : State) (c : Cause) → Endless s c → unsubscribes s.link (released s.clients (clients_next s c)) ≡ []
+endless_unsubscribes s c e = ap (unsubscribes s.link) (endless_released s c e) ∙ ap (map (λ r. item.Unsubscribe r.filter)) (take-nil (places_left s.link))
+
+-- nothing is dropped,
+pub endless_drops : (s : State) (c : Cause) → Endless s c → drops_for s c ≡ []
+endless_drops s c e = ap (dropped_of s.link) (none_released (client_next s c) [] s.clients e.1) ∙ drop-nil (places_left s.link)
+
+-- and the wanted filters stay
+pub endless_wanted : (s : State) (c : Cause) → Good s → Endless s c → still_wanted (clients_next s c) s.link.wanted ≡ s.link.wanted
+endless_wanted s c good e =
+    all_still (clients_next s c) s.link.wanted s.link.wanted
+    (λ text is. ap (λ xs. is_held xs text) (present s c e.0) ∙ held_still (client_next s c) s.clients text e.1 (sym (good.wanted_held text) ∙ is))
+    (each_wanted s.link.wanted)
+
+-- ---- each request but UNSUBSCRIBE
+
+same_keeps : (x y : Client) → y.filters ≡ x.filters → Keeps x y
+same_keeps x y same text is = ap (λ held. stands held text) same ∙ is
+
+none_subscribed : (r : Option TopicRequest) (o : Outcome) (x : Client) → subscribed r None o x ≡ x
+none_subscribed None o x = refl
+none_subscribed (Some r) o x = refl
+
+-- a message that is denied moves nothing
+pub denied_stays : (a : Around) (x : Client) (id : List ℕ) (message : SnFrame) → note_by a (denied_note message (who.Client id) NotSupported) x ≡ x
+denied_stays a x id (frame.Connect connect) = refl
+denied_stays a x id (frame.ConnectAck code) = refl
+denied_stays a x id frame.WillTopicRequest = refl
+denied_stays a x id (frame.WillTopic topic) = refl
+denied_stays a x id frame.WillMessageRequest = refl
+denied_stays a x id (frame.WillMessage message) = refl
+denied_stays a x id (frame.Register register) = refl
+denied_stays a x id (frame.RegisterAck answer) = refl
+denied_stays a x id (frame.Publish p) = refl
+denied_stays a x id (frame.PublishAck answer) = refl
+denied_stays a x id (frame.PublishComplete packet) = refl
+denied_stays a x id (frame.PublishReceived packet) = refl
+denied_stays a x id (frame.PublishRelease packet) = refl
+denied_stays a x id (frame.Subscribe request) = none_subscribed (subscribe_of a.cause) (Denied NotSupported) x
+denied_stays a x id (frame.SubscribeAck answer) = refl
+denied_stays a x id (frame.Unsubscribe request) = refl
+denied_stays a x id (frame.UnsubscribeAck packet) = refl
+denied_stays a x id (frame.PingRequest client) = refl
+denied_stays a x id frame.PingResponse = refl
+denied_stays a x id (frame.Disconnect duration) = refl
+denied_stays a x id (frame.WillTopicUpdate topic) = refl
+denied_stays a x id (frame.WillTopicResponse code) = refl
+denied_stays a x id (frame.WillMessageUpdate message) = refl
+denied_stays a x id (frame.WillMessageResponse code) = refl
+
+-- one note of a client that was heard
+abbrev Still : Around → Client → Decision → Type 0
+Still a x said = (note_by a said (start_by a x)).filters ≡ x.filters
+
+denial_still : (a : Around) (x : Client) (o : Outcome) → (notes_by a (denial_of x.id o) (start_by a x)).filters ≡ x.filters
+denial_still a x Allowed = start_filters a x
+denial_still a x (Denied rule) = start_filters a x
+
+-- the request leaves the filters of its client as they are
+abbrev pub is_still : Request → Bool
+is_still (ToSubscribe r) = false
+is_still (ToUnsubscribe r) = false
+is_still (ToPing client) = true
+is_still ToLeave = true
+is_still (ToRegister r) = true
+is_still (ToPublish p) = true
+is_still (Untaken message) = true
+
+still_to : (a : Around) (s : State) (request : Request) (x : Client) → is_still request ≡ true → (notes_by a (fixed_to s request x) (start_by a x)).filters ≡ x.filters
+still_to a s (ToPing client) x is = denial_still a x (ping_verdict client x)
+still_to a s ToLeave x is = start_filters a x
+still_to a s (ToRegister r) x is = of_register (Still a x) s.policy x r.name (λ name o. start_filters a x)
+still_to a s (ToPublish p) x is = of_publish (Still a x) s x p (λ name o. start_filters a x)
+still_to a s (ToSubscribe r) x is = absurd cc
+still_to a s (ToUnsubscribe r) x is = absurd cc
+still_to a s (Untaken message) x is = ap (λ y. y.filters) (denied_stays a (start_by a x) x.id message) ∙ start_filters a x
+
+still_if : (a : Around) (s : State) (request : Request) (x : Client) (here : Bool) → is_still request ≡ true
+    → (notes_by a (if here then fixed_to s request x else []) (start_by a x)).filters ≡ x.filters
+still_if a s request x true is = still_to a s request x is
+still_if a s request x false is = start_filters a x
+
+pub still_next : (s : State) (from : Address) (request : Request) (x : Client) → is_still request ≡ true → (client_next s (ByMessage from request) x).filters ≡ x.filters
+still_next s from request x is = still_if (around s (ByMessage from request)) s request x (is_here x from) is
+
+pub still_endless : (s : State) (from : Address) (request : Request) → is_still request ≡ true → Endless s (ByMessage from request)
+still_endless s from request is = (refl, λ x. same_keeps x (client_next s (ByMessage from request) x) (still_next s from request x is))
+
+-- ---- a SUBSCRIBE lets what stood stand, too
+
+then_stands : (x y : Client) (r : TopicRequest) (filter : List ℕ) (o : Outcome) → y.filters ≡ x.filters → Keeps x (subscribed (Some r) (Some filter) o y)
+then_stands x y r filter Allowed same text is =
+    ap (λ held. stands (with_filter held filter (granted r.flags.qos)) text) same ∙ (with_stands x.filters filter text (granted r.flags.qos) ∙ ap (λ b. b || bytes_eq text filter) is)
+then_stands x y r filter (Denied rule) same text is = ap (λ held. stands held text) same ∙ is
+
+subscribe_keeps : (s : State) (from : Address) (r : TopicRequest) (x : Client) (here : Bool)
+    → (let a = around s (ByMessage from (ToSubscribe r)) in Keeps x (notes_by a (if here then subscribe_ask s x r ∷ [] else []) (start_by a x)))
+subscribe_keeps s from r x true =
+    let a = around s (ByMessage from (ToSubscribe r)) in
+    let y = start_by a x in
+    ask_cases (λ said. Keeps x (note_by a said y)) s x r
+    (λ filter is. then_stands x y r filter (subscribe_verdict s x r filter) (start_filters a x))
+    (λ rule. same_keeps x y (start_filters a x))
+subscribe_keeps s from r x false = let a = around s (ByMessage from (ToSubscribe r)) in same_keeps x (start_by a x) (start_filters a x)
+
+pub subscribe_endless : (s : State) (from : Address) (r : TopicRequest) → Endless s (ByMessage from (ToSubscribe r))
+subscribe_endless s from r = (refl, λ x. subscribe_keeps s from r x (is_here x from))
+
+-- ---- what a request asks for
+
+-- only a PUBLISH and a SUBSCRIBE ask for something
+abbrev pub is_quiet : Request → Bool
+is_quiet (ToPublish p) = false
+is_quiet (ToSubscribe r) = false
+is_quiet (ToPing client) = true
+is_quiet ToLeave = true
+is_quiet (ToRegister r) = true
+is_quiet (ToUnsubscribe r) = true
+is_quiet (Untaken message) = true
+
+denied_asks : (message : SnFrame) (client : List ℕ) → asked_by None (denied_note message (who.Client client) NotSupported) ≡ []
+denied_asks (frame.Connect connect) client = refl
+denied_asks (frame.ConnectAck code) client = refl
+denied_asks frame.WillTopicRequest client = refl
+denied_asks (frame.WillTopic topic) client = refl
+denied_asks frame.WillMessageRequest client = refl
+denied_asks (frame.WillMessage message) client = refl
+denied_asks (frame.Register register) client = refl
+denied_asks (frame.RegisterAck answer) client = refl
+denied_asks (frame.Publish p) client = refl
+denied_asks (frame.PublishAck answer) client = refl
+denied_asks (frame.PublishComplete id) client = refl
+denied_asks (frame.PublishReceived id) client = refl
+denied_asks (frame.PublishRelease id) client = refl
+denied_asks (frame.Subscribe request) client = refl
+denied_asks (frame.SubscribeAck answer) client = refl
+denied_asks (frame.Unsubscribe request) client = refl
+denied_asks (frame.UnsubscribeAck id) client = refl
+denied_asks (frame.PingRequest named) client = refl
+denied_asks frame.PingResponse client = refl
+denied_asks (frame.Disconnect duration) client = refl
+denied_asks (frame.WillTopicUpdate topic) client = refl
+denied_asks (frame.WillTopicResponse code) client = refl
+denied_asks (frame.WillMessageUpdate message) client = refl
+denied_asks (frame.WillMessageResponse code) client = refl
+
+denial_asks : (id : List ℕ) (o : Outcome) → asked_by_all None (denial_of id o) ≡ []
+denial_asks id Allowed = refl
+denial_asks id (Denied rule) = refl
+
+request_asks : (s : State) (request : Request) (x : Client) → is_quiet request ≡ true → asked_by_all (publish_asked request) (fixed_to s request x) ≡ []
+request_asks s (ToPing client) x is = denial_asks x.id (ping_verdict client x)
+request_asks s ToLeave x is = refl
+request_asks s (ToRegister r) x is = of_register (λ said. asked_by_all None (said ∷ []) ≡ []) s.policy x r.name (λ name o. refl)
+request_asks s (ToPublish p) x is = absurd cc
+request_asks s (ToSubscribe r) x is = absurd cc
+request_asks s (ToUnsubscribe r) x is = of_unsubscribe (λ said. asked_by_all None (said ∷ []) ≡ []) s.policy x r (λ filter o. refl)
+request_asks s (Untaken message) x is = ap (λ items. items ++ []) (denied_asks message x.id)
+
+asks_if : (p : Option Publish) (b : Bool) (notes : List Decision) → asked_by_all p notes ≡ [] → asked_by_all p (if b then notes else []) ≡ []
+asks_if p true notes none = none
+asks_if p false notes none = refl
+
+flat_none : (f : Client → List Item) (xs : List Client) → ((x : Client) → f x ≡ []) → flat_map f xs ≡ []
+flat_none f [] none = refl
+flat_none f (x ∷ xs) none = rw (none x, flat_none f xs none) refl
+
+pub asks_nothing : (s : State) (from : Address) (request : Request) → is_quiet request ≡ true → asked_for s (ByMessage from request) ≡ []
+asks_nothing s from request is =
+    let c = ByMessage from request in
+    flat_none (λ x. asked_by_all (publish_asked request) (fixed_for s c x)) s.clients
+    (λ x. asks_if (publish_asked request) (is_here x from) (fixed_to s request x) (request_asks s request x is))
+
+-- ---- the state after a message
+
+-- where nothing ends, what is asked for joins what waits, and its filters are wanted
+pub endless_link : (s : State) (from : Address) (request : Request) → Good s → Endless s (ByMessage from request)
+    → (let c = ByMessage from request in
+    (next_by s c).link ≡ record s.link { waiting = s.link.waiting ++ asked_for s c; wanted = joined s.link.wanted (asked_for s c) })
+endless_link s from request good e =
+    let c = ByMessage from request in
+    rw (endless_unsubscribes s c e, endless_wanted s c good e, append-nil (asked_for s c)) refl
+
+-- and where nothing is asked for either, the link stays
+pub still_link : (s : State) (from : Address) (request : Request) → Good s → Endless s (ByMessage from request) → is_quiet request ≡ true → (next_by s (ByMessage from request)).link ≡ s.link
+still_link s from request good e is =
+    endless_link s from request good e ∙ (rw (asks_nothing s from request is, append-nil s.link.waiting) refl)

@@ -1,0 +1,26 @@
+-- A client that was not known holds nothing at first.
+use Rattle.std.proofs.Common.{is_some, sym, ap, ◌∙◌}
+use Rattle.sng_history.specs.Entering.{entered}
+use Rattle.sng_history.specs.State.{is_known}
+use Rattle.sng_sessions.specs.Counts.{holder_count}
+use Rattle.sng_sessions.specs.Places.{clients_of}
+use Rattle.sng_sessions.proofs.Counted.{entered-count}
+use Rattle.sng_sessions.proofs.Moves.{known-found}
+use Rattle.sng_sessions.proofs.sessions.Sessions.enter.Goals as goal
+
+pub admit-requires-clause-new : goal.admit-requires-clause-new
+admit-requires-clause-new c =
+    let id = c.args.connect.client_id in
+    ap (λ entries. is_known id (clients_of entries)) c.reserve-in-None.ensures.entries
+    ∙ known-found id c.self.inside.clients.entries ∙ sym c.get_index_of.ensures.found ∙ ap is_some c.in-None.is
+
+pub invariant_of-self-in-None : goal.invariant_of-self-in-None
+invariant_of-self-in-None c =
+    let id = c.args.connect.client_id in
+    let new = known-found id c.self.inside.clients.entries ∙ sym c.get_index_of.ensures.found ∙ ap is_some c.in-None.is in
+    let same = c.reserve-in-None.ensures.entries in (
+      c.admit.ensures.indexed,
+      λ text. c.self.invariant.1 text ∙ sym (ap (holder_count text) c.admit.ensures.clients
+          ∙ ap (λ entries. holder_count text (entered c.args.clock c.args.from c.args.connect (clients_of entries))) same
+          ∙ entered-count text c.args.clock c.args.from c.args.connect (clients_of c.self.inside.clients.entries) new),
+    )
