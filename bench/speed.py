@@ -22,8 +22,10 @@ JOBS = [
     ('may-receive', 200_000, 'may_receive, denied by 64 pairs'),
     ('may-subscribe', 200_000, 'may_subscribe, uncovered by 64 pairs'),
     ('read-policy', 20, 'read_policy of 256 clients with 64 pairs each'),
+    ('judge-own', 200, '256 clients x 31 filters, each granted by its own text'),
     ('judge-granted', 40, '256 clients x 31 filters, each granted by a pair'),
     ('judge-denied', 40, '256 clients x 31 filters, each uncovered'),
+    ('same-scope', 2000, 'the scopes of 256 clients under two policies'),
     ('decode', 5_000_000, 'read a small PUBLISH'),
     ('encode', 5_000_000, 'write a small PUBLISH'),
 ]
