@@ -4,7 +4,7 @@ use Rattle.sng_text.specs.Matching.{matches}
 use Rattle.sng_text.specs.declared.qos.Qos.{Qos}
 use Rattle.sng_text.specs.declared.qos.Qos.TheVariants.{AtMostOnce, AtLeastOnce}
 use Rattle.sng_fan.specs.declared.held.Held.{Held}
-use Rattle.sng_fan.specs.Holders.{greater, greatest_from, greatest_qos}
+use Rattle.sng_fan.specs.Greatest.{greater, greatest_from, greatest_qos}
 use Rattle.sng_fan.specs.Laws.{NoneIsGreater, IsGreatest, GreatestIsGreatest}
 
 -- what is as great as both is as great as each

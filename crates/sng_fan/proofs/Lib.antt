@@ -1,4 +1,3 @@
 pub mod GreatestLemmas
 pub mod HeldLemmas
-pub mod HolderLemmas
 pub mod PlaceLemmas

@@ -1,27 +1,10 @@
--- What the holders of a name are, stated for each client by itself.
-use Rattle.std.specs.Prelude.{ℕ, ◌≡◌, ◌+◌, ◌≤◌, ◌==◌, true, false, List, [], ◌∷◌, ◌++◌, if◌then◌else◌, Some, None}
+-- What the greatest QoS is, in its own words.
+use Rattle.std.specs.Prelude.{ℕ, ◌≡◌, true, false, List, [], ◌∷◌, ◌++◌, Some, None}
 use Rattle.std.specs.declared.option.Option.{Option}
 use Rattle.sng_text.specs.Matching.{matches}
 use Rattle.sng_text.specs.declared.qos.Qos.{Qos}
 use Rattle.sng_fan.specs.declared.held.Held.{Held}
-use Rattle.sng_fan.specs.declared.holder.Holder.{Holder}
-use Rattle.sng_fan.specs.Subscriptions.{filters_of}
-use Rattle.sng_fan.specs.Holders.{greater, greatest_qos, holders_of}
-
--- the QoS of a client among holders
-abbrev pub qos_of : List Holder → ℕ → Option Qos
-qos_of [] client = None
-qos_of (h ∷ holders) client = if h.client == client then Some h.qos else qos_of holders client
-
--- the clients' numbers rise, from this one on
-abbrev pub RiseFrom : ℕ → List Holder → Type 0
-RiseFrom least [] = Unit {0}
-RiseFrom least (h ∷ holders) = (least ≤ h.client) × RiseFrom (h.client + 1) holders
-
--- the holders are the clients with a filter that matches, each once, in order of number, with the greatest QoS
-abbrev pub HoldersAreMatching : Type 0
-HoldersAreMatching = (clients : List (List Held)) (name : List ℕ) → RiseFrom 0 (holders_of clients name)
-    × ((client : ℕ) → qos_of (holders_of clients name) client ≡ greatest_qos (filters_of clients client) name)
+use Rattle.sng_fan.specs.Greatest.{greater, greatest_qos}
 
 -- no filter among these matches the name
 abbrev pub NoneMatches : List Held → List ℕ → Type 0

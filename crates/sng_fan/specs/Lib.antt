@@ -1,3 +1,3 @@
-pub mod Holders
+pub mod Greatest
 pub mod Laws
 pub mod Subscriptions

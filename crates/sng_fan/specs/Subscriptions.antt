@@ -1,6 +1,5 @@
--- Which filters stand for which client at which QoS: a list for each client, by its number, in order of first standing.
-use Rattle.std.specs.Prelude.{ℕ, ◌+◌, ◌≤◌, Bool, ◌&&◌, ◌||◌, not, nat_le, List, [], ◌∷◌, length, get_or, take, drop, filter, count_by, if◌then◌else◌, Some, None}
-use Rattle.std.specs.declared.option.Option.{Option}
+-- Which filters stand for a client at which QoS: a list, in order of first standing.
+use Rattle.std.specs.Prelude.{ℕ, ◌≤◌, Bool, ◌&&◌, not, nat_le, List, [], ◌∷◌, length, filter, count_by, if◌then◌else◌}
 use Rattle.std.specs.List.{list_any}
 use Rattle.std.specs.Str.{bytes_eq}
 use Rattle.sng_text.specs.declared.qos.Qos.{Qos}
@@ -31,19 +30,3 @@ without_filter held text = filter (λ h. not (has_text text h)) held
 -- each filter stands once, and no more than may
 abbrev pub IsOneClients : List Held → Type 0
 IsOneClients held = ((text : List ℕ) → count_by (has_text text) held ≤ 1) × (length held ≤ MAX_SUBSCRIPTIONS)
-
--- the filters that stand for the client
-abbrev pub filters_of : List (List Held) → ℕ → List Held
-filters_of clients client = get_or clients client []
-
--- the filter stands for somebody
-abbrev pub is_held : List (List Held) → List ℕ → Bool
-is_held clients text = list_any (λ held. stands held text) clients
-
--- it stands for another than this client
-abbrev pub others_hold : List (List Held) → ℕ → List ℕ → Bool
-others_hold clients client text = is_held (take client clients) text || is_held (drop (client + 1) clients) text
-
--- whether another holds the filter, where it stands for the client
-abbrev pub still_held : List (List Held) → ℕ → List ℕ → Option Bool
-still_held clients client text = if stands (filters_of clients client) text then Some (others_hold clients client text) else None

@@ -1,17 +1,12 @@
 //! The laws of the fan. The functions here only state them: a contract is the law, and a call does nothing.
 ghost use Rattle.std.specs.Prelude.{◌≡◌};
-ghost use Rattle.sng_fan.specs.Laws.{HoldersAreMatching, GreatestIsGreatest};
+ghost use Rattle.sng_fan.specs.Laws.{GreatestIsGreatest};
 
 use crate::MAX_SUBSCRIPTIONS;
 
 /// The limit.
 pub fn limits()
     ensures { MAX_SUBSCRIPTIONS ≡ 32 }
-{}
-
-/// The holders of a name are the clients with a filter that matches it, each once, in order of number, at the greatest QoS.
-pub fn holders_are_matching()
-    ensures { HoldersAreMatching }
 {}
 
 /// Where no filter of a client matches a name there is no greatest QoS; else it is that of a filter that matches, and no other

@@ -3,9 +3,9 @@ ghost use Rattle.std.specs.Prelude.{◌≡◌, ◌≤◌, ◌⊎◌, [], true, f
 ghost use Rattle.std.specs.List.{position_or_len};
 ghost use Rattle.sng_fan.specs.declared.limits.TheConstants.{MAX_SUBSCRIPTIONS};
 ghost use Rattle.sng_fan.specs.Subscriptions.{has_text, stands, is_full, with_filter, without_filter, IsOneClients};
-ghost use Rattle.sng_fan.specs.Holders.{greatest_from, greatest_qos};
+ghost use Rattle.sng_fan.specs.Greatest.{greatest_from, greatest_qos};
 
-use crate::holder::raised;
+use crate::greatest::raised;
 use crate::{FanFault, Held, MAX_SUBSCRIPTIONS};
 use sng_text::{Qos, TopicFilter, TopicName, matches};
 use std::alloc::{AllocError, Global};

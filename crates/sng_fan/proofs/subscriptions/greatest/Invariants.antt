@@ -1,5 +1,5 @@
 use Rattle.std.proofs.Common.{◌≡◌, drop}
-use Rattle.sng_fan.specs.Holders.{greatest_from, greatest_qos}
+use Rattle.sng_fan.specs.Greatest.{greatest_from, greatest_qos}
 use Rattle.sng_fan.proofs.subscriptions.greatest.Given as goal
 
 abbrev pub invariant-loop-one : goal.invariant-loop-one

@@ -1,17 +1,8 @@
-//! Who gets a message, each client once.
+//! The greater of two QoS.
 ghost use Rattle.std.specs.Prelude.{◌≡◌};
-ghost use Rattle.sng_fan.specs.Holders.{greater, raised};
+ghost use Rattle.sng_fan.specs.Greatest.{greater, raised};
 
 use sng_text::Qos;
-
-/// A client that holds a filter that matches.
-#[derive(Clone, Copy, Debug, PartialEq, Eq)]
-pub struct Holder {
-    /// The client's number.
-    pub client: u16,
-    /// The greatest QoS among its filters that match.
-    pub qos: Qos,
-}
 
 /// The greater of two QoS, in the order of their levels, 0 and 1.
 pub fn greater(a: Qos, b: Qos) -> Qos
