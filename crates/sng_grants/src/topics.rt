@@ -9,6 +9,7 @@ use crate::{Listed, MAX_TOPICS};
 use sng_text::TopicName;
 use std::alloc::{AllocError, Global};
 use std::collections::HashMap;
+use std::collections::btree_map::Iter;
 use std::marker::Model;
 
 /// Topic names by predefined topic id.
@@ -81,6 +82,13 @@ impl Topics {
         ensures { result ≡ id_of self.now name.now }
     {
         self.ids.get(name).copied()
+    }
+
+    /// The ids with their names, in the order of the ids.
+    pub fn iter(&self) -> Iter<'_, u16, TopicName>
+        ensures { result ≡ self.now }
+    {
+        self.names.iter()
     }
 
     /// Equal topics, in memory of their own. Only memory can fail.
