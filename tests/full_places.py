@@ -1,12 +1,15 @@
 """full_places.py
 
 Scripts that fill what is limited, with what the program is to print, for end_to_end.py: the topic ids of a
-client, by REGISTER and by SUBSCRIBE, its subscriptions, the publishes at QoS 1 that are in flight or wait,
-and what waits for the broker, by acknowledgements and beside subscriptions that begin and end.
+client, by REGISTER, by SUBSCRIBE and by announcements, its subscriptions, the publishes at QoS 1 that are in
+flight or wait, what waits for the broker, by acknowledgements and beside subscriptions that begin and end,
+what waits for a client, and the datagrams that are sent to it.
 """
 ADDRESS, OTHER_ADDRESS = '10.0.0.9:4000', '10.0.0.9:4001'
 MOST_IDS, MOST_SUBSCRIPTIONS, MOST_IN_FLIGHT, MOST_ITEMS = 128, 32, 128, 512
+MOST_WAITING, MOST_PAYLOAD, MOST_NAME = 64, 2039, 2040
 CONNECT, CONNECT_OTHER = '08040401003c7331', '08040401003c7332'
+CONNECT_AGAIN = '08040001003c7331'
 POLICY = 'policy {"version":1,"clients":{"s1":[["#",["pub"]]]},"topics":{"4":"t/4"}}'
 BOTH = ('policy {"version":1,"clients":{"s1":[["#",["pub","sub"]]],"s2":[["#",["sub"]]]},'
         '"topics":{"4":"t/4"}}')
@@ -34,6 +37,14 @@ class Story:
         answers = ['send %s %s' % (address, answer)] if answer else []
         self.give('from %s %s' % (address, octets), 'datagram', 'note ' + note, *outs, *answers)
 
+    def answer(self, octets, *outs):
+        """A datagram of a client, with all that goes out."""
+        self.give('from %s %s' % (ADDRESS, octets), 'datagram', *outs)
+
+    def publish(self, name, *outs, payload='x', packet_id=None):
+        """The broker publishes, at QoS 1 where there is a packet id."""
+        self.give('broker ' + published(name, payload, packet_id), 'broker', *outs)
+
     def begin(self, policy=POLICY):
         self.give(policy, 'replace')
         self.give('up', 'up')
@@ -57,6 +68,44 @@ def subscribe(pattern, flags=0x20):
 
 def unsubscribe(pattern):
     return '%02x14000007%s' % (5 + len(pattern), pattern.encode().hex())
+
+
+def published(name, payload='x', packet_id=None):
+    """The broker publishes, at QoS 1 where there is a packet id."""
+    packet = '%04x%s' % (len(name), name.encode().hex())
+    packet += ('' if packet_id is None else '%04x' % packet_id) + payload.encode().hex()
+    size = len(packet) // 2
+    length = '%02x' % size if size < 128 else '%02x%02x' % (size % 128 + 128, size // 128)
+    return ('30' if packet_id is None else '32') + length + packet
+
+
+def regack(topic_id, msg_id, code=0):
+    return '070b%04x%04x%02x' % (topic_id, msg_id, code)
+
+
+def puback(topic_id, msg_id):
+    return '070d%04x%04x00' % (topic_id, msg_id)
+
+
+def spelled(body, address=ADDRESS):
+    """What is sent to a client: the Length, of one octet or three, and the rest of the frame."""
+    size = len(body) // 2 + 1
+    return 'send %s %s%s' % (address, '%02x' % size if size <= 255 else '01%04x' % (size + 2), body)
+
+
+def announced(name, topic_id, msg_id, client='s1', address=ADDRESS):
+    octets = '0a%04x%04x%s' % (topic_id, msg_id, name.encode().hex())
+    return ['note announce %s %s allowed' % (client, name), spelled(octets, address)]
+
+
+def handed(name, flags, topic_id, msg_id=0, client='s1', address=ADDRESS, payload='x'):
+    octets = '0c%02x%04x%04x%s' % (flags, topic_id, msg_id, payload.encode().hex())
+    return ['note hand %s %s allowed' % (client, name), spelled(octets, address)]
+
+
+def lost(name, outcome, client='s1'):
+    """A message is not handed over."""
+    return 'note hand %s %s %s' % (client, name, outcome)
 
 
 def subscribed(packet_id, pattern):
@@ -265,10 +314,121 @@ def publishes_that_fill_without_a_connection():
     return story.whole()
 
 
+def messages_that_fill_a_queue():
+    """For a client 64 messages wait at most, the one that is announced among them. One more is noted and
+    never sent; another client gets it all the same. A message that is too long is noted as such in a full
+    queue, too. One that was handed over at QoS 1 is not among those that wait."""
+    story = Story()
+    story.begin(BOTH)
+    story.hear(CONNECT_OTHER, 'connect s2 - allowed', '030500', OTHER_ADDRESS)
+    story.hear(subscribe('a/#'), 'subscribe s1 a/# allowed', '0813200000000700')
+    story.hear(subscribe('a/b'), 'subscribe s2 a/b allowed', '0813200001000700', OTHER_ADDRESS)
+    other = handed('a/b', 0, 1, client='s2', address=OTHER_ADDRESS)
+    story.publish('a/b', *announced('a/b', 1, 1), *other)
+    for _ in range(MOST_WAITING - 1):
+        story.publish('a/b', *other)
+    story.publish('a/b', lost('a/b', '22 Full Queue'), *other)
+    story.publish('a/b', lost('a/b', '23 TooLong'), lost('a/b', '23 TooLong', 's2'), payload='x' * 2040)
+    story.answer(regack(1, 1, 2), lost('a/b', '13 ClientRefused 2'), *announced('a/b', 1, 2))
+    story.publish('a/c')
+    story.publish('a/c', lost('a/c', '22 Full Queue'))
+    story.answer(regack(1, 2), *handed('a/b', 0, 1) * (MOST_WAITING - 1), *announced('a/c', 2, 3))
+    story.answer(regack(2, 3), *handed('a/c', 0, 2))
+    story.publish('a/c', *handed('a/c', 0x20, 2, 4), packet_id=7)
+    for _ in range(MOST_WAITING):
+        story.publish('a/c')
+    story.publish('a/c', lost('a/c', '22 Full Queue'), packet_id=8)
+    story.answer(puback(2, 4), *handed('a/c', 0, 2) * MOST_WAITING)
+    story.publish('a/c', *handed('a/c', 0, 2))
+    story.give('take', 'take', subscribed(1, 'a/#'), subscribed(2, 'a/b'), 'wire 40020007', 'wire 40020008')
+    return story.whole()
+
+
+def ids_that_fill_by_announcements():
+    """An announcement gives a name an id, which it keeps where the client refuses it. Once 128 were given, a
+    message under a name without one is not handed over; a short name and a predefined id need none. Whether
+    the client may receive it is judged before. A CONNECT clears the ids."""
+    story = Story()
+    story.begin(BOTH)
+    for number in range(1, MOST_IDS):
+        name = 'n/%d' % number
+        story.hear(register(name), 'register s1 %s allowed' % name, '070b%04x000700' % number)
+    story.hear(subscribe('#'), 'subscribe s1 # allowed', '0813200000000700')
+    story.publish('n/128', *announced('n/128', 128, 1))
+    story.answer(regack(128, 1, 3), lost('n/128', '13 ClientRefused 3'))
+    story.publish('n/128', *announced('n/128', 128, 2))
+    for name in ('n/129', 'n/1', 't/4', 'ab'):
+        story.publish(name)
+    story.answer(regack(128, 2), *handed('n/128', 0, 128), lost('n/129', '22 Full Ids'),
+                 *handed('n/1', 0, 1), *handed('t/4', 1, 4), *handed('ab', 2, 0x6162))
+    story.publish('n/129', lost('n/129', '22 Full Ids'))
+    story.hear(register('n/129'), 'register s1 n/129 22 Full Ids', '070b0000000701')
+    story.publish('ab', *handed('ab', 0x22, 0x6162, 3), packet_id=7)
+    story.publish('n/129')
+    story.publish('n/130')
+    story.give('policy {"version":1,"clients":{"s1":[["n/130",["sub"]]]}}', 'replace',
+               'note end s1 # 12 Uncovered # x')
+    story.answer(puback(0x6162, 3), lost('n/129', '11 MissingSub n/129'), lost('n/130', '22 Full Ids'))
+    story.give(BOTH, 'replace')
+    story.hear(CONNECT_AGAIN, 'connect s1 - allowed', '030500')
+    story.hear(subscribe('#'), 'subscribe s1 # allowed', '0813200000000700')
+    story.publish('n/129', *announced('n/129', 1, 4))
+    return story.whole()
+
+
+def messages_that_fill_a_datagram():
+    """A payload of 2,039 octets is handed over, a name of 2,040 announced; more of either is too long for
+    any client, also under a short name or a predefined id. A Length of one octet counts 255 at most."""
+    story = Story()
+    story.begin('policy {"version":1,"clients":{"s1":[["#",["sub"]]]},"topics":{"4":"%s"}}' % ('p' * 2041))
+    story.hear(subscribe('#'), 'subscribe s1 # allowed', '0813200000000700')
+    for size in (248, 249, MOST_PAYLOAD):
+        story.publish('ab', *handed('ab', 2, 0x6162, payload='x' * size), payload='x' * size)
+    story.publish('ab', lost('ab', '23 TooLong'), payload='x' * (MOST_PAYLOAD + 1))
+    for number, size in enumerate((249, 250, MOST_NAME), 1):
+        story.publish('n' * size, *announced('n' * size, number, number))
+        story.answer(regack(number, number), *handed('n' * size, 0, number))
+    story.publish('n' * (MOST_NAME + 1), lost('n' * (MOST_NAME + 1), '23 TooLong'), packet_id=7)
+    story.publish('p' * 2041, lost('p' * 2041, '23 TooLong'))
+    story.publish('n' * MOST_NAME, *handed('n' * MOST_NAME, 0x20, 3, 4, payload='x' * MOST_PAYLOAD),
+                  payload='x' * MOST_PAYLOAD, packet_id=8)
+    story.give('take', 'take', subscribed(1, '#'), 'wire 40020007', 'wire 40020008')
+    return story.whole()
+
+
+def messages_beside_a_full_outbox():
+    """Where 512 items wait, the acknowledgement of a message is noted behind all that the message brings to
+    clients. A client that comes to where another one is, and begins anew, makes notes in this order: the
+    other's leaving and its messages, the UNSUBSCRIBEs that find no room, its own messages."""
+    story = Story()
+    story.begin(BOTH)
+    story.hear(CONNECT_OTHER, 'connect s2 - allowed', '030500', OTHER_ADDRESS)
+    story.hear(subscribe('a/#'), 'subscribe s1 a/# allowed', '0813200000000700')
+    for pattern in ('ab', '+/b', 'a/#'):
+        story.hear(subscribe(pattern), 'subscribe s2 %s allowed' % pattern, '0813200000000700', OTHER_ADDRESS)
+    wires = [subscribed(place, it) for place, it in enumerate(('a/#', 'ab', '+/b', 'a/#'), 1)]
+    story.give('take', 'take', *wires)
+    for packet_id in range(1, MOST_ITEMS + 1):
+        story.publish('z', packet_id=packet_id)
+    short = handed('ab', 0x22, 0x6162, 1, client='s2', address=OTHER_ADDRESS)
+    story.publish('ab', *short, FULL, packet_id=9)
+    story.publish('a/b', *announced('a/b', 1, 1), FULL, packet_id=9)
+    story.publish('z', FULL, packet_id=9)
+    story.publish('a/c')
+    gone = [lost('a/b', '24 Gone', 's1'), lost('a/c', '24 Gone', 's1'), FULL, FULL]
+    gone += [lost('a/b', '24 Gone', 's2'), lost('a/c', '24 Gone', 's2')]
+    story.hear(CONNECT_OTHER, 'connect s2 - allowed', '030500',
+               outs=['send %s 0218' % OTHER_ADDRESS, 'note left s1 - done', *gone])
+    story.give('take', 'take', *['wire 4002%04x' % it for it in range(1, MOST_ITEMS + 1)])
+    return story.whole()
+
+
 def scripts():
     """Each script: its name, its text, what is printed."""
     for each in (ids_that_fill, in_flight_that_fills, acknowledgements_that_fill,
                  ids_that_fill_by_subscriptions, subscriptions_that_fill,
                  items_that_fill_beside_subscriptions, subscriptions_that_fill_the_outbox,
-                 publishes_that_fill_without_a_connection):
+                 publishes_that_fill_without_a_connection, messages_that_fill_a_queue,
+                 ids_that_fill_by_announcements, messages_that_fill_a_datagram,
+                 messages_beside_a_full_outbox):
         yield (each.__name__.replace('_', '-'), *each())

@@ -7,10 +7,11 @@ and is newer than every source, and else through one build without proof) and co
 and its exit status, with what the model in gateway_model.py says. The scripts are those of the seeds from
 SEED (0) on, N (300) of them, so that each run plays the same ones; with --show one of them is printed.
 
-A few addresses, clients and names meet often, and a few long scripts fill what is limited. A script that is
-answered otherwise is printed with its seed and the first line that differs, and the exit status is 1. So it
-is where the first 300 scripts meet not all of MET: then they are too tame. A new kind of line is a function
-of World here, with its line in WEIGHTS, and a method of the model.
+A few addresses, clients and names meet often, and a few long scripts fill what is limited. Some lines need
+to fit what the lines before them led to, as an answer of a client has to fit what it was sent: the model
+tells that, too. A script that is answered otherwise is printed with its seed and the first line that differs,
+and the exit status is 1. So it is where the first 300 scripts meet not all of MET: then they are too tame. A
+new kind of line is a function of World here, with its line in WEIGHTS, and a method of the model.
 """
 import argparse
 import base64
@@ -47,6 +48,7 @@ refused broker 4
 note frame * - 1
 note frame * - 2
 note frame * - 4
+note frame * - 15
 note frame broker - 2
 note frame broker - 6
 note outbox broker - 22 Full Outbox
@@ -104,6 +106,22 @@ note forward * * 10
 note again * * allowed
 note again * * 3
 note again * * 10
+note announce * * allowed
+note hand * * allowed
+note hand * * 3
+note hand * * 11
+note hand * * 13
+note hand * * 22 Full Ids
+note hand * * 22 Full Queue
+note hand * * 23
+note hand * * 24
+send * 080c00*
+send * 080c01*
+send * 080c02*
+send * 080c10*
+send * 080c20*
+send * 080c21*
+send * 080c22*
 """.strip().splitlines()
 NAMES = ['ab', 'a/b', 'a/b/c', 't/1', 't', 'é', '$SYS/x', 'x y', '/', 'n%', 'a//b', 'm' * 130, 'l' * 300]
 BAD_NAMES = [b'', b'a+', b'+', b'#', b'a/#', b'a\0', b'\xff', b'\xed\xa0\x80']
@@ -130,11 +148,17 @@ WEIGHTS = {
     'bad_policy': 1, 'down': 2, 'bad_connect': 1.5, 'disconnect': 2, 'pingreq': 3, 'fresh_register': 1,
     'source_publish': 8, 'unsubscribe': 6, 'fresh_subscribe': 1, 'other_frame': 4, 'malformed': 2,
     'broker_puback': 6, 'broker_publish': 6, 'broker_suback': 6, 'broker_other': 2, 'broker_cut': 2,
-    'broker_fault': 0.7, 'turn': 4, 'empty': 0.5,
+    'broker_fault': 1, 'turn': 4, 'empty': 0.5, 'answer': 6, 'delivery': 18, 'burst': 0.4,
+    'busy_connect': 1, 'busy_disconnect': 0.5,
 }
 # Those that no script leaves out, and those that some scripts are about
 ALWAYS = ('policy', 'up', 'take', 'connect', 'register', 'publish', 'subscribe')
 SUBSCRIBING = ('policy', 'subscribe', 'unsubscribe', 'broker_suback', 'take')
+# What decides over what waits for the broker, is in flight there or stands, and over what waits for clients
+TURNS = ('publish', 'source_publish', 'policy', 'take', 'down', 'up', 'subscribe', 'unsubscribe',
+         'broker_suback')
+FATES = ('policy',) * 4 + ('busy_connect', 'busy_connect', 'busy_disconnect', 'unsubscribe', 'broker_suback',
+                           'broker_publish', 'broker_publish', 'register', 'subscribe', 'answer')
 
 
 def frame(kind, *parts, is_long=False):
@@ -157,8 +181,13 @@ def number(value):
     return value.to_bytes(2, 'big')
 
 
+def sized(text):
+    return number(len(text)) + text
+
+
 class World:
-    """What the lines of one script are drawn from. Each method of a name in WEIGHTS answers a line."""
+    """What the lines of one script are drawn from. Each method of a name in WEIGHTS answers a line, or none
+    where it has said several lines itself."""
 
     def __init__(self, seed):
         self.random = random.Random(seed)
@@ -167,11 +196,14 @@ class World:
         self.names = self.random.sample(NAMES, self.among(3, 5))
         self.filters = [name for name in self.names if len(name) <= 200]
         self.filters += self.random.sample(FILTERS, self.among(3, 5))
-        # How many fresh names were drawn, which packet ids the broker answers as those of SUBSCRIBEs, and the
-        # scopes that each client or source was given
-        self.fresh, self.most_suback = 0, 12
+        # How many fresh names were drawn, and how often the broker publishes under one; which packet ids it
+        # answers as those of SUBSCRIBEs; how many topics are predefined; the scopes that were given to whom
+        self.fresh, self.fresh_published, self.most_suback = 0, 0.2, 12
+        self.predefined = self.one((0.2, 0.4, 0.8))
         self.given = {}
         self.is_generous = False
+        # The lines so far, and the gateway behind the first of them, as the model says
+        self.lines, self.played, self.gateway = [], 0, gateway_model.Gateway()
         # Each script leaves some kinds out and has others more often, so that scripts are unlike one another
         self.weights = {kind: weight * self.one((1, 1, 1, 2) if kind in ALWAYS else (0, 1, 1, 1, 2, 4))
                         for kind, weight in WEIGHTS.items()}
@@ -187,10 +219,37 @@ class World:
     def chance(self, share):
         return self.random.random() < share
 
-    def line(self):
-        kinds = list(self.weights)
-        kind = self.random.choices(kinds, [self.weights[kind] for kind in kinds])[0]
-        return getattr(self, kind)()
+    def say(self, *kinds):
+        """A line of each of these kinds, one behind the other."""
+        for kind in kinds:
+            line = getattr(self, kind)()
+            if line is not None:
+                self.lines.append(line)
+
+    def go_on(self, lines):
+        """So many lines, of kinds by their weights."""
+        for _ in range(lines):
+            kinds = list(self.weights)
+            self.say(self.random.choices(kinds, [self.weights[kind] for kind in kinds])[0])
+
+    def present(self):
+        """The clients with a session behind the lines so far."""
+        further = '\n'.join(self.lines[self.played:]).encode()
+        self.played = len(self.lines)
+        gateway_model.play(further, self.gateway)
+        self.gateway.printed.clear()
+        return [client for client in self.gateway.clients.values() if client.address]
+
+    def busy(self):
+        """A client that has not answered yet what it was sent, if there is one."""
+        clients = [client for client in self.present() if client.exchange]
+        return self.one(clients) if clients else None
+
+    def held(self):
+        """The names that a filter matches that stands for a client with a session."""
+        filters = [pattern for client in self.present() for pattern in client.subscriptions]
+        names = [name.encode() for name in self.names]
+        return [name for name in names if any(gateway_model.matches(pattern, name) for pattern in filters)]
 
     # Words of lines
 
@@ -244,10 +303,11 @@ class World:
         return pairs
 
     def policy(self):
-        clients = {name: self.scope(name) for name in self.clients if self.is_generous or self.chance(0.9)}
+        clients = {name: self.scope(name) for name in self.clients if self.is_generous or self.chance(0.85)}
         ips = sorted({address.split(':')[0] for address in self.addresses})
         sources = {ip: self.scope(ip) for ip in ips if self.is_generous or self.chance(0.8)}
-        topics = {str(number): self.one(self.names) for number in range(1, 5) if self.chance(0.8)}
+        topics = {str(number): self.one(self.names) for number in range(1, 5)
+                  if self.chance(self.predefined)}
         parts = {'version': 1, 'clients': clients, 'sources': sources, 'topics': topics}
         return 'policy ' + json.dumps(parts, ensure_ascii=self.chance(0.5))
 
@@ -267,9 +327,16 @@ class World:
 
     def turn(self):
         """A few lines at once that decide over what waits, what is in flight and what stands."""
-        kinds = [self.publish, self.source_publish, self.policy, self.take, self.down, self.up,
-                 self.subscribe, self.unsubscribe, self.broker_suback]
-        return '\n'.join(self.one(kinds)() for _ in range(self.among(2, 4)))
+        if self.chance(0.5):
+            self.say('publish', 'publish', self.one(('take', 'take', 'source_publish')), 'policy')
+        self.say(*(self.one(TURNS) for _ in range(self.among(1, 3))))
+
+    def delivery(self):
+        """Messages for clients, perhaps what decides over them as they wait, and answers of clients."""
+        self.say('broker_publish')
+        for kind in [self.one(FATES) for _ in range(self.one((0, 1, 1, 2)))] + ['answer'] * self.among(0, 5):
+            if self.busy():
+                self.say(kind)
 
     def empty(self):
         return ''
@@ -286,6 +353,40 @@ class World:
     def bad_connect(self):
         client = self.one((self.client(), self.client(), b'nobody', b'', b'x' * 24, b'\0', 'ü'.encode() * 23))
         return self.sent(4, bytes([self.one((4, 8, 12))]), bytes([self.one((0, 1, 1, 2))]), b'\0\0', client)
+
+    def busy_connect(self):
+        """A client that has to answer something connects anew, from there or elsewhere, or is put out."""
+        busy = self.busy()
+        if busy is None:
+            return self.connect()
+        home = busy.address.decode() if self.chance(0.8) else self.one(self.addresses)
+        client = busy.name if self.chance(0.7) else self.client()
+        return self.sent(4, self.one((b'\0', b'\0', b'\4')), b'\1', self.message_id(), client, address=home)
+
+    def busy_disconnect(self):
+        """A client that has to answer something leaves."""
+        busy = self.busy()
+        return self.sent(0x18, address=busy.address.decode()) if busy else self.disconnect()
+
+    def answer(self):
+        """A REGACK or PUBACK, mostly of a client that has to send just this one."""
+        busy = self.busy()
+        address, code = None, self.one((b'\0', b'\0', b'\0', b'\0', b'\0', b'\1', b'\2', b'\3', b'\xff'))
+        kind, topic_id, msg_id = self.one((0x0b, 0x0d)), number(self.among(0, 3)), number(self.among(0, 9))
+        if busy:
+            exchange = busy.exchange
+            kind, topic_id, msg_id = 0x0b if exchange.announces else 0x0d, exchange.topic_id, exchange.msg_id
+            address = busy.address.decode()
+            change = self.one(('none',) * 12 + ('kind', 'kind', 'topic', 'message', 'address'))
+            if change == 'kind':
+                kind ^= 0x0b ^ 0x0d
+            elif change == 'topic':
+                topic_id = number(self.among(0, 4))
+            elif change == 'message':
+                msg_id = number((int.from_bytes(msg_id, 'big') + self.one((-1, 1))) % 65_536)
+            elif change == 'address':
+                address = self.one(self.addresses)
+        return self.sent(kind, topic_id, msg_id, code, address=address)
 
     def disconnect(self):
         return self.sent(0x18, self.one((b'', b'', b'', b'\0\0', b'\1\2', b'\1')))
@@ -339,6 +440,9 @@ class World:
     def subscribe(self):
         return self.ask_for_filter(0x12)
 
+    def subscribe_to_all(self):
+        return self.sent(0x12, self.flags(self.among(0, 1), 0), self.message_id(), b'#')
+
     def unsubscribe(self):
         return self.ask_for_filter(0x14)
 
@@ -351,10 +455,9 @@ class World:
         """A message that is not taken, or one that only a gateway sends."""
         kind, part = self.one([
             (0x05, b'\0'), (0x06, b''), (0x07, b''), (0x07, b'\0w/1'), (0x08, b''), (0x09, b'gone'),
-            (0x0b, b'\0\1\0\1\0'), (0x0d, b'\0\1\0\1\0'), (0x0e, b'\0\1'), (0x0f, b'\0\1'), (0x10, b'\0\1'),
-            (0x13, b'\0\0\1\0\1\0'), (0x15, b'\0\1'), (0x17, b''), (0x1a, b''), (0x1a, b'\0w/1'),
-            (0x1b, b'\0'), (0x1c, b''), (0x1c, b'gone'), (0x1d, b'\0'), (0x00, b'\1\0\0'), (0x01, b'\0'),
-            (0x02, b'\1'), (0xfe, b'\1\2\3'),
+            (0x0e, b'\0\1'), (0x0f, b'\0\1'), (0x10, b'\0\1'), (0x13, b'\0\0\1\0\1\0'), (0x15, b'\0\1'),
+            (0x17, b''), (0x1a, b''), (0x1a, b'\0w/1'), (0x1b, b'\0'), (0x1c, b''), (0x1c, b'gone'),
+            (0x1d, b'\0'), (0x00, b'\1\0\0'), (0x01, b'\0'), (0x02, b'\1'), (0xfe, b'\1\2\3'),
         ])
         return self.sent(kind, part)
 
@@ -379,9 +482,18 @@ class World:
         return packet(0x40, number(self.among(1, 8)), self.one((0, 0, 0, 1)))
 
     def published(self):
+        """A PUBLISH, now and then of what just fits into a datagram of a client, or does not."""
         qos = self.one((0, 1, 1))
-        name = self.name()
-        body = number(len(name)) + name + (number(self.among(1, 9)) if qos else b'') + self.payload()
+        name, payload = self.name(0.04), self.payload()
+        if self.chance(self.fresh_published):
+            name = b'n/%d' % self.among(1, self.fresh + 3)
+        elif self.chance(0.7):
+            name = self.one(self.held() or [name])
+        if self.chance(0.03):
+            name = b'n' * self.one((2039, 2040, 2041, 5000))
+        if self.chance(0.03):
+            payload = b'p' * self.one((247, 248, 2039, 2040, 5000))
+        body = sized(name) + (number(self.among(1, 9)) if qos else b'') + payload
         return packet(0x30 | qos << 1 | self.one((0, 0, 1, 8, 9)), body, self.one((0, 0, 0, 1)))
 
     def suback(self, packet_id):
@@ -416,6 +528,11 @@ class World:
     def broker_publish(self):
         return self.piece(*(self.published() for _ in range(self.one((1, 1, 1, 2, 5)))))
 
+    def burst(self):
+        """More messages at once than may wait for a client."""
+        names = [self.one(self.names).encode() for _ in range(self.among(64, 70))]
+        return self.piece(*(packet(0x30, sized(name) + b'x') for name in names))
+
     def broker_suback(self):
         """Answers to the SUBSCRIBEs of some packet ids in a row, if there are such."""
         first, many = self.among(1, self.most_suback), self.one((1, 1, 2, self.most_suback // 3))
@@ -428,8 +545,10 @@ class World:
         """Two lines, between which a packet is cut, and perhaps a third between them."""
         whole = self.one((self.published(), self.suback(self.among(1, self.most_suback)))) + self.puback()
         place = self.among(1, len(whole) - 1)
-        between = [self.line()] if self.chance(0.3) else []
-        return '\n'.join([self.piece(whole[:place]), *between, self.piece(whole[place:])])
+        self.lines.append(self.piece(whole[:place]))
+        if self.chance(0.3):
+            self.go_on(1)
+        return self.piece(whole[place:])
 
     def broker_fault(self):
         before = [self.puback()] if self.chance(0.5) else []
@@ -441,12 +560,13 @@ class World:
 
 def mixed(world):
     """A short script of everything."""
-    front = [world.policy(), world.up()] + [world.connect() for _ in range(3 * len(world.clients))]
-    if world.chance(0.5):
-        front += [world.subscribe() for _ in range(world.among(2, 8))] + [world.take()]
-    lines = front if world.chance(0.9) else []
-    lines += [world.line() for _ in range(world.among(30, 80))]
-    return lines + [world.one(UNREADABLE), 'up'] * world.chance(0.05)
+    if world.chance(0.9):
+        world.say('policy', 'up', *['connect'] * 3 * len(world.clients))
+        if world.chance(0.7):
+            world.say(*['subscribe'] * world.among(2, 8), 'take')
+    world.go_on(world.among(30, 80))
+    if world.chance(0.05):
+        world.lines += [world.one(UNREADABLE), 'up']
 
 
 def heavy(world, lines, **weights):
@@ -454,62 +574,72 @@ def heavy(world, lines, **weights):
     world.is_generous = True
     world.weights = {'policy': 0.3, 'register': 2, 'publish': 2, 'pingreq': 1, 'subscribe': 1,
                      'unsubscribe': 0.5, 'other_frame': 1, **weights}
-    front = [world.policy(), world.up()] + [world.connect() for _ in range(6)]
-    front += [world.line() for _ in range(lines)]
+    world.say('policy', 'up', *['connect'] * 6)
+    world.go_on(lines)
     world.weights = WEIGHTS
-    return front + [world.line() for _ in range(60)]
+    world.go_on(60)
 
 
 def many_ids(world):
-    """A client is told as many names as it may have ids."""
+    """A client is told as many names as it may have ids, by announcements too."""
     world.clients, world.addresses = world.clients[:1], world.addresses[:1]
-    return heavy(world, 300, fresh_register=40, register=10, fresh_subscribe=5, subscribe=5, unsubscribe=5)
+    world.fresh_published = 0.8
+    heavy(world, 400, fresh_register=40, register=5, fresh_subscribe=5, subscribe=5, subscribe_to_all=2,
+          unsubscribe=2, broker_publish=20, answer=20)
 
 
 def many_subscriptions(world):
     """A client holds as many filters as it may, and gives some of them up."""
     world.clients, world.addresses = world.clients[:1], world.addresses[:1]
-    return heavy(world, 250, fresh_subscribe=20, subscribe=5, unsubscribe=4, take=4, broker_suback=1, up=0.5)
+    heavy(world, 250, fresh_subscribe=20, subscribe=5, unsubscribe=4, take=4, broker_suback=1, up=0.5)
 
 
 def many_holders(world):
     """A few clients hold a few filters, the same ones mostly, which begin and end in any order."""
     world.most_suback = 60
-    return heavy(world, 300, subscribe=30, unsubscribe=10, connect=4, take=8, up=2, down=0.5, broker_suback=5,
-                 policy=1)
+    heavy(world, 300, subscribe=30, unsubscribe=10, connect=4, take=8, up=2, down=0.5, broker_suback=5,
+          policy=1, broker_publish=3, answer=3)
+
+
+def many_messages(world):
+    """Clients hold a few filters, and the broker publishes more than they answer at times."""
+    heavy(world, 400, subscribe=4, subscribe_to_all=2, connect=1, broker_publish=20, burst=0.5, answer=40,
+          policy=1, busy_connect=1, busy_disconnect=0.5, delivery=5)
 
 
 def many_in_flight(world):
     """Publishes of QoS 1 wait and are in flight, as many as may be."""
-    return heavy(world, 700, publish=70, take=5, broker_puback=3, up=1, down=0.2, policy=1, register=10)
+    world.predefined = 0.8
+    heavy(world, 700, publish=70, take=5, broker_puback=3, up=1, down=0.2, policy=1, register=10)
 
 
 def many_items(world):
     """The outbox fills, with publishes, with what acknowledges the broker's and with subscriptions that begin
     and end."""
-    return heavy(world, 1000, publish=40, source_publish=10, broker_publish=20, broker_puback=2, subscribe=20,
-                 unsubscribe=4, connect=1, policy=1)
+    world.predefined = 0.8
+    heavy(world, 1000, publish=40, source_publish=10, broker_publish=20, broker_puback=2, subscribe=20,
+          unsubscribe=4, connect=1, policy=1)
 
 
 def many_clients(world):
     """More clients come than are ever accepted, under two policies."""
     clients = ['c%d' % count for count in range(300)]
     world.random.shuffle(clients)
-    lines = []
     for part in (clients[:200], clients[150:]):
         world.clients = part
-        lines += [world.policy()]
+        world.say('policy')
         for name in world.random.sample(part, len(part)):
-            lines += [world.sent(4, b'\4\1\0\0', name.encode())]
-            lines += [world.line()] * world.chance(0.2)
-    return lines
+            world.lines.append(world.sent(4, b'\4\1\0\0', name.encode()))
+            if world.chance(0.2):
+                world.go_on(1)
 
 
 def many_packet_ids(world):
     """Packet ids begin anew, and skip those of a few publishes that are in flight and of a few SUBSCRIBEs
     that are open from before; the first of these is that of the very filter that is asked for anew then. At
     last all that is in flight is sent again, which is not in the order of the ids."""
-    name, address = world.one(world.names), world.one(world.addresses)
+    name = world.one([name for name in world.names if len(name) <= 200])
+    address = world.one(world.addresses)
     scope = [['#', ['pub', 'sub']], [name, ['pub']]]
     policy = {'version': 1, 'clients': {'s1': scope}, 'topics': {'1': name}}
     lines = ['policy ' + json.dumps(policy), 'up', 'from %s 08040401000a7331' % address]
@@ -525,18 +655,18 @@ def many_packet_ids(world):
         lines.append('broker ' + b''.join(packet(0x40, number(it)) for it in ids if it not in kept).hex())
         count += batch
     lines += [subscribe % 0x31] + [publish % turn for turn in range(batch)] + ['take']
-    return lines + ['from %s 080c210001000178' % address, 'take', 'down', 'up', 'take', 'up']
+    world.lines = lines + ['from %s 080c210001000178' % address, 'take', 'down', 'up', 'take', 'up']
 
 
 # The kinds of the first scripts; all others are mixed
-LONG = ([many_ids] * 2 + [many_subscriptions] * 2 + [many_holders] * 4 + [many_in_flight] * 3
-        + [many_items] * 3 + [many_clients, many_packet_ids])
+LONG = ([many_ids] * 2 + [many_subscriptions] * 2 + [many_holders] * 3 + [many_in_flight] * 2
+        + [many_items] * 3 + [many_messages] * 3 + [many_clients, many_packet_ids])
 
 
 def script(seed):
     world = World(seed)
-    lines = (LONG[seed] if seed < len(LONG) else mixed)(world)
-    return '\n'.join(lines).encode() + b'\n' * world.chance(0.9)
+    (LONG[seed] if seed < len(LONG) else mixed)(world)
+    return '\n'.join(world.lines).encode() + b'\n' * world.chance(0.9)
 
 
 # Playing them

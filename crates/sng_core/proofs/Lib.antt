@@ -1,4 +1,11 @@
+pub mod KnownLemmas
+pub mod HandingRows
+pub mod DeliveringRows
+pub mod HandOverLemmas
+pub mod DeliverLemmas
 pub mod Found
+pub mod ConfirmLemmas
+pub mod ConfirmRows
 pub mod Asked
 pub mod Rows
 pub mod SubscribeRows

@@ -21,7 +21,7 @@ use Rattle.sng_book.specs.declared.out.Out.{Out}
 use Rattle.sng_book.specs.declared.out.Out.TheVariants.{Note}
 use Rattle.sng_history.specs.Causes.{ByReplace}
 use Rattle.sng_history.specs.Clients.{Client, Around, without, notes_by}
-use Rattle.sng_history.specs.Links.{Link, Wanted, is_filter_of, wants}
+use Rattle.sng_history.specs.Links.{Link, Wanted, is_filter_of}
 use Rattle.sng_history.specs.Standing.{Release, holds, is_held, ended, releases_of, released_from, released, places_left, unsubscribes, dropped_of, is_release, drop_note, still_wanted}
 use Rattle.sng_history.specs.State.{State, around}
 use Rattle.sng_history.specs.Verdicts.{coverage}
@@ -33,6 +33,7 @@ use Rattle.sng_wanted.specs.Filters.{without_wanted}
 use Rattle.sng_sessions.specs.Moving.{moved_at}
 use Rattle.sng_core.specs.declared.replace.Ending.{Ending}
 use Rattle.sng_core.specs.Replacing.{let_go, ended_clients, ended_link, ended_notes, ended_next, ended_outs, all_next, all_outs, ending_of, endings_by, endings_from}
+use Rattle.sng_history.proofs.Endless.{EachIn, each_in, each_wanted, all_still}
 use Rattle.sng_history.proofs.Own.{same_self, same_means, flip}
 use Rattle.sng_history.proofs.Says.{part_for, drops_for}
 
@@ -431,19 +432,6 @@ stands_after a policy client (h ∷ rest) z text =
         ∙ ap (λ b. b && not (stands rest text && not (is_allowed (coverage policy client text))))
         (left_stands z.filters h.filter text ∙ (ap (λ b. stands z.filters text && not b) may ∙ and_yes (stands z.filters text)))
 
--- each of these stands among them
-abbrev EachIn : List Held → List Held → Type 0
-EachIn all [] = Unit {0}
-EachIn all (h ∷ held) = (stands all h.filter ≡ true) × EachIn all held
-
-in_more : (g : Held) (all held : List Held) → EachIn all held → EachIn (g ∷ all) held
-in_more g all [] each = tt
-in_more g all (h ∷ held) each = (ap (λ b. has_text h.filter g || b) each.0 ∙ or_true (has_text h.filter g), in_more g all held each.1)
-
-each_in : (held : List Held) → EachIn held held
-each_in [] = tt
-each_in (h ∷ held) = (ap (λ b. b || stands held h.filter) (same_self h.filter), in_more h held held (each_in held))
-
 lost_by : (h : Held) (more : List Held) (texts : List (List ℕ)) (o : Outcome) → map (λ (g : Held). g.filter) more ≡ texts
     → map (λ (g : Held). g.filter) (if not (is_allowed o) then h ∷ more else more) ≡ lost_of h.filter o ++ texts
 lost_by h more texts Allowed is = is
@@ -596,27 +584,12 @@ rest_says s policy dropped place earlier (x ∷ xs) releases is apart once none 
 take_none : {X : Type 0} (n : ℕ) → take {A = X} n [] ≡ []
 take_none n = take_all n [] (omega arith)
 
-abbrev EachWanted : List Wanted → List Wanted → Type 0
-EachWanted all [] = Unit {0}
-EachWanted all (w ∷ wanted) = (wants all w.filter ≡ true) × EachWanted all wanted
-
-wanted_more : (v : Wanted) (all wanted : List Wanted) → EachWanted all wanted → EachWanted (v ∷ all) wanted
-wanted_more v all [] each = tt
-wanted_more v all (w ∷ wanted) each = (ap (λ b. is_filter_of w.filter v || b) each.0 ∙ or_true (is_filter_of w.filter v), wanted_more v all wanted each.1)
-
-each_wanted : (wanted : List Wanted) → EachWanted wanted wanted
-each_wanted [] = tt
-each_wanted (w ∷ wanted) = (ap (λ b. b || wants wanted w.filter) (same_self w.filter), wanted_more w wanted wanted (each_wanted wanted))
-
-all_wanted : (xs : List Client) (all wanted : List Wanted) → ((text : List ℕ) → wants all text ≡ is_held xs text) → EachWanted all wanted → still_wanted xs wanted ≡ wanted
-all_wanted xs all [] held each = refl
-all_wanted xs all (w ∷ wanted) held each = rw (sym (held w.filter) ∙ each.0, all_wanted xs all wanted held each.1) refl
-
 -- before the first ending the state is as it was
 at_first : (s : State) → Good s → course s s.clients [] ≡ s
 at_first s good =
     let waits : Waits s.link [] ≡ s.link.waiting = ap (λ rs. s.link.waiting ++ map (λ (r : Release). item.Unsubscribe r.filter) rs) (take_none (places_left s.link)) ∙ append-nil s.link.waiting in
-    let wanted : still_wanted s.clients s.link.wanted ≡ s.link.wanted = all_wanted s.clients s.link.wanted s.link.wanted good.wanted_held (each_wanted s.link.wanted) in
+    let wanted : still_wanted s.clients s.link.wanted ≡ s.link.wanted =
+    all_still s.clients s.link.wanted s.link.wanted (λ text is. sym (good.wanted_held text) ∙ is) (each_wanted s.link.wanted) in
     ap (λ items. let t : State = record s { link = record s.link { waiting = items; wanted = still_wanted s.clients s.link.wanted } } in t) waits
     ∙ ap (λ ws. let t : State = record s { link = record s.link { wanted = ws } } in t) wanted
 

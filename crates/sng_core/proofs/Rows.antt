@@ -18,19 +18,23 @@ use Rattle.sng_fan.specs.Subscriptions.{stands}
 use Rattle.sng_book.specs.declared.address.Address.{Address}
 use Rattle.sng_book.specs.declared.decision.Who.TheVariants as who
 use Rattle.sng_book.specs.declared.outcome.Denial.{Denial}
-use Rattle.sng_book.specs.declared.outcome.Denial.TheVariants.{NotSupported}
+use Rattle.sng_book.specs.declared.outcome.Denial.TheVariants.{NotSupported, Gone}
 use Rattle.sng_book.specs.declared.outcome.Outcome.{Outcome}
 use Rattle.sng_book.specs.declared.outcome.Outcome.TheVariants.{Allowed, Denied}
 use Rattle.sng_book.specs.declared.out.Out.{Out}
 use Rattle.sng_book.specs.declared.out.Out.TheVariants.{Note}
 use Rattle.sng_book.specs.declared.decision.Decision.TheVariants as note
 use Rattle.sng_history.specs.Causes.{Request, ToPing, ToLeave, ToRegister, ToPublish, Untaken, Cause, ByMessage, BySource, ByBroken, ByUp, ByDown, ByTake, ByTick}
-use Rattle.sng_history.specs.Clients.{Client, is_here, is_from, start_by, note_by, notes_by}
+use Rattle.sng_queue.specs.Messages.{Message as Mail}
+use Rattle.sng_history.specs.Outgoing.{all_gone}
+use Rattle.sng_history.proofs.Hands.{gone_stays}
+use Rattle.sng_core.specs.HandingOver.{gone_outs}
+use Rattle.sng_history.specs.Clients.{Client, Around, is_here, is_from, start_by, note_by, notes_by}
 use Rattle.sng_history.specs.State.{State, around, later, item_asked, asked_by, qos_of, joined as joined_wanted}
 use Rattle.sng_history.specs.Standing.{Release}
 use Rattle.sng_history.specs.Verdicts.{ping_verdict, source_ask, room, may_ask, name_given, name_in, register_named as note_named, register_by as note_by_may, register_ask, publish_named as publish_note_named, publish_by as publish_note_by, publish_ask}
-use Rattle.sng_history.specs.Answers.{denied_note, refused}
-use Rattle.sng_history.specs.Whole.{frames_of, denied_to, replied, stranger_to, any_from}
+use Rattle.sng_history.specs.Answers.{denied_note, refused, dismissed}
+use Rattle.sng_history.specs.Whole.{spell, frames_of, denied_to, replied, stranger_to, any_from}
 use Rattle.sng_history.specs.Lawful.{fixed_for}
 use Rattle.sng_history.specs.Steps.{outs_by, client_next, next_by, newcomers_for, asked_by_all, asked_for}
 use Rattle.sng_history.specs.Links.{Link, Wanted, resumed, filters_wanted, subscribe_sent, subscribes_sent}
@@ -147,12 +151,20 @@ broken_message s from rule =
 
 -- ---- a DISCONNECT
 
+-- what is gone is noted, whatever the client is by then
+pub gone_spelled : (a : Around) (id : List ℕ) (waiting : List Mail) (y : Client) → spell a [] y (all_gone id waiting) ≡ gone_outs id waiting
+gone_spelled a id [] y = refl
+gone_spelled a id (m ∷ waiting) y =
+    ap (λ outs. Note (note.Hand id m.name (Denied Gone)) ∷ outs) (gone_spelled a id waiting (note_by a (note.Hand id m.name (Denied Gone)) y))
+
 pub leave_row : (s : State) (from : Address) → Good s
     → Makes s (ByMessage from ToLeave) (found_outs (stranger_to from ToLeave) left_outs (at_place s.clients (place_at from s.clients)))
     (record s { clients = moved_if (place_at from s.clients) (left_at s.clock) s.clients })
 leave_row s from good =
     message_row s (ByMessage from ToLeave) from (stranger_to from ToLeave) left_outs (left_at s.clock) (place_at from s.clients) good (still_message s from ToLeave good refl refl) refl
-    (λ x here. rw here refl) (λ x here. rw here refl)
+    (λ x here. rw here (ap (λ outs. Note (note.Left x.id) ∷ dismissed x.address ∷ outs)
+    (sym (gone_spelled (around s (ByMessage from ToLeave)) x.id x.buffer.waiting (left_at s.clock x)))))
+    (λ x here. rw here (sym (gone_stays (around s (ByMessage from ToLeave)) x.id x.buffer.waiting (left_at s.clock x) refl)))
 
 -- ---- a PINGREQ
 

@@ -22,6 +22,11 @@ use Rattle.sng_history.specs.Packets.{has_place}
 use Rattle.sng_history.specs.Standing.{is_held, places_left}
 use Rattle.sng_history.specs.State.{State}
 use Rattle.sng_sessions.specs.Standing.{place_at, place_of, client_at}
+use Rattle.sng_grants.specs.declared.policy.Policy.{Policy}
+use Rattle.sng_sessions.specs.Handed.{handed_by}
+use Rattle.sng_sessions.specs.declared.handing.Opens.TheVariants.{Nothing}
+use Rattle.sng_sessions.specs.declared.handing.Handed.{Handed}
+use Rattle.sng_core.specs.HandingOver.{gone_outs, hand_outs, hand_plan}
 use Rattle.sng_core.specs.Forms.{at_place, moved_if}
 
 -- as a CONNECT is accepted, the client is dismissed where it was before
@@ -29,10 +34,10 @@ abbrev pub moved_outs : Address → Option Client → List Out
 moved_outs from None = []
 moved_outs from (Some x) = if has_session x.phase && not (same_address x.address from) then dismissed x.address ∷ [] else []
 
--- and another client at the address leaves
+-- and another client at the address leaves, and what waits for it is gone
 abbrev pub put_out : List ℕ → Option Client → List Out
 put_out id None = []
-put_out id (Some y) = if bytes_eq id y.id then [] else Note (note.Left y.id) ∷ []
+put_out id (Some y) = if bytes_eq id y.id then [] else Note (note.Left y.id) ∷ gone_outs y.id y.buffer.waiting
 
 -- an UNSUBSCRIBE finds no place, so many times
 abbrev pub dropped_notes : ℕ → List Out
@@ -70,11 +75,27 @@ let_go link (text ∷ texts) = let_go (let_go_one link text) texts
 
 -- ---- a CONNECT with its verdict, and the state after it
 
+-- before its CONNACK
 abbrev pub accepted_outs : Address → List ℕ → List Client → ℕ → List Out
 accepted_outs from id xs dropped =
     Note (note.Connect id Allowed)
-    ∷ (moved_outs from (at_place xs (place_of id xs))
-    ++ (put_out id (at_place xs (place_at from xs)) ++ (dropped_notes dropped ++ connack from ACCEPTED ∷ [])))
+    ∷ (moved_outs from (at_place xs (place_of id xs)) ++ (put_out id (at_place xs (place_at from xs)) ++ dropped_notes dropped))
+
+-- a clean session drops what waits for the client before the CONNACK, and else it is handed over behind that
+abbrev pub own_outs : Policy → Address → Connect → Option Client → List Out
+own_outs policy from connect None = connack from ACCEPTED ∷ []
+own_outs policy from connect (Some x) =
+    if connect.flags.clean
+    then gone_outs connect.client_id x.buffer.waiting ++ connack from ACCEPTED ∷ []
+    else connack from ACCEPTED ∷ hand_outs policy connect.client_id from [] 0 x.number x.buffer.waiting
+
+abbrev pub nothing_handed : Handed
+nothing_handed = record { settled = 0; opens = Nothing }
+
+abbrev pub own_plan : Policy → Connect → Option Client → Handed
+own_plan policy connect None = nothing_handed
+own_plan policy connect (Some x) =
+    if connect.flags.clean then nothing_handed else hand_plan policy connect.client_id [] 0 0 x.buffer.waiting
 
 abbrev pub refused_outs : Address → List ℕ → Denial → List Out
 refused_outs from id rule = Note (note.Connect id (Denied rule)) ∷ connack from (code_of rule) ∷ []
@@ -83,14 +104,20 @@ refused_outs from id rule = Note (note.Connect id (Denied rule)) ∷ connack fro
 abbrev pub dropped_by : State → Connect → ℕ
 dropped_by s connect = length (alone_by connect s.clients) - places_left s.link
 
+-- the client that connects, where it is known
+abbrev pub returning : State → Connect → Option Client
+returning s connect = at_place s.clients (place_of connect.client_id s.clients)
+
 abbrev pub connect_outs : State → Address → Connect → Outcome → List Out
-connect_outs s from connect Allowed = accepted_outs from connect.client_id s.clients (dropped_by s connect)
+connect_outs s from connect Allowed =
+    accepted_outs from connect.client_id s.clients (dropped_by s connect) ++ own_outs s.policy from connect (returning s connect)
 connect_outs s from connect (Denied rule) = refused_outs from connect.client_id rule
 
 abbrev pub connect_next : State → Address → Connect → Outcome → State
 connect_next s from connect Allowed = record s {
   link = let_go s.link (alone_by connect s.clients);
-  clients = entered s.clock from connect s.clients;
+  clients = moved_if (place_of connect.client_id s.clients) (handed_by s.clock (own_plan s.policy connect (returning s connect)))
+      (entered s.clock from connect s.clients);
 }
 connect_next s from connect (Denied rule) =
     record s { clients = moved_if (place_at from s.clients) (heard_at s.clock) s.clients }

@@ -31,6 +31,7 @@ use Rattle.sng_history.specs.Verdicts.{exit, and_then, room, ping_verdict, may_a
 use Rattle.sng_core.specs.declared.verdict.Judged.{Judged}
 use Rattle.sng_history.specs.Answers.{denied_note, refused, code_of, regack, puback, dismissed, pong}
 use Rattle.sng_history.specs.Whole.{denied_to}
+use Rattle.sng_core.specs.HandingOver.{gone_outs}
 use Rattle.sng_sessions.specs.Moving.{moved_at}
 pub use Rattle.sng_history.specs.Entering.{heard_at, left_at, entering, entered, hearing}
 pub use Rattle.sng_sessions.specs.Standing.{place_at, place_of, client_at, told_at}
@@ -44,9 +45,9 @@ abbrev pub moved_if : Option ℕ → (Client → Client) → List Client → Lis
 moved_if None f xs = xs
 moved_if (Some place) f xs = moved_at place f xs
 
--- a client takes its leave
+-- a client takes its leave, and what waits for it is gone
 abbrev pub left_outs : Client → List Out
-left_outs x = Note (note.Left x.id) ∷ dismissed x.address ∷ []
+left_outs x = Note (note.Left x.id) ∷ dismissed x.address ∷ gone_outs x.id x.buffer.waiting
 
 -- a PINGREQ of a client, with its verdict
 abbrev pub ping_outs : Option (List ℕ) → Client → Outcome → List Out

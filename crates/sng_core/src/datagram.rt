@@ -2,14 +2,16 @@
 ghost use Rattle.std.specs.Prelude.{◌≡◌, IfOk, OnOk, OnErr};
 ghost use Rattle.sng_frames.specs.Reading.{frame_of};
 ghost use Rattle.sng_history.specs.Causes.{ByConnect, ByMessage, BySource, ByBroken, datagram_cause, frame_cause, publish_cause, disconnect_cause};
-ghost use Rattle.sng_history.specs.Causes.{ToPing, ToLeave, ToRegister, ToPublish, ToSubscribe, ToUnsubscribe, Untaken};
+ghost use Rattle.sng_history.specs.Causes.{ToPing, ToLeave, ToRegister, ToPublish, ToSubscribe, ToUnsubscribe, ToConfirm, ToAcknowledge, Untaken};
 ghost use Rattle.sng_history.specs.Good.{Good};
 ghost use Rattle.sng_history.specs.Steps.{outs_by, next_by};
 
 use crate::parts::Parts;
-use crate::{messages, register};
+use crate::{confirm, messages, register};
 use sng_book::{Address, Denial, Outs};
-use sng_frames::{FrameFault, FrameQos, Publish, Register, SnFrame, TopicRequest, decode};
+use sng_frames::{
+    FrameFault, FrameQos, Publish, Register, SnFrame, TopicAck, TopicRequest, decode,
+};
 use sng_text::ClientId;
 use std::alloc::{AllocError, Global};
 
@@ -64,16 +66,8 @@ impl Parts {
                 SnFrame::WillMessage(message),
             ),
             SnFrame::Register(register) => self.register(alloc, from, register),
-            SnFrame::RegisterAck(answer) => self.unsupported(
-                alloc,
-                from,
-                SnFrame::RegisterAck(answer),
-            ),
-            SnFrame::PublishAck(answer) => self.unsupported(
-                alloc,
-                from,
-                SnFrame::PublishAck(answer),
-            ),
+            SnFrame::RegisterAck(answer) => self.confirm(alloc, from, answer),
+            SnFrame::PublishAck(answer) => self.acknowledge(alloc, from, answer),
             SnFrame::PublishComplete(id) => self.unsupported(
                 alloc,
                 from,
@@ -172,6 +166,41 @@ impl Parts {
     {
         let sessions = &mut self.sessions;
         let outs = register::register(alloc, &self.policy, self.clock, from, register, sessions)?;
+        Ok(outs)
+    }
+
+    /// A REGACK.
+    fn confirm(
+        &mut self,
+        alloc: Global,
+        from: Address,
+        answer: TopicAck,
+    ) -> Result<Outs, AllocError>
+        requires { Good self.old }
+        ensures outs { IfOk result (λ outs. outs ≡ outs_by self.old (ByMessage from (ToConfirm answer))) }
+        ensures next { OnOk result (self.new ≡ next_by self.old (ByMessage from (ToConfirm answer))) }
+        ensures err { OnErr result (self.new ≡ self.old) }
+    {
+        let sessions = &mut self.sessions;
+        let outs = confirm::confirm(alloc, &self.policy, self.clock, from, answer, sessions)?;
+        Ok(outs)
+    }
+
+    /// A PUBACK.
+    fn acknowledge(
+        &mut self,
+        alloc: Global,
+        from: Address,
+        answer: TopicAck,
+    ) -> Result<Outs, AllocError>
+        requires { Good self.old }
+        ensures outs { IfOk result (λ outs. outs
+            ≡ outs_by self.old (ByMessage from (ToAcknowledge answer))) }
+        ensures next { OnOk result (self.new ≡ next_by self.old (ByMessage from (ToAcknowledge answer))) }
+        ensures err { OnErr result (self.new ≡ self.old) }
+    {
+        let sessions = &mut self.sessions;
+        let outs = confirm::acknowledge(alloc, &self.policy, self.clock, from, answer, sessions)?;
         Ok(outs)
     }
 

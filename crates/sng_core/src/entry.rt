@@ -1,21 +1,26 @@
 //! A CONNECT (MQTT-SN 1.2, 5.4.4, 6.2, 6.3 and 6.14): what it lets out is planned first, and the last call
 //! that can fail comes before the first change.
-ghost use Rattle.std.specs.Prelude.{◌≡◌, ◌<◌, ◌-◌, ◌∷◌, ◌++◌, [], length, IfOk, OnOk, OnErr};
+ghost use Rattle.std.specs.Prelude.{◌≡◌, ◌<◌, ◌-◌, ◌∷◌, ◌++◌, [], length, IfSome, IfOk, OnOk, OnErr};
 ghost use Rattle.sng_history.specs.Causes.{ByConnect};
 ghost use Rattle.sng_history.specs.Good.{Good};
 ghost use Rattle.sng_history.specs.Steps.{outs_by, next_by};
+ghost use Rattle.sng_history.specs.Standing.{places_left};
 ghost use Rattle.sng_history.specs.Verdicts.{entry};
-ghost use Rattle.sng_core.specs.Forms.{place_at, place_of, client_at, at_place, moved_if, heard_at};
-ghost use Rattle.sng_core.specs.Connecting.{moved_outs, put_out, dropped_notes, alone_in, held_beside, alone_by, let_go_one, let_go, accepted_outs, refused_outs, connect_outs, connect_next};
+ghost use Rattle.sng_sessions.specs.Handed.{handed_by};
+ghost use Rattle.sng_core.specs.Forms.{place_at, place_of, client_at, at_place, moved_if, heard_at, entered};
+ghost use Rattle.sng_core.specs.Connecting.{moved_outs, put_out, dropped_notes, own_outs, own_plan, nothing_handed, alone_in, held_beside, alone_by, let_go_one, let_go, accepted_outs, refused_outs, connect_outs, connect_next};
 
 use crate::answers::{code_of, connack, dismissed};
+use crate::hand_over::{all_gone, hand_over};
 use crate::parts::Parts;
 use crate::verdict::entry;
 use sng_book::{Address, Decision, Denial, Out, Outcome, Outs};
 use sng_fan::Held;
 use sng_frames::{Connect, ReturnCode};
+use sng_grants::Policy;
+use sng_ids::IdTable;
 use sng_link::Link;
-use sng_sessions::Sessions;
+use sng_sessions::{Handed, Opens, Sessions};
 use sng_text::{ClientId, TopicFilter};
 use std::alloc::{AllocError, Global};
 
@@ -64,18 +69,108 @@ impl Parts {
         }
     }
 
-    /// It is accepted. What a clean session ends, and nobody else holds, is let go of upstream.
+    /// It is accepted. What a clean session ends, and nobody else holds, is let go of upstream; after any other
+    /// what waits is handed over.
     fn accept(&mut self, alloc: Global, from: Address, connect: Connect) -> Result<Outs, AllocError>
         ensures outs { IfOk result (λ outs. outs ≡ connect_outs self.old from connect Outcome.Allowed) }
         ensures next { OnOk result (self.new ≡ connect_next self.old from connect Outcome.Allowed) }
         ensures err { OnErr result (self.new ≡ self.old) }
     {
         let alone = alone(alloc, &self.sessions, &connect)?;
-        let dropped = beyond(alone.len(), self.link.places_left());
-        let outs = accepted_outs(alloc, from, &connect.client_id, &self.sessions, dropped)?;
-        self.sessions.enter(alloc, from, connect, self.clock)?;
+        let dropped = unplaced(&alone, &self.link);
+        let sessions = &self.sessions;
+        let mut outs = accepted_outs(alloc, from, &connect.client_id, sessions, dropped)?;
+        let place = sessions.find(&connect.client_id);
+        let handed = entering(
+            alloc,
+            &self.policy,
+            from,
+            &connect,
+            sessions,
+            place,
+            &mut outs,
+        )?;
+        enter(
+            alloc,
+            from,
+            connect,
+            &mut self.sessions,
+            place,
+            handed,
+            self.clock,
+        )?;
         let_go(&mut self.link, alone);
         Ok(outs)
+    }
+}
+
+/// What becomes of what waits for the client that connects, and the CONNACK: a clean session drops it before
+/// that, and else it is handed over behind it. Answers what the hand-over comes to.
+fn entering(
+    alloc: Global,
+    policy: &Policy,
+    from: Address,
+    connect: &Connect,
+    sessions: &Sessions,
+    place: Option<usize>,
+    outs: &mut Outs,
+) -> Result<Handed, AllocError>
+    requires { IfSome place (λ p. p < length sessions.now) }
+    ensures outs { OnOk result (outs.new ≡ outs.old
+        ++ own_outs policy.now from connect.now (at_place sessions.now place)) }
+    ensures plan { IfOk result (λ handed. handed
+        ≡ own_plan policy.now connect.now (at_place sessions.now place)) }
+{
+    let Some(place) = place else {
+        outs.push(connack(alloc, from, ReturnCode::ACCEPTED)?)?;
+        return Ok(nothing_handed());
+    };
+    if connect.flags.clean {
+        all_gone(&connect.client_id, sessions.queue(place), outs)?;
+        outs.push(connack(alloc, from, ReturnCode::ACCEPTED)?)?;
+        return Ok(nothing_handed());
+    }
+    outs.push(connack(alloc, from, ReturnCode::ACCEPTED)?)?;
+    let ids = IdTable::new(alloc);
+    let number = sessions.number(place);
+    let queue = sessions.queue(place);
+    let id = &connect.client_id;
+    let handed = hand_over(alloc, policy, id, from, &ids, 0, number, queue, 0, outs)?;
+    Ok(handed)
+}
+
+/// The CONNECT is accepted, and a hand-over to the client at this place is carried out. An `Err` is a failed
+/// allocation; nothing changed.
+fn enter(
+    alloc: Global,
+    from: Address,
+    connect: Connect,
+    sessions: &mut Sessions,
+    place: Option<usize>,
+    handed: Handed,
+    clock: u64,
+) -> Result<(), AllocError>
+    ensures ok { OnOk result (sessions.new
+        ≡ moved_if place (handed_by clock handed) (entered clock from connect sessions.old)) }
+    ensures err { OnErr result (sessions.new ≡ sessions.old) }
+{
+    sessions.enter(alloc, from, connect, clock)?;
+    match place {
+        Some(place) => {
+            sessions.hand(place, handed, clock);
+            Ok(())
+        }
+        None => Ok(()),
+    }
+}
+
+/// Nothing is handed over.
+fn nothing_handed() -> Handed
+    ensures { result ≡ nothing_handed }
+{
+    Handed {
+        settled: 0,
+        opens: Opens::Nothing,
     }
 }
 
@@ -131,6 +226,13 @@ fn add_alone(
     Ok(())
 }
 
+/// How many UNSUBSCRIBEs of these filters find no place.
+fn unplaced(filters: &Vec<TopicFilter>, link: &Link) -> usize
+    ensures { result ≡ length filters.now.items - places_left link.now }
+{
+    beyond(filters.len(), link.places_left())
+}
+
 /// How many of so many find none of these places.
 fn beyond(count: usize, places: usize) -> usize
     ensures { result ≡ count - places }
@@ -157,7 +259,7 @@ fn let_go_one(link: &mut Link, filter: TopicFilter)
     }
 }
 
-/// What is let out as it is accepted, where so many UNSUBSCRIBEs find no place.
+/// What is let out before its CONNACK as it is accepted, where so many UNSUBSCRIBEs find no place.
 fn accepted_outs(
     alloc: Global,
     from: Address,
@@ -172,7 +274,6 @@ fn accepted_outs(
     moved_outs(alloc, from, id, sessions, &mut outs)?;
     put_out(from, id, sessions, &mut outs)?;
     dropped_notes(dropped, &mut outs)?;
-    outs.push(connack(alloc, from, ReturnCode::ACCEPTED)?)?;
     Ok(outs)
 }
 
@@ -196,7 +297,7 @@ fn moved_outs(
     Ok(())
 }
 
-/// Another client at the address leaves.
+/// Another client at the address leaves, and what waits for it is gone.
 fn put_out(
     from: Address,
     id: &ClientId,
@@ -210,6 +311,7 @@ fn put_out(
         let other = sessions.id(place);
         if id != other {
             outs.push(Out::Note(Decision::Left(other.copy()?)))?;
+            all_gone(other, sessions.queue(place), outs)?;
         }
     }
     Ok(())

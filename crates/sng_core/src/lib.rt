@@ -4,10 +4,14 @@
 #![tactic(auto)]
 
 mod answers;
+mod confirm;
 mod datagram;
+mod deliver;
 mod entry;
 mod filters;
+mod hand_over;
 pub mod history;
+mod known;
 pub mod machine;
 mod messages;
 mod packets;
@@ -17,6 +21,7 @@ mod register;
 mod replace;
 mod source;
 mod subscribe;
+mod turn;
 mod unsubscribe;
 mod verdict;
 

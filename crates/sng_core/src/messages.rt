@@ -8,6 +8,7 @@ ghost use Rattle.sng_history.specs.Whole.{stranger_to};
 ghost use Rattle.sng_core.specs.Forms.{place_at, client_at, at_place, moved_if, heard_at, left_at, found_outs, left_outs, pinged, unsupported_outs, broken_outs};
 
 use crate::answers::{denied_note, dismissed, only, pong, refused};
+use crate::hand_over::all_gone;
 use crate::verdict::is_active;
 use sng_book::{Address, Decision, Denial, Out, Outcome, Outs, Who};
 use sng_frames::SnFrame;
@@ -15,7 +16,7 @@ use sng_sessions::Sessions;
 use sng_text::ClientId;
 use std::alloc::{AllocError, Global};
 
-/// A DISCONNECT without Duration: the client leaves.
+/// A DISCONNECT without Duration: the client leaves, and what waits for it is gone.
 pub fn leave(
     alloc: Global,
     clock: u64,
@@ -44,6 +45,7 @@ fn left_outs(alloc: Global, sessions: &Sessions, place: usize) -> Result<Outs, A
     let mut outs = Outs::with_capacity(alloc, 2)?;
     outs.push(Out::Note(Decision::Left(sessions.id(place).copy()?)))?;
     outs.push(dismissed(alloc, sessions.address(place))?)?;
+    all_gone(sessions.id(place), sessions.queue(place), &mut outs)?;
     Ok(outs)
 }
 
@@ -103,7 +105,7 @@ fn names_other(client: &Option<ClientId>, own: &ClientId) -> bool
 }
 
 /// The note of a client's message that asks for nothing and is denied.
-fn denied_frame(
+pub fn denied_frame(
     alloc: Global,
     sessions: &Sessions,
     place: usize,
@@ -196,7 +198,7 @@ pub fn no_session(alloc: Global, from: Address, note: Decision) -> Result<Outs, 
 }
 
 /// The same of a message that asks for nothing.
-fn no_session_frame(alloc: Global, from: Address) -> Result<Outs, AllocError>
+pub fn no_session_frame(alloc: Global, from: Address) -> Result<Outs, AllocError>
     ensures { IfOk result (λ outs. outs ≡ stranger_to from ToLeave) }
 {
     let denied = Outcome::Denied(Denial::NoSession);

@@ -1,5 +1,5 @@
 //! A packet of the broker (MQTT 3.1.1, 3.3, 3.4, 3.9 and 4.3.2): what it lets out is planned first, and what
-//! changes cannot fail. A message goes to no client yet.
+//! changes cannot fail.
 ghost use Rattle.std.specs.Prelude.{◌≡◌, ◌∷◌, ◌++◌, ◌<◌, ℕ, [], None, length, map, if◌then◌else◌, IfOk, OnOk, OnErr};
 ghost use Rattle.sng_history.specs.Causes.{ByPacket};
 ghost use Rattle.sng_history.specs.Clients.{without};
@@ -7,14 +7,17 @@ ghost use Rattle.sng_history.specs.Good.{Good};
 ghost use Rattle.sng_history.specs.Packets.{Delivers, Grants, Refuses, subscribe_answer, answer_of, misnamed, dropped};
 ghost use Rattle.sng_history.specs.Steps.{outs_by, next_by};
 ghost use Rattle.sng_sessions.specs.Standing.{client_at};
-ghost use Rattle.sng_core.specs.Refusing.{end_note, end_notes, packet_outs, packet_next};
+ghost use Rattle.sng_core.specs.Refusing.{end_note, end_notes, named_outs, named_kept, packet_outs, packet_next};
+ghost use Rattle.sng_history.specs.Arriving.{sent_at};
 
 use crate::answers::only;
+use crate::deliver::{Incoming, Kept, deliver, keep_all};
+use crate::known::fixed_id;
 use crate::parts::Parts;
 use mqtt_frames::{Packet, Publish, SubscribeAck, SubscribeCode};
 use sng_book::{Decision, Denial, Out, Outcome, Outs, Who};
 use sng_sessions::Sessions;
-use sng_text::{Octets, TopicFilter, TopicName};
+use sng_text::{Qos, TopicFilter, TopicName};
 use std::alloc::{AllocError, Global};
 
 impl Parts {
@@ -54,21 +57,66 @@ impl Parts {
         }
     }
 
-    /// A message: one at QoS 1 is to be acknowledged, where there is a connection.
-    fn deliver(&mut self, alloc: Global, message: Publish) -> Result<Outs, AllocError>
-        ensures outs { IfOk result (λ outs. outs ≡ packet_outs self.old (Delivers message)) }
-        ensures next { OnOk result (self.new ≡ packet_next self.old (Delivers message)) }
+    /// A message goes to the clients to whom it is due; one at QoS 1 is to be acknowledged, where there is a
+    /// connection.
+    fn deliver(&mut self, alloc: Global, publish: Publish) -> Result<Outs, AllocError>
+        ensures outs { IfOk result (λ outs. outs ≡ packet_outs self.old (Delivers publish)) }
+        ensures next { OnOk result (self.new ≡ packet_next self.old (Delivers publish)) }
         ensures err { OnErr result (self.new ≡ self.old) }
     {
-        let owed = owed(self.is_up, message.packet_id);
+        let owed = owed(self.is_up, publish.packet_id);
         let has_place = self.link.has_place();
-        let outs = delivered(alloc, message.name, has_place, owed)?;
+        let mut outs = Outs::new(alloc);
+        let kept = self.delivered(alloc, publish, &mut outs)?;
+        note_dropped(has_place, owed, &mut outs)?;
+        keep_all(kept, &mut self.sessions, self.clock);
         if has_place {
             if let Some(packet_id) = owed {
                 self.link.acknowledge(packet_id);
             }
         }
         Ok(outs)
+    }
+
+    /// What the message lets out for each client, or that its name is none. Answers what is kept of it.
+    fn delivered(
+        &self,
+        alloc: Global,
+        publish: Publish,
+        outs: &mut Outs,
+    ) -> Result<Vec<Kept>, AllocError>
+        ensures outs { OnOk result (outs.new
+            ≡ outs.old ++ (named_outs self.now publish ++ misnamed publish.name)) }
+        ensures kept { IfOk result (λ kept. kept.items ≡ named_kept self.now publish) }
+    {
+        let Publish {
+            dup: _,
+            retain,
+            packet_id,
+            name,
+            payload,
+        } = publish;
+        match TopicName::of_octets(name) {
+            Ok(name) => {
+                // `text` says that the name is one
+                let _text = name.text();
+                let fixed = fixed_id(&self.policy, &name);
+                let qos = sent_at(packet_id);
+                let message = Incoming {
+                    name,
+                    payload,
+                    qos,
+                    retain,
+                    fixed,
+                };
+                let kept = deliver(alloc, &self.policy, &message, &self.sessions, outs)?;
+                Ok(kept)
+            }
+            Err(_) => {
+                outs.push(noted(Denial::BadName))?;
+                Ok(Vec::new(alloc))
+            }
+        }
     }
 
     /// A SUBACK: the broker keeps the subscription, or refuses it.
@@ -168,23 +216,24 @@ fn owed(is_up: bool, packet_id: Option<u16>) -> Option<u16>
     if is_up { packet_id } else { None }
 }
 
-/// A name that is none is noted, and an acknowledgement that finds no place.
-fn delivered(
-    alloc: Global,
-    name: Octets,
-    has_place: bool,
-    owed: Option<u16>,
-) -> Result<Outs, AllocError>
-    ensures { IfOk result (λ outs. outs ≡ misnamed name ++ dropped has_place owed) }
+/// The QoS of a message: it has a packet id at QoS 1.
+fn sent_at(packet_id: Option<u16>) -> Qos
+    ensures { result ≡ sent_at packet_id }
 {
-    let mut outs = Outs::new(alloc);
-    if TopicName::of_octets(name).is_err() {
-        outs.push(noted(Denial::BadName))?;
+    match packet_id {
+        None => Qos::AtMostOnce,
+        Some(_) => Qos::AtLeastOnce,
     }
+}
+
+/// An acknowledgement that finds no place is noted.
+fn note_dropped(has_place: bool, owed: Option<u16>, outs: &mut Outs) -> Result<(), AllocError>
+    ensures { OnOk result (outs.new ≡ outs.old ++ dropped has_place owed) }
+{
     if owed.is_some() && !has_place {
         outs.push(Out::Note(Decision::Outbox))?;
     }
-    Ok(outs)
+    Ok(())
 }
 
 /// The packet is noted as denied, alone.

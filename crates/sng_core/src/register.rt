@@ -48,7 +48,7 @@ pub fn register(
     let msg_id = register.msg_id;
     let judged = judged(policy, sessions, place, register.name)?;
     let outs = noted(alloc, msg_id, sessions, place, &judged)?;
-    tell(clock, judged, sessions, place)?;
+    tell(clock, judged, sessions, place);
     Ok(outs)
 }
 
@@ -185,25 +185,19 @@ fn regack(
     Ok(Out::Send(to, Octets::from(datagram)))
 }
 
-/// The client is heard, and is told the id of the name where that was allowed. An `Err` is a failed
-/// allocation; nothing changed.
-fn tell(clock: u64, judged: Judged, sessions: &mut Sessions, place: usize) -> Result<(), AllocError>
+/// The client is heard, and is told the id of the name where that was allowed. Takes no memory.
+fn tell(clock: u64, judged: Judged, sessions: &mut Sessions, place: usize)
     requires { (name : List ℕ) → judged.name ≡ Some name → judged.outcome ≡ Outcome.Allowed
         → is_full_for name (client_at sessions.old place).ids ≡ false }
-    ensures ok { OnOk result (sessions.new
-        ≡ moved_at place (told_at clock judged.name judged.outcome) sessions.old) }
-    ensures err { OnErr result (sessions.new ≡ sessions.old) }
+    ensures { sessions.new ≡ moved_at place (told_at clock judged.name judged.outcome) sessions.old }
 {
     let Judged { name, outcome } = judged;
     let Some(name) = name else {
         sessions.hear(place, clock);
-        return Ok(());
+        return;
     };
     match outcome {
         Outcome::Allowed => sessions.tell(place, name, clock),
-        Outcome::Denied(_) => {
-            sessions.hear(place, clock);
-            Ok(())
-        }
+        Outcome::Denied(_) => sessions.hear(place, clock),
     }
 }

@@ -1,7 +1,7 @@
 -- Where no subscription ends in a row, nothing is let go of upstream.
 use Rattle.std.proofs.Common.{◌≡◌, ℕ, Bool, true, false, List, [], ◌∷◌, ◌++◌, map, refl, ap, sym, ◌∙◌}
 use Rattle.std.specs.Prelude.{if◌then◌else◌, ◌||◌, not, filter, Option, Some, None}
-use Rattle.std.specs.List.{flat_map}
+use Rattle.std.specs.List.{flat_map, list_any}
 use Rattle.std.specs.Str.{bytes_eq}
 use Rattle.std.proofs.lemmas.List.{append-nil}
 use Rattle.std.proofs.Math.Seq.{drop-nil, take-nil}
@@ -19,21 +19,24 @@ use Rattle.sng_book.specs.declared.decision.Who.TheVariants as who
 use Rattle.sng_book.specs.declared.outcome.Denial.TheVariants.{NotSupported}
 use Rattle.sng_book.specs.declared.outcome.Outcome.{Outcome}
 use Rattle.sng_book.specs.declared.outcome.Outcome.TheVariants.{Allowed, Denied}
-use Rattle.sng_history.specs.Causes.{Request, ToPing, ToLeave, ToRegister, ToPublish, ToSubscribe, ToUnsubscribe, Untaken, Cause, publish_asked}
+use Rattle.sng_history.specs.Causes.{Request, ToPing, ToLeave, ToRegister, ToPublish, ToSubscribe, ToUnsubscribe, ToConfirm, ToAcknowledge, Untaken, Cause, publish_asked}
 use Rattle.sng_history.specs.Causes.{ByMessage}
 use Rattle.sng_history.specs.Requests.{granted}
-use Rattle.sng_history.specs.Clients.{Around, Client, is_here, start_by, subscribed, subscribe_of, note_by, notes_by}
+use Rattle.sng_history.specs.Clients.{Around, Client, is_here, closed, gone, is_confirming, is_acknowledging, start_by, subscribed, subscribe_of, note_by, notes_by}
 use Rattle.sng_history.specs.Links.{Wanted, is_filter_of, wants}
 use Rattle.sng_history.specs.Standing.{holds, is_held, ended, released_from, released, dropped_of, unsubscribes, places_left, still_wanted}
 use Rattle.sng_history.specs.State.{State, around, asked_by, joined}
 use Rattle.sng_history.specs.Verdicts.{ping_verdict, subscribe_ask}
 use Rattle.sng_history.specs.Answers.{denied_note}
-use Rattle.sng_history.specs.Lawful.{denial_of, fixed_to, fixed_for}
+use Rattle.sng_history.specs.Outgoing.{all_gone, out_of_turn, handed_over}
+use Rattle.sng_history.specs.Lawful.{denial_of, confirmations, fixed_to, fixed_for}
 use Rattle.sng_history.specs.Steps.{newcomers_for, client_next, clients_next, asked_by_all, asked_for, next_by}
 use Rattle.sng_history.specs.Good.{Good}
 use Rattle.sng_history.proofs.Own.{same_self}
+use Rattle.sng_history.proofs.Steady.{start_filters}
+use Rattle.sng_history.proofs.Hands.{Every, OfMessages, every_handed, every_gone, every_confirmation, Calm, messages_calm, notes_calm}
 use Rattle.sng_history.proofs.Asks.{of_register, of_publish, of_unsubscribe}
-use Rattle.sng_history.proofs.Filters.{subscribe_verdict, ask_cases, start_filters}
+use Rattle.sng_history.proofs.Filters.{subscribe_verdict, ask_cases}
 use Rattle.sng_history.proofs.Holding.{or_follows, with_stands}
 use Rattle.sng_history.proofs.Says.{drops_for}
 
@@ -43,18 +46,25 @@ or_right : (a b : Bool) → b ≡ true → (a || b) ≡ true
 or_right true b is = refl
 or_right false b is = is
 
+-- each of these is among all of them, by its text
+abbrev pub EachAmong : {A : Type 0} → (List ℕ → A → Bool) → (A → List ℕ) → List A → List A → Type 0
+EachAmong has text all [] = Unit {0}
+EachAmong has text all (x ∷ xs) = (list_any (has (text x)) all ≡ true) × EachAmong has text all xs
+
+among_more : {A : Type 0} (has : List ℕ → A → Bool) (text : A → List ℕ) (y : A) (all xs : List A) → EachAmong has text all xs → EachAmong has text (y ∷ all) xs
+among_more has text y all [] each = tt
+among_more has text y all (x ∷ xs) each = (or_right (has (text x) y) (list_any (has (text x)) all) each.0, among_more has text y all xs each.1)
+
+each_among : {A : Type 0} (has : List ℕ → A → Bool) (text : A → List ℕ) → ((x : A) → has (text x) x ≡ true) → (xs : List A) → EachAmong has text xs xs
+each_among has text own [] = tt
+each_among has text own (x ∷ xs) = (ap (λ b. b || list_any (has (text x)) xs) (own x), among_more has text x xs xs (each_among has text own xs))
+
 -- each of these stands among them
 abbrev pub EachIn : List Held → List Held → Type 0
-EachIn all [] = Unit {0}
-EachIn all (h ∷ held) = (stands all h.filter ≡ true) × EachIn all held
-
-in_more : (g : Held) (all held : List Held) → EachIn all held → EachIn (g ∷ all) held
-in_more g all [] each = tt
-in_more g all (h ∷ held) each = (or_right (has_text h.filter g) (stands all h.filter) each.0, in_more g all held each.1)
+EachIn all held = EachAmong has_text (λ h. h.filter) all held
 
 pub each_in : (held : List Held) → EachIn held held
-each_in [] = tt
-each_in (h ∷ held) = (ap (λ b. b || stands held h.filter) (same_self h.filter), in_more h held held (each_in held))
+each_in held = each_among has_text (λ h. h.filter) (λ h. same_self h.filter) held
 
 -- what stood stands still
 abbrev pub Keeps : Client → Client → Type 0
@@ -76,16 +86,10 @@ none_released f earlier (x ∷ xs) keeps =
 
 -- each of these is wanted
 abbrev pub EachWanted : List Wanted → List Wanted → Type 0
-EachWanted all [] = Unit {0}
-EachWanted all (w ∷ wanted) = (wants all w.filter ≡ true) × EachWanted all wanted
-
-wanted_more : (v : Wanted) (all wanted : List Wanted) → EachWanted all wanted → EachWanted (v ∷ all) wanted
-wanted_more v all [] each = tt
-wanted_more v all (w ∷ wanted) each = (or_right (is_filter_of w.filter v) (wants all w.filter) each.0, wanted_more v all wanted each.1)
+EachWanted all wanted = EachAmong is_filter_of (λ w. w.filter) all wanted
 
 pub each_wanted : (wanted : List Wanted) → EachWanted wanted wanted
-each_wanted [] = tt
-each_wanted (w ∷ wanted) = (ap (λ b. b || wants wanted w.filter) (same_self w.filter), wanted_more w wanted wanted (each_wanted wanted))
+each_wanted wanted = each_among is_filter_of (λ w. w.filter) (λ w. same_self w.filter) wanted
 
 pub all_still : (after : List Client) (all wanted : List Wanted) → ((text : List ℕ) → wants all text ≡ true → is_held after text ≡ true) → EachWanted all wanted → still_wanted after wanted ≡ wanted
 all_still after all [] held each = refl
@@ -172,16 +176,30 @@ is_still (ToUnsubscribe r) = false
 is_still (ToPing client) = true
 is_still ToLeave = true
 is_still (ToRegister r) = true
+is_still (ToConfirm r) = true
+is_still (ToAcknowledge r) = true
 is_still (ToPublish p) = true
 is_still (Untaken message) = true
 
+-- notes of messages move no filters
+calm_still : (a : Around) (x : Client) (notes : List Decision) → Every (Calm a) notes → (notes_by a notes x).filters ≡ x.filters
+calm_still a x notes every = (notes_calm a notes x every).filters
+
+turn_still : (a : Around) (turn : Bool) (x : Client) (notes : List Decision) → Every (Calm a) notes
+    → (notes_by a (if turn then notes else out_of_turn x.id) (start_by a x)).filters ≡ x.filters
+turn_still a true x notes every = calm_still a (start_by a x) notes every ∙ start_filters a x
+turn_still a false x notes every = start_filters a x
+
 still_to : (a : Around) (s : State) (request : Request) (x : Client) → is_still request ≡ true → (notes_by a (fixed_to s request x) (start_by a x)).filters ≡ x.filters
 still_to a s (ToPing client) x is = denial_still a x (ping_verdict client x)
-still_to a s ToLeave x is = start_filters a x
+still_to a s ToLeave x is = calm_still a (gone (start_by a x)) (all_gone x.id x.buffer.waiting) (every_gone (Calm a) x.id x.buffer.waiting (messages_calm a x.id)) ∙ start_filters a x
 still_to a s (ToRegister r) x is = of_register (Still a x) s.policy x r.name (λ name o. start_filters a x)
 still_to a s (ToPublish p) x is = of_publish (Still a x) s x p (λ name o. start_filters a x)
 still_to a s (ToSubscribe r) x is = absurd cc
 still_to a s (ToUnsubscribe r) x is = absurd cc
+still_to a s (ToConfirm r) x is = turn_still a (is_confirming r x) x (confirmations s.policy r x) (every_confirmation (Calm a) s.policy r x (messages_calm a x.id))
+still_to a s (ToAcknowledge r) x is =
+    turn_still a (is_acknowledging r x) x (handed_over s.policy (closed x)) (every_handed (Calm a) s.policy (closed x) (messages_calm a x.id))
 still_to a s (Untaken message) x is = ap (λ y. y.filters) (denied_stays a (start_by a x) x.id message) ∙ start_filters a x
 
 still_if : (a : Around) (s : State) (request : Request) (x : Client) (here : Bool) → is_still request ≡ true
@@ -224,6 +242,8 @@ is_quiet (ToSubscribe r) = false
 is_quiet (ToPing client) = true
 is_quiet ToLeave = true
 is_quiet (ToRegister r) = true
+is_quiet (ToConfirm r) = true
+is_quiet (ToAcknowledge r) = true
 is_quiet (ToUnsubscribe r) = true
 is_quiet (Untaken message) = true
 
@@ -257,13 +277,30 @@ denial_asks : (id : List ℕ) (o : Outcome) → asked_by_all None (denial_of id 
 denial_asks id Allowed = refl
 denial_asks id (Denied rule) = refl
 
+-- notes of messages ask for nothing
+abbrev Quiet : Decision → Type 0
+Quiet said = asked_by None said ≡ []
+
+messages_quiet : (client : List ℕ) → OfMessages Quiet client
+messages_quiet client = record { announces = λ name. refl; hands = λ name o. refl }
+
+all_quiet : (notes : List Decision) → Every Quiet notes → asked_by_all None notes ≡ []
+all_quiet [] every = refl
+all_quiet (said ∷ notes) every = rw (every.0, all_quiet notes every.1) refl
+
+turn_asks : (turn : Bool) (id : List ℕ) (notes : List Decision) → Every Quiet notes → asked_by_all None (if turn then notes else out_of_turn id) ≡ []
+turn_asks true id notes every = all_quiet notes every
+turn_asks false id notes every = refl
+
 request_asks : (s : State) (request : Request) (x : Client) → is_quiet request ≡ true → asked_by_all (publish_asked request) (fixed_to s request x) ≡ []
 request_asks s (ToPing client) x is = denial_asks x.id (ping_verdict client x)
-request_asks s ToLeave x is = refl
+request_asks s ToLeave x is = all_quiet (all_gone x.id x.buffer.waiting) (every_gone Quiet x.id x.buffer.waiting (messages_quiet x.id))
 request_asks s (ToRegister r) x is = of_register (λ said. asked_by_all None (said ∷ []) ≡ []) s.policy x r.name (λ name o. refl)
 request_asks s (ToPublish p) x is = absurd cc
 request_asks s (ToSubscribe r) x is = absurd cc
 request_asks s (ToUnsubscribe r) x is = of_unsubscribe (λ said. asked_by_all None (said ∷ []) ≡ []) s.policy x r (λ filter o. refl)
+request_asks s (ToConfirm r) x is = turn_asks (is_confirming r x) x.id (confirmations s.policy r x) (every_confirmation Quiet s.policy r x (messages_quiet x.id))
+request_asks s (ToAcknowledge r) x is = turn_asks (is_acknowledging r x) x.id (handed_over s.policy (closed x)) (every_handed Quiet s.policy (closed x) (messages_quiet x.id))
 request_asks s (Untaken message) x is = ap (λ items. items ++ []) (denied_asks message x.id)
 
 asks_if : (p : Option Publish) (b : Bool) (notes : List Decision) → asked_by_all p notes ≡ [] → asked_by_all p (if b then notes else []) ≡ []

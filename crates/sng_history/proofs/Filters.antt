@@ -25,10 +25,10 @@ use Rattle.sng_book.specs.declared.outcome.Place.TheVariants as place
 use Rattle.sng_book.specs.declared.outcome.Outcome.{Outcome}
 use Rattle.sng_book.specs.declared.outcome.Outcome.TheVariants.{Allowed, Denied}
 use Rattle.sng_ids.specs.Ids.{is_full_for}
-use Rattle.sng_history.specs.Causes.{Request, ToPing, ToLeave, ToRegister, ToPublish, ToSubscribe, ToUnsubscribe, Untaken, Cause}
+use Rattle.sng_history.specs.Causes.{Request, ToPing, ToLeave, ToRegister, ToPublish, ToSubscribe, ToUnsubscribe, ToConfirm, ToAcknowledge, Untaken, Cause}
 use Rattle.sng_history.specs.Causes.{ByConnect, ByMessage, BySource, ByBroken, ByPacket, ByUp, ByDown, ByTake, ByReplace, ByTick}
 use Rattle.sng_history.specs.Requests.{granted, gets_id}
-use Rattle.sng_history.specs.Clients.{Around, Client, blank, is_here, is_author, start_by, cleaned, entered_by, subscribed, unsubscribed, without, subscribe_of, note_by, notes_by}
+use Rattle.sng_history.specs.Clients.{Around, Client, blank, is_here, start_by, cleaned, entered_by, subscribed, unsubscribed, without, subscribe_of, note_by, notes_by}
 use Rattle.sng_history.specs.Packets.{has_place}
 use Rattle.sng_history.specs.State.{State, around, policy_by, is_known}
 use Rattle.sng_history.specs.Verdicts.{coverage, and_then, may_ask, filter_in, subscribe_room_in, subscribe_room, subscribe_named, subscribe_by, subscribe_ask, entry}
@@ -36,6 +36,8 @@ use Rattle.sng_history.specs.Lawful.{end_of, ends_under, fixed_for}
 use Rattle.sng_history.specs.Steps.{newcomers_for, client_next, clients_next}
 use Rattle.sng_history.specs.Good.{Each, AllCovered, Good}
 use Rattle.sng_history.proofs.Own.{same_self, same_means, each_with, each_map, each_append, each_mapped}
+use Rattle.sng_history.proofs.Steady.{start_steady, handed_steady}
+pub use Rattle.sng_history.proofs.Steady.{start_filters}
 use Rattle.sng_history.proofs.Kept.{client_id}
 use Rattle.sng_history.proofs.Waiting.{allowed_second, up_room}
 
@@ -85,7 +87,7 @@ kept_note P l a (note.Register whom name outcome) x quiet p = p
 kept_note P l a (note.Publish whom name outcome) x quiet p = p
 kept_note P l a (note.Will whom name outcome) x quiet p = p
 kept_note P l a (note.Announce id name) x quiet p = p
-kept_note P l a (note.Hand id name outcome) x quiet p = p
+kept_note P l a (note.Hand id name outcome) x quiet p = subst P (sym (handed_steady a name outcome x).filters) p
 kept_note P l a (note.Retry id name outcome) x quiet p = p
 kept_note P l a (note.Forward whom name outcome) x quiet p = p
 kept_note P l a (note.Again whom name outcome) x quiet p = p
@@ -98,7 +100,7 @@ kept_notes P l a [] x quiet p = p
 kept_notes P l a (said ∷ notes) x quiet p = kept_notes P l a notes (note_by a said x) quiet (kept_note P l a said x quiet p)
 
 start_kept : (P : List Held → Type 0) (a : Around) (x : Client) → Kept P x (start_by a x)
-start_kept P a x p = kept_if P (is_author a.cause x) x (record x { heard = a.clock }) (λ q. q) p
+start_kept P a x p = subst P (sym (start_steady a x).filters) p
 
 -- whatever the row, where it is no SUBSCRIBE
 pub kept_next : (P : List Held → Type 0) → Lasting P → (s : State) (c : Cause) (x : Client) → subscribe_of c ≡ None → Kept P x (client_next s c x)
@@ -327,13 +329,6 @@ fit_standing s x y r text Allowed same is fit =
     let may = may_stand s x r text is in
     rw same (once_more x.filters text (granted r.flags.qos) may.fits fit.0, covered_more s.policy x.id x.filters text (granted r.flags.qos) may.covers fit.1)
 
-pub start_filters : (a : Around) (x : Client) → (start_by a x).filters ≡ x.filters
-start_filters a x = filters_by (is_author a.cause x) a x
-  where
-    filters_by : (b : Bool) (a : Around) (x : Client) → (let z : Client = if b then record x { heard = a.clock } else x in z).filters ≡ x.filters
-    filters_by true a x = refl
-    filters_by false a x = refl
-
 abbrev Fits : Policy → List ℕ → Client → Type 0
 Fits policy client y = IsOneClients y.filters × AllCovered policy client y.filters
 
@@ -363,6 +358,8 @@ message_fit s from ToLeave x fit = quiet_fit s (ByMessage from ToLeave) x refl f
 message_fit s from (ToRegister r) x fit = quiet_fit s (ByMessage from (ToRegister r)) x refl fit
 message_fit s from (ToPublish p) x fit = quiet_fit s (ByMessage from (ToPublish p)) x refl fit
 message_fit s from (ToUnsubscribe r) x fit = quiet_fit s (ByMessage from (ToUnsubscribe r)) x refl fit
+message_fit s from (ToConfirm r) x fit = quiet_fit s (ByMessage from (ToConfirm r)) x refl fit
+message_fit s from (ToAcknowledge r) x fit = quiet_fit s (ByMessage from (ToAcknowledge r)) x refl fit
 message_fit s from (Untaken message) x fit = quiet_fit s (ByMessage from (Untaken message)) x refl fit
 
 replaced_fit : (s : State) (policy : Policy) (x : Client) → Fit s.policy x → Fit policy (client_next s (ByReplace policy) x)

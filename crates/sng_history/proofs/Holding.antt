@@ -22,22 +22,25 @@ use Rattle.sng_book.specs.declared.outcome.Denial.{Denial}
 use Rattle.sng_book.specs.declared.outcome.Denial.TheVariants.{NotSupported}
 use Rattle.sng_book.specs.declared.outcome.Outcome.{Outcome}
 use Rattle.sng_book.specs.declared.outcome.Outcome.TheVariants.{Allowed, Denied}
-use Rattle.sng_history.specs.Causes.{Request, ToPing, ToLeave, ToRegister, ToPublish, ToSubscribe, ToUnsubscribe, Untaken, Cause, publish_asked}
+use Rattle.sng_history.specs.Causes.{Request, ToPing, ToLeave, ToRegister, ToPublish, ToSubscribe, ToUnsubscribe, ToConfirm, ToAcknowledge, Untaken, Cause, publish_asked}
 use Rattle.sng_history.specs.Causes.{ByConnect, ByMessage, BySource, ByBroken, ByPacket, ByUp, ByDown, ByTake, ByReplace, ByTick}
 use Rattle.sng_history.specs.Requests.{granted}
-use Rattle.sng_history.specs.Clients.{Client, is_here, start_by, subscribed, subscribe_of, note_by, notes_by}
+use Rattle.sng_history.specs.Clients.{Client, is_here, closed, is_confirming, is_acknowledging, start_by, subscribed, subscribe_of, note_by, notes_by}
 use Rattle.sng_history.specs.Links.{Wanted, wants}
 use Rattle.sng_history.specs.Packets.{answer_of, answered}
 use Rattle.sng_history.specs.Standing.{holds, is_held, still_wanted}
 use Rattle.sng_history.specs.State.{State, around, item_for, item_asked, subscribe_item, asked_by, qos_of, link_moved}
 use Rattle.sng_history.specs.Verdicts.{ping_verdict, subscribe_ask}
 use Rattle.sng_history.specs.Answers.{denied_note}
-use Rattle.sng_history.specs.Lawful.{denial_of, fixed_to, fixed_for, exits_for}
+use Rattle.sng_history.specs.Outgoing.{out_of_turn, handed_over}
+use Rattle.sng_history.specs.Lawful.{denial_of, confirmations, fixed_to, fixed_for, exits_for}
 use Rattle.sng_history.specs.Steps.{newcomers_for, client_next, clients_next, asked_by_all, asked_for, next_by}
 use Rattle.sng_history.specs.Good.{Each, Good}
 use Rattle.sng_history.proofs.Own.{same_means, flip}
 use Rattle.sng_history.proofs.Asks.{of_register, of_publish, of_unsubscribe}
-use Rattle.sng_history.proofs.Filters.{Lasting, kept_next, subscribe_verdict, ask_cases, start_filters, Unheld, newcomers_unheld}
+use Rattle.sng_history.proofs.Hands.{Every, OfMessages, every_handed, every_gone, every_confirmation}
+use Rattle.sng_history.proofs.Steady.{start_filters}
+use Rattle.sng_history.proofs.Filters.{Lasting, kept_next, subscribe_verdict, ask_cases, Unheld, newcomers_unheld}
 use Rattle.sng_history.proofs.Wanted.{or_no, or_back, swap, joins, implied, same_wants, wants_kept, moved_wanted, subscribes, subscribes_both, joined_wants}
 
 -- ---- among clients
@@ -106,6 +109,8 @@ is_other ToLeave = true
 is_other (ToRegister r) = true
 is_other (ToPublish p) = true
 is_other (ToUnsubscribe r) = true
+is_other (ToConfirm r) = true
+is_other (ToAcknowledge r) = true
 is_other (Untaken message) = true
 
 abbrev Unsubscribing : Option Publish → Decision → Type 0
@@ -146,8 +151,7 @@ denied_none (frame.WillMessageUpdate message) client text = refl
 denied_none (frame.WillMessageResponse code) client text = refl
 
 abbrev AllUnsubscribing : Option Publish → List Decision → Type 0
-AllUnsubscribing p [] = Unit {0}
-AllUnsubscribing p (said ∷ notes) = Unsubscribing p said × AllUnsubscribing p notes
+AllUnsubscribing p notes = Every (Unsubscribing p) notes
 
 unasked : (p : Option Publish) (notes : List Decision) (text : List ℕ) → AllUnsubscribing p notes → subscribes (asked_by_all p notes) text ≡ false
 unasked p [] text all = refl
@@ -158,13 +162,23 @@ denial_none : (id : List ℕ) (o : Outcome) → AllUnsubscribing None (denial_of
 denial_none id Allowed = tt
 denial_none id (Denied rule) = (λ text. refl, tt)
 
+messages_none : (client : List ℕ) → OfMessages (Unsubscribing None) client
+messages_none client = record { announces = λ name text. refl; hands = λ name o text. refl }
+
+turn_none : (turn : Bool) (id : List ℕ) (notes : List Decision) → AllUnsubscribing None notes → AllUnsubscribing None (if turn then notes else out_of_turn id)
+turn_none true id notes all = all
+turn_none false id notes all = (λ text. refl, tt)
+
 request_none : (s : State) (request : Request) (x : Client) → is_other request ≡ true → AllUnsubscribing (publish_asked request) (fixed_to s request x)
 request_none s (ToPing client) x is = denial_none x.id (ping_verdict client x)
-request_none s ToLeave x is = (λ text. refl, tt)
+request_none s ToLeave x is = (λ text. refl, every_gone (Unsubscribing None) x.id x.buffer.waiting (messages_none x.id))
 request_none s (ToRegister r) x is = (of_register (Unsubscribing None) s.policy x r.name (λ name o text. refl), tt)
 request_none s (ToPublish p) x is = (of_publish (Unsubscribing (Some p)) s x p (λ name o text. publish_item_none x.id name o p text), tt)
 request_none s (ToSubscribe r) x is = absurd cc
 request_none s (ToUnsubscribe r) x is = (of_unsubscribe (Unsubscribing None) s.policy x r (λ filter o text. refl), tt)
+request_none s (ToConfirm r) x is = turn_none (is_confirming r x) x.id (confirmations s.policy r x) (every_confirmation (Unsubscribing None) s.policy r x (messages_none x.id))
+request_none s (ToAcknowledge r) x is =
+    turn_none (is_acknowledging r x) x.id (handed_over s.policy (closed x)) (every_handed (Unsubscribing None) s.policy (closed x) (messages_none x.id))
 request_none s (Untaken message) x is = (denied_none message x.id, tt)
 
 all_none : (f : Client → List Item) (xs : List Client) (text : List ℕ) → ((x : Client) → subscribes (f x) text ≡ false) → subscribes (flat_map f xs) text ≡ false
@@ -274,6 +288,8 @@ message_wanted s from ToLeave text held = other_wanted s from ToLeave text refl 
 message_wanted s from (ToRegister r) text held = other_wanted s from (ToRegister r) text refl refl held
 message_wanted s from (ToPublish p) text held = other_wanted s from (ToPublish p) text refl refl held
 message_wanted s from (ToUnsubscribe r) text held = other_wanted s from (ToUnsubscribe r) text refl refl held
+message_wanted s from (ToConfirm r) text held = other_wanted s from (ToConfirm r) text refl refl held
+message_wanted s from (ToAcknowledge r) text held = other_wanted s from (ToAcknowledge r) text refl refl held
 message_wanted s from (Untaken message) text held = other_wanted s from (Untaken message) text refl refl held
 
 -- a client of whom nothing is noted is heard at most

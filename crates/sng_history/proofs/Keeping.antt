@@ -1,6 +1,6 @@
 -- A step keeps a history lawful and leads to the next state, and a row is lawful only if its outs are those of the step.
 use Rattle.std.proofs.Common.{◌≡◌, List, [], ◌∷◌, ◌++◌, map, refl, ap, sym, ◌∙◌, subst}
-use Rattle.std.specs.Prelude.{if◌then◌else◌, Some}
+use Rattle.std.specs.Prelude.{drop, if◌then◌else◌, Some}
 use Rattle.std.specs.List.{flat_map}
 use Rattle.std.specs.Str.{bytes_eq}
 use Rattle.std.proofs.lemmas.List.{append-nil}
@@ -15,13 +15,13 @@ use Rattle.sng_book.specs.declared.event.Event.{Event}
 use Rattle.sng_book.specs.declared.out.Out.{Out}
 use Rattle.sng_book.specs.declared.out.Out.TheVariants.{Note}
 use Rattle.sng_history.specs.Causes.{Cause, cause_of, ByConnect, ByMessage, BySource, ByBroken, ByPacket, ByUp, ByDown, ByTake, ByReplace, ByTick}
-use Rattle.sng_history.specs.Clients.{Client, client_by}
+use Rattle.sng_history.specs.Clients.{Client, let_in, client_by}
 use Rattle.sng_history.specs.Notes.{notes_of}
 use Rattle.sng_history.specs.State.{State, around, after, state_of, present_in, newcomers, clients_by, asked_by, asked_in}
 use Rattle.sng_history.specs.Packets.{answer_of, answer_outs}
 use Rattle.sng_history.specs.Standing.{Release, released, dropped_of}
 use Rattle.sng_history.specs.Verdicts.{entry, source_ask}
-use Rattle.sng_history.specs.Whole.{Notes, notes_in, part, any_from, stranger_to, moved_by, drops, client_rows, frame_row, beside, entry_outs, whole_by}
+use Rattle.sng_history.specs.Whole.{Notes, notes_in, spell, part, any_from, stranger_to, moved_by, drops, client_rows, frame_row, beside, entering_part, entry_outs, whole_by}
 use Rattle.sng_history.specs.Lawful.{LawfulBy, LawfulRow, EachLawful, Keeps, fixed_for}
 use Rattle.sng_history.specs.Steps.{notes_for, outs_by, outs_of, newcomers_for, client_next, clients_next, asked_for, next_by, next_of}
 use Rattle.sng_history.specs.Good.{Each, Good}
@@ -62,7 +62,11 @@ entry_same s from connect m n Allowed same =
     let parts : flat_map (beside a m id) s.clients ≡ flat_map (beside a n id) s.clients =
     flat_same (beside a m id) (beside a n id) s.clients
     (each_map (λ x. m.of x ≡ n.of x) (λ x. beside a m id x ≡ beside a n id x) s.clients (λ x is. ap (λ notes. if bytes_eq id x.id then [] else part a [] notes x) is) same) in
-    rw (parts, drops_same s c m n same) refl
+    let own : flat_map (entering_part a m from connect) s.clients ≡ flat_map (entering_part a n from connect) s.clients =
+    flat_same (entering_part a m from connect) (entering_part a n from connect) s.clients
+    (each_map (λ x. m.of x ≡ n.of x) (λ x. entering_part a m from connect x ≡ entering_part a n from connect x) s.clients
+    (λ x is. ap (λ notes. if bytes_eq id x.id then spell a [] (let_in a.clock from connect x) (drop 1 notes) else []) is) same) in
+    rw (parts, own, drops_same s c m n same) refl
 entry_same s from connect m n (Denied rule) same = refl
 
 take_same : (s : State) (m n : Notes) → m.exits ≡ n.exits → whole_by s ByTake m ≡ whole_by s ByTake n
@@ -80,7 +84,7 @@ whole_same s ByDown m n exits same = refl
 whole_same s (ByReplace policy) m n exits same = both_same s (ByReplace policy) m n same
 whole_same s (ByTick clock) m n exits same = refl
 
-each_left : (P : Client → Type 0) (xs ys : List Client) → Each P (xs ++ ys) → Each P xs
+pub each_left : (P : Client → Type 0) (xs ys : List Client) → Each P (xs ++ ys) → Each P xs
 each_left P [] ys all = tt
 each_left P (x ∷ xs) ys all = (all.0, each_left P xs ys all.1)
 

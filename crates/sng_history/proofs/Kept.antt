@@ -13,12 +13,13 @@ use Rattle.sng_book.specs.declared.address.Address.{Address}
 use Rattle.sng_book.specs.declared.decision.Decision.{Decision}
 use Rattle.sng_book.specs.declared.decision.Decision.TheVariants as note
 use Rattle.sng_history.specs.Causes.{Cause, ByConnect, ByMessage, BySource, ByBroken, ByPacket, ByUp, ByDown, ByTake, ByReplace, ByTick}
-use Rattle.sng_history.specs.Clients.{Around, Client, blank, is_author, start_by, cleaned, let_in, entered_by, subscribed, subscribe_of, unsubscribed, note_by, notes_by, client_by}
+use Rattle.sng_history.specs.Clients.{Around, Client, blank, start_by, cleaned, let_in, entered_by, subscribed, subscribe_of, unsubscribed, note_by, notes_by, client_by}
 use Rattle.sng_history.specs.State.{State, is_known}
 use Rattle.sng_history.specs.Verdicts.{entry}
 use Rattle.sng_history.specs.Steps.{newcomers_for}
 use Rattle.sng_history.specs.Good.{Away, Distinct}
 use Rattle.sng_history.proofs.Own.{flip}
+use Rattle.sng_history.proofs.Steady.{start_steady, handed_steady}
 
 cleaned_id : (clean : Bool) (x : Client) → (cleaned clean x).id ≡ x.id
 cleaned_id true x = refl
@@ -62,6 +63,7 @@ note_id a (note.Register whom name outcome) x = refl
 note_id a (note.Subscribe whom filter outcome) x = subscribed_id (subscribe_of a.cause) filter outcome x
 note_id a (note.Unsubscribe whom filter outcome) x = unsubscribed_id filter outcome x
 note_id a (note.End id filter outcome) x = refl
+note_id a (note.Hand id name outcome) x = (handed_steady a name outcome x).id
 note_id a _ x = refl
 
 notes_id : (a : Around) (notes : List Decision) (x : Client) → (notes_by a notes x).id ≡ x.id
@@ -69,7 +71,7 @@ notes_id a [] x = refl
 notes_id a (said ∷ notes) x = notes_id a notes (note_by a said x) ∙ note_id a said x
 
 pub client_id : (a : Around) (notes : List Decision) (x : Client) → (client_by a notes x).id ≡ x.id
-client_id a notes x = notes_id a notes (start_by a x) ∙ if_id (is_author a.cause x) (record x { heard = a.clock }) x refl
+client_id a notes x = notes_id a notes (start_by a x) ∙ (start_steady a x).id
 
 -- ---- ids
 

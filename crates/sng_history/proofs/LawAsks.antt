@@ -1,9 +1,6 @@
--- What a client asks for is judged by the law's tables, and answered so; and what a packet of the broker lets out.
+-- What a client asks for is judged by the law's tables, and answered so.
 use Rattle.std.proofs.Common.{◌≡◌, ℕ, zero, suc, ◌+◌, Bool, true, false, List, [], ◌∷◌, ◌++◌, length, refl, ap, sym, ◌∙◌, if◌then◌else◌, arith}
-use Rattle.std.specs.Prelude.{◌&&◌, not, nat_lt, nat_le, filter, count_by, slice_get, Option, Some, None, is_none, is_some}
-use Rattle.std.specs.List.{position_or_len, find, flat_map}
-use Rattle.std.specs.Option.{option_map}
-use Rattle.std.specs.Str.{bytes_eq}
+use Rattle.std.specs.Prelude.{◌&&◌, not, nat_lt, nat_le, filter, count_by, slice_get, Option, Some, None}
 use Rattle.std.proofs.lemmas.Bool.Decides.{nat_tests}
 use Rattle.std.proofs.lemmas.List.{append-nil}
 use Rattle.std.proofs.lemmas.List.Sums.{sum_by-append}
@@ -11,10 +8,6 @@ use Rattle.sng_text.specs.Texts.{is_name}
 use Rattle.sng_grants.specs.Sources.{scope_of}
 use Rattle.sng_grants.specs.declared.policy.Policy.{Policy}
 use Rattle.sng_policy.specs.Grants.{lists, topic}
-use Rattle.mqtt_frames.specs.declared.packet.SubscribeCode.{SubscribeCode}
-use Rattle.mqtt_frames.specs.declared.packet.SubscribeCode.TheVariants as code
-use Rattle.mqtt_frames.specs.declared.packet.Packet.{Packet}
-use Rattle.mqtt_frames.specs.declared.packet.Packet.TheVariants as packet
 use Rattle.sng_ids.specs.Ids.{id_for, name_of, is_full_for}
 use Rattle.sng_frames.specs.declared.flags.TopicIdType.{TopicIdType}
 use Rattle.sng_frames.specs.declared.flags.TopicIdType.TheVariants.{Normal, Predefined, Short, Reserved}
@@ -32,28 +25,22 @@ use Rattle.sng_book.specs.declared.decision.Decision.TheVariants as note
 use Rattle.sng_book.specs.declared.decision.Who.TheVariants as who
 use Rattle.sng_book.specs.declared.outcome.IdKind.TheVariants as kind
 use Rattle.sng_book.specs.declared.outcome.Place.TheVariants as place
-use Rattle.sng_book.specs.declared.outcome.Denial.TheVariants.{NoScope, BadName, IdType, UnknownId, MissingPub, BrokerRefused, OutOfTurn, UpstreamDown, Full}
+use Rattle.sng_book.specs.declared.outcome.Denial.TheVariants.{NoScope, BadName, IdType, UnknownId, MissingPub, OutOfTurn, UpstreamDown, Full}
 use Rattle.sng_book.specs.declared.outcome.Outcome.{Outcome}
 use Rattle.sng_book.specs.declared.outcome.Outcome.TheVariants.{Allowed, Denied}
-use Rattle.sng_fan.specs.Subscriptions.{stands}
-use Rattle.sng_book.specs.declared.out.Out.{Out}
 use Rattle.sng_book.specs.declared.out.Out.TheVariants.{Note}
 use Rattle.sng_book.specs.declared.row.Row.{Row}
-use Rattle.sng_history.specs.Causes.{ByMessage, ByPacket, ToRegister, ToPublish}
+use Rattle.sng_history.specs.Causes.{ByMessage, ToRegister, ToPublish}
 use Rattle.sng_history.specs.Clients.{Client, is_here}
-use Rattle.sng_history.specs.Packets.{subscribe_answer, answer_of, misnamed, dropped, filter_open, refused_filter, answer_outs}
-use Rattle.sng_history.specs.Links.{Wanted, has_id, is_open}
-use Rattle.sng_history.specs.Lawful.{refused_end}
-use Rattle.sng_history.specs.ViewsStanding.{standing_of, is_its, is_answered, is_refusal, filter_with, wanted}
-use Rattle.sng_history.proofs.Own.{each_map}
-use Rattle.sng_history.proofs.LawEnds.{flat_ids}
-use Rattle.sng_history.specs.State.{State, around, qos_of}
-use Rattle.sng_history.specs.Standing.{Release, holds}
+use Rattle.sng_history.specs.Packets.{dropped}
+use Rattle.sng_history.specs.State.{State, qos_of}
+use Rattle.sng_history.specs.Standing.{Release}
 use Rattle.sng_history.specs.Verdicts.{and_then, exit, verdict, has_flight, octets_of, name_in, is_active, register_ask, publish_ask, publish_named}
 use Rattle.sng_history.specs.Whole.{spell, replied, stranger_to, drops, frame_row}
-use Rattle.sng_history.specs.Steps.{notes_for, outs_by}
+use Rattle.sng_history.specs.Steps.{notes_for}
 use Rattle.sng_history.specs.Views.{policy_in_force}
-use Rattle.sng_history.specs.ViewsClients.{phase_of, is_among, names_told, those_at}
+use Rattle.sng_history.specs.ViewsHanding.{names_known}
+use Rattle.sng_history.specs.ViewsClients.{phase_of, is_among, names_told, those_at, id_told}
 use Rattle.sng_history.specs.ViewsLink.{waiting, publications}
 use Rattle.sng_history.specs.LawsState.{ClientShown}
 use Rattle.sng_history.specs.ViewsFlight.{in_flight}
@@ -61,10 +48,10 @@ use Rattle.sng_history.specs.LawsRules.{Rule, judged, may_publish}
 use Rattle.sng_history.specs.LawsAnswers as laws
 use Rattle.sng_history.specs.LawsAnswers.{answer_to, is_bad_short, is_nameless, or_empty}
 use Rattle.sng_history.specs.LawsAsks as asks
-use Rattle.sng_history.specs.LawsAsks.{register_rules, id_told, regack, register_stranger, register_answer, is_acknowledged, is_reserved, told_as, is_untold, name_meant, unacknowledged, session_rules, puback, publish_stranger, publish_answer, suback_answer, packet_answer}
+use Rattle.sng_history.specs.LawsAsks.{register_rules, regack, register_stranger, register_answer, is_acknowledged, is_reserved, told_as, is_untold, name_meant, unacknowledged, session_rules, puback, publish_stranger, publish_answer}
 use Rattle.sng_history.proofs.Places.{here_is}
 use Rattle.sng_history.proofs.SeenClients.{heard_if}
-use Rattle.sng_history.proofs.SeenIds.{known, length_known, place_known, id_known}
+use Rattle.sng_history.proofs.Marked.{marked, id_marked, full_marked}
 use Rattle.sng_history.proofs.SeenState.{StateShown}
 use Rattle.sng_history.proofs.LawRules.{exit_ruled}
 use Rattle.sng_history.proofs.LawHere.{row_answer, each_part}
@@ -86,14 +73,6 @@ listed_exit policy id name listed =
 
 pub most_by : (n m : ℕ) → nat_le m n ≡ not (nat_lt n m)
 most_by n m = grind (arith, nat_tests)
-
-none_if : (b : Bool) (n : ℕ) → is_none (let o : Option ℕ = if b then Some n else None in o) ≡ not b
-none_if true n = refl
-none_if false n = refl
-
-pub full_known : (name : List ℕ) (names : List (List ℕ)) → is_full_for name (known names) ≡ (not (is_among name names) && not (nat_lt (length names) 128))
-full_known name names =
-    rw (place_known name names, length_known names, none_if (is_among name names) (position_or_len (bytes_eq name) names), most_by (length names) 128) refl
 
 -- the note of a REGISTER, by what the rules ask
 abbrev register_table : List ℕ → List ℕ → Bool → Bool → Bool → Bool → Bool → List Rule
@@ -142,7 +121,7 @@ register_judged h s x text shown is =
     let names = names_told x.id h in
     rw (is.phase, sym (active_same x.phase), sym shown.policy)
     (register_said s.policy x text (is_active x.phase) (lists s.policy x.id) (is_name text) (may_publish (scope_of s.policy.clients x.id) text) (not (is_among text names) && not (nat_lt (length names) 128)) refl refl refl refl
-    (ap (is_full_for text) is.ids ∙ full_known text names))
+    (ap (is_full_for text) is.ids ∙ full_marked text names (names_known x.id h)))
 
 register_there : (h : List Row) (s : State) (from : Address) (r : Register) (dropped : List Release) (x : Client) → StateShown h s → ClientShown h x
     → spell (by_cause s (ByMessage from (ToRegister r))) dropped (heard_if true s.clock x) (register_ask s.policy x r.name ∷ []) ≡ register_answer h x.address r x.id
@@ -153,7 +132,7 @@ register_there h s from r dropped x shown is =
     ap (λ said. spell (by_cause s (ByMessage from (ToRegister r))) dropped y (said ∷ [])) (register_judged h s x r.name shown is)
     ∙ register_spelled s from r dropped y (id_told r.name names) (if asks.may_ask h x.id && is_name r.name then Some r.name else None) (judged (register_rules h x.id r.name))
     (register_named_so x.id r.name (laws.is_active (phase_of x.id h)) (lists policy x.id) (is_name r.name) (may_publish (scope_of policy.clients x.id) r.name) (not (is_among r.name names) && not (nat_lt (length names) 128)))
-    (ap (id_for r.name) is.ids ∙ id_known r.name names)
+    (ap (id_for r.name) is.ids ∙ id_marked r.name names (names_known x.id h))
 
 register_part : (h : List Row) (s : State) (from : Address) (r : Register) (dropped : List Release) (x : Client) (b : Bool) → StateShown h s → ClientShown h x → (b ≡ true → x.address ≡ from)
     → (if b then [] else []) ++ spell (by_cause s (ByMessage from (ToRegister r))) dropped (heard_if b s.clock x) (if b then register_ask s.policy x r.name ∷ [] else [])
@@ -241,50 +220,50 @@ type_table s id told type topic_id q =
     ∷ (is_untold told type topic_id, UnknownId kind.Normal topic_id)
     ∷ state_table s id (or_empty (name_meant s.policy told type topic_id)) q
 
-abbrev TypeJudged : State → Client → List (List ℕ) → TopicIdType → ℕ → FrameQos → Type 0
-TypeJudged s x told type topic_id q =
-    publish_named s x (qos_of q) (name_in s.policy (Some (known told)) type topic_id)
+abbrev TypeJudged : State → Client → List (List ℕ) → List (List ℕ) → TopicIdType → ℕ → FrameQos → Type 0
+TypeJudged s x told knows type topic_id q =
+    publish_named s x (qos_of q) (name_in s.policy (Some (marked told knows)) type topic_id)
     ≡ note.Publish (who.Client x.id) (name_meant s.policy told type topic_id) (judged (type_table s x.id told type topic_id q))
 
-short_judged : (s : State) (x : Client) (told : List (List ℕ)) (topic_id : ℕ) (q : FrameQos) (b : Bool) → lists s.policy x.id ≡ true → is_name (octets_of topic_id) ≡ b
-    → TypeJudged s x told Short topic_id q
-short_judged s x told topic_id q true listed good = rw good (ap (note.Publish (who.Client x.id) (Some (octets_of topic_id))) (verdict_judged s x.id (octets_of topic_id) q listed))
-short_judged s x told topic_id q false listed bad = rw bad refl
+short_judged : (s : State) (x : Client) (told knows : List (List ℕ)) (topic_id : ℕ) (q : FrameQos) (b : Bool) → lists s.policy x.id ≡ true → is_name (octets_of topic_id) ≡ b
+    → TypeJudged s x told knows Short topic_id q
+short_judged s x told knows topic_id q true listed good = rw good (ap (note.Publish (who.Client x.id) (Some (octets_of topic_id))) (verdict_judged s x.id (octets_of topic_id) q listed))
+short_judged s x told knows topic_id q false listed bad = rw bad refl
 
-predefined_judged : (s : State) (x : Client) (told : List (List ℕ)) (topic_id : ℕ) (q : FrameQos) (t : Option (List ℕ)) → lists s.policy x.id ≡ true → topic s.policy topic_id ≡ t
-    → TypeJudged s x told Predefined topic_id q
-predefined_judged s x told topic_id q (Some name) listed is = rw is (ap (note.Publish (who.Client x.id) (Some name)) (verdict_judged s x.id name q listed))
-predefined_judged s x told topic_id q None listed is = rw is refl
+predefined_judged : (s : State) (x : Client) (told knows : List (List ℕ)) (topic_id : ℕ) (q : FrameQos) (t : Option (List ℕ)) → lists s.policy x.id ≡ true → topic s.policy topic_id ≡ t
+    → TypeJudged s x told knows Predefined topic_id q
+predefined_judged s x told knows topic_id q (Some name) listed is = rw is (ap (note.Publish (who.Client x.id) (Some name)) (verdict_judged s x.id name q listed))
+predefined_judged s x told knows topic_id q None listed is = rw is refl
 
-named_at : (names : List (List ℕ)) (place : ℕ) → name_of (suc place) (known names) ≡ slice_get names place
-named_at [] place = refl
-named_at (name ∷ names) zero = refl
-named_at (name ∷ names) (suc place) = named_at names place
+named_at : (names knows : List (List ℕ)) (place : ℕ) → name_of (suc place) (marked names knows) ≡ slice_get names place
+named_at [] knows place = refl
+named_at (name ∷ names) knows zero = refl
+named_at (name ∷ names) knows (suc place) = named_at names knows place
 
-named_as : (id : ℕ) (names : List (List ℕ)) → name_of id (known names) ≡ told_as id names
-named_as zero names = refl
-named_as (suc place) names = named_at names place
+named_as : (id : ℕ) (names knows : List (List ℕ)) → name_of id (marked names knows) ≡ told_as id names
+named_as zero names knows = refl
+named_as (suc place) names knows = named_at names knows place
 
-normal_judged : (s : State) (x : Client) (told : List (List ℕ)) (topic_id : ℕ) (q : FrameQos) (t : Option (List ℕ)) → lists s.policy x.id ≡ true → told_as topic_id told ≡ t
-    → TypeJudged s x told Normal topic_id q
-normal_judged s x told topic_id q (Some name) listed is =
-    rw (named_as topic_id told, is) (ap (note.Publish (who.Client x.id) (Some name)) (verdict_judged s x.id name q listed))
-normal_judged s x told topic_id q None listed is = rw (named_as topic_id told, is) refl
+normal_judged : (s : State) (x : Client) (told knows : List (List ℕ)) (topic_id : ℕ) (q : FrameQos) (t : Option (List ℕ)) → lists s.policy x.id ≡ true → told_as topic_id told ≡ t
+    → TypeJudged s x told knows Normal topic_id q
+normal_judged s x told knows topic_id q (Some name) listed is =
+    rw (named_as topic_id told knows, is) (ap (note.Publish (who.Client x.id) (Some name)) (verdict_judged s x.id name q listed))
+normal_judged s x told knows topic_id q None listed is = rw (named_as topic_id told knows, is) refl
 
-type_judged : (s : State) (x : Client) (told : List (List ℕ)) (type : TopicIdType) (topic_id : ℕ) (q : FrameQos) → lists s.policy x.id ≡ true → TypeJudged s x told type topic_id q
-type_judged s x told Short topic_id q listed = short_judged s x told topic_id q (is_name (octets_of topic_id)) listed refl
-type_judged s x told Predefined topic_id q listed = predefined_judged s x told topic_id q (topic s.policy topic_id) listed refl
-type_judged s x told Normal topic_id q listed = normal_judged s x told topic_id q (told_as topic_id told) listed refl
-type_judged s x told Reserved topic_id q listed = refl
+type_judged : (s : State) (x : Client) (told knows : List (List ℕ)) (type : TopicIdType) (topic_id : ℕ) (q : FrameQos) → lists s.policy x.id ≡ true → TypeJudged s x told knows type topic_id q
+type_judged s x told knows Short topic_id q listed = short_judged s x told knows topic_id q (is_name (octets_of topic_id)) listed refl
+type_judged s x told knows Predefined topic_id q listed = predefined_judged s x told knows topic_id q (topic s.policy topic_id) listed refl
+type_judged s x told knows Normal topic_id q listed = normal_judged s x told knows topic_id q (told_as topic_id told) listed refl
+type_judged s x told knows Reserved topic_id q listed = refl
 
-publish_said : (s : State) (x : Client) (told : List (List ℕ)) (p : Publish) (a l : Bool) → is_active x.phase ≡ a → lists s.policy x.id ≡ l → x.ids ≡ known told
+publish_said : (s : State) (x : Client) (told knows : List (List ℕ)) (p : Publish) (a l : Bool) → is_active x.phase ≡ a → lists s.policy x.id ≡ l → x.ids ≡ marked told knows
     → publish_ask s x p
     ≡ note.Publish (who.Client x.id) (if a && l then name_meant s.policy told p.flags.id_type p.topic_id else None)
     (judged ((not a, OutOfTurn) ∷ (not l, NoScope x.id) ∷ type_table s x.id told p.flags.id_type p.topic_id p.flags.qos))
-publish_said s x told p false l active listed is = rw active refl
-publish_said s x told p true false active listed is = rw (active, listed) refl
-publish_said s x told p true true active listed is =
-    rw (active, listed, is) (type_judged s x told p.flags.id_type p.topic_id p.flags.qos listed)
+publish_said s x told knows p false l active listed is = rw active refl
+publish_said s x told knows p true false active listed is = rw (active, listed) refl
+publish_said s x told knows p true true active listed is =
+    rw (active, listed, is) (type_judged s x told knows p.flags.id_type p.topic_id p.flags.qos listed)
 
 -- what follows the note
 puback_by : (s : State) (from : Address) (p : Publish) (y : Client) (name : Option (List ℕ)) (o : Outcome) (q : FrameQos) → p.flags.qos ≡ q
@@ -302,7 +281,7 @@ publish_judged : (h : List Row) (s : State) (x : Client) (p : Publish) → State
 publish_judged h s x p shown flights is =
     let told = names_told x.id h in
     rw (is.phase, sym (active_same x.phase), sym shown.policy, sym shown.up, sym (load_same h s shown flights), sym shown.waits)
-    (publish_said s x told p (is_active x.phase) (lists s.policy x.id) refl refl is.ids)
+    (publish_said s x told (names_known x.id h) p (is_active x.phase) (lists s.policy x.id) refl refl is.ids)
 
 publish_there : (h : List Row) (s : State) (from : Address) (p : Publish) (dropped : List Release) (x : Client) → StateShown h s → s.link.in_flight ≡ in_flight h → ClientShown h x
     → spell (by_cause s (ByMessage from (ToPublish p))) dropped (heard_if true s.clock x) (publish_ask s x p ∷ []) ≡ publish_answer h x.address p x.id
@@ -326,102 +305,3 @@ publish_row h s from p shown flights =
     let c = ByMessage from (ToPublish p) in
     row_answer h s from c (stranger_to from (ToPublish p)) (publish_answer h from p) shown (λ x. refl)
     (each_part h s from c (publish_answer h from p) shown (λ x is. publish_part h s from p (drops s c (notes_for s c)) x (is_here x from) shown flights is (here_is x from)))
-
--- ---- a packet of the broker
-
-message_by : (name : List ℕ) (owes : Option ℕ) (u r : Bool)
-    → misnamed name ++ dropped r (if u then owes else None)
-    ≡ (if is_name name then [] else Note (note.Frame who.Broker (Denied BadName)) ∷ []) ++ (if is_some owes && (u && not r) then Note note.Outbox ∷ [] else [])
-message_by name None true r = refl
-message_by name None false r = refl
-message_by name (Some packet_id) false r = refl
-message_by name (Some packet_id) true true = refl
-message_by name (Some packet_id) true false = refl
-
--- what is nobody's
-abbrev NoAck : Packet → Type 0
-NoAck (packet.SubscribeAck answer) = ⊥
-NoAck _ = Unit {0}
-
-answer_judged : (h : List Row) (s : State) (sent : Packet) → NoAck sent → StateShown h s → answer_outs s.up s.link (answer_of sent) ≡ packet_answer h sent
-answer_judged h s (packet.Publish p) other shown = rw (sym shown.up, sym shown.waits) (message_by p.name p.packet_id s.up (nat_lt (length s.link.waiting) 512))
-answer_judged h s (packet.PublishAck packet_id) other shown = refl
-answer_judged h s (packet.SubscribeAck answer) other shown = absurd other
-answer_judged h s (packet.UnsubscribeAck packet_id) other shown = refl
-answer_judged h s packet.PingResponse other shown = refl
-answer_judged h s (packet.Connect connect) other shown = refl
-answer_judged h s (packet.ConnectAck answer) other shown = refl
-answer_judged h s (packet.Subscribe request) other shown = refl
-answer_judged h s (packet.Unsubscribe request) other shown = refl
-answer_judged h s packet.PingRequest other shown = refl
-answer_judged h s packet.Disconnect other shown = refl
-
--- what ends as the broker refuses a filter
-abbrev ends_out : State → Packet → Option (List ℕ) → Client → List Out
-ends_out s sent text x = spell (around s (ByPacket sent)) [] x (refused_end x text)
-
-none_out : (s : State) (sent : Packet) (xs : List Client) → flat_map (ends_out s sent None) xs ≡ []
-none_out s sent [] = refl
-none_out s sent (x ∷ xs) = none_out s sent xs
-
-end_if : (s : State) (sent : Packet) (x : Client) (text : List ℕ) (b : Bool)
-    → spell (around s (ByPacket sent)) [] x (if b then note.End x.id text (Denied BrokerRefused) ∷ [] else []) ≡ (if b then Note (note.End x.id text (Denied BrokerRefused)) ∷ [] else [])
-end_if s sent x text true = refl
-end_if s sent x text false = refl
-
-end_out : (h : List Row) (s : State) (sent : Packet) (text : List ℕ) (x : Client) → ClientShown h x
-    → ends_out s sent (Some text) x ≡ (if stands (standing_of x.id h) text then Note (note.End x.id text (Denied BrokerRefused)) ∷ [] else [])
-end_out h s sent text x shown =
-    end_if s sent x text (holds text x) ∙ ap (λ held. if stands held text then Note (note.End x.id text (Denied BrokerRefused)) ∷ [] else []) shown.filters
-
-refused_out : (h : List Row) (s : State) (sent : Packet) (text : Option (List ℕ)) → StateShown h s → flat_map (ends_out s sent text) s.clients ≡ suback_answer h text
-refused_out h s sent None shown = none_out s sent s.clients
-refused_out h s sent (Some text) shown =
-    let f : List ℕ → List Out = λ id. if stands (standing_of id h) text then Note (note.End id text (Denied BrokerRefused)) ∷ [] else [] in
-    flat_ids (ends_out s sent (Some text)) f s.clients (each_map (ClientShown h) (λ x. ends_out s sent (Some text) x ≡ f x.id) s.clients (λ x is. end_out h s sent text x is) shown.clients)
-    ∙ ap (flat_map f) shown.order
-
--- the filter whose open SUBSCRIBE has the packet id
-its_same : (packet_id : ℕ) (last : Option ℕ) → has_id packet_id last ≡ is_its packet_id last
-its_same packet_id None = refl
-its_same packet_id (Some used) = refl
-
-open_same : (wanted : List Wanted) (packet_id : ℕ) → filter_open wanted packet_id ≡ filter_with packet_id wanted
-open_same [] packet_id = refl
-open_same (w ∷ wanted) packet_id = by_first w (is_open packet_id w) (is_answered packet_id w) (its_same packet_id w.open_id) (open_same wanted packet_id)
-  where
-    by_first : (w : Wanted) (a b : Bool) → a ≡ b → filter_open wanted packet_id ≡ filter_with packet_id wanted
-        → option_map (λ v. v.filter) (if a then Some w else find (is_open packet_id) wanted) ≡ option_map (λ v. v.filter) (if b then Some w else find (is_answered packet_id) wanted)
-    by_first w true true same rest = refl
-    by_first w false false same rest = rest
-    by_first w true false same rest = absurd (let e = same in cc)
-    by_first w false true same rest = absurd (let e = same in cc)
-
-suback_out : (h : List Row) (s : State) (sent : Packet) (packet_id : ℕ) (codes : List SubscribeCode) → StateShown h s → s.link.wanted ≡ wanted h
-    → flat_map (ends_out s sent (refused_filter s.link (subscribe_answer packet_id codes))) s.clients ++ answer_outs s.up s.link (subscribe_answer packet_id codes)
-    ≡ (if is_refusal codes then suback_answer h (filter_with packet_id (wanted h)) else [])
-suback_out h s sent packet_id [] shown is = append-nil (flat_map (ends_out s sent None) s.clients) ∙ none_out s sent s.clients
-suback_out h s sent packet_id (code.Granted q ∷ codes) shown is = append-nil (flat_map (ends_out s sent None) s.clients) ∙ none_out s sent s.clients
-suback_out h s sent packet_id (code.Refused ∷ codes) shown is =
-    let text = filter_open s.link.wanted packet_id in
-    append-nil (flat_map (ends_out s sent text) s.clients)
-    ∙ (refused_out h s sent text shown ∙ ap (suback_answer h) (ap (λ all. filter_open all packet_id) is ∙ open_same (wanted h) packet_id))
-
--- a packet that ends nothing
-other_out : (h : List Row) (s : State) (sent : Packet) → NoAck sent → StateShown h s → refused_filter s.link (answer_of sent) ≡ None → outs_by s (ByPacket sent) ≡ packet_answer h sent
-other_out h s sent other shown none =
-    ap (λ text. flat_map (ends_out s sent text) s.clients ++ answer_outs s.up s.link (answer_of sent)) none
-    ∙ (ap (λ first. first ++ answer_outs s.up s.link (answer_of sent)) (none_out s sent s.clients) ∙ answer_judged h s sent other shown)
-
-pub packet_judged : (h : List Row) (s : State) (sent : Packet) → StateShown h s → s.link.wanted ≡ wanted h → outs_by s (ByPacket sent) ≡ packet_answer h sent
-packet_judged h s (packet.SubscribeAck answer) shown is = suback_out h s (packet.SubscribeAck answer) answer.packet_id answer.codes shown is
-packet_judged h s (packet.Publish p) shown is = other_out h s (packet.Publish p) tt shown refl
-packet_judged h s (packet.PublishAck packet_id) shown is = other_out h s (packet.PublishAck packet_id) tt shown refl
-packet_judged h s (packet.UnsubscribeAck packet_id) shown is = other_out h s (packet.UnsubscribeAck packet_id) tt shown refl
-packet_judged h s packet.PingResponse shown is = other_out h s packet.PingResponse tt shown refl
-packet_judged h s (packet.Connect connect) shown is = other_out h s (packet.Connect connect) tt shown refl
-packet_judged h s (packet.ConnectAck answer) shown is = other_out h s (packet.ConnectAck answer) tt shown refl
-packet_judged h s (packet.Subscribe request) shown is = other_out h s (packet.Subscribe request) tt shown refl
-packet_judged h s (packet.Unsubscribe request) shown is = other_out h s (packet.Unsubscribe request) tt shown refl
-packet_judged h s packet.PingRequest shown is = other_out h s packet.PingRequest tt shown refl
-packet_judged h s packet.Disconnect shown is = other_out h s packet.Disconnect tt shown refl

@@ -29,13 +29,15 @@ use Rattle.sng_history.specs.LawsAsks.{register_stranger, register_answer, is_of
 use Rattle.sng_history.proofs.Keeping.{exact_by}
 use Rattle.sng_history.proofs.SeenState.{stands}
 use Rattle.sng_history.proofs.LawHere.{those_kept, most_here}
+use Rattle.sng_history.proofs.LawStrangers.{none_waits}
 use Rattle.sng_history.proofs.LawEntry.{connect_row}
 use Rattle.sng_history.proofs.LawSource.{source_row}
 use Rattle.sng_history.proofs.LawMessages.{unsupported_row, ping_row, leave_row, broken_row}
 use Rattle.sng_history.specs.LawsSubscriptions.{subscribe_stranger, subscribe_answer, unsubscribe_stranger, unsubscribe_answer, replace_answer}
 use Rattle.sng_history.proofs.LawSubscriptions.{subscribe_row, unsubscribe_row, replace_row}
-use Rattle.sng_history.proofs.LawAsks.{register_row, publish_row, packet_judged}
-use Rattle.sng_history.proofs.SeenRest.{rest_shown}
+use Rattle.sng_history.proofs.LawAsks.{register_row, publish_row}
+use Rattle.sng_history.proofs.LawPackets.{packet_judged}
+use Rattle.sng_history.proofs.SeenLast.{rest_shown}
 use Rattle.sng_history.proofs.UpstreamWanted.{wanted_shown}
 
 -- a lawful row lets out what its cause says
@@ -58,7 +60,7 @@ one_at h l from =
 pub connect_law : (h : List Row) (row : Row) (from : Address) (connect : Connect) → Lawful opening (row ∷ h) → Brought row from (frame.Connect connect)
     → row.outs ≡ connect_answer h from connect
 connect_law h row from connect l brought =
-    row_outs h row (ByConnect from connect) l (message_cause row from (frame.Connect connect) brought) ∙ connect_row h (state_of opening h) from connect (stands h l.0)
+    row_outs h row (ByConnect from connect) l (message_cause row from (frame.Connect connect) brought) ∙ connect_row h (state_of opening h) from connect (stands h l.0) (none_waits h l.0 connect.client_id)
 
 source_cause : (from : Address) (p : Publish) (q : FrameQos) → is_without_session q ≡ true → publish_cause from p q ≡ BySource from p
 source_cause from p qos.WithoutSession is = refl
@@ -108,7 +110,7 @@ ping_law h row from named l brought =
     row_outs h row (ByMessage from (ToPing named)) l (message_cause row from (frame.PingRequest named) brought) ∙ ping_row h (state_of opening h) from named (stands h l.0).shown
 
 pub leave_law : (h : List Row) (row : Row) (from : Address) → Lawful opening (row ∷ h) → Brought row from (frame.Disconnect None)
-    → row.outs ≡ answer_to (no_session from) (leave_answer from) (those_at from h)
+    → row.outs ≡ answer_to (no_session from) (leave_answer h from) (those_at from h)
 leave_law h row from l brought =
     row_outs h row (ByMessage from ToLeave) l (message_cause row from (frame.Disconnect None) brought) ∙ leave_row h (state_of opening h) from (stands h l.0).shown
 
@@ -128,6 +130,8 @@ unsupported_cause from (frame.Register r) is = absurd (let e = is in cc)
 unsupported_cause from (frame.Subscribe r) is = absurd (let e = is in cc)
 unsupported_cause from (frame.Unsubscribe r) is = absurd (let e = is in cc)
 unsupported_cause from (frame.PingRequest client) is = absurd (let e = is in cc)
+unsupported_cause from (frame.RegisterAck r) is = absurd (let e = is in cc)
+unsupported_cause from (frame.PublishAck r) is = absurd (let e = is in cc)
 unsupported_cause from (frame.Publish p) is = twice_cause from p p.flags.qos is
 unsupported_cause from (frame.Disconnect duration) is = sleep_cause from duration is
 unsupported_cause from message is = refl
@@ -151,4 +155,4 @@ broken_law h row from broke l broken =
     ∙ broken_row h (state_of opening h) from (broken_rule broke) (stands h l.0).shown
 
 pub packet_law : (h : List Row) (row : Row) (packet : Packet) → Lawful opening (row ∷ h) → row.event ≡ Broker packet → row.outs ≡ packet_answer h packet
-packet_law h row packet l is = row_outs h row (cause_of (Broker packet)) l (ap cause_of is) ∙ packet_judged h (state_of opening h) packet (stands h l.0).shown (wanted_shown h l.0).wanted
+packet_law h row packet l is = row_outs h row (cause_of (Broker packet)) l (ap cause_of is) ∙ packet_judged h (state_of opening h) packet (stands h l.0) (wanted_shown h l.0).wanted

@@ -1,46 +1,57 @@
 -- The verdict on a CONNECT by the law's table, and what a row lets out with it.
-use Rattle.std.proofs.Common.{◌≡◌, ℕ, Bool, true, false, List, [], ◌∷◌, ◌++◌, map, refl, ap, sym, ◌∙◌, subst, if◌then◌else◌, length}
-use Rattle.std.specs.Prelude.{◌&&◌, ◌||◌, ◌==◌, not, nat_lt, filter}
+use Rattle.std.proofs.Common.{◌≡◌, ℕ, Bool, true, false, List, [], ◌∷◌, ◌++◌, map, refl, ap, sym, ◌∙◌, subst, if◌then◌else◌, length, ◌≤◌}
+use Rattle.std.specs.Prelude.{◌&&◌, ◌||◌, ◌==◌, not, nat_lt, filter, drop}
 use Rattle.std.specs.List.{flat_map}
 use Rattle.std.specs.Str.{bytes_eq}
+use Rattle.std.proofs.lemmas.List.{append-nil}
 use Rattle.sng_fan.specs.Subscriptions.{stands}
 use Rattle.sng_policy.specs.Grants.{lists}
+use Rattle.sng_states.specs.declared.state.ClientState.TheVariants.{Active}
 use Rattle.sng_states.specs.States.{has_session}
 use Rattle.sng_frames.specs.declared.messages.connect.Connect.{Connect}
+use Rattle.sng_frames.specs.declared.return_code.TheConstants.ReturnCode.{ACCEPTED}
 use Rattle.sng_book.specs.Denials.{is_allowed}
 use Rattle.sng_book.specs.declared.address.Address.{Address}
+use Rattle.sng_book.specs.declared.decision.Decision.{Decision}
 use Rattle.sng_book.specs.declared.decision.Decision.TheVariants as note
 use Rattle.sng_book.specs.declared.outcome.Place.TheVariants as place
 use Rattle.sng_book.specs.declared.outcome.Denial.{Denial}
-use Rattle.sng_book.specs.declared.outcome.Denial.TheVariants.{NotSupported, NoScope, UnknownId, UpstreamDown, Full}
+use Rattle.sng_book.specs.declared.outcome.Denial.TheVariants.{NotSupported, NoScope, UnknownId, UpstreamDown, Full, Gone}
 use Rattle.sng_book.specs.declared.outcome.Outcome.{Outcome}
 use Rattle.sng_book.specs.declared.outcome.Outcome.TheVariants.{Allowed, Denied}
 use Rattle.sng_book.specs.declared.out.Out.{Out}
 use Rattle.sng_book.specs.declared.out.Out.TheVariants.{Note}
 use Rattle.sng_book.specs.declared.row.Row.{Row}
 use Rattle.sng_history.specs.Causes.{ByConnect}
-use Rattle.sng_history.specs.Clients.{Around, Client, same_address, is_here}
+use Rattle.sng_history.specs.Clients.{Around, Client, same_address, is_here, cleaned, let_in, gone}
 use Rattle.sng_history.specs.State.{State, around, is_known}
 use Rattle.sng_history.specs.Verdicts.{and_then, entry}
 use Rattle.sng_history.specs.Answers.{code_of, dismissed, connack}
-use Rattle.sng_history.specs.Whole.{spell, drops, moved, beside, entry_outs}
+use Rattle.sng_history.specs.Outgoing.{handed_over, all_gone}
+use Rattle.sng_history.specs.Whole as whole
+use Rattle.sng_history.specs.Whole.{spell, drops, moved, beside, entering_part, entry_outs}
 use Rattle.sng_history.specs.Steps.{notes_for, client_next}
-use Rattle.sng_history.specs.Lawful.{fixed_for}
-use Rattle.sng_history.specs.Entering.{entering}
+use Rattle.sng_history.specs.Lawful.{entering_notes, fixed_for}
+use Rattle.sng_history.specs.Entering.{entering, served, serving}
 use Rattle.sng_history.specs.Standing.{drop_notes}
 use Rattle.sng_history.specs.Good.{Each, Away, Distinct}
-use Rattle.sng_history.specs.ViewsClients.{phase_of, address_of, is_among}
+use Rattle.sng_history.specs.ViewsClients.{phase_of, address_of, is_among, accepted}
+use Rattle.sng_history.specs.ViewsHanding.{waits_for, progress_of}
 use Rattle.sng_history.specs.LawsState.{ClientShown}
 use Rattle.sng_history.specs.LawsRules.{judged}
 use Rattle.sng_history.specs.LawsEnds.{stays_by, clean_answer}
+use Rattle.sng_history.specs.LawsHanding.{mailing, handed_out, gone_answer, around_connack}
 use Rattle.sng_history.specs.LawsAnswers.{connect_rules, code_for, bye_at, old_place, others_leave, entry_answer, connect_answer}
-use Rattle.sng_history.proofs.Own.{same_means, flat_same, each_all, each_map}
+use Rattle.sng_history.proofs.Own.{same_means, flat_same, each_map}
+use Rattle.sng_history.proofs.Hands.{served_steady}
 use Rattle.sng_history.proofs.Kept.{client_id}
 use Rattle.sng_history.proofs.Entries.{entering_next}
 use Rattle.sng_history.proofs.SeenClients.{heard_if}
 use Rattle.sng_history.proofs.SeenState.{ids_of, known_among, StateShown, Stands}
 use Rattle.sng_history.proofs.LawHere.{here, those_kept}
 use Rattle.sng_history.proofs.LawEnds.{Kept, drops_shown}
+use Rattle.sng_history.proofs.LawTurns.{last_within, handed_shown}
+use Rattle.sng_history.proofs.LawMessages.{gone_spelled}
 
 -- ---- the verdict
 
@@ -71,48 +82,56 @@ code_same _ = refl
 
 -- ---- another client at the address leaves
 
-abbrev leaves : List ℕ → Out
-leaves other = Note (note.Left other)
+-- it leaves, and what waits for it is gone
+abbrev leaves : List Row → List ℕ → List Out
+leaves h other = Note (note.Left other) ∷ gone_answer h other
 
-other_by : (s : State) (from : Address) (c : Connect) (x : Client) (own here : Bool) (o : Outcome) → o ≡ Allowed
-    → let a : Around = record { policy = s.policy; clock = s.clock; cause = ByConnect from c } in
+gone_by : (h : List Row) (s : State) (from : Address) (c : Connect) (x : Client) → ClientShown h x
+    → spell (around s (ByConnect from c)) [] (heard_if true s.clock x) (note.Left x.id ∷ all_gone x.id x.buffer.waiting) ≡ leaves h x.id
+gone_by h s from c x shown =
+    ap (λ outs. Note (note.Left x.id) ∷ outs) (gone_spelled (around s (ByConnect from c)) [] x.id x.buffer.waiting (gone (heard_if true s.clock x)))
+    ∙ ap (λ waiting. Note (note.Left x.id) ∷ map (λ m. Note (note.Hand x.id m.name (Denied Gone))) waiting) shown.waiting
+
+other_by : (h : List Row) (s : State) (from : Address) (c : Connect) (x : Client) (own here : Bool) (o : Outcome) (enters : List Decision) → o ≡ Allowed → ClientShown h x
+    → let a = around s (ByConnect from c) in
     (if own
     then []
-    else (if here then [] else []) ++ spell a [] (heard_if here s.clock x) (if own then note.Connect x.id o ∷ [] else (if is_allowed o then (if here then note.Left x.id ∷ [] else []) else [])))
-    ≡ (if not own then (if here then leaves x.id ∷ [] else []) else [])
-other_by s from c x true here o is = refl
-other_by s from c x false true Allowed is = refl
-other_by s from c x false false Allowed is = refl
-other_by s from c x false here (Denied rule) is = absurd (let e = is in cc)
+    else (if here then [] else [])
+    ++ spell a [] (heard_if here s.clock x) (if own then note.Connect x.id o ∷ enters else (if is_allowed o then (if here then note.Left x.id ∷ all_gone x.id x.buffer.waiting else []) else [])))
+    ≡ (if not own then (if here then leaves h x.id else []) else [])
+other_by h s from c x true here o enters is shown = refl
+other_by h s from c x false true Allowed enters is shown = gone_by h s from c x shown
+other_by h s from c x false false Allowed enters is shown = refl
+other_by h s from c x false here (Denied rule) enters is shown = absurd (let e = is in cc)
 
-other_part : (s : State) (from : Address) (c : Connect) (x : Client) → entry s c ≡ Allowed
-    → beside (around s (ByConnect from c)) (notes_for s (ByConnect from c)) c.client_id x ≡ (if not (bytes_eq c.client_id x.id) then (if is_here x from then leaves x.id ∷ [] else []) else [])
-other_part s from c x is = other_by s from c x (bytes_eq c.client_id x.id) (is_here x from) (entry s c) is
+other_part : (h : List Row) (s : State) (from : Address) (c : Connect) (x : Client) → entry s c ≡ Allowed → ClientShown h x
+    → beside (around s (ByConnect from c)) (notes_for s (ByConnect from c)) c.client_id x ≡ (if not (bytes_eq c.client_id x.id) then (if is_here x from then leaves h x.id else []) else [])
+other_part h s from c x is shown = other_by h s from c x (bytes_eq c.client_id x.id) (is_here x from) (entry s c) (entering_notes s from c x (entry s c)) is shown
 
-one_of : (id : List ℕ) (x : Client) (own here : Bool) (xs : List Client) → bytes_eq id x.id ≡ own
-    → (if not own then (if here then leaves x.id ∷ [] else []) else []) ++ map leaves (filter (λ other. not (bytes_eq id other)) (ids_of xs))
-    ≡ map leaves (filter (λ other. not (bytes_eq id other)) (ids_of (if here then x ∷ xs else xs)))
-one_of id x true true xs is = rw is refl
-one_of id x true false xs is = refl
-one_of id x false true xs is = rw is refl
-one_of id x false false xs is = refl
+one_of : (h : List Row) (id : List ℕ) (x : Client) (own here : Bool) (xs : List Client) → bytes_eq id x.id ≡ own
+    → (if not own then (if here then leaves h x.id else []) else []) ++ flat_map (leaves h) (filter (λ other. not (bytes_eq id other)) (ids_of xs))
+    ≡ flat_map (leaves h) (filter (λ other. not (bytes_eq id other)) (ids_of (if here then x ∷ xs else xs)))
+one_of h id x true true xs is = rw is refl
+one_of h id x true false xs is = refl
+one_of h id x false true xs is = rw is refl
+one_of h id x false false xs is = refl
 
-others_by : (from : Address) (id : List ℕ) (xs : List Client)
-    → flat_map (λ x. if not (bytes_eq id x.id) then (if is_here x from then leaves x.id ∷ [] else []) else []) xs
-    ≡ map leaves (filter (λ other. not (bytes_eq id other)) (ids_of (here from xs)))
-others_by from id [] = refl
-others_by from id (x ∷ xs) =
-    ap (λ outs. (if not (bytes_eq id x.id) then (if is_here x from then leaves x.id ∷ [] else []) else []) ++ outs) (others_by from id xs)
-    ∙ one_of id x (bytes_eq id x.id) (is_here x from) (here from xs) refl
+others_by : (h : List Row) (from : Address) (id : List ℕ) (xs : List Client)
+    → flat_map (λ x. if not (bytes_eq id x.id) then (if is_here x from then leaves h x.id else []) else []) xs
+    ≡ flat_map (leaves h) (filter (λ other. not (bytes_eq id other)) (ids_of (here from xs)))
+others_by h from id [] = refl
+others_by h from id (x ∷ xs) =
+    ap (λ outs. (if not (bytes_eq id x.id) then (if is_here x from then leaves h x.id else []) else []) ++ outs) (others_by h from id xs)
+    ∙ one_of h id x (bytes_eq id x.id) (is_here x from) (here from xs) refl
 
 others_row : (h : List Row) (s : State) (from : Address) (c : Connect) → StateShown h s → entry s c ≡ Allowed
     → flat_map (beside (around s (ByConnect from c)) (notes_for s (ByConnect from c)) c.client_id) s.clients ≡ others_leave h from c.client_id
 others_row h s from c shown is =
     let id = c.client_id in
     let f : Client → List Out = beside (around s (ByConnect from c)) (notes_for s (ByConnect from c)) id in
-    let g : Client → List Out = λ x. if not (bytes_eq id x.id) then (if is_here x from then leaves x.id ∷ [] else []) else [] in
-    flat_same f g s.clients (each_all (λ x. f x ≡ g x) s.clients (λ x. other_part s from c x is))
-    ∙ (others_by from id s.clients ∙ ap (λ ids. map leaves (filter (λ other. not (bytes_eq id other)) ids)) (sym (those_kept h s from shown)))
+    let g : Client → List Out = λ x. if not (bytes_eq id x.id) then (if is_here x from then leaves h x.id else []) else [] in
+    flat_same f g s.clients (each_map (ClientShown h) (λ x. f x ≡ g x) s.clients (λ x known. other_part h s from c x is known) shown.clients)
+    ∙ (others_by h from id s.clients ∙ ap (λ ids. flat_map (leaves h) (filter (λ other. not (bytes_eq id other)) ids)) (sym (those_kept h s from shown)))
 
 -- ---- where the client was
 
@@ -154,9 +173,9 @@ old_row h s from id st =
 
 -- ---- what a clean one ends
 
-whole : (b : Bool) → b ≡ (b && true)
-whole true = refl
-whole false = refl
+all_of : (b : Bool) → b ≡ (b && true)
+all_of true = refl
+all_of false = refl
 
 either : (b : Bool) → (b && false) ≡ false
 either true = refl
@@ -169,15 +188,27 @@ kept_by h s from c x true true here cleans same at text = rw (same, cleans) (not
     nothing : (b : Bool) → false ≡ (b && false)
     nothing true = refl
     nothing false = refl
-kept_by h s from c x false true here cleans same at text = rw (same, cleans) (whole (stands x.filters text))
-kept_by h s from c x clean false true cleans same at text = rw (same, at, either c.flags.clean) (whole (stands x.filters text))
-kept_by h s from c x clean false false cleans same at text = rw (same, at, either c.flags.clean) (whole (stands x.filters text))
+kept_by h s from c x false true here cleans same at text = rw (same, cleans) (all_of (stands x.filters text))
+kept_by h s from c x clean false true cleans same at text = rw (same, at, either c.flags.clean) (all_of (stands x.filters text))
+kept_by h s from c x clean false false cleans same at text = rw (same, at, either c.flags.clean) (all_of (stands x.filters text))
+
+-- who is served keeps the filters that stand for it
+serving_filters : (a : Around) (id : List ℕ) (y : Client) → (serving a id y).filters ≡ y.filters
+serving_filters a id y = served_if (bytes_eq id y.id)
+  where
+    served_if : (b : Bool) → (let z : Client = if b then served a y else y in z).filters ≡ y.filters
+    served_if true = (served_steady a y).filters
+    served_if false = refl
 
 kept_entry : (h : List Row) (s : State) (from : Address) (c : Connect) (x : Client) → entry s c ≡ Allowed → ClientShown h x → Kept h (stays_by c) x (client_next s (ByConnect from c) x)
 kept_entry h s from c x is shown = record {
   id = client_id (around s (ByConnect from c)) (fixed_for s (ByConnect from c) x) x;
   was = shown.filters;
-  now = λ text. ap (λ y. stands y.filters text) (entering_next s from c x is) ∙ kept_by h s from c x c.flags.clean (bytes_eq c.client_id x.id) (is_here x from) refl refl refl text;
+  now = λ text.
+      let y = entering s.clock from c x in
+      ap (λ z. stands z.filters text) (entering_next s from c x is)
+      ∙ (ap (λ held. stands held text) (serving_filters (around s (ByConnect from c)) c.client_id y)
+      ∙ kept_by h s from c x c.flags.clean (bytes_eq c.client_id x.id) (is_here x from) refl refl refl text);
 }
 
 clean_row : (h : List Row) (s : State) (from : Address) (c : Connect) → StateShown h s → entry s c ≡ Allowed
@@ -186,13 +217,101 @@ clean_row h s from c shown is =
     drops_shown h s (ByConnect from c) (stays_by c) shown
     (each_map (ClientShown h) (λ x. Kept h (stays_by c) x (client_next s (ByConnect from c) x)) s.clients (λ x known. kept_entry h s from c x is known) shown.clients)
 
+-- ---- what waits for the one that connects
+
+-- who is let in is told no id yet, and takes what waits where its session is not clean
+abbrev welcome : List Row → Address → List ℕ → List Out
+welcome h from id = handed_out (record (mailing h id from) { told = []; known = [] }) (waits_for id h)
+
+abbrev own_answer : List Row → Address → List ℕ → Bool → List Out
+own_answer h from id true = gone_answer h id
+own_answer h from id false = welcome h from id
+
+-- the client where it is let in, but for what ends then
+abbrev coming : ℕ → Address → Connect → Client → Client
+coming clock from c x = record x { address = from; phase = Active; ids = []; duration = c.duration; heard = clock }
+
+served_by : (h : List Row) (s : State) (from : Address) (c : Connect) (x : Client) (clean : Bool) → StateShown h s → ClientShown h x
+    → (let y = cleaned clean (coming s.clock from c x) in spell (around s (ByConnect from c)) [] y (if clean then all_gone x.id x.buffer.waiting else handed_over s.policy y)) ≡ own_answer h from x.id clean
+served_by h s from c x true state shown =
+    gone_spelled (around s (ByConnect from c)) [] x.id x.buffer.waiting (cleaned true (coming s.clock from c x))
+    ∙ ap (λ waiting. map (λ m. Note (note.Hand x.id m.name (Denied Gone))) waiting) shown.waiting
+served_by h s from c x false state shown =
+    let within : x.number ≤ 65535 = (rw shown.number (last_within (progress_of x.id h).numbered)) in
+    handed_shown (around s (ByConnect from c)) [] (cleaned false (coming s.clock from c x)) [] [] refl refl within
+    ∙ (rw (shown.number, shown.waiting, state.policy) refl)
+
+entering_by : (h : List Row) (s : State) (from : Address) (c : Connect) (x : Client) (own : Bool) (o : Outcome) → bytes_eq c.client_id x.id ≡ own → o ≡ Allowed → StateShown h s → ClientShown h x
+    → (if own
+    then spell (around s (ByConnect from c)) [] (let_in s.clock from c x)
+    (drop 1 (if own then note.Connect x.id o ∷ entering_notes s from c x o else (if is_allowed o then (if is_here x from then note.Left x.id ∷ all_gone x.id x.buffer.waiting else []) else [])))
+    else [])
+    ≡ (if own then own_answer h from c.client_id c.flags.clean else [])
+entering_by h s from c x true Allowed is may state shown =
+    served_by h s from c x c.flags.clean state shown ∙ ap (λ id. own_answer h from id c.flags.clean) (sym (same_means c.client_id x.id is))
+entering_by h s from c x true (Denied rule) is may state shown = absurd (let e = may in cc)
+entering_by h s from c x false o is may state shown = refl
+
+-- it is one of the clients, or nothing waits for it
+abbrev own_of : List Row → Address → Connect → List Client → List Out
+own_of h from c xs = if is_among c.client_id (ids_of xs) then own_answer h from c.client_id c.flags.clean else []
+
+own_none : (h : List Row) (s : State) (from : Address) (c : Connect) (xs : List Client) → Away c.client_id xs
+    → flat_map (entering_part (around s (ByConnect from c)) (notes_for s (ByConnect from c)) from c) xs ≡ []
+own_none h s from c [] away = refl
+own_none h s from c (x ∷ xs) away = rw (away.0, own_none h s from c xs away.1) refl
+
+own_first : (h : List Row) (s : State) (from : Address) (c : Connect) (x : Client) (xs : List Client) (own : Bool) → bytes_eq c.client_id x.id ≡ own → Away x.id xs
+    → flat_map (entering_part (around s (ByConnect from c)) (notes_for s (ByConnect from c)) from c) xs ≡ own_of h from c xs
+    → (if own then own_answer h from c.client_id c.flags.clean else []) ++ flat_map (entering_part (around s (ByConnect from c)) (notes_for s (ByConnect from c)) from c) xs
+    ≡ (if own || is_among c.client_id (ids_of xs) then own_answer h from c.client_id c.flags.clean else [])
+own_first h s from c x xs true is away rest =
+    let same : c.client_id ≡ x.id = same_means c.client_id x.id is in
+    ap (λ outs. own_answer h from c.client_id c.flags.clean ++ outs) (own_none h s from c xs (subst (λ i. Away i xs) (sym same) away))
+    ∙ append-nil (own_answer h from c.client_id c.flags.clean)
+own_first h s from c x xs false is away rest = rest
+
+own_parts : (h : List Row) (s : State) (from : Address) (c : Connect) (xs : List Client) → entry s c ≡ Allowed → StateShown h s → Each (ClientShown h) xs → Distinct xs
+    → flat_map (entering_part (around s (ByConnect from c)) (notes_for s (ByConnect from c)) from c) xs ≡ own_of h from c xs
+own_parts h s from c [] may state shown apart = refl
+own_parts h s from c (x ∷ xs) may state shown apart =
+    ap (λ outs. outs ++ flat_map (entering_part (around s (ByConnect from c)) (notes_for s (ByConnect from c)) from c) xs)
+    (entering_by h s from c x (bytes_eq c.client_id x.id) (entry s c) refl may state shown.0)
+    ∙ own_first h s from c x xs (bytes_eq c.client_id x.id) refl apart.0 (own_parts h s from c xs may state shown.1 apart.1)
+
+-- nothing waits for who was never accepted
+abbrev pub NoneWaits : List Row → List ℕ → Type 0
+NoneWaits h id = is_among id (accepted h) ≡ false → waits_for id h ≡ []
+
+answer_none : (h : List Row) (from : Address) (id : List ℕ) (clean : Bool) → waits_for id h ≡ [] → own_answer h from id clean ≡ []
+answer_none h from id true none = ap (λ waiting. map (λ m. Note (note.Hand id m.name (Denied Gone))) waiting) none
+answer_none h from id false none = ap (handed_out (record (mailing h id from) { told = []; known = [] })) none
+
+own_any : (h : List Row) (from : Address) (c : Connect) (known : Bool) → (known ≡ false → waits_for c.client_id h ≡ [])
+    → (if known then own_answer h from c.client_id c.flags.clean else []) ≡ own_answer h from c.client_id c.flags.clean
+own_any h from c true none = refl
+own_any h from c false none = sym (answer_none h from c.client_id c.flags.clean (none refl))
+
+own_row : (h : List Row) (s : State) (from : Address) (c : Connect) → Stands h s → entry s c ≡ Allowed → NoneWaits h c.client_id
+    → flat_map (entering_part (around s (ByConnect from c)) (notes_for s (ByConnect from c)) from c) s.clients ≡ own_answer h from c.client_id c.flags.clean
+own_row h s from c st may none =
+    own_parts h s from c s.clients may st.shown st.shown.clients st.good.apart
+    ∙ (ap (λ ids. if is_among c.client_id ids then own_answer h from c.client_id c.flags.clean else []) st.shown.order
+    ∙ own_any h from c (is_among c.client_id (accepted h)) none)
+
+-- CONNACK before it or behind it
+acked : (h : List Row) (from : Address) (id : List ℕ) (clean : Bool) (ack : Out) → whole.around_connack clean (own_answer h from id clean) ack ≡ around_connack h from id clean ack
+acked h from id true ack = refl
+acked h from id false ack = refl
+
 -- ---- the row
 
-entry_by : (h : List Row) (s : State) (from : Address) (c : Connect) (o : Outcome) → Stands h s → entry s c ≡ o
+entry_by : (h : List Row) (s : State) (from : Address) (c : Connect) (o : Outcome) → Stands h s → NoneWaits h c.client_id → entry s c ≡ o
     → entry_outs s from c (notes_for s (ByConnect from c)) o ≡ entry_answer h from c o
-entry_by h s from c Allowed st is =
-    rw (old_row h s from c.client_id st, others_row h s from c st.shown is, clean_row h s from c st.shown is) refl
-entry_by h s from c (Denied rule) st is = ap (λ code. Note (note.Connect c.client_id (Denied rule)) ∷ connack from code ∷ []) (code_same rule)
+entry_by h s from c Allowed st none is =
+    rw (old_row h s from c.client_id st, others_row h s from c st.shown is, clean_row h s from c st.shown is, own_row h s from c st is none, acked h from c.client_id c.flags.clean (connack from ACCEPTED)) refl
+entry_by h s from c (Denied rule) st none is = ap (λ code. Note (note.Connect c.client_id (Denied rule)) ∷ connack from code ∷ []) (code_same rule)
 
-pub connect_row : (h : List Row) (s : State) (from : Address) (c : Connect) → Stands h s → entry_outs s from c (notes_for s (ByConnect from c)) (entry s c) ≡ connect_answer h from c
-connect_row h s from c st = entry_by h s from c (entry s c) st refl ∙ ap (entry_answer h from c) (entry_ruled h s c st.shown)
+pub connect_row : (h : List Row) (s : State) (from : Address) (c : Connect) → Stands h s → NoneWaits h c.client_id
+    → entry_outs s from c (notes_for s (ByConnect from c)) (entry s c) ≡ connect_answer h from c
+connect_row h s from c st none = entry_by h s from c (entry s c) st none refl ∙ ap (entry_answer h from c) (entry_ruled h s c st.shown)

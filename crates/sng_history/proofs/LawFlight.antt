@@ -1,12 +1,12 @@
 -- The laws of what is in flight and of each packet, by induction over the rows.
-use Rattle.std.proofs.Common.{◌≡◌, ℕ, map, Bool, true, false, List, [], ◌∷◌, refl, sym, ◌∙◌, subst, MatchBool}
+use Rattle.std.proofs.Common.{◌≡◌, ℕ, ◌≤◌, map, Bool, true, false, List, [], ◌∷◌, ◌++◌, refl, ap, sym, ◌∙◌, subst, MatchBool}
 use Rattle.sng_frames.specs.Reading.{frame_of}
 use Rattle.sng_book.specs.declared.event.Event.{Event}
 use Rattle.sng_book.specs.declared.event.Event.TheVariants.{Datagram, Broker, Up, Down, Take, Replace, Tick}
 use Rattle.sng_book.specs.declared.out.Out.{Out}
 use Rattle.sng_book.specs.declared.row.Row.{Row}
 use Rattle.sng_history.specs.Causes.{ByPacket, ByUp, ByReplace, cause_of, datagram_cause}
-use Rattle.sng_history.specs.Links.{wants, resumed, filters_wanted}
+use Rattle.sng_history.specs.Links.{Link, wants, still_in_flight, resumed, filters_wanted}
 use Rattle.sng_history.specs.ViewsStanding.{held_in, wanted}
 use Rattle.sng_history.proofs.LawRows.{anew, anew_wires}
 use Rattle.sng_history.proofs.StandingState.{standing_shown, held_shown}
@@ -16,14 +16,17 @@ use Rattle.sng_history.specs.Lawful.{Lawful, exits_for}
 use Rattle.sng_history.specs.Steps.{outs_of}
 use Rattle.sng_history.specs.Views.{policy_in_force}
 use Rattle.sng_history.specs.ViewsLink.{departures, wires_in}
-use Rattle.sng_history.specs.ViewsFlight.{agains, in_flight}
-use Rattle.sng_history.specs.LawsFlight.{AllReturn, is_beginning, EachReturns, AreIds, IdsApart, PacketsFor, AllSubscribe, PacketsAt, EachPacket}
+use Rattle.sng_history.specs.ViewsFlight.{agains, allowed_again, in_flight}
+use Rattle.sng_history.specs.LawsFlight.{AllReturn, is_beginning, EachReturns, AreIds, IdsApart, given_at, packets_of, PacketsFor, subscribes_with, PacketsAt, EachPacket}
+use Rattle.sng_history.specs.LawsState.{RestShown}
+use Rattle.sng_history.specs.Exits.{agains_of}
 use Rattle.sng_history.proofs.Says.{says}
 use Rattle.sng_history.proofs.Keeping.{exact_by}
 use Rattle.sng_history.proofs.SeenState.{Stands, stands}
 use Rattle.sng_history.proofs.FlightIds.{ids_of}
-use Rattle.sng_history.proofs.SeenRest.{flights_shown}
-use Rattle.sng_history.proofs.LawAgain.{all_return, again_wires, none_again, take_wires, all_subscribe, wires_none, no_agains}
+use Rattle.sng_history.proofs.SeenRest.{flights_shown, again_stays}
+use Rattle.sng_history.proofs.SeenLast.{rest_shown}
+use Rattle.sng_history.proofs.LawAgain.{all_return, again_wires, none_again, given_by, take_wires, all_subscribe, wires_none, no_agains}
 use Rattle.sng_history.proofs.LawWires.{datagram_still, broker_wires, replace_wires}
 
 -- ---- judged again
@@ -64,25 +67,41 @@ ids_apart h l =
 
 -- ---- each packet
 
-take_packets : (s : State) (held : List ℕ → Bool) (b : Bool) → s.up ≡ b → ((text : List ℕ) → wants s.link.wanted text ≡ held text)
-    → MatchBool b (PacketsFor held s.link.waiting (departures (outs_of s Take)) (wires_in (outs_of s Take))) (wires_in (outs_of s Take) ≡ [])
-take_packets s held true is same = rw is (take_wires held s.policy s.link s.link.waiting same)
-take_packets s held false is same = rw is refl
+-- the packet ids that the link gave are those that the rows show
+given_same : (h : List Row) (link : Link) → RestShown h link → given_by link ≡ given_at (in_flight h) h
+given_same h link are = rw (are.in_flight, are.wanted, are.last) refl
 
-row_packets : (h : List Row) (s : State) (e : Event) → Stands h s → s.link.wanted ≡ wanted h → ((text : List ℕ) → wants s.link.wanted text ≡ held_in h text) → PacketsAt e h (outs_of s e)
-row_packets h s (Datagram from datagram) st is same = (datagram_still s from (frame_of datagram)).wires
-row_packets h s (Broker sent) st is same = broker_wires s sent
-row_packets h s Up st is same = (
-  wires_in (anew s),
-  (
-    again_wires s.policy s.link.in_flight (anew s) (wires_none (anew s) (anew_wires s)),
-    subst (λ all. AllSubscribe (map (λ w. w.filter) all) (wires_in (anew s))) is (all_subscribe (resumed s.link s.clock (exits_for s ByUp)) (filters_wanted s.link)),
-  ),
-)
-row_packets h s Down st is same = refl
-row_packets h s Take st is same = rw (sym st.shown.up, sym st.shown.waits) (take_packets s (held_in h) s.up refl same)
-row_packets h s (Replace policy) st is same = replace_wires s policy
-row_packets h s (Tick clock) st is same = refl
+begun_same : (h : List Row) (s : State) → RestShown h s.link
+    → given_by (resumed s.link s.clock (exits_for s ByUp)) ≡ given_at (allowed_again (in_flight h) (agains (outs_of s Up))) h
+begun_same h s are =
+    let stays : still_in_flight s.link.in_flight (agains_of s.policy s.link.in_flight) ≡ allowed_again (in_flight h) (agains (outs_of s Up)) =
+    again_stays s.policy s.link.in_flight (anew s) ∙ ap (λ flights. allowed_again flights (agains (outs_of s Up))) are.in_flight in
+    ap (λ flights. record { in_flight = ids_of flights; wanted = s.link.wanted; last = s.link.last }) stays
+    ∙ (ap (λ wanted. record { in_flight = ids_of (allowed_again (in_flight h) (agains (outs_of s Up))); wanted = wanted; last = s.link.last }) are.wanted
+    ∙ ap (λ last. record { in_flight = ids_of (allowed_again (in_flight h) (agains (outs_of s Up))); wanted = wanted h; last = last }) are.last)
+
+take_packets : (s : State) (held : List ℕ → Bool) (b : Bool) → s.up ≡ b → s.link.last ≤ 65535 → ((text : List ℕ) → wants s.link.wanted text ≡ held text)
+    → MatchBool b (PacketsFor held (given_by s.link) s.link.waiting (departures (outs_of s Take)) (wires_in (outs_of s Take))) (wires_in (outs_of s Take) ≡ [])
+take_packets s held true is small same = rw is (take_wires held s.policy s.link s.link.waiting small same)
+take_packets s held false is small same = rw is refl
+
+up_packets : (h : List Row) (s : State) → RestShown h s.link → PacketsAt Up h (outs_of s Up)
+up_packets h s are =
+    let given = given_at (allowed_again (in_flight h) (agains (outs_of s Up))) h in
+    again_wires s.policy s.link.in_flight (anew s) (wires_none (anew s) (anew_wires s))
+    ∙ ap (λ more. packets_of (agains (outs_of s Up)) ++ more)
+    (all_subscribe (resumed s.link s.clock (exits_for s ByUp)) (filters_wanted s.link)
+    ∙ (ap (λ from. subscribes_with from (filters_wanted s.link)) (begun_same h s are)
+    ∙ ap (λ all. subscribes_with given (map (λ w. w.filter) all)) are.wanted))
+
+row_packets : (h : List Row) (s : State) (e : Event) → Stands h s → RestShown h s.link → s.link.last ≤ 65535 → ((text : List ℕ) → wants s.link.wanted text ≡ held_in h text) → PacketsAt e h (outs_of s e)
+row_packets h s (Datagram from datagram) st are small same = (datagram_still s from (frame_of datagram)).wires
+row_packets h s (Broker sent) st are small same = broker_wires s sent
+row_packets h s Up st are small same = up_packets h s are
+row_packets h s Down st are small same = refl
+row_packets h s Take st are small same = rw (sym (given_same h s.link are), sym st.shown.up, sym st.shown.waits) (take_packets s (held_in h) s.up refl small same)
+row_packets h s (Replace policy) st are small same = replace_wires s policy
+row_packets h s (Tick clock) st are small same = refl
 
 pub each_packet : (h : List Row) → Lawful opening h → EachPacket h
 each_packet [] l = tt
@@ -91,6 +110,6 @@ each_packet (row ∷ h) l =
     let st = stands h l.0 in (
       each_packet h l.0,
       subst (PacketsAt row.event h) (sym (exact_by s (cause_of row.event) row.outs l.1))
-          (row_packets h s row.event st (wanted_shown h l.0).wanted
+          (row_packets h s row.event st (rest_shown h l.0) (wanted_shown h l.0).last
           (λ text. st.good.wanted_held text ∙ sym (held_shown h s text st.shown.order (standing_shown h l.0).filters))),
     )

@@ -22,7 +22,7 @@ use Rattle.sng_text.specs.declared.qos.Qos.{Qos}
 use Rattle.sng_text.specs.declared.qos.Qos.TheVariants.{AtMostOnce, AtLeastOnce}
 use Rattle.sng_history.specs.Links.{Link, wants, next_packet_id, packet_id_by, exited, subscribe_sent, subscribe_left, unsubscribe_left}
 use Rattle.sng_history.specs.Exits.{packet_of, exits_of, forwarded, subscribe_packet, unsubscribe_packet, subscribe_leaves, unsubscribe_leaves, subscribing, leaving}
-use Rattle.sng_history.specs.ViewsMessages.{Message, Connects, Registers, Publishes, Subscribes, Unsubscribes, Other, message_at}
+use Rattle.sng_history.specs.ViewsMessages.{Message, Connects, Registers, Publishes, Subscribes, Unsubscribes, Confirms, Acknowledges, Other, message_at}
 use Rattle.sng_history.specs.ViewsStanding.{begun_by}
 use Rattle.sng_history.specs.ViewsLink.{Departure, allowed_by, publish_in, allowed_of, asks_for, asked_with, owed_with, items_by, items_in, items_for, told_with, added, publications, departure, departures, wires_in, sends_in}
 use Rattle.sng_history.specs.LawsRules.{judged, publish_rules}
@@ -143,7 +143,7 @@ all_announced policy link (item.Ping ∷ items) lets = all_announced policy link
 
 -- ---- any other row
 
-departed_note : (said : Decision) (outs : List Out) → exit_of said ++ exits_in outs ≡ [] → departure said outs ≡ []
+pub departed_note : (said : Decision) (outs : List Out) → exit_of said ++ exits_in outs ≡ [] → departure said outs ≡ []
 departed_note (note.Forward who name outcome) outs none = absurd (let e = none in cc)
 departed_note _ outs none = refl
 
@@ -218,6 +218,8 @@ for_message (Some (Publishes p)) outs = in_notes (publish_in (Some (Publishes p)
 for_message (Some (Registers r)) outs = in_notes None outs
 for_message (Some (Subscribes r)) outs = in_notes None outs
 for_message (Some (Unsubscribes r)) outs = in_notes None outs
+for_message (Some (Confirms r)) outs = in_notes None outs
+for_message (Some (Acknowledges r)) outs = in_notes None outs
 for_message (Some Other) outs = in_notes None outs
 for_message None outs = refl
 

@@ -1,8 +1,10 @@
 -- What answers a message of a session, of who is at the address.
-use Rattle.std.proofs.Common.{◌≡◌, ℕ, Bool, true, false, List, [], ◌∷◌, ◌++◌, refl, ap, sym, ◌∙◌, if◌then◌else◌}
+use Rattle.std.proofs.Common.{◌≡◌, ℕ, Bool, true, false, List, [], ◌∷◌, ◌++◌, map, refl, ap, sym, ◌∙◌, if◌then◌else◌}
 use Rattle.std.specs.Prelude.{Option, Some, None}
 use Rattle.sng_states.specs.declared.state.ClientState.{ClientState}
 use Rattle.sng_states.specs.declared.state.ClientState.TheVariants.{Dialogue, Active, Asleep, Awake, Disconnected, Lost}
+use Rattle.sng_queue.specs.Messages.{Message}
+use Rattle.sng_queue.specs.Buffers.{settle}
 use Rattle.sng_frames.specs.Writing.{written}
 use Rattle.sng_frames.specs.declared.frame.SnFrame.{SnFrame}
 use Rattle.sng_frames.specs.declared.frame.SnFrame.TheVariants as frame
@@ -10,18 +12,19 @@ use Rattle.sng_book.specs.declared.address.Address.{Address}
 use Rattle.sng_book.specs.declared.decision.Decision.TheVariants as note
 use Rattle.sng_book.specs.declared.decision.Who.TheVariants as who
 use Rattle.sng_book.specs.declared.outcome.Denial.{Denial}
-use Rattle.sng_book.specs.declared.outcome.Denial.TheVariants.{NotSupported, NoSession, OutOfTurn}
+use Rattle.sng_book.specs.declared.outcome.Denial.TheVariants.{NotSupported, NoSession, OutOfTurn, Gone}
 use Rattle.sng_book.specs.declared.outcome.Outcome.TheVariants.{Allowed, Denied}
 use Rattle.sng_book.specs.declared.out.Out.{Out}
 use Rattle.sng_book.specs.declared.out.Out.TheVariants.{Send, Note}
 use Rattle.sng_book.specs.declared.row.Row.{Row}
 use Rattle.sng_history.specs.Causes.{Cause, ByMessage, ToPing, ToLeave, Untaken, ByBroken}
-use Rattle.sng_history.specs.Clients.{Around, Client, is_here}
+use Rattle.sng_history.specs.Clients.{Around, Client, is_here, gone}
 use Rattle.sng_history.specs.State.{State}
 use Rattle.sng_history.specs.Standing.{Release}
 use Rattle.sng_history.specs.Verdicts.{names_other, is_active, ping_verdict}
 use Rattle.sng_history.specs.Answers.{denied_note}
 use Rattle.sng_history.specs.Whole.{spell, pong_by, stranger_to, drops, frame_row}
+use Rattle.sng_history.specs.Outgoing.{all_gone}
 use Rattle.sng_history.specs.Lawful.{denial_of}
 use Rattle.sng_history.specs.Steps.{notes_for}
 use Rattle.sng_history.specs.ViewsClients.{those_at}
@@ -121,19 +124,29 @@ ping_row h s from client shown =
 
 -- ---- DISCONNECT, and what is no message
 
-leave_part : (s : State) (from : Address) (dropped : List Release) (x : Client) (b : Bool) → (b ≡ true → x.address ≡ from)
-    → (if b then [] else []) ++ spell (by_cause s (ByMessage from ToLeave)) dropped (heard_if b s.clock x) (if b then note.Left x.id ∷ [] else [])
-    ≡ (if b then leave_answer from x.id else [])
-leave_part s from dropped x true at = ap (λ to. leave_answer to x.id) (at refl)
-leave_part s from dropped x false at = refl
+-- what waits for a client is gone
+pub gone_spelled : (a : Around) (dropped : List Release) (id : List ℕ) (waiting : List Message) (x : Client)
+    → spell a dropped x (all_gone id waiting) ≡ map (λ m. Note (note.Hand id m.name (Denied Gone))) waiting
+gone_spelled a dropped id [] x = refl
+gone_spelled a dropped id (m ∷ more) x =
+    ap (λ outs. Note (note.Hand id m.name (Denied Gone)) ∷ outs) (gone_spelled a dropped id more (record x { buffer = settle x.buffer }))
+
+leave_part : (h : List Row) (s : State) (from : Address) (dropped : List Release) (x : Client) (b : Bool) → ClientShown h x → (b ≡ true → x.address ≡ from)
+    → (if b then [] else []) ++ spell (by_cause s (ByMessage from ToLeave)) dropped (heard_if b s.clock x) (if b then note.Left x.id ∷ all_gone x.id x.buffer.waiting else [])
+    ≡ (if b then leave_answer h from x.id else [])
+leave_part h s from dropped x true shown at =
+    ap (λ outs. Note (note.Left x.id) ∷ bye x.address ∷ outs) (gone_spelled (by_cause s (ByMessage from ToLeave)) dropped x.id x.buffer.waiting (gone (heard_if true s.clock x)))
+    ∙ (ap (λ waiting. Note (note.Left x.id) ∷ bye x.address ∷ map (λ m. Note (note.Hand x.id m.name (Denied Gone))) waiting) shown.waiting
+    ∙ ap (λ to. leave_answer h to x.id) (at refl))
+leave_part h s from dropped x false shown at = refl
 
 pub leave_row : (h : List Row) (s : State) (from : Address) → StateShown h s
     → let c = ByMessage from ToLeave in
-    frame_row s c (stranger_to from ToLeave) (notes_for s c) ≡ answer_to (no_session from) (leave_answer from) (those_at from h)
+    frame_row s c (stranger_to from ToLeave) (notes_for s c) ≡ answer_to (no_session from) (leave_answer h from) (those_at from h)
 leave_row h s from shown =
     let c = ByMessage from ToLeave in
-    row_answer h s from c (stranger_to from ToLeave) (leave_answer from) shown (λ x. refl)
-    (each_part h s from c (leave_answer from) shown (λ x is. leave_part s from (drops s c (notes_for s c)) x (is_here x from) (here_is x from)))
+    row_answer h s from c (stranger_to from ToLeave) (leave_answer h from) shown (λ x. refl)
+    (each_part h s from c (leave_answer h from) shown (λ x is. leave_part h s from (drops s c (notes_for s c)) x (is_here x from) is (here_is x from)))
 
 abbrev broken_note : Denial → List ℕ → List Out
 broken_note rule id = Note (note.Frame (who.Client id) (Denied rule)) ∷ []

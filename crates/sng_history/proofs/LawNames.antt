@@ -1,6 +1,7 @@
--- The names that a client was told ids of stand where they stood.
-use Rattle.std.proofs.Common.{◌≡◌, ℕ, suc, ◌+◌, ◌≤◌, Bool, true, false, List, [], ◌∷◌, ◌++◌, length, refl, ap, sym, ◌∙◌, subst, if◌then◌else◌, arith, rules}
-use Rattle.std.specs.Prelude.{◌||◌, ◌&&◌, not, nat_lt, slice_get, Option, Some, None}
+-- The names that a client was told ids of stand where they stood, and a row tells it at most one name more: behind an announcement nothing
+-- leaves that tells another.
+use Rattle.std.proofs.Common.{◌≡◌, ℕ, suc, ◌+◌, Bool, true, false, List, [], ◌∷◌, ◌++◌, length, refl, ap, sym, ◌∙◌, subst, if◌then◌else◌, arith, rules}
+use Rattle.std.specs.Prelude.{◌==◌, ◌||◌, ◌&&◌, not, nat_lt, slice_get, is_some, Option, Some, None}
 use Rattle.std.specs.List.{position_or_len}
 use Rattle.std.specs.Str.{bytes_eq}
 use Rattle.std.proofs.lemmas.List.{append-nil}
@@ -9,6 +10,14 @@ use Rattle.sng_grants.specs.Sources.{scope_of}
 use Rattle.sng_policy.specs.Grants.{lists}
 use Rattle.sng_grants.specs.declared.policy.Policy.{Policy}
 use Rattle.sng_fan.specs.declared.held.Held.{Held}
+use Rattle.sng_text.specs.declared.qos.Qos.{Qos}
+use Rattle.sng_text.specs.declared.qos.Qos.TheVariants.{AtMostOnce, AtLeastOnce}
+use Rattle.mqtt_frames.specs.declared.packet.Packet.{Packet}
+use Rattle.sng_ids.specs.Ids.{Ids, is_full_for}
+use Rattle.sng_queue.specs.Messages.{Message}
+use Rattle.sng_queue.specs.Buffers.{Buffer, settle}
+use Rattle.sng_frames.specs.declared.messages.acks.TopicAck.{TopicAck}
+use Rattle.sng_frames.specs.declared.messages.connect.Connect.{Connect}
 use Rattle.sng_frames.specs.declared.messages.register.Register.{Register}
 use Rattle.sng_frames.specs.declared.messages.subscribe.TopicRequest.{TopicRequest}
 use Rattle.sng_frames.specs.declared.frame.SnFrame.TheVariants as frame
@@ -17,31 +26,37 @@ use Rattle.sng_book.specs.declared.address.Address.{Address}
 use Rattle.sng_book.specs.declared.decision.Decision.{Decision}
 use Rattle.sng_book.specs.declared.decision.Decision.TheVariants as note
 use Rattle.sng_book.specs.declared.decision.Who.TheVariants as who
-use Rattle.sng_book.specs.declared.outcome.Denial.TheVariants.{BrokerRefused}
+use Rattle.sng_book.specs.declared.outcome.Denial.TheVariants.{BrokerRefused, NotSupported, ClientRefused, OutOfTurn, Full, Gone}
+use Rattle.sng_book.specs.declared.outcome.Place.TheVariants as place
 use Rattle.sng_book.specs.declared.outcome.Outcome.{Outcome}
 use Rattle.sng_book.specs.declared.outcome.Outcome.TheVariants.{Allowed, Denied}
 use Rattle.sng_book.specs.declared.out.Out.{Out}
 use Rattle.sng_book.specs.declared.out.Out.TheVariants.{Send, Wire, Note}
 use Rattle.sng_book.specs.declared.row.Row.{Row}
-use Rattle.sng_history.specs.Causes.{Request, ToPing, ToLeave, ToRegister, ToPublish, ToSubscribe, ToUnsubscribe, Untaken, Cause, cause_of}
+use Rattle.sng_history.specs.Causes.{Request, ToPing, ToLeave, ToRegister, ToPublish, ToSubscribe, ToUnsubscribe, ToConfirm, ToAcknowledge, Untaken, Cause, cause_of}
 use Rattle.sng_history.specs.Causes.{ByConnect, ByMessage, BySource, ByBroken, ByPacket, ByUp, ByDown, ByTake, ByReplace, ByTick}
-use Rattle.sng_history.specs.Clients.{Client, is_here}
+use Rattle.sng_history.specs.Arriving.{arrival, joins, turned_away_by, turned_away}
+use Rattle.sng_history.specs.Handing.{known_as}
+use Rattle.sng_history.specs.Outgoing.{receive, behind, offered, judged_turn, turns, is_free, handed_over, all_gone, refusals, out_of_turn, delivered_notes}
+use Rattle.sng_history.specs.Clients.{Client, is_here, is_confirming, is_acknowledging, closed, confirmed_with, message_due, let_in}
 use Rattle.sng_history.specs.Notes.{notes_of}
 use Rattle.sng_history.specs.State.{State, opening, state_of}
-use Rattle.sng_history.specs.Verdicts.{entry, ping_verdict, coverage}
+use Rattle.sng_history.specs.Verdicts.{entry, ping_verdict, register_ask, publish_ask, subscribe_ask, unsubscribe_ask, coverage}
+use Rattle.sng_history.specs.Answers.{denied_note}
 use Rattle.sng_history.specs.Packets.{answer_of, refused_filter}
 use Rattle.sng_history.specs.Standing.{holds}
-use Rattle.sng_history.specs.Lawful.{Lawful, denial_of, fixed_to, end_of, ends_under, refused_end, fixed_for}
+use Rattle.sng_history.specs.Lawful.{Lawful, confirmations, entering_notes, denial_of, fixed_to, end_of, ends_under, refused_end, fixed_for}
 use Rattle.sng_history.specs.Steps.{newcomers_for, outs_by}
 use Rattle.sng_history.specs.Good.{Each}
-use Rattle.sng_history.specs.ViewsClients.{admits, is_admitted, is_among, accepted, speaks_of, with_name, name_subscribed, names_by, names_after, names_told, those_at, phase_of}
+use Rattle.sng_history.specs.ViewsClients.{admits, is_admitted, is_among, accepted, speaks_of, with_name, name_subscribed, names_by, names_after, names_told, those_at, phase_of, id_told}
 use Rattle.sng_history.specs.Views.{policy_in_force}
 use Rattle.sng_history.specs.ViewsMessages.{message_at, subscribe_in}
 use Rattle.sng_history.specs.LawsState.{NoneTwice, OneMore}
 use Rattle.sng_history.specs.LawsRules.{judged, may_publish}
 use Rattle.sng_history.specs.LawsAnswers.{Brought, answer_to, is_active}
-use Rattle.sng_history.specs.LawsAsks.{may_ask, register_rules, register_stranger, register_answer, regack, id_told, told_as}
+use Rattle.sng_history.specs.LawsAsks.{may_ask, register_rules, register_stranger, register_answer, regack, told_as}
 use Rattle.sng_history.proofs.Own.{same_self, same_means, flip}
+use Rattle.sng_history.proofs.Hands.{Every, every_append, every_if}
 use Rattle.sng_history.proofs.Says.{says}
 use Rattle.sng_history.proofs.Keeping.{exact_by}
 use Rattle.sng_history.proofs.SeenNotes.{admitted_notes, names_notes, admitted_by_notes, names_by_notes}
@@ -66,9 +81,9 @@ one_if : (names more : List (List ℕ)) (b : Bool) → OneMore names more → On
 one_if names more true is = is
 one_if names more false is = same_names names
 
-first_false : (a : Bool) → (a || false) ≡ false → a ≡ false
-first_false true is = is
-first_false false is = refl
+or_none : (a b : Bool) → (a || b) ≡ false → (a ≡ false) × (b ≡ false)
+or_none true b is = absurd (let e = is in cc)
+or_none false b is = (refl, is)
 
 -- a note that does not accept the client
 note_more : (r : Option TopicRequest) (id : List ℕ) (said : Decision) (names : List (List ℕ)) → admits id said ≡ false → OneMore names (names_by r id said names)
@@ -76,76 +91,175 @@ note_more r id (note.Connect client outcome) names none = rw none (same_names na
 note_more r id (note.Register whom name outcome) names none = one_if names (with_name name names) (speaks_of id whom && is_allowed outcome) (with_one names name)
 note_more r id (note.Subscribe whom filter outcome) names none =
     one_if names (with_name (name_subscribed r filter) names) (speaks_of id whom && is_allowed outcome) (with_one names (name_subscribed r filter))
+note_more r id (note.Announce client name) names none = one_if names (with_name (Some name) names) (bytes_eq id client) (with_one names (Some name))
 note_more r id _ names none = same_names names
 
--- ---- at most one note of a client stands in a row
+-- ---- the notes of a client tell at most one name more
 
-notes_more : (r : Option TopicRequest) (id : List ℕ) (notes : List Decision) (names : List (List ℕ)) → length notes ≤ 1 → admitted_notes id notes ≡ false → OneMore names (names_notes r id notes names)
-notes_more r id [] names few none = same_names names
-notes_more r id (said ∷ []) names few none = note_more r id said names (first_false (admits id said) none)
-notes_more r id (said ∷ next ∷ notes) names few none = absurd (omega (arith, few))
-
-few_if : (b : Bool) (notes : List Decision) → length notes ≤ 1 → length (let all : List Decision = if b then notes else [] in all) ≤ 1
-few_if true notes few = few
-few_if false notes few = search rules
-
-few_denial : (id : List ℕ) (o : Outcome) → length (denial_of id o) ≤ 1
-few_denial id Allowed = search rules
-few_denial id (Denied rule) = search rules
-
-few_entry : (x : Client) (own here : Bool) (o : Outcome)
-    → length (let all : List Decision = if own then note.Connect x.id o ∷ [] else (if is_allowed o then (if here then note.Left x.id ∷ [] else []) else []) in all) ≤ 1
-few_entry x true here o = search rules
-few_entry x false here o = few_if (is_allowed o) (if here then note.Left x.id ∷ [] else []) (few_if here (note.Left x.id ∷ []) (search rules))
-
-few_to : (s : State) (request : Request) (x : Client) → length (fixed_to s request x) ≤ 1
-few_to s (ToPing client) x = few_denial x.id (ping_verdict client x)
-few_to s ToLeave x = search rules
-few_to s (ToRegister r) x = search rules
-few_to s (ToPublish p) x = search rules
-few_to s (ToSubscribe r) x = search rules
-few_to s (ToUnsubscribe r) x = search rules
-few_to s (Untaken message) x = search rules
-
-few_refused : (x : Client) (text : Option (List ℕ)) → length (refused_end x text) ≤ 1
-few_refused x None = search rules
-few_refused x (Some text) = few_if (holds text x) (note.End x.id text (Denied BrokerRefused) ∷ []) (search rules)
-
--- a client's subscriptions end, of which no note tells an id
-end_names : (r : Option TopicRequest) (id own text : List ℕ) (o : Outcome) (notes : List Decision) (names : List (List ℕ)) → names_notes r id (end_of own text o ++ notes) names ≡ names_notes r id notes names
-end_names r id own text Allowed notes names = refl
-end_names r id own text (Denied rule) notes names = refl
-
-ends_names : (r : Option TopicRequest) (policy : Policy) (id own : List ℕ) (held : List Held) (names : List (List ℕ)) → names_notes r id (ends_under policy own held) names ≡ names
-ends_names r policy id own [] names = refl
-ends_names r policy id own (h ∷ held) names = end_names r id own h.filter (coverage policy own h.filter) (ends_under policy own held) names ∙ ends_names r policy id own held names
-
--- at most one name more is told by the notes of a client
 abbrev OneTold : List ℕ → List Decision → Type 0
 OneTold id notes = (r : Option TopicRequest) (names : List (List ℕ)) → admitted_notes id notes ≡ false → OneMore names (names_notes r id notes names)
 
-few_told : (id : List ℕ) (notes : List Decision) → length notes ≤ 1 → OneTold id notes
-few_told id notes few r names none = notes_more r id notes names few none
+none_told : (id : List ℕ) → OneTold id []
+none_told id r names none = same_names names
 
-one_told : (s : State) (c : Cause) (x : Client) (id : List ℕ) → OneTold id (fixed_for s c x)
-one_told s (ByConnect from connect) x id =
-    few_told id (fixed_for s (ByConnect from connect) x) (few_entry x (bytes_eq connect.client_id x.id) (is_here x from) (entry s connect))
-one_told s (ByMessage from request) x id =
-    few_told id (fixed_for s (ByMessage from request) x) (few_if (is_here x from) (fixed_to s request x) (few_to s request x))
-one_told s (ByBroken from rule) x id =
-    few_told id (fixed_for s (ByBroken from rule) x) (few_if (is_here x from) (note.Frame (who.Client x.id) (Denied rule) ∷ []) (search rules))
-one_told s (BySource from p) x id = few_told id [] (search rules)
-one_told s (ByPacket p) x id = few_told id (fixed_for s (ByPacket p) x) (few_refused x (refused_filter s.link (answer_of p)))
-one_told s ByUp x id = few_told id [] (search rules)
-one_told s ByDown x id = few_told id [] (search rules)
-one_told s ByTake x id = few_told id [] (search rules)
-one_told s (ByReplace policy) x id = λ r names none. subst (OneMore names) (sym (ends_names r policy id x.id x.filters names)) (same_names names)
-one_told s (ByTick clock) x id = few_told id [] (search rules)
+one_told : (id : List ℕ) (said : Decision) → OneTold id (said ∷ [])
+one_told id said r names none = note_more r id said names (or_none (admits id said) false none).0
+
+-- a note that tells none
+abbrev Mute : List ℕ → Decision → Type 0
+Mute id said = (r : Option TopicRequest) (names : List (List ℕ)) → admits id said ≡ false → names_by r id said names ≡ names
+
+told_behind : (id : List ℕ) (xs ys : List Decision) → Every (Mute id) xs → OneTold id ys → OneTold id (xs ++ ys)
+told_behind id [] ys every later r names none = later r names none
+told_behind id (said ∷ xs) ys every later r names none =
+    let both = or_none (admits id said) (admitted_notes id (xs ++ ys)) none in
+    subst (λ before. OneMore names (names_notes r id (xs ++ ys) before)) (sym (every.0 r names both.0)) (told_behind id xs ys every.1 later r names both.1)
+
+told_mute : (id : List ℕ) (xs : List Decision) → Every (Mute id) xs → OneTold id xs
+told_mute id [] every r names none = same_names names
+told_mute id (said ∷ xs) every r names none =
+    let both = or_none (admits id said) (admitted_notes id xs) none in
+    subst (λ before. OneMore names (names_notes r id xs before)) (sym (every.0 r names both.0)) (told_mute id xs every.1 r names both.1)
+
+told_if : (id : List ℕ) (b : Bool) (notes : List Decision) → OneTold id notes → OneTold id (if b then notes else [])
+told_if id true notes told = told
+told_if id false notes told = none_told id
+
+told_either : (id : List ℕ) (b : Bool) (xs ys : List Decision) → OneTold id xs → OneTold id ys → OneTold id (if b then xs else ys)
+told_either id true xs ys one two = one
+told_either id false xs ys one two = two
+
+denial_told : (id own : List ℕ) (o : Outcome) → OneTold id (denial_of own o)
+denial_told id own Allowed = none_told id
+denial_told id own (Denied rule) = one_told id (note.Frame (who.Client own) (Denied rule))
+
+-- ---- messages: behind an announcement nothing more leaves
+
+hand_mute : (id client name : List ℕ) (o : Outcome) → Mute id (note.Hand client name o)
+hand_mute id client name o r names none = refl
+
+behind_told : (id : List ℕ) (said : Decision) (more : List Decision) → Mute id said → OneTold id more → OneTold id (said ∷ more)
+behind_told id said more mute told = told_behind id (said ∷ []) more (mute, tt) told
+
+quality_told : (id : List ℕ) (q : Qos) (more : List Decision) → OneTold id more → OneTold id (behind q more)
+quality_told id AtMostOnce more told = told
+quality_told id AtLeastOnce more told = none_told id
+
+offered_told : (id client : List ℕ) (m : Message) (known full : Bool) (more : List Decision) → OneTold id more → OneTold id (offered client m known full more)
+offered_told id client m true full more told =
+    behind_told id (note.Hand client m.name Allowed) (behind m.qos more) (hand_mute id client m.name Allowed) (quality_told id m.qos more told)
+offered_told id client m false true more told =
+    let o = Denied (Full place.Ids) in behind_told id (note.Hand client m.name o) more (hand_mute id client m.name o) told
+offered_told id client m false false more told = one_told id (note.Announce client m.name)
+
+judged_told : (id : List ℕ) (policy : Policy) (client : List ℕ) (ids : Ids) (m : Message) (o : Outcome) (more : List Decision) → OneTold id more → OneTold id (judged_turn policy client ids m o more)
+judged_told id policy client ids m Allowed more told = offered_told id client m (is_some (known_as policy ids m.name)) (is_full_for m.name ids) more told
+judged_told id policy client ids m (Denied rule) more told = behind_told id (note.Hand client m.name (Denied rule)) more (hand_mute id client m.name (Denied rule)) told
+
+turns_told : (id : List ℕ) (policy : Policy) (client : List ℕ) (ids : Ids) (waiting : List Message) → OneTold id (turns policy client ids waiting)
+turns_told id policy client ids [] = none_told id
+turns_told id policy client ids (m ∷ more) =
+    judged_told id policy client ids m (receive policy client m.name) (turns policy client ids more) (turns_told id policy client ids more)
+
+handed_told : (id : List ℕ) (policy : Policy) (x : Client) → OneTold id (handed_over policy x)
+handed_told id policy x = told_if id (is_free x) (turns policy x.id x.ids x.buffer.waiting) (turns_told id policy x.id x.ids x.buffer.waiting)
+
+gone_mute : (id client : List ℕ) (waiting : List Message) → Every (Mute id) (all_gone client waiting)
+gone_mute id client [] = tt
+gone_mute id client (m ∷ more) = (hand_mute id client m.name (Denied Gone), gone_mute id client more)
+
+refusal_mute : (id client : List ℕ) (code : ℕ) (waiting : List Message) → Every (Mute id) (refusals client code waiting)
+refusal_mute id client code [] = tt
+refusal_mute id client code (m ∷ more) = (hand_mute id client m.name (Denied (ClientRefused code)), tt)
+
+turned_mute : (id client name : List ℕ) (o : Outcome) → Every (Mute id) (turned_away_by client name o)
+turned_mute id client name Allowed = tt
+turned_mute id client name (Denied rule) = (hand_mute id client name (Denied rule), tt)
+
+away_mute : (id client : List ℕ) (due : Option Message) (b : Buffer) → Every (Mute id) (turned_away client due b)
+away_mute id client None b = tt
+away_mute id client (Some m) b = turned_mute id client m.name (arrival b m)
+
+-- ---- each row
+
+left_told : (id : List ℕ) (x : Client) → OneTold id (note.Left x.id ∷ all_gone x.id x.buffer.waiting)
+left_told id x = behind_told id (note.Left x.id) (all_gone x.id x.buffer.waiting) (λ r names none. refl) (told_mute id (all_gone x.id x.buffer.waiting) (gone_mute id x.id x.buffer.waiting))
+
+entering_told : (s : State) (from : Address) (connect : Connect) (x : Client) (id : List ℕ) (o : Outcome) → OneTold id (entering_notes s from connect x o)
+entering_told s from connect x id Allowed =
+    let y = let_in s.clock from connect x in
+    told_either id connect.flags.clean (all_gone x.id x.buffer.waiting) (handed_over s.policy y)
+    (told_mute id (all_gone x.id x.buffer.waiting) (gone_mute id x.id x.buffer.waiting)) (handed_told id s.policy y)
+entering_told s from connect x id (Denied rule) = none_told id
+
+entry_told : (s : State) (from : Address) (connect : Connect) (x : Client) (id : List ℕ) (own here : Bool) (o : Outcome)
+    → OneTold id (if own then note.Connect x.id o ∷ entering_notes s from connect x o else (if is_allowed o then (if here then note.Left x.id ∷ all_gone x.id x.buffer.waiting else []) else []))
+entry_told s from connect x id true here o =
+    behind_told id (note.Connect x.id o) (entering_notes s from connect x o) (λ r names none. rw none refl) (entering_told s from connect x id o)
+entry_told s from connect x id false here o =
+    let left = note.Left x.id ∷ all_gone x.id x.buffer.waiting in
+    told_if id (is_allowed o) (if here then left else []) (told_if id here left (left_told id x))
+
+confirmed_told : (id : List ℕ) (policy : Policy) (r : TopicAck) (x : Client) → OneTold id (confirmations policy r x)
+confirmed_told id policy r x =
+    let y : Client = record x { buffer = settle x.buffer } in
+    let refused = refusals x.id r.code.0 x.buffer.waiting in
+    told_either id (r.code.0 == 0) (handed_over policy (confirmed_with r x)) (refused ++ handed_over policy y) (handed_told id policy (confirmed_with r x))
+    (told_behind id refused (handed_over policy y) (refusal_mute id x.id r.code.0 x.buffer.waiting) (handed_told id policy y))
+
+turn_told : (id client : List ℕ) (b : Bool) (notes : List Decision) → OneTold id notes → OneTold id (if b then notes else out_of_turn client)
+turn_told id client b notes told = told_either id b notes (out_of_turn client) told (one_told id (note.Frame (who.Client client) (Denied OutOfTurn)))
+
+request_told : (s : State) (request : Request) (x : Client) (id : List ℕ) → OneTold id (fixed_to s request x)
+request_told s (ToPing client) x id = denial_told id x.id (ping_verdict client x)
+request_told s ToLeave x id = left_told id x
+request_told s (ToRegister r) x id = one_told id (register_ask s.policy x r.name)
+request_told s (ToPublish p) x id = one_told id (publish_ask s x p)
+request_told s (ToSubscribe r) x id = one_told id (subscribe_ask s x r)
+request_told s (ToUnsubscribe r) x id = one_told id (unsubscribe_ask s.policy x r)
+request_told s (ToConfirm r) x id = turn_told id x.id (is_confirming r x) (confirmations s.policy r x) (confirmed_told id s.policy r x)
+request_told s (ToAcknowledge r) x id = turn_told id x.id (is_acknowledging r x) (handed_over s.policy (closed x)) (handed_told id s.policy (closed x))
+request_told s (Untaken message) x id = one_told id (denied_note message (who.Client x.id) NotSupported)
+
+-- subscriptions end, of which no note tells an id
+refused_mute : (id : List ℕ) (x : Client) (text : Option (List ℕ)) → Every (Mute id) (refused_end x text)
+refused_mute id x None = tt
+refused_mute id x (Some text) = every_if (Mute id) (holds text x) (note.End x.id text (Denied BrokerRefused) ∷ []) (λ r names none. refl, tt)
+
+end_mute : (id own text : List ℕ) (o : Outcome) → Every (Mute id) (end_of own text o)
+end_mute id own text Allowed = tt
+end_mute id own text (Denied rule) = (λ r names none. refl, tt)
+
+ends_mute : (policy : Policy) (id own : List ℕ) (held : List Held) → Every (Mute id) (ends_under policy own held)
+ends_mute policy id own [] = tt
+ends_mute policy id own (h ∷ held) =
+    let o = coverage policy own h.filter in every_append (Mute id) (end_of own h.filter o) (ends_under policy own held) (end_mute id own h.filter o) (ends_mute policy id own held)
+
+packet_told : (s : State) (p : Packet) (x : Client) (id : List ℕ) → OneTold id (fixed_for s (ByPacket p) x)
+packet_told s p x id =
+    let due = message_due (answer_of p) x in
+    let text = refused_filter s.link (answer_of p) in
+    let y : Client = record x { buffer = joins due x.buffer } in
+    told_behind id (refused_end x text) (delivered_notes s.policy due x) (refused_mute id x text)
+    (told_behind id (turned_away x.id due x.buffer) (handed_over s.policy y) (away_mute id x.id due x.buffer) (handed_told id s.policy y))
+
+row_told : (s : State) (c : Cause) (x : Client) (id : List ℕ) → OneTold id (fixed_for s c x)
+row_told s (ByConnect from connect) x id = entry_told s from connect x id (bytes_eq connect.client_id x.id) (is_here x from) (entry s connect)
+row_told s (ByMessage from request) x id = told_if id (is_here x from) (fixed_to s request x) (request_told s request x id)
+row_told s (ByBroken from rule) x id =
+    let said = note.Frame (who.Client x.id) (Denied rule) in told_if id (is_here x from) (said ∷ []) (one_told id said)
+row_told s (BySource from p) x id = none_told id
+row_told s (ByPacket p) x id = packet_told s p x id
+row_told s ByUp x id = none_told id
+row_told s ByDown x id = none_told id
+row_told s ByTake x id = none_told id
+row_told s (ByReplace policy) x id = told_mute id (ends_under policy x.id x.filters) (ends_mute policy id x.id x.filters)
+row_told s (ByTick clock) x id = none_told id
 
 told_by : (s : State) (c : Cause) (id : List ℕ) (x : Client) (later b : Bool) → bytes_eq id x.id ≡ b → notes_of x.id (outs_by s c) ≡ fixed_for s c x → (b || later) ≡ true
     → (later ≡ true → OneTold id (notes_of id (outs_by s c))) → OneTold id (notes_of id (outs_by s c))
 told_by s c id x later true is own known rest =
-    subst (λ i. OneTold i (notes_of i (outs_by s c))) (sym (same_means id x.id is)) (subst (OneTold x.id) (sym own) (one_told s c x x.id))
+    subst (λ i. OneTold i (notes_of i (outs_by s c))) (sym (same_means id x.id is)) (subst (OneTold x.id) (sym own) (row_told s c x x.id))
 told_by s c id x later false is own known rest = rest known
 
 notes_told : (s : State) (c : Cause) (id : List ℕ) (xs ys : List Client) → Each (λ x. notes_of x.id (outs_by s c) ≡ fixed_for s c x) (xs ++ ys) → is_among id (ids_of xs) ≡ true
@@ -171,10 +285,6 @@ names_kept h row id l known none =
     let s = state_of opening h in more_row h s row id (stands h l.0) (exact_by s (cause_of row.event) row.outs l.1) known none
 
 -- ---- no name is told twice
-
-or_none : (a b : Bool) → (a || b) ≡ false → (a ≡ false) × (b ≡ false)
-or_none true b is = absurd (let e = is in cc)
-or_none false b is = (refl, is)
 
 among_last : (one name : List ℕ) (names : List (List ℕ)) → is_among one names ≡ false → bytes_eq one name ≡ false → is_among one (names ++ name ∷ []) ≡ false
 among_last one name [] none away = rw away refl
@@ -205,6 +315,7 @@ once_note r id (note.Register whom name outcome) names once =
     once_if (speaks_of id whom && is_allowed outcome) (with_name name names) names (once_with name names once) once
 once_note r id (note.Subscribe whom filter outcome) names once =
     once_if (speaks_of id whom && is_allowed outcome) (with_name (name_subscribed r filter) names) names (once_with (name_subscribed r filter) names once) once
+once_note r id (note.Announce client name) names once = once_if (bytes_eq id client) (with_name (Some name) names) names (once_with (Some name) names once) once
 once_note r id _ names once = once
 
 once_after : (r : Option TopicRequest) (id : List ℕ) (outs : List Out) (names : List (List ℕ)) → NoneTwice names → NoneTwice (names_after r id outs names)

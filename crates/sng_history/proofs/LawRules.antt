@@ -5,11 +5,13 @@ use Rattle.sng_grants.specs.Sources.{scope_of}
 use Rattle.sng_grants.specs.declared.scope.Pair.{Pair}
 use Rattle.sng_grants.specs.declared.policy.Policy.{Policy}
 use Rattle.sng_policy.specs.Grants.{is_granted}
-use Rattle.sng_policy.specs.declared.permission.Permission.TheVariants.{Publish}
+use Rattle.sng_policy.specs.declared.permission.Permission.TheVariants.{Publish, Subscribe}
 use Rattle.sng_outbox.specs.declared.origin.Origin.{Origin}
 use Rattle.sng_outbox.specs.declared.origin.Origin.TheVariants as origin
 use Rattle.sng_history.specs.Verdicts.{exit}
+use Rattle.sng_history.specs.Outgoing.{receive}
 use Rattle.sng_history.specs.LawsRules.{judged, publish_rules}
+use Rattle.sng_history.specs.LawsHanding.{receive_rules}
 
 client_granted : (policy : Policy) (client name : List ℕ) (pairs : List Pair) (b : Bool) → scope_of policy.clients client ≡ Some pairs → is_granted Publish pairs name ≡ b
     → exit policy (origin.Client client) name ≡ judged (publish_rules policy (origin.Client client) name)
@@ -35,3 +37,17 @@ source_ruled policy source name (Some pairs) is = source_granted policy source n
 pub exit_ruled : (policy : Policy) (asker : Origin) (name : List ℕ) → exit policy asker name ≡ judged (publish_rules policy asker name)
 exit_ruled policy (origin.Client client) name = client_ruled policy client name (scope_of policy.clients client) refl
 exit_ruled policy (origin.Source source) name = source_ruled policy source name (scope_of policy.sources source) refl
+
+received_granted : (policy : Policy) (client name : List ℕ) (pairs : List Pair) (b : Bool) → scope_of policy.clients client ≡ Some pairs → is_granted Subscribe pairs name ≡ b
+    → receive policy client name ≡ judged (receive_rules policy client name)
+received_granted policy client name pairs true scope is = rw (scope, is) refl
+received_granted policy client name pairs false scope is = rw (scope, is) refl
+
+received_ruled : (policy : Policy) (client name : List ℕ) (scope : Option (List Pair)) → scope_of policy.clients client ≡ scope
+    → receive policy client name ≡ judged (receive_rules policy client name)
+received_ruled policy client name None is = rw is refl
+received_ruled policy client name (Some pairs) is = received_granted policy client name pairs (is_granted Subscribe pairs name) is refl
+
+-- what is judged as a message has its turn
+pub receive_ruled : (policy : Policy) (client name : List ℕ) → receive policy client name ≡ judged (receive_rules policy client name)
+receive_ruled policy client name = received_ruled policy client name (scope_of policy.clients client) refl

@@ -49,6 +49,7 @@ use Rattle.sng_history.specs.Whole.{spell, part, replied, granted_to, stranger_t
 use Rattle.sng_history.specs.Lawful.{end_of, ends_under, fixed_for}
 use Rattle.sng_history.specs.Steps.{notes_for, client_next, outs_by}
 use Rattle.sng_history.specs.Views.{policy_in_force}
+use Rattle.sng_history.specs.ViewsHanding.{names_known}
 use Rattle.sng_history.specs.ViewsClients.{phase_of, is_at, tells_id, names_told, is_among, those_at}
 use Rattle.sng_history.specs.ViewsFlight.{number_in}
 use Rattle.sng_history.specs.ViewsStanding.{standing_of}
@@ -59,20 +60,20 @@ use Rattle.sng_history.specs.LawsAnswers as laws
 use Rattle.sng_history.specs.LawsAnswers.{answer_to, or_empty}
 use Rattle.sng_history.specs.LawsUnsupported.{unset}
 use Rattle.sng_history.specs.LawsAsks as asks
-use Rattle.sng_history.specs.LawsAsks.{id_told}
 use Rattle.sng_history.specs.LawsSubscriptions.{is_bad_filter, is_bad_name, is_unnamed, filter_meant, if_filter, form_rules, gap_in, gap_rule, room_rules, subscribe_rules, qos_granted, id_granted, suback, subscribe_stranger, subscribe_answer, stays_without, unsubscribed_note, unsubscribe_stranger, unsubscribe_answer, cover_rules, stays_under, end_by, replace_answer}
 use Rattle.sng_history.proofs.Own.{same_means, flip, each_map}
 use Rattle.sng_history.proofs.Kept.{client_id}
 use Rattle.sng_history.proofs.Places.{here_is}
-use Rattle.sng_history.proofs.Filters.{start_filters}
+use Rattle.sng_history.proofs.Steady.{start_filters}
 use Rattle.sng_history.proofs.SeenClients.{heard_if}
-use Rattle.sng_history.proofs.SeenIds.{known, id_known, gets_same}
+use Rattle.sng_history.proofs.Marked.{marked, id_marked, full_marked}
+use Rattle.sng_history.proofs.SeenIds.{gets_same}
 use Rattle.sng_history.proofs.SeenState.{StateShown}
 use Rattle.sng_history.proofs.LawHere.{at_here, row_answer, each_part}
 use Rattle.sng_history.proofs.LawEnds.{Kept, drop_shown, flat_ids}
 use Rattle.sng_history.proofs.LawEntry.{code_same}
 use Rattle.sng_history.proofs.LawMessages.{by_cause, active_same}
-use Rattle.sng_history.proofs.LawAsks.{most_by, full_known}
+use Rattle.sng_history.proofs.LawAsks.{most_by}
 
 -- ---- what the policy says to a filter
 
@@ -206,7 +207,7 @@ room_judged h s x r text shown is =
     let told = names_told x.id h in
     let held = standing_of x.id h in
     let full : (gets_id r.flags.id_type text && is_full_for text x.ids) ≡ (tells_id r.flags.id_type text && (not (is_among text told) && not (nat_lt (length told) 128))) =
-    ap (λ b. b && is_full_for text x.ids) (gets_same r.flags.id_type text) ∙ ap (λ b. tells_id r.flags.id_type text && b) (ap (is_full_for text) is.ids ∙ full_known text told) in
+    ap (λ b. b && is_full_for text x.ids) (gets_same r.flags.id_type text) ∙ ap (λ b. tells_id r.flags.id_type text && b) (ap (is_full_for text) is.ids ∙ full_marked text told (names_known x.id h)) in
     let crowded : is_full x.filters text ≡ (not (stands held text) && not (nat_lt (length held) 32)) =
     ap (λ all. is_full all text) is.filters ∙ ap (λ b. not (stands held text) && b) (most_by (length held) 32) in
     room_by s.up (gets_id r.flags.id_type text && is_full_for text x.ids) (is_full x.filters text) (nat_lt (length s.link.waiting) 512)
@@ -261,17 +262,17 @@ text_same octets text true is meant = let e : Some octets ≡ Some text = rw is 
     injective e = cc
 text_same octets text false is meant = let e = rw is at meant in absurd cc
 
-id_same : (policy : Policy) (type : TopicIdType) (octets text : List ℕ) (ids : Ids) (told : List (List ℕ)) → filter_meant policy type octets ≡ Some text → ids ≡ known told
+id_same : (policy : Policy) (type : TopicIdType) (octets text : List ℕ) (ids : Ids) (told knows : List (List ℕ)) → filter_meant policy type octets ≡ Some text → ids ≡ marked told knows
     → id_given type octets ids text ≡ id_granted told type octets
-id_same policy Normal octets text ids told meant is =
-    rw (text_same octets text (is_filter octets) refl meant, is, id_known octets told) refl
-id_same policy Predefined octets text ids told meant is = number_same octets
-id_same policy Short octets text ids told meant is = refl
-id_same policy Reserved octets text ids told meant is = refl
+id_same policy Normal octets text ids told knows meant is =
+    rw (text_same octets text (is_filter octets) refl meant, is, id_marked octets told knows) refl
+id_same policy Predefined octets text ids told knows meant is = number_same octets
+id_same policy Short octets text ids told knows meant is = refl
+id_same policy Reserved octets text ids told knows meant is = refl
 
-suback_by : (policy : Policy) (r : TopicRequest) (y : Client) (told : List (List ℕ)) (text : List ℕ) → filter_meant policy r.flags.id_type r.topic ≡ Some text → y.ids ≡ known told
+suback_by : (policy : Policy) (r : TopicRequest) (y : Client) (told knows : List (List ℕ)) (text : List ℕ) → filter_meant policy r.flags.id_type r.topic ≡ Some text → y.ids ≡ marked told knows
     → granted_to (ToSubscribe r) y (Some text) ≡ suback y.address (id_granted told r.flags.id_type r.topic) r Allowed ∷ []
-suback_by policy r y told text meant is = rw (id_same policy r.flags.id_type r.topic text y.ids told meant is, qos_same r.flags.qos) refl
+suback_by policy r y told knows text meant is = rw (id_same policy r.flags.id_type r.topic text y.ids told knows meant is, qos_same r.flags.qos) refl
 
 -- where it is allowed it may ask and is well formed
 allowed_form : (a l : Bool) (id : List ℕ) (form more : List Rule) → judged ((not a, OutOfTurn) ∷ (not l, NoScope id) ∷ (form ++ more)) ≡ Allowed → ((a && l) ≡ true) × (judged form ≡ Allowed)
@@ -283,7 +284,7 @@ allowed_form true true id form more is = (refl, first (judged form) (judged more
     first Allowed two e = refl
     first (Denied rule) two e = absurd cc
 
-replied_as : (h : List Row) (s : State) (from : Address) (r : TopicRequest) (x y : Client) (o : Outcome) → judged (subscribe_rules h x.id r) ≡ o → y.ids ≡ known (names_told x.id h)
+replied_as : (h : List Row) (s : State) (from : Address) (r : TopicRequest) (x y : Client) (o : Outcome) → judged (subscribe_rules h x.id r) ≡ o → y.ids ≡ marked (names_told x.id h) (names_known x.id h)
     → replied (ByMessage from (ToSubscribe r)) y (if asks.may_ask h x.id then filter_meant (policy_in_force h) r.flags.id_type r.topic else None) o
     ≡ suback y.address (id_granted (names_told x.id h) r.flags.id_type r.topic) r o ∷ []
 replied_as h s from r x y (Denied rule) is ids = rw (code_same rule) refl
@@ -293,7 +294,7 @@ replied_as h s from r x y Allowed is ids =
     let may = allowed_form (laws.is_active (phase_of x.id h)) (lists policy x.id) x.id (form_rules policy r) (gap_rule policy x.id text ∷ room_rules h x.id r.flags.id_type text) is in
     let meant = form_meant policy r may.1 in
     ap (λ b. granted_to (ToSubscribe r) y (if b then filter_meant policy r.flags.id_type r.topic else None)) may.0
-    ∙ (ap (granted_to (ToSubscribe r) y) meant.1 ∙ suback_by policy r y (names_told x.id h) meant.0 meant.1 ids)
+    ∙ (ap (granted_to (ToSubscribe r) y) meant.1 ∙ suback_by policy r y (names_told x.id h) (names_known x.id h) meant.0 meant.1 ids)
 
 subscribe_there : (h : List Row) (s : State) (from : Address) (r : TopicRequest) (dropped : List Release) (x : Client) → StateShown h s → ClientShown h x
     → spell (by_cause s (ByMessage from (ToSubscribe r))) dropped (heard_if true s.clock x) (subscribe_ask s x r ∷ []) ≡ subscribe_answer h x.address r x.id

@@ -1,6 +1,6 @@
 -- No row of a datagram, nor of a packet of the broker, lets a packet out for the broker.
-use Rattle.std.proofs.Common.{◌≡◌, ℕ, Bool, true, false, List, [], ◌∷◌, ◌++◌, refl, if◌then◌else◌, Ok, Err}
-use Rattle.std.specs.Prelude.{◌&&◌, not, Option, Some, None}
+use Rattle.std.proofs.Common.{◌≡◌, ℕ, Bool, true, false, List, [], ◌∷◌, ◌++◌, refl, ◌∙◌, if◌then◌else◌, Ok, Err}
+use Rattle.std.specs.Prelude.{◌&&◌, not, drop, Option, Some, None}
 use Rattle.std.specs.List.{flat_map}
 use Rattle.std.specs.Str.{bytes_eq}
 use Rattle.std.specs.declared.result.Result.{Result}
@@ -24,20 +24,20 @@ use Rattle.sng_book.specs.declared.outcome.Outcome.{Outcome}
 use Rattle.sng_book.specs.declared.outcome.Outcome.TheVariants.{Allowed, Denied}
 use Rattle.sng_book.specs.declared.out.Out.{Out}
 use Rattle.sng_book.specs.declared.out.Out.TheVariants.{Send, Wire, Note}
-use Rattle.sng_history.specs.Causes.{Request, ToPing, ToLeave, ToRegister, ToPublish, ToSubscribe, ToUnsubscribe, Untaken, Cause, datagram_cause, publish_cause, rule_of}
+use Rattle.sng_history.specs.Causes.{Request, ToPing, ToLeave, ToRegister, ToPublish, ToSubscribe, ToUnsubscribe, ToConfirm, ToAcknowledge, Untaken, Cause, datagram_cause, publish_cause, rule_of}
 use Rattle.sng_history.specs.Causes.{ByConnect, ByMessage, ByBroken, ByPacket, ByReplace}
-use Rattle.sng_history.specs.Clients.{Around, Client, same_address}
+use Rattle.sng_history.specs.Clients.{Around, Client, same_address, let_in}
 use Rattle.sng_history.specs.State.{State, around}
 use Rattle.sng_history.specs.Links.{Link}
 use Rattle.sng_history.specs.Packets.{Answer, Delivers, Acknowledges, Grants, Refuses, Confirms, Strange, answer_of, answer_outs, owed, has_place, dropped}
 use Rattle.sng_history.specs.Verdicts.{entry}
 use Rattle.sng_history.specs.Answers.{dismissed, connack}
-use Rattle.sng_history.specs.Whole.{Notes, part, any_from, stranger_to, drops, client_rows, frame_row, moved, beside, entry_outs}
+use Rattle.sng_history.specs.Whole.{Notes, spell, part, any_from, stranger_to, drops, client_rows, frame_row, moved, beside, entering_part, around_connack, entry_outs}
 use Rattle.sng_history.specs.Standing.{Release, drop_notes}
 use Rattle.sng_history.specs.Lawful.{exits_for}
 use Rattle.sng_history.specs.Steps.{outs_by, notes_for}
 use Rattle.sng_history.specs.ViewsLink.{wires_in}
-use Rattle.sng_history.proofs.Sent.{drops_sent, sent_wires, part_wires}
+use Rattle.sng_history.proofs.Sent.{drops_sent, sent_wires, spell_wires, part_wires}
 
 wires_append : (xs ys : List Out) → wires_in xs ≡ [] → wires_in ys ≡ [] → wires_in (xs ++ ys) ≡ []
 wires_append [] ys one two = two
@@ -58,6 +58,8 @@ stranger_wires from (ToRegister r) = refl
 stranger_wires from (ToPublish p) = refl
 stranger_wires from (ToSubscribe r) = refl
 stranger_wires from (ToUnsubscribe r) = refl
+stranger_wires from (ToConfirm r) = refl
+stranger_wires from (ToAcknowledge r) = refl
 stranger_wires from (Untaken message) = refl
 
 either_wires : (stranger outs : List Out) (b : Bool) → wires_in stranger ≡ [] → wires_in outs ≡ [] → wires_in (if b then outs else stranger) ≡ []
@@ -83,15 +85,27 @@ beside_if : (a : Around) (n : Notes) (x : Client) (own : Bool) → wires_in (if 
 beside_if a n x true = refl
 beside_if a n x false = part_wires a [] (n.of x) x
 
+entering_if : (a : Around) (n : Notes) (from : Address) (connect : Connect) (x : Client) (own : Bool)
+    → wires_in (if own then spell a [] (let_in a.clock from connect x) (drop 1 (n.of x)) else []) ≡ []
+entering_if a n from connect x true = spell_wires a [] (let_in a.clock from connect x) (drop 1 (n.of x))
+entering_if a n from connect x false = refl
+
+around_wires : (from : Address) (clean : Bool) (own : List Out) → wires_in own ≡ [] → wires_in (around_connack clean own (connack from ACCEPTED)) ≡ []
+around_wires from true own none = wires_append own (connack from ACCEPTED ∷ []) none refl
+around_wires from false own none = none
+
 entry_wires : (s : State) (from : Address) (connect : Connect) (n : Notes) (o : Outcome) → wires_in (entry_outs s from connect n o) ≡ []
 entry_wires s from connect n Allowed =
     let a = around s (ByConnect from connect) in
     let id = connect.client_id in
     let others = flat_map (beside a n id) s.clients in
     let noted = drop_notes (drops s (ByConnect from connect) n) in
-    wires_append (flat_map (moved from id) s.clients) (others ++ (noted ++ connack from ACCEPTED ∷ [])) (wires_flat (moved from id) s.clients (moved_wires from id))
-    (wires_append others (noted ++ connack from ACCEPTED ∷ []) (wires_flat (beside a n id) s.clients (λ x. beside_if a n x (bytes_eq id x.id)))
-    (sent_wires noted (connack from ACCEPTED ∷ []) (drops_sent (drops s (ByConnect from connect) n))))
+    let entering = flat_map (entering_part a n from connect) s.clients in
+    let last = around_connack connect.flags.clean entering (connack from ACCEPTED) in
+    wires_append (flat_map (moved from id) s.clients) (others ++ (noted ++ last)) (wires_flat (moved from id) s.clients (moved_wires from id))
+    (wires_append others (noted ++ last) (wires_flat (beside a n id) s.clients (λ x. beside_if a n x (bytes_eq id x.id)))
+    (sent_wires noted last (drops_sent (drops s (ByConnect from connect) n))
+    ∙ around_wires from connect.flags.clean entering (wires_flat (entering_part a n from connect) s.clients (λ x. entering_if a n from connect x (bytes_eq id x.id)))))
 entry_wires s from connect n (Denied rule) = refl
 
 -- ---- a datagram
@@ -122,6 +136,8 @@ datagram_still s from (Ok (frame.Publish p)) = publish_still s from p p.flags.qo
 datagram_still s from (Ok (frame.Subscribe r)) = message_still s from (ToSubscribe r)
 datagram_still s from (Ok (frame.Unsubscribe r)) = message_still s from (ToUnsubscribe r)
 datagram_still s from (Ok (frame.PingRequest client)) = message_still s from (ToPing client)
+datagram_still s from (Ok (frame.RegisterAck r)) = message_still s from (ToConfirm r)
+datagram_still s from (Ok (frame.PublishAck r)) = message_still s from (ToAcknowledge r)
 datagram_still s from (Ok (frame.Disconnect duration)) = disconnect_still s from duration
 datagram_still s from (Ok message) = message_still s from (Untaken message)
 datagram_still s from (Err broke) =

@@ -1,54 +1,45 @@
 -- What a step lets out has just the notes that the step makes: of each client, and of what leaves.
 use Rattle.std.proofs.Common.{◌≡◌, ℕ, Bool, true, false, List, [], ◌∷◌, ◌++◌, refl, ap, sym, ◌∙◌, subst}
-use Rattle.std.specs.Prelude.{if◌then◌else◌, ◌&&◌, not, Option, Some, None, Ok, Err}
-use Rattle.std.specs.declared.result.Result.{Result}
+use Rattle.std.specs.Prelude.{if◌then◌else◌, ◌&&◌, not, drop, Option, Some, None}
 use Rattle.std.specs.List.{flat_map}
 use Rattle.std.specs.Str.{bytes_eq}
 use Rattle.std.proofs.lemmas.List.{append-nil}
-use Rattle.sng_policy.specs.Grants.{lists_source}
 use Rattle.sng_states.specs.States.{has_session}
 use Rattle.sng_frames.specs.declared.messages.connect.Connect.{Connect}
 use Rattle.sng_frames.specs.declared.messages.publish.Publish.{Publish}
 use Rattle.sng_frames.specs.declared.frame.SnFrame.{SnFrame}
 use Rattle.sng_frames.specs.declared.frame.SnFrame.TheVariants as frame
 use Rattle.sng_frames.specs.declared.return_code.TheConstants.ReturnCode.{ACCEPTED}
-use Rattle.sng_text.specs.Texts.{is_name}
-use Rattle.sng_outbox.specs.declared.in_flight.InFlight.{InFlight}
-use Rattle.sng_outbox.specs.declared.item.Item.{Item}
-use Rattle.sng_outbox.specs.declared.item.Item.TheVariants as item
-use Rattle.sng_outbox.specs.declared.item.Publication.{Publication}
-use Rattle.sng_grants.specs.declared.policy.Policy.{Policy}
 use Rattle.sng_book.specs.declared.address.Address.{Address}
 use Rattle.sng_book.specs.declared.decision.Decision.{Decision}
 use Rattle.sng_book.specs.declared.decision.Decision.TheVariants as note
 use Rattle.sng_book.specs.declared.decision.Who.TheVariants as who
 use Rattle.sng_book.specs.declared.outcome.Denial.{Denial}
-use Rattle.sng_book.specs.declared.outcome.Denial.TheVariants.{NotSupported, NoSession, BadName}
+use Rattle.sng_book.specs.declared.outcome.Denial.TheVariants.{NotSupported, NoSession}
 use Rattle.sng_book.specs.declared.outcome.Outcome.{Outcome}
 use Rattle.sng_book.specs.declared.outcome.Outcome.TheVariants.{Allowed, Denied}
 use Rattle.sng_book.specs.declared.out.Out.{Out}
 use Rattle.sng_book.specs.declared.out.Out.TheVariants.{Note}
 use Rattle.sng_book.specs.Denials.{is_allowed}
-use Rattle.sng_history.specs.Causes.{Request, ToPing, ToLeave, ToRegister, ToPublish, ToSubscribe, ToUnsubscribe, Untaken, Cause, publish_asked}
+use Rattle.sng_history.specs.Causes.{Request, ToPing, ToLeave, ToRegister, ToPublish, ToSubscribe, ToUnsubscribe, ToConfirm, ToAcknowledge, Untaken, Cause, publish_asked}
 use Rattle.sng_history.specs.Causes.{ByConnect, ByMessage, BySource, ByBroken, ByPacket, ByUp, ByDown, ByTake, ByReplace, ByTick}
-use Rattle.sng_history.specs.Clients.{Client, blank, same_address, is_here, is_from}
-use Rattle.sng_history.specs.Notes.{notes_of, said_of, exits_in, exits_of_out}
-use Rattle.sng_history.specs.Links.{Link, wants, next_packet_id, packet_id_by, exited, resumed, filters_wanted, subscribe_sent, subscribe_left, unsubscribe_left}
+use Rattle.sng_history.specs.Clients.{Client, blank, same_address, is_here, is_from, let_in}
+use Rattle.sng_history.specs.Notes.{notes_of, exits_in}
 use Rattle.sng_history.specs.State.{State, around, is_known, newcomers, asked_all, asked_in}
 use Rattle.sng_history.specs.Standing.{Release, drop_notes}
-use Rattle.sng_history.specs.Verdicts.{entry, source_ask, named_ask, name_in, exit}
+use Rattle.sng_history.specs.Verdicts.{entry}
 use Rattle.sng_history.specs.Answers.{code_of, dismissed, connack, denied_note}
-use Rattle.sng_history.specs.Exits.{exits_of, forwarded, subscribe_packet, unsubscribe_packet, subscribing, leaving, agains_of, sent_again, resending}
-use Rattle.sng_history.specs.Packets.{Answer, Delivers, Acknowledges, Grants, Refuses, Confirms, Strange as StrangePacket, answer_of, owed, has_place, dropped, misnamed, answer_outs}
-use Rattle.sng_history.specs.Whole.{part, any_from, stranger_to, drops, client_rows, frame_row, moved, beside, entry_row, entry_outs}
-use Rattle.sng_history.specs.Lawful.{fixed_for, exits_for}
+use Rattle.sng_history.specs.Packets.{answer_of, dropped, answer_outs}
+use Rattle.sng_history.specs.Whole.{spell, part, any_from, stranger_to, drops, client_rows, frame_row, moved, beside, entering_part, around_connack, entry_row, entry_outs}
+use Rattle.sng_history.specs.Lawful.{entering_notes, fixed_for, exits_for}
 use Rattle.sng_history.specs.Steps.{notes_for, outs_by, entrants, newcomers_for, asked_by_all, asked_for}
-use Rattle.sng_history.specs.Good.{Each, Distinct}
-use Rattle.sng_history.proofs.Own.{same_self, same_means, flip, notes_append, exits_append, asks_append, each_all, each_map, each_append, OnlyAbout, absent, each_own, no_exits}
-use Rattle.sng_history.proofs.Spelled.{Mute, mute_none, mute_both, mute_of, part_own, part_other, part_exits, part_asks}
+use Rattle.sng_history.specs.Good.{Each, Away, Distinct}
+use Rattle.sng_history.proofs.Own.{same_self, same_means, flip, notes_append, exits_append, asks_append, each_all, each_with, each_map, each_append, OnlyAbout, absent, each_own, no_exits}
+use Rattle.sng_history.proofs.Spelled.{Mute, mute_none, mute_both, mute_of, AllAbout, spell_own, spell_other, spell_exits, part_own, part_other, part_exits, part_asks}
 use Rattle.sng_history.proofs.Sent.{drops_sent}
 use Rattle.sng_history.proofs.Told.{tells}
 use Rattle.sng_history.proofs.Kept.{unknown_away}
+use Rattle.sng_history.proofs.SaysUpstream.{Foreign, foreign, foreign_source, take_exits, take_none, up_exits, up_none, mute_packet}
 
 -- the outs have just these notes, and bring in who is accepted for the first time
 pub record Says (s : State) (c : Cause) (outs : List Out) : Type 0 where
@@ -141,31 +132,96 @@ beside_exits_by s from connect x true = refl
 beside_exits_by s from connect x false =
     let c = ByConnect from connect in part_exits (around s c) [] (fixed_for s c x) x (tells s c x)
 
-only_beside : (s : State) (from : Address) (connect : Connect) → Each (OnlyAbout (beside_for s from connect)) s.clients
+pub only_beside : (s : State) (from : Address) (connect : Connect) → Each (OnlyAbout (beside_for s from connect)) s.clients
 only_beside s from connect =
     each_all (OnlyAbout (beside_for s from connect)) s.clients (λ x d away. beside_other_by s from connect x d (bytes_eq connect.client_id x.id) away)
+
+-- what becomes of what waits for the one that connects
+abbrev pub entering_for : State → Address → Connect → Client → List Out
+entering_for s from connect = let c = ByConnect from connect in entering_part (around s c) (notes_for s c) from connect
+
+later_about : (c : List ℕ) (notes : List Decision) → AllAbout c notes → AllAbout c (drop 1 notes)
+later_about c [] about = tt
+later_about c (said ∷ notes) about = about.1
+
+entering_about : (s : State) (from : Address) (connect : Connect) (x : Client) → AllAbout x.id (drop 1 (fixed_for s (ByConnect from connect) x))
+entering_about s from connect x =
+    let c = ByConnect from connect in later_about x.id (fixed_for s c x) (tells s c x)
+
+-- those behind the note that it is accepted, from wherever the client is
+abbrev entering_if : State → Address → Connect → Client → Bool → List Out
+entering_if s from connect x same =
+    let c = ByConnect from connect in
+    let a = around s c in
+    if same then spell a [] (let_in a.clock from connect x) (drop 1 (fixed_for s c x)) else []
+
+entering_other_by : (s : State) (from : Address) (connect : Connect) (x : Client) (d : List ℕ) (same : Bool) → bytes_eq d x.id ≡ false
+    → notes_of d (entering_if s from connect x same) ≡ []
+entering_other_by s from connect x d true away =
+    let c = ByConnect from connect in
+    let a = around s c in
+    spell_other a [] (let_in a.clock from connect x) x.id d (drop 1 (fixed_for s c x)) away (entering_about s from connect x)
+entering_other_by s from connect x d false away = refl
+
+entering_exits_by : (s : State) (from : Address) (connect : Connect) (x : Client) (same : Bool) → exits_in (entering_if s from connect x same) ≡ []
+entering_exits_by s from connect x true =
+    let c = ByConnect from connect in
+    let a = around s c in
+    spell_exits a [] (let_in a.clock from connect x) x.id (drop 1 (fixed_for s c x)) (entering_about s from connect x)
+entering_exits_by s from connect x false = refl
+
+pub only_entering : (s : State) (from : Address) (connect : Connect) → Each (OnlyAbout (entering_for s from connect)) s.clients
+only_entering s from connect =
+    each_all (OnlyAbout (entering_for s from connect)) s.clients
+    (λ x d away. entering_other_by s from connect x d (bytes_eq connect.client_id x.id) away)
 
 abbrev row_accepted : State → Address → Connect → List Out
 row_accepted s from connect = entry_row s from connect (notes_for s (ByConnect from connect))
 
--- what comes last: the notes of what is dropped, and CONNACK
+-- CONNACK brings no note
+around_notes : (clean : Bool) (own : List Out) (from : Address) (d : List ℕ) → notes_of d (around_connack clean own (connack from ACCEPTED)) ≡ notes_of d own
+around_notes true own from d = notes_append d own (connack from ACCEPTED ∷ []) ∙ append-nil (notes_of d own)
+around_notes false own from d = refl
+
+around_exits : (clean : Bool) (own : List Out) (from : Address) → exits_in (around_connack clean own (connack from ACCEPTED)) ≡ exits_in own
+around_exits true own from = exits_append own (connack from ACCEPTED ∷ []) ∙ append-nil (exits_in own)
+around_exits false own from = refl
+
+-- what stands behind the parts of the others: the notes of what is dropped, what waited, and CONNACK
 abbrev end_accepted : State → Address → Connect → List Out
-end_accepted s from connect = drop_notes (drops_for s (ByConnect from connect)) ++ connack from ACCEPTED ∷ []
+end_accepted s from connect =
+    drop_notes (drops_for s (ByConnect from connect))
+    ++ around_connack connect.flags.clean (flat_map (entering_for s from connect) s.clients) (connack from ACCEPTED)
 
-mute_end : (s : State) (from : Address) (connect : Connect) → Mute (end_accepted s from connect)
-mute_end s from connect =
+end_notes : (s : State) (from : Address) (connect : Connect) (d : List ℕ)
+    → notes_of d (end_accepted s from connect) ≡ notes_of d (flat_map (entering_for s from connect) s.clients)
+end_notes s from connect d =
     let dropped = drops_for s (ByConnect from connect) in
-    mute_both (drop_notes dropped) (connack from ACCEPTED ∷ []) (mute_of (drop_notes dropped) (drops_sent dropped)) (record { notes = λ c. refl; exits = refl; asks = λ q. refl })
+    let own = flat_map (entering_for s from connect) s.clients in
+    let last = around_connack connect.flags.clean own (connack from ACCEPTED) in
+    notes_append d (drop_notes dropped) last
+    ∙ (ap (λ notes. notes ++ notes_of d last) ((mute_of (drop_notes dropped) (drops_sent dropped)).notes d) ∙ around_notes connect.flags.clean own from d)
 
-accepted_notes : (s : State) (from : Address) (connect : Connect) (d : List ℕ)
-    → notes_of d (row_accepted s from connect) ≡ notes_of d (flat_map (beside_for s from connect) s.clients) ++ []
+end_exits : (s : State) (from : Address) (connect : Connect) → exits_in (end_accepted s from connect) ≡ []
+end_exits s from connect =
+    let dropped = drops_for s (ByConnect from connect) in
+    let f = entering_for s from connect in
+    let last = around_connack connect.flags.clean (flat_map f s.clients) (connack from ACCEPTED) in
+    exits_append (drop_notes dropped) last
+    ∙ (ap (λ exits. exits ++ exits_in last) (mute_of (drop_notes dropped) (drops_sent dropped)).exits
+    ∙ (around_exits connect.flags.clean (flat_map f s.clients) from
+    ∙ no_exits f s.clients (each_all (λ x. exits_in (f x) ≡ []) s.clients (λ x. entering_exits_by s from connect x (bytes_eq connect.client_id x.id)))))
+
+pub accepted_notes : (s : State) (from : Address) (connect : Connect) (d : List ℕ)
+    → notes_of d (row_accepted s from connect)
+    ≡ notes_of d (flat_map (beside_for s from connect) s.clients) ++ notes_of d (flat_map (entering_for s from connect) s.clients)
 accepted_notes s from connect d =
     let a = flat_map (moved from connect.client_id) s.clients in
     let b = flat_map (beside_for s from connect) s.clients in
     let end = end_accepted s from connect in
     notes_append d a (b ++ end)
     ∙ (ap (λ notes. notes ++ notes_of d (b ++ end)) ((moved_all from connect.client_id s.clients).notes d)
-    ∙ (notes_append d b end ∙ ap (λ notes. notes_of d b ++ notes) ((mute_end s from connect).notes d)))
+    ∙ (notes_append d b end ∙ ap (λ notes. notes_of d b ++ notes) (end_notes s from connect d)))
 
 accepted_exits : (s : State) (from : Address) (connect : Connect) → exits_in (row_accepted s from connect) ≡ []
 accepted_exits s from connect =
@@ -176,31 +232,50 @@ accepted_exits s from connect =
     no_exits (beside_for s from connect) s.clients (each_all (λ x. exits_in (beside_for s from connect x) ≡ []) s.clients (λ x. beside_exits_by s from connect x (bytes_eq connect.client_id x.id))) in
     exits_append a (b ++ end)
     ∙ (ap (λ exits. exits ++ exits_in (b ++ end)) (moved_all from connect.client_id s.clients).exits
-    ∙ (exits_append b end ∙ (ap (λ exits. exits ++ exits_in end) none ∙ (mute_end s from connect).exits)))
+    ∙ (exits_append b end ∙ (ap (λ exits. exits ++ exits_in end) none ∙ end_exits s from connect)))
+
+-- the notes of the client that connects behind the first, of which its part has the others
+enters : (s : State) (from : Address) (connect : Connect) (x : Client) → bytes_eq connect.client_id x.id ≡ true → entry s connect ≡ Allowed
+    → notes_of x.id (entering_for s from connect x) ≡ entering_notes s from connect x Allowed
+enters s from connect x is may =
+    let c = ByConnect from connect in
+    let a = around s c in
+    let later : drop 1 (fixed_for s c x) ≡ entering_notes s from connect x Allowed = rw (is, may) refl in
+    ap (λ same. notes_of x.id (entering_if s from connect x same)) is
+    ∙ (spell_own a [] (let_in a.clock from connect x) x.id (drop 1 (fixed_for s c x)) (entering_about s from connect x) ∙ later)
 
 -- the notes of the client that connects, and of each other
-accepted_one : (s : State) (from : Address) (connect : Connect) (x : Client) (same : Bool) (b : List Decision) → bytes_eq connect.client_id x.id ≡ same → entry s connect ≡ Allowed
-    → b ≡ notes_of x.id (beside_for s from connect x)
-    → (if bytes_eq x.id connect.client_id then note.Connect connect.client_id Allowed ∷ [] else []) ++ (b ++ []) ≡ fixed_for s (ByConnect from connect) x
-accepted_one s from connect x true b is may one =
-    let e : connect.client_id ≡ x.id = same_means connect.client_id x.id is in
+accepted_one : (s : State) (from : Address) (connect : Connect) (x : Client) (same : Bool) (b e : List Decision) → bytes_eq connect.client_id x.id ≡ same → entry s connect ≡ Allowed
+    → b ≡ notes_of x.id (beside_for s from connect x) → e ≡ notes_of x.id (entering_for s from connect x)
+    → (if bytes_eq x.id connect.client_id then note.Connect connect.client_id Allowed ∷ [] else []) ++ (b ++ e) ≡ fixed_for s (ByConnect from connect) x
+accepted_one s from connect x true b e is may one two =
+    let same : connect.client_id ≡ x.id = same_means connect.client_id x.id is in
     let none : b ≡ [] = one ∙ (rw is refl) in
-    rw (none, may, e, same_self x.id) refl
-accepted_one s from connect x false b is may one =
+    let own : e ≡ entering_notes s from connect x Allowed = two ∙ enters s from connect x is may in
+    rw (none, own, may, same, same_self x.id) refl
+accepted_one s from connect x false b e is may one two =
     let c = ByConnect from connect in
     let away : bytes_eq x.id connect.client_id ≡ false = flip x.id connect.client_id is in
+    let none : e ≡ [] = two ∙ (rw is refl) in
     let all : b ≡ fixed_for s c x = one ∙ (ap (λ t. notes_of x.id (if t then [] else part_for s c [] x)) is ∙ part_own (around s c) [] (fixed_for s c x) x (tells s c x)) in
-    ap (λ t. (if t then note.Connect connect.client_id Allowed ∷ [] else []) ++ (b ++ [])) away ∙ (append-nil b ∙ all)
+    ap (λ t. (if t then note.Connect connect.client_id Allowed ∷ [] else []) ++ (b ++ e)) away ∙ (ap (λ notes. b ++ notes) none ∙ (append-nil b ∙ all))
 
 accepted_own : (s : State) (from : Address) (connect : Connect) → Distinct s.clients → entry s connect ≡ Allowed
     → Each (λ x. notes_of x.id (Note (note.Connect connect.client_id Allowed) ∷ row_accepted s from connect) ≡ fixed_for s (ByConnect from connect) x) s.clients
 accepted_own s from connect apart may =
     let f = beside_for s from connect in
-    each_map (λ x. notes_of x.id (flat_map f s.clients) ≡ notes_of x.id (f x))
+    let g = entering_for s from connect in
+    each_with (λ x. notes_of x.id (flat_map f s.clients) ≡ notes_of x.id (f x)) (λ x. notes_of x.id (flat_map g s.clients) ≡ notes_of x.id (g x))
     (λ x. notes_of x.id (Note (note.Connect connect.client_id Allowed) ∷ row_accepted s from connect) ≡ fixed_for s (ByConnect from connect) x) s.clients
-    (λ x own. ap (λ notes. (if bytes_eq x.id connect.client_id then note.Connect connect.client_id Allowed ∷ [] else []) ++ notes) (accepted_notes s from connect x.id)
-    ∙ accepted_one s from connect x (bytes_eq connect.client_id x.id) (notes_of x.id (flat_map f s.clients)) refl may own)
+    (λ x other own. ap (λ notes. (if bytes_eq x.id connect.client_id then note.Connect connect.client_id Allowed ∷ [] else []) ++ notes) (accepted_notes s from connect x.id)
+    ∙ accepted_one s from connect x (bytes_eq connect.client_id x.id) (notes_of x.id (flat_map f s.clients)) (notes_of x.id (flat_map g s.clients)) refl may other own)
     (each_own f s.clients (only_beside s from connect) apart)
+    (each_own g s.clients (only_entering s from connect) apart)
+
+-- nothing waits for one of whom nothing was heard
+pub blank_enters : (s : State) (from : Address) (connect : Connect) (clean : Bool) → connect.flags.clean ≡ clean → entering_notes s from connect (blank connect.client_id) Allowed ≡ []
+blank_enters s from connect true is = rw is refl
+blank_enters s from connect false is = rw is refl
 
 -- who is accepted for the first time
 accepted_new : (s : State) (from : Address) (connect : Connect) (known : Bool) → is_known connect.client_id s.clients ≡ known → entry s connect ≡ Allowed
@@ -209,8 +284,14 @@ accepted_new : (s : State) (from : Address) (connect : Connect) (known : Bool) �
 accepted_new s from connect true is may = tt
 accepted_new s from connect false is may =
     let id = connect.client_id in
-    let none : notes_of id (flat_map (beside_for s from connect) s.clients) ≡ [] = absent (beside_for s from connect) id s.clients (only_beside s from connect) (unknown_away id s.clients is) in
-    (ap (λ notes. (if bytes_eq id id then note.Connect id Allowed ∷ [] else []) ++ notes) (accepted_notes s from connect id) ∙ (rw (none, same_self id, may) refl), tt)
+    let away : Away id s.clients = unknown_away id s.clients is in
+    let none : notes_of id (flat_map (beside_for s from connect) s.clients) ≡ [] = absent (beside_for s from connect) id s.clients (only_beside s from connect) away in
+    let nor : notes_of id (flat_map (entering_for s from connect) s.clients) ≡ [] = absent (entering_for s from connect) id s.clients (only_entering s from connect) away in
+    let first : (if bytes_eq id id then note.Connect id Allowed ∷ [] else []) ++ notes_of id (row_accepted s from connect) ≡ note.Connect id Allowed ∷ [] =
+    ap (λ notes. (if bytes_eq id id then note.Connect id Allowed ∷ [] else []) ++ notes) (accepted_notes s from connect id) ∙ (rw (none, nor, same_self id) refl) in
+    let fixed : fixed_for s (ByConnect from connect) (blank id) ≡ note.Connect id Allowed ∷ [] =
+    rw (same_self id, may) (ap (λ notes. note.Connect id Allowed ∷ notes) (blank_enters s from connect connect.flags.clean refl)) in
+    (first ∙ sym fixed, tt)
 
 refused_one : (s : State) (from : Address) (connect : Connect) (rule : Denial) (x : Client) (same : Bool) → bytes_eq connect.client_id x.id ≡ same → entry s connect ≡ Denied rule
     → notes_of x.id (Note (note.Connect connect.client_id (Denied rule)) ∷ connack from (code_of rule) ∷ []) ≡ fixed_for s (ByConnect from connect) x
@@ -236,157 +317,6 @@ entry_says s from connect (Denied rule) is apart =
     let news : entrants s connect ≡ [] = ap (λ o. if is_allowed o && not (is_known connect.client_id s.clients) then blank connect.client_id ∷ [] else []) is in
     all_here s c (entry_outs s from connect (notes_for s c) (Denied rule)) news (sym news) refl
     (each_all (λ x. notes_of x.id (entry_outs s from connect (notes_for s c) (Denied rule)) ≡ fixed_for s c x) s.clients (λ x. refused_one s from connect rule x (bytes_eq connect.client_id x.id) refl is))
-
--- ---- what leaves for the broker
-
-forwarded_says : (p : Publication) (packet_id : Option ℕ) (o : Outcome) (outs : List Out) → exits_in (forwarded p packet_id o ++ outs) ≡ o ∷ exits_in outs
-forwarded_says p packet_id Allowed outs = refl
-forwarded_says p packet_id (Denied rule) outs = refl
-
--- an out without exits adds none, and one of nobody adds no note
-wire_exits : (b : Bool) (out : Out) (outs : List Out) → exits_of_out out ≡ [] → exits_in ((if b then out ∷ [] else []) ++ outs) ≡ exits_in outs
-wire_exits true out outs none = ap (λ exits. exits ++ exits_in outs) none
-wire_exits false out outs none = refl
-
-no_wire_exits : (b : Bool) (out : Out) (outs : List Out) → exits_of_out out ≡ [] → exits_in ((if b then [] else out ∷ []) ++ outs) ≡ exits_in outs
-no_wire_exits true out outs none = refl
-no_wire_exits false out outs none = ap (λ exits. exits ++ exits_in outs) none
-
-wire_none : (d : List ℕ) (b : Bool) (out : Out) (outs : List Out) → said_of d out ≡ [] → notes_of d ((if b then out ∷ [] else []) ++ outs) ≡ notes_of d outs
-wire_none d true out outs none = ap (λ notes. notes ++ notes_of d outs) none
-wire_none d false out outs none = refl
-
-no_wire_none : (d : List ℕ) (b : Bool) (out : Out) (outs : List Out) → said_of d out ≡ [] → notes_of d ((if b then [] else out ∷ []) ++ outs) ≡ notes_of d outs
-no_wire_none d true out outs none = refl
-no_wire_none d false out outs none = ap (λ notes. notes ++ notes_of d outs) none
-
-pub leaving_exits : (policy : Policy) (link : Link) (items : List Item) → exits_in (leaving link items (exits_of policy items)) ≡ exits_of policy items
-leaving_exits policy link [] = refl
-leaving_exits policy link (item.Publish p ∷ items) =
-    let o = exit policy p.origin p.name in
-    forwarded_says p (packet_id_by link p.qos) o (leaving (exited link p o) items (exits_of policy items)) ∙ ap (λ outcomes. o ∷ outcomes) (leaving_exits policy (exited link p o) items)
-leaving_exits policy link (item.Subscribe filter ∷ items) =
-    wire_exits (wants link.wanted filter) (subscribe_packet (next_packet_id link) filter) (leaving (subscribe_left link filter) items (exits_of policy items)) refl
-    ∙ leaving_exits policy (subscribe_left link filter) items
-leaving_exits policy link (item.Unsubscribe filter ∷ items) =
-    no_wire_exits (wants link.wanted filter) (unsubscribe_packet (next_packet_id link) filter) (leaving (unsubscribe_left link filter) items (exits_of policy items)) refl
-    ∙ leaving_exits policy (unsubscribe_left link filter) items
-leaving_exits policy link (item.Acknowledge packet_id ∷ items) = leaving_exits policy link items
-leaving_exits policy link (item.Ping ∷ items) = leaving_exits policy link items
-
-forwarded_none : (d : List ℕ) (p : Publication) (packet_id : Option ℕ) (o : Outcome) (outs : List Out) → notes_of d (forwarded p packet_id o ++ outs) ≡ notes_of d outs
-forwarded_none d p packet_id Allowed outs = refl
-forwarded_none d p packet_id (Denied rule) outs = refl
-
-pub leaving_none : (d : List ℕ) (policy : Policy) (link : Link) (items : List Item) → notes_of d (leaving link items (exits_of policy items)) ≡ []
-leaving_none d policy link [] = refl
-leaving_none d policy link (item.Publish p ∷ items) =
-    let o = exit policy p.origin p.name in
-    forwarded_none d p (packet_id_by link p.qos) o (leaving (exited link p o) items (exits_of policy items)) ∙ leaving_none d policy (exited link p o) items
-leaving_none d policy link (item.Subscribe filter ∷ items) =
-    wire_none d (wants link.wanted filter) (subscribe_packet (next_packet_id link) filter) (leaving (subscribe_left link filter) items (exits_of policy items)) refl
-    ∙ leaving_none d policy (subscribe_left link filter) items
-leaving_none d policy link (item.Unsubscribe filter ∷ items) =
-    no_wire_none d (wants link.wanted filter) (unsubscribe_packet (next_packet_id link) filter) (leaving (unsubscribe_left link filter) items (exits_of policy items)) refl
-    ∙ leaving_none d policy (unsubscribe_left link filter) items
-leaving_none d policy link (item.Acknowledge packet_id ∷ items) = leaving_none d policy link items
-leaving_none d policy link (item.Ping ∷ items) = leaving_none d policy link items
-
-take_exits : (s : State) (up : Bool) → s.up ≡ up → exits_in (outs_by s ByTake) ≡ exits_for s ByTake
-take_exits s true is = rw is (leaving_exits s.policy s.link s.link.waiting)
-take_exits s false is = rw is refl
-
-take_none : (s : State) (d : List ℕ) (up : Bool) → s.up ≡ up → notes_of d (outs_by s ByTake) ≡ []
-take_none s d true is = rw is (leaving_none d s.policy s.link s.link.waiting)
-take_none s d false is = rw is refl
-
--- ---- what is sent again
-
-again_says : (sent : InFlight) (o : Outcome) (outs : List Out) → exits_in (sent_again sent o ++ outs) ≡ o ∷ exits_in outs
-again_says sent Allowed outs = refl
-again_says sent (Denied rule) outs = refl
-
-pub resending_exits : (policy : Policy) (flights : List InFlight) → exits_in (resending flights (agains_of policy flights)) ≡ agains_of policy flights
-resending_exits policy [] = refl
-resending_exits policy (sent ∷ flights) =
-    let o = exit policy sent.publication.origin sent.publication.name in
-    again_says sent o (resending flights (agains_of policy flights)) ∙ ap (λ outcomes. o ∷ outcomes) (resending_exits policy flights)
-
-again_none : (d : List ℕ) (sent : InFlight) (o : Outcome) (outs : List Out) → notes_of d (sent_again sent o ++ outs) ≡ notes_of d outs
-again_none d sent Allowed outs = refl
-again_none d sent (Denied rule) outs = refl
-
-pub resending_none : (d : List ℕ) (policy : Policy) (flights : List InFlight) → notes_of d (resending flights (agains_of policy flights)) ≡ []
-resending_none d policy [] = refl
-resending_none d policy (sent ∷ flights) =
-    again_none d sent (exit policy sent.publication.origin sent.publication.name) (resending flights (agains_of policy flights)) ∙ resending_none d policy flights
-
--- the SUBSCRIBEs of a new connection have no notes
-pub mute_subscribing : (link : Link) (filters : List (List ℕ)) → Mute (subscribing link filters)
-mute_subscribing link [] = mute_none
-mute_subscribing link (filter ∷ filters) =
-    mute_both (subscribe_packet (next_packet_id link) filter ∷ []) (subscribing (subscribe_sent link filter) filters)
-    (record { notes = λ c. refl; exits = refl; asks = λ q. refl })
-    (mute_subscribing (subscribe_sent link filter) filters)
-
-abbrev anew : State → List Out
-anew s = subscribing (resumed s.link s.clock (agains_of s.policy s.link.in_flight)) (filters_wanted s.link)
-
-up_exits : (s : State) → exits_in (outs_by s ByUp) ≡ exits_for s ByUp
-up_exits s =
-    let back = resending s.link.in_flight (agains_of s.policy s.link.in_flight) in
-    exits_append back (anew s)
-    ∙ (ap (λ exits. exits_in back ++ exits) (mute_subscribing (resumed s.link s.clock (agains_of s.policy s.link.in_flight)) (filters_wanted s.link)).exits
-    ∙ (append-nil (exits_in back) ∙ resending_exits s.policy s.link.in_flight))
-
-up_none : (s : State) (d : List ℕ) → notes_of d (outs_by s ByUp) ≡ []
-up_none s d =
-    let back = resending s.link.in_flight (agains_of s.policy s.link.in_flight) in
-    notes_append d back (anew s)
-    ∙ (ap (λ notes. notes ++ notes_of d (anew s)) (resending_none d s.policy s.link.in_flight)
-    ∙ (mute_subscribing (resumed s.link s.clock (agains_of s.policy s.link.in_flight)) (filters_wanted s.link)).notes d)
-
--- ---- a packet of the broker
-
-mute_note : (b : Bool) (said : Decision) → Mute (Note said ∷ []) → Mute (if b then [] else Note said ∷ [])
-mute_note true said m = mute_none
-mute_note false said m = m
-
-mute_dropped : (place : Bool) (o : Option ℕ) → Mute (dropped place o)
-mute_dropped place None = mute_none
-mute_dropped place (Some packet_id) = mute_note place note.Outbox (record { notes = λ c. refl; exits = refl; asks = λ q. refl })
-
-mute_packet : (up : Bool) (link : Link) (a : Answer) → Mute (answer_outs up link a)
-mute_packet up link (Delivers p) =
-    mute_both (misnamed p.name) (dropped (has_place link) (owed up p))
-    (mute_note (is_name p.name) (note.Frame who.Broker (Denied BadName)) (record { notes = λ c. refl; exits = refl; asks = λ q. refl }))
-    (mute_dropped (has_place link) (owed up p))
-mute_packet up link (Acknowledges packet_id) = mute_none
-mute_packet up link (Grants packet_id) = mute_none
-mute_packet up link (Refuses packet_id) = mute_none
-mute_packet up link Confirms = mute_none
-mute_packet up link StrangePacket = record { notes = λ c. refl; exits = refl; asks = λ q. refl }
-
--- ---- a publish of a source
-
--- its note is no client's
-pub record Foreign (outs : List Out) : Type 0 where
-  pub notes : (c : List ℕ) → notes_of c outs ≡ []
-  pub exits : exits_in outs ≡ []
-
-foreign_named : (s : State) (source : List ℕ) (named : Result (List ℕ) Denial) → Foreign (Note (named_ask s source named) ∷ [])
-foreign_named s source (Ok name) = record { notes = λ c. refl; exits = refl }
-foreign_named s source (Err rule) = record { notes = λ c. refl; exits = refl }
-
-foreign_ask : (s : State) (source : List ℕ) (p : Publish) (listed : Bool) → lists_source s.policy source ≡ listed → Foreign (Note (source_ask s source p) ∷ [])
-foreign_ask s source p true is = rw is (foreign_named s source (name_in s.policy None p.flags.id_type p.topic_id))
-foreign_ask s source p false is = rw is (record { notes = λ c. refl; exits = refl })
-
-pub foreign_source : (s : State) (source : List ℕ) (p : Publish) → Foreign (Note (source_ask s source p) ∷ [])
-foreign_source s source p = foreign_ask s source p (lists_source s.policy source) refl
-
-foreign : (outs : List Out) → Mute outs → Foreign outs
-foreign outs mute = record { notes = mute.notes; exits = mute.exits }
 
 -- ---- what is asked for
 
@@ -451,13 +381,15 @@ unasked_bye : (from : Address) (p : Option Publish) → asked_all p (Note (note.
 unasked_bye from None = refl
 unasked_bye from (Some p) = refl
 
-mute_stranger : (from : Address) (request : Request) → Mute (stranger_to from request)
+pub mute_stranger : (from : Address) (request : Request) → Mute (stranger_to from request)
 mute_stranger from (ToPing client) = record { notes = λ c. refl; exits = refl; asks = λ q. refl }
 mute_stranger from ToLeave = record { notes = λ c. refl; exits = refl; asks = λ q. refl }
 mute_stranger from (ToRegister r) = record { notes = λ c. refl; exits = refl; asks = λ q. refl }
 mute_stranger from (ToPublish p) = record { notes = λ c. refl; exits = refl; asks = unasked_bye from }
 mute_stranger from (ToSubscribe r) = record { notes = λ c. refl; exits = refl; asks = λ q. refl }
 mute_stranger from (ToUnsubscribe r) = record { notes = λ c. refl; exits = refl; asks = λ q. refl }
+mute_stranger from (ToConfirm r) = record { notes = λ c. refl; exits = refl; asks = λ q. refl }
+mute_stranger from (ToAcknowledge r) = record { notes = λ c. refl; exits = refl; asks = λ q. refl }
 mute_stranger from (Untaken message) = mute_unsupported from message
 
 strange_message : (s : State) (from : Address) (request : Request) → Strange s (ByMessage from request) (stranger_to from request)

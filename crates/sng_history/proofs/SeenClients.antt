@@ -1,6 +1,6 @@
 -- One client as a datagram comes: what is kept of it moves as what the rows show of it.
 use Rattle.std.proofs.Common.{◌≡◌, ℕ, Bool, true, false, List, [], ◌∷◌, ◌++◌, refl, ap, sym, ◌∙◌, if◌then◌else◌, Ok, Err}
-use Rattle.std.specs.Prelude.{◌&&◌, ◌||◌, Option, Some, None}
+use Rattle.std.specs.Prelude.{◌==◌, ◌&&◌, ◌||◌, Option, Some, None}
 use Rattle.std.specs.Str.{bytes_eq}
 use Rattle.std.specs.declared.result.Result.{Result}
 use Rattle.sng_grants.specs.declared.policy.Policy.{Policy}
@@ -12,7 +12,11 @@ use Rattle.sng_frames.specs.declared.qos.FrameQos.TheVariants as qos
 use Rattle.sng_frames.specs.declared.messages.connect.Connect.{Connect}
 use Rattle.sng_frames.specs.declared.messages.publish.Publish.{Publish}
 use Rattle.sng_fan.specs.declared.held.Held.{Held}
+use Rattle.sng_ids.specs.Ids.{confirmed}
+use Rattle.sng_queue.specs.Buffers.{settle}
+use Rattle.mqtt_frames.specs.declared.packet.Packet.{Packet}
 use Rattle.sng_frames.specs.declared.messages.subscribe.TopicRequest.{TopicRequest}
+use Rattle.sng_frames.specs.declared.messages.acks.TopicAck.{TopicAck}
 use Rattle.sng_frames.specs.declared.frame.SnFrame.{SnFrame}
 use Rattle.sng_frames.specs.declared.frame.SnFrame.TheVariants as frame
 use Rattle.sng_book.specs.Denials.{is_allowed}
@@ -25,18 +29,22 @@ use Rattle.sng_book.specs.declared.outcome.Denial.{Denial}
 use Rattle.sng_book.specs.declared.outcome.Denial.TheVariants.{NotSupported, BrokerRefused}
 use Rattle.sng_book.specs.declared.outcome.Outcome.{Outcome}
 use Rattle.sng_book.specs.declared.outcome.Outcome.TheVariants.{Allowed, Denied}
-use Rattle.sng_history.specs.Causes.{Cause, ByConnect, ByMessage, ToPing, ToLeave, ToRegister, ToPublish, ToSubscribe, ToUnsubscribe, Untaken, ByBroken, datagram_cause, publish_cause, rule_of}
-use Rattle.sng_history.specs.Clients.{Client, Around, is_here, cleaned, let_in, subscribed, without, unsubscribed, subscribe_of, note_by, notes_by}
+use Rattle.sng_history.specs.Causes.{Cause, ByConnect, ByMessage, ByBroken, ByPacket, datagram_cause, publish_cause, rule_of}
+use Rattle.sng_history.specs.Causes.{ToPing, ToLeave, ToRegister, ToPublish, ToSubscribe, ToUnsubscribe, ToConfirm, ToAcknowledge, Untaken}
+use Rattle.sng_history.specs.Clients.{Client, Around, is_here, is_confirming, is_acknowledging, closed, confirmed_with, message_due, delivered_by, cleaned, let_in, gone, subscribed, without, unsubscribed, is_turned_away, handed, subscribe_of, note_by, notes_by}
+use Rattle.sng_history.specs.Packets.{answer_of, refused_filter}
+use Rattle.sng_history.specs.Outgoing.{out_of_turn, all_gone, handed_over, delivered_notes}
 use Rattle.sng_history.specs.Standing.{holds}
 use Rattle.sng_history.specs.State.{State}
 use Rattle.sng_history.specs.Verdicts.{entry, ping_verdict, register_ask, publish_ask, coverage, subscribe_ask, unsubscribe_ask}
 use Rattle.sng_history.specs.Answers.{denied_note}
-use Rattle.sng_history.specs.Lawful.{fixed_for, denial_of, end_of, ends_under, refused_end}
+use Rattle.sng_history.specs.Lawful.{confirmations, entering_notes, fixed_for, denial_of, end_of, ends_under, refused_end}
 use Rattle.sng_history.specs.Steps.{client_next}
 use Rattle.sng_history.specs.ViewsMessages.{message_in}
 use Rattle.sng_history.specs.ViewsClients.{phase_by, admits, duration_by, is_spoken}
 use Rattle.sng_history.proofs.Own.{same_self}
 use Rattle.sng_history.proofs.Asks.{of_register, of_publish, of_subscribe, of_unsubscribe}
+use Rattle.sng_history.proofs.Hands.{Every, OfMessages, every_append, every_handed, every_gone, every_confirmation, every_delivered}
 use Rattle.sng_history.proofs.SeenNotes.{phase_notes, admitted_notes}
 
 -- what was shown before of a client, and of an event: where it came from, what it states, the clock, and whether the client speaks by it
@@ -155,7 +163,11 @@ alike_unsubscribed None o x = alike_self x
 alike_unsubscribed (Some filter) Allowed x = record { phase = refl; address = refl; duration = refl; heard = refl }
 alike_unsubscribed (Some filter) (Denied rule) x = alike_self x
 
--- its subscriptions end
+alike_if : (b : Bool) (x y z : Client) → Alike x y → Alike x z → Alike x (if b then y else z)
+alike_if true x y z one two = one
+alike_if false x y z one two = two
+
+-- notes move nothing of this
 pub record Ends (id : List ℕ) (a : Around) (x : Client) (n : List Decision) : Type 0 where
   pub phase : (before : Option ClientState) → phase_notes id n before ≡ before
   pub admits : admitted_notes id n ≡ false
@@ -163,6 +175,41 @@ pub record Ends (id : List ℕ) (a : Around) (x : Client) (n : List Decision) : 
 
 pub ends_none : (id : List ℕ) (a : Around) (x : Client) → Ends id a x []
 ends_none id a x = record { phase = λ before. refl; admits = refl; alike = alike_self x }
+
+-- a note that shows nothing of this and moves nothing of it
+record Unseen (a : Around) (said : Decision) : Type 0 where
+  phase : (id : List ℕ) (before : Option ClientState) → phase_by id said before ≡ before
+  admits : (id : List ℕ) → admits id said ≡ false
+  alike : (x : Client) → Alike x (note_by a said x)
+
+ends_each : (id : List ℕ) (a : Around) (n : List Decision) (x : Client) → Every (Unseen a) n → Ends id a x n
+ends_each id a [] x every = ends_none id a x
+ends_each id a (said ∷ n) x every =
+    let rest = ends_each id a n (note_by a said x) every.1 in
+    record {
+      phase = λ before. ap (phase_notes id n) (every.0.phase id before) ∙ rest.phase before;
+      admits = rw (every.0.admits id) rest.admits;
+      alike = alike_on x (note_by a said x) (notes_by a n (note_by a said x)) (every.0.alike x) rest.alike;
+    }
+
+-- messages for a client are announced and handed over, turned away or gone
+alike_handed : (a : Around) (name : List ℕ) (o : Outcome) (x : Client) → Alike x (handed a name o x)
+alike_handed a name Allowed x = record { phase = refl; address = refl; duration = refl; heard = refl }
+alike_handed a name (Denied rule) x =
+    let y : Client = record x { buffer = settle x.buffer } in
+    alike_if (is_turned_away rule) x x y (alike_self x) (record { phase = refl; address = refl; duration = refl; heard = refl })
+
+unseen_messages : (a : Around) (client : List ℕ) → OfMessages (Unseen a) client
+unseen_messages a client = record {
+  announces = λ name. record {
+    phase = λ id before. refl;
+    admits = λ id. refl;
+    alike = λ x. record { phase = refl; address = refl; duration = refl; heard = refl };
+  };
+  hands = λ name o. record { phase = λ id before. refl; admits = λ id. refl; alike = λ x. alike_handed a name o x };
+}
+
+-- ---- its subscriptions end
 
 end_first : (id own text : List ℕ) (a : Around) (x : Client) (o : Outcome) (n : List Decision) → ((y : Client) → Ends id a y n) → Ends id a x (end_of own text o ++ n)
 end_first id own text a x Allowed n rest = rest x
@@ -191,6 +238,83 @@ ends_refused id a x (Some text) = refused_if id a x text (holds text x)
 pub ends_show : (x : Client) (a : Around) (clock : ℕ) (n : List Decision) → Ends x.id a x n → Shows x.id (kept_of x None None clock false) n (notes_by a n x)
 ends_show x a clock n ends =
     shows_alike x.id (kept_of x None None clock false) n x (notes_by a n x) ends.alike (rw (ends.phase (Some x.phase), ends.admits) (refl, refl, refl, refl))
+
+-- a packet of the broker ends a subscription that it refuses, and a message of it comes to the client
+refused_unseen : (a : Around) (x : Client) (text : Option (List ℕ)) → Every (Unseen a) (refused_end x text)
+refused_unseen a x None = tt
+refused_unseen a x (Some text) = by_held (holds text x)
+  where
+    by_held : (b : Bool) → Every (Unseen a) (if b then note.End x.id text (Denied BrokerRefused) ∷ [] else [])
+    by_held true = (
+      record {
+        phase = λ id before. refl;
+        admits = λ id. refl;
+        alike = λ y. record { phase = refl; address = refl; duration = refl; heard = refl };
+      },
+      tt,
+    )
+    by_held false = tt
+
+pub packet_shows : (s : State) (x : Client) (p : Packet)
+    → let c = ByPacket p in
+    Shows x.id (kept_of x None None s.clock false) (fixed_for s c x) (client_next s c x)
+packet_shows s x p =
+    let c = ByPacket p in
+    let a : Around = record { policy = s.policy; clock = s.clock; cause = c } in
+    let due = message_due (answer_of p) x in
+    let y = delivered_by c x in
+    let one = refused_end x (refused_filter s.link (answer_of p)) in
+    let two = delivered_notes s.policy due x in
+    let ends = ends_each x.id a (one ++ two) y
+    (every_append (Unseen a) one two (refused_unseen a x (refused_filter s.link (answer_of p))) (every_delivered (Unseen a) s.policy due x (unseen_messages a x.id))) in
+    shows_alike x.id (kept_of x None None s.clock false) (one ++ two) x (notes_by a (one ++ two) y)
+    (alike_on x y (notes_by a (one ++ two) y) (record { phase = refl; address = refl; duration = refl; heard = refl }) ends.alike)
+    (rw (ends.phase (Some x.phase), ends.admits) (refl, refl, refl, refl))
+
+-- ---- it is heard, and its notes move nothing of this
+
+heard_shows : (a : Around) (x y : Client) (from : Option Address) (n : List Decision) → Alike (heard_if true a.clock x) y → Ends x.id a y n
+    → Shows x.id (kept_of x from None a.clock true) n (notes_by a n y)
+heard_shows a x y from n same ends =
+    shows_alike x.id (kept_of x from None a.clock true) n (heard_if true a.clock x) (notes_by a n y)
+    (alike_on (heard_if true a.clock x) y (notes_by a n y) same ends.alike) (rw (ends.phase (Some x.phase), ends.admits) (refl, refl, refl, refl))
+
+alike_closed : (x : Client) → Alike x (closed x)
+alike_closed x = record { phase = refl; address = refl; duration = refl; heard = refl }
+
+alike_confirmed : (r : TopicAck) (x : Client) → Alike x (confirmed_with r x)
+alike_confirmed r x =
+    let y : Client = record (closed x) { ids = confirmed r.topic_id x.ids } in
+    alike_if (r.code.0 == 0) x y x (record { phase = refl; address = refl; duration = refl; heard = refl }) (alike_self x)
+
+-- a REGACK or PUBACK that has its turn, or not
+answered_ends : (a : Around) (x y : Client) (notes : List Decision) (b : Bool) → Every (Unseen a) notes → Ends x.id a y (if b then notes else out_of_turn x.id)
+answered_ends a x y notes true every = ends_each x.id a notes y every
+answered_ends a x y notes false every = record { phase = λ before. refl; admits = refl; alike = alike_self y }
+
+confirm_shows : (a : Around) (policy : Policy) (x : Client) (from : Option Address) (r : TopicAck) (here : Bool)
+    → let n = if here then (if is_confirming r x then confirmations policy r x else out_of_turn x.id) else [] in
+    let y : Client = record x { heard = a.clock } in
+    Shows x.id (kept_of x from None a.clock here) n (notes_by a n (if here then (if is_confirming r x then confirmed_with r y else y) else x))
+confirm_shows a policy x from r true =
+    let y : Client = record x { heard = a.clock } in
+    let z : Client = if is_confirming r x then confirmed_with r y else y in
+    heard_shows a x z from (if is_confirming r x then confirmations policy r x else out_of_turn x.id)
+    (alike_if (is_confirming r x) y (confirmed_with r y) y (alike_confirmed r y) (alike_self y))
+    (answered_ends a x z (confirmations policy r x) (is_confirming r x) (every_confirmation (Unseen a) policy r x (unseen_messages a x.id)))
+confirm_shows a policy x from r false = (refl, refl, refl, refl)
+
+acknowledge_shows : (a : Around) (policy : Policy) (x : Client) (from : Option Address) (r : TopicAck) (here : Bool)
+    → let n = if here then (if is_acknowledging r x then handed_over policy (closed x) else out_of_turn x.id) else [] in
+    let y : Client = record x { heard = a.clock } in
+    Shows x.id (kept_of x from None a.clock here) n (notes_by a n (if here then (if is_acknowledging r x then closed y else y) else x))
+acknowledge_shows a policy x from r true =
+    let y : Client = record x { heard = a.clock } in
+    let z : Client = if is_acknowledging r x then closed y else y in
+    heard_shows a x z from (if is_acknowledging r x then handed_over policy (closed x) else out_of_turn x.id)
+    (alike_if (is_acknowledging r x) y (closed y) y (alike_closed y) (alike_self y))
+    (answered_ends a x z (handed_over policy (closed x)) (is_acknowledging r x) (every_handed (Unseen a) policy (closed x) (unseen_messages a x.id)))
+acknowledge_shows a policy x from r false = (refl, refl, refl, refl)
 
 -- what it asks for is noted, and moves nothing of this
 subscribe_shows : (a : Around) (s : State) (x : Client) (from : Option Address) (r : TopicRequest) (here : Bool)
@@ -225,10 +349,20 @@ asked_shows a s x from p false = (refl, refl, refl, refl)
 
 -- ---- it leaves, or is let in
 
+-- behind a note come others that move nothing of this
+shows_more : (id : List ℕ) (b : Before) (a : Around) (said : Decision) (more : List Decision) (y : Client) → Shows id b (said ∷ []) y → Ends id a y more
+    → Shows id b (said ∷ more) (notes_by a more y)
+shows_more id b a said more y one ends =
+    shows_alike id b (said ∷ more) y (notes_by a more y) ends.alike (rw (ends.phase (phase_by id said b.phase), ends.admits) one)
+
 leave_shows : (a : Around) (x : Client) (from : Option Address) (stated : Option ℕ) (here : Bool)
-    → let n = if here then note.Left x.id ∷ [] else [] in
+    → let n = if here then note.Left x.id ∷ all_gone x.id x.buffer.waiting else [] in
     Shows x.id (kept_of x from stated a.clock here) n (notes_by a n (heard_if here a.clock x))
-leave_shows a x from stated true = rw (same_self x.id) (refl, refl, refl, refl)
+leave_shows a x from stated true =
+    let y = gone (heard_if true a.clock x) in
+    let more = all_gone x.id x.buffer.waiting in
+    shows_more x.id (kept_of x from stated a.clock true) a (note.Left x.id) more y (rw (same_self x.id) (refl, refl, refl, refl))
+    (ends_each x.id a more y (every_gone (Unseen a) x.id x.buffer.waiting (unseen_messages a x.id)))
 leave_shows a x from stated false = (refl, refl, refl, refl)
 
 record LetIn (clock : ℕ) (from : Address) (seconds : ℕ) (y : Client) : Type 0 where
@@ -258,19 +392,39 @@ refused_shows : (x : Client) (id : List ℕ) (from : Option Address) (stated : O
 refused_shows x id from stated clock rule true own = rw own (refl, refl, refl, refl)
 refused_shows x id from stated clock rule false own = rw own (refl, refl, refl, refl)
 
-abbrev entry_around : Policy → ℕ → Address → Connect → Around
-entry_around policy clock from connect = record { policy = policy; clock = clock; cause = ByConnect from connect }
+abbrev entry_around : State → Address → Connect → Around
+entry_around s from connect = record { policy = s.policy; clock = s.clock; cause = ByConnect from connect }
 
-abbrev entry_notes : Client → Bool → Bool → Outcome → List Decision
-entry_notes x own here o = if own then note.Connect x.id o ∷ [] else (if is_allowed o then (if here then note.Left x.id ∷ [] else []) else [])
+abbrev entry_notes : State → Address → Connect → Client → Bool → Bool → Outcome → List Decision
+entry_notes s from connect x own here o =
+    if own
+    then note.Connect x.id o ∷ entering_notes s from connect x o
+    else (if is_allowed o then (if here then note.Left x.id ∷ all_gone x.id x.buffer.waiting else []) else [])
 
-connect_shows : (policy : Policy) (clock : ℕ) (from : Address) (connect : Connect) (x : Client) (own here : Bool) (o : Outcome)
-    → Shows x.id (kept_of x (Some from) (Some connect.duration) clock here) (entry_notes x own here o) (notes_by (entry_around policy clock from connect) (entry_notes x own here o) (heard_if here clock x))
-connect_shows policy clock from connect x true here Allowed =
-    let_in_shows (kept_of x (Some from) (Some connect.duration) clock here) x.id clock from connect (heard_if here clock x) refl refl refl
-connect_shows policy clock from connect x true here (Denied rule) = refused_shows x x.id (Some from) (Some connect.duration) clock rule here (same_self x.id)
-connect_shows policy clock from connect x false here Allowed = leave_shows (entry_around policy clock from connect) x (Some from) (Some connect.duration) here
-connect_shows policy clock from connect x false here (Denied rule) = silent x (Some from) (Some connect.duration) clock here
+-- what waits for it is gone, or is handed over
+entering_ends : (s : State) (from : Address) (connect : Connect) (x y : Client) → Ends x.id (entry_around s from connect) y (entering_notes s from connect x Allowed)
+entering_ends s from connect x y = by_clean connect.flags.clean
+  where
+    by_clean : (clean : Bool) → Ends x.id (entry_around s from connect) y (if clean then all_gone x.id x.buffer.waiting else handed_over s.policy (let_in s.clock from connect x))
+    by_clean true =
+        let a = entry_around s from connect in
+        ends_each x.id a (all_gone x.id x.buffer.waiting) y (every_gone (Unseen a) x.id x.buffer.waiting (unseen_messages a x.id))
+    by_clean false =
+        let a = entry_around s from connect in
+        let z = let_in s.clock from connect x in
+        ends_each x.id a (handed_over s.policy z) y (every_handed (Unseen a) s.policy z (unseen_messages a z.id))
+
+connect_shows : (s : State) (from : Address) (connect : Connect) (x : Client) (own here : Bool) (o : Outcome)
+    → let n = entry_notes s from connect x own here o in
+    Shows x.id (kept_of x (Some from) (Some connect.duration) s.clock here) n (notes_by (entry_around s from connect) n (heard_if here s.clock x))
+connect_shows s from connect x true here Allowed =
+    let b = kept_of x (Some from) (Some connect.duration) s.clock here in
+    let y = let_in s.clock from connect (heard_if here s.clock x) in
+    shows_more x.id b (entry_around s from connect) (note.Connect x.id Allowed) (entering_notes s from connect x Allowed) y
+    (let_in_shows b x.id s.clock from connect (heard_if here s.clock x) refl refl refl) (entering_ends s from connect x y)
+connect_shows s from connect x true here (Denied rule) = refused_shows x x.id (Some from) (Some connect.duration) s.clock rule here (same_self x.id)
+connect_shows s from connect x false here Allowed = leave_shows (entry_around s from connect) x (Some from) (Some connect.duration) here
+connect_shows s from connect x false here (Denied rule) = silent x (Some from) (Some connect.duration) s.clock here
 
 -- ---- any datagram
 
@@ -298,12 +452,14 @@ disconnect_shows s x from (Some duration) =
 pub datagram_shows : (s : State) (x : Client) (from : Address) (read : Result SnFrame FrameFault)
     → Shows x.id (before_read s x from read) (fixed_for s (datagram_cause from read) x) (client_next s (datagram_cause from read) x)
 datagram_shows s x from (Ok (frame.Connect connect)) =
-    connect_shows s.policy s.clock from connect x (bytes_eq connect.client_id x.id) (is_here x from) (entry s connect)
+    connect_shows s from connect x (bytes_eq connect.client_id x.id) (is_here x from) (entry s connect)
 datagram_shows s x from (Ok (frame.Publish p)) = publish_shows s x from p p.flags.qos
 datagram_shows s x from (Ok (frame.Register r)) = register_shows (around_by s (ByMessage from (ToRegister r))) s.policy x (Some from) r.name (is_here x from)
 datagram_shows s x from (Ok (frame.Subscribe r)) = subscribe_shows (around_by s (ByMessage from (ToSubscribe r))) s x (Some from) r (is_here x from)
 datagram_shows s x from (Ok (frame.Unsubscribe r)) = unsubscribe_shows (around_by s (ByMessage from (ToUnsubscribe r))) s.policy x (Some from) r (is_here x from)
 datagram_shows s x from (Ok (frame.PingRequest client)) = ping_shows (around_by s (ByMessage from (ToPing client))) x (Some from) (is_here x from) (ping_verdict client x)
 datagram_shows s x from (Ok (frame.Disconnect duration)) = disconnect_shows s x from duration
+datagram_shows s x from (Ok (frame.RegisterAck r)) = confirm_shows (around_by s (ByMessage from (ToConfirm r))) s.policy x (Some from) r (is_here x from)
+datagram_shows s x from (Ok (frame.PublishAck r)) = acknowledge_shows (around_by s (ByMessage from (ToAcknowledge r))) s.policy x (Some from) r (is_here x from)
 datagram_shows s x from (Ok message) = denied_shows (around_by s (ByMessage from (Untaken message))) x (Some from) None (is_here x from) message NotSupported
 datagram_shows s x from (Err broke) = broken_shows (around_by s (ByBroken from (rule_of broke))) x (Some from) (is_here x from) (rule_of broke)

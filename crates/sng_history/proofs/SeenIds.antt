@@ -1,89 +1,29 @@
--- The ids of a client are those of the names that the rows show it was told.
-use Rattle.std.proofs.Common.{◌≡◌, ℕ, zero, suc, ◌+◌, ◌≤◌, Bool, true, false, List, [], ◌∷◌, ◌++◌, map, length, refl, ap, sym, ◌∙◌, if◌then◌else◌, arith}
-use Rattle.std.specs.Prelude.{◌||◌, ◌&&◌, not, nat_lt, position, unwrap_or, Option, Some, None}
+-- The topic ids of a client are those of the names that the rows show it was told, each marked where the client knows it.
+use Rattle.std.proofs.Common.{◌≡◌, ℕ, suc, ◌+◌, Bool, true, false, List, [], ◌∷◌, ◌++◌, refl, ap, sym, ◌∙◌, subst, if◌then◌else◌, arith}
+use Rattle.std.specs.Prelude.{◌||◌, not, Some}
 use Rattle.std.specs.List.{position_or_len}
-use Rattle.std.proofs.lemmas.Bool.Decides.{nat_tests}
-use Rattle.std.proofs.lemmas.List.Sums.{prefix_len-le-length}
 use Rattle.std.specs.Str.{bytes_eq}
-use Rattle.sng_grants.specs.declared.policy.Policy.{Policy}
-use Rattle.sng_ids.specs.Ids.{Ids, names_of, place_of, id_for, confirmed_at, confirmed}
-use Rattle.sng_frames.specs.declared.messages.connect.Connect.{Connect}
-use Rattle.sng_frames.specs.declared.messages.publish.Publish.{Publish}
-use Rattle.sng_fan.specs.declared.held.Held.{Held}
+use Rattle.sng_ids.specs.Ids.{Ids, id_for, with_name as with_entry, confirmed_at, confirmed}
 use Rattle.sng_frames.specs.declared.flags.TopicIdType.{TopicIdType}
 use Rattle.sng_frames.specs.declared.flags.TopicIdType.TheVariants.{Normal, Predefined, Short, Reserved}
-use Rattle.sng_frames.specs.declared.messages.subscribe.TopicRequest.{TopicRequest}
-use Rattle.sng_frames.specs.declared.frame.SnFrame.{SnFrame}
-use Rattle.sng_frames.specs.declared.frame.SnFrame.TheVariants as frame
-use Rattle.sng_book.specs.Denials.{is_allowed}
-use Rattle.sng_book.specs.declared.address.Address.{Address}
-use Rattle.sng_book.specs.declared.decision.Decision.{Decision}
-use Rattle.sng_book.specs.declared.decision.Decision.TheVariants as note
-use Rattle.sng_book.specs.declared.decision.Who.{Who}
-use Rattle.sng_book.specs.declared.decision.Who.TheVariants as who
-use Rattle.sng_book.specs.declared.outcome.Denial.{Denial}
-use Rattle.sng_book.specs.declared.outcome.Denial.TheVariants.{NotSupported, BrokerRefused}
-use Rattle.sng_book.specs.declared.outcome.Outcome.{Outcome}
-use Rattle.sng_book.specs.declared.outcome.Outcome.TheVariants.{Allowed, Denied}
-use Rattle.sng_history.specs.Causes.{Cause, ByConnect, ByMessage, ToPing, ToLeave, BySource, ToRegister, ToPublish, ToSubscribe, ToUnsubscribe, Untaken, ByBroken, ByPacket, ByUp, ByDown, ByTake, ByReplace, ByTick}
 use Rattle.sng_history.specs.Requests.{gets_id}
-use Rattle.sng_history.specs.Standing.{holds}
-use Rattle.sng_history.specs.Packets.{answer_of, refused_filter}
-use Rattle.sng_history.specs.Clients.{Client, Around, is_here, told, subscribed, without, unsubscribed, subscribe_of, note_by, notes_by}
-use Rattle.sng_history.specs.State.{State, around}
-use Rattle.sng_history.specs.Verdicts.{entry, ping_verdict, register_ask, publish_ask, coverage, subscribe_ask, unsubscribe_ask}
-use Rattle.sng_history.specs.Answers.{denied_note}
-use Rattle.sng_history.specs.Lawful.{fixed_for, denial_of, end_of, ends_under, refused_end}
-use Rattle.sng_history.specs.Steps.{client_next}
-use Rattle.sng_history.specs.ViewsClients.{is_among, speaks_of, with_name, tells_id, name_subscribed, names_by}
-use Rattle.sng_history.specs.LawsAsks.{id_told}
-use Rattle.sng_history.proofs.Own.{same_self}
-use Rattle.sng_history.proofs.Asks.{of_register, of_publish, of_subscribe, of_unsubscribe}
-use Rattle.sng_history.proofs.SeenNotes.{names_notes}
-use Rattle.sng_history.proofs.SeenClients.{heard_if, subscribed_none, let_in_ids}
+use Rattle.sng_history.specs.Clients.{told}
+use Rattle.sng_history.specs.ViewsClients.{is_among, with_name, tells_id, id_told}
+use Rattle.sng_history.specs.LawsState.{NoneTwice}
+use Rattle.sng_history.proofs.Own.{same_self, same_means, flip}
+use Rattle.sng_history.proofs.Marked.{marked, place_marked, id_marked}
 
--- the ids of these names, each known to the client
-abbrev pub known : List (List ℕ) → Ids
-known names = map (λ name. (name, true)) names
+-- the names that a client was told and those that it knows, and its ids
+pub record Telling (names known : List (List ℕ)) (ids : Ids) : Type 0 where
+  pub marks : ids ≡ marked names known
+  pub once : NoneTwice names
+  pub told : (name : List ℕ) → is_among name known ≡ true → is_among name names ≡ true
 
-pub names_known : (names : List (List ℕ)) → names_of (known names) ≡ names
-names_known [] = refl
-names_known (name ∷ names) = ap (λ more. name ∷ more) (names_known names)
+pub telling_none : Telling [] [] []
+telling_none = record { marks = refl; once = tt; told = λ name is. absurd cc }
 
--- ---- a name is told
+-- ---- the id of a name: its place among these, where it is among them, or else the next
 
-confirmed_stays : (names : List (List ℕ)) (place : ℕ) → confirmed_at place (known names) ≡ known names
-confirmed_stays [] place = refl
-confirmed_stays (name ∷ names) zero = refl
-confirmed_stays (name ∷ names) (suc place) = ap (λ more. (name, true) ∷ more) (confirmed_stays names place)
-
-confirmed_any : (names : List (List ℕ)) (id : ℕ) → confirmed id (known names) ≡ known names
-confirmed_any names zero = refl
-confirmed_any names (suc place) = confirmed_stays names place
-
-confirmed_last : (names : List (List ℕ)) (name : List ℕ) → confirmed_at (length (known names)) (known names ++ (name, false) ∷ []) ≡ known (names ++ name ∷ [])
-confirmed_last [] name = refl
-confirmed_last (one ∷ names) name = ap (λ more. (one, true) ∷ more) (confirmed_last names name)
-
--- whether a name is among these, and its place
-among_by : (b c : Bool) (n : ℕ) (names : List (List ℕ)) → nat_lt n (length names) ≡ c → nat_lt (if not b then 1 + n else 0) (suc (length names)) ≡ (b || c)
-among_by true c n names is = grind (arith, nat_tests)
-among_by false c n names is = grind (arith, nat_tests, is)
-
-among_place : (name : List ℕ) (names : List (List ℕ)) → nat_lt (position_or_len (bytes_eq name) names) (length names) ≡ is_among name names
-among_place name [] = refl
-among_place name (one ∷ names) = among_by (bytes_eq name one) (is_among name names) (position_or_len (bytes_eq name) names) names (among_place name names)
-
-pub place_known : (name : List ℕ) (names : List (List ℕ))
-    → place_of name (known names) ≡ (if is_among name names then Some (position_or_len (bytes_eq name) names) else None)
-place_known name names =
-    ap (λ all. position (bytes_eq name) all) (names_known names) ∙ ap (λ b. if b then Some (position_or_len (bytes_eq name) names) else None) (among_place name names)
-
-pub length_known : (names : List (List ℕ)) → length (known names) ≡ length names
-length_known [] = refl
-length_known (name ∷ names) = ap suc (length_known names)
-
--- the id of a name: its place among these, where it is among them, or else the next
 id_step : (b : Bool) (id n : ℕ) → id ≡ n + 1 → (if b then 1 else id + 1) ≡ (if not b then 1 + n else 0) + 1
 id_step true id n is = refl
 id_step false id n is = omega (arith, is)
@@ -92,187 +32,164 @@ pub id_place : (name : List ℕ) (names : List (List ℕ)) → id_told name name
 id_place name [] = refl
 id_place name (one ∷ names) = id_step (bytes_eq name one) (id_told name names) (position_or_len (bytes_eq name) names) (id_place name names)
 
-id_by : (b : Bool) (n m : ℕ) → nat_lt n m ≡ b → n ≤ m → unwrap_or (let o : Option ℕ = if b then Some n else None in o) m + 1 ≡ n + 1
-id_by true n m is within = refl
-id_by false n m is within = grind (arith, nat_tests, is, within)
+id_last : (name : List ℕ) (names : List (List ℕ)) → id_told name (names ++ name ∷ []) ≡ id_told name names
+id_last name [] = rw (same_self name) refl
+id_last name (one ∷ names) = ap (λ id. if bytes_eq name one then 1 else id + 1) (id_last name names)
 
-pub id_known : (name : List ℕ) (names : List (List ℕ)) → id_for name (known names) ≡ id_told name names
-id_known name names =
-    rw (place_known name names, length_known names)
-    (id_by (is_among name names) (position_or_len (bytes_eq name) names) (length names) (among_place name names) (prefix_len-le-length (λ one. not (bytes_eq name one)) names)
-    ∙ sym (id_place name names))
+id_by : (name : List ℕ) (names : List (List ℕ)) (b : Bool) → id_told name (if b then names else names ++ name ∷ []) ≡ id_told name names
+id_by name names true = refl
+id_by name names false = id_last name names
 
-told_by : (name : List ℕ) (names : List (List ℕ)) (b : Bool) → place_of name (known names) ≡ (if b then Some (position_or_len (bytes_eq name) names) else None)
-    → told name (known names) ≡ known (if b then names else names ++ name ∷ [])
-told_by name names true is = rw is (confirmed_any names (position_or_len (bytes_eq name) names + 1))
-told_by name names false is =
-    let next : length (known names) + 1 ≡ suc (length (known names)) = omega arith in
-    rw (is, next) (confirmed_last names name)
+-- a name that is told keeps its id
+pub id_stays : (name : List ℕ) (names : List (List ℕ)) → id_told name (with_name (Some name) names) ≡ id_told name names
+id_stays name names = id_by name names (is_among name names)
 
-pub told_known : (name : List ℕ) (names : List (List ℕ)) → told name (known names) ≡ known (with_name (Some name) names)
-told_known name names = told_by name names (is_among name names) (place_known name names)
+-- ---- who is among names, with one more
 
--- ---- the notes of a row
+or_none : (a b : Bool) → (a || b) ≡ false → (a ≡ false) × (b ≡ false)
+or_none true b is = absurd cc
+or_none false b is = (refl, is)
 
--- the note tells no id
-record Silent (a : Around) (said : Decision) : Type 0 where
-  ids : (x : Client) → (note_by a said x).ids ≡ x.ids
-  names : (r : Option TopicRequest) (id : List ℕ) (before : List (List ℕ)) → names_by r id said before ≡ before
+or_last : (a b c : Bool) → (a || (b || c)) ≡ ((a || b) || c)
+or_last true b c = refl
+or_last false b c = refl
 
-heard_ids : (spoke : Bool) (clock : ℕ) (x : Client) → (heard_if spoke clock x).ids ≡ x.ids
-heard_ids true clock x = refl
-heard_ids false clock x = refl
+or_false : (a : Bool) → (a || false) ≡ a
+or_false true = refl
+or_false false = refl
 
--- what the ids of a client are after these notes
-abbrev IdsAfter : Around → Client → List (List ℕ) → Bool → List Decision → Type 0
-IdsAfter a x names spoke notes = (notes_by a notes (heard_if spoke a.clock x)).ids ≡ known (names_notes (subscribe_of a.cause) x.id notes names)
+among_last : (one name : List ℕ) (names : List (List ℕ)) → is_among one (names ++ name ∷ []) ≡ (is_among one names || bytes_eq one name)
+among_last one name [] = or_false (bytes_eq one name)
+among_last one name (next ∷ names) =
+    ap (λ b. bytes_eq one next || b) (among_last one name names) ∙ or_last (bytes_eq one next) (is_among one names) (bytes_eq one name)
 
-none_told : (a : Around) (x : Client) (names : List (List ℕ)) (spoke : Bool) → x.ids ≡ known names → IdsAfter a x names spoke []
-none_told a x names spoke is = heard_ids spoke a.clock x ∙ is
+with_by : (one name : List ℕ) (names : List (List ℕ)) (b : Bool) → is_among name names ≡ b → bytes_eq one name ≡ false
+    → is_among one (if b then names else names ++ name ∷ []) ≡ is_among one names
+with_by one name names true is away = refl
+with_by one name names false is away = among_last one name names ∙ rw away (or_false (is_among one names))
 
-silent_told : (a : Around) (x : Client) (names : List (List ℕ)) (spoke here : Bool) (said : Decision) → Silent a said → x.ids ≡ known names → IdsAfter a x names spoke (if here then said ∷ [] else [])
-silent_told a x names spoke true said silent is =
-    silent.ids (heard_if spoke a.clock x) ∙ (heard_ids spoke a.clock x ∙ (is ∙ ap known (sym (silent.names (subscribe_of a.cause) x.id names))))
-silent_told a x names spoke false said silent is = none_told a x names spoke is
+-- another name is among them as before
+pub among_other : (one name : List ℕ) (names : List (List ℕ)) → bytes_eq one name ≡ false → is_among one (with_name (Some name) names) ≡ is_among one names
+among_other one name names away = with_by one name names (is_among name names) refl away
 
-either_way : (b : Bool) (names : List (List ℕ)) → (if b then names else names) ≡ names
-either_way true names = refl
-either_way false names = refl
+or_true : (a : Bool) → (a || true) ≡ true
+or_true true = refl
+or_true false = refl
 
-refused_names : (r : Option TopicRequest) (id : List ℕ) (whom : Who) (rule : Denial) (before : List (List ℕ)) → names_by r id (note.Register whom None (Denied rule)) before ≡ before
-refused_names r id whom rule before = either_way (speaks_of id whom && false) before
+self_by : (name : List ℕ) (names : List (List ℕ)) (b : Bool) → is_among name names ≡ b → is_among name (if b then names else names ++ name ∷ []) ≡ true
+self_by name names true is = is
+self_by name names false is = among_last name name names ∙ rw (same_self name) (or_true (is_among name names))
 
-denied_if : (b : Bool) (more names : List (List ℕ)) → (if b && false then more else names) ≡ names
-denied_if true more names = refl
-denied_if false more names = refl
+pub among_self : (name : List ℕ) (names : List (List ℕ)) → is_among name (with_name (Some name) names) ≡ true
+among_self name names = self_by name names (is_among name names) refl
 
-subscribed_ids : (r : Option TopicRequest) (o : Outcome) (x : Client) → (subscribed r None o x).ids ≡ x.ids
-subscribed_ids r o x = ap (λ y. y.ids) (subscribed_none r o x)
+more_by : (one name : List ℕ) (names : List (List ℕ)) (b : Bool) → bytes_eq one name ≡ b → is_among one names ≡ true → is_among one (with_name (Some name) names) ≡ true
+more_by one name names true is among =
+    let same : one ≡ name = same_means one name is in subst (λ n. is_among n (with_name (Some name) names) ≡ true) (sym same) (among_self name names)
+more_by one name names false is among = among_other one name names is ∙ among
 
-silent_denied : (a : Around) (message : SnFrame) (whom : Who) (rule : Denial) → Silent a (denied_note message whom rule)
-silent_denied a (frame.Register r) whom rule = record { ids = λ x. refl; names = λ r id before. refused_names r id whom rule before }
-silent_denied a (frame.Subscribe request) whom rule =
-    record { ids = λ x. subscribed_ids (subscribe_of a.cause) (Denied rule) x; names = λ r id before. denied_if (speaks_of id whom) (with_name (name_subscribed r None) before) before }
-silent_denied a (frame.Unsubscribe request) whom rule = record { ids = λ x. refl; names = λ r id before. refl }
-silent_denied a message whom rule = record { ids = λ x. refl; names = λ r id before. refl }
+-- who was among them still is
+pub among_more : (one name : List ℕ) (names : List (List ℕ)) → is_among one names ≡ true → is_among one (with_name (Some name) names) ≡ true
+among_more one name names among = more_by one name names (bytes_eq one name) refl among
 
-ping_told : (a : Around) (x : Client) (names : List (List ℕ)) (here : Bool) (o : Outcome) → x.ids ≡ known names → IdsAfter a x names here (if here then denial_of x.id o else [])
-ping_told a x names true Allowed is = is
-ping_told a x names false Allowed is = is
-ping_told a x names here (Denied rule) is = silent_told a x names here here (note.Frame (who.Client x.id) (Denied rule)) (record { ids = λ x. refl; names = λ r id before. refl }) is
+none_last : (one name : List ℕ) (names : List (List ℕ)) → is_among one names ≡ false → bytes_eq one name ≡ false → is_among one (names ++ name ∷ []) ≡ false
+none_last one name names none away = among_last one name names ∙ rw (none, away) refl
 
--- a REGISTER
-registered_told : (a : Around) (x : Client) (names : List (List ℕ)) (name : Option (List ℕ)) (o : Outcome) → x.ids ≡ known names
-    → IdsAfter a x names true (note.Register (who.Client x.id) name o ∷ [])
-registered_told a x names (Some name) Allowed is = rw (same_self x.id) (ap (told name) is ∙ told_known name names)
-registered_told a x names (Some name) (Denied rule) is = rw (same_self x.id) is
-registered_told a x names None Allowed is = rw (same_self x.id) is
-registered_told a x names None (Denied rule) is = rw (same_self x.id) is
+once_last : (name : List ℕ) (names : List (List ℕ)) → is_among name names ≡ false → NoneTwice names → NoneTwice (names ++ name ∷ [])
+once_last name [] none once = (refl, tt)
+once_last name (one ∷ names) none once =
+    let both = or_none (bytes_eq name one) (is_among name names) none in
+    (none_last one name names once.0 (flip one name both.0), once_last name names both.1 once.1)
 
-register_told : (a : Around) (policy : Policy) (x : Client) (names : List (List ℕ)) (text : List ℕ) (here : Bool) → x.ids ≡ known names
-    → IdsAfter a x names here (if here then register_ask policy x text ∷ [] else [])
-register_told a policy x names text true is = of_register (λ said. IdsAfter a x names true (said ∷ [])) policy x text (λ name o. registered_told a x names name o is)
-register_told a policy x names text false is = is
+once_new : (name : List ℕ) (names : List (List ℕ)) (b : Bool) → is_among name names ≡ b → NoneTwice names → NoneTwice (if b then names else names ++ name ∷ [])
+once_new name names true is once = once
+once_new name names false is once = once_last name names is once
 
-publish_told : (a : Around) (s : State) (x : Client) (names : List (List ℕ)) (p : Publish) (here : Bool) → x.ids ≡ known names
-    → IdsAfter a x names here (if here then publish_ask s x p ∷ [] else [])
-publish_told a s x names p true is = of_publish (λ said. IdsAfter a x names true (said ∷ [])) s x p (λ name o. is)
-publish_told a s x names p false is = is
+-- ---- a name is announced
 
--- a SUBSCRIBE
+marked_last : (name : List ℕ) (names known : List (List ℕ)) → marked (names ++ name ∷ []) known ≡ marked names known ++ (name, is_among name known) ∷ []
+marked_last name [] known = refl
+marked_last name (one ∷ names) known = ap (λ more. (one, is_among one known) ∷ more) (marked_last name names known)
+
+not_known : (name : List ℕ) (b c : Bool) → (b ≡ true → c ≡ true) → c ≡ false → b ≡ false
+not_known name true c told none = absurd (let e : c ≡ true = told refl in cc)
+not_known name false c told none = refl
+
+entry_by : (name : List ℕ) (names known : List (List ℕ)) (b : Bool) → is_among name names ≡ b → (is_among name known ≡ true → is_among name names ≡ true)
+    → with_entry name (marked names known) ≡ marked (if b then names else names ++ name ∷ []) known
+entry_by name names known true is told = rw (place_marked name names known, is) refl
+entry_by name names known false is told =
+    let unknown : is_among name known ≡ false = not_known name (is_among name known) (is_among name names) told is in
+    rw (place_marked name names known, is) (ap (λ b. marked names known ++ (name, b) ∷ []) (sym unknown) ∙ sym (marked_last name names known))
+
+pub telling_announced : (name : List ℕ) (names known : List (List ℕ)) (ids : Ids) → Telling names known ids → Telling (with_name (Some name) names) known (with_entry name ids)
+telling_announced name names known ids t = record {
+  marks = ap (with_entry name) t.marks ∙ entry_by name names known (is_among name names) refl (t.told name);
+  once = once_new name names (is_among name names) refl t.once;
+  told = λ one is. among_more one name names (t.told one is);
+}
+
+-- ---- an id is confirmed
+
+-- two lists of known names mark alike all names but this one
+abbrev AlikeBut : List ℕ → List (List ℕ) → List (List ℕ) → Type 0
+AlikeBut name known more = (one : List ℕ) → bytes_eq name one ≡ false → is_among one known ≡ is_among one more
+
+marks_alike : (name : List ℕ) (names known more : List (List ℕ)) → AlikeBut name known more → is_among name names ≡ false → marked names known ≡ marked names more
+marks_alike name [] known more alike none = refl
+marks_alike name (one ∷ names) known more alike none =
+    let both = or_none (bytes_eq name one) (is_among name names) none in
+    rw (alike one both.0, marks_alike name names known more alike both.1) refl
+
+confirmed_by : (name one : List ℕ) (names known more : List (List ℕ)) (n : ℕ) (b : Bool) → bytes_eq name one ≡ b → AlikeBut name known more → is_among name more ≡ true
+    → is_among one names ≡ false → (b || is_among name names) ≡ true → (is_among name names ≡ true → confirmed_at n (marked names known) ≡ marked names more)
+    → confirmed_at (if not b then 1 + n else 0) (marked (one ∷ names) known) ≡ marked (one ∷ names) more
+confirmed_by name one names known more n true is alike now once among rest =
+    let same : name ≡ one = same_means name one is in
+    let mark : is_among one more ≡ true = subst (λ o. is_among o more ≡ true) same now in
+    let none : is_among name names ≡ false = ap (λ o. is_among o names) same ∙ once in
+    rw (mark, marks_alike name names known more alike none) refl
+confirmed_by name one names known more n false is alike now once among rest =
+    let next : 1 + n ≡ suc n = omega arith in
+    rw (next, alike one is) (ap (λ later. (one, is_among one more) ∷ later) (rest among))
+
+confirmed_place : (name : List ℕ) (names known more : List (List ℕ)) → AlikeBut name known more → is_among name more ≡ true → NoneTwice names → is_among name names ≡ true
+    → confirmed_at (position_or_len (bytes_eq name) names) (marked names known) ≡ marked names more
+confirmed_place name [] known more alike now once among = refl
+confirmed_place name (one ∷ names) known more alike now once among =
+    confirmed_by name one names known more (position_or_len (bytes_eq name) names) (bytes_eq name one) refl alike now once.0 among (confirmed_place name names known more alike now once.1)
+
+confirmed_id : (name : List ℕ) (names known more : List (List ℕ)) → AlikeBut name known more → is_among name more ≡ true → NoneTwice names → is_among name names ≡ true
+    → confirmed (id_told name names) (marked names known) ≡ marked names more
+confirmed_id name names known more alike now once among =
+    let n = position_or_len (bytes_eq name) names in
+    let next : n + 1 ≡ suc n = omega arith in
+    rw (id_place name names, next) (confirmed_place name names known more alike now once among)
+
+known_told : (one name : List ℕ) (names known : List (List ℕ)) (b : Bool) → bytes_eq one name ≡ b → (is_among one known ≡ true → is_among one names ≡ true) → is_among name names ≡ true
+    → is_among one (with_name (Some name) known) ≡ true → is_among one names ≡ true
+known_told one name names known true is told among now = let same : one ≡ name = same_means one name is in subst (λ n. is_among n names ≡ true) (sym same) among
+known_told one name names known false is told among now = told (sym (among_other one name known is) ∙ now)
+
+pub telling_confirmed : (name : List ℕ) (names known : List (List ℕ)) (ids : Ids) → is_among name names ≡ true → Telling names known ids
+    → Telling names (with_name (Some name) known) (confirmed (id_told name names) ids)
+telling_confirmed name names known ids among t = record {
+  marks = ap (confirmed (id_told name names)) t.marks
+      ∙ confirmed_id name names known (with_name (Some name) known) (λ one away. sym (among_other one name known (flip one name away))) (among_self name known) t.once among;
+  once = t.once;
+  told = λ one is. known_told one name names known (bytes_eq one name) refl (t.told one) among is;
+}
+
+-- ---- a name is told
+
+pub telling_told : (name : List ℕ) (names known : List (List ℕ)) (ids : Ids) → Telling names known ids → Telling (with_name (Some name) names) (with_name (Some name) known) (told name ids)
+telling_told name names known ids t =
+    let id : id_for name ids ≡ id_told name (with_name (Some name) names) = ap (id_for name) t.marks ∙ (id_marked name names known ∙ sym (id_stays name names)) in
+    subst (λ k. Telling (with_name (Some name) names) (with_name (Some name) known) (confirmed k (with_entry name ids))) (sym id)
+    (telling_confirmed name (with_name (Some name) names) known (with_entry name ids) (among_self name names) (telling_announced name names known ids t))
+
 pub gets_same : (type : TopicIdType) (text : List ℕ) → gets_id type text ≡ tells_id type text
 gets_same Normal text = refl
 gets_same Predefined text = refl
 gets_same Short text = refl
 gets_same Reserved text = refl
-
-standing_told : (ids : Ids) (names : List (List ℕ)) (text : List ℕ) (b : Bool) → ids ≡ known names
-    → (let now : Ids = if b then told text ids else ids in now) ≡ known (with_name (if b then Some text else None) names)
-standing_told ids names text true is = ap (told text) is ∙ told_known text names
-standing_told ids names text false is = is
-
-joined_told : (r : Option TopicRequest) (y : Client) (id : List ℕ) (names : List (List ℕ)) (filter : Option (List ℕ)) (o : Outcome) → y.ids ≡ known names
-    → (subscribed r filter o y).ids ≡ known (names_by r id (note.Subscribe (who.Client id) filter o) names)
-joined_told None y id names filter Allowed is = rw (same_self id) is
-joined_told None y id names filter (Denied rule) is = rw (same_self id) is
-joined_told (Some r) y id names None Allowed is = rw (same_self id) is
-joined_told (Some r) y id names None (Denied rule) is = rw (same_self id) is
-joined_told (Some r) y id names (Some text) Allowed is =
-    rw (same_self id) (standing_told y.ids names text (gets_id r.flags.id_type text) is ∙ ap (λ b. known (with_name (if b then Some text else None) names)) (gets_same r.flags.id_type text))
-joined_told (Some r) y id names (Some text) (Denied rule) is = rw (same_self id) is
-
-subscribe_told : (a : Around) (s : State) (x : Client) (names : List (List ℕ)) (r : TopicRequest) (here : Bool) → x.ids ≡ known names
-    → IdsAfter a x names here (if here then subscribe_ask s x r ∷ [] else [])
-subscribe_told a s x names r true is =
-    of_subscribe (λ said. IdsAfter a x names true (said ∷ [])) s x r (λ filter o. joined_told (subscribe_of a.cause) (heard_if true a.clock x) x.id names filter o is)
-subscribe_told a s x names r false is = is
-
--- an UNSUBSCRIBE
-unsubscribed_ids : (filter : Option (List ℕ)) (o : Outcome) (y : Client) → (unsubscribed filter o y).ids ≡ y.ids
-unsubscribed_ids None o y = refl
-unsubscribed_ids (Some text) Allowed y = refl
-unsubscribed_ids (Some text) (Denied rule) y = refl
-
-unsubscribe_told : (a : Around) (policy : Policy) (x : Client) (names : List (List ℕ)) (r : TopicRequest) (here : Bool) → x.ids ≡ known names
-    → IdsAfter a x names here (if here then unsubscribe_ask policy x r ∷ [] else [])
-unsubscribe_told a policy x names r true is =
-    of_unsubscribe (λ said. IdsAfter a x names true (said ∷ [])) policy x r (λ filter o. unsubscribed_ids filter o (heard_if true a.clock x) ∙ is)
-unsubscribe_told a policy x names r false is = is
-
--- subscriptions end
-end_told : (a : Around) (id own text : List ℕ) (x : Client) (names : List (List ℕ)) (o : Outcome) (notes : List Decision)
-    → ((y : Client) → y.ids ≡ known names → (notes_by a notes y).ids ≡ known (names_notes (subscribe_of a.cause) id notes names)) → x.ids ≡ known names
-    → (notes_by a (end_of own text o ++ notes) x).ids ≡ known (names_notes (subscribe_of a.cause) id (end_of own text o ++ notes) names)
-end_told a id own text x names Allowed notes rest is = rest x is
-end_told a id own text x names (Denied rule) notes rest is = rest (without text x) is
-
-ends_told : (a : Around) (id own : List ℕ) (policy : Policy) (held : List Held) (x : Client) (names : List (List ℕ)) → x.ids ≡ known names
-    → (notes_by a (ends_under policy own held) x).ids ≡ known (names_notes (subscribe_of a.cause) id (ends_under policy own held) names)
-ends_told a id own policy [] x names is = is
-ends_told a id own policy (h ∷ held) x names is =
-    end_told a id own h.filter x names (coverage policy own h.filter) (ends_under policy own held) (λ y same. ends_told a id own policy held y names same) is
-
-refused_if : (a : Around) (x : Client) (text : List ℕ) (names : List (List ℕ)) (b : Bool) → x.ids ≡ known names
-    → let notes = if b then note.End x.id text (Denied BrokerRefused) ∷ [] else [] in
-    (notes_by a notes x).ids ≡ known (names_notes (subscribe_of a.cause) x.id notes names)
-refused_if a x text names true is = is
-refused_if a x text names false is = is
-
-refused_told : (a : Around) (x : Client) (text : Option (List ℕ)) (names : List (List ℕ)) → x.ids ≡ known names
-    → (notes_by a (refused_end x text) x).ids ≡ known (names_notes (subscribe_of a.cause) x.id (refused_end x text) names)
-refused_told a x None names is = is
-refused_told a x (Some text) names is = refused_if a x text names (holds text x) is
-
--- a CONNECT
-abbrev entry_around : State → Address → Connect → Around
-entry_around s from connect = record { policy = s.policy; clock = s.clock; cause = ByConnect from connect }
-
-entry_told : (s : State) (from : Address) (connect : Connect) (x : Client) (names : List (List ℕ)) (own here : Bool) (o : Outcome) → x.ids ≡ known names
-    → IdsAfter (entry_around s from connect) x names here (if own then note.Connect x.id o ∷ [] else (if is_allowed o then (if here then note.Left x.id ∷ [] else []) else []))
-entry_told s from connect x names true here Allowed is = rw (same_self x.id) (let_in_ids s.clock from connect (heard_if here s.clock x))
-entry_told s from connect x names true here (Denied rule) is = rw (same_self x.id) (heard_ids here s.clock x ∙ is)
-entry_told s from connect x names false here Allowed is = silent_told (entry_around s from connect) x names here here (note.Left x.id) (record { ids = λ x. refl; names = λ r id before. refl }) is
-entry_told s from connect x names false here (Denied rule) is = none_told (entry_around s from connect) x names here is
-
--- ---- any row
-
-pub told_next : (s : State) (c : Cause) (x : Client) (names : List (List ℕ)) → x.ids ≡ known names → (client_next s c x).ids ≡ known (names_notes (subscribe_of c) x.id (fixed_for s c x) names)
-told_next s (ByConnect from connect) x names is = entry_told s from connect x names (bytes_eq connect.client_id x.id) (is_here x from) (entry s connect) is
-told_next s (ByMessage from (ToPing client)) x names is = ping_told (around s (ByMessage from (ToPing client))) x names (is_here x from) (ping_verdict client x) is
-told_next s (ByMessage from ToLeave) x names is =
-    silent_told (around s (ByMessage from ToLeave)) x names (is_here x from) (is_here x from) (note.Left x.id) (record { ids = λ x. refl; names = λ r id before. refl }) is
-told_next s (ByMessage from (ToRegister r)) x names is = register_told (around s (ByMessage from (ToRegister r))) s.policy x names r.name (is_here x from) is
-told_next s (ByMessage from (ToPublish p)) x names is = publish_told (around s (ByMessage from (ToPublish p))) s x names p (is_here x from) is
-told_next s (ByMessage from (ToSubscribe r)) x names is = subscribe_told (around s (ByMessage from (ToSubscribe r))) s x names r (is_here x from) is
-told_next s (ByMessage from (ToUnsubscribe r)) x names is = unsubscribe_told (around s (ByMessage from (ToUnsubscribe r))) s.policy x names r (is_here x from) is
-told_next s (ByMessage from (Untaken message)) x names is =
-    silent_told (around s (ByMessage from (Untaken message))) x names (is_here x from) (is_here x from) (denied_note message (who.Client x.id) NotSupported) (silent_denied (around s (ByMessage from (Untaken message))) message (who.Client x.id) NotSupported) is
-told_next s (ByBroken from rule) x names is =
-    silent_told (around s (ByBroken from rule)) x names false (is_here x from) (note.Frame (who.Client x.id) (Denied rule)) (record { ids = λ x. refl; names = λ r id before. refl }) is
-told_next s (BySource from p) x names is = is
-told_next s (ByPacket p) x names is = refused_told (around s (ByPacket p)) x (refused_filter s.link (answer_of p)) names is
-told_next s ByUp x names is = is
-told_next s ByDown x names is = is
-told_next s ByTake x names is = is
-told_next s (ByReplace policy) x names is = ends_told (around s (ByReplace policy)) x.id x.id policy x.filters x names is
-told_next s (ByTick clock) x names is = is

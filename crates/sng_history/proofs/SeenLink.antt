@@ -31,7 +31,7 @@ use Rattle.sng_book.specs.declared.event.Event.TheVariants.{Datagram, Broker, Up
 use Rattle.sng_book.specs.declared.out.Out.{Out}
 use Rattle.sng_book.specs.declared.out.Out.TheVariants.{Send, Wire, Note}
 use Rattle.sng_book.specs.declared.row.Row.{Row}
-use Rattle.sng_history.specs.Causes.{Request, ToPing, ToLeave, ToRegister, ToPublish, ToSubscribe, ToUnsubscribe, Untaken, Cause, ByMessage, publish_asked, datagram_cause, publish_cause, cause_of}
+use Rattle.sng_history.specs.Causes.{Request, ToPing, ToLeave, ToRegister, ToPublish, ToSubscribe, ToUnsubscribe, ToConfirm, ToAcknowledge, Untaken, Cause, ByMessage, publish_asked, datagram_cause, publish_cause, cause_of}
 use Rattle.sng_history.specs.Clients.{Client}
 use Rattle.sng_history.specs.Notes.{notes_of}
 use Rattle.sng_history.specs.Standing.{is_held, ended, Release, releases_of, released_from, released, places_left, unsubscribes}
@@ -48,7 +48,7 @@ use Rattle.sng_history.specs.ViewsLink.{qos_upstream, publication, publication_b
 use Rattle.sng_history.proofs.Own.{each_append, each_with}
 use Rattle.sng_history.proofs.Kept.{client_id}
 use Rattle.sng_history.proofs.Says.{message_asks}
-use Rattle.sng_history.proofs.Waiting.{waiting_next}
+use Rattle.sng_history.proofs.WaitingItems.{waiting_next}
 use Rattle.sng_history.proofs.StandingNotes.{standing_notes, standing_by_notes, standing_next}
 use Rattle.sng_history.proofs.SeenOwed.{packet_waits}
 
@@ -259,6 +259,8 @@ datagram_waits s from (Ok (frame.Register r)) gone is = message_waits s from (To
 datagram_waits s from (Ok (frame.Subscribe r)) gone is = message_waits s from (ToSubscribe r) gone is
 datagram_waits s from (Ok (frame.Unsubscribe r)) gone is = message_waits s from (ToUnsubscribe r) gone is
 datagram_waits s from (Ok (frame.PingRequest client)) gone is = message_waits s from (ToPing client) gone is
+datagram_waits s from (Ok (frame.RegisterAck r)) gone is = message_waits s from (ToConfirm r) gone is
+datagram_waits s from (Ok (frame.PublishAck r)) gone is = message_waits s from (ToAcknowledge r) gone is
 datagram_waits s from (Ok message) gone is = message_waits s from (Untaken message) gone is
 datagram_waits s from (Err broke) gone is = sym (append-nil s.link.waiting)
 

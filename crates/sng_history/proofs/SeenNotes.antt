@@ -44,6 +44,7 @@ names_other : (r : Option TopicRequest) (id : List ℕ) (said : Decision) (befor
 names_other r id (note.Connect client outcome) before other = rw other refl
 names_other r id (note.Register whom name outcome) before other = rw (sym (client_same id whom) ∙ other) refl
 names_other r id (note.Subscribe whom filter outcome) before other = rw (sym (client_same id whom) ∙ other) refl
+names_other r id (note.Announce client name) before other = rw other refl
 names_other r id _ before other = refl
 
 phase_note : (id : List ℕ) (said : Decision) (notes : List Decision) (before : Option ClientState) (b : Bool) → is_of id said ≡ b

@@ -1,6 +1,6 @@
 -- What is owed to the broker, as a packet of it comes.
 use Rattle.std.proofs.Common.{◌≡◌, ℕ, Bool, true, false, List, [], ◌∷◌, ◌++◌, map, refl, sym, ◌∙◌, ap, if◌then◌else◌}
-use Rattle.std.specs.Prelude.{◌&&◌, not, Option, Some, None}
+use Rattle.std.specs.Prelude.{◌&&◌, ◌||◌, not, Option, Some, None}
 use Rattle.std.specs.List.{flat_map}
 use Rattle.std.proofs.lemmas.List.{append_assoc}
 use Rattle.sng_text.specs.Texts.{is_name}
@@ -8,23 +8,30 @@ use Rattle.mqtt_frames.specs.declared.packet.SubscribeCode.{SubscribeCode}
 use Rattle.mqtt_frames.specs.declared.packet.SubscribeCode.TheVariants as code
 use Rattle.mqtt_frames.specs.declared.packet.Packet.{Packet}
 use Rattle.mqtt_frames.specs.declared.packet.Packet.TheVariants as packet
+use Rattle.sng_queue.specs.Messages.{Message}
 use Rattle.sng_outbox.specs.declared.item.Item.TheVariants as item
+use Rattle.sng_book.specs.declared.address.Address.{Address}
+use Rattle.sng_book.specs.declared.decision.Decision.{Decision}
 use Rattle.sng_book.specs.declared.decision.Decision.TheVariants as note
 use Rattle.sng_book.specs.declared.decision.Who.TheVariants as who
 use Rattle.sng_book.specs.declared.outcome.Denial.TheVariants.{BadName, BrokerRefused}
-use Rattle.sng_book.specs.declared.outcome.Outcome.TheVariants.{Denied}
+use Rattle.sng_book.specs.declared.outcome.Outcome.{Outcome}
+use Rattle.sng_book.specs.declared.outcome.Outcome.TheVariants.{Allowed, Denied}
 use Rattle.sng_book.specs.declared.out.Out.{Out}
 use Rattle.sng_book.specs.declared.out.Out.TheVariants.{Note}
 use Rattle.sng_history.specs.Causes.{ByPacket}
-use Rattle.sng_history.specs.Clients.{Client}
+use Rattle.sng_history.specs.Handing.{Known, known_as, front, handed_outs}
+use Rattle.sng_history.specs.Outgoing.{delivered_notes}
+use Rattle.sng_history.specs.Clients.{Client, Around, message_due, start_by, note_by}
 use Rattle.sng_history.specs.Standing.{holds}
 use Rattle.sng_history.specs.State.{State, around}
-use Rattle.sng_history.specs.Whole.{spell, part}
+use Rattle.sng_history.specs.Whole.{frames_of, spell, part}
 use Rattle.sng_history.specs.Lawful.{refused_end, fixed_for}
 use Rattle.sng_history.specs.Steps.{outs_by}
 use Rattle.sng_history.specs.Links.{Link}
 use Rattle.sng_history.specs.Packets.{subscribe_answer, answer_of, answer_outs, owed, has_place, acknowledgement, acknowledgements, dropped, refused_filter}
-use Rattle.sng_history.specs.ViewsLink.{is_outbox_noted, listed, message_id}
+use Rattle.sng_history.specs.ViewsLink.{is_outbox, is_outbox_noted, listed, message_id}
+use Rattle.sng_history.proofs.Hands.{Every, OfMessages, every_append, every_if, every_delivered}
 
 -- an acknowledgement that is owed waits where there is place
 owed_waits : (up place : Bool) (packet_id : Option ℕ)
@@ -69,26 +76,54 @@ answered_waits up link packet.PingRequest = nothing_owed up false
 answered_waits up link packet.PingResponse = nothing_owed up false
 answered_waits up link packet.Disconnect = nothing_owed up false
 
--- a note of an end is none of a place in the outbox
-ends_unnoted : (s : State) (packet : Packet) (xs : List Client) (outs : List Out)
-    → is_outbox_noted (flat_map (λ x. part (around s (ByPacket packet)) [] (fixed_for s (ByPacket packet) x) x) xs ++ outs) ≡ is_outbox_noted outs
-ends_unnoted s packet [] outs = refl
-ends_unnoted s packet (x ∷ xs) outs =
-    let f : Client → List Out = λ y. part (around s (ByPacket packet)) [] (fixed_for s (ByPacket packet) y) y in
-    ap is_outbox_noted (append_assoc (f x) (flat_map f xs) outs) ∙ (by_end (refused_filter s.link (answer_of packet)) (flat_map f xs ++ outs) ∙ ends_unnoted s packet xs outs)
-  where
-    by_held : (text : List ℕ) (b : Bool) (rest : List Out)
-        → is_outbox_noted (spell (around s (ByPacket packet)) [] x (if b then note.End x.id text (Denied BrokerRefused) ∷ [] else []) ++ rest) ≡ is_outbox_noted rest
-    by_held text true rest = refl
-    by_held text false rest = refl
+-- a note of a client is none of a place in the outbox, nor is anything behind it, where no UNSUBSCRIBE is dropped
+record Unnoted (a : Around) (said : Decision) : Type 0 where
+  itself : is_outbox said ≡ false
+  behind : (x : Client) (rest : List Out) → is_outbox_noted (frames_of a [] x said ++ rest) ≡ is_outbox_noted rest
 
-    by_end : (text : Option (List ℕ)) (rest : List Out) → is_outbox_noted (spell (around s (ByPacket packet)) [] x (refused_end x text) ++ rest) ≡ is_outbox_noted rest
-    by_end None rest = refl
-    by_end (Some text) rest = by_held text (holds text x) rest
+handed_unnoted : (to : Address) (number : ℕ) (m : Option Message) (known : Option Known) (rest : List Out) → is_outbox_noted (handed_outs to number m known ++ rest) ≡ is_outbox_noted rest
+handed_unnoted to number None known rest = refl
+handed_unnoted to number (Some m) None rest = refl
+handed_unnoted to number (Some m) (Some known) rest = refl
+
+hand_unnoted : (a : Around) (client name : List ℕ) (o : Outcome) → Unnoted a (note.Hand client name o)
+hand_unnoted a client name Allowed =
+    record { itself = refl; behind = λ x rest. handed_unnoted x.address x.number (front x.buffer) (known_as a.policy x.ids name) rest }
+hand_unnoted a client name (Denied rule) = record { itself = refl; behind = λ x rest. refl }
+
+messages_unnoted : (a : Around) (client : List ℕ) → OfMessages (Unnoted a) client
+messages_unnoted a client = record { announces = λ name. record { itself = refl; behind = λ x rest. refl }; hands = hand_unnoted a client }
+
+refused_unnoted : (a : Around) (x : Client) (text : Option (List ℕ)) → Every (Unnoted a) (refused_end x text)
+refused_unnoted a x None = tt
+refused_unnoted a x (Some text) =
+    every_if (Unnoted a) (holds text x) (note.End x.id text (Denied BrokerRefused) ∷ []) (record { itself = refl; behind = λ y rest. refl }, tt)
+
+spell_unnoted : (a : Around) (x : Client) (notes : List Decision) (rest : List Out) → Every (Unnoted a) notes → is_outbox_noted (spell a [] x notes ++ rest) ≡ is_outbox_noted rest
+spell_unnoted a x [] rest every = refl
+spell_unnoted a x (said ∷ notes) rest every =
+    let y = note_by a said x in
+    ap (λ b. b || is_outbox_noted ((frames_of a [] x said ++ spell a [] y notes) ++ rest)) every.0.itself
+    ∙ (ap is_outbox_noted (append_assoc (frames_of a [] x said) (spell a [] y notes) rest)
+    ∙ (every.0.behind x (spell a [] y notes ++ rest) ∙ spell_unnoted a y notes rest every.1))
+
+rows_unnoted : (s : State) (packet : Packet) (xs : List Client) (outs : List Out)
+    → is_outbox_noted (flat_map (λ x. part (around s (ByPacket packet)) [] (fixed_for s (ByPacket packet) x) x) xs ++ outs) ≡ is_outbox_noted outs
+rows_unnoted s packet [] outs = refl
+rows_unnoted s packet (x ∷ xs) outs =
+    let c = ByPacket packet in
+    let a = around s c in
+    let f : Client → List Out = λ y. part a [] (fixed_for s c y) y in
+    let due = message_due (answer_of packet) x in
+    let one = refused_end x (refused_filter s.link (answer_of packet)) in
+    let two = delivered_notes s.policy due x in
+    let every = every_append (Unnoted a) one two (refused_unnoted a x (refused_filter s.link (answer_of packet))) (every_delivered (Unnoted a) s.policy due x (messages_unnoted a x.id)) in
+    ap is_outbox_noted (append_assoc (f x) (flat_map f xs) outs)
+    ∙ (spell_unnoted a (start_by a x) (one ++ two) (flat_map f xs ++ outs) every ∙ rows_unnoted s packet xs outs)
 
 pub packet_waits : (s : State) (sent : Packet)
     → acknowledgements s.up s.link (answer_of sent)
     ≡ map item.Acknowledge (if s.up && not (is_outbox_noted (outs_by s (ByPacket sent))) then message_id sent else [])
 packet_waits s sent =
     answered_waits s.up s.link sent
-    ∙ ap (λ noted. map item.Acknowledge (if s.up && not noted then message_id sent else [])) (sym (ends_unnoted s sent s.clients (answer_outs s.up s.link (answer_of sent))))
+    ∙ ap (λ noted. map item.Acknowledge (if s.up && not noted then message_id sent else [])) (sym (rows_unnoted s sent s.clients (answer_outs s.up s.link (answer_of sent))))

@@ -37,14 +37,12 @@ use Rattle.sng_history.specs.Steps.{outs_of}
 use Rattle.sng_history.specs.Views.{clock_at, is_up, began, began_after}
 use Rattle.sng_history.specs.ViewsLink.{publications, departures}
 use Rattle.sng_history.specs.ViewsFlight.{agains, allowed_again, others, flights_of, launched, staying, in_flight}
-use Rattle.sng_history.specs.LawsState.{RestShown}
 use Rattle.sng_history.proofs.Keeping.{exact_by}
 use Rattle.sng_history.proofs.SeenState.{Stands, stands}
 use Rattle.sng_history.proofs.FlightIds.{Fit, Free, next_is_free, without_ids, one_other, still_ids}
 use Rattle.sng_history.proofs.FewWanted.{few_wanted}
 use Rattle.sng_history.proofs.Waiting.{subscribes_flights}
 use Rattle.sng_history.proofs.LawRows.{anew}
-use Rattle.sng_history.proofs.UpstreamWanted.{wanted_shown}
 use Rattle.sng_history.proofs.SeenFlight.{Moves, all_move}
 
 -- what a row makes of the link, but for what waits
@@ -82,11 +80,11 @@ disconnect_still : (s : State) (from : Address) (duration : Option ℕ) (outcome
 disconnect_still s from None outcomes = refl
 disconnect_still s from (Some duration) outcomes = refl
 
-datagram_still : (s : State) (from : Address) (read : Result SnFrame FrameFault) (outcomes : List Outcome) → link_moved s (datagram_cause from read) outcomes ≡ s.link
-datagram_still s from (Ok (frame.Publish p)) outcomes = publish_still s from p p.flags.qos outcomes
-datagram_still s from (Ok (frame.Disconnect duration)) outcomes = disconnect_still s from duration outcomes
-datagram_still s from (Ok message) outcomes = refl
-datagram_still s from (Err broke) outcomes = refl
+pub datagram_unmoved : (s : State) (from : Address) (read : Result SnFrame FrameFault) (outcomes : List Outcome) → link_moved s (datagram_cause from read) outcomes ≡ s.link
+datagram_unmoved s from (Ok (frame.Publish p)) outcomes = publish_still s from p p.flags.qos outcomes
+datagram_unmoved s from (Ok (frame.Disconnect duration)) outcomes = disconnect_still s from duration outcomes
+datagram_unmoved s from (Ok message) outcomes = refl
+datagram_unmoved s from (Err broke) outcomes = refl
 
 -- ---- a packet of the broker
 
@@ -132,7 +130,7 @@ again_first : (sent : InFlight) (flights : List InFlight) (o : Outcome) (outcome
 again_first sent flights Allowed outcomes outs more rest = ap (λ flights. sent ∷ flights) rest
 again_first sent flights (Denied rule) outcomes outs more rest = rest
 
-again_stays : (policy : Policy) (flights : List InFlight) (more : List Out)
+pub again_stays : (policy : Policy) (flights : List InFlight) (more : List Out)
     → still_in_flight flights (agains_of policy flights) ≡ allowed_again flights (agains (resending flights (agains_of policy flights) ++ more))
 again_stays policy [] more = refl
 again_stays policy (sent ∷ flights) more =
@@ -196,7 +194,7 @@ take_moved h s st was =
 row_moved : (h : List Row) (s : State) (e : Event) → Stands h s → Flights h s.link → Moved h e (outs_of s e) (link_moved s (cause_of e) (exits_for s (cause_of e)))
 row_moved h s (Datagram from datagram) st was =
     let e = Datagram from datagram in
-    subst (Moved h e (outs_of s e)) (sym (datagram_still s from (frame_of datagram) (exits_for s (cause_of e)))) (unmoved h e (outs_of s e) s.link refl refl refl was)
+    subst (Moved h e (outs_of s e)) (sym (datagram_unmoved s from (frame_of datagram) (exits_for s (cause_of e)))) (unmoved h e (outs_of s e) s.link refl refl refl was)
 row_moved h s (Broker sent) st was = packet_moved h sent (outs_of s (Broker sent)) s.link was
 row_moved h s Up st was = up_moved h s st was
 row_moved h s Down st was = unmoved h Down (outs_of s Down) s.link refl refl refl was
@@ -218,6 +216,3 @@ flights_shown (row ∷ h) l =
       shown = record { in_flight = moved.in_flight; pinged = moved.pinged };
       fit = record { ids = moved.fit.ids; last = moved.fit.last; few = few_wanted (state_of opening (row ∷ h)) (stands (row ∷ h) l).good };
     }
-
-pub rest_shown : (h : List Row) → Lawful opening h → RestShown h (state_of opening h).link
-rest_shown h l = let are = (flights_shown h l).shown in record { in_flight = are.in_flight; wanted = (wanted_shown h l).wanted; pinged = are.pinged }

@@ -22,31 +22,32 @@ use Rattle.sng_book.specs.declared.event.Event.{Event}
 use Rattle.sng_book.specs.declared.event.Event.TheVariants.{Datagram, Broker, Up, Down, Take, Replace, Tick}
 use Rattle.sng_book.specs.declared.out.Out.{Out}
 use Rattle.sng_book.specs.declared.row.Row.{Row}
-use Rattle.sng_history.specs.Causes.{Cause, ByConnect, ByPacket, ByReplace, datagram_cause, publish_cause, cause_of}
-use Rattle.sng_history.specs.Clients.{Client, blank, is_here, let_in, subscribe_of}
+use Rattle.sng_history.specs.Causes.{Cause, ByConnect, ByReplace, datagram_cause, publish_cause, cause_of}
+use Rattle.sng_history.specs.Clients.{Client, blank, is_here, let_in, client_by}
 use Rattle.sng_history.specs.Notes.{notes_of}
 use Rattle.sng_history.specs.State.{State, opening, around, after, state_of, later, is_known, policy_by, clock_by, up_by}
-use Rattle.sng_history.specs.Packets.{answer_of, refused_filter}
 use Rattle.sng_history.specs.Verdicts.{entry}
 use Rattle.sng_history.specs.Whole.{Notes, entry_outs}
-use Rattle.sng_history.specs.Lawful.{Lawful, ends_under, refused_end, fixed_for}
+use Rattle.sng_history.specs.Lawful.{Lawful, ends_under, fixed_for}
 use Rattle.sng_history.specs.Steps.{outs_by, outs_of, notes_for, newcomers_for, client_next, next_of}
 use Rattle.sng_history.specs.Good.{Each, Good}
 use Rattle.sng_history.specs.Views.{policy_in_force, clock_at, is_up}
-use Rattle.sng_history.specs.ViewsMessages.{message_in, message_at, subscribe_in}
-use Rattle.sng_history.specs.ViewsClients.{phase_of, address_of, duration_of, heard_of, came_from, stated_in, speaks, is_spoken, is_admitted, is_among, accepted, accepted_in, accepted_by, names_told}
+use Rattle.sng_history.specs.ViewsMessages.{message_in, message_at}
+use Rattle.sng_history.specs.ViewsClients.{phase_of, address_of, duration_of, heard_of, came_from, stated_in, speaks, is_spoken, is_admitted, is_among, accepted, accepted_in, accepted_by}
 use Rattle.sng_history.specs.ViewsStanding.{standing_of, standing_after}
 use Rattle.sng_history.specs.ViewsLink.{waiting}
 use Rattle.sng_history.specs.LawsState.{ClientShown}
 use Rattle.sng_history.proofs.Own.{same_self, each_with, each_map, each_append, each_mapped}
 use Rattle.sng_history.proofs.Kept.{client_id}
-use Rattle.sng_history.proofs.Says.{says}
+use Rattle.sng_history.proofs.Says.{says, blank_enters}
 use Rattle.sng_history.proofs.Keeping.{exact_by, next_same}
-use Rattle.sng_history.proofs.Entries.{entering_next}
 use Rattle.sng_history.proofs.GoodNext.{good_next, good_opening}
-use Rattle.sng_history.proofs.SeenNotes.{phase_notes, admitted_notes, names_notes, phase_by_notes, admitted_by_notes, names_by_notes}
-use Rattle.sng_history.proofs.SeenClients.{Before, Shows, kept_of, silent, ends_all, ends_refused, ends_show, let_in_ids, let_in_shows, datagram_shows}
-use Rattle.sng_history.proofs.SeenIds.{known, told_next}
+use Rattle.sng_history.proofs.SeenNotes.{phase_notes, admitted_notes, phase_by_notes, admitted_by_notes}
+use Rattle.sng_history.proofs.SeenClients.{Before, Shows, kept_of, silent, ends_all, ends_show, packet_shows, let_in_shows, datagram_shows}
+use Rattle.sng_history.proofs.SeenDue.{datagram_brings}
+use Rattle.sng_history.proofs.SeenStrangers.{Unheard, unheard_first, start_none, unheard_row}
+use Rattle.sng_history.proofs.SeenMailed.{Mailed, mailed_waits, mailed_next, mailed_row, mailed_blank}
+use Rattle.sng_history.proofs.LawStrangers.{row_admits, among_parts}
 use Rattle.sng_history.proofs.SeenLink.{waits_row}
 use Rattle.sng_history.proofs.StandingNotes.{standing_notes, standing_by_notes, standing_next}
 use Rattle.sng_history.proofs.StandingStrangers.{unknown_row}
@@ -59,8 +60,10 @@ pub record StateShown (h : List Row) (s : State) : Type 0 where
   pub waits : s.link.waiting ≡ waiting h
   pub order : map (λ x. x.id) s.clients ≡ accepted h
   pub clients : Each (ClientShown h) s.clients
-  -- nothing stands for who was never accepted
+  pub mailed : Each (Mailed h) s.clients
+  -- nothing stands for who was never accepted, and nothing is shown of it
   pub strangers : (id : List ℕ) → is_among id (accepted h) ≡ false → standing_of id h ≡ []
+  pub unheard : (id : List ℕ) → is_among id (accepted h) ≡ false → Unheard id h
 
 -- ---- one client
 
@@ -78,9 +81,9 @@ before_row id e h = record {
 }
 
 shown_by : (by : ℕ) (h : List Row) (e : Event) (outs : List Out) (id : List ℕ) (n : List Decision) (y : Client)
-    → y.id ≡ id → notes_of id outs ≡ n → Shows id (before_row id e h) n y → y.ids ≡ known (names_notes (subscribe_in (message_at e)) id n (names_told id h))
+    → y.id ≡ id → notes_of id outs ≡ n → Shows id (before_row id e h) n y → Mailed (record { by = by; event = e; outs = outs } ∷ h) y
     → y.filters ≡ standing_of y.id (record { by = by; event = e; outs = outs } ∷ h) → ClientShown (record { by = by; event = e; outs = outs } ∷ h) y
-shown_by by h e outs id n y same own shows told filters =
+shown_by by h e outs id n y same own shows mailed filters =
     let rows = record { by = by; event = e; outs = outs } ∷ h in
     let admitted : is_admitted id outs ≡ admitted_notes id n = admitted_by_notes id outs ∙ ap (admitted_notes id) own in
     record {
@@ -88,8 +91,11 @@ shown_by by h e outs id n y same own shows told filters =
       address = ap (λ i. address_of i rows) same ∙ (ap (λ b. if b then came_from e else address_of id h) admitted ∙ shows.1);
       duration = ap (λ i. duration_of i rows) same ∙ (ap (λ b. if b then stated_in e else duration_of id h) admitted ∙ shows.2);
       heard = ap (λ i. heard_of i rows) same ∙ (ap (λ b. if b || speaks id e h then Some (clock_at h) else heard_of id h) admitted ∙ shows.3);
-      ids = told ∙ ap known (ap (λ ns. names_notes (subscribe_in (message_at e)) id ns (names_told id h)) (sym own) ∙ (sym (names_by_notes (subscribe_in (message_at e)) id outs (names_told id h)) ∙ ap (λ i. names_told i rows) (sym same)));
+      ids = mailed.telling.marks;
       filters = filters;
+      waiting = mailed_waits rows y mailed;
+      number = mailed.given;
+      exchange = mailed.exchange;
     }
 
 -- the client, who is kept as the rows before show, speaks by the event
@@ -105,8 +111,7 @@ spoke_by (Tick clock) x = false
 event_shows : (s : State) (x : Client) (e : Event)
     → Shows x.id (kept_of x (came_from e) (stated_in e) s.clock (spoke_by e x)) (fixed_for s (cause_of e) x) (client_next s (cause_of e) x)
 event_shows s x (Datagram from datagram) = datagram_shows s x from (frame_of datagram)
-event_shows s x (Broker packet) =
-    ends_show x (around s (ByPacket packet)) s.clock (refused_end x (refused_filter s.link (answer_of packet))) (ends_refused x.id (around s (ByPacket packet)) x (refused_filter s.link (answer_of packet)))
+event_shows s x (Broker packet) = packet_shows s x packet
 event_shows s x Up = silent x None None s.clock false
 event_shows s x Down = silent x None None s.clock false
 event_shows s x Take = silent x None None s.clock false
@@ -123,32 +128,6 @@ spoke_same h x Take shown = refl
 spoke_same h x (Replace policy) shown = refl
 spoke_same h x (Tick clock) shown = refl
 
--- the SUBSCRIBE that the cause is, is the one that the event holds
-publish_asks : (from : Address) (p : Publish) (q : FrameQos) → subscribe_of (publish_cause from p q) ≡ None
-publish_asks from p qos.WithoutSession = refl
-publish_asks from p qos.AtMostOnce = refl
-publish_asks from p qos.AtLeastOnce = refl
-publish_asks from p qos.ExactlyOnce = refl
-
-disconnect_asks : (from : Address) (duration : Option ℕ) → subscribe_of (datagram_cause from (Ok (frame.Disconnect duration))) ≡ None
-disconnect_asks from None = refl
-disconnect_asks from (Some duration) = refl
-
-datagram_asks : (from : Address) (read : Result SnFrame FrameFault) → subscribe_of (datagram_cause from read) ≡ subscribe_in (message_in read)
-datagram_asks from (Ok (frame.Publish p)) = publish_asks from p p.flags.qos
-datagram_asks from (Ok (frame.Disconnect duration)) = disconnect_asks from duration
-datagram_asks from (Ok message) = refl
-datagram_asks from (Err broke) = refl
-
-subscribe_same : (e : Event) → subscribe_of (cause_of e) ≡ subscribe_in (message_at e)
-subscribe_same (Datagram from datagram) = datagram_asks from (frame_of datagram)
-subscribe_same (Broker packet) = refl
-subscribe_same Up = refl
-subscribe_same Down = refl
-subscribe_same Take = refl
-subscribe_same (Replace policy) = refl
-subscribe_same (Tick clock) = refl
-
 -- the filters that stand for a client, where its notes are those that the cause fixes
 filters_row : (by : ℕ) (h : List Row) (s : State) (e : Event) (outs : List Out) (x : Client) → x.filters ≡ standing_of x.id h → notes_of x.id outs ≡ fixed_for s (cause_of e) x
     → (client_next s (cause_of e) x).filters ≡ standing_of (client_next s (cause_of e) x).id (record { by = by; event = e; outs = outs } ∷ h)
@@ -161,14 +140,24 @@ filters_row by h s e outs x shown own =
     ∙ (ap (λ notes. standing_notes m x.id notes (standing_of x.id h)) (sym own)
     ∙ (sym (standing_by_notes m x.id outs (standing_of x.id h)) ∙ ap (λ id. standing_of id rows) (sym (client_id (around s c) (fixed_for s c x) x)))))
 
+-- a client as it is shown, with what is open
+record Seen (h : List Row) (x : Client) : Type 0 where
+  shown : ClientShown h x
+  mailed : Mailed h x
+
 -- a client that was accepted before
-known_row : (by : ℕ) (h : List Row) (s : State) (e : Event) (outs : List Out) (x : Client) → s.clock ≡ clock_at h → ClientShown h x → notes_of x.id outs ≡ fixed_for s (cause_of e) x
-    → ClientShown (record { by = by; event = e; outs = outs } ∷ h) (client_next s (cause_of e) x)
-known_row by h s e outs x clock shown own =
-    shown_by by h e outs x.id (fixed_for s (cause_of e) x) (client_next s (cause_of e) x) (client_id (around s (cause_of e)) (fixed_for s (cause_of e) x) x) own
-    (rw (shown.phase, shown.address, shown.duration, shown.heard, sym clock, spoke_same h x e shown) (event_shows s x e))
-    (told_next s (cause_of e) x (names_told x.id h) shown.ids ∙ ap (λ r. known (names_notes r x.id (fixed_for s (cause_of e) x) (names_told x.id h))) (subscribe_same e))
-    (filters_row by h s e outs x shown.filters own)
+known_row : (by : ℕ) (h : List Row) (s : State) (e : Event) (outs : List Out) (x : Client) → s.clock ≡ clock_at h → Seen h x → notes_of x.id outs ≡ fixed_for s (cause_of e) x
+    → Seen (record { by = by; event = e; outs = outs } ∷ h) (client_next s (cause_of e) x)
+known_row by h s e outs x clock seen own =
+    let shown = seen.shown in
+    let mailed = mailed_row by h s e outs x shown.phase shown.address shown.filters own seen.mailed in
+    record {
+      shown = shown_by by h e outs x.id (fixed_for s (cause_of e) x) (client_next s (cause_of e) x) (client_id (around s (cause_of e)) (fixed_for s (cause_of e) x) x) own
+          (rw (shown.phase, shown.address, shown.duration, shown.heard, sym clock, spoke_same h x e shown) (event_shows s x e))
+          mailed
+          (filters_row by h s e outs x shown.filters own);
+      mailed = mailed;
+    }
 
 -- ---- one that is accepted for the first time
 
@@ -178,44 +167,50 @@ entry_admitted s from connect n (Denied rule) = rw (same_self connect.client_id)
 
 new_notes : (s : State) (from : Address) (connect : Connect) → entry s connect ≡ Allowed
     → fixed_for s (ByConnect from connect) (blank connect.client_id) ≡ note.Connect connect.client_id Allowed ∷ []
-new_notes s from connect is = rw (same_self connect.client_id, is) refl
+new_notes s from connect is =
+    rw (same_self connect.client_id, is) (ap (λ notes. note.Connect connect.client_id Allowed ∷ notes) (blank_enters s from connect connect.flags.clean refl))
 
 new_next : (s : State) (from : Address) (connect : Connect) → entry s connect ≡ Allowed
     → client_next s (ByConnect from connect) (blank connect.client_id) ≡ let_in s.clock from connect (blank connect.client_id)
-new_next s from connect is = entering_next s from connect (blank connect.client_id) is ∙ rw (same_self connect.client_id) refl
+new_next s from connect is =
+    ap (λ notes. client_by (around s (ByConnect from connect)) notes (blank connect.client_id)) (new_notes s from connect is)
 
 -- the client that connects, by the verdict
 new_row : (by : ℕ) (h : List Row) (s : State) (from : Address) (datagram : List ℕ) (connect : Connect) (outs : List Out)
     → frame_of datagram ≡ Ok (frame.Connect connect) → s.clock ≡ clock_at h → entry s connect ≡ Allowed
-    → notes_of connect.client_id outs ≡ fixed_for s (ByConnect from connect) (blank connect.client_id) → standing_of connect.client_id h ≡ []
-    → ClientShown (record { by = by; event = Datagram from datagram; outs = outs } ∷ h) (client_next s (ByConnect from connect) (blank connect.client_id))
-new_row by h s from datagram connect outs read clock is own none =
+    → notes_of connect.client_id outs ≡ fixed_for s (ByConnect from connect) (blank connect.client_id) → standing_of connect.client_id h ≡ [] → Unheard connect.client_id h
+    → Seen (record { by = by; event = Datagram from datagram; outs = outs } ∷ h) (client_next s (ByConnect from connect) (blank connect.client_id))
+new_row by h s from datagram connect outs read clock is own none unheard =
     let id = connect.client_id in
     let e = Datagram from datagram in
     let c = ByConnect from connect in
     let cause : cause_of e ≡ c = ap (datagram_cause from) read in
-    shown_by by h e outs id (note.Connect id Allowed ∷ []) (client_next s c (blank id)) (client_id (around s c) (fixed_for s c (blank id)) (blank id)) (own ∙ new_notes s from connect is)
-    (subst (Shows id (before_row id e h) (note.Connect id Allowed ∷ [])) (sym (new_next s from connect is))
-    (let_in_shows (before_row id e h) id s.clock from connect (blank id) refl (rw read refl) (sym clock)))
-    (ap (λ y. y.ids) (new_next s from connect is) ∙ (let_in_ids s.clock from connect (blank id) ∙ (rw (same_self id) refl)))
-    (subst (λ d. (client_next s d (blank id)).filters ≡ standing_of (client_next s d (blank id)).id (record { by = by; event = e; outs = outs } ∷ h)) cause
-    (filters_row by h s e outs (blank id) (sym none) (subst (λ d. notes_of id outs ≡ fixed_for s d (blank id)) (sym cause) own)))
+    let mailed = mailed_next by h s c e outs (blank id) (sym cause) own (datagram_brings by h from datagram outs id) (start_none id e h unheard.phase) (mailed_blank h id unheard) in
+    record {
+      shown = shown_by by h e outs id (note.Connect id Allowed ∷ []) (client_next s c (blank id)) (client_id (around s c) (fixed_for s c (blank id)) (blank id)) (own ∙ new_notes s from connect is)
+          (subst (Shows id (before_row id e h) (note.Connect id Allowed ∷ [])) (sym (new_next s from connect is))
+          (let_in_shows (before_row id e h) id s.clock from connect (blank id) refl (rw read refl) (sym clock)))
+          mailed
+          (subst (λ d. (client_next s d (blank id)).filters ≡ standing_of (client_next s d (blank id)).id (record { by = by; event = e; outs = outs } ∷ h)) cause
+          (filters_row by h s e outs (blank id) (sym none) (subst (λ d. notes_of id outs ≡ fixed_for s d (blank id)) (sym cause) own)));
+      mailed = mailed;
+    }
 
 abbrev NewShown : State → Cause → List Row → List Client → Type 0
-NewShown s c rows xs = Each (λ x. ClientShown rows (client_next s c x)) xs
+NewShown s c rows xs = Each (λ x. Seen rows (client_next s c x)) xs
 
 abbrev NewOwn : State → Cause → List Out → List Client → Type 0
 NewOwn s c outs xs = Each (λ x. notes_of x.id outs ≡ fixed_for s c x) xs
 
--- nothing stands for who is not known
+-- nothing stands for who is not known, and nothing is shown of it
 abbrev Unstanding : List Row → State → Type 0
-Unstanding h s = (id : List ℕ) → is_known id s.clients ≡ false → standing_of id h ≡ []
+Unstanding h s = (id : List ℕ) → is_known id s.clients ≡ false → (standing_of id h ≡ []) × Unheard id h
 
 entrant_row : (by : ℕ) (h : List Row) (s : State) (from : Address) (datagram : List ℕ) (connect : Connect) (outs : List Out) (o : Outcome) (known : Bool)
     → frame_of datagram ≡ Ok (frame.Connect connect) → s.clock ≡ clock_at h → entry s connect ≡ o
-    → NewOwn s (ByConnect from connect) outs (if is_allowed o && not known then blank connect.client_id ∷ [] else []) → (known ≡ false → standing_of connect.client_id h ≡ [])
+    → NewOwn s (ByConnect from connect) outs (if is_allowed o && not known then blank connect.client_id ∷ [] else []) → (known ≡ false → (standing_of connect.client_id h ≡ []) × Unheard connect.client_id h)
     → NewShown s (ByConnect from connect) (record { by = by; event = Datagram from datagram; outs = outs } ∷ h) (if is_allowed o && not known then blank connect.client_id ∷ [] else [])
-entrant_row by h s from datagram connect outs Allowed false read clock is own none = (new_row by h s from datagram connect outs read clock is own.0 (none refl), tt)
+entrant_row by h s from datagram connect outs Allowed false read clock is own none = (let both = none refl in new_row by h s from datagram connect outs read clock is own.0 both.0 both.1, tt)
 entrant_row by h s from datagram connect outs Allowed true read clock is own none = tt
 entrant_row by h s from datagram connect outs (Denied rule) known read clock is own none = tt
 
@@ -266,17 +261,17 @@ each_right : (P : Client → Type 0) (xs ys : List Client) → Each P (xs ++ ys)
 each_right P [] ys all = all
 each_right P (x ∷ xs) ys all = each_right P xs ys all.1
 
-clients_row : (by : ℕ) (h : List Row) (s : State) (e : Event) (outs : List Out) → s.clock ≡ clock_at h → Each (ClientShown h) s.clients → Unstanding h s
+clients_row : (by : ℕ) (h : List Row) (s : State) (e : Event) (outs : List Out) → s.clock ≡ clock_at h → Each (Seen h) s.clients → Unstanding h s
     → NewOwn s (cause_of e) outs (s.clients ++ newcomers_for s (cause_of e))
-    → Each (ClientShown (record { by = by; event = e; outs = outs } ∷ h)) (map (client_next s (cause_of e)) (s.clients ++ newcomers_for s (cause_of e)))
-clients_row by h s e outs clock shown none own =
+    → Each (Seen (record { by = by; event = e; outs = outs } ∷ h)) (map (client_next s (cause_of e)) (s.clients ++ newcomers_for s (cause_of e)))
+clients_row by h s e outs clock seen none own =
     let c = cause_of e in
     let rows = record { by = by; event = e; outs = outs } ∷ h in
     let Own : Client → Type 0 = λ x. notes_of x.id outs ≡ fixed_for s c x in
-    let Next : Client → Type 0 = λ x. ClientShown rows (client_next s c x) in
-    each_mapped (ClientShown rows) (client_next s c) (s.clients ++ newcomers_for s c)
+    let Next : Client → Type 0 = λ x. Seen rows (client_next s c x) in
+    each_mapped (Seen rows) (client_next s c) (s.clients ++ newcomers_for s c)
     (each_append Next s.clients (newcomers_for s c)
-    (each_with (ClientShown h) Own Next s.clients (λ x was is. known_row by h s e outs x clock was is) shown (each_left Own s.clients (newcomers_for s c) own))
+    (each_with (Seen h) Own Next s.clients (λ x was is. known_row by h s e outs x clock was is) seen (each_left Own s.clients (newcomers_for s c) own))
     (event_news by h s e outs clock none (each_right Own s.clients (newcomers_for s c) own)))
 
 -- ---- their order
@@ -368,22 +363,19 @@ moved_row by h s Take outs shown = record { policy = shown.policy; clock = shown
 moved_row by h s (Replace policy) outs shown = record { policy = refl; clock = shown.clock; up = shown.up }
 moved_row by h s (Tick clock) outs shown = record { policy = shown.policy; clock = ap (λ was. later was clock) shown.clock; up = shown.up }
 
-or_none : (a b : Bool) → (a || b) ≡ false → (a ≡ false) × (b ≡ false)
-or_none true b is = absurd (let e = is in cc)
-or_none false b is = (refl, is)
-
-among_left : (id : List ℕ) (xs ys : List (List ℕ)) → is_among id (xs ++ ys) ≡ false → is_among id xs ≡ false
-among_left id [] ys none = refl
-among_left id (x ∷ xs) ys none =
-    let both = or_none (bytes_eq id x) (is_among id (xs ++ ys)) none in rw (both.0, among_left id xs ys both.1) refl
-
 shown_row : (by : ℕ) (h : List Row) (s : State) (e : Event) → Good s → StateShown h s → StateShown (record { by = by; event = e; outs = outs_of s e } ∷ h) (next_of s e)
 shown_row by h s e good shown =
     let c = cause_of e in
     let outs = outs_of s e in
     let moved = moved_row by h s e outs shown in
     let own = (says s c good.apart).own in
-    let unstanding : Unstanding h s = λ id is. shown.strangers id (ap (is_among id) (sym shown.order) ∙ (known_among id s.clients ∙ is)) in
+    let unstanding : Unstanding h s = λ id is.
+    let none = ap (is_among id) (sym shown.order) ∙ (known_among id s.clients ∙ is) in (shown.strangers id none, shown.unheard id none) in
+    let seen = clients_row by h s e outs shown.clock
+    (each_with (ClientShown h) (Mailed h) (Seen h) s.clients (λ x one two. record { shown = one; mailed = two }) shown.clients shown.mailed) unstanding own in
+    let rows = record { by = by; event = e; outs = outs } ∷ h in
+    let after = map (client_next s c) (s.clients ++ newcomers_for s c) in
+    let away : (id : List ℕ) → is_among id (accepted h) ≡ false → is_known id s.clients ≡ false = λ id before. sym (known_among id s.clients) ∙ (ap (is_among id) shown.order ∙ before) in
     record {
       policy = moved.policy;
       clock = moved.clock;
@@ -391,11 +383,14 @@ shown_row by h s e good shown =
       waits = waits_row s e h shown.up shown.waits shown.order (each_map (ClientShown h) (λ x. x.filters ≡ standing_of x.id h) s.clients (λ x is. is.filters) shown.clients)
           (each_left (λ x. notes_of x.id outs ≡ fixed_for s c x) s.clients (newcomers_for s c) own);
       order = order_row s e h shown.order;
-      clients = clients_row by h s e outs shown.clock shown.clients unstanding own;
+      clients = each_map (Seen rows) (ClientShown rows) after (λ x is. is.shown) seen;
+      mailed = each_map (Seen rows) (Mailed rows) after (λ x is. is.mailed) seen;
       strangers = λ id none.
-          let before : is_among id (accepted h) ≡ false = among_left id (accepted h) (accepted_in (accepted h) e outs) none in
-          let away : is_known id s.clients ≡ false = sym (known_among id s.clients) ∙ (ap (is_among id) shown.order ∙ before) in
-          ap (standing_after (message_at e) id outs) (shown.strangers id before) ∙ (standing_by_notes (message_at e) id outs [] ∙ unknown_row s e id away);
+          let before : is_among id (accepted h) ≡ false = (among_parts id (accepted h) (accepted_in (accepted h) e outs) none).0 in
+          ap (standing_after (message_at e) id outs) (shown.strangers id before) ∙ (standing_by_notes (message_at e) id outs [] ∙ unknown_row s e id (away id before));
+      unheard = λ id none.
+          let parts = among_parts id (accepted h) (accepted_in (accepted h) e outs) none in
+          unheard_row by h s e id (away id parts.0) (row_admits s e (accepted h) id parts.0 parts.1) (shown.unheard id parts.0);
     }
 
 -- a state between rows of a lawful history
@@ -411,6 +406,6 @@ stands_row by h s e outs is stands =
     (record { good = good_next s (cause_of e) stands.good; shown = shown_row by h s e stands.good stands.shown }))
 
 pub stands : (h : List Row) → Lawful opening h → Stands h (state_of opening h)
-stands [] l = record { good = good_opening; shown = record { policy = refl; clock = refl; up = refl; waits = refl; order = refl; clients = tt; strangers = λ id none. refl } }
+stands [] l = record { good = good_opening; shown = record { policy = refl; clock = refl; up = refl; waits = refl; order = refl; clients = tt; mailed = tt; strangers = λ id none. refl; unheard = λ id none. unheard_first id } }
 stands (row ∷ h) l =
     stands_row row.by h (state_of opening h) row.event row.outs (exact_by (state_of opening h) (cause_of row.event) row.outs l.1) (stands h l.0)

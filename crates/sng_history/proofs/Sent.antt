@@ -8,6 +8,7 @@ use Rattle.sng_frames.specs.declared.qos.FrameQos.{FrameQos}
 use Rattle.sng_frames.specs.declared.qos.FrameQos.TheVariants as qos
 use Rattle.sng_frames.specs.declared.frame.SnFrame.{SnFrame}
 use Rattle.sng_frames.specs.declared.frame.SnFrame.TheVariants as frame
+use Rattle.sng_queue.specs.Messages.{Message}
 use Rattle.sng_book.specs.declared.address.Address.{Address}
 use Rattle.sng_book.specs.declared.decision.Decision.{Decision}
 use Rattle.sng_book.specs.declared.decision.Decision.TheVariants as note
@@ -17,12 +18,13 @@ use Rattle.sng_book.specs.declared.outcome.Outcome.{Outcome}
 use Rattle.sng_book.specs.declared.outcome.Outcome.TheVariants.{Allowed, Denied}
 use Rattle.sng_book.specs.declared.out.Out.{Out}
 use Rattle.sng_book.specs.declared.out.Out.TheVariants.{Send, Wire, Note}
-use Rattle.sng_history.specs.Causes.{Request, ToPing, ToLeave, ToRegister, ToPublish, ToSubscribe, ToUnsubscribe, Untaken, Cause, request_of}
+use Rattle.sng_history.specs.Causes.{Request, ToPing, ToLeave, ToRegister, ToPublish, ToSubscribe, ToUnsubscribe, ToConfirm, ToAcknowledge, Untaken, Cause, request_of}
+use Rattle.sng_history.specs.Handing.{Known, known_as, front, handed_outs}
 use Rattle.sng_history.specs.Clients.{Around, Client, is_author, start_by, note_by}
 use Rattle.sng_history.specs.Standing.{Release, is_release, drop_notes}
 use Rattle.sng_history.specs.Verdicts.{ping_verdict}
 use Rattle.sng_history.specs.Answers.{refusal, code_of, sent_to, puback, dismissed}
-use Rattle.sng_history.specs.Whole.{takes_leave, farewell, denied_to, denied_by, granted_to, granted_by, replied, dropped_with, frames_of, spell, pong_by, answer_to, answer, part}
+use Rattle.sng_history.specs.Whole.{takes_leave, farewell, denied_to, denied_by, granted_to, granted_by, replied, dropped_with, handed_frames, frames_of, spell, pong_by, answer_to, answer, part}
 use Rattle.sng_history.specs.ViewsLink.{wires_in}
 
 -- ---- frames
@@ -63,6 +65,8 @@ denied_to_sent (ToRegister r) to rule = refused_sent to (refusal (frame.Register
 denied_to_sent (ToPublish p) to rule = refused_sent to (refusal (frame.Publish p) (code_of rule))
 denied_to_sent (ToSubscribe r) to rule = refused_sent to (refusal (frame.Subscribe r) (code_of rule))
 denied_to_sent (ToUnsubscribe r) to rule = refused_sent to (refusal (frame.Unsubscribe r) (code_of rule))
+denied_to_sent (ToConfirm r) to rule = tt
+denied_to_sent (ToAcknowledge r) to rule = tt
 denied_to_sent (Untaken message) to rule = refused_sent to (refusal message (code_of rule))
 
 denied_sent : (request : Option Request) (to : Address) (rule : Denial) → AllSent (denied_by request to rule)
@@ -84,6 +88,8 @@ granted_to_sent (ToPublish p) x name = puback_sent x.address p p.flags.qos
 granted_to_sent (ToSubscribe r) x (Some filter) = tt
 granted_to_sent (ToSubscribe r) x None = tt
 granted_to_sent (ToUnsubscribe r) x filter = tt
+granted_to_sent (ToConfirm r) x name = tt
+granted_to_sent (ToAcknowledge r) x name = tt
 granted_to_sent (Untaken message) x name = tt
 
 granted_sent : (request : Option Request) (x : Client) (name : Option (List ℕ)) → AllSent (granted_by request x name)
@@ -106,6 +112,15 @@ pub drops_sent : (dropped : List Release) → AllSent (drop_notes dropped)
 drops_sent [] = tt
 drops_sent (r ∷ dropped) = (refl, drops_sent dropped)
 
+handed_out_sent : (to : Address) (number : ℕ) (m : Option Message) (known : Option Known) → AllSent (handed_outs to number m known)
+handed_out_sent to number None known = tt
+handed_out_sent to number (Some m) None = tt
+handed_out_sent to number (Some m) (Some known) = tt
+
+handed_sent : (a : Around) (x : Client) (name : List ℕ) (outcome : Outcome) → AllSent (handed_frames a x name outcome)
+handed_sent a x name Allowed = handed_out_sent x.address x.number (front x.buffer) (known_as a.policy x.ids name)
+handed_sent a x name (Denied rule) = tt
+
 pub frames_sent : (a : Around) (dropped : List Release) (x : Client) (said : Decision) → AllSent (frames_of a dropped x said)
 frames_sent a dropped x (note.Left id) = farewell_sent (request_of a.cause) x.address
 frames_sent a dropped x (note.Register who name outcome) = replied_sent a.cause x name outcome
@@ -116,7 +131,14 @@ frames_sent a dropped x (note.Unsubscribe who filter outcome) =
 frames_sent a dropped x (note.Will who name outcome) = replied_sent a.cause x name outcome
 frames_sent a dropped x (note.Frame who outcome) = replied_sent a.cause x None outcome
 frames_sent a dropped x (note.End id filter outcome) = dropped_sent dropped x.id (Some filter)
-frames_sent a dropped x _ = tt
+frames_sent a dropped x (note.Announce id name) = tt
+frames_sent a dropped x (note.Hand id name outcome) = handed_sent a x name outcome
+frames_sent a dropped x (note.Connect id outcome) = tt
+frames_sent a dropped x (note.Retry id name outcome) = tt
+frames_sent a dropped x (note.Forward who name outcome) = tt
+frames_sent a dropped x (note.Again who name outcome) = tt
+frames_sent a dropped x (note.Lost id) = tt
+frames_sent a dropped x note.Outbox = tt
 
 pong_sent : (o : Outcome) (to : Address) → AllSent (pong_by o to)
 pong_sent Allowed to = tt
@@ -124,7 +146,14 @@ pong_sent (Denied rule) to = tt
 
 answer_to_sent : (request : Request) (x : Client) → AllSent (answer_to request x)
 answer_to_sent (ToPing client) x = pong_sent (ping_verdict client x) x.address
-answer_to_sent _ x = tt
+answer_to_sent ToLeave x = tt
+answer_to_sent (ToRegister r) x = tt
+answer_to_sent (ToPublish p) x = tt
+answer_to_sent (ToSubscribe r) x = tt
+answer_to_sent (ToUnsubscribe r) x = tt
+answer_to_sent (ToConfirm r) x = tt
+answer_to_sent (ToAcknowledge r) x = tt
+answer_to_sent (Untaken message) x = tt
 
 pub answer_sent : (request : Option Request) (x : Client) → AllSent (answer request x)
 answer_sent None x = tt
@@ -142,7 +171,7 @@ sent_wires (Send to datagram ∷ xs) ys sent = sent_wires xs ys sent
 sent_wires (Note said ∷ xs) ys sent = sent_wires xs ys sent.1
 sent_wires (Wire packet ∷ xs) ys sent = absurd sent
 
-spell_wires : (a : Around) (dropped : List Release) (x : Client) (notes : List Decision) → wires_in (spell a dropped x notes) ≡ []
+pub spell_wires : (a : Around) (dropped : List Release) (x : Client) (notes : List Decision) → wires_in (spell a dropped x notes) ≡ []
 spell_wires a dropped x [] = refl
 spell_wires a dropped x (said ∷ notes) =
     sent_wires (frames_of a dropped x said) (spell a dropped (note_by a said x) notes) (frames_sent a dropped x said) ∙ spell_wires a dropped (note_by a said x) notes

@@ -14,6 +14,7 @@ use Rattle.sng_history.specs.State.{asked_by, asked_all}
 use Rattle.sng_history.specs.Steps.{asked_by_all}
 use Rattle.sng_book.specs.declared.out.Out.TheVariants.{Send, Wire, Note}
 use Rattle.sng_history.proofs.Sent.{AllSent, frames_sent, answer_sent}
+use Rattle.sng_history.proofs.Hands.{Every}
 use Rattle.sng_history.proofs.Own.{same_self, notes_append, exits_append, asks_append}
 
 -- no note among these
@@ -56,8 +57,7 @@ pub record About (c : List ℕ) (said : Decision) : Type 0 where
   pub stays : exit_of said ≡ []
 
 abbrev pub AllAbout : List ℕ → List Decision → Type 0
-AllAbout c [] = Unit {0}
-AllAbout c (said ∷ notes) = About c said × AllAbout c notes
+AllAbout c notes = Every (About c) notes
 
 own_note : (b : Bool) (said : Decision) (notes : List Decision) → b ≡ true → (if b then said ∷ [] else []) ++ notes ≡ said ∷ notes
 own_note true said notes is = refl

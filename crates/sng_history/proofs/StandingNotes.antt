@@ -38,7 +38,7 @@ use Rattle.sng_history.specs.ViewsStanding.{is_clean, qos_downstream, joined_by,
 use Rattle.sng_history.proofs.Own.{same_self}
 use Rattle.sng_history.proofs.Spelled.{AllAbout}
 use Rattle.sng_history.proofs.Told.{tells}
-use Rattle.sng_history.proofs.Filters.{start_filters}
+use Rattle.sng_history.proofs.Steady.{start_filters, handed_steady}
 
 -- ---- what the rows show is read from the client's own notes
 
@@ -148,6 +148,7 @@ note_filters a m id (note.Unsubscribe whom text outcome) x same own = rw (sym (c
 note_filters a m id (note.End client text outcome) x same own = rw own refl
 note_filters a m id (note.Register whom name outcome) x same own = refl
 note_filters a m id (note.Left client) x same own = refl
+note_filters a m id (note.Hand client name outcome) x same own = (handed_steady a name outcome x).filters
 note_filters a m id _ x same own = refl
 
 notes_filters : (a : Around) (m : Option Message) (id : List ℕ) (notes : List Decision) (x : Client) → Alike a.cause m → AllAbout id notes

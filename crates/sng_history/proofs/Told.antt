@@ -1,29 +1,35 @@
 -- The notes that a cause fixes of a client speak of that client.
-use Rattle.std.proofs.Common.{ℕ, Bool, true, false, List, [], ◌∷◌, ◌++◌, refl}
-use Rattle.std.specs.Prelude.{if◌then◌else◌, Option, Some, None}
+use Rattle.std.proofs.Common.{ℕ, Bool, true, false, List, [], ◌∷◌, ◌++◌, refl, subst}
+use Rattle.std.specs.Prelude.{◌≡◌, if◌then◌else◌, Option, Some, None}
 use Rattle.sng_grants.specs.declared.policy.Policy.{Policy}
 use Rattle.sng_fan.specs.declared.held.Held.{Held}
 use Rattle.std.specs.Str.{bytes_eq}
+use Rattle.sng_queue.specs.Messages.{Message}
+use Rattle.sng_frames.specs.declared.messages.connect.Connect.{Connect}
 use Rattle.sng_frames.specs.declared.frame.SnFrame.{SnFrame}
 use Rattle.sng_frames.specs.declared.frame.SnFrame.TheVariants as frame
+use Rattle.sng_book.specs.declared.address.Address.{Address}
 use Rattle.sng_book.specs.Denials.{is_allowed}
 use Rattle.sng_book.specs.declared.decision.Decision.{Decision}
 use Rattle.sng_book.specs.declared.decision.Decision.TheVariants as note
 use Rattle.sng_book.specs.declared.decision.Who.TheVariants as who
 use Rattle.sng_book.specs.declared.outcome.Denial.{Denial}
-use Rattle.sng_book.specs.declared.outcome.Denial.TheVariants.{NotSupported, BrokerRefused}
+use Rattle.sng_book.specs.declared.outcome.Denial.TheVariants.{NotSupported, BrokerRefused, OutOfTurn}
 use Rattle.sng_book.specs.declared.outcome.Outcome.{Outcome}
 use Rattle.sng_book.specs.declared.outcome.Outcome.TheVariants.{Allowed, Denied}
-use Rattle.sng_history.specs.Causes.{Request, ToPing, ToLeave, ToRegister, ToPublish, ToSubscribe, ToUnsubscribe, Untaken, Cause}
+use Rattle.sng_history.specs.Causes.{Request, ToPing, ToLeave, ToRegister, ToPublish, ToSubscribe, ToUnsubscribe, ToConfirm, ToAcknowledge, Untaken, Cause}
 use Rattle.sng_history.specs.Causes.{ByConnect, ByMessage, BySource, ByBroken, ByPacket, ByUp, ByDown, ByTake, ByReplace, ByTick}
-use Rattle.sng_history.specs.Clients.{Client, is_here}
+use Rattle.sng_history.specs.Clients.{Client, is_here, let_in, closed, is_confirming, is_acknowledging, message_due}
 use Rattle.sng_history.specs.State.{State}
 use Rattle.sng_history.specs.Packets.{answer_of, refused_filter}
 use Rattle.sng_history.specs.Standing.{holds}
 use Rattle.sng_history.specs.Verdicts.{entry, ping_verdict, coverage}
 use Rattle.sng_history.specs.Answers.{denied_note}
-use Rattle.sng_history.specs.Lawful.{denial_of, fixed_to, end_of, ends_under, refused_end, fixed_for}
+use Rattle.sng_history.specs.Outgoing.{handed_over, all_gone, out_of_turn, delivered_notes}
+use Rattle.sng_history.specs.Lawful.{denial_of, confirmations, entering_notes, fixed_to, end_of, ends_under, refused_end, fixed_for}
 use Rattle.sng_history.proofs.Spelled.{About, AllAbout}
+use Rattle.sng_history.proofs.Hands.{OfMessages, every_append, every_if, every_handed, every_gone, every_delivered, every_confirmation}
+use Rattle.sng_history.proofs.Kept.{let_in_id}
 use Rattle.sng_history.proofs.Asks.{of_register, of_publish, of_subscribe, of_unsubscribe}
 
 about_denied : (c : List ℕ) (message : SnFrame) (rule : Denial) → About c (denied_note message (who.Client c) rule)
@@ -73,13 +79,12 @@ about_denial c Allowed = tt
 about_denial c (Denied rule) = (about_frame c (Denied rule), tt)
 
 about_if : (b : Bool) (c : List ℕ) (notes : List Decision) → AllAbout c notes → AllAbout c (if b then notes else [])
-about_if true c notes about = about
-about_if false c notes about = tt
+about_if b c notes about = every_if (About c) b notes about
 
-about_entry : (same : Bool) (c : List ℕ) (outcome : Outcome) (b : Bool)
-    → AllAbout c (if same then note.Connect c outcome ∷ [] else (if is_allowed outcome then (if b then note.Left c ∷ [] else []) else []))
-about_entry true c outcome b = (about_connect c outcome, tt)
-about_entry false c outcome b = about_if (is_allowed outcome) c (if b then note.Left c ∷ [] else []) (about_if b c (note.Left c ∷ []) (about_left c, tt))
+about_entry : (same : Bool) (c : List ℕ) (outcome : Outcome) (enters leaves : List Decision) (b : Bool) → AllAbout c enters → AllAbout c leaves
+    → AllAbout c (if same then note.Connect c outcome ∷ enters else (if is_allowed outcome then (if b then leaves else []) else []))
+about_entry true c outcome enters leaves b own other = (about_connect c outcome, own)
+about_entry false c outcome enters leaves b own other = about_if (is_allowed outcome) c (if b then leaves else []) (about_if b c leaves other)
 
 about_ends : (policy : Policy) (c : List ℕ) (held : List Held) → AllAbout c (ends_under policy c held)
 about_ends policy c [] = tt
@@ -89,20 +94,66 @@ about_refused : (x : Client) (filter : Option (List ℕ)) → AllAbout x.id (ref
 about_refused x None = tt
 about_refused x (Some filter) = about_if (holds filter x) x.id (note.End x.id filter (Denied BrokerRefused) ∷ []) (about_ended x.id filter BrokerRefused, tt)
 
+-- ---- what waits for the client
+
+about_messages : (c : List ℕ) → OfMessages (About c) c
+about_messages c = record {
+  announces = λ name. record { of = λ d. refl; stays = refl };
+  hands = λ name outcome. record { of = λ d. refl; stays = refl };
+}
+
+about_gone : (c : List ℕ) (waiting : List Message) → AllAbout c (all_gone c waiting)
+about_gone c waiting = every_gone (About c) c waiting (about_messages c)
+
+about_handed : (policy : Policy) (c : List ℕ) (x : Client) → x.id ≡ c → AllAbout c (handed_over policy x)
+about_handed policy c x same =
+    subst (λ id. AllAbout id (handed_over policy x)) same (every_handed (About x.id) policy x (about_messages x.id))
+
+-- ---- a REGACK or PUBACK
+
+about_out : (c : List ℕ) → AllAbout c (out_of_turn c)
+about_out c = (about_frame c (Denied OutOfTurn), tt)
+
+about_either : (b : Bool) (c : List ℕ) (xs ys : List Decision) → AllAbout c xs → AllAbout c ys → AllAbout c (if b then xs else ys)
+about_either true c xs ys one two = one
+about_either false c xs ys one two = two
+
+-- ---- a CONNECT that is accepted
+
+about_entering : (s : State) (from : Address) (connect : Connect) (x : Client) (outcome : Outcome) → AllAbout x.id (entering_notes s from connect x outcome)
+about_entering s from connect x Allowed =
+    let y = let_in s.clock from connect x in
+    about_either connect.flags.clean x.id (all_gone x.id x.buffer.waiting) (handed_over s.policy y)
+    (about_gone x.id x.buffer.waiting) (about_handed s.policy x.id y (let_in_id s.clock from connect x))
+about_entering s from connect x (Denied rule) = tt
+
+-- ---- each request, and each cause
+
 told_to : (s : State) (request : Request) (x : Client) → AllAbout x.id (fixed_to s request x)
 told_to s (ToPing client) x = about_denial x.id (ping_verdict client x)
-told_to s ToLeave x = (about_left x.id, tt)
+told_to s ToLeave x = (about_left x.id, about_gone x.id x.buffer.waiting)
 told_to s (ToRegister r) x = (of_register (About x.id) s.policy x r.name (λ name o. record { of = λ d. refl; stays = refl }), tt)
 told_to s (ToPublish p) x = (of_publish (About x.id) s x p (λ name o. record { of = λ d. refl; stays = refl }), tt)
 told_to s (ToSubscribe r) x = (of_subscribe (About x.id) s x r (λ filter o. record { of = λ d. refl; stays = refl }), tt)
 told_to s (ToUnsubscribe r) x = (of_unsubscribe (About x.id) s.policy x r (λ filter o. record { of = λ d. refl; stays = refl }), tt)
+told_to s (ToConfirm r) x =
+    about_either (is_confirming r x) x.id (confirmations s.policy r x) (out_of_turn x.id) (every_confirmation (About x.id) s.policy r x (about_messages x.id)) (about_out x.id)
+told_to s (ToAcknowledge r) x =
+    about_either (is_acknowledging r x) x.id (handed_over s.policy (closed x)) (out_of_turn x.id) (about_handed s.policy x.id (closed x) refl) (about_out x.id)
 told_to s (Untaken message) x = (about_denied x.id message NotSupported, tt)
 
 pub tells : (s : State) (c : Cause) (x : Client) → AllAbout x.id (fixed_for s c x)
-tells s (ByConnect from connect) x = about_entry (bytes_eq connect.client_id x.id) x.id (entry s connect) (is_here x from)
+tells s (ByConnect from connect) x =
+    about_entry (bytes_eq connect.client_id x.id) x.id (entry s connect) (entering_notes s from connect x (entry s connect))
+    (note.Left x.id ∷ all_gone x.id x.buffer.waiting) (is_here x from)
+    (about_entering s from connect x (entry s connect)) (about_left x.id, about_gone x.id x.buffer.waiting)
 tells s (ByMessage from request) x = about_if (is_here x from) x.id (fixed_to s request x) (told_to s request x)
 tells s (ByBroken from rule) x = about_if (is_here x from) x.id (note.Frame (who.Client x.id) (Denied rule) ∷ []) (about_frame x.id (Denied rule), tt)
-tells s (ByPacket p) x = about_refused x (refused_filter s.link (answer_of p))
+tells s (ByPacket p) x =
+    let due = message_due (answer_of p) x in
+    let refused = refused_filter s.link (answer_of p) in
+    every_append (About x.id) (refused_end x refused) (delivered_notes s.policy due x)
+    (about_refused x refused) (every_delivered (About x.id) s.policy due x (about_messages x.id))
 tells s (ByReplace policy) x = about_ends policy x.id x.filters
 tells s (BySource from p) x = tt
 tells s ByUp x = tt

@@ -25,13 +25,13 @@ use Rattle.sng_history.specs.Standing.{Release, is_held, ended, releases_of, rel
 use Rattle.sng_history.specs.State.{State, around}
 use Rattle.sng_history.specs.Verdicts.{entry}
 use Rattle.sng_history.specs.Answers.{connack}
-use Rattle.sng_history.specs.Whole.{answer, replied, frames_of, spell, moved, beside, entry_outs}
+use Rattle.sng_history.specs.Whole.{answer, replied, frames_of, spell, moved, beside, entering_part, around_connack, entry_outs}
 use Rattle.sng_history.specs.Lawful.{fixed_for}
 use Rattle.sng_history.specs.Steps.{outs_by, notes_for, client_next}
 use Rattle.sng_history.specs.Good.{Each}
 use Rattle.sng_history.specs.ViewsLink.{is_outbox, is_outbox_noted}
 use Rattle.sng_history.proofs.Own.{same_self, same_means}
-use Rattle.sng_history.proofs.Filters.{start_filters}
+use Rattle.sng_history.proofs.Steady.{start_steady, start_filters, handed_steady}
 use Rattle.sng_history.proofs.Holding.{with_stands}
 use Rattle.sng_history.proofs.Says.{part_for, drops_for}
 use Rattle.sng_history.proofs.UpstreamLeaving.{is_one}
@@ -104,6 +104,7 @@ id_note : (a : Around) (said : Decision) (x : Client) → (note_by a said x).id 
 id_note a (note.Connect id o) x = id_if (is_allowed o) (entered_by a.clock a.cause x) x (id_entered a.clock a.cause x)
 id_note a (note.Subscribe whom text o) x = id_subscribed (subscribe_of a.cause) text o x
 id_note a (note.Unsubscribe whom text o) x = id_unsubscribed text o x
+id_note a (note.Hand client name o) x = (handed_steady a name o x).id
 id_note a _ x = refl
 
 -- ---- the notes that end a filter
@@ -174,6 +175,7 @@ stays_note a (note.Subscribe whom filter o) x text none other stood = stays_subs
 stays_note a (note.Unsubscribe whom gone o) x text none other stood = stays_unsubscribed gone o x text other stood
 stays_note a (note.End id gone o) x text none other stood = stays x.filters gone text other stood
 stays_note a (note.Left id) x text none other stood = stood
+stays_note a (note.Hand client name o) x text none other stood = ap (λ held. stands held text) (handed_steady a name o x).filters ∙ stood
 stays_note a (note.Register whom name o) x text none other stood = stood
 stays_note a _ x text none other stood = stood
 
@@ -236,14 +238,11 @@ spell_noted a D x (said ∷ notes) text ends there =
         or_one (is_outbox said) (is_outbox_noted (frames_of a D x said ++ spell a D (note_by a said x) notes))
         (noted_right (frames_of a D x said) (spell a D (note_by a said x) notes) (rest ends))
 
-id_start : (a : Around) (x : Client) → (start_by a x).id ≡ x.id
-id_start a x = id_if (is_author a.cause x) (record x { heard = a.clock }) x refl
-
 part_noted : (s : State) (c : Cause) (D : List Release) (x : Client) (text : List ℕ) → ends_in text (fixed_for s c x) ≡ true → list_any (is_release x.id text) D ≡ true → is_outbox_noted (part_for s c D x) ≡ true
 part_noted s c D x text ends there =
     let a = around s c in
     noted_right (if is_author a.cause x then answer (request_of a.cause) x else []) (spell a D (start_by a x) (fixed_for s c x))
-    (spell_noted a D (start_by a x) (fixed_for s c x) text ends (ap (λ id. list_any (is_release id text) D) (id_start a x) ∙ there))
+    (spell_noted a D (start_by a x) (fixed_for s c x) text ends (ap (λ id. list_any (is_release id text) D) (start_steady a x).id ∙ there))
 
 -- ---- each release
 
@@ -368,6 +367,7 @@ entry_dropped s from connect is quiet =
     let D = drops_for s c in
     let one = flat_map (moved from connect.client_id) s.clients in
     let two = flat_map (beside (around s c) (notes_for s c) connect.client_id) s.clients in
-    let all : is_outbox_noted (one ++ (two ++ (drop_notes D ++ connack from ACCEPTED ∷ []))) ≡ false =
+    let last = around_connack connect.flags.clean (flat_map (entering_part (around s c) (notes_for s c) from connect) s.clients) (connack from ACCEPTED) in
+    let all : is_outbox_noted (one ++ (two ++ (drop_notes D ++ last))) ≡ false =
     sym (ap (λ o. is_outbox_noted (entry_outs s from connect (notes_for s c) o)) is) ∙ quiet in
-    drops_noted D (false_left (drop_notes D) (connack from ACCEPTED ∷ []) (false_right two (drop_notes D ++ connack from ACCEPTED ∷ []) (false_right one (two ++ (drop_notes D ++ connack from ACCEPTED ∷ [])) all)))
+    drops_noted D (false_left (drop_notes D) (last) (false_right two (drop_notes D ++ last) (false_right one (two ++ (drop_notes D ++ last)) all)))

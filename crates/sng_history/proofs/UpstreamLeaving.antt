@@ -24,6 +24,7 @@ use Rattle.sng_history.specs.Exits.{exits_of, agains_of, forwarded, leaving, sen
 use Rattle.sng_history.specs.Views.{wires_in}
 use Rattle.sng_history.specs.ViewsStanding.{Word, Begins, Ends, words_read, words_of, words_sent, with_open, with_words, said_upstream}
 use Rattle.sng_history.proofs.Own.{same_means}
+use Rattle.sng_history.proofs.WaitingItems.{EachItem}
 use Rattle.sng_history.proofs.Wanted.{or_no, subscribes, same_wants, left_same}
 use Rattle.sng_history.proofs.UpstreamWords.{IsId, publish_quiet, ack_quiet, subscribe_read, unsubscribe_read}
 
@@ -62,8 +63,7 @@ ShortEnd (item.Acknowledge packet_id) = Unit {0}
 ShortEnd item.Ping = Unit {0}
 
 abbrev pub ShortEnds : List Item → Type 0
-ShortEnds [] = Unit {0}
-ShortEnds (one ∷ items) = ShortEnd one × ShortEnds items
+ShortEnds items = EachItem ShortEnd items
 
 -- what packets need that say something of filters
 pub record Speaks (link : Link) : Type 0 where
@@ -77,15 +77,15 @@ sent_last : (link : Link) (p : Publication) (q : Qos) → link.last ≤ 65535 �
 sent_last link p AtMostOnce small = small
 sent_last link p AtLeastOnce small = (next_is link small).small
 
-exited_last : (link : Link) (p : Publication) (o : Outcome) → link.last ≤ 65535 → (exited link p o).last ≤ 65535
+pub exited_last : (link : Link) (p : Publication) (o : Outcome) → link.last ≤ 65535 → (exited link p o).last ≤ 65535
 exited_last link p Allowed small = sent_last link p p.qos small
 exited_last link p (Denied rule) small = small
 
-subscribe_last : (link : Link) (text : List ℕ) (b : Bool) → wants link.wanted text ≡ b → link.last ≤ 65535 → (subscribe_left link text).last ≤ 65535
+pub subscribe_last : (link : Link) (text : List ℕ) (b : Bool) → wants link.wanted text ≡ b → link.last ≤ 65535 → (subscribe_left link text).last ≤ 65535
 subscribe_last link text true is small = rw is (next_is link small).small
 subscribe_last link text false is small = rw is small
 
-unsubscribe_last : (link : Link) (text : List ℕ) (b : Bool) → wants link.wanted text ≡ b → link.last ≤ 65535 → (unsubscribe_left link text).last ≤ 65535
+pub unsubscribe_last : (link : Link) (text : List ℕ) (b : Bool) → wants link.wanted text ≡ b → link.last ≤ 65535 → (unsubscribe_left link text).last ≤ 65535
 unsubscribe_last link text true is small = rw is small
 unsubscribe_last link text false is small = rw is (next_is link small).small
 
@@ -183,14 +183,14 @@ exited_wanted link p Allowed = sent_wanted link p p.qos
 exited_wanted link p (Denied rule) = refl
 
 forwarded_quiet : (p : Publication) (packet_id : Option ℕ) (o : Outcome) → words_sent (forwarded p packet_id o) ≡ []
-forwarded_quiet p packet_id Allowed = rw (publish_quiet (record { dup = false; retain = p.retain; packet_id = packet_id; name = p.name; payload = p.payload })) refl
+forwarded_quiet p packet_id Allowed = rw (publish_quiet (record { dup = false; retain = p.retain; packet_id = packet_id; name = p.name; payload = p.payload })).words refl
 forwarded_quiet p packet_id (Denied rule) = refl
 
 -- a SUBSCRIBE
 subscribe_words : (link : Link) (filter : List ℕ) (b : Bool) → wants link.wanted filter ≡ b → Speaks link
     → Says link (subscribe_left link filter) (item.Subscribe filter ∷ []) (words_sent (subscribe_leaves link filter))
 subscribe_words link filter true is speaks =
-    rw (is, subscribe_read (next_packet_id link) filter (next_is link speaks.last) (speaks.short filter is))
+    rw (is, (subscribe_read (next_packet_id link) filter (next_is link speaks.last) (speaks.short filter is)).words)
     (record { wanted = refl; said = λ text before. begins (wants link.wanted text) text before refl })
   where
     begins : (w : Bool) (text : List ℕ) (before : Bool) → wants link.wanted text ≡ w → (bytes_eq text filter || before) ≡ settled w (item.Subscribe filter ∷ []) text before
@@ -215,7 +215,7 @@ subscribe_words link filter false is speaks =
 unsubscribe_words : (link : Link) (filter : List ℕ) (b : Bool) → wants link.wanted filter ≡ b → Speaks link → length filter ≤ 65535
     → Says link (unsubscribe_left link filter) (item.Unsubscribe filter ∷ []) (words_sent (unsubscribe_leaves link filter))
 unsubscribe_words link filter false is speaks short =
-    rw (is, unsubscribe_read (next_packet_id link) filter (next_is link speaks.last) short)
+    rw (is, (unsubscribe_read (next_packet_id link) filter (next_is link speaks.last) short).words)
     (record { wanted = refl; said = λ text before. ends (wants link.wanted text) text before refl })
   where
     ends : (w : Bool) (text : List ℕ) (before : Bool) → wants link.wanted text ≡ w → (not (bytes_eq text filter) && before) ≡ settled w (item.Unsubscribe filter ∷ []) text before
@@ -288,7 +288,7 @@ leaving_says policy link (item.Unsubscribe filter ∷ items) speaks short =
 leaving_says policy link (item.Acknowledge packet_id ∷ items) speaks short =
     let more = leaving link items (exits_of policy items) in
     let later = leaving_says policy link items speaks short.1 in
-    subst (Says link (link_after link items (exits_of policy items)) (item.Acknowledge packet_id ∷ items)) (sym (ap (λ first. first ++ words_sent more) (ack_quiet packet_id)))
+    subst (Says link (link_after link items (exits_of policy items)) (item.Acknowledge packet_id ∷ items)) (sym (ap (λ first. first ++ words_sent more) (ack_quiet packet_id).words))
     (record { wanted = later.wanted; said = later.said })
 leaving_says policy link (item.Ping ∷ items) speaks short =
     let later = leaving_says policy link items speaks short.1 in record { wanted = later.wanted; said = later.said }
@@ -297,7 +297,7 @@ leaving_says policy link (item.Ping ∷ items) speaks short =
 
 again_quiet : (sent : InFlight) (o : Outcome) → words_sent (sent_again sent o) ≡ []
 again_quiet sent Allowed =
-    rw (publish_quiet (record { dup = false; retain = sent.publication.retain; packet_id = Some sent.packet_id; name = sent.publication.name; payload = sent.publication.payload })) refl
+    rw (publish_quiet (record { dup = false; retain = sent.publication.retain; packet_id = Some sent.packet_id; name = sent.publication.name; payload = sent.publication.payload })).words refl
 again_quiet sent (Denied rule) = refl
 
 pub resending_quiet : (policy : Policy) (flights : List InFlight) → words_sent (resending flights (agains_of policy flights)) ≡ []
@@ -325,7 +325,7 @@ subscribing_says link [] small short = record { wanted = refl; said = λ text be
 subscribing_says link (filter ∷ filters) small short =
     let mid = subscribe_sent link filter in
     let later = subscribing_says mid filters (next_is link small).small short.1 in
-    rw (subscribe_read (next_packet_id link) filter (next_is link small) short.0)
+    rw (subscribe_read (next_packet_id link) filter (next_is link small) short.0).words
     (record { wanted = later.wanted; said = λ text before. later.said text (bytes_eq text filter || before) ∙ or_turn (bytes_eq text filter) (is_one filters text) before })
 
 pub sent_small : (link : Link) (filters : List (List ℕ)) → link.last ≤ 65535 → (subscribes_sent link filters).last ≤ 65535

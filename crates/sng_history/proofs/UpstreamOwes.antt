@@ -28,9 +28,10 @@ use Rattle.sng_book.specs.declared.outcome.Denial.TheVariants.{BrokerRefused}
 use Rattle.sng_book.specs.declared.outcome.Outcome.{Outcome}
 use Rattle.sng_book.specs.declared.outcome.Outcome.TheVariants.{Allowed, Denied}
 use Rattle.sng_book.specs.declared.event.Event.TheVariants.{Up, Take}
-use Rattle.sng_history.specs.Causes.{Request, ToPing, ToLeave, ToRegister, ToPublish, ToSubscribe, ToUnsubscribe, Untaken, Cause, datagram_cause, publish_cause}
+use Rattle.sng_history.specs.Causes.{Request, ToPing, ToLeave, ToRegister, ToPublish, ToSubscribe, ToUnsubscribe, ToConfirm, ToAcknowledge, Untaken, Cause, datagram_cause, publish_cause}
 use Rattle.sng_history.specs.Causes.{ByConnect, ByMessage, BySource, ByPacket, ByUp, ByTake, ByReplace}
-use Rattle.sng_history.specs.Clients.{Around, Client, is_here, is_from, start_by, notes_by}
+use Rattle.sng_history.specs.Clients.{Around, Client, is_here, is_from, message_due, start_by, notes_by}
+use Rattle.sng_history.specs.Outgoing.{delivered_notes}
 use Rattle.sng_history.specs.Links.{Link, Wanted, wants, resumed, filters_wanted}
 use Rattle.sng_history.specs.Packets.{answer_of, subscribe_answer, refused_filter, acknowledgements}
 use Rattle.sng_history.specs.Standing.{holds, is_held, released, still_wanted, unsubscribes as lets_go_of}
@@ -44,8 +45,10 @@ use Rattle.sng_history.specs.Good.{Each, Good}
 use Rattle.sng_history.specs.ViewsLink.{is_outbox_noted}
 use Rattle.sng_history.specs.ViewsStanding.{words_sent, said_upstream, filter_with, is_same, is_refusal, refuses, wanted}
 use Rattle.sng_history.proofs.Own.{same_means}
-use Rattle.sng_history.proofs.Filters.{start_filters}
+use Rattle.sng_history.proofs.Steady.{start_filters}
 use Rattle.sng_history.proofs.Wanted.{or_no, or_back, subscribes, subscribes_both, wants_kept, joined_wants}
+use Rattle.sng_history.proofs.Hands.{Calm, messages_calm, notes_calm, every_delivered}
+use Rattle.sng_history.proofs.Rests.{notes_both}
 use Rattle.sng_history.proofs.Holding.{present_held, held_same, fewer_held, unmoved, wanted_held_next}
 use Rattle.sng_history.proofs.Says.{none_from, part_for, drops_for}
 use Rattle.sng_history.proofs.UpstreamLeaving.{ShortEnds, unsubscribes, settled, is_one, Speaks, leaving_says, subscribing_says}
@@ -239,6 +242,8 @@ datagram_carries s from (Ok (frame.Publish p)) good = publish_carries s from p p
 datagram_carries s from (Ok (frame.Subscribe r)) good = message_carries s from (ToSubscribe r) good
 datagram_carries s from (Ok (frame.Unsubscribe r)) good = message_carries s from (ToUnsubscribe r) good
 datagram_carries s from (Ok (frame.PingRequest client)) good = message_carries s from (ToPing client) good
+datagram_carries s from (Ok (frame.RegisterAck r)) good = message_carries s from (ToConfirm r) good
+datagram_carries s from (Ok (frame.PublishAck r)) good = message_carries s from (ToAcknowledge r) good
 datagram_carries s from (Ok (frame.Disconnect duration)) good = disconnect_carries s from duration good
 datagram_carries s from (Ok message) good = message_carries s from (Untaken message) good
 datagram_carries s from (Err broke) good = λ quiet text u was. was
@@ -293,6 +298,17 @@ refused_holds s p x text None = ap (λ held. stands held text) (start_filters (a
     whole false = refl
 refused_holds s p x text (Some gone) = refused_by (around s (ByPacket p)) x (start_by (around s (ByPacket p)) x) gone text (holds gone x) refl (start_filters (around s (ByPacket p)) x)
 
+-- a message that comes to the client leaves its filters alone
+packet_holds : (s : State) (p : Packet) (x : Client) (text : List ℕ) → holds text (client_next s (ByPacket p) x) ≡ (holds text x && not (is_same text (refused_filter s.link (answer_of p))))
+packet_holds s p x text =
+    let a = around s (ByPacket p) in
+    let due = message_due (answer_of p) x in
+    let gone = refused_filter s.link (answer_of p) in
+    let one = refused_end x gone in
+    let two = delivered_notes s.policy due x in
+    let calm = notes_calm a two (notes_by a one (start_by a x)) (every_delivered (Calm a) s.policy due x (messages_calm a x.id)) in
+    ap (holds text) (notes_both a one two (start_by a x)) ∙ (ap (λ held. stands held text) calm.filters ∙ refused_holds s p x text gone)
+
 all_less : (f : Client → Client) (xs : List Client) (text : List ℕ) (k : Bool) → ((x : Client) → holds text (f x) ≡ (holds text x && k)) → is_held (map f xs) text ≡ (is_held xs text && k)
 all_less f [] text k same = refl
 all_less f (x ∷ xs) text k same = rw (same x, all_less f xs text k same) (spread (holds text x) (is_held xs text) k)
@@ -307,7 +323,7 @@ all_less f (x ∷ xs) text k same = rw (same x, all_less f xs text k same) (spre
 pub packet_held : (s : State) (p : Packet) (text : List ℕ) → is_held (clients_next s (ByPacket p)) text ≡ (is_held s.clients text && not (is_same text (refused_filter s.link (answer_of p))))
 packet_held s p text =
     let c = ByPacket p in
-    all_less (client_next s c) (s.clients ++ newcomers_for s c) text (not (is_same text (refused_filter s.link (answer_of p)))) (λ x. refused_holds s p x text (refused_filter s.link (answer_of p)))
+    all_less (client_next s c) (s.clients ++ newcomers_for s c) text (not (is_same text (refused_filter s.link (answer_of p)))) (λ x. packet_holds s p x text)
     ∙ ap (λ b. b && not (is_same text (refused_filter s.link (answer_of p)))) (present_held s c text)
 
 -- the packet refuses as the view says

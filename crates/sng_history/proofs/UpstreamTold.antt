@@ -77,9 +77,9 @@ owed_row by h s (Broker sent) good shown quiet was up text =
     let kept : Bool = not (refuses sent (wanted h) text) && u in
     subst (Owes (next_of s e) text) (sym (unsaid (outs_of s e) text kept (broker_wires s sent)))
     (subst (λ w. Owes (next_of s e) text (not (refuses sent w text) && u)) shown.wanted (broker_owes s sent text u good (was up text)))
-owed_row by h s Up good shown quiet was up text = up_owes s text good (speaks_of s good shown.last shown.short)
+owed_row by h s Up good shown quiet was up text = up_owes s text good (speaks_of s good shown.last shown.filters)
 owed_row by h s Down good shown quiet was up text = absurd (let bad : false ≡ true = up in cc)
-owed_row by h s Take good shown quiet was up text = take_owes s text (is_upstream h text) good up (speaks_of s good shown.last shown.short) shown.ends (was up text)
+owed_row by h s Take good shown quiet was up text = take_owes s text (is_upstream h text) good up (speaks_of s good shown.last shown.filters) shown.ends (was up text)
 owed_row by h s (Replace policy) good shown quiet was up text =
     let e = Replace policy in
     let u = is_upstream h text in
@@ -154,7 +154,7 @@ up_same h row l lawful text =
     let shown = wanted_shown h l in
     let good = (stands h l).good in
     let said : is_upstream (at ∷ h) text ≡ wants s.link.wanted text =
-    ap (λ outs. said_upstream (words_sent outs) text false) (exact_by s ByUp row.outs lawful) ∙ up_said s text (speaks_of s good shown.last shown.short) in
+    ap (λ outs. said_upstream (words_sent outs) text false) (exact_by s ByUp row.outs lawful) ∙ up_said s text (speaks_of s good shown.last shown.filters) in
     said ∙ (good.wanted_held text ∙ sym (held_next h at (l, lawful) text ∙ same_held s ByUp text (λ x. unmoved s ByUp x refl)))
 
 take_said : (s : State) (text : List ℕ) (u : Bool) → s.up ≡ true → Speaks s.link → ShortEnds s.link.waiting → said_upstream (words_sent (outs_of s Take)) text u ≡ settled (wants s.link.wanted text) s.link.waiting text u
@@ -168,7 +168,7 @@ take_same h row l up was lawful text =
     let good = (stands h l).good in
     let said : is_upstream (at ∷ h) text ≡ wants s.link.wanted text =
     ap (λ outs. said_upstream (words_sent outs) text (is_upstream h text)) (exact_by s ByTake row.outs lawful)
-    ∙ (take_said s text (is_upstream h text) ((stands h l).shown.up ∙ up) (speaks_of s good shown.last shown.short) shown.ends ∙ was text) in
+    ∙ (take_said s text (is_upstream h text) ((stands h l).shown.up ∙ up) (speaks_of s good shown.last shown.filters) shown.ends ∙ was text) in
     said ∙ (good.wanted_held text ∙ sym (held_next h at (l, lawful) text ∙ same_held s ByTake text (λ x. unmoved s ByTake x refl)))
 
 pub begins_same : (h : List Row) (row : Row) → Lawful opening (row ∷ h) → row.event ≡ Up → IsSame (row ∷ h)

@@ -28,7 +28,7 @@ use Rattle.sng_book.specs.declared.event.Event.TheVariants.{Datagram, Broker, Up
 use Rattle.sng_book.specs.declared.out.Out.{Out}
 use Rattle.sng_book.specs.declared.out.Out.TheVariants.{Send, Wire, Note}
 use Rattle.sng_book.specs.declared.row.Row.{Row}
-use Rattle.sng_history.specs.Causes.{Request, ToPing, ToLeave, ToRegister, ToPublish, ToSubscribe, ToUnsubscribe, Untaken, Cause, datagram_cause, publish_cause, rule_of, cause_of}
+use Rattle.sng_history.specs.Causes.{Request, ToPing, ToLeave, ToRegister, ToPublish, ToSubscribe, ToUnsubscribe, ToConfirm, ToAcknowledge, Untaken, Cause, datagram_cause, publish_cause, rule_of, cause_of}
 use Rattle.sng_history.specs.Causes.{ByConnect, ByMessage, BySource, ByBroken, ByPacket, ByUp, ByDown, ByTake, ByReplace, ByTick}
 use Rattle.sng_history.specs.Links.{Link, Wanted, wants, resumed, filters_wanted}
 use Rattle.sng_history.specs.Packets.{answer_of, answered, subscribe_answer}
@@ -52,22 +52,23 @@ use Rattle.sng_history.proofs.SeenState.{ids_of, stands}
 use Rattle.sng_history.proofs.LawWires.{datagram_still, broker_wires, replace_wires}
 use Rattle.sng_history.proofs.StandingState.{StandingShown, standing_shown, held_shown}
 use Rattle.sng_history.proofs.UpstreamLeaving.{ShortWanted, ShortEnds, ShortTexts, Speaks, words_append, leaving_says, resending_quiet, subscribing_says, sent_small, after_small}
-use Rattle.sng_history.proofs.UpstreamShort.{ShortClient, short_clients, held_short, ends_next}
+use Rattle.sng_history.proofs.HeldFilters.{OwnFilters, filters_next}
+use Rattle.sng_history.proofs.UpstreamShort.{held_short, ends_next}
 
 -- what is wanted is what the rows show, and what goes out can be said in packets
 pub record WantedShown (h : List Row) (s : State) : Type 0 where
   pub wanted : s.link.wanted ≡ wanted h
   pub last : s.link.last ≤ 65535
-  pub short : Each ShortClient s.clients
+  pub filters : Each OwnFilters s.clients
   pub ends : ShortEnds s.link.waiting
 
 -- ---- the SUBSCRIBEs that are open
 
 -- wanted filters are short, as they stand for somebody
-wanted_short : (s : State) → Good s → Each ShortClient s.clients → ShortWanted s.link.wanted
+wanted_short : (s : State) → Good s → Each OwnFilters s.clients → ShortWanted s.link.wanted
 wanted_short s good short text is = held_short s.clients text short (sym (good.wanted_held text) ∙ is)
 
-pub speaks_of : (s : State) → Good s → s.link.last ≤ 65535 → Each ShortClient s.clients → Speaks s.link
+pub speaks_of : (s : State) → Good s → s.link.last ≤ 65535 → Each OwnFilters s.clients → Speaks s.link
 speaks_of s good last short = record { last = last; short = wanted_short s good short }
 
 or_one : (a b : Bool) → b ≡ true → (a || b) ≡ true
@@ -237,6 +238,8 @@ datagram_joins s from (Ok (frame.Publish p)) good = publish_joins s from p p.fla
 datagram_joins s from (Ok (frame.Subscribe r)) good = subscribe_joins s from r
 datagram_joins s from (Ok (frame.Unsubscribe r)) good = message_joins s from (ToUnsubscribe r) (λ text. asks_none s from (ToUnsubscribe r) text refl)
 datagram_joins s from (Ok (frame.PingRequest client)) good = message_joins s from (ToPing client) (λ text. asks_none s from (ToPing client) text refl)
+datagram_joins s from (Ok (frame.RegisterAck r)) good = message_joins s from (ToConfirm r) (λ text. asks_none s from (ToConfirm r) text refl)
+datagram_joins s from (Ok (frame.PublishAck r)) good = message_joins s from (ToAcknowledge r) (λ text. asks_none s from (ToAcknowledge r) text refl)
 datagram_joins s from (Ok (frame.Disconnect duration)) good = disconnect_joins s from duration
 datagram_joins s from (Ok message) good = untaken_joins s from message
 datagram_joins s from (Err broke) good = idle_joins s (ByBroken from (rule_of broke)) good refl
@@ -256,30 +259,31 @@ take_last : (s : State) (b : Bool) → s.up ≡ b → s.link.last ≤ 65535 → 
 take_last s true is small = rw is (after_small s.policy s.link s.link.waiting small)
 take_last s false is small = rw is small
 
-answered_last : (link : Link) (sent : Packet) → link.last ≤ 65535 → (answered link (answer_of sent)).last ≤ 65535
-answered_last link (packet.SubscribeAck answer) small = suback_last answer.codes
+-- no answer moves it
+pub answered_last : (link : Link) (sent : Packet) → (answered link (answer_of sent)).last ≡ link.last
+answered_last link (packet.SubscribeAck answer) = suback_last answer.codes
   where
-    suback_last : (codes : List SubscribeCode) → (answered link (subscribe_answer answer.packet_id codes)).last ≤ 65535
-    suback_last [] = small
-    suback_last (code.Refused ∷ codes) = small
-    suback_last (code.Granted qos ∷ codes) = small
-answered_last link (packet.Publish p) small = small
-answered_last link (packet.PublishAck packet_id) small = small
-answered_last link (packet.UnsubscribeAck packet_id) small = small
-answered_last link (packet.Connect connect) small = small
-answered_last link (packet.ConnectAck answer) small = small
-answered_last link (packet.Subscribe request) small = small
-answered_last link (packet.Unsubscribe request) small = small
-answered_last link packet.PingRequest small = small
-answered_last link packet.PingResponse small = small
-answered_last link packet.Disconnect small = small
+    suback_last : (codes : List SubscribeCode) → (answered link (subscribe_answer answer.packet_id codes)).last ≡ link.last
+    suback_last [] = refl
+    suback_last (code.Refused ∷ codes) = refl
+    suback_last (code.Granted qos ∷ codes) = refl
+answered_last link (packet.Publish p) = refl
+answered_last link (packet.PublishAck packet_id) = refl
+answered_last link (packet.UnsubscribeAck packet_id) = refl
+answered_last link (packet.Connect connect) = refl
+answered_last link (packet.ConnectAck answer) = refl
+answered_last link (packet.Subscribe request) = refl
+answered_last link (packet.Unsubscribe request) = refl
+answered_last link packet.PingRequest = refl
+answered_last link packet.PingResponse = refl
+answered_last link packet.Disconnect = refl
 
 pub last_next : (s : State) (c : Cause) → s.link.last ≤ 65535 → (next_by s c).link.last ≤ 65535
 last_next s (ByConnect from connect) small = small
 last_next s (ByMessage from request) small = small
 last_next s (BySource from p) small = small
 last_next s (ByBroken from rule) small = small
-last_next s (ByPacket p) small = answered_last s.link p small
+last_next s (ByPacket p) small = subst (λ n. n ≤ 65535) (sym (answered_last s.link p)) small
 last_next s ByUp small = sent_small (resumed s.link s.clock (agains_of s.policy s.link.in_flight)) (filters_wanted s.link) small
 last_next s ByDown small = small
 last_next s ByTake small = take_last s s.up refl small
@@ -304,11 +308,11 @@ wanted_row by h s e good shown order standing =
     record {
       wanted = event_joins s e good
           ∙ (ap (λ v. joining v texts) (same_keep (is_held (clients_next s c)) (held_in rows) w (λ text. sym (held_shown rows (next_of s e) text order standing.filters)))
-          ∙ (ap (wanted_then rows texts) (moves s e (speaks_of s good shown.last shown.short) shown.ends)
+          ∙ (ap (wanted_then rows texts) (moves s e (speaks_of s good shown.last shown.filters) shown.ends)
           ∙ ap (λ v. wanted_then rows texts (answered_by e (with_words v (words_sent outs)))) shown.wanted));
       last = last_next s c shown.last;
-      short = short_clients s c shown.short;
-      ends = ends_next s c shown.short shown.ends;
+      filters = filters_next s c shown.filters;
+      ends = ends_next s c shown.filters shown.ends;
     }
 
 abbrev AtNext : ℕ → List Row → Event → List Out → State → Type 0
@@ -322,7 +326,7 @@ wanted_after by h s e outs is good shown =
     (subst (AtNext by h e (outs_of s e)) (sym (next_same s (cause_of e) good)) (wanted_row by h s e good shown))
 
 pub wanted_shown : (h : List Row) → Lawful opening h → WantedShown h (state_of opening h)
-wanted_shown [] l = record { wanted = refl; last = omega arith; short = tt; ends = tt }
+wanted_shown [] l = record { wanted = refl; last = omega arith; filters = tt; ends = tt }
 wanted_shown (row ∷ h) l =
     let s = state_of opening h in
     wanted_after row.by h s row.event row.outs (exact_by s (cause_of row.event) row.outs l.1) (stands h l.0).good (wanted_shown h l.0)

@@ -1,4 +1,4 @@
--- What is said to the broker is read from the packets again.
+-- What is said to the broker, and the packet ids that were given, are read from the packets again.
 use Rattle.std.proofs.Common.{◌≡◌, ℕ, ◌+◌, ◌≤◌, ◌==◌, Bool, true, false, List, [], ◌∷◌, ◌++◌, length, refl, ap, sym, ◌∙◌, if◌then◌else◌, Ok, Err, arith, length-append}
 use Rattle.std.specs.Prelude.{nat_lt, take, drop}
 use Rattle.std.specs.declared.result.Result.{Result}
@@ -27,42 +27,49 @@ use Rattle.mqtt_frames.specs.declared.wire.decode.Front.{Front}
 use Rattle.mqtt_frames.proofs.Groups.{length-remaining_length}
 use Rattle.mqtt_frames.proofs.SpelledIsRead.{kind_of-first}
 use Rattle.mqtt_frames.proofs.StreamIsGrammar.{written-read}
-use Rattle.sng_history.specs.ViewsStanding.{Begins, Ends, words_in, words_read}
+use Rattle.sng_history.specs.ViewsStanding.{words_in, words_read}
+use Rattle.sng_history.specs.ViewsFlight.{id_in, id_read}
 
 -- ---- a packet that says nothing of filters
 
+-- it says nothing of filters, and has no packet id that was given with it
+pub record Silent (read : Front) : Type 0 where
+  pub words : words_read read ≡ []
+  pub ids : id_read read ≡ []
+
 abbrev Quiet : Result Packet PacketFault → Type 0
-Quiet read = (size : ℕ) → words_read (sized size read) ≡ []
+Quiet read = (size : ℕ) → Silent (sized size read)
 
 quiet_then : {A : Type 0} (r : Result A PacketFault) (f : A → Result Packet PacketFault) → ((x : A) → Quiet (f x)) → Quiet (r >>= f)
 quiet_then (Ok x) f quiet size = quiet x size
-quiet_then (Err fault) f quiet size = refl
+quiet_then (Err fault) f quiet size = record { words = refl; ids = refl }
 
 quiet_publish : (flags : PublishFlags) (bytes : List ℕ) → Quiet (body_of (kinds.Publish flags) bytes)
-quiet_publish flags bytes = quiet_then (text_at bytes) _ (λ name. quiet_then (optional_id_at flags.identified name.1) _ (λ id size. refl))
+quiet_publish flags bytes =
+    quiet_then (text_at bytes) _ (λ name. quiet_then (optional_id_at flags.identified name.1) _ (λ id size. record { words = refl; ids = refl }))
 
 quiet_ack : (bytes : List ℕ) → Quiet (body_of kinds.PublishAck bytes)
-quiet_ack bytes = quiet_then (whole_id bytes) _ (λ id size. refl)
+quiet_ack bytes = quiet_then (whole_id bytes) _ (λ id size. record { words = refl; ids = refl })
 
-quiet_if : (b : Bool) (one other : Front) → words_read one ≡ [] → words_read other ≡ [] → words_read (if b then one else other) ≡ []
+quiet_if : (b : Bool) (one other : Front) → Silent one → Silent other → Silent (if b then one else other)
 quiet_if true one other is is_not = is
 quiet_if false one other is is_not = is_not
 
-quiet_length : (first : ℕ) (kind : Kind) (at : Length) (bytes : List ℕ) → kind_of first ≡ Ok kind → ((rest : List ℕ) → Quiet (body_of kind rest)) → words_read (behind_header (with_length first at) bytes) ≡ []
-quiet_length first kind lengths.Unfinished bytes is quiet = refl
-quiet_length first kind lengths.Overlong bytes is quiet = refl
+quiet_length : (first : ℕ) (kind : Kind) (at : Length) (bytes : List ℕ) → kind_of first ≡ Ok kind → ((rest : List ℕ) → Quiet (body_of kind rest)) → Silent (behind_header (with_length first at) bytes)
+quiet_length first kind lengths.Unfinished bytes is quiet = record { words = refl; ids = refl }
+quiet_length first kind lengths.Overlong bytes is quiet = record { words = refl; ids = refl }
 quiet_length first kind (lengths.Known value size) bytes is quiet =
     rw is
-    (quiet_if (nat_lt MAX_PACKET (1 + size + value)) _ _ refl
-    (quiet_if (nat_lt (length bytes) (1 + size + value)) _ _ refl (quiet (take value (drop (1 + size) bytes)) (1 + size + value))))
+    (quiet_if (nat_lt MAX_PACKET (1 + size + value)) _ _ (record { words = refl; ids = refl })
+    (quiet_if (nat_lt (length bytes) (1 + size + value)) _ _ (record { words = refl; ids = refl }) (quiet (take value (drop (1 + size) bytes)) (1 + size + value))))
 
-pub publish_quiet : (p : Publish) → words_read (decode (written (packet.Publish p))) ≡ []
+pub publish_quiet : (p : Publish) → Silent (decode (written (packet.Publish p)))
 publish_quiet p =
     let whole = packet.Publish p in
     let rest = remaining_length (length (body whole)) ++ body whole in
     quiet_length (first_byte whole) _ (length_at 4 rest) (first_byte whole ∷ rest) (kind_of-first whole) (λ bytes. quiet_publish _ bytes)
 
-pub ack_quiet : (packet_id : ℕ) → words_read (decode (written (packet.PublishAck packet_id))) ≡ []
+pub ack_quiet : (packet_id : ℕ) → Silent (decode (written (packet.PublishAck packet_id)))
 ack_quiet packet_id =
     let whole = packet.PublishAck packet_id in
     let rest = remaining_length (length (body whole)) ++ body whole in
@@ -74,25 +81,29 @@ pub record IsId (n : ℕ) : Type 0 where
   pub some : 1 ≤ n
   pub small : n ≤ 65535
 
-read_again : (p : Packet) → IsInRange p → has_spelling p ≡ true → length (body p) ≤ 65600 → words_read (decode (written p)) ≡ words_in p
+-- what is read is what was written
+pub record Reads (p : Packet) : Type 0 where
+  pub words : words_read (decode (written p)) ≡ words_in p
+  pub ids : id_read (decode (written p)) ≡ id_in p
+
+read_again : (p : Packet) → IsInRange p → has_spelling p ≡ true → length (body p) ≤ 65600 → Reads p
 read_again p fits is short =
     let n = length (body p) in
     let count : length (written p) ≤ MAX_PACKET =
     omega (arith, length-append (remaining_length n) (body p), length-remaining_length n, short) in
-    let whole = ap decode (append-nil (written p)) in
-    ap words_read (sym whole ∙ written-read p [] fits is count)
+    let whole = ap decode (sym (append-nil (written p))) ∙ written-read p [] fits is count in
+    record { words = ap words_read whole; ids = ap id_read whole }
 
 id_fits : (n : ℕ) → 1 ≤ n → (n == 0) ≡ false
 id_fits n some = ne_eqb n 0 (λ same. omega (arith, same, some))
 
 pub subscribe_read : (n : ℕ) (text : List ℕ) → IsId n → length text ≤ 65535
-    → words_read (decode (written (packet.Subscribe (record { packet_id = n; requests = record { filter = text; qos = requested.AtLeastOnce } ∷ [] })))) ≡ Begins text n ∷ []
+    → Reads (packet.Subscribe (record { packet_id = n; requests = record { filter = text; qos = requested.AtLeastOnce } ∷ [] }))
 subscribe_read n text is short =
     let p = packet.Subscribe (record { packet_id = n; requests = record { filter = text; qos = requested.AtLeastOnce } ∷ [] }) in
     read_again p (omega (arith, is.small)) (rw (id_fits n is.some, lt-ltb (length text) 65536 (omega (arith, short))) refl) (omega (arith, short, length-append text (1 ∷ [])))
 
-pub unsubscribe_read : (n : ℕ) (text : List ℕ) → IsId n → length text ≤ 65535
-    → words_read (decode (written (packet.Unsubscribe (record { packet_id = n; filters = text ∷ [] })))) ≡ Ends text ∷ []
+pub unsubscribe_read : (n : ℕ) (text : List ℕ) → IsId n → length text ≤ 65535 → Reads (packet.Unsubscribe (record { packet_id = n; filters = text ∷ [] }))
 unsubscribe_read n text is short =
     let p = packet.Unsubscribe (record { packet_id = n; filters = text ∷ [] }) in
     read_again p (omega (arith, is.small)) (rw (id_fits n is.some, lt-ltb (length text) 65536 (omega (arith, short))) refl) (omega (arith, short, length-append text []))

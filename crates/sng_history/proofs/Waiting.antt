@@ -22,121 +22,47 @@ use Rattle.sng_outbox.proofs.LoadLemmas.{counted-front, counted-publishes}
 use Rattle.sng_book.specs.declared.address.Address.{Address}
 use Rattle.sng_book.specs.declared.decision.Decision.{Decision}
 use Rattle.sng_book.specs.declared.decision.Decision.TheVariants as note
-use Rattle.sng_book.specs.declared.decision.Who.{Who}
-use Rattle.sng_book.specs.declared.decision.Who.TheVariants as who
 use Rattle.sng_book.specs.declared.outcome.Denial.{Denial}
 use Rattle.sng_book.specs.declared.outcome.Denial.TheVariants.{UpstreamDown, Full}
 use Rattle.sng_book.specs.declared.outcome.Place.TheVariants as place
 use Rattle.sng_book.specs.declared.outcome.Outcome.{Outcome}
 use Rattle.sng_book.specs.declared.outcome.Outcome.TheVariants.{Allowed, Denied}
 use Rattle.sng_book.specs.Denials.{is_allowed}
-use Rattle.sng_history.specs.Causes.{Request, ToPing, ToLeave, ToRegister, ToPublish, ToSubscribe, ToUnsubscribe, Untaken, Cause, publish_asked}
+use Rattle.sng_history.specs.Causes.{Request, ToPing, ToLeave, ToRegister, ToPublish, ToSubscribe, ToUnsubscribe, ToConfirm, ToAcknowledge, Untaken, Cause, publish_asked}
 use Rattle.sng_history.specs.Causes.{ByConnect, ByMessage, BySource, ByBroken, ByPacket, ByUp, ByDown, ByTake, ByReplace, ByTick}
 use Rattle.sng_history.specs.Clients.{Client, is_here}
 use Rattle.sng_history.specs.Links.{Link, wants, next_packet_id, sent_by, exited, link_after, still_in_flight, resumed, filters_wanted, subscribe_sent, subscribes_sent, subscribe_left, unsubscribe_left}
 use Rattle.sng_history.specs.Packets.{Answer, Delivers, Acknowledges, Grants, Refuses, Confirms, Strange, answer_of, owed, has_place, acknowledgement, acknowledgements, answered}
-use Rattle.sng_history.specs.State.{State, item_for, item_asked, publish_item, subscribe_item, asked_by, qos_of, waiting_by, link_moved}
-use Rattle.sng_history.specs.Standing.{Release, released, places_left, unsubscribes}
+use Rattle.sng_history.specs.State.{State, item_for, subscribe_item, asked_by, qos_of, link_moved}
+use Rattle.sng_history.specs.Standing.{Release, released, places_left}
 use Rattle.sng_history.specs.Verdicts.{exit, and_then, has_flight, room_in, room, verdict, named_ask, source_ask, name_in, may_ask, publish_named, publish_by, publish_ask}
 use Rattle.sng_history.specs.Exits.{exits_of}
 use Rattle.sng_history.specs.Lawful.{fixed_for, exits_for}
 use Rattle.sng_history.specs.Steps.{asked_by_all, asked_for, clients_next}
-use Rattle.sng_history.specs.Good.{Each, Apart, OnePlace, AllPlain}
+use Rattle.sng_history.specs.Good.{Each, Apart, OnePlace, IsPlain, AllPlain}
+use Rattle.sng_history.proofs.WaitingItems.{EachItem, Added, waiting_next, let_go, each_next}
 
 -- ---- what waits is no PINGREQ
 
-plain_append : (xs ys : List Item) → AllPlain xs → AllPlain ys → AllPlain (xs ++ ys)
-plain_append [] ys one two = two
-plain_append (x ∷ xs) ys one two = (one.0, plain_append xs ys one.1 two)
+plain_each : (items : List Item) → AllPlain items → EachItem IsPlain items
+plain_each [] all = tt
+plain_each (one ∷ items) all = (all.0, plain_each items all.1)
 
-plain_publishes : (items : List Item) → AllPlain items → AllPlain (publishes items)
-plain_publishes [] all = tt
-plain_publishes (item.Publish p ∷ items) all = (all.0, plain_publishes items all.1)
-plain_publishes (item.Subscribe filter ∷ items) all = plain_publishes items all.1
-plain_publishes (item.Unsubscribe filter ∷ items) all = plain_publishes items all.1
-plain_publishes (item.Acknowledge packet_id ∷ items) all = plain_publishes items all.1
-plain_publishes (item.Ping ∷ items) all = absurd all.0
+each_plain : (items : List Item) → EachItem IsPlain items → AllPlain items
+each_plain [] all = tt
+each_plain (one ∷ items) all = (all.0, each_plain items all.1)
 
-plain_if : (b : Bool) (xs ys : List Item) → AllPlain xs → AllPlain ys → AllPlain (if b then xs else ys)
-plain_if true xs ys one two = one
-plain_if false xs ys one two = two
+plain_added : Added IsPlain
+plain_added = record { publish = λ p. tt; subscribe = λ filter. tt; acknowledge = λ packet_id. tt }
 
-plain_item : (asker : Origin) (name : List ℕ) (q : Qos) (p : Publish) (b : Bool) → AllPlain (if b then item_for asker name q p ∷ [] else [])
-plain_item asker name q p b = plain_if b (item_for asker name q p ∷ []) [] (tt, tt) tt
-
-plain_ask : (whom : Who) (name : Option (List ℕ)) (o : Outcome) (p : Publish) → AllPlain (item_asked whom name o p)
-plain_ask (who.Source source) (Some name) o p = plain_item (origin.Source source) name AtMostOnce p (is_allowed o)
-plain_ask (who.Client client) (Some name) o p = plain_item (origin.Client client) name (qos_of p.flags.qos) p (is_allowed o)
-plain_ask (who.Source source) None o p = tt
-plain_ask (who.Client client) None o p = tt
-plain_ask (who.Address address) name o p = tt
-plain_ask who.Broker name o p = tt
-
-plain_publish : (whom : Who) (name : Option (List ℕ)) (o : Outcome) (p : Option Publish) → AllPlain (publish_item whom name o p)
-plain_publish whom name o None = tt
-plain_publish whom name o (Some p) = plain_ask whom name o p
-
-plain_subscribe : (filter : Option (List ℕ)) (o : Outcome) → AllPlain (subscribe_item filter o)
-plain_subscribe (Some filter) Allowed = (tt, tt)
-plain_subscribe (Some filter) (Denied rule) = tt
-plain_subscribe None o = tt
-
-plain_said : (p : Option Publish) (said : Decision) → AllPlain (asked_by p said)
-plain_said p (note.Publish whom name o) = plain_publish whom name o p
-plain_said p (note.Subscribe whom filter o) = plain_subscribe filter o
-plain_said p _ = tt
-
-plain_all : (p : Option Publish) (notes : List Decision) → AllPlain (asked_by_all p notes)
-plain_all p [] = tt
-plain_all p (said ∷ notes) = plain_append (asked_by p said) (asked_by_all p notes) (plain_said p said) (plain_all p notes)
-
-plain_flat : (f : Client → List Item) (xs : List Client) → ((x : Client) → AllPlain (f x)) → AllPlain (flat_map f xs)
-plain_flat f [] each = tt
-plain_flat f (x ∷ xs) each = plain_append (f x) (flat_map f xs) (each x) (plain_flat f xs each)
-
-plain_owed : (place : Bool) (o : Option ℕ) → AllPlain (acknowledgement place o)
-plain_owed place None = tt
-plain_owed place (Some packet_id) = plain_if place (item.Acknowledge packet_id ∷ []) [] (tt, tt) tt
-
-plain_answer : (up : Bool) (link : Link) (a : Answer) → AllPlain (acknowledgements up link a)
-plain_answer up link (Delivers p) = plain_owed (has_place link) (owed up p)
-plain_answer up link (Acknowledges packet_id) = tt
-plain_answer up link (Grants packet_id) = tt
-plain_answer up link (Refuses packet_id) = tt
-plain_answer up link Confirms = tt
-plain_answer up link Strange = tt
-
-plain_released : (rs : List Release) → AllPlain (map (λ r. item.Unsubscribe r.filter) rs)
+plain_released : (rs : List Release) → EachItem IsPlain (map (λ r. item.Unsubscribe r.filter) rs)
 plain_released [] = tt
 plain_released (r ∷ rs) = (tt, plain_released rs)
 
-abbrev let_go : State → List Client → List Item
-let_go s after = unsubscribes s.link (released s.clients after)
-
-plain_let_go : (s : State) (after : List Client) → AllPlain (let_go s after)
-plain_let_go s after = plain_released (take (places_left s.link) (released s.clients after))
-
--- what waits after a step
-abbrev pub waiting_next : State → Cause → List Item
-waiting_next s c = waiting_by s c (asked_for s c) (clients_next s c)
-
 pub plain_next : (s : State) (c : Cause) → AllPlain s.link.waiting → AllPlain (waiting_next s c)
-plain_next s (ByConnect from connect) all =
-    let after = clients_next s (ByConnect from connect) in plain_append s.link.waiting (let_go s after) all (plain_let_go s after)
-plain_next s (ByMessage from request) all =
-    let c = ByMessage from request in
-    let adds : Client → List Item = λ x. asked_by_all (publish_asked request) (fixed_for s c x) in
-    plain_append s.link.waiting (asked_for s c ++ let_go s (clients_next s c)) all
-    (plain_append (asked_for s c) (let_go s (clients_next s c)) (plain_flat adds s.clients (λ x. plain_all (publish_asked request) (fixed_for s c x))) (plain_let_go s (clients_next s c)))
-plain_next s (BySource from p) all = plain_append s.link.waiting (asked_by (Some p) (source_ask s from.ip p)) all (plain_said (Some p) (source_ask s from.ip p))
-plain_next s (ByBroken from rule) all = all
-plain_next s (ByPacket p) all = plain_append s.link.waiting (acknowledgements s.up s.link (answer_of p)) all (plain_answer s.up s.link (answer_of p))
-plain_next s ByUp all = plain_if s.up (publishes s.link.waiting) s.link.waiting (plain_publishes s.link.waiting all) all
-plain_next s ByDown all = plain_publishes s.link.waiting all
-plain_next s ByTake all = plain_if s.up [] s.link.waiting tt all
-plain_next s (ByReplace policy) all =
-    let after = clients_next s (ByReplace policy) in plain_append s.link.waiting (let_go s after) all (plain_let_go s after)
-plain_next s (ByTick clock) all = all
+plain_next s c all =
+    each_plain (waiting_next s c)
+    (each_next IsPlain plain_added s c (plain_released (take (places_left s.link) (released s.clients (clients_next s c)))) (plain_each s.link.waiting all))
 
 -- ---- how many of them ask for an acknowledgement
 
@@ -373,6 +299,8 @@ asked_fits s from ToLeave places few = unasked_fits s from ToLeave refl few
 asked_fits s from (ToRegister r) places few = unasked_fits s from (ToRegister r) refl few
 asked_fits s from (ToSubscribe r) places few = unasked_fits s from (ToSubscribe r) refl few
 asked_fits s from (ToUnsubscribe r) places few = unasked_fits s from (ToUnsubscribe r) refl few
+asked_fits s from (ToConfirm r) places few = unasked_fits s from (ToConfirm r) refl few
+asked_fits s from (ToAcknowledge r) places few = unasked_fits s from (ToAcknowledge r) refl few
 asked_fits s from (Untaken message) places few = unasked_fits s from (Untaken message) refl few
 
 -- what the broker is told of filters that end needs no room among those

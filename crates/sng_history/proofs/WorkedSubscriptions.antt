@@ -13,20 +13,20 @@ use Rattle.sng_history.proofs.WorkedAsks.{inside, inside_is, then, came}
 ab_ascii : IsAscii (97 ∷ 47 ∷ 98 ∷ [])
 ab_ascii = search rules
 
-ab_utf8 : is_utf8 (97 ∷ 47 ∷ 98 ∷ []) ≡ true
+pub ab_utf8 : is_utf8 (97 ∷ 47 ∷ 98 ∷ []) ≡ true
 ab_utf8 = is_utf8-from_IsUtf8 (97 ∷ 47 ∷ 98 ∷ []) (IsUtf8-from_ascii (97 ∷ 47 ∷ 98 ∷ []) ab_ascii)
 
-stands : Lawful opening stands_ab
+pub stands : Lawful opening stands_ab
 stands = (
   home_one,
   came (s1_home one_listed) inside (Datagram home subscribe_ab) (subscribes_ab Allowed ∷ subscribed_ab ∷ []) inside_is
       (record { whole = rw ab_utf8 refl; exits = refl; clients = (record { fixed = rw (ab_utf8, ab_utf8) refl }, tt) }),
 )
 
-abbrev holding : State
+abbrev pub holding : State
 holding = then inside (Datagram home subscribe_ab) (subscribes_ab Allowed ∷ subscribed_ab ∷ [])
 
-holding_is : holds_ab ≡ holding
+pub holding_is : holds_ab ≡ holding
 holding_is = ap (λ s. then s (Datagram home subscribe_ab) (subscribes_ab Allowed ∷ subscribed_ab ∷ [])) inside_is
 
 pub ended : Lawful opening ended_ab

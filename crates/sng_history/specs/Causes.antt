@@ -12,6 +12,7 @@ use Rattle.sng_frames.specs.declared.qos.FrameQos.TheVariants as qos
 use Rattle.sng_frames.specs.declared.messages.connect.Connect.{Connect}
 use Rattle.sng_frames.specs.declared.messages.publish.Publish.{Publish}
 use Rattle.sng_frames.specs.declared.messages.register.Register.{Register}
+use Rattle.sng_frames.specs.declared.messages.acks.TopicAck.{TopicAck}
 use Rattle.sng_frames.specs.declared.messages.subscribe.TopicRequest.{TopicRequest}
 use Rattle.sng_frames.specs.declared.frame.SnFrame.{SnFrame}
 use Rattle.sng_frames.specs.declared.frame.SnFrame.TheVariants as frame
@@ -35,6 +36,10 @@ pub data Request : Type 0 where
   ToSubscribe : TopicRequest → Request
   -- an UNSUBSCRIBE
   ToUnsubscribe : TopicRequest → Request
+  -- a REGACK, by which a client answers an announcement
+  ToConfirm : TopicAck → Request
+  -- a PUBACK
+  ToAcknowledge : TopicAck → Request
   -- a message of a type or form that is not taken
   Untaken : SnFrame → Request
 
@@ -83,8 +88,8 @@ frame_cause from (frame.WillTopic topic) = ByMessage from (Untaken (frame.WillTo
 frame_cause from frame.WillMessageRequest = ByMessage from (Untaken frame.WillMessageRequest)
 frame_cause from (frame.WillMessage message) = ByMessage from (Untaken (frame.WillMessage message))
 frame_cause from (frame.Register register) = ByMessage from (ToRegister register)
-frame_cause from (frame.RegisterAck answer) = ByMessage from (Untaken (frame.RegisterAck answer))
-frame_cause from (frame.PublishAck answer) = ByMessage from (Untaken (frame.PublishAck answer))
+frame_cause from (frame.RegisterAck answer) = ByMessage from (ToConfirm answer)
+frame_cause from (frame.PublishAck answer) = ByMessage from (ToAcknowledge answer)
 frame_cause from (frame.PublishComplete id) = ByMessage from (Untaken (frame.PublishComplete id))
 frame_cause from (frame.PublishReceived id) = ByMessage from (Untaken (frame.PublishReceived id))
 frame_cause from (frame.PublishRelease id) = ByMessage from (Untaken (frame.PublishRelease id))
@@ -119,6 +124,8 @@ publish_asked ToLeave = None
 publish_asked (ToRegister r) = None
 publish_asked (ToSubscribe r) = None
 publish_asked (ToUnsubscribe r) = None
+publish_asked (ToConfirm r) = None
+publish_asked (ToAcknowledge r) = None
 publish_asked (Untaken message) = None
 
 -- the SUBSCRIBE
@@ -129,6 +136,8 @@ subscribe_asked ToLeave = None
 subscribe_asked (ToRegister r) = None
 subscribe_asked (ToPublish p) = None
 subscribe_asked (ToUnsubscribe r) = None
+subscribe_asked (ToConfirm r) = None
+subscribe_asked (ToAcknowledge r) = None
 subscribe_asked (Untaken message) = None
 
 -- the message that it holds is about this

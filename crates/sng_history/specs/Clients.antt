@@ -5,24 +5,33 @@ use Rattle.std.specs.Str.{bytes_eq}
 use Rattle.sng_grants.specs.declared.policy.Policy.{Policy}
 use Rattle.sng_states.specs.declared.state.ClientState.{ClientState}
 use Rattle.sng_states.specs.declared.state.ClientState.TheVariants.{Active, Disconnected}
-use Rattle.sng_states.specs.States.{has_session}
+use Rattle.sng_states.specs.States.{has_session, takes_messages}
 use Rattle.sng_ids.specs.Ids.{Ids, id_for, with_name, confirmed}
-use Rattle.sng_queue.specs.Buffers.{Buffer, nothing}
+use Rattle.sng_queue.specs.Messages.{Message}
+use Rattle.sng_queue.specs.Buffers.{Buffer, nothing, settle, announce}
 use Rattle.sng_fan.specs.declared.held.Held.{Held}
 use Rattle.sng_fan.specs.Subscriptions.{with_filter, without_filter}
 use Rattle.sng_wills.specs.Wills.{Wills}
 use Rattle.sng_wills.specs.declared.will.Stage.TheVariants.{Closed}
 use Rattle.sng_frames.specs.declared.messages.connect.Connect.{Connect}
+use Rattle.sng_frames.specs.declared.messages.acks.TopicAck.{TopicAck}
 use Rattle.sng_frames.specs.declared.messages.subscribe.TopicRequest.{TopicRequest}
 use Rattle.sng_book.specs.declared.address.Address.{Address}
 use Rattle.sng_book.specs.declared.decision.Decision.{Decision}
 use Rattle.sng_book.specs.declared.decision.Decision.TheVariants as note
+use Rattle.sng_book.specs.declared.outcome.Place.TheVariants as place
+use Rattle.sng_book.specs.declared.outcome.Denial.{Denial}
+use Rattle.sng_book.specs.declared.outcome.Denial.TheVariants.{Malformed, NotSupported, NoScope, NoSession, UnknownSource, BadName, BadFilter, IdType, UnknownId, MissingPub, MissingSub, Uncovered, ClientRefused, BrokerRefused, OutOfTurn, UpstreamDown, Full, TooLong, Gone}
 use Rattle.sng_book.specs.declared.outcome.Outcome.{Outcome}
 use Rattle.sng_book.specs.declared.outcome.Outcome.TheVariants.{Allowed, Denied}
 use Rattle.sng_book.specs.Denials.{is_allowed}
 use Rattle.sng_history.specs.Causes.{Cause, request_of, subscribe_asked}
+use Rattle.sng_history.specs.Causes.{Request, ToPing, ToLeave, ToRegister, ToPublish, ToSubscribe, ToUnsubscribe, ToConfirm, ToAcknowledge, Untaken}
 use Rattle.sng_history.specs.Causes.{ByConnect, ByMessage, BySource, ByBroken, ByPacket, ByUp, ByDown, ByTake, ByReplace, ByTick}
 use Rattle.sng_history.specs.Requests.{granted, gets_id}
+use Rattle.sng_history.specs.Packets.{Answer, Delivers, Acknowledges, Grants, Refuses, Confirms, Strange, answer_of}
+use Rattle.sng_history.specs.Arriving.{due_to, joins}
+use Rattle.sng_history.specs.Handing.{number_after, known_as, front, number_handed, buffer_handed, answers_announcement, ends_exchange}
 
 -- all that is kept of a client
 pub record Client : Type 0 where
@@ -101,9 +110,60 @@ is_message (ByTick clock) = false
 abbrev pub is_author : Cause → Client → Bool
 is_author c x = is_message c && is_from c x
 
--- the client as the notes of the row begin
+-- a REGACK or PUBACK has its turn where the client takes messages and it answers what is open
+abbrev pub is_confirming : TopicAck → Client → Bool
+is_confirming r x = takes_messages x.phase && answers_announcement x.buffer.exchange r
+
+abbrev pub is_acknowledging : TopicAck → Client → Bool
+is_acknowledging r x = takes_messages x.phase && ends_exchange x.buffer.exchange r
+
+-- nothing is open any more; what waits stays
+abbrev pub closed : Client → Client
+closed x = record x { buffer = record x.buffer { exchange = None } }
+
+-- a REGACK that accepts the id confirms it; one that does not is noted, and the note settles the front
+abbrev pub confirmed_with : TopicAck → Client → Client
+confirmed_with r x =
+    if r.code.0 == 0 then record (closed x) { ids = confirmed r.topic_id x.ids } else x
+
+-- what a message does to its client before any note (MQTT-SN 1.2, 6.5 and 6.6)
+abbrev pub answered_by : Option Request → Client → Client
+answered_by (Some (ToConfirm r)) x = if is_confirming r x then confirmed_with r x else x
+answered_by (Some (ToAcknowledge r)) x = if is_acknowledging r x then closed x else x
+answered_by (Some (ToPing client)) x = x
+answered_by (Some ToLeave) x = x
+answered_by (Some (ToRegister r)) x = x
+answered_by (Some (ToPublish p)) x = x
+answered_by (Some (ToSubscribe r)) x = x
+answered_by (Some (ToUnsubscribe r)) x = x
+answered_by (Some (Untaken message)) x = x
+answered_by None x = x
+
+-- a message of the broker that is due to the client joins what waits for it, where it may
+abbrev pub message_due : Answer → Client → Option Message
+message_due (Delivers p) x = due_to p x.phase x.filters
+message_due (Acknowledges packet_id) x = None
+message_due (Grants packet_id) x = None
+message_due (Refuses packet_id) x = None
+message_due Confirms x = None
+message_due Strange x = None
+
+abbrev pub delivered_by : Cause → Client → Client
+delivered_by (ByPacket p) x = record x { buffer = joins (message_due (answer_of p) x) x.buffer }
+delivered_by (ByConnect from connect) x = x
+delivered_by (ByMessage from request) x = x
+delivered_by (BySource from p) x = x
+delivered_by (ByBroken from rule) x = x
+delivered_by ByUp x = x
+delivered_by ByDown x = x
+delivered_by ByTake x = x
+delivered_by (ByReplace policy) x = x
+delivered_by (ByTick clock) x = x
+
+-- the client as the notes of the row begin: by a message of its own it is heard
 abbrev pub start_by : Around → Client → Client
-start_by a x = if is_author a.cause x then record x { heard = a.clock } else x
+start_by a x =
+    if is_author a.cause x then answered_by (request_of a.cause) (record x { heard = a.clock }) else delivered_by a.cause x
 
 -- no exchange and no dialogue is open any more; a clean CONNECT ends also what stands and waits for the client, and its will (MQTT-SN
 -- 1.2, 6.2 and 6.3)
@@ -167,6 +227,52 @@ unsubscribed (Some filter) Allowed x = without filter x
 unsubscribed (Some filter) (Denied rule) x = x
 unsubscribed None outcome x = x
 
+-- an id of the name is announced, for the front
+abbrev pub announced : ℕ → List ℕ → Client → Client
+announced clock name x = record x {
+  ids = with_name name x.ids;
+  number = number_after x.number;
+  buffer = announce x.buffer (id_for name x.ids) (number_after x.number) clock;
+}
+
+-- a message that was refused as it came never waited; by any other denial the front is settled
+abbrev pub is_turned_away : Denial → Bool
+is_turned_away TooLong = true
+is_turned_away (Full place.Queue) = true
+is_turned_away (Full place.Clients) = false
+is_turned_away (Full place.Ids) = false
+is_turned_away (Full place.Subscriptions) = false
+is_turned_away (Full place.InFlight) = false
+is_turned_away (Full place.Outbox) = false
+is_turned_away Malformed = false
+is_turned_away NotSupported = false
+is_turned_away (NoScope client) = false
+is_turned_away NoSession = false
+is_turned_away UnknownSource = false
+is_turned_away BadName = false
+is_turned_away BadFilter = false
+is_turned_away IdType = false
+is_turned_away (UnknownId kind id) = false
+is_turned_away (MissingPub name) = false
+is_turned_away (MissingSub name) = false
+is_turned_away (Uncovered filter name) = false
+is_turned_away (ClientRefused code) = false
+is_turned_away BrokerRefused = false
+is_turned_away OutOfTurn = false
+is_turned_away UpstreamDown = false
+is_turned_away Gone = false
+
+abbrev pub denied_hand : Denial → Client → Client
+denied_hand rule x = if is_turned_away rule then x else record x { buffer = settle x.buffer }
+
+-- the front leaves under this name
+abbrev pub handed : Around → List ℕ → Outcome → Client → Client
+handed a name Allowed x = record x {
+  number = number_handed x.number (front x.buffer);
+  buffer = buffer_handed x.buffer (front x.buffer) (known_as a.policy x.ids name) x.number a.clock;
+}
+handed a name (Denied rule) x = denied_hand rule x
+
 -- the SUBSCRIBE that the cause is, where it is one
 abbrev pub subscribe_of : Cause → Option TopicRequest
 subscribe_of c = option_and_then subscribe_asked (request_of c)
@@ -180,8 +286,8 @@ note_by a (note.Publish who name outcome) x = x
 note_by a (note.Subscribe who filter outcome) x = subscribed (subscribe_of a.cause) filter outcome x
 note_by a (note.Unsubscribe who filter outcome) x = unsubscribed filter outcome x
 note_by a (note.Will who name outcome) x = x
-note_by a (note.Announce id name) x = x
-note_by a (note.Hand id name outcome) x = x
+note_by a (note.Announce id name) x = announced a.clock name x
+note_by a (note.Hand id name outcome) x = handed a name outcome x
 note_by a (note.Retry id name outcome) x = x
 note_by a (note.Forward who name outcome) x = x
 note_by a (note.Again who name outcome) x = x

@@ -1,9 +1,11 @@
--- The clients as a CONNECT is accepted or denied, said of each by its id and where it is, with no notes.
+-- The clients as a CONNECT is accepted or denied, said of each by its id and where it is, with no notes; and how what waits for the one
+-- that connects is handed over then.
 use Rattle.std.specs.Prelude.{ℕ, List, [], ◌∷◌, ◌++◌, map, if◌then◌else◌}
 use Rattle.std.specs.Str.{bytes_eq}
 use Rattle.sng_frames.specs.declared.messages.connect.Connect.{Connect}
 use Rattle.sng_book.specs.declared.address.Address.{Address}
-use Rattle.sng_history.specs.Clients.{Client, blank, is_here, let_in, gone}
+use Rattle.sng_history.specs.Clients.{Client, Around, blank, is_here, let_in, gone, notes_by}
+use Rattle.sng_history.specs.Outgoing.{handed_over}
 use Rattle.sng_history.specs.State.{is_known}
 
 -- a client is heard
@@ -27,6 +29,18 @@ entering_first clock from connect xs =
 -- all clients then
 abbrev pub entered : ℕ → Address → Connect → List Client → List Client
 entered clock from connect xs = map (entering clock from connect) xs ++ entering_first clock from connect xs
+
+-- what may leave of what waits for the client leaves
+abbrev pub served : Around → Client → Client
+served a x = notes_by a (handed_over a.policy x) x
+
+-- just the one that connects is served; a clean session has nothing that waits
+abbrev pub serving : Around → List ℕ → Client → Client
+serving a id x = if bytes_eq id x.id then served a x else x
+
+-- all clients, once the CONNECT that was accepted is answered
+abbrev pub welcomed : Around → Address → Connect → List Client → List Client
+welcomed a from connect xs = map (serving a connect.client_id) (entered a.clock from connect xs)
 
 -- one of the clients, as a CONNECT is denied: one that is at the address is heard
 abbrev pub hearing : ℕ → Address → Client → Client

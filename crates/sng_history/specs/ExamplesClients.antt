@@ -1,11 +1,13 @@
 -- Worked rows of clients: histories that are lawful, and rows that are not.
 use Rattle.std.specs.Prelude.{ℕ, true, false, codes, List, [], ◌∷◌, Some, None}
 use Rattle.sng_grants.specs.declared.policy.Policy.{Policy}
+use Rattle.mqtt_frames.specs.declared.packet.Packet.{Packet}
 use Rattle.mqtt_frames.specs.declared.packet.Packet.TheVariants.{PublishAck}
+use Rattle.mqtt_frames.specs.declared.packet.Packet.TheVariants as packet
 use Rattle.sng_book.specs.declared.address.Address.{Address}
-use Rattle.sng_book.specs.declared.decision.Decision.TheVariants.{Connect, Left, Frame, Register, Publish, Subscribe, Forward, Again, End}
+use Rattle.sng_book.specs.declared.decision.Decision.TheVariants.{Connect, Left, Frame, Register, Publish, Subscribe, Announce, Hand, Forward, Again, End}
 use Rattle.sng_book.specs.declared.decision.Who.TheVariants as who
-use Rattle.sng_book.specs.declared.outcome.Denial.TheVariants.{NoScope, NoSession, UnknownId, MissingPub, Uncovered}
+use Rattle.sng_book.specs.declared.outcome.Denial.TheVariants.{NoScope, NoSession, UnknownId, MissingPub, MissingSub, Uncovered}
 use Rattle.sng_book.specs.declared.outcome.IdKind.TheVariants.{Normal}
 use Rattle.sng_book.specs.declared.outcome.Outcome.{Outcome}
 use Rattle.sng_book.specs.declared.outcome.Outcome.TheVariants.{Allowed, Denied}
@@ -227,3 +229,76 @@ ended_ab = row (Replace both_listed) (ends_ab ∷ []) ∷ stands_ab
 -- the state in which the filter stands
 abbrev pub holds_ab : State
 holds_ab = state_of opening stands_ab
+
+-- ---- messages of the broker
+
+-- the filter `a/#`
+abbrev pub under_a : List ℕ
+under_a = codes "a/#"
+
+-- SUBSCRIBE by `a/#` at QoS 1 with the MsgId 8, and SUBACK: QoS 1, no id
+abbrev pub subscribe_under_a : List ℕ
+subscribe_under_a = 0x08 ∷ 0x12 ∷ 0x20 ∷ 0x00 ∷ 0x08 ∷ 0x61 ∷ 0x2f ∷ 0x23 ∷ []
+
+abbrev pub subscribed_under_a : Out
+subscribed_under_a = Send home (0x08 ∷ 0x13 ∷ 0x20 ∷ 0x00 ∷ 0x00 ∷ 0x00 ∷ 0x08 ∷ 0x00 ∷ [])
+
+abbrev pub subscribes_under_a : Outcome → Out
+subscribes_under_a outcome = Note (Subscribe (who.Client s1) (Some under_a) outcome)
+
+-- the broker's PUBLISH of `a/b` at QoS 0 with the payload `31`
+abbrev pub message_ab : Packet
+message_ab = packet.Publish (record { name = ab; payload = 0x31 ∷ []; packet_id = None; retain = false; dup = false })
+
+-- REGISTER that announces the id 1 of `a/b` with the MsgId 1, and the REGACK that accepts it
+abbrev pub announces_ab : Out
+announces_ab = Note (Announce s1 ab)
+
+abbrev pub announcement_ab : Out
+announcement_ab = Send home (0x09 ∷ 0x0a ∷ 0x00 ∷ 0x01 ∷ 0x00 ∷ 0x01 ∷ 0x61 ∷ 0x2f ∷ 0x62 ∷ [])
+
+abbrev pub accept_ab : List ℕ
+accept_ab = 0x07 ∷ 0x0b ∷ 0x00 ∷ 0x01 ∷ 0x00 ∷ 0x01 ∷ 0x00 ∷ []
+
+-- it is handed over: PUBLISH at QoS 0 under the id 1
+abbrev pub hands_ab : Outcome → Out
+hands_ab outcome = Note (Hand s1 ab outcome)
+
+abbrev pub handed_ab : Out
+handed_ab = Send home (0x08 ∷ 0x0c ∷ 0x00 ∷ 0x00 ∷ 0x01 ∷ 0x00 ∷ 0x00 ∷ 0x31 ∷ [])
+
+-- `s1` subscribes by `a/#`, which tells no id
+abbrev pub stands_under_a : List Row
+stands_under_a = row (Datagram home subscribe_under_a) (subscribes_under_a Allowed ∷ subscribed_under_a ∷ []) ∷ s1_home one_listed
+
+-- a message under a name that it does not know is announced,
+abbrev pub announced_ab : List Row
+announced_ab = row (Broker message_ab) (announces_ab ∷ announcement_ab ∷ []) ∷ stands_under_a
+
+-- and handed over once the client accepts the id
+abbrev pub handed_over_ab : List Row
+handed_over_ab = row (Datagram home accept_ab) (hands_ab Allowed ∷ handed_ab ∷ []) ∷ announced_ab
+
+-- a replacement that grants nothing comes before the REGACK: the filter ends, and the message is denied as its turn comes
+abbrev pub ends_under_a : Out
+ends_under_a = Note (End s1 under_a (Denied (Uncovered under_a (codes "a"))))
+
+abbrev pub ungranted_ab : List Row
+ungranted_ab = row (Replace both_listed) (ends_under_a ∷ []) ∷ announced_ab
+
+abbrev pub denied_ab : List Row
+denied_ab = row (Datagram home accept_ab) (hands_ab (Denied (MissingSub ab)) ∷ []) ∷ ungranted_ab
+
+-- two filters match the name, which SUBACK told; the message is handed over once
+abbrev pub stands_twice : List Row
+stands_twice = row (Datagram home subscribe_under_a) (subscribes_under_a Allowed ∷ subscribed_under_a ∷ []) ∷ stands_ab
+
+abbrev pub once_ab : List Row
+once_ab = row (Broker message_ab) (hands_ab Allowed ∷ handed_ab ∷ []) ∷ stands_twice
+
+-- the state in which an id is announced and nothing is granted any more, and the one in which both filters stand
+abbrev pub announced_ungranted : State
+announced_ungranted = state_of opening ungranted_ab
+
+abbrev pub holds_both : State
+holds_both = state_of opening stands_twice

@@ -1,11 +1,11 @@
 -- What holds of every state between rows that the gateway comes to: its clients are apart, in their ids and where they are, each is at
 -- rest, and there are no more than may be. A history may begin at any state, so no law of rows asks for it.
-use Rattle.std.specs.Prelude.{ℕ, ◌≡◌, ◌≤◌, false, not, ◌&&◌, List, [], ◌∷◌, length}
+use Rattle.std.specs.Prelude.{ℕ, ◌≡◌, ◌≤◌, false, not, ◌&&◌, List, [], ◌∷◌, length, if◌then◌else◌}
 use Rattle.std.specs.Str.{bytes_eq}
 use Rattle.sng_grants.specs.declared.policy.Policy.{Policy}
 use Rattle.sng_fan.specs.Subscriptions.{IsOneClients}
 use Rattle.sng_fan.specs.declared.held.Held.{Held}
-use Rattle.sng_states.specs.States.{in_dialogue}
+use Rattle.sng_states.specs.States.{in_dialogue, has_session}
 use Rattle.sng_outbox.specs.Sending.{load}
 use Rattle.sng_outbox.specs.declared.limits.TheConstants.{MAX_IN_FLIGHT}
 use Rattle.sng_outbox.specs.declared.item.Item.{Item}
@@ -16,6 +16,7 @@ use Rattle.sng_book.specs.declared.address.Address.{Address}
 use Rattle.sng_book.specs.declared.outcome.Outcome.TheVariants.{Allowed}
 use Rattle.sng_history.specs.declared.limits.TheConstants.{MAX_CLIENTS}
 use Rattle.sng_history.specs.Clients.{Client, is_here}
+use Rattle.sng_history.specs.Outgoing.{is_free}
 use Rattle.sng_history.specs.Links.{Wanted, wants}
 use Rattle.sng_history.specs.Standing.{is_held}
 use Rattle.sng_history.specs.State.{State}
@@ -44,9 +45,11 @@ abbrev pub OnePlace : List Client → Type 0
 OnePlace [] = Unit {0}
 OnePlace (x ∷ xs) = Each (Apart x) xs × OnePlace xs
 
--- nothing waits for the client, as nothing is due to clients yet, and a dialogue is open exactly in its phase
+-- all that may be handed over was: what waits for a client that takes messages waits behind an open exchange; nothing is kept for one that
+-- has no session; and a dialogue is open exactly in its phase
 pub record AtRest (x : Client) : Type 0 where
-  pub quiet : x.buffer ≡ nothing
+  pub handed : (if is_free x then x.buffer.waiting else []) ≡ []
+  pub away : (if has_session x.phase then nothing else x.buffer) ≡ nothing
   pub dialogue : in_dialogue x.phase ≡ not (is_closed x.wills.stage)
 
 -- what waits is no PINGREQ, as nothing asks for one yet

@@ -1,8 +1,12 @@
 -- Which histories are lawful.
-use Rattle.std.specs.Prelude.{ℕ, ◌≡◌, List, [], ◌∷◌, ◌++◌, if◌then◌else◌, Option, Some, None}
+use Rattle.std.specs.Prelude.{ℕ, ◌≡◌, List, [], ◌∷◌, ◌++◌, ◌==◌, if◌then◌else◌, Option, Some, None}
 use Rattle.std.specs.Str.{bytes_eq}
 use Rattle.sng_grants.specs.declared.policy.Policy.{Policy}
 use Rattle.sng_fan.specs.declared.held.Held.{Held}
+use Rattle.sng_queue.specs.Buffers.{settle}
+use Rattle.sng_frames.specs.declared.messages.acks.TopicAck.{TopicAck}
+use Rattle.sng_frames.specs.declared.messages.connect.Connect.{Connect}
+use Rattle.sng_book.specs.declared.address.Address.{Address}
 use Rattle.sng_book.specs.Denials.{is_allowed}
 use Rattle.sng_book.specs.declared.decision.Decision.{Decision}
 use Rattle.sng_book.specs.declared.decision.Decision.TheVariants as note
@@ -13,9 +17,10 @@ use Rattle.sng_book.specs.declared.outcome.Outcome.TheVariants.{Allowed, Denied}
 use Rattle.sng_book.specs.declared.event.Event.{Event}
 use Rattle.sng_book.specs.declared.out.Out.{Out}
 use Rattle.sng_book.specs.declared.row.Row.{Row}
-use Rattle.sng_history.specs.Causes.{Request, ToPing, ToLeave, ToRegister, ToPublish, ToSubscribe, ToUnsubscribe, Untaken, Cause, cause_of}
+use Rattle.sng_history.specs.Causes.{Request, ToPing, ToLeave, ToRegister, ToPublish, ToSubscribe, ToUnsubscribe, ToConfirm, ToAcknowledge, Untaken}
+use Rattle.sng_history.specs.Causes.{Cause, cause_of}
 use Rattle.sng_history.specs.Causes.{ByConnect, ByMessage, BySource, ByBroken, ByPacket, ByUp, ByDown, ByTake, ByReplace, ByTick}
-use Rattle.sng_history.specs.Clients.{Client, is_here}
+use Rattle.sng_history.specs.Clients.{Client, is_here, let_in, closed, confirmed_with, is_confirming, is_acknowledging, message_due}
 use Rattle.sng_history.specs.Notes.{notes_of, exits_in}
 use Rattle.sng_history.specs.State.{State, state_of, Leads, present_in}
 use Rattle.sng_history.specs.Packets.{answer_of, refused_filter}
@@ -23,6 +28,7 @@ use Rattle.sng_history.specs.Standing.{holds}
 use Rattle.sng_history.specs.Verdicts.{entry, ping_verdict, register_ask, publish_ask, subscribe_ask, unsubscribe_ask, coverage}
 use Rattle.sng_history.specs.Answers.{denied_note}
 use Rattle.sng_history.specs.Exits.{exits_of, agains_of}
+use Rattle.sng_history.specs.Outgoing.{all_gone, refusals, out_of_turn, handed_over, delivered_notes}
 use Rattle.sng_history.specs.Whole.{whole_by, notes_in}
 
 -- the outcomes with which publishes have to leave: at a take while up each that waits, and as a connection begins each that is in flight,
@@ -44,15 +50,24 @@ abbrev pub denial_of : List ℕ → Outcome → List Decision
 denial_of id Allowed = []
 denial_of id (Denied rule) = note.Frame (who.Client id) (Denied rule) ∷ []
 
+-- a REGACK confirms the id that was announced, and the front is handed over; one with another code is how the front comes out
+abbrev pub confirmations : Policy → TopicAck → Client → List Decision
+confirmations policy r x =
+    if r.code.0 == 0
+    then handed_over policy (confirmed_with r x)
+    else refusals x.id r.code.0 x.buffer.waiting ++ handed_over policy (record x { buffer = settle x.buffer })
+
 -- the notes that a message fixes of the client from which it came: its ask with the verdict, that it leaves, and any other message that is
 -- denied
 abbrev pub fixed_to : State → Request → Client → List Decision
 fixed_to s (ToPing client) x = denial_of x.id (ping_verdict client x)
-fixed_to s ToLeave x = note.Left x.id ∷ []
+fixed_to s ToLeave x = note.Left x.id ∷ all_gone x.id x.buffer.waiting
 fixed_to s (ToRegister r) x = register_ask s.policy x r.name ∷ []
 fixed_to s (ToPublish p) x = publish_ask s x p ∷ []
 fixed_to s (ToSubscribe r) x = subscribe_ask s x r ∷ []
 fixed_to s (ToUnsubscribe r) x = unsubscribe_ask s.policy x r ∷ []
+fixed_to s (ToConfirm r) x = if is_confirming r x then confirmations s.policy r x else out_of_turn x.id
+fixed_to s (ToAcknowledge r) x = if is_acknowledging r x then handed_over s.policy (closed x) else out_of_turn x.id
 fixed_to s (Untaken message) x = denied_note message (who.Client x.id) NotSupported ∷ []
 
 -- the end of a subscription that is not allowed any more
@@ -70,17 +85,23 @@ abbrev pub refused_end : Client → Option (List ℕ) → List Decision
 refused_end x None = []
 refused_end x (Some filter) = if holds filter x then note.End x.id filter (Denied BrokerRefused) ∷ [] else []
 
+-- what a CONNECT that is accepted makes of what waits for the client: a clean one drops it, and after any other it is handed over
+abbrev pub entering_notes : State → Address → Connect → Client → Outcome → List Decision
+entering_notes s from connect x Allowed =
+    if connect.flags.clean then all_gone x.id x.buffer.waiting else handed_over s.policy (let_in s.clock from connect x)
+entering_notes s from connect x (Denied rule) = []
+
 -- the notes that the cause fixes of a client, as it is before the row: its CONNECT with the verdict, that another client puts it out, those
--- of its message, and the ends of its subscriptions
+-- of its message, the ends of its subscriptions, and how what waits for it comes out
 abbrev pub fixed_for : State → Cause → Client → List Decision
 fixed_for s (ByConnect from connect) x =
     if bytes_eq connect.client_id x.id
-    then note.Connect x.id (entry s connect) ∷ []
-    else (if is_allowed (entry s connect) then (if is_here x from then note.Left x.id ∷ [] else []) else [])
+    then note.Connect x.id (entry s connect) ∷ entering_notes s from connect x (entry s connect)
+    else (if is_allowed (entry s connect) then (if is_here x from then note.Left x.id ∷ all_gone x.id x.buffer.waiting else []) else [])
 fixed_for s (ByMessage from request) x = if is_here x from then fixed_to s request x else []
 fixed_for s (BySource from p) x = []
 fixed_for s (ByBroken from rule) x = if is_here x from then note.Frame (who.Client x.id) (Denied rule) ∷ [] else []
-fixed_for s (ByPacket p) x = refused_end x (refused_filter s.link (answer_of p))
+fixed_for s (ByPacket p) x = refused_end x (refused_filter s.link (answer_of p)) ++ delivered_notes s.policy (message_due (answer_of p) x) x
 fixed_for s ByUp x = []
 fixed_for s ByDown x = []
 fixed_for s ByTake x = []

@@ -1,5 +1,5 @@
 -- How each datagram is judged, noted and answered in a lawful history, in the views' words.
-use Rattle.std.specs.Prelude.{ℕ, ◌/◌, ◌%◌, ◌≡◌, ◌==◌, nat_lt, Bool, true, false, ◌&&◌, ◌||◌, not, List, [], ◌∷◌, ◌++◌, map, filter, length, if◌then◌else◌, Option, Some, None, is_some, Ok, Err}
+use Rattle.std.specs.Prelude.{ℕ, ◌/◌, ◌%◌, ◌≡◌, ◌==◌, nat_lt, Bool, true, false, ◌&&◌, ◌||◌, not, List, [], ◌∷◌, ◌++◌, filter, length, if◌then◌else◌, Option, Some, None, is_some, Ok, Err}
 use Rattle.std.specs.List.{flat_map}
 use Rattle.std.specs.Str.{bytes_eq}
 use Rattle.sng_text.specs.Texts.{is_name}
@@ -41,6 +41,7 @@ use Rattle.sng_history.specs.ViewsClients.{phase_of, address_of, accepted, is_am
 use Rattle.sng_history.specs.ViewsLink.{waiting}
 use Rattle.sng_history.specs.LawsRules.{Rule, judged, may_publish}
 use Rattle.sng_history.specs.LawsEnds.{clean_answer}
+use Rattle.sng_history.specs.LawsHanding.{gone_answer, around_connack}
 
 -- the row is of a datagram from the address, which holds the message
 pub record Brought (row : Row) (from : Address) (message : SnFrame) : Type 0 where
@@ -87,19 +88,21 @@ bye_at (Some phase) (Some place) from = if has_session phase && not (same_addres
 abbrev pub old_place : List Row → Address → List ℕ → List Out
 old_place h from id = if is_among id (accepted h) then bye_at (phase_of id h) (address_of id h) from else []
 
--- another client at the address leaves
+-- another client at the address leaves, and what waits for it is gone
 abbrev pub others_leave : List Row → Address → List ℕ → List Out
-others_leave h from id = map (λ other. Note (note.Left other)) (filter (λ other. not (bytes_eq id other)) (those_at from h))
+others_leave h from id =
+    flat_map (λ other. Note (note.Left other) ∷ gone_answer h other) (filter (λ other. not (bytes_eq id other)) (those_at from h))
 
 -- the row begins with the note of the CONNECT; one that is denied is answered by its code. As one is accepted, the client is dismissed
 -- where it was before, another client at the address leaves, of the subscriptions that a clean one ends it is noted where the broker is not
--- told, and CONNACK comes last
+-- told, and CONNACK comes last, but for what waits for the client: a clean one drops it before, and else it is handed over behind
 abbrev pub entry_answer : List Row → Address → Connect → Outcome → List Out
 entry_answer h from c (Denied rule) = Note (note.Connect c.client_id (Denied rule)) ∷ connack_to from (code_for rule) ∷ []
 entry_answer h from c Allowed =
     Note (note.Connect c.client_id Allowed)
     ∷ (old_place h from c.client_id
-    ++ (others_leave h from c.client_id ++ (clean_answer h c ++ connack_to from ACCEPTED ∷ [])))
+    ++ (others_leave h from c.client_id
+    ++ (clean_answer h c ++ around_connack h from c.client_id c.flags.clean (connack_to from ACCEPTED))))
 
 abbrev pub connect_answer : List Row → Address → Connect → List Out
 connect_answer h from c = entry_answer h from c (judged (connect_rules h c))
@@ -191,9 +194,9 @@ ping_answer h from named id =
     then Note (note.Frame (who.Client id) (Denied NoSession)) ∷ bye from ∷ []
     else (if is_active (phase_of id h) then Send from (written frame.PingResponse) ∷ [] else Note (note.Frame (who.Client id) (Denied OutOfTurn)) ∷ [])
 
--- DISCONNECT without Duration (5.4.21): the client leaves, and is answered by DISCONNECT
-abbrev pub leave_answer : Address → List ℕ → List Out
-leave_answer from id = Note (note.Left id) ∷ bye from ∷ []
+-- DISCONNECT without Duration (5.4.21): the client leaves, is answered by DISCONNECT, and what waits for it is gone
+abbrev pub leave_answer : List Row → Address → List ℕ → List Out
+leave_answer h from id = Note (note.Left id) ∷ bye from ∷ gone_answer h id
 
 -- a datagram that is no message: one of a type that is not supported, or malformed
 abbrev pub broken_rule : FrameFault → Denial

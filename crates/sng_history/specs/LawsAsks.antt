@@ -1,6 +1,6 @@
 -- How the asks of a client are judged, noted and answered in a lawful history, and the packets of the broker, in the views' words.
 use Rattle.std.specs.Prelude.{ℕ, zero, suc, ◌+◌, Bool, true, false, ◌&&◌, not, nat_lt, List, [], ◌∷◌, ◌++◌, filter, length, slice_get, if◌then◌else◌, Option, Some, None, is_some}
-use Rattle.std.specs.Str.{bytes_eq}
+use Rattle.std.specs.List.{flat_map}
 use Rattle.sng_text.specs.Texts.{is_name}
 use Rattle.sng_grants.specs.Sources.{scope_of}
 use Rattle.sng_grants.specs.declared.policy.Policy.{Policy}
@@ -31,7 +31,9 @@ use Rattle.sng_book.specs.declared.out.Out.{Out}
 use Rattle.sng_book.specs.declared.out.Out.TheVariants.{Send, Note}
 use Rattle.sng_book.specs.declared.row.Row.{Row}
 use Rattle.sng_history.specs.Views.{policy_in_force, is_up}
-use Rattle.sng_history.specs.ViewsClients.{phase_of, is_among, names_told}
+use Rattle.sng_history.specs.LawsHanding.{arrivals}
+use Rattle.sng_history.specs.ViewsHanding.{meant_for}
+use Rattle.sng_history.specs.ViewsClients.{phase_of, address_of, accepted, is_among, names_told, id_told}
 use Rattle.sng_history.specs.ViewsLink.{waiting, publications}
 use Rattle.sng_history.specs.ViewsFlight.{in_flight}
 use Rattle.sng_history.specs.ViewsStanding.{is_refusal, filter_with, wanted}
@@ -56,11 +58,6 @@ register_rules h id name =
     ∷ (not (may_publish (scope_of policy.clients id) name), MissingPub name)
     ∷ (not (is_among name told) && not (nat_lt (length told) 128), Full place.Ids)
     ∷ []
-
--- the id of a name: its place among those told, counting from 1, or the next
-abbrev pub id_told : List ℕ → List (List ℕ) → ℕ
-id_told name [] = 1
-id_told name (one ∷ names) = if bytes_eq name one then 1 else id_told name names + 1
 
 -- REGACK with an id, the MsgId that came, and a code
 abbrev pub regack_to : Address → ℕ → Register → ReturnCode → Out
@@ -170,10 +167,12 @@ publish_answer h from p id =
 
 -- ---- packets of the broker (MQTT 3.1.1, 3.3)
 
--- a message under a text that is no topic name is noted; and where an acknowledgement is owed, for which there is no place, that, too
+-- a message comes to each client that it concerns, in order; one under a text that is no topic name is noted; and where an acknowledgement
+-- is owed, for which there is no place, that, too
 abbrev pub message_answer : List Row → mqtt.Publish → List Out
 message_answer h p =
-    (if is_name p.name then [] else Note (note.Frame who.Broker (Denied BadName)) ∷ [])
+    flat_map (λ id. arrivals h id (address_of id h) (meant_for id p h)) (accepted h)
+    ++ (if is_name p.name then [] else Note (note.Frame who.Broker (Denied BadName)) ∷ [])
     ++ (if is_some p.packet_id && (is_up h && not (nat_lt (length (waiting h)) 512)) then Note note.Outbox ∷ [] else [])
 
 -- a SUBACK whose first code refuses ends the filter of the SUBSCRIBE that it answers, for each client for whom it stands

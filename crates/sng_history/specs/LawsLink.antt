@@ -126,3 +126,29 @@ is_upstream (Tick clock) = false
 abbrev pub EachUpstream : List Row → Type 0
 EachUpstream [] = Unit {0}
 EachUpstream (row ∷ earlier) = EachUpstream earlier × (is_upstream row.event ≡ true → sends_in row.outs ≡ [])
+
+-- the note is of a publish that leaves, or is sent again
+abbrev pub is_exit : Decision → Bool
+is_exit (note.Forward who name outcome) = true
+is_exit (note.Again who name outcome) = true
+is_exit (note.Connect client outcome) = false
+is_exit (note.Register who name outcome) = false
+is_exit (note.Publish who name outcome) = false
+is_exit (note.Subscribe who filter outcome) = false
+is_exit (note.Unsubscribe who filter outcome) = false
+is_exit (note.Will who name outcome) = false
+is_exit (note.Announce client name) = false
+is_exit (note.Hand client name outcome) = false
+is_exit (note.Retry client name outcome) = false
+is_exit (note.End client filter outcome) = false
+is_exit (note.Lost client) = false
+is_exit (note.Left client) = false
+is_exit note.Outbox = false
+is_exit (note.Frame who outcome) = false
+
+-- there are only such notes, and packets to the broker
+abbrev pub OnlyExits : List Out → Type 0
+OnlyExits [] = Unit {0}
+OnlyExits (Note said ∷ outs) = (is_exit said ≡ true) × OnlyExits outs
+OnlyExits (Wire sent ∷ outs) = OnlyExits outs
+OnlyExits (Send to datagram ∷ outs) = ⊥

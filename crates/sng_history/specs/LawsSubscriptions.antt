@@ -33,7 +33,7 @@ use Rattle.sng_book.specs.declared.out.Out.{Out}
 use Rattle.sng_book.specs.declared.out.Out.TheVariants.{Send, Note}
 use Rattle.sng_book.specs.declared.row.Row.{Row}
 use Rattle.sng_history.specs.Views.{policy_in_force, is_up}
-use Rattle.sng_history.specs.ViewsClients.{phase_of, is_at, accepted, is_among, tells_id, names_told}
+use Rattle.sng_history.specs.ViewsClients.{phase_of, is_at, accepted, is_among, tells_id, names_told, id_told}
 use Rattle.sng_history.specs.ViewsLink.{waiting}
 use Rattle.sng_history.specs.ViewsFlight.{number_in}
 use Rattle.sng_history.specs.ViewsStanding.{standing_of}
@@ -41,7 +41,7 @@ use Rattle.sng_history.specs.LawsRules.{Rule, judged}
 use Rattle.sng_history.specs.LawsEnds.{Stays, texts_of, untold_note}
 use Rattle.sng_history.specs.LawsAnswers.{bye, code_for, is_active, or_empty}
 use Rattle.sng_history.specs.LawsUnsupported.{unset}
-use Rattle.sng_history.specs.LawsAsks.{may_ask, id_told, is_reserved}
+use Rattle.sng_history.specs.LawsAsks.{may_ask, is_reserved}
 
 -- ---- what a SUBSCRIBE or an UNSUBSCRIBE names (MQTT-SN 1.2, 5.4.15 and 5.4.17)
 

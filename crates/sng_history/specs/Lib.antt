@@ -1,5 +1,7 @@
 pub mod Causes
 pub mod Requests
+pub mod Arriving
+pub mod Handing
 pub mod Notes
 pub mod Clients
 pub mod Links
@@ -7,6 +9,7 @@ pub mod Standing
 pub mod Packets
 pub mod State
 pub mod Verdicts
+pub mod Outgoing
 pub mod Answers
 pub mod Exits
 pub mod Whole
@@ -18,6 +21,7 @@ pub mod Views
 pub mod ViewsMessages
 pub mod ViewsClients
 pub mod ViewsStanding
+pub mod ViewsHanding
 pub mod ViewsLink
 pub mod ViewsFlight
 pub mod LawsState
@@ -25,6 +29,8 @@ pub mod LawsRules
 pub mod LawsLink
 pub mod LawsFlight
 pub mod LawsEnds
+pub mod LawsHanding
+pub mod LawsTurns
 pub mod LawsAnswers
 pub mod LawsUnsupported
 pub mod LawsAsks

@@ -103,7 +103,7 @@ refused_filter link (Acknowledges packet_id) = None
 refused_filter link Confirms = None
 refused_filter link Strange = None
 
--- what a packet lets out beside the notes of clients. A message goes to no client yet
+-- what a packet lets out beside the notes of clients, and behind them
 abbrev pub answer_outs : Bool → Link → Answer → List Out
 answer_outs up link (Delivers p) = misnamed p.name ++ dropped (has_place link) (owed up p)
 answer_outs up link (Acknowledges packet_id) = []

@@ -1,6 +1,6 @@
 -- What the rows show of each client: its state, where it is, when it was heard last, who was accepted so far, and the names that a client
 -- was told topic ids of.
-use Rattle.std.specs.Prelude.{ℕ, ◌==◌, Bool, true, false, ◌&&◌, ◌||◌, not, List, [], ◌∷◌, ◌++◌, filter, length, if◌then◌else◌, Option, Some, None}
+use Rattle.std.specs.Prelude.{ℕ, ◌+◌, ◌==◌, Bool, true, false, ◌&&◌, ◌||◌, not, List, [], ◌∷◌, ◌++◌, filter, length, if◌then◌else◌, Option, Some, None}
 use Rattle.std.specs.Str.{bytes_eq}
 use Rattle.sng_text.specs.Texts.{is_name}
 use Rattle.sng_states.specs.declared.state.ClientState.{ClientState}
@@ -23,7 +23,7 @@ use Rattle.sng_book.specs.declared.out.Out.TheVariants.{Send, Wire, Note}
 use Rattle.sng_book.specs.declared.row.Row.{Row}
 use Rattle.sng_history.specs.Clients.{same_address}
 use Rattle.sng_history.specs.Views.{clock_at}
-use Rattle.sng_history.specs.ViewsMessages.{Message, Connects, Registers, Publishes, Subscribes, Unsubscribes, Other, message_in, message_at, subscribe_in, is_without_session}
+use Rattle.sng_history.specs.ViewsMessages.{Message, Connects, Registers, Publishes, Subscribes, Unsubscribes, Confirms, Acknowledges, Other, message_in, message_at, subscribe_in, is_without_session}
 
 -- ---- the state of a client
 
@@ -122,6 +122,8 @@ duration_by (Some (Registers r)) = None
 duration_by (Some (Subscribes r)) = None
 duration_by (Some (Unsubscribes r)) = None
 duration_by (Some (Publishes p)) = None
+duration_by (Some (Confirms r)) = None
+duration_by (Some (Acknowledges r)) = None
 duration_by (Some Other) = None
 duration_by None = None
 
@@ -147,6 +149,8 @@ is_spoken (Some (Registers r)) = true
 is_spoken (Some (Subscribes r)) = true
 is_spoken (Some (Unsubscribes r)) = true
 is_spoken (Some (Publishes p)) = not (is_without_session p.flags.qos)
+is_spoken (Some (Confirms r)) = true
+is_spoken (Some (Acknowledges r)) = true
 is_spoken (Some Other) = true
 is_spoken None = false
 
@@ -179,6 +183,8 @@ accepted_by ids (Some (Registers r)) outs = []
 accepted_by ids (Some (Publishes p)) outs = []
 accepted_by ids (Some (Subscribes r)) outs = []
 accepted_by ids (Some (Unsubscribes r)) outs = []
+accepted_by ids (Some (Confirms r)) outs = []
+accepted_by ids (Some (Acknowledges r)) outs = []
 accepted_by ids (Some Other) outs = []
 accepted_by ids None outs = []
 
@@ -227,7 +233,8 @@ name_subscribed None filter = None
 name_subscribed (Some r) None = None
 name_subscribed (Some r) (Some filter) = if tells_id r.flags.id_type filter then Some filter else None
 
--- a REGISTER that is allowed tells the client an id of its name, as may a SUBSCRIBE, and a CONNECT that is accepted begins anew
+-- a REGISTER that is allowed tells the client an id of its name, as may a SUBSCRIBE, and so does an announcement; a CONNECT that is
+-- accepted begins anew
 abbrev pub names_by : Option TopicRequest → List ℕ → Decision → List (List ℕ) → List (List ℕ)
 names_by r id (note.Connect client outcome) before = if bytes_eq id client && is_allowed outcome then [] else before
 names_by r id (note.Register whom name outcome) before = if speaks_of id whom && is_allowed outcome then with_name name before else before
@@ -237,7 +244,7 @@ names_by r id (note.Subscribe whom filter outcome) before =
     if speaks_of id whom && is_allowed outcome then with_name (name_subscribed r filter) before else before
 names_by r id (note.Unsubscribe whom filter outcome) before = before
 names_by r id (note.Will whom name outcome) before = before
-names_by r id (note.Announce client name) before = before
+names_by r id (note.Announce client name) before = if bytes_eq id client then with_name (Some name) before else before
 names_by r id (note.Hand client name outcome) before = before
 names_by r id (note.Retry client name outcome) before = before
 names_by r id (note.Forward whom name outcome) before = before
@@ -258,3 +265,8 @@ names_after r id (Wire packet ∷ outs) before = names_after r id outs before
 abbrev pub names_told : List ℕ → List Row → List (List ℕ)
 names_told id [] = []
 names_told id (row ∷ earlier) = names_after (subscribe_in (message_at row.event)) id row.outs (names_told id earlier)
+
+-- the id of a name: its place among those told, counting from 1, or the next
+abbrev pub id_told : List ℕ → List (List ℕ) → ℕ
+id_told name [] = 1
+id_told name (one ∷ names) = if bytes_eq name one then 1 else id_told name names + 1

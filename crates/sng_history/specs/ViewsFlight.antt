@@ -1,7 +1,11 @@
--- What the rows show of the publishes that were sent to the broker at QoS 1: which of them are in flight, and under which packet id.
-use Rattle.std.specs.Prelude.{ℕ, ◌+◌, ◌-◌, ◌*◌, ◌==◌, not, List, [], ◌∷◌, ◌++◌, length, drop, filter, if◌then◌else◌, Option, Some, None}
+-- What the rows show of the publishes that were sent to the broker at QoS 1: which of them are in flight, and under which packet id; and
+-- of the packet ids that were given.
+use Rattle.std.specs.Prelude.{ℕ, ◌+◌, ◌-◌, ◌*◌, ◌==◌, not, List, [], ◌∷◌, ◌++◌, map, length, drop, filter, if◌then◌else◌, Option, Some, None}
+use Rattle.mqtt_frames.specs.Fronts.{decode}
 use Rattle.mqtt_frames.specs.declared.packet.Packet.{Packet}
 use Rattle.mqtt_frames.specs.declared.packet.Packet.TheVariants as packet
+use Rattle.mqtt_frames.specs.declared.wire.decode.Front.{Front}
+use Rattle.mqtt_frames.specs.declared.wire.decode.Front.TheVariants as front
 use Rattle.sng_outbox.specs.Sending.{is_at_least_once}
 use Rattle.sng_outbox.specs.declared.in_flight.InFlight.{InFlight}
 use Rattle.sng_outbox.specs.declared.item.Publication.{Publication}
@@ -14,7 +18,7 @@ use Rattle.sng_book.specs.declared.event.Event.TheVariants.{Datagram, Broker, Up
 use Rattle.sng_book.specs.declared.out.Out.{Out}
 use Rattle.sng_book.specs.declared.out.Out.TheVariants.{Send, Wire, Note}
 use Rattle.sng_book.specs.declared.row.Row.{Row}
-use Rattle.sng_history.specs.ViewsLink.{Departure, packet_next, departures, lets_out, publications, waiting}
+use Rattle.sng_history.specs.ViewsLink.{Departure, packet_next, departure, departures, lets_out, publications, waiting}
 
 -- ---- what was judged again
 
@@ -118,12 +122,57 @@ abbrev pub in_flight : List Row → List InFlight
 in_flight [] = []
 in_flight (row ∷ earlier) = staying row.event row.outs (in_flight earlier) ++ launched row.event earlier row.outs
 
--- the packet id of the last of these, or else the one before
-abbrev pub last_among : List InFlight → ℕ → ℕ
-last_among [] before = before
-last_among (sent ∷ flights) before = last_among flights sent.packet_id
+-- ---- packet ids
 
--- the packet id of the last publish that left at QoS 1, 0 before any
+-- a SUBSCRIBE and an UNSUBSCRIBE have a packet id that the gateway gave; that of a PUBACK is the broker's own (MQTT 3.1.1, 2.3.1)
+abbrev pub id_in : Packet → List ℕ
+id_in (packet.Subscribe sent) = sent.packet_id ∷ []
+id_in (packet.Unsubscribe sent) = sent.packet_id ∷ []
+id_in (packet.Publish p) = []
+id_in (packet.PublishAck packet_id) = []
+id_in (packet.Connect connect) = []
+id_in (packet.ConnectAck answer) = []
+id_in (packet.SubscribeAck answer) = []
+id_in (packet.UnsubscribeAck packet_id) = []
+id_in packet.PingRequest = []
+id_in packet.PingResponse = []
+id_in packet.Disconnect = []
+
+abbrev pub id_read : Front → List ℕ
+id_read (front.Whole sent size) = id_in sent
+id_read front.Waiting = []
+id_read (front.Faulty fault) = []
+
+-- the packet id that the publish got as it left so, at QoS 1
+abbrev pub id_left : Publication → Departure → List ℕ
+id_left p d = map (λ sent. sent.packet_id) (flight_of p d)
+
+-- those of the first of these publishes, as they left so, one for each and in order
+abbrev pub ids_left : List Publication → List Departure → List ℕ
+ids_left ps [] = []
+ids_left [] (d ∷ ds) = []
+ids_left (p ∷ ps) (d ∷ ds) = id_left p d ++ ids_left ps ds
+
+-- the publishes behind those that left so
+abbrev pub behind : List Publication → List Departure → List Publication
+behind ps [] = ps
+behind [] (d ∷ ds) = []
+behind (p ∷ ps) (d ∷ ds) = behind ps ds
+
+-- the packet ids that are given in a row, in order, where these publishes wait: with the note of each that leaves its own, and with any
+-- other packet but a PUBLISH that of the packet. A publish that is sent again keeps the one that it has
+abbrev pub given_in : List Publication → List Out → List ℕ
+given_in ps [] = []
+given_in ps (Note said ∷ outs) = ids_left ps (departure said outs) ++ given_in (behind ps (departure said outs)) outs
+given_in ps (Wire sent ∷ outs) = id_read (decode sent) ++ given_in ps outs
+given_in ps (Send to datagram ∷ outs) = given_in ps outs
+
+-- the last of these ids, or else the one before
+abbrev pub last_among : List ℕ → ℕ → ℕ
+last_among [] before = before
+last_among (packet_id ∷ ids) before = last_among ids packet_id
+
+-- the packet id that was given last, 0 before any
 abbrev pub last_id : List Row → ℕ
 last_id [] = 0
-last_id (row ∷ earlier) = last_among (launched row.event earlier row.outs) (last_id earlier)
+last_id (row ∷ earlier) = last_among (given_in (publications (waiting earlier)) row.outs) (last_id earlier)

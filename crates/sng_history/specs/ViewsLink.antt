@@ -32,7 +32,7 @@ use Rattle.sng_book.specs.declared.out.Out.TheVariants.{Send, Wire, Note}
 use Rattle.sng_book.specs.declared.row.Row.{Row}
 use Rattle.sng_history.specs.Views.{is_up}
 pub use Rattle.sng_history.specs.Views.{wires_in}
-use Rattle.sng_history.specs.ViewsMessages.{Message, Connects, Registers, Publishes, Subscribes, Unsubscribes, Other, message_in, message_at}
+use Rattle.sng_history.specs.ViewsMessages.{Message, Connects, Registers, Publishes, Subscribes, Unsubscribes, Confirms, Acknowledges, Other, message_in, message_at}
 use Rattle.sng_history.specs.ViewsClients.{is_spoken, accepted}
 use Rattle.sng_history.specs.ViewsStanding.{begun_by, standing_after, standing_of}
 
@@ -97,6 +97,8 @@ publish_in (Some (Connects connect)) = None
 publish_in (Some (Registers r)) = None
 publish_in (Some (Subscribes r)) = None
 publish_in (Some (Unsubscribes r)) = None
+publish_in (Some (Confirms r)) = None
+publish_in (Some (Acknowledges r)) = None
 publish_in (Some Other) = None
 publish_in None = None
 
@@ -219,6 +221,8 @@ items_for (Some (Publishes p)) outs = items_in (publish_in (Some (Publishes p)))
 items_for (Some (Registers r)) outs = items_in None outs
 items_for (Some (Subscribes r)) outs = items_in None outs
 items_for (Some (Unsubscribes r)) outs = items_in None outs
+items_for (Some (Confirms r)) outs = items_in None outs
+items_for (Some (Acknowledges r)) outs = items_in None outs
 items_for (Some Other) outs = items_in None outs
 items_for None outs = []
 

@@ -1,4 +1,5 @@
--- What message a datagram holds, as far as the views ask: a CONNECT, a REGISTER, a PUBLISH, a SUBSCRIBE, an UNSUBSCRIBE, or another one.
+-- What message a datagram holds, as far as the views ask: a CONNECT, a REGISTER, a PUBLISH, a SUBSCRIBE, an UNSUBSCRIBE, a
+-- REGACK, a PUBACK, or another one.
 use Rattle.std.specs.Prelude.{Bool, true, false, Option, Some, None, Ok, Err}
 use Rattle.std.specs.declared.result.Result.{Result}
 use Rattle.sng_frames.specs.Reading.{frame_of}
@@ -6,6 +7,7 @@ use Rattle.sng_frames.specs.declared.fault.FrameFault.{FrameFault}
 use Rattle.sng_frames.specs.declared.qos.FrameQos.{FrameQos}
 use Rattle.sng_frames.specs.declared.qos.FrameQos.TheVariants as qos
 use Rattle.sng_frames.specs.declared.messages.connect.Connect.{Connect}
+use Rattle.sng_frames.specs.declared.messages.acks.TopicAck.{TopicAck}
 use Rattle.sng_frames.specs.declared.messages.publish.Publish.{Publish}
 use Rattle.sng_frames.specs.declared.messages.register.Register.{Register}
 use Rattle.sng_frames.specs.declared.messages.subscribe.TopicRequest.{TopicRequest}
@@ -20,6 +22,9 @@ pub data Message : Type 0 where
   Publishes : Publish → Message
   Subscribes : TopicRequest → Message
   Unsubscribes : TopicRequest → Message
+  -- a REGACK, and a PUBACK
+  Confirms : TopicAck → Message
+  Acknowledges : TopicAck → Message
   Other : Message
 
 abbrev pub message_of : SnFrame → Message
@@ -33,8 +38,8 @@ message_of frame.WillTopicRequest = Other
 message_of (frame.WillTopic topic) = Other
 message_of frame.WillMessageRequest = Other
 message_of (frame.WillMessage message) = Other
-message_of (frame.RegisterAck answer) = Other
-message_of (frame.PublishAck answer) = Other
+message_of (frame.RegisterAck answer) = Confirms answer
+message_of (frame.PublishAck answer) = Acknowledges answer
 message_of (frame.PublishComplete id) = Other
 message_of (frame.PublishReceived id) = Other
 message_of (frame.PublishRelease id) = Other
@@ -70,6 +75,8 @@ subscribe_in (Some (Connects connect)) = None
 subscribe_in (Some (Registers r)) = None
 subscribe_in (Some (Publishes p)) = None
 subscribe_in (Some (Unsubscribes r)) = None
+subscribe_in (Some (Confirms r)) = None
+subscribe_in (Some (Acknowledges r)) = None
 subscribe_in (Some Other) = None
 subscribe_in None = None
 

@@ -29,7 +29,7 @@ use Rattle.sng_book.specs.declared.out.Out.TheVariants.{Send, Wire, Note}
 use Rattle.sng_book.specs.declared.row.Row.{Row}
 use Rattle.sng_history.specs.Links.{Wanted}
 use Rattle.sng_history.specs.Views.{wires_in}
-use Rattle.sng_history.specs.ViewsMessages.{Message, Connects, Registers, Publishes, Subscribes, Unsubscribes, Other, message_at, subscribe_in}
+use Rattle.sng_history.specs.ViewsMessages.{Message, Connects, Registers, Publishes, Subscribes, Unsubscribes, Confirms, Acknowledges, Other, message_at, subscribe_in}
 use Rattle.sng_history.specs.ViewsClients.{speaks_of, accepted}
 
 -- ---- the filters that stand for a client
@@ -41,6 +41,8 @@ is_clean (Some (Registers r)) = false
 is_clean (Some (Publishes p)) = false
 is_clean (Some (Subscribes r)) = false
 is_clean (Some (Unsubscribes r)) = false
+is_clean (Some (Confirms r)) = false
+is_clean (Some (Acknowledges r)) = false
 is_clean (Some Other) = false
 is_clean None = false
 

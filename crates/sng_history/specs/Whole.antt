@@ -1,5 +1,5 @@
 -- The whole of what a row lets out, given the state before, the cause, and the notes that the row has of each client and of what leaves.
-use Rattle.std.specs.Prelude.{ℕ, Bool, true, false, ◌&&◌, ◌||◌, not, List, [], ◌∷◌, ◌++◌, map, if◌then◌else◌, Option, Some, None}
+use Rattle.std.specs.Prelude.{ℕ, Bool, true, false, ◌&&◌, ◌||◌, not, List, [], ◌∷◌, ◌++◌, map, drop, if◌then◌else◌, Option, Some, None}
 use Rattle.std.specs.List.{flat_map}
 use Rattle.std.specs.Str.{bytes_eq}
 use Rattle.sng_states.specs.States.{has_session}
@@ -17,9 +17,11 @@ use Rattle.sng_book.specs.declared.outcome.Outcome.{Outcome}
 use Rattle.sng_book.specs.declared.outcome.Outcome.TheVariants.{Allowed, Denied}
 use Rattle.sng_book.specs.declared.out.Out.{Out}
 use Rattle.sng_book.specs.declared.out.Out.TheVariants.{Note}
-use Rattle.sng_history.specs.Causes.{Request, ToPing, ToLeave, ToRegister, ToPublish, ToSubscribe, ToUnsubscribe, Untaken, Cause, request_of}
+use Rattle.sng_history.specs.Causes.{Request, ToPing, ToLeave, ToRegister, ToPublish, ToSubscribe, ToUnsubscribe, ToConfirm, ToAcknowledge, Untaken}
+use Rattle.sng_history.specs.Causes.{Cause, request_of}
 use Rattle.sng_history.specs.Causes.{ByConnect, ByMessage, BySource, ByBroken, ByPacket, ByUp, ByDown, ByTake, ByReplace, ByTick}
-use Rattle.sng_history.specs.Clients.{Client, Around, same_address, is_from, is_author, start_by, note_by, client_by}
+use Rattle.sng_history.specs.Handing.{known_as, front, handed_outs, announced_out}
+use Rattle.sng_history.specs.Clients.{Client, Around, same_address, is_from, is_author, let_in, start_by, note_by, client_by}
 use Rattle.sng_history.specs.Standing.{Release, released, dropped_of, drop_note, drop_notes}
 use Rattle.sng_history.specs.Notes.{notes_of, exits_in}
 use Rattle.sng_history.specs.State.{State, around}
@@ -45,6 +47,8 @@ takes_leave (ToRegister r) = false
 takes_leave (ToPublish p) = false
 takes_leave (ToSubscribe r) = false
 takes_leave (ToUnsubscribe r) = false
+takes_leave (ToConfirm r) = false
+takes_leave (ToAcknowledge r) = false
 takes_leave (Untaken message) = false
 
 -- a client that takes its leave is answered by DISCONNECT; one that another client at its address puts out is not
@@ -61,6 +65,8 @@ denied_to (ToRegister r) to rule = refused to (frame.Register r) rule
 denied_to (ToPublish p) to rule = refused to (frame.Publish p) rule
 denied_to (ToSubscribe r) to rule = refused to (frame.Subscribe r) rule
 denied_to (ToUnsubscribe r) to rule = refused to (frame.Unsubscribe r) rule
+denied_to (ToConfirm r) to rule = []
+denied_to (ToAcknowledge r) to rule = []
 denied_to (Untaken message) to rule = refused to message rule
 
 abbrev pub denied_by : Option Request → Address → Denial → List Out
@@ -78,6 +84,8 @@ granted_to (ToSubscribe r) x None = []
 granted_to (ToUnsubscribe r) x filter = unsuback x.address r ∷ []
 granted_to (ToPing client) x name = []
 granted_to ToLeave x name = []
+granted_to (ToConfirm r) x name = []
+granted_to (ToAcknowledge r) x name = []
 granted_to (Untaken message) x name = []
 
 abbrev pub granted_by : Option Request → Client → Option (List ℕ) → List Out
@@ -93,6 +101,11 @@ abbrev pub dropped_with : List Release → List ℕ → Option (List ℕ) → Li
 dropped_with dropped client None = []
 dropped_with dropped client (Some filter) = drop_note dropped client filter
 
+-- a message that is handed over is sent, under the topic id by which the client knows its name
+abbrev pub handed_frames : Around → Client → List ℕ → Outcome → List Out
+handed_frames a x name Allowed = handed_outs x.address x.number (front x.buffer) (known_as a.policy x.ids name)
+handed_frames a x name (Denied rule) = []
+
 -- what follows a note of a client, which is as it is at that place: the note of an UNSUBSCRIBE that is dropped, and frames
 abbrev pub frames_of : Around → List Release → Client → Decision → List Out
 frames_of a dropped x (note.Left id) = farewell (request_of a.cause) x.address
@@ -104,8 +117,8 @@ frames_of a dropped x (note.Will who name outcome) = replied a.cause x name outc
 frames_of a dropped x (note.Frame who outcome) = replied a.cause x None outcome
 frames_of a dropped x (note.End id filter outcome) = drop_note dropped x.id filter
 frames_of a dropped x (note.Connect id outcome) = []
-frames_of a dropped x (note.Announce id name) = []
-frames_of a dropped x (note.Hand id name outcome) = []
+frames_of a dropped x (note.Announce id name) = announced_out x.address x.number x.ids name ∷ []
+frames_of a dropped x (note.Hand id name outcome) = handed_frames a x name outcome
 frames_of a dropped x (note.Retry id name outcome) = []
 frames_of a dropped x (note.Forward who name outcome) = []
 frames_of a dropped x (note.Again who name outcome) = []
@@ -131,6 +144,8 @@ answer_to (ToRegister r) x = []
 answer_to (ToPublish p) x = []
 answer_to (ToSubscribe r) x = []
 answer_to (ToUnsubscribe r) x = []
+answer_to (ToConfirm r) x = []
+answer_to (ToAcknowledge r) x = []
 answer_to (Untaken message) x = []
 
 abbrev pub answer : Option Request → Client → List Out
@@ -157,6 +172,8 @@ stranger_to from (ToRegister r) = Note (note.Register (who.Address from) None (D
 stranger_to from (ToPublish p) = Note (note.Publish (who.Address from) None (Denied NoSession)) ∷ dismissed from ∷ []
 stranger_to from (ToSubscribe r) = Note (note.Subscribe (who.Address from) None (Denied NoSession)) ∷ dismissed from ∷ []
 stranger_to from (ToUnsubscribe r) = Note (note.Unsubscribe (who.Address from) None (Denied NoSession)) ∷ dismissed from ∷ []
+stranger_to from (ToConfirm r) = Note (note.Frame (who.Address from) (Denied NoSession)) ∷ dismissed from ∷ []
+stranger_to from (ToAcknowledge r) = Note (note.Frame (who.Address from) (Denied NoSession)) ∷ dismissed from ∷ []
 stranger_to from (Untaken message) = Note (denied_note message (who.Address from) NotSupported) ∷ []
 
 -- the clients after the row, by its notes of each
@@ -187,13 +204,25 @@ moved from id x =
 abbrev pub beside : Around → Notes → List ℕ → Client → List Out
 beside a notes id x = if bytes_eq id x.id then [] else part a [] (notes.of x) x
 
+-- what becomes of what waits for the one that connects, behind the note that it is accepted
+abbrev pub entering_part : Around → Notes → Address → Connect → Client → List Out
+entering_part a notes from connect x =
+    if bytes_eq connect.client_id x.id then spell a [] (let_in a.clock from connect x) (drop 1 (notes.of x)) else []
+
+-- what a clean session drops is noted before its CONNACK; else what waits is handed over behind it
+abbrev pub around_connack : Bool → List Out → Out → List Out
+around_connack true own ack = own ++ ack ∷ []
+around_connack false own ack = ack ∷ own
+
 -- a CONNECT that is accepted: the client is dismissed where it was before, another client at the address leaves, what a clean session
 -- ends is dropped where it finds no place, and CONNACK answers
 abbrev pub entry_row : State → Address → Connect → Notes → List Out
 entry_row s from connect notes =
     let c = ByConnect from connect in
     flat_map (moved from connect.client_id) s.clients
-    ++ (flat_map (beside (around s c) notes connect.client_id) s.clients ++ (drop_notes (drops s c notes) ++ connack from ACCEPTED ∷ []))
+    ++ (flat_map (beside (around s c) notes connect.client_id) s.clients
+    ++ (drop_notes (drops s c notes)
+    ++ around_connack connect.flags.clean (flat_map (entering_part (around s c) notes from connect) s.clients) (connack from ACCEPTED)))
 
 abbrev pub entry_outs : State → Address → Connect → Notes → Outcome → List Out
 entry_outs s from connect notes Allowed = Note (note.Connect connect.client_id Allowed) ∷ entry_row s from connect notes

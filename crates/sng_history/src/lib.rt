@@ -15,24 +15,35 @@ ghost use Rattle.sng_frames.specs.declared.frame.SnFrame.TheVariants as frame;
 ghost use Rattle.sng_frames.specs.declared.messages.connect.Connect.{Connect};
 ghost use Rattle.sng_frames.specs.declared.messages.publish.Publish.{Publish};
 ghost use Rattle.sng_frames.specs.declared.messages.register.Register.{Register};
+ghost use Rattle.sng_frames.specs.declared.messages.acks.TopicAck.{TopicAck};
 ghost use Rattle.sng_frames.specs.declared.messages.subscribe.TopicRequest.{TopicRequest};
 ghost use Rattle.sng_grants.specs.declared.policy.Policy.{Policy};
 ghost use Rattle.sng_book.specs.declared.address.Address.{Address};
 ghost use Rattle.sng_book.specs.declared.event.Event.{Event};
-ghost use Rattle.sng_book.specs.declared.event.Event.TheVariants.{Broker, Replace};
+ghost use Rattle.sng_book.specs.declared.event.Event.TheVariants.{Broker, Down, Replace, Tick};
 ghost use Rattle.sng_book.specs.declared.out.Out.{Out};
 ghost use Rattle.sng_book.specs.declared.outcome.Outcome.TheVariants.{Allowed};
 ghost use Rattle.sng_book.specs.declared.row.Row.{Row};
 ghost use Rattle.sng_history.specs.Good.{Each, Good};
 ghost use Rattle.sng_history.specs.Lawful.{Lawful, LawfulRow, Keeps};
-ghost use Rattle.sng_history.specs.LawsAnswers.{Brought, Broken, connect_answer, source_answer, answer_to, no_session, ping_answer};
+ghost use Rattle.sng_history.specs.LawsAnswers.{Brought, Broken, connect_answer, source_answer, answer_to};
+ghost use Rattle.sng_history.specs.LawsAnswers.{no_session, ping_answer};
 ghost use Rattle.sng_history.specs.LawsAnswers.{leave_answer, broken_stranger, broken_answer};
-ghost use Rattle.sng_history.specs.LawsLink.{LeavesInOrder, EachDeparts, EachAnnounced, EachTimely, EachUpstream};
+ghost use Rattle.sng_history.specs.LawsHanding.{SettledInOrder, HandedOnce, FrontAnnounced, NothingIdles};
+ghost use Rattle.sng_history.specs.LawsHanding.{NoneKept};
+ghost use Rattle.sng_history.specs.LawsHanding.{EachHandJudged};
+ghost use Rattle.sng_history.specs.LawsHanding.{regack_answer};
+ghost use Rattle.sng_history.specs.LawsHanding.{puback_answer};
+ghost use Rattle.sng_history.specs.LawsTurns.{EachInTurn};
+ghost use Rattle.sng_history.specs.LawsLink.{LeavesInOrder, EachDeparts, EachAnnounced, EachTimely};
+ghost use Rattle.sng_history.specs.LawsLink.{EachUpstream};
+ghost use Rattle.sng_history.specs.LawsLink.{is_upstream, OnlyExits};
 ghost use Rattle.sng_history.specs.LawsFlight.{EachReturns, IdsApart, EachPacket};
 ghost use Rattle.sng_history.specs.LawsRules.{judged};
 ghost use Rattle.sng_history.specs.LawsState.{ClientShown, RestShown, Untold, NoneTwice, OneMore};
-ghost use Rattle.sng_history.specs.LawsAsks.{register_stranger, register_answer, is_of_session, publish_stranger, publish_answer};
-ghost use Rattle.sng_history.specs.LawsAsks.{register_rules, id_told, told_as, packet_answer};
+ghost use Rattle.sng_history.specs.LawsAsks.{register_stranger, register_answer, is_of_session};
+ghost use Rattle.sng_history.specs.LawsAsks.{publish_stranger, publish_answer};
+ghost use Rattle.sng_history.specs.LawsAsks.{register_rules, told_as, packet_answer};
 ghost use Rattle.sng_history.specs.LawsSubscriptions.{subscribe_stranger, subscribe_answer};
 ghost use Rattle.sng_history.specs.LawsSubscriptions.{SubscribesExactly};
 ghost use Rattle.sng_history.specs.LawsSubscriptions.{unsubscribe_stranger, unsubscribe_answer};
@@ -41,7 +52,8 @@ ghost use Rattle.sng_history.specs.LawsUnsupported.{is_unsupported, unsupported_
 ghost use Rattle.sng_history.specs.State.{State, opening, state_of};
 ghost use Rattle.sng_history.specs.Steps.{outs_of, next_of};
 ghost use Rattle.sng_history.specs.Views.{policy_in_force, clock_at, is_up};
-ghost use Rattle.sng_history.specs.ViewsClients.{phase_of, is_admitted, is_among, accepted, those_at, names_told};
+ghost use Rattle.sng_history.specs.ViewsClients.{phase_of, is_admitted, is_among, accepted, those_at};
+ghost use Rattle.sng_history.specs.ViewsClients.{names_told, id_told};
 ghost use Rattle.sng_history.specs.ViewsLink.{waiting};
 ghost use Rattle.sng_history.specs.ViewsMessages.{is_without_session};
 
@@ -61,9 +73,10 @@ pub fn step_is_lawful()
 /// The state that a lawful history leads to is what a reader sees who looks back through its rows: the policy
 /// of the last replacement, the greatest tick, whether the last word on the broker's connection is an Up,
 /// what was asked for, is owed or is to be told to the broker and has not left, the publishes in flight, the
-/// filters that stand for anybody, the clients in the order in which each was accepted first, and of each
-/// client its state, where it is, the Duration that it stated and when it was heard last, the filters that
-/// stand for it; and its topic ids: the k-th name that it was told since its last accepted CONNECT has id k.
+/// packet id that was given last, the filters that stand for anybody, the clients in the order in which each
+/// was accepted first, and of each client its state, where it is, the Duration that it stated and when it was
+/// heard last, the filters that stand for it; and its topic ids: the k-th name that it was told since its
+/// last accepted CONNECT has id k.
 /// `strangers`: a client that was never accepted has no state, so the rows show no other client.
 pub fn state_is_shown()
     ensures policy { (h : List Row) → Lawful opening h → (state_of opening h).policy ≡ policy_in_force h }
@@ -89,8 +102,10 @@ pub fn state_is_shown()
 /// are those behind the notes, a PUBACK for each acknowledgement that waits, a SUBSCRIBE where its filter
 /// stands for somebody, and an UNSUBSCRIBE where its filter stands for nobody, in the order in which all of
 /// them waited; as a connection begins they are those behind the notes and a SUBSCRIBE for each filter that
-/// stands for anybody, in the order in which each stood first. `upstream`: with an event of that connection
-/// alone nothing is sent to a client.
+/// stands for anybody, in the order in which each stood first. A publish at QoS 1 that leaves, a SUBSCRIBE
+/// and an UNSUBSCRIBE have each the next packet id: it counts on from the last that was given, past those of
+/// publishes in flight and of open SUBSCRIBEs. `upstream`: with an event of that connection alone nothing is
+/// sent to a client.
 pub fn publishes_leave_judged()
     ensures in_order { (h : List Row) → Lawful opening h → LeavesInOrder h }
     ensures judged { (h : List Row) → Lawful opening h → EachDeparts h }
@@ -111,6 +126,21 @@ pub fn publishes_return_judged()
     ensures ids { (h : List Row) → Lawful opening h → IdsApart h }
 {}
 
+/// What reaches clients with the clock and with the connection to the broker, in every lawful history:
+/// nothing. `ticks`: as the clock moves nothing is let out. `downs`: nor as a connection ends. `exits`: as
+/// one begins, as one ends and at a take nothing is sent to a client, and each note is of a publish that
+/// leaves or is sent again: nothing is handed over or announced to a client, and nobody leaves or loses a
+/// subscription.
+pub fn clock_and_connection_reach_no_client()
+    ensures ticks { (h : List Row) → (row : Row) → (clock : ℕ) → Lawful opening (row ∷ h)
+        → row.event ≡ Tick clock
+        → row.outs ≡ [] }
+    ensures downs { (h : List Row) → (row : Row) → Lawful opening (row ∷ h) → row.event ≡ Down
+        → row.outs ≡ [] }
+    ensures exits { (h : List Row) → (row : Row) → Lawful opening (row ∷ h)
+        → is_upstream row.event ≡ true → OnlyExits row.outs }
+{}
+
 /// In every lawful history at most one client is at an address.
 pub fn one_client_at_an_address()
     ensures { (h : List Row) → Lawful opening h → (from : Address) → length (those_at from h) ≤ 1 }
@@ -121,8 +151,9 @@ pub fn one_client_at_an_address()
 /// policy in force does not list has no scope; and a client that was never accepted finds its place full
 /// where 256 were. One that is denied is answered by the rule's code. As one is accepted, the client is
 /// dismissed where it was, if that is elsewhere, another client at the address leaves, of each filter that a
-/// clean one leaves with nobody it is noted where there is no place to tell the broker, and CONNACK comes
-/// last. Nothing else is let out.
+/// clean one leaves with nobody it is noted where there is no place to tell the broker, what waits for the
+/// client is gone if it is clean, CONNACK answers, and else what waits is handed over. Nothing else is let
+/// out.
 pub fn connects_are_judged()
     ensures { (h : List Row) → (row : Row) → (from : Address) → (connect : Connect) → Lawful opening (row ∷ h)
         → Brought row from (frame.Connect connect) → row.outs ≡ connect_answer h from connect }
@@ -203,13 +234,54 @@ pub fn ids_keep_their_names()
         → is_admitted id row.outs ≡ false → OneMore (names_told id h) (names_told id (row ∷ h)) }
 {}
 
+/// What waits of messages of the broker for a client, in every lawful history. `in_order`: the k-th of them
+/// that is settled is the k-th that was due, by its name, and none is settled before it was due; one is due
+/// where its name is one, the client awaits messages and a filter that stands for it matches, once however
+/// many match, and not where it was turned away: too long, or the queue full. What was due and is not settled
+/// waits. `once`: a client is handed no more messages than the broker sent. `front`: while an announcement is
+/// open, the oldest that waits has the announced name. `idles`: right behind each row a client that takes
+/// messages has nothing waiting, or something is open with it. `away`: nothing waits for a client without a
+/// session.
+pub fn messages_are_settled_in_order()
+    ensures in_order { (h : List Row) → Lawful opening h → (id : List ℕ) → SettledInOrder h id }
+    ensures once { (h : List Row) → Lawful opening h → (id : List ℕ) → HandedOnce h id }
+    ensures front { (h : List Row) → Lawful opening h → (id : List ℕ) → FrontAnnounced h id }
+    ensures idles { (h : List Row) → Lawful opening h → (id : List ℕ) → NothingIdles h id }
+    ensures away { (h : List Row) → Lawful opening h → (id : List ℕ) → NoneKept h id }
+{}
+
+/// How messages of the broker come to a client, in every lawful history. `judged`: a message is handed over,
+/// or an id of its name announced, only where the policy in force at that row lets the client receive the
+/// name by a pair with `sub` that matches it; one is denied for want of a scope or of such a pair just by
+/// that policy, and else only for want of an id, by the client, as too long, for a full queue, or as it is
+/// gone. `turns`: a message is handed over, denied by the policy or for want of an id, or its name announced,
+/// only where at that place in the row the client takes messages and nothing is open with it; it is handed
+/// over only where the client knows its name then, and an id is announced only where it does not. `regacks`,
+/// `pubacks`: a REGACK has its turn where the client takes messages and its TopicId and MsgId are those of
+/// the announcement that is open, a PUBACK where its MsgId is that of what is open; else they are out of
+/// turn. A REGACK with another code than 0 refuses the front. Then all leaves that may, the oldest first,
+/// each judged, with its own payload, QoS and Retain, until something is open again.
+pub fn messages_are_handed_over()
+    ensures judged { (h : List Row) → Lawful opening h → EachHandJudged h }
+    ensures turns { (h : List Row) → Lawful opening h → (id : List ℕ) → EachInTurn id h }
+    ensures regacks { (h : List Row) → (row : Row) → (from : Address) → (r : TopicAck)
+        → Lawful opening (row ∷ h)
+        → Brought row from (frame.RegisterAck r)
+        → row.outs ≡ answer_to (no_session from) (regack_answer h from r) (those_at from h) }
+    ensures pubacks { (h : List Row) → (row : Row) → (from : Address) → (r : TopicAck)
+        → Lawful opening (row ∷ h)
+        → Brought row from (frame.PublishAck r)
+        → row.outs ≡ answer_to (no_session from) (puback_answer h from r) (those_at from h) }
+{}
+
 /// In every lawful history any other datagram is answered to the client at its address, or else to nobody's.
 /// `pings`: a PINGREQ that names another client has no session and is answered by DISCONNECT, one of a client
 /// that is not active is out of turn, any other is answered by PINGRESP without a note. `leaves`: by
-/// DISCONNECT without Duration the client leaves, and DISCONNECT answers. A PINGREQ and a DISCONNECT from an
-/// address at which no client is have no session, and are answered by DISCONNECT. `unsupported`: other
-/// messages are not supported, which an acknowledgement says to a client where the message asks for one.
-/// `broken`: what is no message is noted alone. `packets`: of a packet of the broker a message under a text
+/// DISCONNECT without Duration the client leaves, DISCONNECT answers, and what waits for it is gone. A
+/// PINGREQ and a DISCONNECT from an address at which no client is have no session, and are answered by
+/// DISCONNECT. `unsupported`: other messages are not supported, which an acknowledgement says to a client
+/// where the message asks for one. `broken`: what is no message is noted alone. `packets`: of a packet of the
+/// broker a message comes to each client that it concerns, in the order of first acceptance; one under a text
 /// that is no topic name is noted, and an acknowledgement that is owed while 512 items wait; a SUBACK that
 /// refuses ends the filter whose open SUBSCRIBE has its packet id, for each client for whom it stands, in the
 /// order of first acceptance; what else acknowledges or answers the gateway lets nothing out; and any other
@@ -221,7 +293,7 @@ pub fn messages_are_answered()
         → row.outs ≡ answer_to (no_session from) (ping_answer h from named) (those_at from h) }
     ensures leaves { (h : List Row) → (row : Row) → (from : Address) → Lawful opening (row ∷ h)
         → Brought row from (frame.Disconnect None)
-        → row.outs ≡ answer_to (no_session from) (leave_answer from) (those_at from h) }
+        → row.outs ≡ answer_to (no_session from) (leave_answer h from) (those_at from h) }
     ensures unsupported { (h : List Row) → (row : Row) → (from : Address) → (message : SnFrame)
         → Lawful opening (row ∷ h)
         → Brought row from message → is_unsupported message ≡ true

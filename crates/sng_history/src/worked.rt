@@ -1,6 +1,6 @@
 //! Worked rows: histories that are lawful by the definitions, and rows that are not.
 ghost use Rattle.std.specs.Prelude.{◌∷◌, [], codes};
-ghost use Rattle.sng_book.specs.declared.event.Event.TheVariants.{Datagram, Up, Take, Replace};
+ghost use Rattle.sng_book.specs.declared.event.Event.TheVariants.{Datagram, Broker, Up, Take, Replace};
 ghost use Rattle.sng_book.specs.declared.outcome.Denial.TheVariants.{MissingPub};
 ghost use Rattle.sng_book.specs.declared.outcome.Outcome.TheVariants.{Allowed, Denied};
 ghost use Rattle.sng_history.specs.State.{opening};
@@ -13,6 +13,8 @@ ghost use Rattle.sng_history.specs.ExamplesClients.{not_listed, moves, takes_ove
 ghost use Rattle.sng_history.specs.ExamplesClients.{t1, publish_t1, asks_t1, forward_t1, again_t1, packet_t1, refused_t1};
 ghost use Rattle.sng_history.specs.ExamplesClients.{both_listed, ended_ab, holds_ab};
 ghost use Rattle.sng_history.specs.ExamplesClients.{untold, acknowledged_t1, knows_t1, flies_and_waits, flies_ungranted};
+ghost use Rattle.sng_history.specs.ExamplesClients.{message_ab, accept_ab, hands_ab, handed_ab};
+ghost use Rattle.sng_history.specs.ExamplesClients.{handed_over_ab, denied_ab, once_ab, announced_ungranted, holds_both};
 
 /// Lawful histories of devices without a session: a publish that is granted goes out, with a Length of one
 /// octet or of three; a source that is not listed and one without a connection are denied; a session that is
@@ -88,4 +90,22 @@ pub fn lawful_subscriptions()
 /// A row that may not come: the policy is replaced, and a subscription that it does not cover does not end.
 pub fn unlawful_subscriptions()
     ensures kept { LawfulRow holds_ab (Replace both_listed) [] → ⊥ }
+{}
+
+/// Lawful histories of messages of the broker: one under a name that the client does not know is announced,
+/// and handed over once a REGACK accepts the id; one whose grant is replaced before the REGACK comes is denied
+/// as its turn comes; and one whose name two filters match is handed over once.
+pub fn lawful_messages()
+    ensures announced { Lawful opening handed_over_ab }
+    ensures ungranted { Lawful opening denied_ab }
+    ensures once { Lawful opening once_ab }
+{}
+
+/// Rows that may not come: a message is handed over once its id is accepted, though the policy in force since
+/// denies it; and one is handed over twice for two filters that match.
+pub fn unlawful_messages()
+    ensures unjudged { LawfulRow announced_ungranted (Datagram home accept_ab)
+        (hands_ab Allowed ∷ handed_ab ∷ []) → ⊥ }
+    ensures twice { LawfulRow holds_both (Broker message_ab)
+        (hands_ab Allowed ∷ handed_ab ∷ hands_ab Allowed ∷ handed_ab ∷ []) → ⊥ }
 {}

@@ -9,17 +9,17 @@ use Rattle.indexmap.specs.IndexMap.{set_value_at, insert_entry}
 use Rattle.sng_book.specs.declared.address.Address.{Address}
 use Rattle.sng_fan.specs.declared.held.Held.{Held}
 use Rattle.sng_frames.specs.declared.messages.connect.Connect.{Connect}
-use Rattle.sng_ids.specs.Ids.{Ids, Table}
-use Rattle.sng_book.specs.declared.outcome.Outcome.TheVariants.{Allowed}
+use Rattle.sng_ids.specs.Ids.{Ids}
+use Rattle.sng_queue.specs.Buffers.{Buffer, nothing}
 use Rattle.sng_states.specs.States.{has_session}
 use Rattle.sng_states.specs.declared.state.ClientState.TheVariants.{Active}
-use Rattle.sng_history.specs.Clients.{Client, same_address, is_here, let_in, blank, told}
+use Rattle.sng_history.specs.Clients.{Client, same_address, is_here, let_in, blank}
 use Rattle.sng_history.specs.State.{is_known}
 use Rattle.sng_history.specs.Good.{Away, Distinct}
 use Rattle.sng_sessions.specs.declared.session.Presence.{Presence}
 use Rattle.sng_sessions.specs.declared.session.Session.{Session}
 use Rattle.sng_history.specs.Entering.{left_at, entering, entered}
-use Rattle.sng_sessions.specs.Standing.{client_at, told_at}
+use Rattle.sng_sessions.specs.Standing.{client_at}
 use Rattle.sng_sessions.specs.Places.{client_of, clients_of, holds_at, stands_at, is_place, points_at, presence_in, was_at, Indexed, moved_at, vacated, settled}
 use Rattle.sng_sessions.proofs.Looks.{is_place-self, is_place-same, points-same}
 
@@ -98,31 +98,24 @@ clients-same (entry ∷ entries) zero session after found same =
 clients-same (entry ∷ entries) (suc place) session after found same =
     ap (λ rest. client_of entry ∷ rest) (clients-same entries place session after found same)
 
--- a client as its presence, its ids and its filters have it
-abbrev kept_as : List ℕ → Presence → Ids → List Held → Client
-kept_as id at ids held =
-    record (blank id) { address = at.address; phase = at.phase; duration = at.duration; heard = at.heard; ids = ids; filters = held }
-
-pub client-same : (id : List ℕ) (session after : Session) → after.presence ≡ session.presence → after.ids.ids ≡ session.ids.ids
-    → after.filters ≡ session.filters → client_of (id, session) ≡ client_of (id, after)
-client-same id session after one two three = λ i. kept_as id (sym one i) (sym two i) (sym three i)
-
--- the client of a session that is heard and told a name
-pub client-told : (id name : List ℕ) (clock : ℕ) (session after : Session) → after.presence ≡ record session.presence { heard = clock }
-    → after.ids.ids ≡ told name session.ids.ids → after.filters ≡ session.filters
-    → told_at clock (Some name) Allowed (client_of (id, session)) ≡ client_of (id, after)
-client-told id name clock session after one two three = λ i. kept_as id (sym one i) (sym two i) (sym three i)
+-- a client as its presence, its ids, its last MsgId, what waits for it and its filters have it
+abbrev kept_as : List ℕ → Presence → Ids → ℕ → Buffer → List Held → Client
+kept_as id at ids number queue held =
+    record (blank id) { address = at.address; phase = at.phase; duration = at.duration; heard = at.heard; ids = ids; number = number; buffer = queue; filters = held }
 
 -- the client of a session that begins anew
 pub client-begun : (id : List ℕ) (clock : ℕ) (from : Address) (connect : Connect) (session after : Session)
-    → after.presence ≡ record { address = from; phase = Active; duration = connect.duration; heard = clock } → after.ids.ids ≡ []
+    → after.presence ≡ record { address = from; phase = Active; duration = connect.duration; heard = clock } → after.ids ≡ []
+    → after.number ≡ session.number
+    → after.queue ≡ (if connect.flags.clean then nothing else record session.queue { exchange = None })
     → after.filters ≡ (if connect.flags.clean then [] else session.filters)
     → let_in clock from connect (client_of (id, session)) ≡ client_of (id, after)
-client-begun id clock from connect session after one two three =
-    by connect.flags.clean refl ∙ (λ i. kept_as id (sym one i) (sym two i) (sym three i))
+client-begun id clock from connect session after one two three four five =
+    by connect.flags.clean refl ∙ (λ i. kept_as id (sym one i) (sym two i) (sym three i) (sym four i) (sym five i))
   where
     by : (clean : Bool) → connect.flags.clean ≡ clean → let_in clock from connect (client_of (id, session))
-        ≡ kept_as id (record { address = from; phase = Active; duration = connect.duration; heard = clock }) [] (if connect.flags.clean then [] else session.filters)
+        ≡ kept_as id (record { address = from; phase = Active; duration = connect.duration; heard = clock }) [] session.number
+        (if connect.flags.clean then nothing else record session.queue { exchange = None }) (if connect.flags.clean then [] else session.filters)
     by true is = rw is refl
     by false is = rw is refl
 
@@ -413,14 +406,19 @@ known_vacated clock from id (x ∷ xs) =
     by false false is is_there = rw (is, is_there) is
 
 -- the session of an accepted CONNECT of a client that was not known
-abbrev pub session_by : ℕ → Address → Connect → Table → List Held → Session
-session_by clock from connect ids held =
-    record { presence = record { address = from; phase = Active; duration = connect.duration; heard = clock }; ids = ids; filters = held }
+abbrev pub session_by : ℕ → Address → Connect → Ids → Buffer → List Held → Session
+session_by clock from connect ids queue held = record {
+  presence = record { address = from; phase = Active; duration = connect.duration; heard = clock };
+  ids = ids;
+  number = 0;
+  queue = queue;
+  filters = held;
+}
 
-let_in-blank : (clock : ℕ) (from : Address) (connect : Connect) (ids : Table) (held : List Held) → ids.ids ≡ [] → held ≡ [] → (clean : Bool) → connect.flags.clean ≡ clean
-    → client_of (connect.client_id, session_by clock from connect ids held) ≡ let_in clock from connect (blank connect.client_id)
-let_in-blank clock from connect ids held none nothing true is = rw (is, none, nothing) refl
-let_in-blank clock from connect ids held none nothing false is = rw (is, none, nothing) refl
+let_in-blank : (clock : ℕ) (from : Address) (connect : Connect) (clean : Bool) → connect.flags.clean ≡ clean
+    → client_of (connect.client_id, session_by clock from connect [] nothing []) ≡ let_in clock from connect (blank connect.client_id)
+let_in-blank clock from connect true is = rw is refl
+let_in-blank clock from connect false is = rw is refl
 
 -- the first of a list that is not known, and the rest
 pub known-first : (id : List ℕ) (x : Client) (xs : List Client) → is_known id (x ∷ xs) ≡ false → (bytes_eq id x.id ≡ false) × (is_known id xs ≡ false)
@@ -444,15 +442,22 @@ entering-new clock from connect session (x ∷ xs) new =
     by true is_there is = rw (is, is_there, is) refl
     by false is_there is = rw (is, is_there, is) refl
 
-pub settled-entered : (clock : ℕ) (from : Address) (connect : Connect) (ids : Table) (held : List Held) → ids.ids ≡ [] → held ≡ [] → (xs : List Client)
-    → is_known connect.client_id xs ≡ false
-    → settled connect.client_id (session_by clock from connect ids held) (map (vacated clock from connect.client_id) xs)
+settled_entered : (clock : ℕ) (from : Address) (connect : Connect) (xs : List Client) → is_known connect.client_id xs ≡ false
+    → settled connect.client_id (session_by clock from connect [] nothing []) (map (vacated clock from connect.client_id) xs)
     ≡ entered clock from connect xs
-settled-entered clock from connect ids held none nothing xs unknown =
+settled_entered clock from connect xs unknown =
     let known = known_vacated clock from connect.client_id xs in
-    let new = let_in-blank clock from connect ids held none nothing connect.flags.clean refl in
-    let all = entering-new clock from connect (session_by clock from connect ids held) xs unknown in
+    let new = let_in-blank clock from connect connect.flags.clean refl in
+    let all = entering-new clock from connect (session_by clock from connect [] nothing []) xs unknown in
     λ i. all i ++ (if known i then [] else new i ∷ [])
+
+pub settled-entered : (clock : ℕ) (from : Address) (connect : Connect) (ids : Ids) (queue : Buffer) (held : List Held)
+    → (ids ≡ []) × (queue ≡ nothing) × (held ≡ []) → (xs : List Client) → is_known connect.client_id xs ≡ false
+    → settled connect.client_id (session_by clock from connect ids queue held) (map (vacated clock from connect.client_id) xs)
+    ≡ entered clock from connect xs
+settled-entered clock from connect ids queue held none xs unknown =
+    (λ i. settled connect.client_id (session_by clock from connect (none.0 i) (none.1 i) (none.2 i)) (map (vacated clock from connect.client_id) xs))
+    ∙ settled_entered clock from connect xs unknown
 
 -- ---- a client that connects again
 

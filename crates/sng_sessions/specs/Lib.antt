@@ -2,3 +2,4 @@ pub mod Standing
 pub mod Moving
 pub mod Counts
 pub mod Places
+pub mod Handed

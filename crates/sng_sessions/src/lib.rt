@@ -3,10 +3,13 @@
 //! and for how many clients each filter stands.
 #![tactic(auto)]
 
+pub mod handing;
 mod holders;
+pub mod ids;
 mod places;
 pub mod session;
 pub mod sessions;
 mod subscribing;
 
+pub use handing::{Handed, Opens, number_after};
 pub use sessions::Sessions;

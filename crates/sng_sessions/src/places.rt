@@ -9,6 +9,7 @@ ghost use Rattle.sng_history.specs.Clients.{same_address};
 ghost use Rattle.sng_ids.specs.Ids.{is_full_for};
 ghost use Rattle.sng_book.specs.declared.outcome.Outcome.TheVariants.{Allowed};
 ghost use Rattle.sng_fan.specs.Subscriptions.{stands};
+ghost use Rattle.sng_queue.specs.Buffers.{nothing};
 ghost use Rattle.sng_history.specs.Clients.{let_in, told};
 ghost use Rattle.sng_history.specs.State.{is_known};
 ghost use Rattle.sng_history.specs.Entering.{heard_at, left_at, entered};
@@ -17,16 +18,16 @@ ghost use Rattle.sng_sessions.specs.Standing.{client_at, told_at};
 ghost use Rattle.sng_sessions.specs.Places.{clients_of, holds_at, stands_at, is_place, presence_in, was_at, Indexed, moved_at, vacated, settled};
 
 use crate::holders::Holders;
+use crate::ids::ClientIds;
 use crate::session::{Presence, Session};
 use crate::subscribing::end_all;
 use indexmap::IndexMap;
 use sng_book::Address;
 use sng_fan::subscriptions::Subscriptions;
 use sng_frames::Connect;
-use sng_ids::IdTable;
+use sng_queue::Queue;
 use sng_states::ClientState;
 use sng_text::{ClientId, TopicName};
-use std::alloc::{AllocError, Global};
 
 /// The client at this place leaves, and its address is free. Takes no memory.
 pub fn leave_at(
@@ -44,6 +45,7 @@ pub fn leave_at(
 {
     if let Some(session) = clients.get_index_mut(place) {
         release(places, Some(session.presence));
+        session.queue.empty();
         session.presence.phase = ClientState::Disconnected;
         session.presence.heard = clock;
     }
@@ -65,17 +67,18 @@ fn release(places: &mut IndexMap<Address, usize>, before: Option<Presence>)
 /// The client that connects, and was not known, is where its CONNECT came from, and whoever else is there
 /// leaves. Takes no memory.
 pub fn admit(
-    alloc: Global,
     clients: &mut IndexMap<ClientId, Session>,
     places: &mut IndexMap<Address, usize>,
     from: Address,
     connect: Connect,
+    ids: ClientIds,
+    queue: Queue,
     filters: Subscriptions,
     clock: u64,
 )
     requires indexed { Indexed (get same_address places.old) (clients_of clients.old.entries) }
     requires new { is_known connect.client_id (clients_of clients.old.entries) ≡ false }
-    requires none { filters ≡ [] }
+    requires none { (ids ≡ []) × (queue ≡ nothing) × (filters ≡ []) }
     requires room { 0 < spare clients.old }
     requires place_room { 0 < spare places.old }
     ensures clients { clients_of clients.new.entries
@@ -90,14 +93,16 @@ pub fn admit(
             duration: connect.duration,
             heard: clock,
         },
-        ids: IdTable::new(alloc),
+        ids,
+        number: 0,
+        queue,
         filters,
     };
     settle(clients, places, connect.client_id, session);
 }
 
 /// The client at this place, which connects again, is where its CONNECT came from, and whoever else is there
-/// leaves. A clean CONNECT ends what stood for it. Takes no memory.
+/// leaves. A clean CONNECT ends what stood and waited for it. Takes no memory.
 pub fn readmit(
     clients: &mut IndexMap<ClientId, Session>,
     places: &mut IndexMap<Address, usize>,
@@ -152,7 +157,8 @@ fn return_at(
     }
 }
 
-/// A session begins anew: a clean one ends what stood for its client (MQTT-SN 1.2, 6.2 and 6.3).
+/// A session begins anew, with no exchange open: a clean one ends what stood and waited for its client
+/// (MQTT-SN 1.2, 6.2 and 6.3).
 fn begin(session: &mut Session, holders: &mut Holders, from: Address, connect: &Connect, clock: u64)
     requires { (text : List ℕ) → one_if (stands session.old.filters text) ≤ count_of holders.old.held text }
     ensures presence { session.new.presence ≡ record {
@@ -161,12 +167,17 @@ fn begin(session: &mut Session, holders: &mut Holders, from: Address, connect: &
       duration = connect.now.duration;
       heard = clock;
     } }
-    ensures ids { session.new.ids.ids ≡ [] }
+    ensures ids { session.new.ids ≡ [] }
+    ensures number { session.new.number ≡ session.old.number }
+    ensures queue { session.new.queue ≡ (if connect.now.flags.clean then nothing
+        else record session.old.queue { exchange = None }) }
     ensures filters { session.new.filters ≡ (if connect.now.flags.clean then [] else session.old.filters) }
     ensures counts { Follows holders.old.held holders.new.held session.old.filters session.new.filters }
 {
+    session.queue.close();
     if connect.flags.clean {
         end_all(&mut session.filters, holders);
+        session.queue.empty();
     }
     session.ids.clear();
     session.presence = Presence {
@@ -262,65 +273,44 @@ pub fn hear_at(clients: &mut IndexMap<ClientId, Session>, place: usize, clock: u
 }
 
 /// The client at this place is heard, and where a name is given it is told the id that this has from now on.
-/// An `Err` is a failed allocation; nothing that contracts see changed.
+/// Takes no memory.
 pub fn tell_if(
     clients: &mut IndexMap<ClientId, Session>,
     place: usize,
     name: Option<TopicName>,
     clock: u64,
-) -> Result<(), AllocError>
+)
     requires { ForSome name (λ n.
         is_full_for n (client_at (clients_of clients.old.entries) place).ids ≡ false) }
-    ensures ok { OnOk result (clients_of clients.new.entries
-        ≡ moved_at place (told_at clock name Allowed) (clients_of clients.old.entries)) }
-    ensures err { OnErr result (clients_of clients.new.entries ≡ clients_of clients.old.entries) }
+    ensures { clients_of clients.new.entries
+        ≡ moved_at place (told_at clock name Allowed) (clients_of clients.old.entries) }
 {
     match name {
         Some(name) => tell_at(clients, place, name, clock),
-        None => {
-            hear_at(clients, place, clock);
-            Ok(())
-        }
+        None => hear_at(clients, place, clock),
     }
 }
 
-/// The client at this place is heard, and is told the id that the name has from now on. An `Err` is a failed
-/// allocation; nothing that contracts see changed.
-pub fn tell_at(
-    clients: &mut IndexMap<ClientId, Session>,
-    place: usize,
-    name: TopicName,
-    clock: u64,
-) -> Result<(), AllocError>
+/// The client at this place is heard, and is told the id that the name has from now on. Takes no memory.
+pub fn tell_at(clients: &mut IndexMap<ClientId, Session>, place: usize, name: TopicName, clock: u64)
     requires { is_full_for name (client_at (clients_of clients.old.entries) place).ids ≡ false }
-    ensures ok { OnOk result (clients_of clients.new.entries
-        ≡ moved_at place (told_at clock (Some name) Allowed) (clients_of clients.old.entries)) }
-    ensures err { OnErr result (clients_of clients.new.entries ≡ clients_of clients.old.entries) }
+    ensures { clients_of clients.new.entries
+        ≡ moved_at place (told_at clock (Some name) Allowed) (clients_of clients.old.entries) }
 {
-    match clients.get_index_mut(place) {
-        Some(session) => {
-            tell(session, name, clock)?;
-            Ok(())
-        }
-        None => Ok(()),
+    if let Some(session) = clients.get_index_mut(place) {
+        tell(session, name, clock);
     }
 }
 
 /// The same of one session.
-fn tell(session: &mut Session, name: TopicName, clock: u64) -> Result<(), AllocError>
-    requires { is_full_for name session.old.ids.ids ≡ false }
-    ensures ok { OnOk result ((session.new.presence ≡ record session.old.presence { heard = clock })
-        × (session.new.ids.ids ≡ told name session.old.ids.ids)
-        × (session.new.filters ≡ session.old.filters)) }
-    ensures err { OnErr result ((session.new.presence ≡ session.old.presence)
-        × (session.new.ids.ids ≡ session.old.ids.ids)
-        × (session.new.filters ≡ session.old.filters)) }
+fn tell(session: &mut Session, name: TopicName, clock: u64)
+    requires { is_full_for name session.old.ids ≡ false }
+    ensures { session.new ≡ record session.old {
+      presence = record session.old.presence { heard = clock };
+      ids = told name session.old.ids;
+    } }
 {
-    session.ids.room(1)?;
-    match session.ids.give(name) {
-        Ok(id) => session.ids.confirm(id),
-        Err(_) => unreachable!(),
-    }
+    let id = session.ids.give(name);
+    session.ids.confirm(id);
     session.presence.heard = clock;
-    Ok(())
 }

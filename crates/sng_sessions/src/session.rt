@@ -1,7 +1,8 @@
 //! What is kept of one client.
+use crate::ids::ClientIds;
 use sng_book::Address;
 use sng_fan::subscriptions::Subscriptions;
-use sng_ids::IdTable;
+use sng_queue::Queue;
 use sng_states::ClientState;
 
 /// Where a client is, and how it stands with the gateway.
@@ -22,7 +23,11 @@ pub struct Presence {
 pub struct Session {
     pub presence: Presence,
     /// The topic ids that it was told since its last accepted CONNECT.
-    pub ids: IdTable,
+    pub ids: ClientIds,
+    /// The MsgId of the last message to it, 0 before the first.
+    pub number: u16,
+    /// What waits for it, and the exchange that is open.
+    pub queue: Queue,
     /// The filters that stand for it.
     pub filters: Subscriptions,
 }

@@ -2,6 +2,7 @@
 ghost use Rattle.std.specs.Prelude.{◌≡◌, ◌<◌, ◌+◌, ◌||◌, [], length, take, drop, false, Some, IfSome, OnOk, OnErr};
 ghost use Rattle.std.specs.Option.{ForSome};
 ghost use Rattle.sng_fan.specs.Subscriptions.{is_full, IsOneClients};
+ghost use Rattle.sng_fan.specs.Greatest.{greatest_qos};
 ghost use Rattle.sng_history.specs.Clients.{without};
 ghost use Rattle.sng_history.specs.Standing.{holds, is_held};
 ghost use Rattle.sng_history.specs.Good.{Distinct, OnePlace};
@@ -10,8 +11,11 @@ ghost use Rattle.sng_book.specs.declared.outcome.Outcome.TheVariants.{Allowed};
 ghost use Rattle.sng_history.specs.Entering.{heard_at, left_at, entered};
 ghost use Rattle.sng_sessions.specs.Standing.{place_at, place_of, client_at, told_at, subscribed_at};
 ghost use Rattle.sng_sessions.specs.Places.{moved_at};
+ghost use Rattle.sng_sessions.specs.Handed.{delivered, handed_by, answered};
 
+use crate::handing::{Handed, Opens, answer_at, deliver_at, hand_at};
 use crate::holders::Holders;
+use crate::ids::ClientIds;
 use crate::places::{admit, hear_at, leave_at, readmit, tell_at, tell_if};
 use crate::session::Session;
 use crate::subscribing::{end_at, stand_at};
@@ -21,6 +25,7 @@ use sng_fan::Held;
 use sng_fan::subscriptions::Subscriptions;
 use sng_frames::Connect;
 use sng_ids::IdTable;
+use sng_queue::{Queue, Waiting};
 use sng_states::ClientState;
 use sng_text::{ClientId, Qos, TopicFilter, TopicName};
 use std::alloc::{AllocError, Global};
@@ -121,7 +126,32 @@ impl Sessions {
         requires { place < length self.now }
         ensures { result.now.ids ≡ (client_at self.now place).ids }
     {
-        &self.clients[place].ids
+        self.clients[place].ids.table()
+    }
+
+    /// The MsgId of the last message to the client at this place, 0 before the first. Takes no memory.
+    pub fn number(&self, place: usize) -> u16
+        requires { place < length self.now }
+        ensures { result ≡ (client_at self.now place).number }
+    {
+        self.clients[place].number
+    }
+
+    /// What waits for the client at this place, and its open exchange. Takes no memory.
+    pub fn queue(&self, place: usize) -> &Queue
+        requires { place < length self.now }
+        ensures { result.now ≡ (client_at self.now place).buffer }
+    {
+        &self.clients[place].queue
+    }
+
+    /// The greatest QoS among the filters of the client at this place that match the name, where one matches.
+    /// Takes no memory.
+    pub fn greatest(&self, place: usize, name: &TopicName) -> Option<Qos>
+        requires { place < length self.now }
+        ensures { result ≡ greatest_qos (client_at self.now place).filters name.now }
+    {
+        self.clients[place].filters.greatest(name)
     }
 
     /// The filters that stand for the client at this place, in order of first standing. Takes no memory.
@@ -158,15 +188,12 @@ impl Sessions {
         self.holders.count(filter) > own
     }
 
-    /// The client at this place is heard, and is told the id that the name has from now on. An `Err` is a
-    /// failed allocation; nothing changed.
-    pub fn tell(&mut self, place: usize, name: TopicName, clock: u64) -> Result<(), AllocError>
+    /// The client at this place is heard, and is told the id that the name has from now on. Takes no memory.
+    pub fn tell(&mut self, place: usize, name: TopicName, clock: u64)
         requires { is_full_for name (client_at self.old place).ids ≡ false }
-        ensures ok { OnOk result (self.new ≡ moved_at place (told_at clock (Some name) Allowed) self.old) }
-        ensures err { OnErr result (self.new ≡ self.old) }
+        ensures { self.new ≡ moved_at place (told_at clock (Some name) Allowed) self.old }
     {
-        tell_at(&mut self.clients, place, name, clock)?;
-        Ok(())
+        tell_at(&mut self.clients, place, name, clock);
     }
 
     /// The client at this place is heard. Takes no memory.
@@ -174,6 +201,29 @@ impl Sessions {
         ensures { self.new ≡ moved_at place (heard_at clock) self.old }
     {
         hear_at(&mut self.clients, place, clock);
+    }
+
+    /// A message comes to wait for the client at this place, where fewer wait than may, and an exchange begins.
+    /// Takes no memory.
+    pub fn deliver(&mut self, place: usize, message: Waiting, opens: Opens, clock: u64)
+        ensures { self.new ≡ moved_at place (delivered clock message opens) self.old }
+    {
+        deliver_at(&mut self.clients, place, message, opens, clock);
+    }
+
+    /// A hand-over to the client at this place is carried out. Takes no memory.
+    pub fn hand(&mut self, place: usize, handed: Handed, clock: u64)
+        ensures { self.new ≡ moved_at place (handed_by clock handed) self.old }
+    {
+        hand_at(&mut self.clients, place, handed, clock);
+    }
+
+    /// The client at this place is heard, knows the id (0 is none), and has no exchange open any more; what
+    /// waits stays. Takes no memory.
+    pub fn answer(&mut self, place: usize, id: u16, clock: u64)
+        ensures { self.new ≡ moved_at place (answered clock id) self.old }
+    {
+        answer_at(&mut self.clients, place, id, clock);
     }
 
     /// The client at this place leaves, and its address is free. Takes no memory.
@@ -203,7 +253,7 @@ impl Sessions {
         ensures err { OnErr result (self.new ≡ self.old) }
     {
         self.holders.room()?;
-        tell_if(&mut self.clients, place, name, clock)?;
+        tell_if(&mut self.clients, place, name, clock);
         stand_at(
             &mut self.clients,
             &mut self.holders,
@@ -258,10 +308,12 @@ impl Sessions {
                 Ok(())
             }
             None => {
+                let ids = ClientIds::new(alloc)?;
+                let queue = Queue::new(alloc)?;
                 let filters = Subscriptions::new(alloc)?;
                 self.clients.reserve(1)?;
                 let (clients, places) = (&mut self.clients, &mut self.places);
-                admit(alloc, clients, places, from, connect, filters, clock);
+                admit(clients, places, from, connect, ids, queue, filters, clock);
                 Ok(())
             }
         }

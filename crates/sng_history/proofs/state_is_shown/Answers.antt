@@ -1,7 +1,7 @@
 use Rattle.sng_history.proofs.SeenState.{stands}
 use Rattle.sng_history.proofs.SeenUntold.{each_untold}
 use Rattle.sng_history.proofs.LawStrangers.{never_accepted}
-use Rattle.sng_history.proofs.SeenRest.{rest_shown}
+use Rattle.sng_history.proofs.SeenLast.{rest_shown}
 use Rattle.sng_history.proofs.state_is_shown.Goals as goal
 
 pub returns : goal.returns

@@ -13,5 +13,5 @@ settle-requires-clause-alone c =
 pub returns-clause-clients : goal.returns-clause-clients
 returns-clause-clients c =
     c.settle.ensures.clients
-    ∙ ap (settled c.args.connect.client_id (session_by c.args.clock c.args.from c.args.connect c.new.result c.args.filters)) c.vacate.ensures.clients
-    ∙ settled-entered c.args.clock c.args.from c.args.connect c.new.result c.args.filters c.new.ensures c.requires.none _ c.requires.new
+    ∙ ap (settled c.args.connect.client_id (session_by c.args.clock c.args.from c.args.connect c.args.ids c.args.queue c.args.filters)) c.vacate.ensures.clients
+    ∙ settled-entered c.args.clock c.args.from c.args.connect c.args.ids c.args.queue c.args.filters c.requires.none _ c.requires.new

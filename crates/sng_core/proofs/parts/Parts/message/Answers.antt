@@ -28,10 +28,10 @@ pub returns-in-Register-clause-outs : goal.returns-in-Register-clause-outs
 returns-in-Register-clause-outs c = subst (λ f. IfOk c.register.result (λ outs. outs ≡ outs_by c.args.self.now (frame_cause c.args.from f))) (sym c.in-Register.is) c.register.ensures.outs
 
 pub returns-in-RegisterAck-clause-outs : goal.returns-in-RegisterAck-clause-outs
-returns-in-RegisterAck-clause-outs c = subst (λ f. IfOk c.unsupported-in-RegisterAck.result (λ outs. outs ≡ outs_by c.args.self.now (frame_cause c.args.from f))) (sym c.in-RegisterAck.is) c.unsupported-in-RegisterAck.ensures.outs
+returns-in-RegisterAck-clause-outs c = subst (λ f. IfOk c.confirm.result (λ outs. outs ≡ outs_by c.args.self.now (frame_cause c.args.from f))) (sym c.in-RegisterAck.is) c.confirm.ensures.outs
 
 pub returns-in-PublishAck-clause-outs : goal.returns-in-PublishAck-clause-outs
-returns-in-PublishAck-clause-outs c = subst (λ f. IfOk c.unsupported-in-PublishAck.result (λ outs. outs ≡ outs_by c.args.self.now (frame_cause c.args.from f))) (sym c.in-PublishAck.is) c.unsupported-in-PublishAck.ensures.outs
+returns-in-PublishAck-clause-outs c = subst (λ f. IfOk c.acknowledge.result (λ outs. outs ≡ outs_by c.args.self.now (frame_cause c.args.from f))) (sym c.in-PublishAck.is) c.acknowledge.ensures.outs
 
 pub returns-in-PublishComplete-clause-outs : goal.returns-in-PublishComplete-clause-outs
 returns-in-PublishComplete-clause-outs c = subst (λ f. IfOk c.unsupported-in-PublishComplete.result (λ outs. outs ≡ outs_by c.args.self.now (frame_cause c.args.from f))) (sym c.in-PublishComplete.is) c.unsupported-in-PublishComplete.ensures.outs

@@ -24,3 +24,9 @@ invariant_of-self-in-None c =
           ∙ ap (λ entries. holder_count text (entered c.args.clock c.args.from c.args.connect (clients_of entries))) same
           ∙ entered-count text c.args.clock c.args.from c.args.connect (clients_of c.self.inside.clients.entries) new),
     )
+
+pub returns-in_ok-reserve-in-None-clause-ok : goal.returns-in_ok-reserve-in-None-clause-ok
+returns-in_ok-reserve-in-None-clause-ok c =
+    c.admit.ensures.clients
+    ∙ (ap (λ entries. entered c.args.clock c.args.from c.args.connect (clients_of entries)) c.reserve-in-None.ensures.entries
+    ∙ ap (entered c.args.clock c.args.from c.args.connect) c.self.view_is)

@@ -11,15 +11,9 @@ use Rattle.sng_sessions.proofs.sessions.Sessions.tell.Goals as goal
 
 pub invariant_of-self : goal.invariant_of-self
 invariant_of-self c = (
-  λ from place. c.self.invariant.0 from place ∙ sym (ap (λ xs. holds_at (λ x. is_here x from) xs place) c.in_err-tell_at.ensures.err),
-  λ text. c.self.invariant.1 text ∙ sym (ap (holder_count text) c.in_err-tell_at.ensures.err),
-)
-
-pub invariant_of-self-2 : goal.invariant_of-self-2
-invariant_of-self-2 c = (
   λ from place. c.self.invariant.0 from place
-      ∙ sym (ap (λ xs. holds_at (λ x. is_here x from) xs place) c.in_ok-tell_at.ensures.ok
+      ∙ sym (ap (λ xs. holds_at (λ x. is_here x from) xs place) c.tell_at.ensures
       ∙ holds_at-kept (λ x. is_here x from) (told_at c.args.clock (Some c.args.name) Allowed) (λ x. refl) _ c.args.place place),
-  λ text. c.self.invariant.1 text ∙ sym (ap (holder_count text) c.in_ok-tell_at.ensures.ok
+  λ text. c.self.invariant.1 text ∙ sym (ap (holder_count text) c.tell_at.ensures
       ∙ holder_count-kept text (told_at c.args.clock (Some c.args.name) Allowed) (λ x. refl) _ c.args.place),
 )

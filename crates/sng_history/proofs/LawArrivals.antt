@@ -1,0 +1,212 @@
+-- A message of the broker comes to each client that it concerns: it is refused at once, or handed over at once, or waits.
+use Rattle.std.proofs.Common.{◌≡◌, ℕ, ◌+◌, ◌≤◌, Bool, true, false, List, [], ◌∷◌, ◌++◌, length, refl, ap, sym, ◌∙◌, if◌then◌else◌, arith}
+use Rattle.std.specs.Prelude.{◌||◌, ◌&&◌, not, nat_lt, nat_le, is_some, is_none, Option, Some, None}
+use Rattle.std.proofs.lemmas.Bool.Decides.{nat_tests}
+use Rattle.sng_text.specs.Texts.{is_name}
+use Rattle.sng_text.specs.Matching.{matches}
+use Rattle.sng_text.specs.declared.qos.Qos.{Qos}
+use Rattle.sng_text.specs.declared.qos.Qos.TheVariants.{AtMostOnce, AtLeastOnce}
+use Rattle.sng_grants.specs.declared.policy.Policy.{Policy}
+use Rattle.mqtt_frames.specs.declared.packet.Publish.{Publish}
+use Rattle.mqtt_frames.specs.declared.packet.Packet.TheVariants as packet
+use Rattle.sng_states.specs.States.{is_due_messages, takes_messages}
+use Rattle.sng_fan.specs.declared.held.Held.{Held}
+use Rattle.sng_fan.specs.Greatest.{raised, greatest_from, greatest_qos}
+use Rattle.sng_queue.specs.declared.exchange.Exchange.{Exchange}
+use Rattle.sng_queue.specs.Messages.{Message, message}
+use Rattle.sng_queue.specs.Buffers.{Buffer}
+use Rattle.sng_book.specs.declared.decision.Decision.{Decision}
+use Rattle.sng_book.specs.declared.decision.Decision.TheVariants as note
+use Rattle.sng_book.specs.declared.outcome.Place.TheVariants as place
+use Rattle.sng_book.specs.declared.outcome.Denial.TheVariants.{Full, TooLong}
+use Rattle.sng_book.specs.declared.outcome.Outcome.{Outcome}
+use Rattle.sng_book.specs.declared.outcome.Outcome.TheVariants.{Allowed, Denied}
+use Rattle.sng_book.specs.declared.out.Out.{Out}
+use Rattle.sng_book.specs.declared.out.Out.TheVariants.{Note}
+use Rattle.sng_book.specs.declared.row.Row.{Row}
+use Rattle.sng_history.specs.Causes.{Cause, ByPacket}
+use Rattle.sng_history.specs.Arriving.{granted_at, due_to, arrival, joins_by, joins, turned_away_by}
+use Rattle.sng_history.specs.Clients.{Client}
+use Rattle.sng_history.specs.State.{State, around}
+use Rattle.sng_history.specs.Outgoing.{turns, is_free, handed_over, delivered_notes}
+use Rattle.sng_history.specs.Whole.{spell, part}
+use Rattle.sng_history.specs.Lawful.{fixed_for}
+use Rattle.sng_history.specs.Good.{AtRest}
+use Rattle.sng_history.specs.ViewsClients.{address_of, names_told}
+use Rattle.sng_history.specs.ViewsHanding.{is_at_least_once, is_matched, is_matched_at_one, qos_due, is_taking, meant_for, Opening, Announced, HandedOver, is_idle, progress_of, names_known}
+use Rattle.sng_history.specs.LawsState.{IsOpen, ClientShown}
+use Rattle.sng_history.specs.LawsHanding.{mailing, handed_out, is_too_long, is_ready, arrival_answer, arrivals}
+use Rattle.sng_history.proofs.Takes.{awaiting_same, taking_same}
+use Rattle.sng_history.proofs.SeenState.{StateShown}
+use Rattle.sng_history.proofs.LawTurns.{last_within, handed_shown}
+
+-- ---- which message is due
+
+-- the greatest QoS of some filters, where there are any
+abbrev greatest_of : Bool → Bool → Option Qos
+greatest_of any at_one = if any then Some (if at_one then AtLeastOnce else AtMostOnce) else None
+
+abbrev is_one : Option Qos → Bool
+is_one None = false
+is_one (Some q) = is_at_least_once q
+
+greatest_so : (g : Option Qos) → g ≡ greatest_of (is_some g || false) (is_one g || false)
+greatest_so None = refl
+greatest_so (Some AtMostOnce) = refl
+greatest_so (Some AtLeastOnce) = refl
+
+raised_any : (g : Option Qos) (q : Qos) (b any : Bool) → (is_some (let o : Option Qos = if b then Some (raised g q) else g in o) || any) ≡ (is_some g || (b || any))
+raised_any None q true any = refl
+raised_any (Some r) q true any = refl
+raised_any g q false any = refl
+
+raised_one : (g : Option Qos) (q : Qos) (b one : Bool) → (is_one (let o : Option Qos = if b then Some (raised g q) else g in o) || one) ≡ (is_one g || ((b && is_at_least_once q) || one))
+raised_one None q true one = refl
+raised_one (Some AtMostOnce) q true one = refl
+raised_one (Some AtLeastOnce) q true one = refl
+raised_one g q false one = refl
+
+greatest_by : (g : Option Qos) (held : List Held) (name : List ℕ) → greatest_from g held name ≡ greatest_of (is_some g || is_matched held name) (is_one g || is_matched_at_one held name)
+greatest_by g [] name = greatest_so g
+greatest_by g (h ∷ held) name =
+    let b = matches h.filter name in
+    greatest_by (if b then Some (raised g h.qos) else g) held name
+    ∙ (ap (λ any. greatest_of any (is_one (let o : Option Qos = if b then Some (raised g h.qos) else g in o) || is_matched_at_one held name)) (raised_any g h.qos b (is_matched held name))
+    ∙ ap (greatest_of (is_some g || (b || is_matched held name))) (raised_one g h.qos b (is_matched_at_one held name)))
+
+-- it is due at the lesser of its QoS and the greatest that is granted
+granted_by : (p : Publish) (held : List Held) (owes : Option ℕ) (any at_one : Bool) → p.packet_id ≡ owes → is_matched_at_one held p.name ≡ at_one
+    → granted_at p (greatest_of any at_one) ≡ (if any then Some (message p.name p.payload (qos_due held owes p.name) p.retain) else None)
+granted_by p held owes false at_one is one = refl
+granted_by p held None true at_one is one = rw is refl
+granted_by p held (Some packet_id) true true is one = rw (is, one) refl
+granted_by p held (Some packet_id) true false is one = rw (is, one) refl
+
+granted_same : (p : Publish) (held : List Held)
+    → granted_at p (greatest_qos held p.name) ≡ (if is_matched held p.name then Some (message p.name p.payload (qos_due held p.packet_id p.name) p.retain) else None)
+granted_same p held =
+    ap (granted_at p) (greatest_by None held p.name)
+    ∙ granted_by p held p.packet_id (is_matched held p.name) (is_matched_at_one held p.name) refl refl
+
+both_if : (n d any : Bool) (m : Message) → (let o : Option Message = if n && d then (if any then Some m else None) else None in o) ≡ (if n && (d && any) then Some m else None)
+both_if true true any m = refl
+both_if true false any m = refl
+both_if false d any m = refl
+
+due_shown : (h : List Row) (x : Client) (p : Publish) → ClientShown h x → due_to p x.phase x.filters ≡ meant_for x.id p h
+due_shown h x p shown =
+    ap (λ o. if is_name p.name && is_due_messages x.phase then o else None) (granted_same p x.filters)
+    ∙ (both_if (is_name p.name) (is_due_messages x.phase) (is_matched x.filters p.name) (message p.name p.payload (qos_due x.filters p.packet_id p.name) p.retain)
+    ∙ (rw (shown.phase, awaiting_same x.phase, shown.filters) refl))
+
+-- ---- a client at rest
+
+-- what is kept of a client that is at rest leaves nothing
+rest_by : (policy : Policy) (x : Client) (free : Bool) → (if free then x.buffer.waiting else []) ≡ []
+    → (let notes : List Decision = if free then turns policy x.id x.ids x.buffer.waiting else [] in notes) ≡ []
+rest_by policy x true none = ap (turns policy x.id x.ids) none
+rest_by policy x false none = refl
+
+pub none_leaves : (policy : Policy) (x : Client) → AtRest x → handed_over policy x ≡ []
+none_leaves policy x rest = rest_by policy x (is_free x) rest.handed
+
+-- a client is free where the rows show that nothing is open with it
+pub idle_same : (o : Option Opening) (told : List (List ℕ)) (number : ℕ) (e : Option Exchange) → IsOpen o told number e → is_none e ≡ is_idle o
+idle_same None told number e opened = ap is_none opened
+idle_same (Some (Announced name)) told number e opened = ap is_none opened.1.0
+idle_same (Some (HandedOver m)) told number e opened = ap is_none opened.1.1.0
+
+pub free_shown : (h : List Row) (x : Client) → ClientShown h x → is_free x ≡ is_ready h x.id
+free_shown h x shown =
+    ap (λ b. takes_messages x.phase && b) (idle_same (progress_of x.id h).unanswered (names_told x.id h) x.number x.buffer.exchange shown.exchange)
+    ∙ (ap (λ b. b && is_idle (progress_of x.id h).unanswered) (sym (taking_same x.phase))
+    ∙ ap (λ phase. is_taking phase && is_idle (progress_of x.id h).unanswered) (sym shown.phase))
+
+nothing_open : (e : Option Exchange) → is_none e ≡ true → e ≡ None
+nothing_open None is = refl
+nothing_open (Some one) is = absurd cc
+
+none_right : (a : Bool) (e : Option Exchange) → (a && is_none e) ≡ true → e ≡ None
+none_right true e is = nothing_open e is
+none_right false e is = absurd cc
+
+-- ---- what becomes of a message that is due
+
+most_by : (n m k : ℕ) → k ≡ m + 1 → nat_le n m ≡ nat_lt n k
+most_by n m k is = grind (arith, nat_tests, is)
+
+full_by : (n m : ℕ) → nat_le m n ≡ not (nat_lt n m)
+full_by n m = grind (arith, nat_tests)
+
+arrival_if : (sendable room : Bool)
+    → (if sendable then (if not room then Denied (Full place.Queue) else Allowed) else Denied TooLong) ≡ (if not sendable then Denied TooLong else (if not room then Denied (Full place.Queue) else Allowed))
+arrival_if true room = refl
+arrival_if false room = refl
+
+arrival_same : (b : Buffer) (m : Message) → arrival b m ≡ (if is_too_long m then Denied TooLong else (if not (nat_lt (length b.waiting) 64) then Denied (Full place.Queue) else Allowed))
+arrival_same b m =
+    rw (most_by (length m.name) 2040 2041 refl, most_by (length m.payload) 2039 2040 refl, full_by (length b.waiting) 64)
+    (arrival_if (nat_lt (length m.name) 2041 && nat_lt (length m.payload) 2040) (nat_lt (length b.waiting) 64))
+
+-- the client once the message came
+abbrev came : Outcome → Message → Client → Client
+came o m x = record x { buffer = joins_by o m x.buffer }
+
+-- what the rows let out then
+abbrev answer_as : List Row → Client → Message → Outcome → List Out
+answer_as h x m (Denied rule) = Note (note.Hand x.id m.name (Denied rule)) ∷ []
+answer_as h x m Allowed = if is_ready h x.id then handed_out (mailing h x.id x.address) (m ∷ []) else []
+
+-- the one that leaves at once
+sole : (h : List Row) (s : State) (c : Cause) (x : Client) (m : Message) → (around s c).policy ≡ s.policy → StateShown h s → ClientShown h x → x.buffer.exchange ≡ None → x.buffer.waiting ≡ []
+    → spell (around s c) [] (came Allowed m x) (turns (around s c).policy x.id x.ids (x.buffer.waiting ++ m ∷ [])) ≡ handed_out (mailing h x.id x.address) (m ∷ [])
+sole h s c x m same state shown none empty =
+    let within : x.number ≤ 65535 = (rw shown.number (last_within (progress_of x.id h).numbered)) in
+    handed_shown (around s c) [] (came Allowed m x) (names_told x.id h) (names_known x.id h) shown.ids none within
+    ∙ (rw (empty, shown.number, same, state.policy) refl)
+
+joined_by : (h : List Row) (s : State) (p : Publish) (x : Client) (m : Message) (free : Bool) → is_free x ≡ free → StateShown h s → ClientShown h x → AtRest x
+    → spell (around s (ByPacket (packet.Publish p))) [] (came Allowed m x) (if free then turns s.policy x.id x.ids (x.buffer.waiting ++ m ∷ []) else [])
+    ≡ (if free then handed_out (mailing h x.id x.address) (m ∷ []) else [])
+joined_by h s p x m true is state shown rest =
+    let empty : x.buffer.waiting ≡ [] = ap (λ b. if b then x.buffer.waiting else []) (sym is) ∙ rest.handed in
+    sole h s (ByPacket (packet.Publish p)) x m refl state shown (none_right (takes_messages x.phase) x.buffer.exchange is) empty
+joined_by h s p x m false is state shown rest = refl
+
+came_as : (h : List Row) (s : State) (p : Publish) (x : Client) (m : Message) (o : Outcome) → StateShown h s → ClientShown h x → AtRest x
+    → spell (around s (ByPacket (packet.Publish p))) [] (came o m x) (turned_away_by x.id m.name o ++ handed_over s.policy (came o m x)) ≡ answer_as h x m o
+came_as h s p x m (Denied rule) state shown rest =
+    ap (λ notes. spell (around s (ByPacket (packet.Publish p))) [] x (note.Hand x.id m.name (Denied rule) ∷ notes)) (none_leaves s.policy x rest)
+came_as h s p x m Allowed state shown rest =
+    joined_by h s p x m (is_free x) refl state shown rest
+    ∙ ap (λ b. if b then handed_out (mailing h x.id x.address) (m ∷ []) else []) (free_shown h x shown)
+
+answer_if : (h : List Row) (x : Client) (m : Message) (long room : Bool)
+    → answer_as h x m (if long then Denied TooLong else (if not room then Denied (Full place.Queue) else Allowed))
+    ≡ (if long
+    then Note (note.Hand x.id m.name (Denied TooLong)) ∷ []
+    else (if not room
+    then Note (note.Hand x.id m.name (Denied (Full place.Queue))) ∷ []
+    else (if is_ready h x.id then handed_out (mailing h x.id x.address) (m ∷ []) else [])))
+answer_if h x m true room = refl
+answer_if h x m false true = refl
+answer_if h x m false false = refl
+
+answer_same : (h : List Row) (x : Client) (m : Message) → ClientShown h x → answer_as h x m (arrival x.buffer m) ≡ arrival_answer h x.id x.address m
+answer_same h x m shown =
+    ap (answer_as h x m) (arrival_same x.buffer m)
+    ∙ (answer_if h x m (is_too_long m) (nat_lt (length x.buffer.waiting) 64)
+    ∙ (rw shown.waiting refl))
+
+due_came : (h : List Row) (s : State) (p : Publish) (x : Client) (due : Option Message) → StateShown h s → ClientShown h x → AtRest x
+    → spell (around s (ByPacket (packet.Publish p))) [] (let y : Client = record x { buffer = joins due x.buffer } in y) (delivered_notes s.policy due x) ≡ arrivals h x.id (Some x.address) due
+due_came h s p x None state shown rest = ap (spell (around s (ByPacket (packet.Publish p))) [] x) (none_leaves s.policy x rest)
+due_came h s p x (Some m) state shown rest = came_as h s p x m (arrival x.buffer m) state shown rest ∙ answer_same h x m shown
+
+-- what a message of the broker lets out for a client
+pub arrived : (h : List Row) (s : State) (p : Publish) (x : Client) → StateShown h s → ClientShown h x → AtRest x
+    → let c = ByPacket (packet.Publish p) in part (around s c) [] (fixed_for s c x) x ≡ arrivals h x.id (address_of x.id h) (meant_for x.id p h)
+arrived h s p x state shown rest =
+    due_came h s p x (due_to p x.phase x.filters) state shown rest
+    ∙ (ap (arrivals h x.id (Some x.address)) (due_shown h x p shown)
+    ∙ ap (λ place. arrivals h x.id place (meant_for x.id p h)) (sym shown.address))
