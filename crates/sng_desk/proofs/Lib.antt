@@ -1,0 +1,8 @@
+pub mod Spanning
+pub mod Acting
+pub mod Going
+pub mod Least
+pub mod Writing
+pub mod Turns
+pub mod Feeding
+pub mod Places

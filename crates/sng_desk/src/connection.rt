@@ -1,0 +1,119 @@
+//! The connection to the broker, as a worker knows it.
+ghost use Rattle.std.specs.Prelude.{◌≡◌, ◌≤◌, ◌<◌, ◌∷◌, [], ℕ, Bool, List, true, false, take, length, IfOk};
+ghost use Rattle.sng_desk.specs.declared.connection.Call.{Call as call};
+ghost use Rattle.sng_desk.specs.declared.connection.Call.TheVariants.{NotWritten, Shut, Wrote};
+ghost use Rattle.sng_desk.specs.declared.connection.Opening.TheVariants.{NoneLeft};
+ghost use Rattle.sng_desk.specs.Acts.{Moves};
+ghost use Rattle.sng_desk.specs.Turning.{got_call, opening_call};
+ghost use Rattle.sng_desk.specs.Devices.{IsShort, IsTaken, written_call};
+
+use sng_text::Octets;
+
+/// A call of a connection, with what came of it.
+#[derive(Drop)]
+pub enum Call {
+    /// A connection was made.
+    Opened,
+    /// None could be made.
+    NotOpened,
+    /// No further one comes.
+    NoMore,
+    /// Nothing was there to read.
+    Quiet,
+    /// This was read.
+    Read(Octets),
+    /// The connection is lost.
+    Lost,
+    /// This was written.
+    Wrote(Octets),
+    /// A write failed.
+    NotWritten,
+    /// It was closed.
+    Shut,
+}
+
+/// What came of a try to connect.
+#[derive(Clone, Copy, Drop)]
+pub enum Opening {
+    Made,
+    Missed,
+    NoneLeft,
+}
+
+/// What a connection gave.
+#[derive(Drop)]
+pub enum ReadAnswer {
+    /// Nothing came in a while.
+    Nothing,
+    Piece(Octets),
+    /// It is lost.
+    Gone,
+}
+
+/// How many bytes a connection took.
+#[derive(Clone, Copy, Drop)]
+pub enum Written {
+    Took(usize),
+    Failed,
+}
+
+/// What a turn does to the connection: it stays, a write to it failed, or it is closed before any write.
+#[derive(Clone, Copy, Drop)]
+pub enum Close {
+    Stays,
+    Breaks,
+    Closes,
+}
+
+/// How a worker stands: without a connection, after so many failed tries; with one that is not accepted yet;
+/// with one that is; or with one that is lost, which the desk refused to hear.
+#[derive(Clone, Copy, Drop)]
+pub enum Stage {
+    Away(u32),
+    Greeting(u32),
+    Open,
+    Fallen,
+}
+
+/// How a worker connects.
+#[derive(Drop)]
+pub struct Terms {
+    /// How many tries may fail, one after another.
+    pub tries: u32,
+    /// What a new connection begins with: the bytes of a CONNECT.
+    pub greeting: Octets,
+}
+
+/// Connections to the broker, one after another.
+pub trait Upstream: Drop {
+    /// Whether it tells what it did.
+    ghost tells: { Self → Bool };
+
+    /// Its calls, in order.
+    ghost did: { Self → List call };
+
+    /// It answered that no further connection comes.
+    ghost has_ended: { Self → Bool };
+
+    fn connect(&mut self) -> Opening
+        ensures did { Moves tells did self.old self.new (opening_call result ∷ []) }
+        ensures ended { result ≡ NoneLeft → has_ended self.new ≡ true };
+
+    /// At most 4,096 bytes. Where the broker has not accepted the connection in good time, it is lost.
+    fn read(&mut self) -> ReadAnswer
+        ensures did { Moves tells did self.old self.new (got_call result ∷ []) }
+        ensures short { IsShort 4096 result };
+
+    /// Writes a beginning of the bytes, of one byte at least.
+    fn write(&mut self, bytes: &[u8]) -> Written
+        requires { 0 < length bytes.now }
+        ensures did { Moves tells did self.old self.new (written_call bytes.now result ∷ []) }
+        ensures taken { IsTaken result (length bytes.now) };
+
+    fn close(&mut self)
+        ensures did { Moves tells did self.old self.new (Shut ∷ []) };
+
+    /// Whether it answered that no further connection comes.
+    fn ended(&self) -> bool
+        ensures { result ≡ has_ended self.now };
+}

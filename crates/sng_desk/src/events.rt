@@ -1,0 +1,138 @@
+//! The sources of three workers as sources of events: datagrams, clock values and policies.
+ghost use Rattle.std.specs.Prelude.{◌≡◌, ◌≤◌, ◌<◌, ◌∷◌, [], ℕ, Bool, List, true, false, map};
+ghost use Rattle.sng_book.specs.declared.address.Address.{Address};
+ghost use Rattle.sng_book.specs.declared.event.Event.{Event as event};
+ghost use Rattle.sng_desk.specs.declared.source.Got.TheVariants.{Ended as ended_answer, Failed as failed_answer};
+ghost use Rattle.sng_desk.specs.Acts.{Moves};
+ghost use Rattle.sng_desk.specs.Working.{given_by};
+ghost use Rattle.sng_desk.specs.Sources.{datagram_events, tick_events, replace_events};
+
+use crate::source::{Beats, Datagrams, Got, Policies};
+use sng_book::{Address, Event};
+use sng_text::Octets;
+
+/// A source of events, and a way to send what comes of them.
+pub trait Source: Drop {
+    ghost tells: { Self → Bool };
+
+    ghost gave: { Self → List event };
+
+    ghost failures: { Self → ℕ };
+
+    ghost has_ended: { Self → Bool };
+
+    /// Whether it tells what was passed to it.
+    ghost told: { Self → Bool };
+
+    ghost passed: { Self → List (Address × List ℕ) };
+
+    fn ask(&mut self) -> Got<Event>
+        ensures given { Moves tells gave self.old self.new (given_by result) }
+        ensures passed { Moves told passed self.old self.new [] }
+        ensures failures { failures self.old ≤ failures self.new }
+        ensures failed { result ≡ failed_answer → failures self.old < failures self.new }
+        ensures ended { result ≡ ended_answer → has_ended self.new ≡ true };
+
+    fn send(&mut self, to: Address, datagram: &Octets)
+        ensures given { Moves tells gave self.old self.new [] }
+        ensures passed { Moves told passed self.old self.new ((to, datagram.now) ∷ []) }
+        ensures failures { failures self.old ≤ failures self.new };
+}
+
+/// Datagrams, sent by what they came from.
+#[derive(Drop)]
+pub struct Socket<D> {
+    pub datagrams: D,
+}
+
+impl<D: Datagrams> Source for Socket<D> {
+    ghost tells = { λ s. D.tells s.datagrams };
+
+    ghost gave = { λ s. datagram_events (D.gave s.datagrams) };
+
+    ghost failures = { λ s. D.failures s.datagrams };
+
+    ghost has_ended = { λ s. D.has_ended s.datagrams };
+
+    ghost told = { λ s. D.tells s.datagrams };
+
+    ghost passed = { λ s. D.passed s.datagrams };
+
+    fn ask(&mut self) -> Got<Event> {
+        match self.datagrams.receive() {
+            Got::Came((from, datagram)) => Got::Came(Event::Datagram(from, datagram)),
+            Got::Nothing => Got::Nothing,
+            Got::Ended => Got::Ended,
+            Got::Failed => Got::Failed,
+        }
+    }
+
+    fn send(&mut self, to: Address, datagram: &Octets) {
+        self.datagrams.send(to, datagram);
+    }
+}
+
+/// Clock values, and datagrams to send by.
+#[derive(Drop)]
+pub struct Clock<B, D> {
+    pub beats: B,
+    pub sender: D,
+}
+
+impl<B: Beats, D: Datagrams> Source for Clock<B, D> {
+    ghost tells = { λ s. B.tells s.beats };
+
+    ghost gave = { λ s. tick_events (B.gave s.beats) };
+
+    ghost failures = { λ s. B.failures s.beats };
+
+    ghost has_ended = { λ s. B.has_ended s.beats };
+
+    ghost told = { λ s. D.tells s.sender };
+
+    ghost passed = { λ s. D.passed s.sender };
+
+    fn ask(&mut self) -> Got<Event> {
+        match self.beats.next() {
+            Got::Came(clock) => Got::Came(Event::Tick(clock)),
+            Got::Nothing => Got::Nothing,
+            Got::Ended => Got::Ended,
+            Got::Failed => Got::Failed,
+        }
+    }
+
+    fn send(&mut self, to: Address, datagram: &Octets) {
+        self.sender.send(to, datagram);
+    }
+}
+
+/// Policies. What comes of one is noted, and nothing is sent.
+#[derive(Drop)]
+pub struct Loader<P> {
+    pub policies: P,
+}
+
+impl<P: Policies> Source for Loader<P> {
+    ghost tells = { λ s. P.tells s.policies };
+
+    ghost gave = { λ s. replace_events (P.gave s.policies) };
+
+    ghost failures = { λ s. P.failures s.policies };
+
+    ghost has_ended = { λ s. P.has_ended s.policies };
+
+    ghost told = { λ s. false };
+
+    ghost passed = { λ s. [] };
+
+    fn ask(&mut self) -> Got<Event> {
+        match self.policies.next() {
+            Got::Came(policy) => Got::Came(Event::Replace(policy)),
+            Got::Nothing => Got::Nothing,
+            Got::Ended => Got::Ended,
+            Got::Failed => Got::Failed,
+        }
+    }
+
+    fn send(&mut self, _to: Address, _datagram: &Octets) {}
+}

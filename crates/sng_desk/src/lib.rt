@@ -1,0 +1,32 @@
+//! The locked desk: one gateway and one book under many workers.
+#![tactic(auto)]
+
+pub mod closing;
+pub mod connection;
+pub mod desk;
+pub mod ending;
+mod events;
+pub mod gate;
+mod hand;
+mod hearing;
+pub mod items;
+pub mod memory;
+mod passing;
+pub mod source;
+pub mod threads;
+pub mod trail;
+mod upstream;
+mod workers;
+mod working;
+
+pub use closing::{Closed, GatherFault, NotGathered, gather};
+pub use connection::{Call, Close, Opening, ReadAnswer, Stage, Terms, Upstream, Written};
+pub use desk::{ActFault, Desk, Draft, Receipt, Share, act_locked};
+pub use ending::{NoSender, WorkerEnd, WorkerFault};
+pub use gate::Gate;
+pub use items::Items;
+pub use source::{Beats, Datagrams, Got, Policies};
+pub use threads::{Crew, Ended, NotStarted, Post, SendingPost, run_workers};
+pub use trail::Trail;
+pub use upstream::upstream_worker;
+pub use workers::{policy_worker, ticker, udp_worker};

@@ -1,0 +1,113 @@
+//! Where events come from, and where datagrams go: the traits that a worker knows. Each tells contracts what
+//! it gave and what was passed to it, as far as it can (`tells`): a socket tells nothing, one over memory all.
+ghost use Rattle.std.specs.Prelude.{◌≡◌, ◌≤◌, ◌<◌, ◌∷◌, [], ℕ, Bool, List, true, map};
+ghost use Rattle.sng_book.specs.declared.address.Address.{Address};
+ghost use Rattle.sng_grants.specs.declared.policy.Policy.{Policy as policy};
+ghost use Rattle.sng_desk.specs.declared.source.Got.TheVariants.{Ended as ended_answer, Failed as failed_answer};
+ghost use Rattle.sng_desk.specs.Acts.{Moves};
+ghost use Rattle.sng_desk.specs.Working.{given_by};
+
+use sng_book::Address;
+use sng_grants::Policy;
+use sng_text::Octets;
+
+/// What a source answers.
+#[derive(Drop)]
+pub enum Got<T> {
+    /// This came.
+    Came(T),
+    /// Nothing came in a while.
+    Nothing,
+    /// Nothing will come any more.
+    Ended,
+    /// The call failed.
+    Failed,
+}
+
+/// A source of datagrams, by which others can be sent.
+pub trait Datagrams: Drop {
+    /// Whether it tells what it gave, and what was passed to it.
+    ghost tells: { Self → Bool };
+
+    /// The datagrams that it gave, in order, each with the address from which it came.
+    ghost gave: { Self → List (Address × List ℕ) };
+
+    /// The datagrams that were passed to it, in order, each with the address to which it goes.
+    ghost passed: { Self → List (Address × List ℕ) };
+
+    /// How often a call failed, want of memory among it.
+    ghost failures: { Self → ℕ };
+
+    /// It answered that nothing more comes.
+    ghost has_ended: { Self → Bool };
+
+    /// The next datagram, with the address from which it came.
+    fn receive(&mut self) -> Got<(Address, Octets)>
+        ensures given { Moves tells gave self.old self.new (given_by result) }
+        ensures passed { Moves tells passed self.old self.new [] }
+        ensures failures { failures self.old ≤ failures self.new }
+        ensures failed { result ≡ failed_answer → failures self.old < failures self.new }
+        ensures ended { result ≡ ended_answer → has_ended self.new ≡ true };
+
+    /// Passes a datagram on. One that fails is lost, and counted.
+    fn send(&mut self, to: Address, datagram: &Octets)
+        ensures given { Moves tells gave self.old self.new [] }
+        ensures passed { Moves tells passed self.old self.new ((to, datagram.now) ∷ []) }
+        ensures failures { failures self.old ≤ failures self.new };
+
+    /// Whether it answered that nothing more comes.
+    fn ended(&self) -> bool
+        ensures { result ≡ has_ended self.now };
+}
+
+/// A source of clock values, in ms.
+pub trait Beats: Drop {
+    /// Whether it tells what it gave.
+    ghost tells: { Self → Bool };
+
+    /// The clock values that it gave, in order.
+    ghost gave: { Self → List ℕ };
+
+    /// How often a call failed.
+    ghost failures: { Self → ℕ };
+
+    /// It answered that nothing more comes.
+    ghost has_ended: { Self → Bool };
+
+    /// The next clock value.
+    fn next(&mut self) -> Got<u64>
+        ensures given { Moves tells gave self.old self.new (given_by result) }
+        ensures failures { failures self.old ≤ failures self.new }
+        ensures failed { result ≡ failed_answer → failures self.old < failures self.new }
+        ensures ended { result ≡ ended_answer → has_ended self.new ≡ true };
+
+    /// Whether it answered that nothing more comes.
+    fn ended(&self) -> bool
+        ensures { result ≡ has_ended self.now };
+}
+
+/// A source of policies that were read.
+pub trait Policies: Drop {
+    /// Whether it tells what it gave.
+    ghost tells: { Self → Bool };
+
+    /// The policies that it gave, in order.
+    ghost gave: { Self → List policy };
+
+    /// How often a call failed, want of memory among it.
+    ghost failures: { Self → ℕ };
+
+    /// It answered that nothing more comes.
+    ghost has_ended: { Self → Bool };
+
+    /// The next policy.
+    fn next(&mut self) -> Got<Policy>
+        ensures given { Moves tells gave self.old self.new (given_by result) }
+        ensures failures { failures self.old ≤ failures self.new }
+        ensures failed { result ≡ failed_answer → failures self.old < failures self.new }
+        ensures ended { result ≡ ended_answer → has_ended self.new ≡ true };
+
+    /// Whether it answered that nothing more comes.
+    fn ended(&self) -> bool
+        ensures { result ≡ has_ended self.now };
+}
