@@ -377,9 +377,6 @@ let_in_as : (clean : Bool) (clock : ℕ) (from : Address) (duration : ℕ) (x : 
 let_in_as true clock from duration x = record { phase = refl; address = refl; duration = refl; heard = refl; ids = refl }
 let_in_as false clock from duration x = record { phase = refl; address = refl; duration = refl; heard = refl; ids = refl }
 
-pub let_in_ids : (clock : ℕ) (from : Address) (connect : Connect) (x : Client) → (let_in clock from connect x).ids ≡ []
-let_in_ids clock from connect x = (let_in_as connect.flags.clean clock from connect.duration x).ids
-
 -- the client whose CONNECT is accepted, whatever was shown before
 pub let_in_shows : (b : Before) (id : List ℕ) (clock : ℕ) (from : Address) (connect : Connect) (x : Client) → b.from ≡ Some from → b.stated ≡ Some connect.duration → b.clock ≡ clock
     → Shows id b (note.Connect id Allowed ∷ []) (let_in clock from connect x)
