@@ -3,7 +3,8 @@
 Scripts that fill what is limited, with what the program is to print, for end_to_end.py: the topic ids of a
 client, by REGISTER, by SUBSCRIBE and by announcements, its subscriptions, the publishes at QoS 1 that are in
 flight or wait, what waits for the broker, by acknowledgements and beside subscriptions that begin and end,
-what waits for a client, and the datagrams that are sent to it.
+what waits for a client, and the datagrams that are sent to it. And what finds no place then: the will of a
+client that is lost, and a ping.
 """
 ADDRESS, OTHER_ADDRESS = '10.0.0.9:4000', '10.0.0.9:4001'
 MOST_IDS, MOST_SUBSCRIPTIONS, MOST_IN_FLIGHT, MOST_ITEMS = 128, 32, 128, 512
@@ -77,6 +78,11 @@ def published(name, payload='x', packet_id=None):
     size = len(packet) // 2
     length = '%02x' % size if size < 128 else '%02x%02x' % (size % 128 + 128, size // 128)
     return ('30' if packet_id is None else '32') + length + packet
+
+
+def will(name, flags=0):
+    """A client states the topic of its will anew."""
+    return '%02x1a%02x%s' % (3 + len(name), flags, name.encode().hex())
 
 
 def regack(topic_id, msg_id, code=0):
@@ -423,6 +429,103 @@ def messages_beside_a_full_outbox():
     return story.whole()
 
 
+def messages_that_fill_the_queue_of_a_sleeper():
+    """As many messages wait for a client that sleeps as for any other, and what never can is noted at once.
+    It wakes up to all of them, and what comes meanwhile waits behind them, as far as there is room."""
+    story = Story()
+    story.begin(BOTH)
+    story.hear(subscribe('a/#'), 'subscribe s1 a/# allowed', '0813200000000700')
+    story.answer('0418012c', 'send %s 0218' % ADDRESS)
+    for _ in range(MOST_WAITING):
+        story.publish('a/b')
+    story.publish('a/b', lost('a/b', '22 Full Queue'))
+    story.publish('a/c', lost('a/c', '23 TooLong'), payload='x' * (MOST_PAYLOAD + 1))
+    story.publish('a/c', lost('a/c', '22 Full Queue'), packet_id=7)
+    story.answer('04167331', *announced('a/b', 1, 1))
+    story.publish('a/b', lost('a/b', '22 Full Queue'))
+    story.give('tick 10000', 'tick', 'note retry s1 a/b allowed', announced('a/b', 1, 1)[1])
+    pingresp = 'send %s 0217' % ADDRESS
+    story.answer(regack(1, 1), *handed('a/b', 0, 1) * MOST_WAITING, pingresp)
+    story.publish('a/b', packet_id=8)
+    story.answer('04167331', *handed('a/b', 0x20, 1, 2))
+    for _ in range(MOST_WAITING):
+        story.publish('a/b')
+    story.publish('a/b', lost('a/b', '22 Full Queue'))
+    story.give('tick 20000', 'tick', 'note retry s1 a/b allowed', handed('a/b', 0xa0, 1, 2)[1])
+    story.answer(puback(1, 2), *handed('a/b', 0, 1) * MOST_WAITING, pingresp)
+    return story.whole()
+
+
+def wills_beside_full_places():
+    """The will of a client that is lost finds no place at QoS 1 where 128 publishes of QoS 1 wait or are in
+    flight, and at QoS 0 where 512 items wait; its note stands behind those of the messages that are gone. The
+    will stays the client's, and is published where that is lost again."""
+    story = Story()
+    story.begin('policy {"version":1,"clients":{"s1":[["#",["pub","sub"]]],"s2":[["#",["pub","sub"]]]}}')
+    story.hear(CONNECT_OTHER, 'connect s2 - allowed', '030500', OTHER_ADDRESS)
+    story.hear(will('w/1', 0x20), 'will s1 w/1 allowed', '031b00')
+    story.hear(will('w/2'), 'will s2 w/2 allowed', '031b00', OTHER_ADDRESS)
+    story.hear(subscribe('a/#'), 'subscribe s1 a/# allowed', '0813200000000700')
+    for number in range(1, MOST_IN_FLIGHT + 1):
+        story.hear(publish(0x22, 0x6162, number), 'publish s1 ab allowed', '070d6162%04x00' % number)
+    story.publish('a/b', *announced('a/b', 1, 1))
+    story.give('tick 90000', 'tick', 'note lost s1 - done', lost('a/b', '24 Gone'),
+               'note will s1 w/1 22 Full InFlight', 'note lost s2 - done')
+    left = []
+    for packet_id in range(2, MOST_IN_FLIGHT + 2):
+        left += ['note forward s1 ab allowed', 'wire 320700026162%04x78' % packet_id]
+    story.give('take', 'take', subscribed(1, 'a/#'), *left, 'note forward s2 w/2 allowed',
+               'wire 30050003772f32', 'wire c000')
+    story.hear(CONNECT_AGAIN, 'connect s1 - allowed', '030500')
+    story.give('tick 180000', 'tick', 'note lost s1 - done', 'note will s1 w/1 22 Full InFlight')
+    story.give('broker 40020009', 'broker')
+    story.hear(CONNECT_AGAIN, 'connect s1 - allowed', '030500')
+    story.give('tick 270000', 'tick', 'note lost s1 - done')
+    story.give('take', 'take', 'wire c000', 'note forward s1 w/1 allowed', 'wire 32070003772f310082',
+               'wire c000')
+    return story.whole()
+
+
+def wills_beside_a_full_outbox():
+    """The last place is that of the client that is lost first; the other's will and the ping find none. A
+    tick that does not move the clock makes up for the ping."""
+    story = Story()
+    story.begin('policy {"version":1,"clients":{"s1":[["#",["pub"]]],"s2":[["#",["pub"]]]}}')
+    story.hear(CONNECT_OTHER, 'connect s2 - allowed', '030500', OTHER_ADDRESS)
+    story.hear(will('w/2'), 'will s2 w/2 allowed', '031b00', OTHER_ADDRESS)
+    story.hear(will('w/1'), 'will s1 w/1 allowed', '031b00')
+    packet_ids = range(1, MOST_ITEMS)
+    story.lines.append('broker ' + ''.join('320500017a%04x' % packet_id for packet_id in packet_ids))
+    for _ in packet_ids:
+        story.row('broker')
+    story.give('tick 90000', 'tick', 'note lost s1 - done', 'note lost s2 - done',
+               'note will s2 w/2 22 Full Outbox', FULL)
+    acknowledged = ['wire 4002%04x' % it for it in packet_ids]
+    story.give('take', 'take', *acknowledged, 'note forward s1 w/1 allowed', 'wire 30050003772f31')
+    story.give('tick 90000', 'tick')
+    story.give('take', 'take', 'wire c000')
+    return story.whole()
+
+
+def pings_beside_a_full_outbox():
+    """A ping that finds no room among 512 items is noted at each tick, and made up for by the next that finds
+    room. The next one is due 30,000 ms behind that."""
+    story = Story()
+    story.begin()
+    for _ in range(MOST_ITEMS):
+        story.hear(publish(0x01, 4, 0), 'publish s1 t/4 allowed')
+    story.give('tick 29999', 'tick')
+    story.give('tick 30000', 'tick', FULL)
+    story.give('tick 30001', 'tick', FULL)
+    story.give('take', 'take', *['note forward s1 t/4 allowed', 'wire 30060003742f3478'] * MOST_ITEMS)
+    story.give('tick 20000', 'tick')
+    story.give('tick 60000', 'tick')
+    story.give('take', 'take', 'wire c000')
+    story.give('tick 60001', 'tick')
+    story.give('take', 'take', 'wire c000')
+    return story.whole()
+
+
 def scripts():
     """Each script: its name, its text, what is printed."""
     for each in (ids_that_fill, in_flight_that_fills, acknowledgements_that_fill,
@@ -430,5 +533,6 @@ def scripts():
                  items_that_fill_beside_subscriptions, subscriptions_that_fill_the_outbox,
                  publishes_that_fill_without_a_connection, messages_that_fill_a_queue,
                  ids_that_fill_by_announcements, messages_that_fill_a_datagram,
-                 messages_beside_a_full_outbox):
+                 messages_beside_a_full_outbox, messages_that_fill_the_queue_of_a_sleeper,
+                 wills_beside_full_places, wills_beside_a_full_outbox, pings_beside_a_full_outbox):
         yield (each.__name__.replace('_', '-'), *each())

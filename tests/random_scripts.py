@@ -31,7 +31,8 @@ import gateway_model
 SCRIPTS, SECONDS, MOST_SHOWN = 300, 120, 1000
 # `rt try` gives no answer beyond 1 MiB of output
 MOST_PRINTED = 1024 * 1024
-# What the scripts of the gate have to meet: how some line begins, with a star for any word
+# What the scripts of the gate have to meet: how some line begins, with a star for any letters of a word, or
+# how lines begin that follow one another, with a bar between them
 MET = """
 row * 0 replace
 row * 0 up
@@ -39,6 +40,7 @@ row * 0 down
 row * 0 take
 row * 0 datagram
 row * 0 broker
+row * 0 tick
 line * unreadable
 refused policy *
 refused broker 1
@@ -52,11 +54,82 @@ note frame * - 15
 note frame broker - 2
 note frame broker - 6
 note outbox broker - 22 Full Outbox
+row * 0 tick | note outbox broker - 22 Full Outbox
 note connect * - allowed
 note connect * - 2
 note connect * - 3
 note connect * - 22 Full Clients
 note left * - done
+note lost * - done
+note lost * - done | note hand * * 24
+note lost * - done | note will * * 22 Full InFlight
+note lost * - done | note will * * 22 Full Outbox
+note lost * - done | note lost * - done
+note hand * * 24 | note will * * 22
+note connect * - allowed | send * 0206
+note will * * allowed | send * 0208
+note will * * allowed | send * 030500
+note will * * allowed | send * 030500 | note announce * *
+note will * * allowed | send * 030500 | note hand * * allowed
+note will * * allowed | send * 030500 | note hand * * 11
+note will * - allowed | send * 030500
+note will * - allowed | send * 030500 | note announce * *
+note will * - 3
+note will * - 3 * | send * 030503 | note left * - done
+note will * - 3 * | send * 030503 | note left * - done | note hand * * 24
+note will * - 4
+note will * - 6
+note will * - 6 * | send * 030503 | note left * - done
+note will * * 10
+note will * * 10 * * | send * 030503 | note left * - done
+note will * * 10 * * | send * 030503 | note left * - done | note hand * * 24
+note will * - 15
+note will * * allowed | send * 031b00
+note will * - allowed | send * 031b00
+note will * * allowed | send * 031d00
+note will * - 3 * | send * 031b03
+note will * - 6 * | send * 031b03
+note will * * 10 * * | send * 031b03
+note will * - 15 * | send * 031b03
+note will * - 3 * | send * 031d03
+note will * * 10 * * | send * 031d03
+note will * - 15 * | send * 031d03
+note register * - 15
+note publish * - 15
+note subscribe * - 15
+note unsubscribe * - 15
+row * 0 datagram | send * 0218
+row * 0 datagram | send * 0217
+row * 0 datagram | note hand * * 3 * | send * 0217
+row * 0 datagram | note hand * * 11 * | send * 0217
+row * 0 datagram | note hand * * 13 * | send * 0217
+row * 0 datagram | note hand * * 11 * | note announce * *
+row * 0 datagram | note hand * * allowed | send * 080c0* | send * 0217
+row * 0 tick | note hand * * 3
+row * 0 tick | note hand * * 11
+row * 0 tick | note hand * * 3 * | send * 0217
+row * 0 tick | note hand * * 11 * | send * 0217
+row * 0 tick | note hand * * 11 * | note announce * *
+row * 0 tick | note hand * * 11 * | note hand * * allowed
+note retry * * allowed
+note retry * * 3
+note retry * * 11
+note retry * * 11 * | send * 0217
+note retry * * 11 * | note hand * * 11
+note retry * * 11 * | note hand * * allowed
+note retry * * 11 * | note announce * *
+note retry * * allowed | send * 090a*
+note retry * * allowed | send * 080ca0*
+note retry * * allowed | send * 080ca1*
+note retry * * allowed | send * 080ca2*
+note retry * * allowed | send * 080cb*
+note retry * * allowed | send * * | note lost * - done
+note retry * * allowed | send * * | note retry * *
+wire c000
+wire 30*676f6e65
+wire 31*676f6e65
+wire 32*676f6e65
+wire 33*676f6e65
 note register * * allowed
 note register * - 3
 note register * - 4
@@ -141,24 +214,40 @@ BAD_POLICIES = [
 WORDS = [['pub'], ['pub'], ['pub', 'sub'], ['sub', 'pub', 'pub'], ['sub'], ['sub'], []]
 UNREADABLE = ['x', 'up ', 'take now', 'from 10.0.0.9:4000', 'from 10.0.0.9 0216', 'from 10.0.0.9:65536 0216',
               'from 10.0.0.9:4000 021', 'from 10.0.0.9:4000 02 16', 'from 10.0.0.09:4000 0216', 'policy',
-              'broker', 'broker -', 'broker d', 'broker d0 00', 'broker 0x']
+              'broker', 'broker -', 'broker d', 'broker d0 00', 'broker 0x', 'tick', 'tick ', 'tick -1',
+              'tick 1 ', 'tick 0x1', 'tick 18446744073709551616']
 # Which kinds of lines a script has, and how often one comes beside another
 WEIGHTS = {
     'policy': 4, 'up': 6, 'take': 9, 'connect': 8, 'register': 12, 'publish': 30, 'subscribe': 20,
     'bad_policy': 1, 'down': 2, 'bad_connect': 1.5, 'disconnect': 2, 'pingreq': 3, 'fresh_register': 1,
     'source_publish': 8, 'unsubscribe': 6, 'fresh_subscribe': 1, 'other_frame': 4, 'malformed': 2,
     'broker_puback': 6, 'broker_publish': 6, 'broker_suback': 6, 'broker_other': 2, 'broker_cut': 2,
-    'broker_fault': 1, 'turn': 4, 'empty': 0.5, 'answer': 6, 'delivery': 18, 'burst': 0.4,
-    'busy_connect': 1, 'busy_disconnect': 0.5,
+    'broker_fault': 2, 'turn': 4, 'empty': 0.5, 'answer': 6, 'delivery': 18, 'burst': 0.4,
+    'busy_connect': 1, 'busy_disconnect': 0.5, 'tick': 3, 'lapse': 0.5, 'will_connect': 3, 'will_update': 3,
+    'stray_will': 1, 'last_will': 0.5, 'published_will': 1.5, 'sign_of_life': 1, 'sleep': 2, 'wake': 4,
+    'nap': 5, 'late': 1.5, 'late_and_denied': 1,
 }
 # Those that no script leaves out, and those that some scripts are about
 ALWAYS = ('policy', 'up', 'take', 'connect', 'register', 'publish', 'subscribe')
 SUBSCRIBING = ('policy', 'subscribe', 'unsubscribe', 'broker_suback', 'take')
+STATING_WILLS = ('policy', 'tick', 'lapse', 'connect', 'will_connect', 'will_update', 'published_will',
+                 'delivery')
+SLEEPING = ('policy', 'subscribe', 'delivery', 'wake', 'nap', 'late', 'late_and_denied')
 # What decides over what waits for the broker, is in flight there or stands, and over what waits for clients
 TURNS = ('publish', 'source_publish', 'policy', 'take', 'down', 'up', 'subscribe', 'unsubscribe',
          'broker_suback')
-FATES = ('policy',) * 4 + ('busy_connect', 'busy_connect', 'busy_disconnect', 'unsubscribe', 'broker_suback',
-                           'broker_publish', 'broker_publish', 'register', 'subscribe', 'answer')
+FATES = ('policy', 'policy', 'less_policy', 'less_policy', 'busy_connect', 'busy_connect', 'busy_disconnect',
+         'unsubscribe', 'broker_suback', 'broker_publish', 'broker_publish', 'register', 'subscribe', 'answer',
+         'lapse', 'will_connect', 'late', 'late', 'late', 'sleep', 'wake', 'wake')
+# What may come between the frames of a dialogue about a will
+BREAKS = ('policy',) * 3 + ('less_policy',) * 9 + (
+    'busy_connect', 'busy_disconnect', 'lapse', 'tick', 'pingreq', 'register', 'publish', 'subscribe',
+    'unsubscribe', 'will_update', 'broker_publish', 'answer')
+# What may come just before a client is lost, whether it is heard by that or not
+SIGNS = ('source_publish', 'source_publish', 'malformed', 'other_frame', 'pingreq', 'register', 'bad_connect',
+         'answer')
+# What may become of a will that waits for the broker
+PUBLISHED = (['take'], ['policy', 'take'], ['down', 'up', 'take'], ['take', 'policy', 'up'])
 
 
 def frame(kind, *parts, is_long=False):
@@ -209,6 +298,9 @@ class World:
                         for kind, weight in WEIGHTS.items()}
         if self.chance(0.35):
             self.weights.update((kind, 3 * self.weights[kind]) for kind in SUBSCRIBING)
+        elif self.chance(0.65):
+            theme = self.one((STATING_WILLS, SLEEPING))
+            self.weights.update((kind, 4 * WEIGHTS[kind]) for kind in theme)
 
     def among(self, low, high):
         return self.random.randint(low, high)
@@ -241,8 +333,11 @@ class World:
         return [client for client in self.gateway.clients.values() if client.address]
 
     def busy(self):
-        """A client that has not answered yet what it was sent, if there is one."""
-        clients = [client for client in self.present() if client.exchange]
+        """A client that has not answered yet what it was sent, if there is one; mostly one that has not stated
+        its will."""
+        present = self.present()
+        stating = [client for client in present if client.state == gateway_model.DIALOGUE]
+        clients = [client for client in present if client.exchange] + stating * 9
         return self.one(clients) if clients else None
 
     def held(self):
@@ -276,6 +371,16 @@ class World:
     def client(self):
         return self.one(self.clients).encode()
 
+    def duration(self):
+        """In seconds, for how long a client may be silent. 0 is no limit."""
+        return number(self.one((0, 0, 0, 1, 5, 20, 60, 60, 300, 300, 0x1234, 0x1234, 65_535)))
+
+    def publishable(self, client):
+        """A name under which a client may publish, if there is one, and now and then any other."""
+        scope = self.gateway.policy.clients.get(client, [])
+        names = [name.encode() for name in self.names if gateway_model.grants(scope, 'pub', name.encode())]
+        return self.one(names) if names and self.chance(0.8) else self.name(0.3)
+
     # The policy
 
     def pair(self):
@@ -308,6 +413,32 @@ class World:
         sources = {ip: self.scope(ip) for ip in ips if self.is_generous or self.chance(0.8)}
         topics = {str(number): self.one(self.names) for number in range(1, 5)
                   if self.chance(self.predefined)}
+        return self.policy_of(clients, sources, topics)
+
+    def receivable(self, client):
+        """A filter that a client was granted, if there is one."""
+        granted = [pattern for pattern, words in self.gateway.policy.clients.get(client.name, [])
+                   if 'sub' in words]
+        return self.one(granted or [b'#'])
+
+    def less_policy(self, name=None):
+        """The policy in force, in which this client, or else mostly one that has to answer something, is not
+        listed any more, has lost one of the permissions, or has only some names left."""
+        busy, policy = self.busy(), self.gateway.policy
+        name = name or (busy.name if busy and self.chance(0.7) else self.client())
+        kept, change = {'pub', 'sub'}, self.one(('unlisted', 'pub', 'sub', 'names', 'names', 'names'))
+        clients, sources = [{who.decode(): [[pattern.decode(), sorted(words)] for pattern, words in scope]
+                             for who, scope in scopes.items()} for scopes in (policy.clients, policy.sources)]
+        scope = clients.pop(name.decode(), [])
+        if change == 'names':
+            names = self.names + ['n/%d' % it for it in range(1, self.fresh + 4)]
+            scope = [[name, ['pub', 'sub']] for name in names if len(name) <= 200 and self.chance(0.5)]
+        if change != 'unlisted':
+            kept = {change} if change in kept else kept
+            clients[name.decode()] = [[pattern, sorted(kept.intersection(words))] for pattern, words in scope]
+        return self.policy_of(clients, sources, {str(it): name.decode() for it, name in policy.topics.items()})
+
+    def policy_of(self, clients, sources, topics):
         parts = {'version': 1, 'clients': clients, 'sources': sources, 'topics': topics}
         return 'policy ' + json.dumps(parts, ensure_ascii=self.chance(0.5))
 
@@ -341,14 +472,78 @@ class World:
     def empty(self):
         return ''
 
+    # The clock
+
+    def tick(self):
+        """A tick, often of about the time when the next client is lost or the broker is pinged. Now and then
+        it is behind the clock, or as late as can be."""
+        clients, gateway = self.present(), self.gateway
+        ends = [self.end_of(client) for client in clients if client.duration]
+        if gateway.is_up:
+            ends.append(gateway.pinged + gateway_model.MS_BETWEEN_PINGS)
+        clock = gateway.clock + self.one((-30_000, -1000, -1, 0, 1, 500, 1500, 5000, 10_000, 30_000))
+        if ends and self.chance(0.6):
+            clock = min(ends) + self.one((-1, 0, 0, 0, 1))
+        elif self.chance(0.01):
+            clock = gateway_model.MOST_CLOCK
+        return self.ticked(clock)
+
+    def lapse(self):
+        """The time has come when a client is lost that has to answer something."""
+        busy = self.busy()
+        return self.ticked(self.end_of(busy)) if busy and busy.duration else self.tick()
+
+    def sign_of_life(self):
+        """Something comes from where a client is, just before that is lost, and then it is, or not."""
+        clients = [client for client in self.present() if client.duration]
+        if not clients:
+            return self.connect()
+        client = min(clients, key=self.end_of)
+        end, line = self.end_of(client), getattr(self, self.one(SIGNS))()
+        octets = line.split(' ')[2]
+        self.lines += [self.ticked(end - 1), 'from %s %s' % (client.address.decode(), octets)]
+        return self.ticked(end)
+
+    def late(self):
+        """The time has come, once or more often, when something is sent again, if there is such a thing."""
+        for turn in range(self.one((1, 1, 2, 4))):
+            sent = [client.exchange.sent for client in self.present() if client.exchange]
+            if not sent:
+                return None if turn else self.tick()
+            self.lines.append(self.ticked(min(sent) + gateway_model.MS_TO_ANSWER - self.chance(0.1)))
+            if self.chance(0.3):
+                self.say(self.one(('less_policy', 'policy', 'policy')))
+
+    def late_and_denied(self):
+        """The time has come when something were sent again that is not allowed any more, now and then for one
+        time too many."""
+        busy = self.busy()
+        if not busy or not busy.exchange:
+            return self.late()
+        turns = self.one(((1,), (1,), (1, 2, 3, 4)))
+        late = [busy.exchange.sent + gateway_model.MS_TO_ANSWER * turn for turn in turns]
+        self.lines += [self.ticked(clock) for clock in late[:-1]]
+        self.lines += [self.less_policy(busy.name), self.ticked(late[-1])]
+        return self.policy() if self.chance(0.5) else None
+
+    def end_of(self, client):
+        return client.heard + client.duration * gateway_model.SILENCE_FOR_A_SECOND
+
+    def ticked(self, clock):
+        return 'tick %d' % min(max(clock, 0), gateway_model.MOST_CLOCK)
+
     # Messages of clients
 
     def connect(self):
-        """A CONNECT, mostly from where this client mostly is."""
+        """A CONNECT, mostly from where this client mostly is, and of one that has no session."""
         place = self.among(0, len(self.clients) - 1)
+        here = [client.name.decode() for client in self.present()]
+        absent = [place for place, client in enumerate(self.clients) if client not in here]
+        if absent and self.chance(0.5):
+            place = self.one(absent)
         home = self.addresses[place % len(self.addresses)] if self.chance(0.9) else None
         flags = bytes([self.one((0, 0, 0, 0xf3, 4, 0xe7))])
-        return self.sent(4, flags, b'\1', self.message_id(), self.clients[place].encode(), address=home)
+        return self.sent(4, flags, b'\1', self.duration(), self.clients[place].encode(), address=home)
 
     def bad_connect(self):
         client = self.one((self.client(), self.client(), b'nobody', b'', b'x' * 24, b'\0', 'ü'.encode() * 23))
@@ -361,16 +556,94 @@ class World:
             return self.connect()
         home = busy.address.decode() if self.chance(0.8) else self.one(self.addresses)
         client = busy.name if self.chance(0.7) else self.client()
-        return self.sent(4, self.one((b'\0', b'\0', b'\4')), b'\1', self.message_id(), client, address=home)
+        flags = bytes([self.one((0, 0, 4, 8, 8, 12))])
+        return self.sent(4, flags, b'\1', self.duration(), client, address=home)
 
     def busy_disconnect(self):
         """A client that has to answer something leaves."""
         busy = self.busy()
         return self.sent(0x18, address=busy.address.decode()) if busy else self.disconnect()
 
+    def will_connect(self):
+        """A client connects that has a will, and states it, or something comes between."""
+        place, busy = self.among(0, len(self.clients) - 1), self.busy()
+        name, home = self.clients[place].encode(), self.addresses[place % len(self.addresses)]
+        if busy and self.chance(0.6):
+            name, home = busy.name, busy.address.decode()
+        flags = bytes([self.one((8, 8, 8, 12, 0xfb))])
+        self.lines.append(self.sent(4, flags, b'\1', self.duration(), name, address=home))
+        for _ in range(self.one((0, 1, 2, 2, 2, 2))):
+            if self.chance(0.4):
+                self.say(self.one(BREAKS))
+            for client in self.present():
+                if client.name == name and client.state == gateway_model.DIALOGUE:
+                    self.lines.append(self.state_will(client))
+
+    def state_will(self, client):
+        """A WILLTOPIC or WILLMSG, mostly the one that was asked for."""
+        kinds = (0x07, 0x09) if client.stated is None else (0x09, 0x07)
+        address = client.address.decode() if self.chance(0.97) else None
+        if self.one(kinds[:1] * 12 + kinds) == 0x07:
+            return self.sent(0x07, *self.will_topic(client), address=address)
+        return self.sent(0x09, self.last_words(), address=address)
+
+    def will_topic(self, client):
+        """Flags and a name, or nothing at all."""
+        if self.chance(0.15):
+            return []
+        flags = self.among(0, 3) << 5 | self.one((0, 0x10, 0x10, 0x8f))
+        return bytes([flags]), self.publishable(client.name)
+
+    def last_words(self):
+        if self.chance(0.03):
+            return b'p' * self.one((120, 252, 253, 2046))
+        return self.one((b'', b'gone', b'gone'))
+
+    def will_update(self):
+        """WILLTOPICUPD or WILLMSGUPD, mostly of a client that is active."""
+        clients = self.present()
+        if not clients:
+            return self.sent(0x1a, b'\0w/1')
+        client = self.one(clients)
+        address = client.address.decode() if self.chance(0.95) else None
+        if client.will and self.chance(0.4):
+            self.lines.append(self.less_policy(client.name))
+        if self.chance(0.1):
+            return self.sent(0x1a, address=address)
+        if self.chance(0.4):
+            return self.sent(0x1c, self.last_words(), address=address)
+        return self.sent(0x1a, *self.will_topic(client), address=address)
+
+    def stray_will(self):
+        """A message about a will from wherever, whether it is in turn or not."""
+        kind = self.one((0x07, 0x09, 0x1a, 0x1c))
+        words = b'\0' + self.name() if kind in (0x07, 0x1a) and self.chance(0.7) else b''
+        return self.sent(kind, words)
+
+    def last_will(self):
+        """The next client to be lost, if there is one, states a will anew and is lost."""
+        clients = [client for client in self.present() if client.duration]
+        if not clients:
+            return self.connect()
+        client = min(clients, key=self.end_of)
+        address = client.address.decode()
+        topic = self.sent(0x1a, *self.will_topic(client), address=address)
+        message = self.sent(0x1c, self.last_words(), address=address)
+        self.lines += self.one(([topic], [topic, message], [topic, message], [message, topic]))
+        if self.chance(0.5):
+            self.say(self.one(FATES))
+        return self.ticked(self.end_of(client)) if client in self.present() else None
+
+    def published_will(self):
+        """The same, and then the will leaves, or what decides over it comes before."""
+        self.say('last_will', *self.one(PUBLISHED))
+
     def answer(self):
-        """A REGACK or PUBACK, mostly of a client that has to send just this one."""
+        """A REGACK or PUBACK, mostly of a client that has to send just this one. One in a dialogue states its
+        will."""
         busy = self.busy()
+        if busy and busy.state == gateway_model.DIALOGUE:
+            return self.state_will(busy)
         address, code = None, self.one((b'\0', b'\0', b'\0', b'\0', b'\0', b'\1', b'\2', b'\3', b'\xff'))
         kind, topic_id, msg_id = self.one((0x0b, 0x0d)), number(self.among(0, 3)), number(self.among(0, 9))
         if busy:
@@ -387,6 +660,51 @@ class World:
             elif change == 'address':
                 address = self.one(self.addresses)
         return self.sent(kind, topic_id, msg_id, code, address=address)
+
+    def sleep(self):
+        """A client that has a session sleeps, if there is one."""
+        present = self.present()
+        address = self.one(present).address.decode() if present else None
+        return self.sent(0x18, self.duration(), address=address)
+
+    def wake(self):
+        """A client that sleeps wakes up, mostly one for which messages wait."""
+        asleep = [client for client in self.present() if client.state == gateway_model.ASLEEP]
+        waited_for = [client for client in asleep if client.queue]
+        if not asleep:
+            return self.pingreq()
+        client = self.one(waited_for if waited_for and self.chance(0.8) else asleep)
+        name = self.one((client.name, client.name, client.name, client.name, b'', self.client()))
+        return self.sent(0x16, name, address=client.address.decode())
+
+    def nap(self):
+        """A client, if there is one, sleeps while messages come, wakes up under whatever is allowed then, and
+        mostly connects anew in the end."""
+        clients = self.present()
+        if not clients:
+            return self.connect()
+        client = self.one(clients)
+        address = client.address.decode()
+        duration = number(self.one((0, 0, 5, 60, 300, 300)))
+        again = self.sent(4, b'\0\1', duration, client.name, address=address)
+        if not client.subscriptions:
+            if self.is_generous:
+                self.say('policy')
+            self.present()
+            self.lines += [again, self.sent(0x12, self.flags(self.one((0, 1, 1)), 0), self.message_id(),
+                                            self.receivable(client), address=address)]
+        self.lines.append(self.sent(0x18, duration, address=address))
+        self.say(*['broker_publish'] * self.among(1, 4))
+        if self.chance(0.3):
+            self.say(self.one(FATES))
+        if self.chance(0.4):
+            self.lines.append(self.less_policy(client.name))
+        self.lines.append(self.sent(0x16, client.name, address=address))
+        ends = self.one((['late_and_denied'], ['late_and_denied'], ['late'], ['late'], [self.one(FATES)]))
+        for kind in ['answer'] * self.one((0, 1, 1, 2, 3)) + ends:
+            if self.busy():
+                self.say(kind)
+        return again if self.chance(0.6) else None
 
     def disconnect(self):
         return self.sent(0x18, self.one((b'', b'', b'', b'\0\0', b'\1\2', b'\1')))
@@ -416,6 +734,14 @@ class World:
         id_type = self.one((0, 0, 0, 0, 0, 0, 1, 1, 1, 1, 1, 1, 2, 2, 2, 2, 3))
         return self.sent(0x0c, self.flags(qos, id_type), self.topic(id_type), self.message_id(),
                          self.payload())
+
+    def flood(self):
+        """A client, if there is one, publishes the same many times."""
+        clients = [client for client in self.present() if gateway_model.is_active(client)]
+        if clients:
+            datagram = self.sent(0x0c, self.flags(self.among(0, 1), 2), b'ab', self.message_id(), b'x',
+                                 address=self.one(clients).address.decode())
+            self.lines += [datagram] * self.among(60, 140)
 
     def source_publish(self):
         id_type = self.one((0, 1, 1, 1, 1, 2, 2, 2, 2, 3))
@@ -454,10 +780,9 @@ class World:
     def other_frame(self):
         """A message that is not taken, or one that only a gateway sends."""
         kind, part = self.one([
-            (0x05, b'\0'), (0x06, b''), (0x07, b''), (0x07, b'\0w/1'), (0x08, b''), (0x09, b'gone'),
-            (0x0e, b'\0\1'), (0x0f, b'\0\1'), (0x10, b'\0\1'), (0x13, b'\0\0\1\0\1\0'), (0x15, b'\0\1'),
-            (0x17, b''), (0x1a, b''), (0x1a, b'\0w/1'), (0x1b, b'\0'), (0x1c, b''), (0x1c, b'gone'),
-            (0x1d, b'\0'), (0x00, b'\1\0\0'), (0x01, b'\0'), (0x02, b'\1'), (0xfe, b'\1\2\3'),
+            (0x05, b'\0'), (0x06, b''), (0x08, b''), (0x0e, b'\0\1'), (0x0f, b'\0\1'), (0x10, b'\0\1'),
+            (0x13, b'\0\0\1\0\1\0'), (0x15, b'\0\1'), (0x17, b''), (0x1b, b'\0'), (0x1d, b'\0'),
+            (0x00, b'\1\0\0'), (0x01, b'\0'), (0x02, b'\1'), (0xfe, b'\1\2\3'),
         ])
         return self.sent(kind, part)
 
@@ -598,38 +923,54 @@ def many_holders(world):
     """A few clients hold a few filters, the same ones mostly, which begin and end in any order."""
     world.most_suback = 60
     heavy(world, 300, subscribe=30, unsubscribe=10, connect=4, take=8, up=2, down=0.5, broker_suback=5,
-          policy=1, broker_publish=3, answer=3)
+          policy=1, broker_publish=3, answer=3, tick=1, will_connect=1)
 
 
 def many_messages(world):
     """Clients hold a few filters, and the broker publishes more than they answer at times."""
     heavy(world, 400, subscribe=4, subscribe_to_all=2, connect=1, broker_publish=20, burst=0.5, answer=40,
-          policy=1, busy_connect=1, busy_disconnect=0.5, delivery=5)
+          policy=1, busy_connect=1, busy_disconnect=0.5, delivery=5, tick=2, lapse=0.5, will_connect=0.5,
+          sleep=1, wake=2, late=2, late_and_denied=0.5)
+
+
+def many_wills(world):
+    """Clients for which messages wait state a will, and policies change beside that."""
+    heavy(world, 400, policy=2, connect=3, subscribe_to_all=4, broker_publish=15, answer=2, will_connect=12,
+          will_update=4, published_will=0.5, lapse=0.3)
+
+
+def many_naps(world):
+    """Clients sleep and wake up, and answer late, and policies change beside that."""
+    heavy(world, 400, policy=3, connect=3, subscribe_to_all=4, broker_publish=5, answer=5, nap=20, sleep=1,
+          wake=2, late=3, late_and_denied=3)
 
 
 def many_in_flight(world):
-    """Publishes of QoS 1 wait and are in flight, as many as may be."""
+    """Publishes of QoS 1 wait and are in flight, as many as may be; clients with a will are lost beside
+    them."""
     world.predefined = 0.8
-    heavy(world, 700, publish=70, take=5, broker_puback=3, up=1, down=0.2, policy=1, register=10)
+    heavy(world, 600, publish=70, take=5, broker_puback=3, up=1, down=0.2, policy=1, register=10, tick=1,
+          last_will=1.5, connect=5, broker_publish=3, flood=0.7)
 
 
 def many_items(world):
     """The outbox fills, with publishes, with what acknowledges the broker's and with subscriptions that begin
-    and end."""
+    and end. Clients with a will are lost then, and the broker is not pinged."""
     world.predefined = 0.8
-    heavy(world, 1000, publish=40, source_publish=10, broker_publish=20, broker_puback=2, subscribe=20,
-          unsubscribe=4, connect=1, policy=1)
+    heavy(world, 800, publish=40, source_publish=10, broker_publish=20, broker_puback=2, subscribe=20,
+          unsubscribe=4, connect=4, policy=1, tick=1, last_will=2, flood=0.7)
 
 
 def many_clients(world):
     """More clients come than are ever accepted, under two policies."""
     clients = ['c%d' % count for count in range(300)]
     world.random.shuffle(clients)
+    world.is_generous = True
     for part in (clients[:200], clients[150:]):
         world.clients = part
         world.say('policy')
         for name in world.random.sample(part, len(part)):
-            world.lines.append(world.sent(4, b'\4\1\0\0', name.encode()))
+            world.lines.append(world.sent(4, b'\4\1', world.duration(), name.encode()))
             if world.chance(0.2):
                 world.go_on(1)
 
@@ -660,7 +1001,8 @@ def many_packet_ids(world):
 
 # The kinds of the first scripts; all others are mixed
 LONG = ([many_ids] * 2 + [many_subscriptions] * 2 + [many_holders] * 3 + [many_in_flight] * 2
-        + [many_items] * 3 + [many_messages] * 3 + [many_clients, many_packet_ids])
+        + [many_items] * 3 + [many_messages] * 3 + [many_wills] * 4 + [many_naps] * 6
+        + [many_clients, many_packet_ids])
 
 
 def script(seed):
@@ -746,8 +1088,12 @@ def report(seed, text, found, wanted):
 def unmet(outputs):
     """What the outputs of the gate's scripts have to show and do not, the longest outputs aside."""
     printed = b''.join(output for output in outputs if len(output) < MOST_PRINTED).decode()
-    patterns = {begin: '^%s\\b' % re.escape(begin).replace('\\*', '\\S+') for begin in MET}
-    return [begin for begin, pattern in patterns.items() if not re.search(pattern, printed, re.M)]
+    return [begins for begins in MET if not re.search(pattern_of(begins), printed, re.M)]
+
+
+def pattern_of(begins):
+    lines = [re.escape(begin).replace('\\*', '\\S+') + '\\b' for begin in begins.split(' | ')]
+    return '^' + '.*\n'.join(lines)
 
 
 def read_arguments():

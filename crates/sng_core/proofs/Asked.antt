@@ -13,7 +13,8 @@ use Rattle.sng_book.specs.declared.outcome.Outcome.{Outcome}
 use Rattle.sng_book.specs.declared.outcome.Outcome.TheVariants.{Allowed, Denied}
 use Rattle.sng_history.specs.Clients.{Client}
 use Rattle.sng_history.specs.State.{State, qos_of}
-use Rattle.sng_history.specs.Verdicts.{exit, and_then, room_in, room, may_ask, name_in}
+use Rattle.sng_history.specs.Room.{room_in}
+use Rattle.sng_history.specs.Verdicts.{exit, and_then, room, may_ask, name_in}
 use Rattle.sng_core.specs.declared.verdict.Judged.{Judged}
 use Rattle.sng_core.specs.Forms.{client_at, register_judged, told_at, register_next, publish_named, publish_by, publish_judged, publication_by}
 use Rattle.sng_sessions.specs.Moving.{moved_at}

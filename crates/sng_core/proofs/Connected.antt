@@ -7,8 +7,8 @@ use Rattle.std.proofs.lemmas.List.{append-nil, append_assoc, length-map, map-app
 use Rattle.std.proofs.lemmas.Bool.Decides.{nat_tests}
 use Rattle.std.proofs.Math.Seq.{take-nil}
 use Rattle.sng_fan.specs.Subscriptions.{stands}
+use Rattle.sng_fan.specs.declared.held.Held.{Held}
 use Rattle.sng_frames.specs.declared.messages.connect.Connect.{Connect}
-use Rattle.sng_frames.specs.declared.return_code.TheConstants.ReturnCode.{ACCEPTED}
 use Rattle.sng_outbox.specs.declared.item.Item.{Item}
 use Rattle.sng_outbox.specs.declared.item.Item.TheVariants as item
 use Rattle.sng_book.specs.declared.address.Address.{Address}
@@ -19,33 +19,33 @@ use Rattle.sng_book.specs.declared.outcome.Outcome.TheVariants.{Allowed, Denied}
 use Rattle.sng_book.specs.declared.out.Out.{Out}
 use Rattle.sng_book.specs.declared.out.Out.TheVariants.{Note}
 use Rattle.sng_history.specs.Causes.{ByConnect}
-use Rattle.sng_history.specs.Clients.{Client, Around, blank, is_here, cleaned, let_in}
+use Rattle.sng_history.specs.Clients.{Client, Around, blank, is_here, opened, cleaned, let_in}
 use Rattle.sng_history.specs.Entering.{left_at, entering, entering_first, served, serving, welcomed}
 use Rattle.sng_history.specs.Lawful.{entering_notes}
 use Rattle.sng_history.specs.Links.{Link, Wanted}
 use Rattle.sng_history.specs.Outgoing.{handed_over, all_gone}
-use Rattle.sng_states.specs.declared.state.ClientState.TheVariants.{Active}
 use Rattle.sng_history.specs.Standing.{holds, is_held, releases_of, released, places_left, unsubscribes, drop_notes, still_wanted}
 use Rattle.sng_history.specs.State.{State, around, is_known}
 use Rattle.sng_history.specs.Verdicts.{entry}
-use Rattle.sng_history.specs.Answers.{connack}
-use Rattle.sng_history.specs.Whole.{spell, moved, around_connack, entry_outs}
+use Rattle.sng_history.specs.Answers.{welcome}
+use Rattle.sng_history.specs.Whole.{spell, moved, around_welcome, entry_outs}
 use Rattle.sng_history.specs.Steps.{notes_for, outs_by, client_next}
-use Rattle.sng_history.specs.Good.{Each, Away, Distinct, OnePlace, Good}
-use Rattle.sng_history.proofs.Own.{same_means, each_all, map_same}
-use Rattle.sng_history.proofs.Says.{beside_for, entering_for, drops_for}
+use Rattle.sng_history.specs.Good.{Each, AtRest, Away, Distinct, OnePlace, Good}
+use Rattle.sng_history.proofs.Own.{same_means, each_all, each_map, map_same}
+use Rattle.sng_history.proofs.Says.{part_for, beside_for, entering_for, drops_for}
 use Rattle.sng_history.proofs.Entries.{entering_next, entered_next, heard_next}
 use Rattle.sng_history.proofs.Kept.{let_in_id}
-use Rattle.sng_history.proofs.Hands.{served_steady}
+use Rattle.sng_history.proofs.Hands.{served_steady, gone_stays}
 use Rattle.sng_history.proofs.Wanted.{or_no}
 use Rattle.sng_history.proofs.Holding.{held_both}
 use Rattle.sng_core.specs.Forms.{place_at, place_of, client_at, at_place, moved_if, heard_at, hearing, entered}
 use Rattle.sng_grants.specs.declared.policy.Policy.{Policy}
 use Rattle.sng_sessions.specs.Handed.{handed_by}
 use Rattle.sng_sessions.specs.Moving.{moved_at}
-use Rattle.sng_core.specs.HandingOver.{gone_outs, hand_outs}
-use Rattle.sng_core.specs.Connecting.{moved_outs, put_out, dropped_notes, alone_in, held_beside, alone_at, alone_by, let_go, own_outs, own_plan, returning, dropped_by, connect_outs, connect_next}
-use Rattle.sng_core.proofs.Found.{found_here, nobody_here, no_moves, one_moves, one_outs, no_outs, moved_same, read_at, within}
+use Rattle.sng_core.specs.HandingOver.{gone_outs, hand_outs, hand_plan}
+use Rattle.sng_core.specs.Connecting.{moved_outs, put_out, dropped_notes, alone_in, held_beside, alone_at, alone_by, let_go, behind_welcome, own_outs, nothing_handed, own_plan, returning, dropped_by, connect_outs, connect_next}
+use Rattle.sng_core.proofs.Found.{found_here, nobody_here, no_moves, one_moves, one_outs_at, no_outs_at, moved_same, read_at, within}
+use Rattle.sng_core.proofs.Plain.{Busy, plain_next, plain_part, plain_row, all_busy}
 use Rattle.sng_core.proofs.Refusing.{keep_same, keep_all}
 use Rattle.sng_core.proofs.Releasing.{Same, Others, away_same, besides, texts_of, gone_in, released_none, released_one, held_each, held_one, held_split, all_ended, releases_alone, alone_same, alone_gone, told_gone, let_go_is, drops_are, take_texts}
 use Rattle.sng_core.proofs.HandingRows.{free_row, free_moves, gone_row}
@@ -131,32 +131,78 @@ moved_all from id xs apart = moved_by from id xs (nat_lt (position_or_len (bytes
 
 -- ---- another client at the address
 
-beside_quiet : (s : State) (from : Address) (connect : Connect) (y : Client) (same : Bool) → bytes_eq connect.client_id y.id ≡ same → entry s connect ≡ Allowed → is_here y from ≡ false → beside_for s from connect y ≡ []
-beside_quiet s from connect y true is may off = rw is refl
-beside_quiet s from connect y false is may off = rw (is, off, may) refl
+-- one that is not there is as it was
+quiet_next : (s : State) (from : Address) (connect : Connect) (y : Client) → bytes_eq connect.client_id y.id ≡ false → entry s connect ≡ Allowed → is_here y from ≡ false
+    → plain_next s (ByConnect from connect) y ≡ y
+quiet_next s from connect y is may off = rw (is, off, may) refl
+
+quiet_part : (s : State) (from : Address) (connect : Connect) (y : Client) → bytes_eq connect.client_id y.id ≡ false → entry s connect ≡ Allowed → is_here y from ≡ false
+    → plain_part s (ByConnect from connect) [] y ≡ []
+quiet_part s from connect y is may off = rw (is, off, may) refl
+
+beside_quiet : (s : State) (from : Address) (connect : Connect) (y : Client) (same : Bool) → bytes_eq connect.client_id y.id ≡ same → entry s connect ≡ Allowed
+    → is_here y from ≡ false → Busy y → beside_for s from connect y ≡ []
+beside_quiet s from connect y true is may off busy = rw is refl
+beside_quiet s from connect y false is may off busy =
+    let c = ByConnect from connect in
+    ap (λ b. if b then [] else part_for s c [] y) is
+    ∙ (plain_row s c [] y (subst Busy (sym (quiet_next s from connect y is may off)) busy) ∙ quiet_part s from connect y is may off)
+
+-- and one that is leaves
+left_next : (s : State) (from : Address) (connect : Connect) (y : Client) → bytes_eq connect.client_id y.id ≡ false → entry s connect ≡ Allowed → is_here y from ≡ true
+    → plain_next s (ByConnect from connect) y ≡ left_at s.clock y
+left_next s from connect y is may here =
+    rw (is, here, may) (gone_stays (around s (ByConnect from connect)) y.id y.buffer.waiting (left_at s.clock y) refl)
+
+left_part : (s : State) (from : Address) (connect : Connect) (y : Client) → bytes_eq connect.client_id y.id ≡ false → entry s connect ≡ Allowed → is_here y from ≡ true
+    → plain_part s (ByConnect from connect) [] y ≡ put_out connect.client_id (Some y)
+left_part s from connect y is may here =
+    rw (is, here, may) (ap (λ outs. Note (note.Left y.id) ∷ outs)
+    (gone_spelled (around s (ByConnect from connect)) y.id y.buffer.waiting (left_at s.clock y)))
 
 beside_is : (s : State) (from : Address) (connect : Connect) (y : Client) (same : Bool) → bytes_eq connect.client_id y.id ≡ same → entry s connect ≡ Allowed → is_here y from ≡ true
     → beside_for s from connect y ≡ put_out connect.client_id (Some y)
 beside_is s from connect y true is may here = rw is refl
 beside_is s from connect y false is may here =
-    rw (is, here, may) (ap (λ outs. Note (note.Left y.id) ∷ outs) (gone_spelled (around s (ByConnect from connect)) y.id y.buffer.waiting (left_at s.clock y)))
+    let c = ByConnect from connect in
+    let busy : Busy (left_at s.clock y) = refl in
+    ap (λ b. if b then [] else part_for s c [] y) is
+    ∙ (plain_row s c [] y (subst Busy (sym (left_next s from connect y is may here)) busy) ∙ left_part s from connect y is may here)
 
-beside_by : (s : State) (from : Address) (connect : Connect) (place : Option ℕ) → entry s connect ≡ Allowed → OnePlace s.clients → place_at from s.clients ≡ place
-    → flat_map (beside_for s from connect) s.clients ≡ put_out connect.client_id (at_place s.clients place)
-beside_by s from connect None may places at =
-    no_outs from (beside_for s from connect) s.clients (λ y off. beside_quiet s from connect y (bytes_eq connect.client_id y.id) refl may off) (nobody_here from s.clients at)
-beside_by s from connect (Some i) may places at =
+beside_by : (s : State) (from : Address) (connect : Connect) (place : Option ℕ) → entry s connect ≡ Allowed → OnePlace s.clients → Each Busy s.clients
+    → place_at from s.clients ≡ place → flat_map (beside_for s from connect) s.clients ≡ put_out connect.client_id (at_place s.clients place)
+beside_by s from connect None may places busy at =
+    no_outs_at from (beside_for s from connect) s.clients
+    (λ y off up. beside_quiet s from connect y (bytes_eq connect.client_id y.id) refl may off up) busy (nobody_here from s.clients at)
+beside_by s from connect (Some i) may places busy at =
     let x = client_at s.clients i in
     let read = read_at s.clients i (within from s.clients i at) in
     let here = found_here from s.clients i x at read in
-    one_outs from (beside_for s from connect) s.clients i x (λ y off. beside_quiet s from connect y (bytes_eq connect.client_id y.id) refl may off) places read here
+    one_outs_at from (beside_for s from connect) s.clients i x
+    (λ y off up. beside_quiet s from connect y (bytes_eq connect.client_id y.id) refl may off up) busy places read here
     ∙ beside_is s from connect x (bytes_eq connect.client_id x.id) refl may here
 
 -- ---- what is let go of upstream
 
+-- the client as it is let in, by whether its session is clean and whether it states a will
+abbrev in_with : ℕ → Address → Connect → Client → Bool → Bool → Client
+in_with clock from connect x clean will =
+    opened will (cleaned clean (record x { address = from; ids = []; duration = connect.duration; heard = clock }))
+
+in_filters : (clock : ℕ) (from : Address) (connect : Connect) (x : Client) (clean will : Bool)
+    → (in_with clock from connect x clean will).filters ≡ (if clean then [] else x.filters)
+in_filters clock from connect x true true = refl
+in_filters clock from connect x true false = refl
+in_filters clock from connect x false true = refl
+in_filters clock from connect x false false = refl
+
+abbrev kept_if : Client → Bool → List Held
+kept_if x clean = if clean then [] else x.filters
+
 filters_by : (clock : ℕ) (from : Address) (connect : Connect) (x : Client) (same here : Bool) → connect.flags.clean ≡ false
     → (if same then let_in clock from connect x else (if here then left_at clock x else x)).filters ≡ x.filters
-filters_by clock from connect x true here keeps = rw keeps refl
+filters_by clock from connect x true here keeps =
+    in_filters clock from connect x connect.flags.clean connect.flags.will ∙ ap (kept_if x) keeps
 filters_by clock from connect x false true keeps = refl
 filters_by clock from connect x false false keeps = refl
 
@@ -178,7 +224,8 @@ others_keep : (clock : ℕ) (from : Address) (connect : Connect) (f : Client →
 others_keep clock from connect f alike y off = alike y ∙ other_keeps clock from connect y off
 
 cleared : (clock : ℕ) (from : Address) (connect : Connect) (x : Client) → bytes_eq connect.client_id x.id ≡ true → connect.flags.clean ≡ true → (entering clock from connect x).filters ≡ []
-cleared clock from connect x is clean = rw (is, clean) refl
+cleared clock from connect x is clean =
+    rw is (in_filters clock from connect x connect.flags.clean connect.flags.will ∙ ap (kept_if x) clean)
 
 -- these filters are those that are released, and of those that stood just these stand no more
 pub record LetGo (f : Client → Client) (xs : List Client) (texts : List (List ℕ)) : Type 0 where
@@ -243,14 +290,23 @@ lets_go_by clock from connect f xs false is alike apart = nothing_goes f xs (eac
 lets_go : (clock : ℕ) (from : Address) (connect : Connect) (f : Client → Client) (xs : List Client) → Alike clock from connect f → Distinct xs → LetGo f xs (alone_by connect xs)
 lets_go clock from connect f xs alike apart = lets_go_by clock from connect f xs connect.flags.clean refl alike apart
 
-first_unheld_by : (clock : ℕ) (from : Address) (connect : Connect) (text : List ℕ) (known clean : Bool) → connect.flags.clean ≡ clean
+-- for one that comes first nothing stands
+no_filters : (held : List Held) (clean : Bool) → held ≡ [] → (if clean then [] else held) ≡ []
+no_filters held true is = refl
+no_filters held false is = is
+
+blank_filters : (clock : ℕ) (from : Address) (connect : Connect) (id : List ℕ) → (let_in clock from connect (blank id)).filters ≡ []
+blank_filters clock from connect id =
+    in_filters clock from connect (blank id) connect.flags.clean connect.flags.will ∙ no_filters [] connect.flags.clean refl
+
+first_unheld_by : (clock : ℕ) (from : Address) (connect : Connect) (text : List ℕ) (known : Bool)
     → is_held (if known then [] else let_in clock from connect (blank connect.client_id) ∷ []) text ≡ false
-first_unheld_by clock from connect text true clean is = refl
-first_unheld_by clock from connect text false true is = rw is refl
-first_unheld_by clock from connect text false false is = rw is refl
+first_unheld_by clock from connect text true = refl
+first_unheld_by clock from connect text false =
+    ap (λ held. stands held text || false) (blank_filters clock from connect connect.client_id)
 
 first_unheld : (clock : ℕ) (from : Address) (connect : Connect) (xs : List Client) (text : List ℕ) → is_held (entering_first clock from connect xs) text ≡ false
-first_unheld clock from connect xs text = first_unheld_by clock from connect text (is_known connect.client_id xs) connect.flags.clean refl
+first_unheld clock from connect xs text = first_unheld_by clock from connect text (is_known connect.client_id xs)
 
 -- handing over leaves what stands
 serving_by : (a : Around) (x : Client) (same : Bool) → (if same then served a x else x).filters ≡ x.filters
@@ -326,7 +382,7 @@ known_place id xs =
 abbrev own_part : Policy → Address → Connect → Option Client → List Out
 own_part policy from connect None = []
 own_part policy from connect (Some x) =
-    if connect.flags.clean then gone_outs connect.client_id x.buffer.waiting else hand_outs policy connect.client_id from [] 0 x.number x.buffer.waiting
+    if connect.flags.clean then gone_outs connect.client_id x.buffer.waiting else behind_welcome policy from connect x
 
 entering_quiet : (s : State) (from : Address) (connect : Connect) → Quiet connect.client_id (entering_for s from connect)
 entering_quiet s from connect y off = rw off refl
@@ -335,18 +391,23 @@ entering_is : (s : State) (from : Address) (connect : Connect) (x : Client) → 
     → entering_for s from connect x ≡ spell (around s (ByConnect from connect)) [] (let_in s.clock from connect x) (entering_notes s from connect x Allowed)
 entering_is s from connect x is may = rw (is, may) refl
 
--- the client, let in with what waits, and with nothing
-abbrev stays_in : ℕ → Address → Connect → Client → Client
-stays_in clock from connect x = cleaned false (record x { address = from; phase = Active; ids = []; duration = connect.duration; heard = clock })
+part_at : (a : Around) (from : Address) (connect : Connect) (x : Client) (clean will : Bool) → connect.client_id ≡ x.id
+    → (let y = in_with a.clock from connect x clean will in
+    spell a [] y (if clean then all_gone x.id x.buffer.waiting else handed_over a.policy y)
+    ≡ (if clean
+    then gone_outs connect.client_id x.buffer.waiting
+    else (if will then [] else hand_outs a.policy connect.client_id from [] 0 x.number x.buffer.waiting)))
+part_at a from connect x true will same =
+    sym (ap (λ id. gone_outs id x.buffer.waiting) same ∙ gone_row a [] x.id x.buffer.waiting (in_with a.clock from connect x true will))
+part_at a from connect x false true same = refl
+part_at a from connect x false false same =
+    sym (ap (λ id. hand_outs a.policy id from [] 0 x.number x.buffer.waiting) same
+    ∙ free_row a [] (in_with a.clock from connect x false false) refl)
 
-abbrev clean_in : ℕ → Address → Connect → Client → Client
-clean_in clock from connect x = cleaned true (record x { address = from; phase = Active; ids = []; duration = connect.duration; heard = clock })
-
-part_spelled : (a : Around) (from : Address) (connect : Connect) (x : Client) (clean : Bool) → connect.flags.clean ≡ clean → connect.client_id ≡ x.id
+part_spelled : (a : Around) (from : Address) (connect : Connect) (x : Client) → connect.client_id ≡ x.id
     → (let y = let_in a.clock from connect x in
     spell a [] y (if connect.flags.clean then all_gone x.id x.buffer.waiting else handed_over a.policy y) ≡ own_part a.policy from connect (Some x))
-part_spelled a from connect x true is same = rw (is, same) (sym (gone_row a [] x.id x.buffer.waiting (clean_in a.clock from connect x)))
-part_spelled a from connect x false is same = rw (is, same) (sym (free_row a [] (stays_in a.clock from connect x) refl))
+part_spelled a from connect x same = part_at a from connect x connect.flags.clean connect.flags.will same
 
 part_by : (s : State) (from : Address) (connect : Connect) (found : Bool)
     → (let i = position_or_len (bytes_eq connect.client_id) (ids_of s.clients) in
@@ -359,31 +420,50 @@ part_by s from connect true is apart may =
     let read = read_at s.clients i (ap (λ n. nat_lt i n) (sym (length_ids s.clients)) ∙ is) in
     let here = known_here id s.clients i x refl read in
     outs_found id (entering_for s from connect) s.clients i x (entering_quiet s from connect) apart read here
-    ∙ (entering_is s from connect x here may ∙ part_spelled (around s (ByConnect from connect)) from connect x connect.flags.clean refl (same_means id x.id here))
+    ∙ (entering_is s from connect x here may ∙ part_spelled (around s (ByConnect from connect)) from connect x (same_means id x.id here))
 part_by s from connect false is apart may =
     outs_away connect.client_id (entering_for s from connect) s.clients (entering_quiet s from connect) (unknown_all connect.client_id s.clients is)
 
-connack_by : (policy : Policy) (from : Address) (connect : Connect) (o : Option Client) (clean : Bool) → connect.flags.clean ≡ clean
-    → own_outs policy from connect o ≡ around_connack connect.flags.clean (own_part policy from connect o) (connack from ACCEPTED)
-connack_by policy from connect None true is = rw is refl
-connack_by policy from connect None false is = rw is refl
-connack_by policy from connect (Some x) true is = rw is refl
-connack_by policy from connect (Some x) false is = rw is refl
+around_is : (clean : Bool) (dropped behind : List Out) (ack : Out)
+    → (if clean then dropped ++ ack ∷ [] else ack ∷ behind) ≡ around_welcome clean (if clean then dropped else behind) ack
+around_is true dropped behind ack = refl
+around_is false dropped behind ack = refl
+
+around_nothing : (clean : Bool) (ack : Out) → ack ∷ [] ≡ around_welcome clean [] ack
+around_nothing true ack = refl
+around_nothing false ack = refl
+
+answered_by : (policy : Policy) (from : Address) (connect : Connect) (o : Option Client)
+    → own_outs policy from connect o ≡ around_welcome connect.flags.clean (own_part policy from connect o) (welcome connect from)
+answered_by policy from connect None = around_nothing connect.flags.clean (welcome connect from)
+answered_by policy from connect (Some x) =
+    around_is connect.flags.clean (gone_outs connect.client_id x.buffer.waiting) (behind_welcome policy from connect x) (welcome connect from)
 
 own_row : (s : State) (from : Address) (connect : Connect) → Good s → entry s connect ≡ Allowed
-    → around_connack connect.flags.clean (flat_map (entering_for s from connect) s.clients) (connack from ACCEPTED) ≡ own_outs s.policy from connect (returning s connect)
+    → around_welcome connect.flags.clean (flat_map (entering_for s from connect) s.clients) (welcome connect from) ≡ own_outs s.policy from connect (returning s connect)
 own_row s from connect good may =
     let xs = s.clients in
-    ap (λ outs. around_connack connect.flags.clean outs (connack from ACCEPTED))
+    ap (λ outs. around_welcome connect.flags.clean outs (welcome connect from))
     (part_by s from connect (nat_lt (position_or_len (bytes_eq connect.client_id) (ids_of xs)) (length (ids_of xs))) refl good.apart may)
-    ∙ sym (connack_by s.policy from connect (returning s connect) connect.flags.clean refl)
+    ∙ sym (answered_by s.policy from connect (returning s connect))
 
 -- ---- and what it comes to
 
-own_moves : (a : Around) (from : Address) (connect : Connect) (x : Client) (clean : Bool) → connect.flags.clean ≡ clean → connect.client_id ≡ x.id
+moves_at : (a : Around) (from : Address) (connect : Connect) (x : Client) (clean will : Bool) → connect.client_id ≡ x.id
+    → (let y = in_with a.clock from connect x clean will in
+    handed_by a.clock
+    (if clean then nothing_handed else (if will then nothing_handed else hand_plan a.policy connect.client_id [] 0 0 x.buffer.waiting)) y
+    ≡ served a y)
+moves_at a from connect x true true same = refl
+moves_at a from connect x true false same = refl
+moves_at a from connect x false true same = refl
+moves_at a from connect x false false same =
+    let y = in_with a.clock from connect x false false in
+    ap (λ id. handed_by a.clock (hand_plan a.policy id [] 0 0 x.buffer.waiting) y) same ∙ free_moves a y refl
+
+own_moves : (a : Around) (from : Address) (connect : Connect) (x : Client) → connect.client_id ≡ x.id
     → handed_by a.clock (own_plan a.policy connect (Some x)) (let_in a.clock from connect x) ≡ served a (let_in a.clock from connect x)
-own_moves a from connect x true is same = rw is refl
-own_moves a from connect x false is same = rw (is, same) (free_moves a (stays_in a.clock from connect x) refl)
+own_moves a from connect x same = moves_at a from connect x connect.flags.clean connect.flags.will same
 
 -- the one that has the id is served alone
 left_id : (id : List ℕ) (clock : ℕ) (x : Client) (here : Bool) → bytes_eq id x.id ≡ false → bytes_eq id (let y : Client = if here then left_at clock x else x in y).id ≡ false
@@ -419,7 +499,7 @@ own_welcome a from connect x is =
     let h = handed_by a.clock (own_plan a.policy connect (Some x)) in
     ap (serving a connect.client_id) (enters_as a.clock from connect x is)
     ∙ (serves a connect.client_id y (ap (bytes_eq connect.client_id) (let_in_id a.clock from connect x) ∙ is)
-    ∙ (sym (own_moves a from connect x connect.flags.clean refl (same_means connect.client_id x.id is)) ∙ ap h (sym (enters_as a.clock from connect x is))))
+    ∙ (sym (own_moves a from connect x (same_means connect.client_id x.id is)) ∙ ap h (sym (enters_as a.clock from connect x is))))
 
 one_welcome : (a : Around) (from : Address) (connect : Connect) (h : Client → Client) (xs : List Client) (i : ℕ) (x : Client) → Distinct xs → slice_get xs i ≡ Some x → bytes_eq connect.client_id x.id ≡ true
     → welcoming a from connect x ≡ h (entering a.clock from connect x)
@@ -437,15 +517,18 @@ one_welcome a from connect h (y ∷ ys) (suc i) x apart read is own =
     ∙ ap (λ zs. entering a.clock from connect y ∷ zs) (one_welcome a from connect h ys i x apart.1 read is own)
 
 -- for one that comes first nothing waits
-blank_passes : (a : Around) (from : Address) (connect : Connect) (same clean : Bool) → connect.flags.clean ≡ clean
-    → (if same then served a (let_in a.clock from connect (blank connect.client_id)) else let_in a.clock from connect (blank connect.client_id)) ≡ let_in a.clock from connect (blank connect.client_id)
-blank_passes a from connect true true is = rw is refl
-blank_passes a from connect true false is = rw is refl
-blank_passes a from connect false clean is = refl
+blank_passes : (a : Around) (from : Address) (connect : Connect) (same clean will : Bool)
+    → (let y = in_with a.clock from connect (blank connect.client_id) clean will in if same then served a y else y)
+    ≡ in_with a.clock from connect (blank connect.client_id) clean will
+blank_passes a from connect true true true = refl
+blank_passes a from connect true true false = refl
+blank_passes a from connect true false true = refl
+blank_passes a from connect true false false = refl
+blank_passes a from connect false clean will = refl
 
 first_passes : (a : Around) (from : Address) (connect : Connect) → serving a connect.client_id (let_in a.clock from connect (blank connect.client_id)) ≡ let_in a.clock from connect (blank connect.client_id)
 first_passes a from connect =
-    blank_passes a from connect (bytes_eq connect.client_id (let_in a.clock from connect (blank connect.client_id)).id) connect.flags.clean refl
+    blank_passes a from connect (bytes_eq connect.client_id (let_in a.clock from connect (blank connect.client_id)).id) connect.flags.clean connect.flags.will
 
 known_first : (clock : ℕ) (from : Address) (connect : Connect) (xs : List Client) → is_known connect.client_id xs ≡ true → entering_first clock from connect xs ≡ []
 known_first clock from connect xs is = rw is refl
@@ -495,7 +578,7 @@ dropped_are s from connect good may =
     let g = client_next s (ByConnect from connect) in
     let n = places_left s.link in
     let moves : map g s.clients ≡ map f s.clients ++ [] =
-    map_same g f s.clients (each_all (λ x. g x ≡ f x) s.clients (λ x. entering_next s from connect x may)) ∙ sym (append-nil (map f s.clients)) in
+    map_same g f s.clients (each_map AtRest (λ x. g x ≡ f x) s.clients (λ x at. entering_next s from connect x at.busy may) good.rest) ∙ sym (append-nil (map f s.clients)) in
     let rs = released s.clients (map f s.clients ++ []) in
     ap (λ xs. drop_notes (drop n (released s.clients xs))) moves
     ∙ (drops_are n rs
@@ -511,12 +594,12 @@ accepted_row s from connect good may =
     let c = ByConnect from connect in
     let before = moved_outs from (at_place s.clients (place_of id s.clients)) in
     let beside = put_out id (at_place s.clients (place_at from s.clients)) in
-    let end = around_connack connect.flags.clean (flat_map (entering_for s from connect) s.clients) (connack from ACCEPTED) in
+    let end = around_welcome connect.flags.clean (flat_map (entering_for s from connect) s.clients) (welcome connect from) in
     ap (λ outs. Note (note.Connect id Allowed) ∷ outs) (thrice before beside (dropped_notes (dropped_by s connect)) (own_outs s.policy from connect (returning s connect)))
     ∙ sym (ap (entry_outs s from connect (notes_for s c)) may
     ∙ ap (λ outs. Note (note.Connect id Allowed) ∷ outs)
     (ap (λ outs. outs ++ (flat_map (beside_for s from connect) s.clients ++ (drop_notes (drops_for s c) ++ end))) (moved_all from id s.clients good.apart)
-    ∙ (ap (λ outs. before ++ (outs ++ (drop_notes (drops_for s c) ++ end))) (beside_by s from connect (place_at from s.clients) may good.places refl)
+    ∙ (ap (λ outs. before ++ (outs ++ (drop_notes (drops_for s c) ++ end))) (beside_by s from connect (place_at from s.clients) may good.places (all_busy s.clients good.rest) refl)
     ∙ (ap (λ outs. before ++ (beside ++ (outs ++ end))) (dropped_are s from connect good may)
     ∙ ap (λ outs. before ++ (beside ++ (dropped_notes (dropped_by s connect) ++ outs))) (own_row s from connect good may)))))
 
@@ -559,7 +642,7 @@ accept_row s from connect good may =
     (accepted_row s from connect good may)
     (ap (λ link. with_link s link after.clients) (link_goes s from connect good)
     ∙ (ap (with_link s (link_with s xs)) (welcome_all a from connect s.clients good.apart)
-    ∙ ap (λ ys. with_link s (link_with s ys) ys) (sym (entered_next s from connect may))))
+    ∙ ap (λ ys. with_link s (link_with s ys) ys) (sym (entered_next s from connect good.rest may))))
 
 hearing_off : (clock : ℕ) (from : Address) (y : Client) → is_here y from ≡ false → hearing clock from y ≡ y
 hearing_off clock from y off = rw off refl
@@ -597,7 +680,7 @@ refuse_row s from connect rule good may =
     makes s (ByConnect from connect) (connect_outs s from connect (Denied rule)) (connect_next s from connect (Denied rule)) good
     (sym (ap (entry_outs s from connect (notes_for s (ByConnect from connect))) may))
     (ap (with_link s s.link) (sym (hearing_by s.clock from s.clients (place_at from s.clients) good.places refl))
-    ∙ (ap (λ link. with_link s link heard) (link_stays s from good) ∙ ap (λ ys. with_link s (link_with s ys) ys) (sym (heard_next s from connect rule may))))
+    ∙ (ap (λ link. with_link s link heard) (link_stays s from good) ∙ ap (λ ys. with_link s (link_with s ys) ys) (sym (heard_next s from connect rule good.rest may))))
 
 connect_by : (s : State) (from : Address) (connect : Connect) (o : Outcome) → Good s → entry s connect ≡ o
     → Makes s (ByConnect from connect) (connect_outs s from connect o) (connect_next s from connect o)

@@ -1,5 +1,5 @@
 -- What is kept of a message of the broker joins what waits for its clients.
-use Rattle.std.proofs.Common.{◌≡◌, ℕ, List, [], ◌∷◌, ◌++◌, refl, ap, sym, ◌∙◌}
+use Rattle.std.proofs.Common.{◌≡◌, ℕ, List, [], ◌∷◌, ◌++◌, refl}
 use Rattle.sng_history.specs.Clients.{Client}
 use Rattle.sng_sessions.specs.Handed.{delivered}
 use Rattle.sng_sessions.specs.Moving.{moved_at}

@@ -1,17 +1,20 @@
 -- A message of the broker as code delivers it is the notes of the step: what is let out for each client is those notes spelled, and what
 -- is kept does to the clients what they do.
 use Rattle.std.proofs.Common.{◌≡◌, ℕ, suc, Bool, true, false, List, [], ◌∷◌, ◌++◌, map, length, refl, ap, sym, ◌∙◌, subst}
-use Rattle.std.specs.Prelude.{if◌then◌else◌, ◌&&◌, nat_le, Option, Some, None}
+use Rattle.std.specs.Prelude.{if◌then◌else◌, ◌&&◌, nat_le, is_none, slice_get, Option, Some, None}
 use Rattle.std.specs.List.{flat_map}
 use Rattle.std.specs.Option.{option_map}
 use Rattle.std.proofs.lemmas.List.{append-nil, append_assoc}
 use Rattle.sng_text.specs.Texts.{is_name}
 use Rattle.sng_text.specs.declared.qos.Qos.{Qos}
 use Rattle.sng_grants.specs.declared.policy.Policy.{Policy}
-use Rattle.sng_states.specs.States.{is_due_messages}
+use Rattle.sng_states.specs.declared.state.ClientState.{ClientState}
+use Rattle.sng_states.specs.declared.state.ClientState.TheVariants.{Dialogue, Active, Asleep, Awake, Disconnected, Lost}
+use Rattle.sng_states.specs.States.{is_due_messages, takes_messages, is_awake}
 use Rattle.sng_fan.specs.Greatest.{greatest_qos}
 use Rattle.sng_fan.specs.Subscriptions.{stands}
 use Rattle.sng_queue.specs.Messages.{Message, is_sendable}
+use Rattle.sng_queue.specs.Buffers.{Buffer}
 use Rattle.sng_queue.specs.declared.limits.TheConstants.{MAX_QUEUED}
 use Rattle.mqtt_frames.specs.declared.packet.Publish.{Publish}
 use Rattle.mqtt_frames.specs.declared.packet.Packet.TheVariants as packet
@@ -22,19 +25,21 @@ use Rattle.sng_book.specs.declared.outcome.Outcome.{Outcome}
 use Rattle.sng_book.specs.declared.outcome.Outcome.TheVariants.{Allowed, Denied}
 use Rattle.sng_book.specs.declared.out.Out.{Out}
 use Rattle.sng_book.specs.declared.out.Out.TheVariants.{Note}
-use Rattle.sng_history.specs.Arriving.{lesser, granted_at, due_to, joins, joins_by, turned_away_by}
+use Rattle.sng_history.specs.Arriving.{lesser, granted_at, due_to, arrival, joins, joins_by, turned_away, turned_away_by}
 use Rattle.sng_history.specs.Causes.{Cause, ByPacket}
-use Rattle.sng_history.specs.Clients.{Around, Client, notes_by}
+use Rattle.sng_history.specs.Clients.{Around, Client, notes_by, is_drained}
 use Rattle.sng_history.specs.Links.{Wanted}
 use Rattle.sng_history.specs.Packets.{Delivers, answer_outs}
 use Rattle.sng_history.specs.Outgoing.{turns, is_free, handed_over, delivered_notes}
 use Rattle.sng_history.specs.State.{State, around}
-use Rattle.sng_history.specs.Whole.{spell, part}
+use Rattle.sng_history.specs.Whole.{spell}
 use Rattle.sng_history.specs.Lawful.{fixed_for}
 use Rattle.sng_history.specs.Steps.{outs_by, client_next, clients_next, next_by}
 use Rattle.sng_history.specs.Good.{Each, AtRest, Good}
 use Rattle.sng_history.proofs.Own.{each_map}
 use Rattle.sng_history.proofs.Hands.{Calm, every_delivered, messages_calm, notes_calm}
+use Rattle.sng_history.proofs.Says.{part_for}
+use Rattle.sng_history.proofs.Steady.{client_filters}
 use Rattle.sng_history.proofs.Endless.{Keeps, Endless, endless_wanted}
 use Rattle.sng_sessions.specs.Moving.{moved_at}
 use Rattle.sng_sessions.specs.Handed.{handed_by, delivered}
@@ -45,6 +50,7 @@ use Rattle.sng_core.specs.declared.deliver.Kept.{Kept}
 use Rattle.sng_core.specs.HandingOver.{message_outs, message_opens, is_open, hand_outs, hand_plan}
 use Rattle.sng_core.specs.Delivering.{incoming, due_at, message_at, kept_opened, due_outs, due_kept, deliver_outs, deliver_kept, all_outs, all_kept, keep_all}
 use Rattle.sng_core.specs.Refusing.{named_outs, named_kept, packet_outs, packet_link, packet_next}
+use Rattle.sng_core.proofs.Plain.{Busy, plain_next, plain_part, plain_moves, plain_row, sleepless}
 use Rattle.sng_core.proofs.HandingRows.{waits, free_closed, free_row, free_moves}
 
 -- the client once the message came out so
@@ -187,36 +193,129 @@ due_moved a at i x (Some qos) rest =
     let m = message_at i qos in
     arrives_kept a at m x (is_sendable m.name m.payload) (nat_le MAX_QUEUED (length x.buffer.waiting)) (is_free x) refl refl rest
 
+-- ---- what it leaves busy
+
+takes_awake : (phase : ClientState) → is_awake phase ≡ true → takes_messages phase ≡ true
+takes_awake Awake is = refl
+takes_awake Active is = absurd cc
+takes_awake Asleep is = absurd cc
+takes_awake Dialogue is = absurd cc
+takes_awake Disconnected is = absurd cc
+takes_awake Lost is = absurd cc
+
+-- what is turned away moves nothing,
+arrival_stays : (a : Around) (client name : List ℕ) (o : Outcome) (x : Client) (sendable full : Bool) → o ≡ outcome_for sendable full
+    → notes_by a (turned_away_by client name o) x ≡ x
+arrival_stays a client name o x true true is = rw is refl
+arrival_stays a client name o x true false is = rw is refl
+arrival_stays a client name o x false full is = rw is refl
+
+away_stays : (a : Around) (client : List ℕ) (due : Option Message) (b : Buffer) (x : Client) → notes_by a (turned_away client due b) x ≡ x
+away_stays a client None b x = refl
+away_stays a client (Some m) b x =
+    arrival_stays a client m.name (arrival b m) x (is_sendable m.name m.payload) (nat_le MAX_QUEUED (length b.waiting)) refl
+
+-- and what joins leaves open what is
+joined_open : (o : Outcome) (m : Message) (b : Buffer) → (joins_by o m b).exchange ≡ b.exchange
+joined_open Allowed m b = refl
+joined_open (Denied rule) m b = refl
+
+joins_open : (due : Option Message) (b : Buffer) → (joins due b).exchange ≡ b.exchange
+joins_open None b = refl
+joins_open (Some m) b = joined_open (arrival b m) m b
+
+and_no : (b : Bool) → (b && false) ≡ false
+and_no true = refl
+and_no false = refl
+
+-- something is open with the client
+abbrev Opened : Client → Type 0
+Opened x = is_none x.buffer.exchange ≡ false
+
+opened_busy : (x : Client) → Opened x → Busy x
+opened_busy x is =
+    ap (λ b. is_awake x.phase && (is_none (slice_get x.buffer.waiting 0) && b)) is
+    ∙ (ap (λ b. is_awake x.phase && b) (and_no (is_none (slice_get x.buffer.waiting 0))) ∙ and_no (is_awake x.phase))
+
+opened_none : (policy : Policy) (x : Client) → Opened x → handed_over policy x ≡ []
+opened_none policy x is =
+    ap (λ free. if free then turns policy x.id x.ids x.buffer.waiting else []) (ap (λ b. takes_messages x.phase && b) is ∙ and_no (takes_messages x.phase))
+
+opened_stays : (a : Around) (due : Option Message) (x : Client) → Opened x → notes_by a (delivered_notes a.policy due x) (joined due x) ≡ joined due x
+opened_stays a due x is =
+    let y = joined due x in
+    let still : Opened y = ap is_none (joins_open due x.buffer) ∙ is in
+    ap (λ notes. notes_by a (turned_away x.id due x.buffer ++ notes) y) (opened_none a.policy y still)
+    ∙ (ap (λ notes. notes_by a notes y) (append-nil (turned_away x.id due x.buffer)) ∙ away_stays a x.id due x.buffer y)
+
+-- something is open with one that is awake
+awake_open : (x : Client) (closed : Bool) → is_none x.buffer.exchange ≡ closed → is_awake x.phase ≡ true → AtRest x → closed ≡ false
+awake_open x true is up rest =
+    let free : is_free x ≡ true = ap (λ b. b && is_none x.buffer.exchange) (takes_awake x.phase up) ∙ is in
+    let none : x.buffer.waiting ≡ [] = nothing_waits x rest free in
+    let left : is_drained x ≡ true = rw (up, none, is) refl in
+    absurd (let bad : true ≡ false = sym left ∙ rest.busy in cc)
+awake_open x false is up rest = refl
+
+busy_by : (a : Around) (due : Option Message) (x : Client) (up : Bool) → is_awake x.phase ≡ up → AtRest x
+    → Busy (notes_by a (delivered_notes a.policy due x) (joined due x))
+busy_by a due x true is rest =
+    let now : Opened x = awake_open x (is_none x.buffer.exchange) refl is rest in
+    subst Busy (sym (opened_stays a due x now)) (opened_busy (joined due x) (ap is_none (joins_open due x.buffer) ∙ now))
+busy_by a due x false is rest =
+    let y = joined due x in
+    let notes = delivered_notes a.policy due x in
+    let steady = notes_calm a notes y (every_delivered (Calm a) a.policy due x (messages_calm a x.id)) in
+    sleepless (notes_by a notes y) (ap is_awake steady.phase ∙ is)
+
+pub busy_due : (a : Around) (due : Option Message) (x : Client) → AtRest x → Busy (notes_by a (delivered_notes a.policy due x) (joined due x))
+busy_due a due x rest = busy_by a due x (is_awake x.phase) refl rest
+
 -- ---- each client
 
 abbrev brings : Publish → Cause
 brings p = ByPacket (packet.Publish p)
 
 abbrev part_of : State → Publish → Client → List Out
-part_of s p x = part (around s (brings p)) [] (fixed_for s (brings p) x) x
+part_of s p x = part_for s (brings p) [] x
+
+busy_next : (s : State) (p : Publish) (x : Client) → AtRest x → Busy (plain_next s (brings p) x)
+busy_next s p x rest = busy_due (around s (brings p)) (due_to p x.phase x.filters) x rest
+
+part_plain : (s : State) (p : Publish) (x : Client) → AtRest x → part_of s p x ≡ plain_part s (brings p) [] x
+part_plain s p x rest = plain_row s (brings p) [] x (busy_next s p x rest)
+
+next_plain : (s : State) (p : Publish) (x : Client) → AtRest x → client_next s (brings p) x ≡ plain_next s (brings p) x
+next_plain s p x rest = plain_moves s (brings p) x (busy_next s p x rest)
 
 client_outs : (s : State) (p : Publish) (x : Client) → is_name p.name ≡ true → AtRest x → deliver_outs s.policy (incoming s.policy p) x ≡ part_of s p x
 client_outs s p x is rest =
     let a = around s (brings p) in
     let i = incoming s.policy p in
-    due_spelled a i x (due_at i x) rest ∙ ap (λ o. spell a [] (joined o x) (delivered_notes s.policy o x)) (due_same s.policy p x is)
+    let plain : deliver_outs s.policy i x ≡ plain_part s (brings p) [] x =
+    due_spelled a i x (due_at i x) rest ∙ ap (λ o. spell a [] (joined o x) (delivered_notes s.policy o x)) (due_same s.policy p x is) in
+    plain ∙ sym (part_plain s p x rest)
 
 client_moved : (s : State) (p : Publish) (x : Client) → is_name p.name ≡ true → AtRest x → (at : ℕ)
     → kept_by s.clock (deliver_kept s.policy (incoming s.policy p) at x) x ≡ client_next s (brings p) x
 client_moved s p x is rest at =
     let a = around s (brings p) in
     let i = incoming s.policy p in
-    due_moved a at i x (due_at i x) rest ∙ ap (λ o. notes_by a (delivered_notes s.policy o x) (joined o x)) (due_same s.policy p x is)
+    let plain : kept_by s.clock (deliver_kept s.policy i at x) x ≡ plain_next s (brings p) x =
+    due_moved a at i x (due_at i x) rest ∙ ap (λ o. notes_by a (delivered_notes s.policy o x) (joined o x)) (due_same s.policy p x is) in
+    plain ∙ sym (next_plain s p x rest)
 
 client_silent : (s : State) (p : Publish) (x : Client) → is_name p.name ≡ false → AtRest x → part_of s p x ≡ []
 client_silent s p x is rest =
     let a = around s (brings p) in
-    ap (λ o. spell a [] (joined o x) (delivered_notes s.policy o x)) (due_none p x is) ∙ ap (spell a [] x) (none_handed s.policy x rest)
+    part_plain s p x rest
+    ∙ (ap (λ o. spell a [] (joined o x) (delivered_notes s.policy o x)) (due_none p x is) ∙ ap (spell a [] x) (none_handed s.policy x rest))
 
 client_stays : (s : State) (p : Publish) (x : Client) → is_name p.name ≡ false → AtRest x → client_next s (brings p) x ≡ x
 client_stays s p x is rest =
     let a = around s (brings p) in
-    ap (λ o. notes_by a (delivered_notes s.policy o x) (joined o x)) (due_none p x is) ∙ ap (λ notes. notes_by a notes x) (none_handed s.policy x rest)
+    next_plain s p x rest
+    ∙ (ap (λ o. notes_by a (delivered_notes s.policy o x) (joined o x)) (due_none p x is) ∙ ap (λ notes. notes_by a notes x) (none_handed s.policy x rest))
 
 -- ---- all clients
 
@@ -318,7 +417,8 @@ client_keeps s p x text is =
     let a = around s (brings p) in
     let due = due_to p x.phase x.filters in
     let same : (client_next s (brings p) x).filters ≡ x.filters =
-    (notes_calm a (delivered_notes s.policy due x) (joined due x) (every_delivered (Calm a) s.policy due x (messages_calm a x.id))).filters in
+    client_filters a (fixed_for s (brings p) x) x
+    ∙ (notes_calm a (delivered_notes s.policy due x) (joined due x) (every_delivered (Calm a) s.policy due x (messages_calm a x.id))).filters in
     ap (λ held. stands held text) same ∙ is
 
 -- no subscription ends by it

@@ -11,6 +11,7 @@ use Rattle.sng_history.specs.Whole.{any_from}
 use Rattle.sng_history.specs.Good.{Each, Apart, OnePlace}
 use Rattle.sng_core.specs.Forms.{place_at, client_at}
 use Rattle.sng_sessions.specs.Moving.{moved_at}
+use Rattle.sng_core.proofs.Plain.{Busy}
 
 -- ---- the place of the first that passes a test
 
@@ -56,7 +57,7 @@ nobody_here from xs at =
 
 -- ---- one of many
 
-each_at : (P : Client → Type 0) (xs : List Client) (i : ℕ) (x : Client) → Each P xs → slice_get xs i ≡ Some x → P x
+pub each_at : (P : Client → Type 0) (xs : List Client) (i : ℕ) (x : Client) → Each P xs → slice_get xs i ≡ Some x → P x
 each_at P [] i x all read = absurd cc
 each_at P (y ∷ ys) zero x all read = let e : y ≡ x = cc in subst P e all.0
 each_at P (y ∷ ys) (suc i) x all read = each_at P ys i x all.1 read
@@ -104,6 +105,41 @@ one_moves from g (y ∷ ys) zero x same places read here =
 one_moves from g (y ∷ ys) (suc i) x same places read here =
     let off : is_here y from ≡ false = clear_by (is_here y from) (is_here x from) (each_at (Apart y) ys i x places.0 read from) here in
     rw (same y off) (ap (λ zs. y ∷ zs) (one_moves from g ys i x same places.1 read here))
+
+-- the same where each of them is busy before
+pub no_outs_at : {A : Type 0} (from : Address) (f : Client → List A) (xs : List Client) → ((y : Client) → is_here y from ≡ false → Busy y → f y ≡ [])
+    → Each Busy xs → Each (λ y. is_here y from ≡ false) xs → flat_map f xs ≡ []
+no_outs_at from f [] quiet busy none = refl
+no_outs_at from f (y ∷ ys) quiet busy none = rw (quiet y none.0 busy.0, no_outs_at from f ys quiet busy.1 none.1) refl
+
+pub no_moves_at : (from : Address) (g : Client → Client) (xs : List Client) → ((y : Client) → is_here y from ≡ false → Busy y → g y ≡ y)
+    → Each Busy xs → Each (λ y. is_here y from ≡ false) xs → map g xs ≡ xs
+no_moves_at from g [] same busy none = refl
+no_moves_at from g (y ∷ ys) same busy none = rw (same y none.0 busy.0, no_moves_at from g ys same busy.1 none.1) refl
+
+pub one_outs_at : {A : Type 0} (from : Address) (f : Client → List A) (xs : List Client) (i : ℕ) (x : Client)
+    → ((y : Client) → is_here y from ≡ false → Busy y → f y ≡ []) → Each Busy xs → OnePlace xs
+    → slice_get xs i ≡ Some x → is_here x from ≡ true → flat_map f xs ≡ f x
+one_outs_at from f [] i x quiet busy places read here = absurd cc
+one_outs_at from f (y ∷ ys) zero x quiet busy places read here =
+    let e : y ≡ x = cc in
+    let at : is_here y from ≡ true = subst (λ z. is_here z from ≡ true) (sym e) here in
+    rw (no_outs_at from f ys quiet busy.1 (all_clear from y ys at places.0)) (append-nil (f y) ∙ ap f e)
+one_outs_at from f (y ∷ ys) (suc i) x quiet busy places read here =
+    let off : is_here y from ≡ false = clear_by (is_here y from) (is_here x from) (each_at (Apart y) ys i x places.0 read from) here in
+    rw (quiet y off busy.0) (one_outs_at from f ys i x quiet busy.1 places.1 read here)
+
+pub one_moves_at : (from : Address) (g : Client → Client) (xs : List Client) (i : ℕ) (x : Client)
+    → ((y : Client) → is_here y from ≡ false → Busy y → g y ≡ y) → Each Busy xs → OnePlace xs
+    → slice_get xs i ≡ Some x → is_here x from ≡ true → map g xs ≡ moved_at i g xs
+one_moves_at from g [] i x same busy places read here = absurd cc
+one_moves_at from g (y ∷ ys) zero x same busy places read here =
+    let e : y ≡ x = cc in
+    let at : is_here y from ≡ true = subst (λ z. is_here z from ≡ true) (sym e) here in
+    ap (λ zs. g y ∷ zs) (no_moves_at from g ys same busy.1 (all_clear from y ys at places.0))
+one_moves_at from g (y ∷ ys) (suc i) x same busy places read here =
+    let off : is_here y from ≡ false = clear_by (is_here y from) (is_here x from) (each_at (Apart y) ys i x places.0 read from) here in
+    rw (same y off busy.0) (ap (λ zs. y ∷ zs) (one_moves_at from g ys i x same busy.1 places.1 read here))
 
 -- the same of another function that agrees on the one that is there
 pub moved_same : (f g : Client → Client) (xs : List Client) (i : ℕ) (x : Client) → slice_get xs i ≡ Some x → f x ≡ g x → moved_at i f xs ≡ moved_at i g xs

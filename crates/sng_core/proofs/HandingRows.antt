@@ -49,7 +49,7 @@ waits x waiting = record x { buffer = record { waiting = waiting; exchange = Non
 abbrev until : Opens → List Out → List Out
 until o outs = if is_open o then [] else outs
 
-abbrev hand_by : ℕ → Opens → Handed → Handed
+abbrev pub hand_by : ℕ → Opens → Handed → Handed
 hand_by at o behind = if is_open o then record { settled = at; opens = o } else behind
 
 -- ---- by which topic id
@@ -145,7 +145,7 @@ turns_spelled a dropped client (m ∷ more) x = judged_spelled a dropped client 
 -- ---- what it comes to
 
 -- one message more is settled before
-abbrev further : Handed → Handed
+abbrev pub further : Handed → Handed
 further h = record h { settled = suc h.settled }
 
 further_by : (at : ℕ) (o : Opens) (h : Handed) → hand_by (suc at) o (further h) ≡ further (hand_by at o h)
@@ -153,7 +153,7 @@ further_by at Nothing h = refl
 further_by at (Announcing name) h = refl
 further_by at (Awaiting kind id) h = refl
 
-plan_further : (policy : Policy) (id : List ℕ) (ids : Ids) (more at : ℕ) (waiting : List Message) → hand_plan policy id ids more (suc at) waiting ≡ further (hand_plan policy id ids more at waiting)
+pub plan_further : (policy : Policy) (id : List ℕ) (ids : Ids) (more at : ℕ) (waiting : List Message) → hand_plan policy id ids more (suc at) waiting ≡ further (hand_plan policy id ids more at waiting)
 plan_further policy id ids more at [] = refl
 plan_further policy id ids more at (m ∷ waiting) =
     ap (hand_by (suc at) (message_opens policy id ids more m)) (plan_further policy id ids more (suc at) waiting)
@@ -213,7 +213,7 @@ turns_moved a client (m ∷ more) x = judged_moved a client m more x (receive a.
 
 -- ---- of a client
 
-waits_self : (x : Client) → x.buffer.exchange ≡ None → waits x x.buffer.waiting ≡ x
+pub waits_self : (x : Client) → x.buffer.exchange ≡ None → waits x x.buffer.waiting ≡ x
 waits_self x none = ap (λ o. let y : Client = record x { buffer = record { waiting = x.buffer.waiting; exchange = o } } in y) (sym none)
 
 -- where no exchange is open with the client, what is let out is the notes, spelled,
@@ -337,7 +337,7 @@ confirmed_moves a ids more x knows is =
 
 -- ---- once the client answered
 
-answered_free : (clock more : ℕ) (x : Client) → takes_messages x.phase ≡ true → is_free (answered clock more x) ≡ true
+pub answered_free : (clock more : ℕ) (x : Client) → takes_messages x.phase ≡ true → is_free (answered clock more x) ≡ true
 answered_free clock more x takes = ap (λ b. b && true) takes
 
 -- by a PUBACK, or by a REGACK that accepts an id
@@ -354,10 +354,10 @@ answered_moves a more x takes = confirmed_moves a x.ids more (answered a.clock m
 abbrev pub behind_front : ℕ → Client → Client
 behind_front clock x = record x { heard = clock; buffer = settle x.buffer }
 
-abbrev waits_behind : ℕ → Client → Client
+abbrev pub waits_behind : ℕ → Client → Client
 waits_behind clock x = record x { heard = clock; buffer = record { waiting = drop 1 x.buffer.waiting; exchange = None } }
 
-front_settled : (clock : ℕ) (x : Client) → awaits_ack x.buffer.exchange ≡ false → waits_behind clock x ≡ behind_front clock x
+pub front_settled : (clock : ℕ) (x : Client) → awaits_ack x.buffer.exchange ≡ false → waits_behind clock x ≡ behind_front clock x
 front_settled clock x is = rw is refl
 
 pub refused_row : (a : Around) (dropped : List Release) (x : Client) → awaits_ack x.buffer.exchange ≡ false → takes_messages x.phase ≡ true

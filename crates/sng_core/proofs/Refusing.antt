@@ -1,5 +1,5 @@
 -- What a packet of the broker lets out and leads to, as code makes it.
-use Rattle.std.proofs.Common.{◌≡◌, ◌<◌, ℕ, zero, suc, Bool, true, false, List, [], ◌∷◌, ◌++◌, map, take, drop, length, refl, ap, sym, ◌∙◌, arith}
+use Rattle.std.proofs.Common.{◌≡◌, ◌<◌, ℕ, zero, suc, Bool, true, false, List, [], ◌∷◌, ◌++◌, map, take, drop, length, refl, ap, sym, ◌∙◌, subst, arith}
 use Rattle.std.specs.Prelude.{if◌then◌else◌, ◌&&◌, ◌||◌, not, filter, Option, Some, None}
 use Rattle.std.specs.List.{flat_map, find}
 use Rattle.std.specs.Option.{option_map}
@@ -13,10 +13,13 @@ use Rattle.mqtt_frames.specs.declared.packet.SubscribeCode.{SubscribeCode}
 use Rattle.mqtt_frames.specs.declared.packet.SubscribeCode.TheVariants as code
 use Rattle.sng_fan.specs.declared.held.Held.{Held}
 use Rattle.sng_fan.specs.Subscriptions.{has_text, stands, without_filter}
+use Rattle.sng_book.specs.declared.decision.Decision.TheVariants as note
+use Rattle.sng_book.specs.declared.outcome.Denial.TheVariants.{BrokerRefused}
+use Rattle.sng_book.specs.declared.outcome.Outcome.TheVariants.{Denied}
 use Rattle.sng_book.specs.declared.out.Out.{Out}
 use Rattle.sng_history.specs.Causes.{ByPacket}
 use Rattle.sng_history.specs.Arriving.{joins}
-use Rattle.sng_history.specs.Clients.{Client, blank, message_due, start_by, notes_by, without}
+use Rattle.sng_history.specs.Clients.{Around, Client, blank, message_due, start_by, notes_by, without}
 use Rattle.sng_history.specs.Links.{Wanted, is_filter_of, is_open, wants, closed}
 use Rattle.sng_history.specs.Outgoing.{delivered_notes}
 use Rattle.sng_history.specs.Packets.{Answer, Delivers, Acknowledges, Grants, Refuses, Confirms, Strange, subscribe_answer, answer_of, answered, answer_outs, filter_open, refused_filter}
@@ -32,6 +35,7 @@ use Rattle.sng_history.proofs.Wanted.{same_wants, moved_wanted}
 use Rattle.sng_sessions.specs.Moving.{moved_at}
 use Rattle.sng_sessions.specs.Standing.{client_at}
 use Rattle.sng_core.specs.Refusing.{end_note, end_notes, refused_notes, refused_clients, refused_wanted, delivered_outs, delivered_clients, packet_outs, packet_link, packet_next}
+use Rattle.sng_core.proofs.Plain.{Busy, plain_next, plain_moves, plain_row}
 use Rattle.sng_core.proofs.DeliveringRows.{none_handed, publish_outs, publish_next}
 use Rattle.sng_core.proofs.Rows.{Makes, makes}
 
@@ -198,6 +202,25 @@ ends_alone s p x none rest =
 starts_same : (s : State) (p : Packet) (x : Client) → brings_none (answer_of p) ≡ true → start_by (around s (ByPacket p)) x ≡ x
 starts_same s p x none = ap (λ due. let y : Client = record x { buffer = joins due x.buffer } in y) (none_due (answer_of p) x none)
 
+-- it stands as it did, with what waits and is open
+end_busy : (a : Around) (o : Option (List ℕ)) (x : Client) → Busy x → Busy (notes_by a (refused_end x o) x)
+end_busy a None x busy = busy
+end_busy a (Some text) x busy = by_held (holds text x)
+  where
+    by_held : (held : Bool) → Busy (notes_by a (if held then note.End x.id text (Denied BrokerRefused) ∷ [] else []) x)
+    by_held true = busy
+    by_held false = busy
+
+moves_alone : (s : State) (p : Packet) (x : Client) → brings_none (answer_of p) ≡ true → AtRest x
+    → plain_next s (ByPacket p) x ≡ notes_by (around s (ByPacket p)) (refused_end x (refused_filter s.link (answer_of p))) x
+moves_alone s p x none rest =
+    let a = around s (ByPacket p) in
+    ap (λ y. notes_by a (fixed_for s (ByPacket p) x) y) (starts_same s p x none) ∙ ap (λ notes. notes_by a notes x) (ends_alone s p x none rest)
+
+busy_alone : (s : State) (p : Packet) (x : Client) → brings_none (answer_of p) ≡ true → AtRest x → Busy (plain_next s (ByPacket p) x)
+busy_alone s p x none rest =
+    subst Busy (sym (moves_alone s p x none rest)) (end_busy (around s (ByPacket p)) (refused_filter s.link (answer_of p)) x rest.busy)
+
 -- ---- the row
 
 abbrev says_so : State → Packet → Option (List ℕ) → Client → List Out
@@ -206,7 +229,8 @@ says_so s p o x = spell (around s (ByPacket p)) [] x (refused_end x o)
 part_alone : (s : State) (p : Packet) (x : Client) → brings_none (answer_of p) ≡ true → AtRest x → part_for s (ByPacket p) [] x ≡ says_so s p (refused_filter s.link (answer_of p)) x
 part_alone s p x none rest =
     let a = around s (ByPacket p) in
-    ap (λ y. spell a [] y (fixed_for s (ByPacket p) x)) (starts_same s p x none) ∙ ap (spell a [] x) (ends_alone s p x none rest)
+    plain_row s (ByPacket p) [] x (busy_alone s p x none rest)
+    ∙ (ap (λ y. spell a [] y (fixed_for s (ByPacket p) x)) (starts_same s p x none) ∙ ap (spell a [] x) (ends_alone s p x none rest))
 
 parts_alone : (s : State) (p : Packet) (xs : List Client) → brings_none (answer_of p) ≡ true → Each AtRest xs
     → flat_map (part_for s (ByPacket p) []) xs ≡ flat_map (says_so s p (refused_filter s.link (answer_of p))) xs
@@ -236,8 +260,7 @@ moved_so s p o x = notes_by (around s (ByPacket p)) (refused_end x o) x
 
 moved_alone : (s : State) (p : Packet) (x : Client) → brings_none (answer_of p) ≡ true → AtRest x → client_next s (ByPacket p) x ≡ moved_so s p (refused_filter s.link (answer_of p)) x
 moved_alone s p x none rest =
-    let a = around s (ByPacket p) in
-    ap (λ y. notes_by a (fixed_for s (ByPacket p) x) y) (starts_same s p x none) ∙ ap (λ notes. notes_by a notes x) (ends_alone s p x none rest)
+    plain_moves s (ByPacket p) x (busy_alone s p x none rest) ∙ moves_alone s p x none rest
 
 all_alone : (s : State) (p : Packet) (xs : List Client) → brings_none (answer_of p) ≡ true → Each AtRest xs
     → map (client_next s (ByPacket p)) xs ≡ map (moved_so s p (refused_filter s.link (answer_of p))) xs

@@ -14,6 +14,7 @@ use Rattle.sng_outbox.specs.declared.limits.TheConstants.{MAX_OUTBOX_ITEMS}
 use Rattle.sng_outbox.specs.declared.item.Item.{Item}
 use Rattle.sng_outbox.specs.declared.item.Item.TheVariants as item
 use Rattle.sng_book.specs.Denials.{is_allowed}
+use Rattle.sng_book.specs.declared.decision.Decision.{Decision}
 use Rattle.sng_book.specs.declared.decision.Decision.TheVariants as note
 use Rattle.sng_book.specs.declared.outcome.Outcome.{Outcome}
 use Rattle.sng_book.specs.declared.outcome.Outcome.TheVariants.{Allowed, Denied}
@@ -34,8 +35,10 @@ use Rattle.sng_sessions.specs.Moving.{moved_at}
 use Rattle.sng_core.specs.declared.replace.Ending.{Ending}
 use Rattle.sng_core.specs.Replacing.{let_go, ended_clients, ended_link, ended_notes, ended_next, ended_outs, all_next, all_outs, ending_of, endings_by, endings_from}
 use Rattle.sng_history.proofs.Endless.{EachIn, each_in, each_wanted, all_still}
+use Rattle.sng_history.proofs.Steady.{client_filters}
 use Rattle.sng_history.proofs.Own.{same_self, same_means, flip}
 use Rattle.sng_history.proofs.Says.{part_for, drops_for}
+use Rattle.sng_core.proofs.Plain.{Busy, plain_next, plain_moves, plain_row, all_busy}
 
 -- ---- booleans
 
@@ -446,14 +449,30 @@ lost_all policy client all after (h ∷ held) just each =
 -- the filters that stood and do not any more are those that are denied
 ended_lost : (s : State) (policy : Policy) (x : Client) → ended x (client_next s (ByReplace policy) x) ≡ lost policy x.id x.filters
 ended_lost s policy x =
+    let a = around s (ByReplace policy) in
     let y = client_next s (ByReplace policy) x in
     lost_all policy x.id x.filters y.filters x.filters
-    (λ text is. stands_after (around s (ByReplace policy)) policy x.id x.filters x text ∙ rw is (turned (is_allowed (coverage policy x.id text))))
+    (λ text is. ap (λ held. stands held text) (client_filters a (ends_under policy x.id x.filters) x)
+    ∙ (stands_after a policy x.id x.filters x text ∙ rw is (turned (is_allowed (coverage policy x.id text)))))
     (each_in x.filters)
   where
     turned : (b : Bool) → not (not b) ≡ b
     turned true = refl
     turned false = refl
+
+-- an ending leaves the client where it is, with what waits and is open
+end_busy : (a : Around) (client filter : List ℕ) (o : Outcome) (notes : List Decision) (x : Client) → Busy x
+    → ((y : Client) → Busy y → Busy (notes_by a notes y)) → Busy (notes_by a (end_of client filter o ++ notes) x)
+end_busy a client filter Allowed notes x busy later = later x busy
+end_busy a client filter (Denied rule) notes x busy later = later (without filter x) busy
+
+ends_busy : (a : Around) (policy : Policy) (client : List ℕ) (held : List Held) (x : Client) → Busy x → Busy (notes_by a (ends_under policy client held) x)
+ends_busy a policy client [] x busy = busy
+ends_busy a policy client (h ∷ held) x busy =
+    end_busy a client h.filter (coverage policy client h.filter) (ends_under policy client held) x busy (ends_busy a policy client held)
+
+busy_next : (s : State) (policy : Policy) (x : Client) → Busy x → Busy (plain_next s (ByReplace policy) x)
+busy_next s policy x busy = ends_busy (around s (ByReplace policy)) policy x.id x.filters x busy
 
 -- ---- each filter of a client stands once
 
@@ -517,29 +536,31 @@ outs_append s (e ∷ one) two =
     ap (λ outs. ended_outs s e ++ outs) (outs_append (ended_next s e) one two) ∙ sym (append_assoc (ended_outs s e) (all_outs (ended_next s e) one) (all_outs (all_next (ended_next s e) one) two))
 
 -- the state as one client is done with
-done_course : (s : State) (policy : Policy) (place : ℕ) (earlier : List Client) (x : Client) (xs : List Client) (releases : List Release) → place ≡ length earlier
+done_course : (s : State) (policy : Policy) (place : ℕ) (earlier : List Client) (x : Client) (xs : List Client) (releases : List Release) → Busy x → place ≡ length earlier
     → (let y = client_next s (ByReplace policy) x in
     all_next (course s (earlier ++ x ∷ xs) releases) (endings_by policy place x.id x.filters)
     ≡ course s ((earlier ++ y ∷ []) ++ xs) (releases ++ releases_of x.id (others earlier xs) (ended x y)))
-done_course s policy place earlier x xs releases is =
+done_course s policy place earlier x xs releases busy is =
     let y = client_next s (ByReplace policy) x in
     client_course s (around s (ByReplace policy)) policy place x.id earlier xs x.filters is x releases
+    ∙ (ap (λ z. course s (earlier ++ z ∷ xs) (releases ++ releases_of x.id (others earlier xs) (lost policy x.id x.filters)))
+    (sym (plain_moves s (ByReplace policy) x (busy_next s policy x busy)))
     ∙ (ap (λ ys. course s ys (releases ++ releases_of x.id (others earlier xs) (lost policy x.id x.filters))) (sym (append_assoc earlier (y ∷ []) xs))
-    ∙ ap (λ texts. course s ((earlier ++ y ∷ []) ++ xs) (releases ++ releases_of x.id (others earlier xs) texts)) (sym (ended_lost s policy x)))
+    ∙ ap (λ texts. course s ((earlier ++ y ∷ []) ++ xs) (releases ++ releases_of x.id (others earlier xs) texts)) (sym (ended_lost s policy x))))
 
 longer : (place : ℕ) (earlier : List Client) (y : Client) → place ≡ length earlier → suc place ≡ length (earlier ++ y ∷ [])
 longer place earlier y is = let size : length (earlier ++ y ∷ []) ≡ length earlier + 1 = length-append earlier (y ∷ []) in omega (arith, size)
 
-rest_course : (s : State) (policy : Policy) (place : ℕ) (earlier xs : List Client) (releases : List Release) → place ≡ length earlier
+rest_course : (s : State) (policy : Policy) (place : ℕ) (earlier xs : List Client) (releases : List Release) → Each Busy xs → place ≡ length earlier
     → (let f = client_next s (ByReplace policy) in
     all_next (course s (earlier ++ xs) releases) (endings_from policy place xs) ≡ course s (earlier ++ map f xs) (releases ++ released_from earlier xs (map f xs)))
-rest_course s policy place earlier [] releases is = ap (course s (earlier ++ [])) (sym (append-nil releases))
-rest_course s policy place earlier (x ∷ xs) releases is =
+rest_course s policy place earlier [] releases busy is = ap (course s (earlier ++ [])) (sym (append-nil releases))
+rest_course s policy place earlier (x ∷ xs) releases busy is =
     let f = client_next s (ByReplace policy) in
     let first = releases_of x.id (others earlier xs) (ended x (f x)) in
     next_append (course s (earlier ++ x ∷ xs) releases) (endings_by policy place x.id x.filters) (endings_from policy (suc place) xs)
-    ∙ (ap (λ (t : State). all_next t (endings_from policy (suc place) xs)) (done_course s policy place earlier x xs releases is)
-    ∙ (rest_course s policy (suc place) (earlier ++ f x ∷ []) xs (releases ++ first) (longer place earlier (f x) is)
+    ∙ (ap (λ (t : State). all_next t (endings_from policy (suc place) xs)) (done_course s policy place earlier x xs releases busy.0 is)
+    ∙ (rest_course s policy (suc place) (earlier ++ f x ∷ []) xs (releases ++ first) busy.1 (longer place earlier (f x) is)
     ∙ (ap (λ ys. course s ys ((releases ++ first) ++ released_from (earlier ++ f x ∷ []) xs (map f xs))) (append_assoc earlier (f x ∷ []) (map f xs))
     ∙ ap (course s (earlier ++ f x ∷ map f xs)) (append_assoc releases first (released_from (earlier ++ f x ∷ []) xs (map f xs))))))
 
@@ -554,13 +575,13 @@ none_more id releases more (x ∷ xs) away none each = (
   none_more id releases more xs away.1 none.1 each,
 )
 
-rest_says : (s : State) (policy : Policy) (dropped : List Release) (place : ℕ) (earlier xs : List Client) (releases : List Release) → place ≡ length earlier
+rest_says : (s : State) (policy : Policy) (dropped : List Release) (place : ℕ) (earlier xs : List Client) (releases : List Release) → Each Busy xs → place ≡ length earlier
     → Distinct xs → Each (λ x. IsOneClients x.filters) xs → Each (NoneOf releases) xs
     → (let f = client_next s (ByReplace policy) in
     dropped ≡ dropped_of s.link (releases ++ released_from earlier xs (map f xs))
     → all_outs (course s (earlier ++ xs) releases) (endings_from policy place xs) ≡ flat_map (part_for s (ByReplace policy) dropped) xs)
-rest_says s policy dropped place earlier [] releases is apart once none drops = refl
-rest_says s policy dropped place earlier (x ∷ xs) releases is apart once none drops =
+rest_says s policy dropped place earlier [] releases busy is apart once none drops = refl
+rest_says s policy dropped place earlier (x ∷ xs) releases busy is apart once none drops =
     let f = client_next s (ByReplace policy) in
     let a = around s (ByReplace policy) in
     let own = endings_by policy place x.id x.filters in
@@ -571,13 +592,14 @@ rest_says s policy dropped place earlier (x ∷ xs) releases is apart once none 
     client_says s a dropped policy place earlier xs later x.id x.filters is (once_held x.filters once.0.0) (unreleased_all x.id later x.filters (away_release f x.id (earlier ++ f x ∷ []) xs apart.0))
     x releases refl (unreleased_all x.id releases x.filters none.0) (drops ∙ ap (λ rs. dropped_of s.link (releases ++ (rs ++ later))) first_is) in
     let rest : all_outs (course s ((earlier ++ f x ∷ []) ++ xs) (releases ++ first)) (endings_from policy (suc place) xs) ≡ flat_map (part_for s (ByReplace policy) dropped) xs =
-    rest_says s policy dropped (suc place) (earlier ++ f x ∷ []) xs (releases ++ first) (longer place earlier (f x) is) apart.1 once.1
+    rest_says s policy dropped (suc place) (earlier ++ f x ∷ []) xs (releases ++ first) busy.1 (longer place earlier (f x) is) apart.1 once.1
     (none_more x.id releases first xs apart.0 none.1 (λ y away. others_release y.id x.id (others earlier xs) (ended x (f x)) away))
     (drops ∙ ap (dropped_of s.link) (sym (append_assoc releases first later))) in
     outs_append (course s (earlier ++ x ∷ xs) releases) own (endings_from policy (suc place) xs)
     ∙ (ap (λ outs. outs ++ all_outs (all_next (course s (earlier ++ x ∷ xs) releases) own) (endings_from policy (suc place) xs)) one
-    ∙ ap (λ outs. spell a dropped x (ends_under policy x.id x.filters) ++ outs)
-    (ap (λ (t : State). all_outs t (endings_from policy (suc place) xs)) (done_course s policy place earlier x xs releases is) ∙ rest))
+    ∙ (ap (λ outs. spell a dropped x (ends_under policy x.id x.filters) ++ outs)
+    (ap (λ (t : State). all_outs t (endings_from policy (suc place) xs)) (done_course s policy place earlier x xs releases busy.0 is) ∙ rest)
+    ∙ ap (λ outs. outs ++ flat_map (part_for s (ByReplace policy) dropped) xs) (sym (plain_row s (ByReplace policy) dropped x (busy_next s policy x busy.0)))))
 
 -- ---- the whole row
 
@@ -600,7 +622,7 @@ none_yet (x ∷ xs) = (refl, none_yet xs)
 pub replaced_outs : (s : State) (policy : Policy) → Good s → all_outs s (endings_from policy 0 s.clients) ≡ outs_by s (ByReplace policy)
 replaced_outs s policy good =
     ap (λ (t : State). all_outs t (endings_from policy 0 s.clients)) (sym (at_first s good))
-    ∙ rest_says s policy (drops_for s (ByReplace policy)) 0 [] s.clients [] refl good.apart good.once (none_yet s.clients) refl
+    ∙ rest_says s policy (drops_for s (ByReplace policy)) 0 [] s.clients [] (all_busy s.clients good.rest) refl good.apart good.once (none_yet s.clients) refl
 
 pub replaced_next : (s : State) (policy : Policy) → Good s
     → (let t = all_next s (endings_from policy 0 s.clients) in let u : State = record t { policy = policy } in u) ≡ next_by s (ByReplace policy)
@@ -609,5 +631,5 @@ replaced_next s policy good =
     let f = client_next s c in
     let all : clients_next s c ≡ map f s.clients = ap (map f) (append-nil s.clients) in
     ap (λ (t : State). let u : State = record (all_next t (endings_from policy 0 s.clients)) { policy = policy } in u) (sym (at_first s good))
-    ∙ (ap (λ (t : State). let u : State = record t { policy = policy } in u) (rest_course s policy 0 [] s.clients [] refl)
+    ∙ (ap (λ (t : State). let u : State = record t { policy = policy } in u) (rest_course s policy 0 [] s.clients [] (all_busy s.clients good.rest) refl)
     ∙ ap (λ ys. let u : State = record (course s ys (released s.clients ys)) { policy = policy } in u) (sym all))

@@ -24,28 +24,30 @@ use Rattle.sng_book.specs.declared.outcome.Outcome.TheVariants.{Allowed, Denied}
 use Rattle.sng_book.specs.declared.out.Out.{Out}
 use Rattle.sng_book.specs.declared.out.Out.TheVariants.{Note}
 use Rattle.sng_book.specs.declared.decision.Decision.TheVariants as note
-use Rattle.sng_history.specs.Causes.{Request, ToPing, ToLeave, ToRegister, ToPublish, Untaken, Cause, ByMessage, BySource, ByBroken, ByUp, ByDown, ByTake, ByTick}
+use Rattle.sng_history.specs.Causes.{Request, ToLeave, ToRegister, ToPublish, Untaken, Cause, ByMessage, BySource, ByBroken, ByUp, ByDown, ByTake}
 use Rattle.sng_queue.specs.Messages.{Message as Mail}
 use Rattle.sng_history.specs.Outgoing.{all_gone}
 use Rattle.sng_history.proofs.Hands.{gone_stays}
 use Rattle.sng_core.specs.HandingOver.{gone_outs}
 use Rattle.sng_history.specs.Clients.{Client, Around, is_here, is_from, start_by, note_by, notes_by}
-use Rattle.sng_history.specs.State.{State, around, later, item_asked, asked_by, qos_of, joined as joined_wanted}
+use Rattle.sng_history.specs.State.{State, around, item_asked, asked_by, qos_of, joined as joined_wanted}
 use Rattle.sng_history.specs.Standing.{Release}
-use Rattle.sng_history.specs.Verdicts.{ping_verdict, source_ask, room, may_ask, name_given, name_in, register_named as note_named, register_by as note_by_may, register_ask, publish_named as publish_note_named, publish_by as publish_note_by, publish_ask}
+use Rattle.sng_history.specs.Verdicts.{source_ask, room, may_ask, name_given, name_in, register_named as note_named, register_by as note_by_may, register_ask, publish_named as publish_note_named, publish_by as publish_note_by, publish_ask}
 use Rattle.sng_history.specs.Answers.{denied_note, refused, dismissed}
-use Rattle.sng_history.specs.Whole.{spell, frames_of, denied_to, replied, stranger_to, any_from}
+use Rattle.sng_history.specs.Whole.{spell, frames_of, replied, stranger_to, any_from}
 use Rattle.sng_history.specs.Lawful.{fixed_for}
 use Rattle.sng_history.specs.Steps.{outs_by, client_next, next_by, newcomers_for, asked_by_all, asked_for}
 use Rattle.sng_history.specs.Links.{Link, Wanted, resumed, filters_wanted, subscribe_sent, subscribes_sent}
 use Rattle.sng_history.specs.Exits.{agains_of, beginning}
-use Rattle.sng_history.specs.Good.{Good}
+use Rattle.sng_history.specs.Good.{Each, AtRest, Good}
 use Rattle.sng_history.proofs.Says.{part_for, row_for, drops_for}
 use Rattle.sng_history.proofs.Endless.{Endless, denied_stays, is_still, is_quiet, still_endless, endless_drops, endless_link, still_link}
 use Rattle.sng_history.proofs.GoodNext.{good_next}
-use Rattle.sng_core.specs.Forms.{place_at, client_at, at_place, moved_if, found_outs, heard_at, left_at, left_outs, ping_outs, pinged, unsupported_outs, broken_outs, joined, register_named, register_by, register_judged, register_reply, register_outs, register_next, publish_named as judged_named, publish_by as judged_by, publish_reply, publication_by, items_of, carried_judged, carried_outs, carried_items, carried, taken_outs, taken_next, begun_next}
+use Rattle.sng_history.proofs.Steady.{client_filters}
+use Rattle.sng_core.specs.Forms.{place_at, client_at, at_place, moved_if, found_outs, heard_at, left_at, left_outs, unsupported_outs, broken_outs, joined, register_named, register_by, register_judged, register_reply, register_outs, register_next, publish_named as judged_named, publish_by as judged_by, publish_reply, publication_by, items_of, carried_judged, carried_outs, carried_items, carried, taken_outs, taken_next, begun_next}
 use Rattle.sng_sessions.specs.Moving.{moved_at}
-use Rattle.sng_core.proofs.Found.{found_here, nobody_here, no_outs, one_outs, one_moves, no_moves, moved_same, any_here, none_here, read_at, within}
+use Rattle.sng_core.proofs.Plain.{Busy, plain_next, plain_part, plain_moves, plain_row, all_busy}
+use Rattle.sng_core.proofs.Found.{each_at, found_here, nobody_here, no_outs, one_outs, one_outs_at, one_moves_at, no_moves_at, moved_same, any_here, none_here, read_at, within}
 
 -- the cause lets these outs out and leads to this state, which is good
 pub record Makes (s : State) (c : Cause) (row : List Out) (after : State) : Type 0 where
@@ -59,8 +61,8 @@ makes s c outs after good is to = record { outs = is; next = to; good = subst Go
 -- a message of one client at the address, which ends no subscription; beside the clients it leads to this state
 pub record Message (s : State) (c : Cause) (from : Address) (stranger : List Out) (base : State) : Type 0 where
   pub of : (y : Client) → is_from c y ≡ is_here y from
-  pub quiet : (y : Client) → is_here y from ≡ false → part_for s c [] y ≡ []
-  pub same : (y : Client) → is_here y from ≡ false → client_next s c y ≡ y
+  pub quiet : (y : Client) → is_here y from ≡ false → Busy y → part_for s c [] y ≡ []
+  pub same : (y : Client) → is_here y from ≡ false → Busy y → client_next s c y ≡ y
   pub kept : drops_for s c ≡ []
   pub outs : outs_by s c ≡ row_for s c stranger
   pub next : next_by s c ≡ record base { clients = map (client_next s c) (s.clients ++ []) }
@@ -73,42 +75,86 @@ abbrev row_by : State → Cause → List Out → Bool → List Release → List 
 row_by s c stranger any dropped = if any then flat_map (part_for s c dropped) s.clients else stranger
 
 -- it comes from this client
-pub found_row : (s : State) (c : Cause) (from : Address) (stranger : List Out) (base : State) (i : ℕ) (x : Client) (outs : List Out) (g : Client → Client) → Good s → Message s c from stranger base
-    → place_at from s.clients ≡ Some i → slice_get s.clients i ≡ Some x → (is_here x from ≡ true → outs ≡ part_for s c [] x) → (is_here x from ≡ true → g x ≡ client_next s c x)
+pub found_row : (s : State) (c : Cause) (from : Address) (stranger : List Out) (base : State) (i : ℕ) (x : Client) (outs : List Out) (g : Client → Client)
+    → Good s → Message s c from stranger base → place_at from s.clients ≡ Some i → slice_get s.clients i ≡ Some x
+    → (is_here x from ≡ true → outs ≡ part_for s c [] x) → (is_here x from ≡ true → g x ≡ client_next s c x)
     → Makes s c outs (record base { clients = moved_at i g s.clients })
 found_row s c from stranger base i x outs g good m at read is moves =
     let here = found_here from s.clients i x at read in
+    let busy = all_busy s.clients good.rest in
     let any : any_from c s.clients ≡ true = any_here c from s.clients i x m.of read here in
     makes s c outs (record base { clients = moved_at i g s.clients }) good
     (is here
-    ∙ (sym (one_outs from (part_for s c []) s.clients i x m.quiet good.places read here)
+    ∙ (sym (one_outs_at from (part_for s c []) s.clients i x m.quiet busy good.places read here)
     ∙ (sym (ap (λ dropped. row_by s c stranger true dropped) m.kept) ∙ (sym (ap (λ b. row_by s c stranger b (drops_for s c)) any) ∙ sym m.outs))))
     (ap (with_clients base) (moved_same g (client_next s c) s.clients i x read (moves here)
-    ∙ (sym (one_moves from (client_next s c) s.clients i x m.same good.places read here) ∙ sym (ap (map (client_next s c)) (append-nil s.clients)))) ∙ sym m.next)
+    ∙ (sym (one_moves_at from (client_next s c) s.clients i x m.same busy good.places read here)
+    ∙ sym (ap (map (client_next s c)) (append-nil s.clients)))) ∙ sym m.next)
+
+-- which is busy behind its notes, as it was before
+pub busy_row : (s : State) (c : Cause) (from : Address) (stranger : List Out) (base : State) (i : ℕ) (x : Client) (outs : List Out) (g : Client → Client)
+    → Good s → Message s c from stranger base → place_at from s.clients ≡ Some i → slice_get s.clients i ≡ Some x
+    → (is_here x from ≡ true → outs ≡ plain_part s c [] x) → (is_here x from ≡ true → g x ≡ plain_next s c x)
+    → (is_here x from ≡ true → AtRest x → Busy (g x))
+    → Makes s c outs (record base { clients = moved_at i g s.clients })
+busy_row s c from stranger base i x outs g good m at read is moves busy =
+    let rest = each_at AtRest s.clients i x good.rest read in
+    let still : is_here x from ≡ true → Busy (plain_next s c x) = λ here. subst Busy (moves here) (busy here rest) in
+    found_row s c from stranger base i x outs g good m at read
+    (λ here. is here ∙ sym (plain_row s c [] x (still here))) (λ here. moves here ∙ sym (plain_moves s c x (still here)))
 
 -- or from nobody
-pub stranger_row : (s : State) (c : Cause) (from : Address) (stranger : List Out) (base : State) → Good s → Message s c from stranger base → place_at from s.clients ≡ None
-    → Makes s c stranger (record base { clients = s.clients })
+pub stranger_row : (s : State) (c : Cause) (from : Address) (stranger : List Out) (base : State) → Good s → Message s c from stranger base
+    → place_at from s.clients ≡ None → Makes s c stranger (record base { clients = s.clients })
 stranger_row s c from stranger base good m at =
     let none = nobody_here from s.clients at in
     let any : any_from c s.clients ≡ false = none_here c from s.clients m.of none in
     makes s c stranger (record base { clients = s.clients }) good
     (sym (ap (λ b. row_by s c stranger b (drops_for s c)) any) ∙ sym m.outs)
-    (ap (with_clients base) (sym (no_moves from (client_next s c) s.clients m.same none) ∙ sym (ap (map (client_next s c)) (append-nil s.clients))) ∙ sym m.next)
+    (ap (with_clients base) (sym (no_moves_at from (client_next s c) s.clients m.same (all_busy s.clients good.rest) none)
+    ∙ sym (ap (map (client_next s c)) (append-nil s.clients))) ∙ sym m.next)
 
 -- from whomever it comes
-pub message_row : (s : State) (c : Cause) (from : Address) (stranger : List Out) (f : Client → List Out) (g : Client → Client) (place : Option ℕ) → Good s → Message s c from stranger s
-    → place_at from s.clients ≡ place → ((x : Client) → is_here x from ≡ true → f x ≡ part_for s c [] x) → ((x : Client) → is_here x from ≡ true → g x ≡ client_next s c x)
+pub message_row : (s : State) (c : Cause) (from : Address) (stranger : List Out) (f : Client → List Out) (g : Client → Client) (place : Option ℕ)
+    → Good s → Message s c from stranger s → place_at from s.clients ≡ place
+    → ((x : Client) → is_here x from ≡ true → f x ≡ plain_part s c [] x) → ((x : Client) → is_here x from ≡ true → g x ≡ plain_next s c x)
+    → ((x : Client) → is_here x from ≡ true → AtRest x → Busy (g x))
     → Makes s c (found_outs stranger f (at_place s.clients place)) (record s { clients = moved_if place g s.clients })
-message_row s c from stranger f g None good m at is moves = stranger_row s c from stranger s good m at
-message_row s c from stranger f g (Some i) good m at is moves =
+message_row s c from stranger f g None good m at is moves busy = stranger_row s c from stranger s good m at
+message_row s c from stranger f g (Some i) good m at is moves busy =
     let x = client_at s.clients i in
-    found_row s c from stranger s i x (f x) g good m at (read_at s.clients i (within from s.clients i at)) (is x) (moves x)
+    busy_row s c from stranger s i x (f x) g good m at (read_at s.clients i (within from s.clients i at)) (is x) (moves x) (busy x)
+
+-- by which a client may fall asleep again
+pub drain_row : (s : State) (c : Cause) (from : Address) (stranger : List Out) (f : Client → List Out) (g : Client → Client) (place : Option ℕ)
+    → Good s → Message s c from stranger s → place_at from s.clients ≡ place
+    → ((x : Client) → is_here x from ≡ true → AtRest x → f x ≡ part_for s c [] x)
+    → ((x : Client) → is_here x from ≡ true → AtRest x → g x ≡ client_next s c x)
+    → Makes s c (found_outs stranger f (at_place s.clients place)) (record s { clients = moved_if place g s.clients })
+drain_row s c from stranger f g None good m at is moves = stranger_row s c from stranger s good m at
+drain_row s c from stranger f g (Some i) good m at is moves =
+    let x = client_at s.clients i in
+    let read = read_at s.clients i (within from s.clients i at) in
+    let rest = each_at AtRest s.clients i x good.rest read in
+    found_row s c from stranger s i x (f x) g good m at read (λ here. is x here rest) (λ here. moves x here rest)
+
+-- ---- what falls asleep again
+
+-- it stands as before, with what waits and is open
+pub heard_busy : (clock : ℕ) (x : Client) → AtRest x → Busy (heard_at clock x)
+heard_busy clock x rest = rest.busy
 
 -- ---- each kind of message
 
 abbrev with_link : State → Link → State
 with_link s link = record s { link = link }
+
+-- those who are not at the address are as they were
+off_quiet : (s : State) (from : Address) (request : Request) (y : Client) → is_here y from ≡ false → plain_part s (ByMessage from request) [] y ≡ []
+off_quiet s from request y off = rw off refl
+
+pub off_same : (s : State) (from : Address) (request : Request) (y : Client) → is_here y from ≡ false → plain_next s (ByMessage from request) y ≡ y
+off_same s from request y off = rw off refl
 
 -- one that ends nothing
 pub request_message : (s : State) (from : Address) (request : Request) (link : Link) → Endless s (ByMessage from request) → (next_by s (ByMessage from request)).link ≡ link
@@ -117,8 +163,8 @@ request_message s from request link e is =
     let c = ByMessage from request in
     record {
       of = λ y. refl;
-      quiet = λ y off. rw off refl;
-      same = λ y off. rw off refl;
+      quiet = λ y off busy. plain_row s c [] y (subst Busy (sym (off_same s from request y off)) busy) ∙ off_quiet s from request y off;
+      same = λ y off busy. plain_moves s c y (subst Busy (sym (off_same s from request y off)) busy) ∙ off_same s from request y off;
       kept = endless_drops s c e;
       outs = refl;
       next = ap (λ l. let t : State = record s { link = l; clients = map (client_next s c) (s.clients ++ []) } in t) is;
@@ -137,14 +183,20 @@ broken_same : (s : State) (from : Address) (rule : Denial) (x : Client) (here : 
 broken_same s from rule x true = refl
 broken_same s from rule x false = refl
 
+off_outs : (s : State) (from : Address) (rule : Denial) (y : Client) → is_here y from ≡ false → plain_part s (ByBroken from rule) [] y ≡ []
+off_outs s from rule y off = rw off refl
+
+off_moves : (s : State) (from : Address) (rule : Denial) (y : Client) → is_here y from ≡ false → plain_next s (ByBroken from rule) y ≡ y
+off_moves s from rule y off = rw off refl
+
 pub broken_message : (s : State) (from : Address) (rule : Denial) → Message s (ByBroken from rule) from (broken_from from rule) s
 broken_message s from rule =
     let c = ByBroken from rule in
     record {
       of = λ y. refl;
-      quiet = λ y off. rw off refl;
-      same = λ y off. rw off refl;
-      kept = endless_drops s c (refl, λ x text is. ap (λ held. stands held text) (broken_same s from rule x (is_here x from)) ∙ is);
+      quiet = λ y off busy. plain_row s c [] y (subst Busy (sym (off_moves s from rule y off)) busy) ∙ off_outs s from rule y off;
+      same = λ y off busy. plain_moves s c y (subst Busy (sym (off_moves s from rule y off)) busy) ∙ off_moves s from rule y off;
+      kept = endless_drops s c (refl, λ x text is. ap (λ held. stands held text) (client_filters (around s c) (fixed_for s c x) x ∙ broken_same s from rule x (is_here x from)) ∙ is);
       outs = refl;
       next = refl;
     }
@@ -165,27 +217,7 @@ leave_row s from good =
     (λ x here. rw here (ap (λ outs. Note (note.Left x.id) ∷ dismissed x.address ∷ outs)
     (sym (gone_spelled (around s (ByMessage from ToLeave)) x.id x.buffer.waiting (left_at s.clock x)))))
     (λ x here. rw here (sym (gone_stays (around s (ByMessage from ToLeave)) x.id x.buffer.waiting (left_at s.clock x) refl)))
-
--- ---- a PINGREQ
-
-ping_outs_by : (s : State) (from : Address) (client : Option (List ℕ)) (x : Client) (o : Outcome) → ping_verdict client x ≡ o → is_here x from ≡ true
-    → ping_outs client x o ≡ part_for s (ByMessage from (ToPing client)) [] x
-ping_outs_by s from client x Allowed is here = rw (here, is) refl
-ping_outs_by s from client x (Denied rule) is here =
-    rw (here, is) (ap (λ more. Note (note.Frame (who.Client x.id) (Denied rule)) ∷ more) (sym (append-nil (denied_to (ToPing client) x.address rule))))
-
-ping_next_by : (s : State) (from : Address) (client : Option (List ℕ)) (x : Client) (o : Outcome) → ping_verdict client x ≡ o → is_here x from ≡ true
-    → heard_at s.clock x ≡ client_next s (ByMessage from (ToPing client)) x
-ping_next_by s from client x Allowed is here = rw (here, is) refl
-ping_next_by s from client x (Denied rule) is here = rw (here, is) refl
-
-pub ping_row : (s : State) (from : Address) (client : Option (List ℕ)) → Good s
-    → Makes s (ByMessage from (ToPing client)) (found_outs (stranger_to from (ToPing client)) (pinged client) (at_place s.clients (place_at from s.clients)))
-    (record s { clients = moved_if (place_at from s.clients) (heard_at s.clock) s.clients })
-ping_row s from client good =
-    message_row s (ByMessage from (ToPing client)) from (stranger_to from (ToPing client)) (pinged client) (heard_at s.clock) (place_at from s.clients) good
-    (still_message s from (ToPing client) good refl refl) refl
-    (λ x here. ping_outs_by s from client x (ping_verdict client x) refl here) (λ x here. ping_next_by s from client x (ping_verdict client x) refl here)
+    (λ x here rest. refl)
 
 -- ---- a REGISTER
 
@@ -211,7 +243,7 @@ register_replied clock from r x None Allowed = refl
 register_replied clock from r x (Some name) (Denied rule) = refl
 register_replied clock from r x None (Denied rule) = refl
 
-register_part : (s : State) (from : Address) (r : Register) (x : Client) → is_here x from ≡ true → register_outs s.policy r.msg_id r.name x ≡ part_for s (ByMessage from (ToRegister r)) [] x
+register_part : (s : State) (from : Address) (r : Register) (x : Client) → is_here x from ≡ true → register_outs s.policy r.msg_id r.name x ≡ plain_part s (ByMessage from (ToRegister r)) [] x
 register_part s from r x here =
     let a = around s (ByMessage from (ToRegister r)) in
     let y = heard_at s.clock x in
@@ -219,7 +251,7 @@ register_part s from r x here =
     rw here (ap (λ outs. Note (note.Register (who.Client x.id) j.name j.outcome) ∷ outs) (register_replied s.clock from r x j.name j.outcome ∙ sym (append-nil (replied (ByMessage from (ToRegister r)) y j.name j.outcome)))
     ∙ ap (λ said. Note said ∷ (frames_of a [] y said ++ [])) (sym (register_said s.policy x r.name)))
 
-register_moves : (s : State) (from : Address) (r : Register) (x : Client) → is_here x from ≡ true → register_next s.policy s.clock r.name x ≡ client_next s (ByMessage from (ToRegister r)) x
+register_moves : (s : State) (from : Address) (r : Register) (x : Client) → is_here x from ≡ true → register_next s.policy s.clock r.name x ≡ plain_next s (ByMessage from (ToRegister r)) x
 register_moves s from r x here =
     let a = around s (ByMessage from (ToRegister r)) in
     rw here (ap (λ said. note_by a said (heard_at s.clock x)) (sym (register_said s.policy x r.name)))
@@ -230,6 +262,7 @@ pub register_row : (s : State) (from : Address) (r : Register) → Good s
 register_row s from r good =
     message_row s (ByMessage from (ToRegister r)) from (stranger_to from (ToRegister r)) (register_outs s.policy r.msg_id r.name) (register_next s.policy s.clock r.name) (place_at from s.clients) good
     (still_message s from (ToRegister r) good refl refl) refl (register_part s from r) (register_moves s from r)
+    (λ x here rest. rest.busy)
 
 -- ---- a PUBLISH of a client
 
@@ -251,7 +284,7 @@ publish_replied : (clock : ℕ) (from : Address) (p : Publish) (x : Client) (nam
 publish_replied clock from p x name Allowed = refl
 publish_replied clock from p x name (Denied rule) = refl
 
-publish_part : (s : State) (from : Address) (p : Publish) (x : Client) → is_here x from ≡ true → carried_outs s p x ≡ part_for s (ByMessage from (ToPublish p)) [] x
+publish_part : (s : State) (from : Address) (p : Publish) (x : Client) → is_here x from ≡ true → carried_outs s p x ≡ plain_part s (ByMessage from (ToPublish p)) [] x
 publish_part s from p x here =
     let a = around s (ByMessage from (ToPublish p)) in
     let y = heard_at s.clock x in
@@ -259,7 +292,7 @@ publish_part s from p x here =
     rw here (ap (λ outs. Note (note.Publish (who.Client x.id) j.name j.outcome) ∷ outs) (publish_replied s.clock from p x j.name j.outcome ∙ sym (append-nil (replied (ByMessage from (ToPublish p)) y j.name j.outcome)))
     ∙ ap (λ said. Note said ∷ (frames_of a [] y said ++ [])) (sym (publish_said s x p)))
 
-publish_moves : (s : State) (from : Address) (p : Publish) (x : Client) → is_here x from ≡ true → heard_at s.clock x ≡ client_next s (ByMessage from (ToPublish p)) x
+publish_moves : (s : State) (from : Address) (p : Publish) (x : Client) → is_here x from ≡ true → heard_at s.clock x ≡ plain_next s (ByMessage from (ToPublish p)) x
 publish_moves s from p x here =
     let a = around s (ByMessage from (ToPublish p)) in
     rw here (ap (λ said. note_by a said (heard_at s.clock x)) (sym (publish_said s x p)))
@@ -310,8 +343,9 @@ carried_found s from p (Some i) good at =
     let j = carried_judged s p x in
     let e = still_endless s from (ToPublish p) refl in
     let link = publish_link s from p (carried_items s p x) good (publish_items s from p i x good read here) (joined_publish s.link.wanted (publication_by x.id p j.name j.outcome)) in
-    found_row s (ByMessage from (ToPublish p)) from (stranger_to from (ToPublish p)) (joined s (carried_items s p x)) i x (carried_outs s p x) (heard_at s.clock) good
+    busy_row s (ByMessage from (ToPublish p)) from (stranger_to from (ToPublish p)) (joined s (carried_items s p x)) i x (carried_outs s p x) (heard_at s.clock) good
     (request_message s from (ToPublish p) (record s.link { waiting = s.link.waiting ++ carried_items s p x }) e link) at read (publish_part s from p x) (publish_moves s from p x)
+    (λ there rest. heard_busy s.clock x rest)
 
 pub publish_row : (s : State) (from : Address) (p : Publish) → Good s
     → Makes s (ByMessage from (ToPublish p)) (found_outs (stranger_to from (ToPublish p)) (carried_outs s p) (at_place s.clients (place_at from s.clients))) (carried s p (place_at from s.clients))
@@ -346,12 +380,12 @@ denied_frames s from all x (frame.WillTopicResponse code) = refl
 denied_frames s from all x (frame.WillMessageUpdate message) = refl
 denied_frames s from all x (frame.WillMessageResponse code) = refl
 
-unsupported_part : (s : State) (from : Address) (message : SnFrame) (x : Client) → is_here x from ≡ true → unsupported_outs message x ≡ part_for s (ByMessage from (Untaken message)) [] x
+unsupported_part : (s : State) (from : Address) (message : SnFrame) (x : Client) → is_here x from ≡ true → unsupported_outs message x ≡ plain_part s (ByMessage from (Untaken message)) [] x
 unsupported_part s from message x here =
     rw here (ap (λ more. Note (denied_note message (who.Client x.id) NotSupported) ∷ more)
     (sym (append-nil (refused x.address message NotSupported)) ∙ ap (λ outs. outs ++ []) (sym (denied_frames s from message (heard_at s.clock x) message))))
 
-unsupported_next : (s : State) (from : Address) (message : SnFrame) (x : Client) → is_here x from ≡ true → heard_at s.clock x ≡ client_next s (ByMessage from (Untaken message)) x
+unsupported_next : (s : State) (from : Address) (message : SnFrame) (x : Client) → is_here x from ≡ true → heard_at s.clock x ≡ plain_next s (ByMessage from (Untaken message)) x
 unsupported_next s from message x here = rw here (sym (denied_stays (around s (ByMessage from (Untaken message))) (heard_at s.clock x) x.id message))
 
 pub unsupported_row : (s : State) (from : Address) (message : SnFrame) → Good s
@@ -360,6 +394,7 @@ pub unsupported_row : (s : State) (from : Address) (message : SnFrame) → Good 
 unsupported_row s from message good =
     message_row s (ByMessage from (Untaken message)) from (stranger_to from (Untaken message)) (unsupported_outs message) (heard_at s.clock) (place_at from s.clients) good
     (still_message s from (Untaken message) good refl refl) refl (unsupported_part s from message) (unsupported_next s from message)
+    (λ x here rest. heard_busy s.clock x rest)
 
 -- ---- a datagram that is not a message
 
@@ -380,22 +415,26 @@ pub broken_row : (s : State) (from : Address) (rule : Denial) → Good s
 broken_row s from rule good =
     subst (Makes s (ByBroken from rule) (found_outs (broken_from from rule) (broken_outs rule) (at_place s.clients (place_at from s.clients))))
     (ap (with_clients s) (moved_nobody s.clients (place_at from s.clients)))
-    (message_row s (ByBroken from rule) from (broken_from from rule) (broken_outs rule) same_client (place_at from s.clients) good (broken_message s from rule) refl (λ x here. rw here refl) (λ x here. rw here refl))
+    (message_row s (ByBroken from rule) from (broken_from from rule) (broken_outs rule) same_client (place_at from s.clients) good (broken_message s from rule) refl (λ x here. rw here refl) (λ x here. rw here refl)
+    (λ x here rest. rest.busy))
 
 -- ---- what no client is moved by
 
 -- nobody is touched
 pub record Idle (s : State) (c : Cause) : Type 0 where
   pub none : newcomers_for s c ≡ []
-  pub same : (x : Client) → client_next s c x ≡ x
+  pub same : (x : Client) → plain_next s c x ≡ x
 
-all_same : (g : Client → Client) (xs : List Client) → ((x : Client) → g x ≡ x) → map g xs ≡ xs
-all_same g [] same = refl
-all_same g (x ∷ xs) same = rw (same x, all_same g xs same) refl
+all_same : (s : State) (c : Cause) (xs : List Client) → ((x : Client) → plain_next s c x ≡ x) → Each AtRest xs → map (client_next s c) xs ≡ xs
+all_same s c [] same rest = refl
+all_same s c (x ∷ xs) same rest =
+    let moves : client_next s c x ≡ x = plain_moves s c x (subst Busy (sym (same x)) rest.0.busy) ∙ same x in
+    rw (moves, all_same s c xs same rest.1) refl
 
-pub idle_clients : (s : State) (c : Cause) → Idle s c → map (client_next s c) (s.clients ++ newcomers_for s c) ≡ s.clients
-idle_clients s c idle =
-    ap (λ xs. map (client_next s c) (s.clients ++ xs)) idle.none ∙ (ap (map (client_next s c)) (append-nil s.clients) ∙ all_same (client_next s c) s.clients idle.same)
+pub idle_clients : (s : State) (c : Cause) → Good s → Idle s c → map (client_next s c) (s.clients ++ newcomers_for s c) ≡ s.clients
+idle_clients s c good idle =
+    ap (λ xs. map (client_next s c) (s.clients ++ xs)) idle.none
+    ∙ (ap (map (client_next s c)) (append-nil s.clients) ∙ all_same s c s.clients idle.same good.rest)
 
 abbrev with_all : State → List Item → List Client → State
 with_all s items xs = record s { link = record s.link { waiting = items }; clients = xs }
@@ -404,7 +443,7 @@ pub source_row : (s : State) (from : Address) (p : Publish) → Good s
     → Makes s (BySource from p) (Note (source_ask s from.ip p) ∷ []) (record s { link = record s.link { waiting = s.link.waiting ++ asked_by (Some p) (source_ask s from.ip p) } })
 source_row s from p good =
     makes s (BySource from p) (Note (source_ask s from.ip p) ∷ []) (record s { link = record s.link { waiting = s.link.waiting ++ asked_by (Some p) (source_ask s from.ip p) } }) good refl
-    (ap (with_all s (s.link.waiting ++ asked_by (Some p) (source_ask s from.ip p))) (sym (idle_clients s (BySource from p) (record { none = refl; same = λ x. refl }))))
+    (ap (with_all s (s.link.waiting ++ asked_by (Some p) (source_ask s from.ip p))) (sym (idle_clients s (BySource from p) good (record { none = refl; same = λ x. refl }))))
 
 subscribes_waiting : (link : Link) (filters : List (List ℕ)) → (subscribes_sent link filters).waiting ≡ link.waiting
 subscribes_waiting link [] = refl
@@ -418,12 +457,12 @@ begun s link is = rw (is, subscribes_waiting (resumed s.link s.clock (agains_of 
 pub up_row : (s : State) → Good s → Makes s ByUp (beginning s.link s.clock (agains_of s.policy s.link.in_flight)) (begun_next s)
 up_row s good =
     makes s ByUp (beginning s.link s.clock (agains_of s.policy s.link.in_flight)) (begun_next s) good refl
-    (ap (with_clients (begun_next s)) (sym (idle_clients s ByUp (record { none = refl; same = λ x. refl }))))
+    (ap (with_clients (begun_next s)) (sym (idle_clients s ByUp good (record { none = refl; same = λ x. refl }))))
 
 pub down_row : (s : State) → Good s → Makes s ByDown [] (record s { up = false; link = record s.link { waiting = publishes s.link.waiting } })
 down_row s good =
     makes s ByDown [] (record s { up = false; link = record s.link { waiting = publishes s.link.waiting } }) good refl
-    (ap (with_clients (record s { up = false; link = record s.link { waiting = publishes s.link.waiting } })) (sym (idle_clients s ByDown (record { none = refl; same = λ x. refl }))))
+    (ap (with_clients (record s { up = false; link = record s.link { waiting = publishes s.link.waiting } })) (sym (idle_clients s ByDown good (record { none = refl; same = λ x. refl }))))
 
 take_outs : (s : State) (up : Bool) → s.up ≡ up → taken_outs s ≡ outs_by s ByTake
 take_outs s true is = rw is refl
@@ -437,9 +476,5 @@ pub take_row : (s : State) → Good s → Makes s ByTake (taken_outs s) (taken_n
 take_row s good =
     makes s ByTake (taken_outs s) (taken_next s) good
     (take_outs s s.up refl)
-    (ap (with_clients (taken_next s)) (sym (idle_clients s ByTake (record { none = refl; same = λ x. refl })))
+    (ap (with_clients (taken_next s)) (sym (idle_clients s ByTake good (record { none = refl; same = λ x. refl })))
     ∙ ap (λ link. with_link (with_clients s (map (client_next s ByTake) (s.clients ++ []))) link) (take_link s s.up refl))
-
-pub tick_row : (s : State) (clock : ℕ) → Good s → Makes s (ByTick clock) [] (record s { clock = later s.clock clock })
-tick_row s clock good =
-    makes s (ByTick clock) [] (record s { clock = later s.clock clock }) good refl (ap (with_clients (record s { clock = later s.clock clock })) (sym (idle_clients s (ByTick clock) (record { none = refl; same = λ x. refl }))))

@@ -15,7 +15,7 @@ use Rattle.sng_book.specs.declared.outcome.Outcome.{Outcome}
 use Rattle.sng_book.specs.declared.outcome.Outcome.TheVariants.{Allowed, Denied}
 use Rattle.sng_book.specs.declared.out.Out.TheVariants.{Note}
 use Rattle.sng_history.specs.Causes.{ToSubscribe, ByMessage}
-use Rattle.sng_history.specs.Clients.{Client, is_here, note_by}
+use Rattle.sng_history.specs.Clients.{Client, is_here, subscribed, note_by}
 use Rattle.sng_history.specs.Links.{Link}
 use Rattle.sng_history.specs.State.{State, around, asked_by, subscribe_item, joined, with_wanted}
 use Rattle.sng_history.specs.Requests.{granted, gets_id}
@@ -24,18 +24,18 @@ use Rattle.sng_sessions.specs.Standing.{subscribed_at}
 use Rattle.sng_history.specs.Verdicts.{and_then, coverage, subscribe_room, may_ask, filter_in, subscribe_named as note_named, subscribe_by as note_by_may, subscribe_ask}
 use Rattle.sng_history.specs.Whole.{frames_of, replied, stranger_to}
 use Rattle.sng_history.specs.Lawful.{fixed_for}
-use Rattle.sng_history.specs.Steps.{asked_by_all, asked_for, client_next, next_by}
+use Rattle.sng_history.specs.Steps.{asked_by_all, asked_for, next_by}
 use Rattle.sng_history.specs.Good.{Good}
 use Rattle.sng_wanted.specs.declared.limits.TheConstants.{MAX_WANTED}
 use Rattle.sng_history.proofs.FewWanted.{few_wanted}
-use Rattle.sng_history.proofs.Says.{part_for}
 use Rattle.sng_history.proofs.Filters.{may_stand}
 use Rattle.sng_history.proofs.Endless.{subscribe_endless, endless_link}
 use Rattle.sng_core.specs.Forms.{place_at, client_at, at_place, found_outs, heard_at}
 use Rattle.sng_core.specs.Subscribing.{subscribe_named, subscribe_by, subscribe_judged, subscribe_reply, subscribe_outs, stands_next, asked_for as with_asked, stands_at, stood, HasRoom, IsAllowed}
 use Rattle.sng_core.specs.declared.filters.JudgedFilter.{JudgedFilter}
 use Rattle.sng_core.proofs.Found.{found_here, nobody_here, no_outs, one_outs, read_at, within}
-use Rattle.sng_core.proofs.Rows.{Makes, found_row, stranger_row, request_message}
+use Rattle.sng_core.proofs.Plain.{Busy, plain_next, plain_part}
+use Rattle.sng_core.proofs.Rows.{Makes, busy_row, stranger_row, request_message}
 
 -- how it comes out is its note
 said_named : (s : State) (x : Client) (r : TopicRequest) (named : Result (List ℕ) Denial)
@@ -58,7 +58,7 @@ subscribe_replied clock from r x None Allowed = refl
 subscribe_replied clock from r x (Some filter) (Denied rule) = refl
 subscribe_replied clock from r x None (Denied rule) = refl
 
-subscribe_part : (s : State) (from : Address) (r : TopicRequest) (x : Client) → is_here x from ≡ true → subscribe_outs s r x ≡ part_for s (ByMessage from (ToSubscribe r)) [] x
+subscribe_part : (s : State) (from : Address) (r : TopicRequest) (x : Client) → is_here x from ≡ true → subscribe_outs s r x ≡ plain_part s (ByMessage from (ToSubscribe r)) [] x
 subscribe_part s from r x here =
     let a = around s (ByMessage from (ToSubscribe r)) in
     let y = heard_at s.clock x in
@@ -68,10 +68,16 @@ subscribe_part s from r x here =
     ∙ ap (λ said. Note said ∷ (frames_of a [] y said ++ [])) (sym (subscribe_said s r x)))
 
 subscribe_moves : (s : State) (from : Address) (r : TopicRequest) (x : Client) → is_here x from ≡ true
-    → stands_next s.clock r (subscribe_judged s r x) x ≡ client_next s (ByMessage from (ToSubscribe r)) x
+    → stands_next s.clock r (subscribe_judged s r x) x ≡ plain_next s (ByMessage from (ToSubscribe r)) x
 subscribe_moves s from r x here =
     let a = around s (ByMessage from (ToSubscribe r)) in
     rw here (ap (λ said. note_by a said (heard_at s.clock x)) (sym (subscribe_said s r x)))
+
+-- it stands as before, with what waits and is open
+stood_busy : (r : TopicRequest) (filter : Option (List ℕ)) (o : Outcome) (y : Client) → Busy y → Busy (subscribed (Some r) filter o y)
+stood_busy r (Some filter) Allowed y busy = busy
+stood_busy r (Some filter) (Denied rule) y busy = busy
+stood_busy r None o y busy = busy
 
 -- what it asks for
 subscribe_items : (s : State) (from : Address) (r : TopicRequest) (i : ℕ) (x : Client) → Good s → slice_get s.clients i ≡ Some x → is_here x from ≡ true
@@ -107,8 +113,9 @@ found_by s from r (Some i) good at =
     let items = subscribe_item j.filter j.outcome in
     let e = subscribe_endless s from r in
     let link = endless_link s from (ToSubscribe r) good e ∙ ap (link_with s.link) (subscribe_items s from r i x good read here) in
-    found_row s (ByMessage from (ToSubscribe r)) from (stranger_to from (ToSubscribe r)) (with_asked s j) i x (subscribe_outs s r x) (stands_next s.clock r j) good
+    busy_row s (ByMessage from (ToSubscribe r)) from (stranger_to from (ToSubscribe r)) (with_asked s j) i x (subscribe_outs s r x) (stands_next s.clock r j) good
     (request_message s from (ToSubscribe r) (link_with s.link items) e link) at read (subscribe_part s from r x) (subscribe_moves s from r x)
+    (λ there rest. stood_busy r j.filter j.outcome (heard_at s.clock x) rest.busy)
 
 pub subscribe_row : (s : State) (from : Address) (r : TopicRequest) → Good s
     → Makes s (ByMessage from (ToSubscribe r)) (found_outs (stranger_to from (ToSubscribe r)) (subscribe_outs s r) (at_place s.clients (place_at from s.clients)))

@@ -31,7 +31,7 @@ use Rattle.sng_history.specs.Verdicts.{in_turn, filter_in, unsubscribe_named as 
 use Rattle.sng_history.specs.Answers.{unsuback}
 use Rattle.sng_history.specs.Whole.{dropped_with, replied, stranger_to, any_from}
 use Rattle.sng_history.specs.Steps.{client_next, clients_next, next_by}
-use Rattle.sng_history.specs.Good.{Each, Good}
+use Rattle.sng_history.specs.Good.{Each, AtRest, Good}
 use Rattle.sng_history.proofs.Own.{same_means, same_self}
 use Rattle.sng_history.proofs.Says.{part_for, drops_for}
 use Rattle.sng_history.proofs.Endless.{EachIn, each_in, none_ended, EachWanted, each_wanted, all_still, asks_nothing}
@@ -42,9 +42,10 @@ use Rattle.sng_sessions.proofs.MovedLists.{take-moved, drop-moved}
 use Rattle.sng_core.specs.Forms.{place_at, client_at, heard_at}
 use Rattle.sng_core.specs.Subscribing.{unsubscribe_named, unsubscribe_by, unsubscribe_judged, others_hold, holds_alone, let_go, told_of, untold_of, unwanted, unsubscribe_noted, unsubscribe_outs, ends_next, ended, ends_at}
 use Rattle.sng_core.specs.declared.filters.JudgedFilter.{JudgedFilter}
-use Rattle.sng_core.proofs.Found.{found_here, nobody_here, no_moves, one_outs, one_moves, moved_same, any_here, none_here, read_at, within}
+use Rattle.sng_core.proofs.Found.{found_here, nobody_here, no_moves_at, one_outs_at, one_moves_at, moved_same, any_here, none_here, read_at, within}
 use Rattle.sng_core.proofs.OneEnds.{let_go_of, same_released, one_released, held_split}
-use Rattle.sng_core.proofs.Rows.{Makes, makes}
+use Rattle.sng_core.proofs.Plain.{Busy, plain_next, plain_part, plain_moves, plain_row, all_busy}
+use Rattle.sng_core.proofs.Rows.{Makes, makes, off_same}
 
 -- ---- how it comes out is its note
 
@@ -63,10 +64,33 @@ unsubscribe_said : (policy : Policy) (r : TopicRequest) (x : Client)
 unsubscribe_said policy r x = said_by policy x r (in_turn x)
 
 unsubscribe_moves : (s : State) (from : Address) (r : TopicRequest) (x : Client) → is_here x from ≡ true
-    → ends_next s.clock (unsubscribe_judged s.policy r x) x ≡ client_next s (ByMessage from (ToUnsubscribe r)) x
+    → ends_next s.clock (unsubscribe_judged s.policy r x) x ≡ plain_next s (ByMessage from (ToUnsubscribe r)) x
 unsubscribe_moves s from r x here =
     let a = around s (ByMessage from (ToUnsubscribe r)) in
     rw here (ap (λ said. note_by a said (heard_at s.clock x)) (sym (unsubscribe_said s.policy r x)))
+
+-- the client stands as before, with what waits and is open
+ended_busy : (filter : Option (List ℕ)) (o : Outcome) (y : Client) → Busy y → Busy (unsubscribed filter o y)
+ended_busy None o y busy = busy
+ended_busy (Some text) Allowed y busy = busy
+ended_busy (Some text) (Denied rule) y busy = busy
+
+-- and any other is as it was
+off_part : (s : State) (from : Address) (r : TopicRequest) (dropped : List Release) (y : Client) → is_here y from ≡ false
+    → plain_part s (ByMessage from (ToUnsubscribe r)) dropped y ≡ []
+off_part s from r dropped y off = rw off refl
+
+quiet_off : (s : State) (from : Address) (r : TopicRequest) (dropped : List Release) (y : Client) → is_here y from ≡ false → Busy y
+    → part_for s (ByMessage from (ToUnsubscribe r)) dropped y ≡ []
+quiet_off s from r dropped y off busy =
+    plain_row s (ByMessage from (ToUnsubscribe r)) dropped y (subst Busy (sym (off_same s from (ToUnsubscribe r) y off)) busy)
+    ∙ off_part s from r dropped y off
+
+same_off : (s : State) (from : Address) (r : TopicRequest) (y : Client) → is_here y from ≡ false → Busy y
+    → client_next s (ByMessage from (ToUnsubscribe r)) y ≡ y
+same_off s from r y off busy =
+    let same = off_same s from (ToUnsubscribe r) y off in
+    plain_moves s (ByMessage from (ToUnsubscribe r)) y (subst Busy (sym same) busy) ∙ same
 
 -- ---- what ends for the client
 
@@ -342,7 +366,7 @@ nobody_row s from r good at =
     let c = ByMessage from (ToUnsubscribe r) in
     let none = nobody_here from s.clients at in
     let any : any_from c s.clients ≡ false = none_here c from s.clients (λ y. refl) none in
-    let after : clients_next s c ≡ s.clients = ap (map (client_next s c)) (append-nil s.clients) ∙ no_moves from (client_next s c) s.clients (λ y off. rw off refl) none in
+    let after : clients_next s c ≡ s.clients = ap (map (client_next s c)) (append-nil s.clients) ∙ no_moves_at from (client_next s c) s.clients (same_off s from r) (all_busy s.clients good.rest) none in
     let still : still_wanted s.clients s.link.wanted ≡ s.link.wanted =
     all_still s.clients s.link.wanted s.link.wanted (λ other there. sym (good.wanted_held other) ∙ there) (each_wanted s.link.wanted) in
     makes s c (stranger_to from (ToUnsubscribe r)) s good
@@ -352,7 +376,7 @@ nobody_row s from r good at =
 -- what is let out for the client
 part_is : (s : State) (from : Address) (r : TopicRequest) (i : ℕ) (x : Client) (j : JudgedFilter) (place : Bool) → x ≡ client_at s.clients i → has_place s.link ≡ place → is_here x from ≡ true
     → unsubscribe_ask s.policy x r ≡ note.Unsubscribe (who.Client x.id) j.filter j.outcome
-    → unsubscribe_noted s r i j ≡ part_for s (ByMessage from (ToUnsubscribe r)) (if place then [] else map (release x) (let_go s.clients i j.filter j.outcome)) x
+    → unsubscribe_noted s r i j ≡ plain_part s (ByMessage from (ToUnsubscribe r)) (if place then [] else map (release x) (let_go s.clients i j.filter j.outcome)) x
 part_is s from r i x j place at is here said =
     let a = around s (ByMessage from (ToUnsubscribe r)) in
     let y = heard_at s.clock x in
@@ -382,9 +406,12 @@ found_row s from r i good at =
     let here = found_here from s.clients i x at read in
     let once = each_at (λ y. IsOneClients y.filters) s.clients i x good.once read in
     let any : any_from c s.clients ≡ true = any_here c from s.clients i x (λ y. refl) read here in
+    let busy = all_busy s.clients good.rest in
+    let ends = unsubscribe_moves s from r x here in
+    let still : Busy (plain_next s c x) = subst Busy ends (ended_busy j.filter j.outcome (heard_at s.clock x) (each_at AtRest s.clients i x good.rest read).busy) in
     let moved : map (client_next s c) s.clients ≡ moved_at i (ends_next s.clock j) s.clients =
-    one_moves from (client_next s c) s.clients i x (λ y off. rw off refl) good.places read here
-    ∙ moved_same (client_next s c) (ends_next s.clock j) s.clients i x read (sym (unsubscribe_moves s from r x here)) in
+    one_moves_at from (client_next s c) s.clients i x (same_off s from r) busy good.places read here
+    ∙ moved_same (client_next s c) (ends_next s.clock j) s.clients i x read (plain_moves s c x still ∙ sym ends) in
     let after : clients_next s c ≡ moved_at i (ends_next s.clock j) s.clients = ap (map (client_next s c)) (append-nil s.clients) ∙ moved in
     let go : released s.clients (moved_at i (ends_next s.clock j) s.clients) ≡ map (release x) gone =
     one_released (ends_next s.clock j) s.clients i x read ∙ judged_released s i x j.filter j.outcome refl once in
@@ -392,8 +419,8 @@ found_row s from r i good at =
     ap (λ ys. dropped_of s.link (released s.clients ys)) moved ∙ (ap (dropped_of s.link) go ∙ drop_by x gone (length s.link.waiting) MAX_OUTBOX_ITEMS place refl few) in
     makes s c (unsubscribe_noted s r i j) (ends_at s i j) good
     (part_is s from r i x j place refl refl here (unsubscribe_said s.policy r x)
-    ∙ (sym (ap (λ d. part_for s c d x) dropped)
-    ∙ (sym (one_outs from (part_for s c (drops_for s c)) s.clients i x (λ y off. rw off refl) good.places read here)
+    ∙ ((sym (plain_row s c (if place then [] else map (release x) gone) x still) ∙ ap (λ d. part_for s c d x) (sym dropped))
+    ∙ (sym (one_outs_at from (part_for s c (drops_for s c)) s.clients i x (quiet_off s from r (drops_for s c)) busy good.places read here)
     ∙ sym (ap (λ b. if b then flat_map (part_for s c (drops_for s c)) s.clients else stranger_to from (ToUnsubscribe r)) any))))
     (sym (next_is s from r (moved_at i (ends_next s.clock j) s.clients) after
     ∙ (rw (go, take_by x gone (length s.link.waiting) MAX_OUTBOX_ITEMS place refl few, judged_still s i x j.filter j.outcome good read refl) refl)))

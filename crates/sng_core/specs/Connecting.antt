@@ -1,11 +1,11 @@
 -- What a CONNECT lets out and leads to, with no notes and no search.
-use Rattle.std.specs.Prelude.{ℕ, zero, suc, ◌+◌, ◌-◌, Bool, ◌&&◌, ◌||◌, not, List, [], ◌∷◌, ◌++◌, length, take, drop, if◌then◌else◌, Option, Some, None}
+use Rattle.std.specs.Prelude.{ℕ, zero, suc, ◌+◌, ◌-◌, Bool, ◌&&◌, ◌||◌, not, List, [], ◌∷◌, ◌++◌, length, take, drop, if◌then◌else◌, Option}
+use Rattle.std.specs.Prelude.{Some, None}
 use Rattle.std.specs.Str.{bytes_eq}
 use Rattle.sng_states.specs.States.{has_session}
 use Rattle.sng_fan.specs.declared.held.Held.{Held}
 use Rattle.sng_wanted.specs.Filters.{without_wanted}
 use Rattle.sng_frames.specs.declared.messages.connect.Connect.{Connect}
-use Rattle.sng_frames.specs.declared.return_code.TheConstants.ReturnCode.{ACCEPTED}
 use Rattle.sng_outbox.specs.declared.item.Item.TheVariants as item
 use Rattle.sng_book.specs.declared.address.Address.{Address}
 use Rattle.sng_book.specs.declared.decision.Decision.TheVariants as note
@@ -14,7 +14,7 @@ use Rattle.sng_book.specs.declared.outcome.Outcome.{Outcome}
 use Rattle.sng_book.specs.declared.outcome.Outcome.TheVariants.{Allowed, Denied}
 use Rattle.sng_book.specs.declared.out.Out.{Out}
 use Rattle.sng_book.specs.declared.out.Out.TheVariants.{Note}
-use Rattle.sng_history.specs.Answers.{code_of, dismissed, connack}
+use Rattle.sng_history.specs.Answers.{code_of, dismissed, connack, welcome}
 use Rattle.sng_history.specs.Clients.{Client, same_address}
 use Rattle.sng_history.specs.Entering.{heard_at, entered}
 use Rattle.sng_history.specs.Links.{Link}
@@ -75,19 +75,24 @@ let_go link (text ∷ texts) = let_go (let_go_one link text) texts
 
 -- ---- a CONNECT with its verdict, and the state after it
 
--- before its CONNACK
+-- before its answer
 abbrev pub accepted_outs : Address → List ℕ → List Client → ℕ → List Out
 accepted_outs from id xs dropped =
     Note (note.Connect id Allowed)
     ∷ (moved_outs from (at_place xs (place_of id xs)) ++ (put_out id (at_place xs (place_at from xs)) ++ dropped_notes dropped))
 
--- a clean session drops what waits for the client before the CONNACK, and else it is handed over behind that
+-- a clean session drops what waits for the client before the answer, and else it is handed over behind that; in the dialogue about a will
+-- it still waits
+abbrev pub behind_welcome : Policy → Address → Connect → Client → List Out
+behind_welcome policy from connect x =
+    if connect.flags.will then [] else hand_outs policy connect.client_id from [] 0 x.number x.buffer.waiting
+
 abbrev pub own_outs : Policy → Address → Connect → Option Client → List Out
-own_outs policy from connect None = connack from ACCEPTED ∷ []
+own_outs policy from connect None = welcome connect from ∷ []
 own_outs policy from connect (Some x) =
     if connect.flags.clean
-    then gone_outs connect.client_id x.buffer.waiting ++ connack from ACCEPTED ∷ []
-    else connack from ACCEPTED ∷ hand_outs policy connect.client_id from [] 0 x.number x.buffer.waiting
+    then gone_outs connect.client_id x.buffer.waiting ++ welcome connect from ∷ []
+    else welcome connect from ∷ behind_welcome policy from connect x
 
 abbrev pub nothing_handed : Handed
 nothing_handed = record { settled = 0; opens = Nothing }
@@ -95,7 +100,9 @@ nothing_handed = record { settled = 0; opens = Nothing }
 abbrev pub own_plan : Policy → Connect → Option Client → Handed
 own_plan policy connect None = nothing_handed
 own_plan policy connect (Some x) =
-    if connect.flags.clean then nothing_handed else hand_plan policy connect.client_id [] 0 0 x.buffer.waiting
+    if connect.flags.clean
+    then nothing_handed
+    else (if connect.flags.will then nothing_handed else hand_plan policy connect.client_id [] 0 0 x.buffer.waiting)
 
 abbrev pub refused_outs : Address → List ℕ → Denial → List Out
 refused_outs from id rule = Note (note.Connect id (Denied rule)) ∷ connack from (code_of rule) ∷ []

@@ -11,7 +11,6 @@ use Rattle.sng_book.specs.declared.outcome.Outcome.{Outcome}
 use Rattle.sng_book.specs.declared.outcome.Outcome.TheVariants.{Allowed, Denied}
 use Rattle.sng_book.specs.declared.out.Out.{Out}
 use Rattle.sng_book.specs.declared.out.Out.TheVariants.{Note, Send}
-use Rattle.sng_history.specs.Causes.{ToPing}
 use Rattle.sng_history.specs.Clients.{Client}
 use Rattle.sng_grants.specs.declared.policy.Policy.{Policy}
 use Rattle.sng_outbox.specs.declared.item.Item.{Item}
@@ -27,10 +26,9 @@ use Rattle.sng_frames.specs.declared.flags.TopicIdType.{TopicIdType}
 use Rattle.sng_frames.specs.declared.frame.SnFrame.TheVariants as frame
 use Rattle.sng_frames.specs.declared.messages.publish.Publish.{Publish}
 use Rattle.sng_history.specs.Links.{link_after, resumed, filters_wanted, subscribes_sent}
-use Rattle.sng_history.specs.Verdicts.{exit, and_then, room, ping_verdict, may_ask, name_given, id_room, name_in}
+use Rattle.sng_history.specs.Verdicts.{exit, and_then, room, may_ask, name_given, id_room, name_in}
 use Rattle.sng_core.specs.declared.verdict.Judged.{Judged}
-use Rattle.sng_history.specs.Answers.{denied_note, refused, code_of, regack, puback, dismissed, pong}
-use Rattle.sng_history.specs.Whole.{denied_to}
+use Rattle.sng_history.specs.Answers.{denied_note, refused, code_of, regack, puback, dismissed}
 use Rattle.sng_core.specs.HandingOver.{gone_outs}
 use Rattle.sng_sessions.specs.Moving.{moved_at}
 pub use Rattle.sng_history.specs.Entering.{heard_at, left_at, entering, entered, hearing}
@@ -48,14 +46,6 @@ moved_if (Some place) f xs = moved_at place f xs
 -- a client takes its leave, and what waits for it is gone
 abbrev pub left_outs : Client → List Out
 left_outs x = Note (note.Left x.id) ∷ dismissed x.address ∷ gone_outs x.id x.buffer.waiting
-
--- a PINGREQ of a client, with its verdict
-abbrev pub ping_outs : Option (List ℕ) → Client → Outcome → List Out
-ping_outs client x Allowed = pong x.address ∷ []
-ping_outs client x (Denied rule) = Note (note.Frame (who.Client x.id) (Denied rule)) ∷ denied_to (ToPing client) x.address rule
-
-abbrev pub pinged : Option (List ℕ) → Client → List Out
-pinged client x = ping_outs client x (ping_verdict client x)
 
 -- a client's message that is not taken
 abbrev pub unsupported_outs : SnFrame → Client → List Out

@@ -1,13 +1,14 @@
 //! What a denied message is noted as, and the datagrams that answer a client (MQTT-SN 1.2, 5.4 and 6.14).
 ghost use Rattle.std.specs.Prelude.{◌≡◌, ◌∷◌, ◌++◌, [], IfOk, OnOk};
-ghost use Rattle.sng_history.specs.Answers.{denied_note, code_of, refused, dismissed, connack, pong, no_flags};
+ghost use Rattle.sng_history.specs.Answers.{denied_note, code_of, refused, dismissed, connack, welcome, pong, no_flags};
+ghost use Rattle.sng_frames.specs.Writing.{written};
 
 use sng_book::{Address, Decision, Denial, Out, Outcome, Outs, Who};
 use sng_frames::{
-    Flags, FrameQos, ReturnCode, SnFrame, SubscribeAck, TopicAck, TopicIdType, write_connect_ack,
-    write_disconnect, write_ping_response, write_publish_ack, write_register_ack,
-    write_subscribe_ack, write_unsubscribe_ack, write_will_message_response,
-    write_will_topic_response,
+    Connect, Flags, FrameQos, ReturnCode, SnFrame, SubscribeAck, TopicAck, TopicIdType,
+    write_connect_ack, write_disconnect, write_ping_response, write_publish_ack,
+    write_register_ack, write_subscribe_ack, write_unsubscribe_ack, write_will_message_request,
+    write_will_message_response, write_will_topic_request, write_will_topic_response,
 };
 use sng_text::Octets;
 use std::alloc::{AllocError, Global};
@@ -173,6 +174,42 @@ pub fn connack(alloc: Global, to: Address, code: ReturnCode) -> Result<Out, Allo
     ensures { IfOk result (λ out. out ≡ connack to code) }
 {
     let datagram = write_connect_ack(alloc, code)?;
+    Ok(Out::Send(to, Octets::from(datagram)))
+}
+
+/// What answers a CONNECT that is accepted: one with Will WILLTOPICREQ (5.4.6), any other CONNACK.
+pub fn welcome(alloc: Global, connect: &Connect, to: Address) -> Result<Out, AllocError>
+    ensures { IfOk result (λ out. out ≡ welcome connect.now to) }
+{
+    if connect.flags.will {
+        let datagram = write_will_topic_request(alloc)?;
+        Ok(Out::Send(to, Octets::from(datagram)))
+    } else {
+        connack(alloc, to, ReturnCode::ACCEPTED)
+    }
+}
+
+/// The WILLMSGREQ (5.4.8).
+pub fn message_request(alloc: Global, to: Address) -> Result<Out, AllocError>
+    ensures { IfOk result (λ out. out ≡ Out.Send to (written SnFrame.WillMessageRequest)) }
+{
+    let datagram = write_will_message_request(alloc)?;
+    Ok(Out::Send(to, Octets::from(datagram)))
+}
+
+/// The WILLTOPICRESP with this code (5.4.24).
+pub fn topic_response(alloc: Global, to: Address, code: ReturnCode) -> Result<Out, AllocError>
+    ensures { IfOk result (λ out. out ≡ Out.Send to (written (SnFrame.WillTopicResponse code))) }
+{
+    let datagram = write_will_topic_response(alloc, code)?;
+    Ok(Out::Send(to, Octets::from(datagram)))
+}
+
+/// The WILLMSGRESP with this code (5.4.25).
+pub fn message_response(alloc: Global, to: Address, code: ReturnCode) -> Result<Out, AllocError>
+    ensures { IfOk result (λ out. out ≡ Out.Send to (written (SnFrame.WillMessageResponse code))) }
+{
+    let datagram = write_will_message_response(alloc, code)?;
     Ok(Out::Send(to, Octets::from(datagram)))
 }
 

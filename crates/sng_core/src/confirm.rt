@@ -7,16 +7,16 @@ ghost use Rattle.sng_history.specs.Handing.{answers_sent};
 ghost use Rattle.sng_history.specs.Whole.{stranger_to};
 ghost use Rattle.sng_sessions.specs.Moving.{moved_at};
 ghost use Rattle.sng_core.specs.Forms.{place_at, client_at, at_place, moved_if, found_outs, broken_outs, heard_at};
-ghost use Rattle.sng_core.specs.Confirming.{over_outs, served_next, refusing_outs, refusing_next, confirming_outs, confirming_next, confirm_outs, confirm_next, acknowledge_outs, acknowledge_next};
+ghost use Rattle.sng_core.specs.Confirming.{served_outs, served_next, refusing_outs, refusing_next, confirming_outs, confirming_next, confirm_outs, confirm_next, acknowledge_outs, acknowledge_next};
 
-use crate::hand_over::hand_over;
 use crate::messages::{denied_frame, no_session_frame};
+use crate::serve::serve_plan;
 use crate::turn::note_hand;
 use sng_book::{Address, Denial, Outcome, Outs};
 use sng_frames::TopicAck;
 use sng_grants::Policy;
 use sng_queue::{Exchange, Sending};
-use sng_sessions::Sessions;
+use sng_sessions::{Change, Sessions};
 use std::alloc::{AllocError, Global};
 
 /// A REGACK from this address.
@@ -162,25 +162,18 @@ fn serve(
     requires place { place < length sessions.old }
     requires first { first ≤ length (client_at sessions.old place).buffer.waiting }
     ensures outs { OnOk result (outs.new ≡ outs.old
-        ++ over_outs policy.now confirming first (client_at sessions.old place)) }
+        ++ served_outs policy.now confirming first (client_at sessions.old place)) }
     ensures next { OnOk result (sessions.new
         ≡ moved_at place (served_next policy.now clock confirming first) sessions.old) }
     ensures err { OnErr result (sessions.new ≡ sessions.old) }
 {
-    let handed = hand_over(
-        alloc,
-        policy,
-        sessions.id(place),
-        sessions.address(place),
-        sessions.ids(place),
-        confirming,
-        sessions.number(place),
-        sessions.queue(place),
-        first,
-        outs,
+    let phase = sessions.phase(place);
+    let handed = serve_plan(
+        alloc, policy, phase, sessions, place, confirming, first, outs,
     )?;
     sessions.answer(place, confirming, clock);
     sessions.hand(place, handed, clock);
+    sessions.change(place, Change::Drains, clock);
     Ok(())
 }
 

@@ -2,12 +2,14 @@
 ghost use Rattle.std.specs.Prelude.{◌≡◌, IfOk, OnOk, OnErr};
 ghost use Rattle.sng_frames.specs.Reading.{frame_of};
 ghost use Rattle.sng_history.specs.Causes.{ByConnect, ByMessage, BySource, ByBroken, datagram_cause, frame_cause, publish_cause, disconnect_cause};
-ghost use Rattle.sng_history.specs.Causes.{ToPing, ToLeave, ToRegister, ToPublish, ToSubscribe, ToUnsubscribe, ToConfirm, ToAcknowledge, Untaken};
+ghost use Rattle.sng_history.specs.Causes.{ToPing, ToLeave, ToSleep, ToRegister, ToPublish, ToSubscribe, ToUnsubscribe, ToConfirm, ToAcknowledge, ToState, Untaken};
 ghost use Rattle.sng_history.specs.Good.{Good};
 ghost use Rattle.sng_history.specs.Steps.{outs_by, next_by};
+ghost use Rattle.sng_core.specs.Stating.{said};
 
 use crate::parts::Parts;
-use crate::{confirm, messages, register};
+use crate::stating::Statement;
+use crate::{confirm, messages, register, sleep, statement};
 use sng_book::{Address, Denial, Outs};
 use sng_frames::{
     FrameFault, FrameQos, Publish, Register, SnFrame, TopicAck, TopicRequest, decode,
@@ -54,17 +56,13 @@ impl Parts {
             SnFrame::Disconnect(duration) => self.disconnect(alloc, from, duration),
             SnFrame::ConnectAck(code) => self.unsupported(alloc, from, SnFrame::ConnectAck(code)),
             SnFrame::WillTopicRequest => self.unsupported(alloc, from, SnFrame::WillTopicRequest),
-            SnFrame::WillTopic(topic) => self.unsupported(alloc, from, SnFrame::WillTopic(topic)),
+            SnFrame::WillTopic(topic) => self.state(alloc, from, Statement::Topic(topic)),
             SnFrame::WillMessageRequest => self.unsupported(
                 alloc,
                 from,
                 SnFrame::WillMessageRequest,
             ),
-            SnFrame::WillMessage(message) => self.unsupported(
-                alloc,
-                from,
-                SnFrame::WillMessage(message),
-            ),
+            SnFrame::WillMessage(message) => self.state(alloc, from, Statement::Message(message)),
             SnFrame::Register(register) => self.register(alloc, from, register),
             SnFrame::RegisterAck(answer) => self.confirm(alloc, from, answer),
             SnFrame::PublishAck(answer) => self.acknowledge(alloc, from, answer),
@@ -96,20 +94,20 @@ impl Parts {
                 SnFrame::UnsubscribeAck(id),
             ),
             SnFrame::PingResponse => self.unsupported(alloc, from, SnFrame::PingResponse),
-            SnFrame::WillTopicUpdate(topic) => self.unsupported(
+            SnFrame::WillTopicUpdate(topic) => self.state(
                 alloc,
                 from,
-                SnFrame::WillTopicUpdate(topic),
+                Statement::TopicUpdate(topic),
             ),
             SnFrame::WillTopicResponse(code) => self.unsupported(
                 alloc,
                 from,
                 SnFrame::WillTopicResponse(code),
             ),
-            SnFrame::WillMessageUpdate(message) => self.unsupported(
+            SnFrame::WillMessageUpdate(message) => self.state(
                 alloc,
                 from,
-                SnFrame::WillMessageUpdate(message),
+                Statement::MessageUpdate(message),
             ),
             SnFrame::WillMessageResponse(code) => self.unsupported(
                 alloc,
@@ -204,6 +202,24 @@ impl Parts {
         Ok(outs)
     }
 
+    /// What a client states of its will.
+    fn state(
+        &mut self,
+        alloc: Global,
+        from: Address,
+        statement: Statement,
+    ) -> Result<Outs, AllocError>
+        requires { Good self.old }
+        ensures outs { IfOk result (λ outs. outs
+            ≡ outs_by self.old (ByMessage from (ToState (said statement)))) }
+        ensures next { OnOk result (self.new ≡ next_by self.old (ByMessage from (ToState (said statement)))) }
+        ensures err { OnErr result (self.new ≡ self.old) }
+    {
+        let sessions = &mut self.sessions;
+        let outs = statement::state(alloc, &self.policy, self.clock, from, statement, sessions)?;
+        Ok(outs)
+    }
+
     /// A PUBLISH, by its QoS.
     fn publish(
         &mut self,
@@ -260,11 +276,12 @@ impl Parts {
         ensures next { OnOk result (self.new ≡ next_by self.old (ByMessage from (ToPing client))) }
         ensures err { OnErr result (self.new ≡ self.old) }
     {
-        let outs = messages::ping(alloc, self.clock, from, client, &mut self.sessions)?;
+        let sessions = &mut self.sessions;
+        let outs = sleep::ping(alloc, &self.policy, self.clock, from, client, sessions)?;
         Ok(outs)
     }
 
-    /// A DISCONNECT; one with Duration is not taken yet.
+    /// A DISCONNECT: by one with Duration the client falls asleep, and by any other it leaves.
     fn disconnect(
         &mut self,
         alloc: Global,
@@ -278,8 +295,19 @@ impl Parts {
     {
         match duration {
             None => self.leave(alloc, from),
-            Some(duration) => { self.unsupported(alloc, from, SnFrame::Disconnect(Some(duration))) }
+            Some(duration) => self.sleep(alloc, from, duration),
         }
+    }
+
+    /// A DISCONNECT with Duration.
+    fn sleep(&mut self, alloc: Global, from: Address, duration: u16) -> Result<Outs, AllocError>
+        requires { Good self.old }
+        ensures outs { IfOk result (λ outs. outs ≡ outs_by self.old (ByMessage from (ToSleep duration))) }
+        ensures next { OnOk result (self.new ≡ next_by self.old (ByMessage from (ToSleep duration))) }
+        ensures err { OnErr result (self.new ≡ self.old) }
+    {
+        let outs = sleep::sleep(alloc, self.clock, from, duration, &mut self.sessions)?;
+        Ok(outs)
     }
 
     /// A DISCONNECT without Duration.

@@ -10,13 +10,13 @@ ghost use Rattle.sng_sessions.specs.Handed.{handed_by};
 ghost use Rattle.sng_core.specs.Forms.{place_at, place_of, client_at, at_place, moved_if, heard_at, entered};
 ghost use Rattle.sng_core.specs.Connecting.{moved_outs, put_out, dropped_notes, own_outs, own_plan, nothing_handed, alone_in, held_beside, alone_by, let_go_one, let_go, accepted_outs, refused_outs, connect_outs, connect_next};
 
-use crate::answers::{code_of, connack, dismissed};
+use crate::answers::{code_of, connack, dismissed, welcome};
 use crate::hand_over::{all_gone, hand_over};
 use crate::parts::Parts;
 use crate::verdict::entry;
 use sng_book::{Address, Decision, Denial, Out, Outcome, Outs};
 use sng_fan::Held;
-use sng_frames::{Connect, ReturnCode};
+use sng_frames::Connect;
 use sng_grants::Policy;
 use sng_ids::IdTable;
 use sng_link::Link;
@@ -104,8 +104,9 @@ impl Parts {
     }
 }
 
-/// What becomes of what waits for the client that connects, and the CONNACK: a clean session drops it before
-/// that, and else it is handed over behind it. Answers what the hand-over comes to.
+/// What becomes of what waits for the client that connects, and what answers it: a clean session drops it
+/// before that, and else it is handed over behind a CONNACK; in the dialogue about a will it still waits.
+/// Answers what the hand-over comes to.
 fn entering(
     alloc: Global,
     policy: &Policy,
@@ -121,16 +122,20 @@ fn entering(
     ensures plan { IfOk result (λ handed. handed
         ≡ own_plan policy.now connect.now (at_place sessions.now place)) }
 {
+    let welcome = welcome(alloc, connect, from)?;
     let Some(place) = place else {
-        outs.push(connack(alloc, from, ReturnCode::ACCEPTED)?)?;
+        outs.push(welcome)?;
         return Ok(nothing_handed());
     };
     if connect.flags.clean {
         all_gone(&connect.client_id, sessions.queue(place), outs)?;
-        outs.push(connack(alloc, from, ReturnCode::ACCEPTED)?)?;
+        outs.push(welcome)?;
         return Ok(nothing_handed());
     }
-    outs.push(connack(alloc, from, ReturnCode::ACCEPTED)?)?;
+    outs.push(welcome)?;
+    if connect.flags.will {
+        return Ok(nothing_handed());
+    }
     let ids = IdTable::new(alloc);
     let number = sessions.number(place);
     let queue = sessions.queue(place);
@@ -165,7 +170,7 @@ fn enter(
 }
 
 /// Nothing is handed over.
-fn nothing_handed() -> Handed
+pub fn nothing_handed() -> Handed
     ensures { result ≡ nothing_handed }
 {
     Handed {
@@ -259,7 +264,7 @@ fn let_go_one(link: &mut Link, filter: TopicFilter)
     }
 }
 
-/// What is let out before its CONNACK as it is accepted, where so many UNSUBSCRIBEs find no place.
+/// What is let out before its answer as it is accepted, where so many UNSUBSCRIBEs find no place.
 fn accepted_outs(
     alloc: Global,
     from: Address,

@@ -3,6 +3,7 @@
 //! allocation failed changes nothing.
 #![tactic(auto)]
 
+mod again;
 mod answers;
 mod confirm;
 mod datagram;
@@ -19,8 +20,13 @@ mod parts;
 mod publish;
 mod register;
 mod replace;
+mod serve;
+mod sleep;
 mod source;
+mod statement;
+mod stating;
 mod subscribe;
+mod tick;
 mod turn;
 mod unsubscribe;
 mod verdict;

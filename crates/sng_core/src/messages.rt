@@ -2,18 +2,15 @@
 //! planned first, and what changes cannot fail.
 ghost use Rattle.std.specs.Prelude.{◌≡◌, ◌<◌, ◌∷◌, [], length, IfOk, OnOk, OnErr};
 ghost use Rattle.sng_history.specs.Answers.{dismissed};
-ghost use Rattle.sng_history.specs.Causes.{ToPing, ToLeave, Untaken};
-ghost use Rattle.sng_history.specs.Verdicts.{names_other};
+ghost use Rattle.sng_history.specs.Causes.{ToLeave, Untaken};
 ghost use Rattle.sng_history.specs.Whole.{stranger_to};
-ghost use Rattle.sng_core.specs.Forms.{place_at, client_at, at_place, moved_if, heard_at, left_at, found_outs, left_outs, pinged, unsupported_outs, broken_outs};
+ghost use Rattle.sng_core.specs.Forms.{place_at, client_at, at_place, moved_if, heard_at, left_at, found_outs, left_outs, unsupported_outs, broken_outs};
 
-use crate::answers::{denied_note, dismissed, only, pong, refused};
+use crate::answers::{denied_note, dismissed, only, refused};
 use crate::hand_over::all_gone;
-use crate::verdict::is_active;
 use sng_book::{Address, Decision, Denial, Out, Outcome, Outs, Who};
 use sng_frames::SnFrame;
 use sng_sessions::Sessions;
-use sng_text::ClientId;
 use std::alloc::{AllocError, Global};
 
 /// A DISCONNECT without Duration: the client leaves, and what waits for it is gone.
@@ -47,61 +44,6 @@ fn left_outs(alloc: Global, sessions: &Sessions, place: usize) -> Result<Outs, A
     outs.push(dismissed(alloc, sessions.address(place))?)?;
     all_gone(sessions.id(place), sessions.queue(place), &mut outs)?;
     Ok(outs)
-}
-
-/// A PINGREQ.
-pub fn ping(
-    alloc: Global,
-    clock: u64,
-    from: Address,
-    client: Option<ClientId>,
-    sessions: &mut Sessions,
-) -> Result<Outs, AllocError>
-    ensures outs { IfOk result (λ outs. outs
-        ≡ found_outs (stranger_to from (ToPing client)) (pinged client)
-        (at_place sessions.old (place_at from sessions.old))) }
-    ensures next { OnOk result (sessions.new
-        ≡ moved_if (place_at from sessions.old) (heard_at clock) sessions.old) }
-    ensures err { OnErr result (sessions.new ≡ sessions.old) }
-{
-    let Some(place) = sessions.at(from) else {
-        let outs = no_session_frame(alloc, from)?;
-        return Ok(outs);
-    };
-    let outs = pinged(alloc, &client, sessions, place)?;
-    sessions.hear(place, clock);
-    Ok(outs)
-}
-
-fn pinged(
-    alloc: Global,
-    client: &Option<ClientId>,
-    sessions: &Sessions,
-    place: usize,
-) -> Result<Outs, AllocError>
-    requires { place < length sessions.now }
-    ensures { IfOk result (λ outs. outs ≡ pinged client.now (client_at sessions.now place)) }
-{
-    if names_other(client, sessions.id(place)) {
-        let mut outs = denied_frame(alloc, sessions, place, Denial::NoSession)?;
-        outs.push(dismissed(alloc, sessions.address(place))?)?;
-        return Ok(outs);
-    }
-    if is_active(sessions.phase(place)) {
-        only(alloc, pong(alloc, sessions.address(place))?)
-    } else {
-        denied_frame(alloc, sessions, place, Denial::OutOfTurn)
-    }
-}
-
-/// Whether a PINGREQ names another client.
-fn names_other(client: &Option<ClientId>, own: &ClientId) -> bool
-    ensures { result ≡ names_other client.now own.now }
-{
-    match client {
-        None => false,
-        Some(id) => id != own,
-    }
 }
 
 /// The note of a client's message that asks for nothing and is denied.

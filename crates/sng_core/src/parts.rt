@@ -3,7 +3,7 @@ ghost use Rattle.std.specs.Prelude.{◌≡◌, ◌<◌, false, length, if◌then
 ghost use Rattle.sng_wanted.specs.declared.limits.TheConstants.{MAX_WANTED};
 ghost use Rattle.sng_outbox.specs.Sending.{publishes};
 ghost use Rattle.sng_history.specs.Exits.{agains_of, beginning};
-ghost use Rattle.sng_history.specs.State.{opening, later};
+ghost use Rattle.sng_history.specs.State.{opening};
 ghost use Rattle.sng_history.specs.Good.{Good};
 ghost use Rattle.sng_history.specs.Steps.{outs_of, next_of};
 ghost use Rattle.sng_core.specs.Forms.{taken_outs, taken_next, begun_next};
@@ -65,19 +65,7 @@ impl Parts {
             }
             Event::Take => self.take(alloc),
             Event::Replace(policy) => self.replace(alloc, policy),
-            Event::Tick(clock) => {
-                self.set_clock(clock);
-                Ok(Outs::new(alloc))
-            }
-        }
-    }
-
-    /// The clock does not go back.
-    fn set_clock(&mut self, clock: u64)
-        ensures { self.new ≡ record self.old { clock = later self.old.clock clock } }
-    {
-        if self.clock <= clock {
-            self.clock = clock;
+            Event::Tick(clock) => self.tick(alloc, clock),
         }
     }
 

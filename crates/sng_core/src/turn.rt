@@ -3,8 +3,9 @@
 ghost use Rattle.std.specs.Prelude.{◌≡◌, ◌≤◌, ◌∷◌, ◌++◌, [], length, IfOk, OnOk};
 ghost use Rattle.sng_queue.specs.Messages.{message};
 ghost use Rattle.sng_queue.specs.declared.limits.TheConstants.{MAX_WAITING_NAME, MAX_WAITING_PAYLOAD};
-ghost use Rattle.sng_history.specs.Handing.{handed_out, msg_id_of, publish_flags, frame_qos, id_type_of};
+ghost use Rattle.sng_history.specs.Handing.{handed_again, handed_out, msg_id_of, publish_flags, frame_qos, id_type_of};
 ghost use Rattle.sng_history.specs.Outgoing.{receive};
+ghost use Rattle.sng_core.specs.Again.{register_again};
 ghost use Rattle.sng_core.specs.HandingOver.{known_of, turn_outs, turn_opens, offer_outs, offer_opens, awaiting};
 
 use crate::known::KnownId;
@@ -13,7 +14,7 @@ use sng_frames::{Flags, FrameQos, TopicIdType, write_publish, write_register};
 use sng_grants::Policy;
 use sng_ids::IdTable;
 use sng_policy::{Grant, may_receive};
-use sng_queue::TopicIdKind;
+use sng_queue::{Sending, TopicIdKind, Waiting};
 use sng_sessions::{Opens, number_after};
 use sng_text::{ClientId, Octets, Qos, TopicName};
 use std::alloc::{AllocError, Global};
@@ -191,4 +192,35 @@ fn id_type_of(kind: TopicIdKind) -> TopicIdType
         TopicIdKind::Predefined => TopicIdType::Predefined,
         TopicIdKind::Short => TopicIdType::Short,
     }
+}
+
+/// The REGISTER of an announcement, sent again: it is the same (6.13).
+pub fn repeat_register(
+    alloc: Global,
+    to: Address,
+    sent: &Sending,
+    name: &TopicName,
+) -> Result<Out, AllocError>
+    requires { length name.now ≤ MAX_WAITING_NAME }
+    ensures { IfOk result (λ out. out ≡ register_again to sent.now name.now) }
+{
+    let datagram = write_register(alloc, sent.topic_id, sent.msg_id, name.text())?;
+    Ok(Out::Send(to, Octets::from(datagram)))
+}
+
+/// The PUBLISH of a hand-over, sent again: it says so by DUP (5.4.12).
+pub fn repeat_publish(
+    alloc: Global,
+    to: Address,
+    sent: &Sending,
+    kind: TopicIdKind,
+    message: &Waiting,
+) -> Result<Out, AllocError>
+    ensures { IfOk result (λ out. out ≡ handed_again to sent.now kind message.now) }
+{
+    let mut flags = publish_flags(message.qos(), message.retain(), kind);
+    flags.dup = true;
+    let payload = message.payload().as_slice();
+    let datagram = write_publish(alloc, flags, sent.topic_id, sent.msg_id, payload)?;
+    Ok(Out::Send(to, Octets::from(datagram)))
 }

@@ -22,13 +22,13 @@ use sng_states::ClientState;
 use sng_text::{ClientId, Qos, TextFault, TopicName};
 use std::alloc::{AllocError, Global};
 
-/// The verdict on a CONNECT (MQTT-SN 1.2, 5.4.4). One that asks for a will is not taken yet. An `Err` is a
-/// failed allocation, for a denial that shows the client.
+/// The verdict on a CONNECT (MQTT-SN 1.2, 5.4.4). An `Err` is a failed allocation, for a denial that shows
+/// the client.
 pub fn entry(policy: &Policy, sessions: &Sessions, connect: &Connect) -> Result<Outcome, AllocError>
     ensures { IfOk result (λ outcome. outcome ≡ entry_by policy.now sessions.now connect.now) }
 {
     let id = &connect.client_id;
-    if connect.protocol_id != 1 || connect.flags.will {
+    if connect.protocol_id != 1 {
         return Ok(Outcome::Denied(Denial::NotSupported));
     }
     if !lists(policy, id) {

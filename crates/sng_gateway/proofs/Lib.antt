@@ -1,5 +1,5 @@
 pub mod ArrivalLemmas
 pub mod DeedLemmas
 pub mod InputLemmas
+pub mod NumberLemmas
 pub mod PlayLemmas
-pub mod PortLemmas

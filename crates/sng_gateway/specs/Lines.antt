@@ -8,7 +8,7 @@ use Rattle.sng_grants.specs.declared.policy.Policy.{Policy}
 use Rattle.sng_scope.specs.Policies.{policy_of}
 use Rattle.sng_scope.specs.declared.fault.PolicyFault.{PolicyFault}
 use Rattle.sng_book.specs.declared.address.Address.{Address}
-use Rattle.sng_book.specs.declared.event.Event.TheVariants.{Datagram, Up, Down, Take, Replace}
+use Rattle.sng_book.specs.declared.event.Event.TheVariants.{Datagram, Up, Down, Take, Replace, Tick}
 use Rattle.sng_gateway.specs.declared.script.Line.{Line}
 use Rattle.sng_gateway.specs.declared.script.Line.TheVariants.{Empty, Event, Refused, Broker}
 
@@ -20,18 +20,22 @@ o >>= next = option_and_then next o
 abbrev pub parted : ℕ → List ℕ → Option (List ℕ × List ℕ)
 parted byte text = option_map (λ at. (take at text, drop (at + 1) text)) (position (λ b. b == byte) text)
 
--- the number of 16 bits that decimal digits write behind a number
-abbrev pub port_onto : ℕ → List ℕ → Option ℕ
-port_onto n [] = Some n
-port_onto n (b ∷ bs) =
-    if is_digit b && nat_lt (10 * n + (b - 48)) (2 ^ 16)
-    then port_onto (10 * n + (b - 48)) bs
+-- the number of 64 bits that decimal digits write behind a number
+abbrev pub digits_onto : ℕ → List ℕ → Option ℕ
+digits_onto n [] = Some n
+digits_onto n (b ∷ bs) =
+    if is_digit b && nat_lt (10 * n + (b - 48)) (2 ^ 64)
+    then digits_onto (10 * n + (b - 48)) bs
     else None
 
--- the port that a text names: one decimal digit or more
+-- the number that a text writes: one decimal digit or more
+abbrev pub number_of : List ℕ → Option ℕ
+number_of [] = None
+number_of (b ∷ bs) = digits_onto 0 (b ∷ bs)
+
+-- the port that a text names: such a number of 16 bits
 abbrev pub port_of : List ℕ → Option ℕ
-port_of [] = None
-port_of (b ∷ bs) = port_onto 0 (b ∷ bs)
+port_of text = number_of text >>= (λ n. if nat_lt n (2 ^ 16) then Some n else None)
 
 -- the address that `IP:PORT` names; byte 58 is `:`
 abbrev pub address_of : List ℕ → Option Address
@@ -68,6 +72,12 @@ broker_line word = do
   piece ← piece_of word
   Some (Broker piece)
 
+-- `MS`: the clock is at this many ms
+abbrev pub tick_line : List ℕ → Option Line
+tick_line word = do
+  clock ← number_of word
+  Some (Event (Tick clock))
+
 -- the lines without a space
 abbrev pub word_line : List ℕ → Option Line
 word_line word =
@@ -86,7 +96,9 @@ words_line word rest =
     then Some (policy_line (policy_of rest))
     else (if bytes_eq word (codes "from")
     then from_line rest
-    else (if bytes_eq word (codes "broker") then broker_line rest else None))
+    else (if bytes_eq word (codes "broker")
+    then broker_line rest
+    else (if bytes_eq word (codes "tick") then tick_line rest else None)))
 
 abbrev pub line_by : List ℕ → Option (List ℕ × List ℕ) → Option Line
 line_by line None = word_line line

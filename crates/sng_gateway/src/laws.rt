@@ -1,6 +1,6 @@
 //! Laws of the definitions that the contracts cite. Each function does nothing: its contract is the law.
 ghost use Rattle.std.specs.Prelude.{◌≡◌};
-ghost use Rattle.sng_gateway.specs.Laws.{PortsAreDecimal};
+ghost use Rattle.sng_gateway.specs.Laws.{NumbersAreDecimal, PortsAreDecimal};
 ghost use Rattle.sng_gateway.specs.declared.limits.TheConstants.{MAX_READS, MAX_LINE, MAX_SHOWN};
 
 /// The limits in numbers.
@@ -13,4 +13,9 @@ pub fn limits()
 /// Each port is read from its decimal digits.
 pub fn ports_are_decimal()
     ensures { PortsAreDecimal }
+{}
+
+/// So is each number of 64 bits, as a clock.
+pub fn numbers_are_decimal()
+    ensures { NumbersAreDecimal }
 {}

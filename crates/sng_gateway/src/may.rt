@@ -86,7 +86,7 @@ fn push_line_feed(line: &mut Vec<u8>) -> Result<(), AllocError>
 }
 
 /// Appends the line of a refused policy.
-pub(crate) fn push_refused(line: &mut Vec<u8>, fault: PolicyFault) -> Result<(), AllocError>
+pub fn push_refused(line: &mut Vec<u8>, fault: PolicyFault) -> Result<(), AllocError>
     ensures { OnOk result (line.new.items ≡ line.old.items ++ refused_text fault) }
 {
     line.extend_from_slice(b"refused policy ")?;

@@ -1,9 +1,10 @@
 //! The lines of a script. Words are parted by one space.
 ghost use Rattle.std.specs.Prelude.{◌≡◌, ◌⊎◌, Some, None, IfOk, IfErr};
-ghost use Rattle.sng_gateway.specs.Lines.{line_of, word_line, words_line, policy_line, from_line, broker_line};
+ghost use Rattle.sng_gateway.specs.Lines.{line_of, word_line, words_line, policy_line, from_line, broker_line, tick_line};
 ghost use Rattle.sng_scope.specs.Policies.{policy_of};
 
 use crate::datagram::{read_datagram, read_piece};
+use crate::number::number_of;
 use crate::sender::{address_of, parted};
 use sng_book::Event;
 use sng_scope::{PolicyFault, read_policy};
@@ -33,7 +34,7 @@ pub enum LineFault {
 }
 
 /// What the line says, without the line feed at its end: `up`, `down`, `take`, `policy TEXT`,
-/// `from IP:PORT HEX`, `broker HEX`, or nothing.
+/// `from IP:PORT HEX`, `broker HEX`, `tick MS`, or nothing.
 pub fn line_of(alloc: Global, line: &[u8]) -> Result<Line, LineFault>
     ensures ok { IfOk result (λ said. line_of line.now ≡ Some said) }
     ensures err { IfErr result (λ fault. (fault ≡ LineFault.Memory) ⊎ (line_of line.now ≡ None)) }
@@ -73,6 +74,8 @@ fn words_line(alloc: Global, word: &[u8], rest: &[u8]) -> Result<Line, LineFault
         from_line(alloc, rest)
     } else if word == b"broker".as_slice() {
         broker_line(alloc, rest)
+    } else if word == b"tick".as_slice() {
+        tick_line(rest).ok_or(LineFault::Unreadable)
     } else {
         Err(LineFault::Unreadable)
     }
@@ -112,4 +115,12 @@ fn broker_line(alloc: Global, digits: &[u8]) -> Result<Line, LineFault>
 {
     let piece = read_piece(alloc, digits)?;
     Ok(Line::Broker(piece))
+}
+
+/// The clock is at this many ms.
+fn tick_line(digits: &[u8]) -> Option<Line>
+    ensures { result ≡ tick_line digits.now }
+{
+    let clock = number_of(digits)?;
+    Some(Line::Event(Event::Tick(clock)))
 }

@@ -3,8 +3,8 @@
 ghost use Rattle.std.specs.Prelude.{◌≡◌, ◌==◌, option_map, position};
 ghost use Rattle.sng_gateway.specs.Lines.{address_of, parted, port_of};
 
+use crate::number::number_of;
 use sng_book::Address;
-use sng_text::ipv4::is_digit;
 use sng_text::read_ipv4;
 
 /// The address that the word names.
@@ -35,15 +35,6 @@ fn place_of(text: &[u8], byte: u8) -> Option<usize>
 fn port_of(digits: &[u8]) -> Option<u16>
     ensures { result ≡ port_of digits.now }
 {
-    if digits.is_empty() {
-        return None;
-    }
-    let mut port = 0u16;
-    for digit in digits {
-        if !is_digit(*digit) {
-            return None;
-        }
-        port = u16::try_from(10 * u32::from(port) + u32::from(*digit - b'0')).ok()?;
-    }
-    Some(port)
+    let port = number_of(digits)?;
+    u16::try_from(port).ok()
 }

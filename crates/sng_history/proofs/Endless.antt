@@ -8,6 +8,7 @@ use Rattle.std.proofs.Math.Seq.{drop-nil, take-nil}
 use Rattle.sng_frames.specs.declared.messages.publish.Publish.{Publish}
 use Rattle.sng_outbox.specs.declared.item.Item.{Item}
 use Rattle.sng_outbox.specs.declared.item.Item.TheVariants as item
+use Rattle.sng_states.specs.States.{is_due_messages}
 use Rattle.sng_fan.specs.declared.held.Held.{Held}
 use Rattle.sng_fan.specs.Subscriptions.{has_text, stands, with_filter}
 use Rattle.sng_frames.specs.declared.messages.subscribe.TopicRequest.{TopicRequest}
@@ -19,22 +20,26 @@ use Rattle.sng_book.specs.declared.decision.Who.TheVariants as who
 use Rattle.sng_book.specs.declared.outcome.Denial.TheVariants.{NotSupported}
 use Rattle.sng_book.specs.declared.outcome.Outcome.{Outcome}
 use Rattle.sng_book.specs.declared.outcome.Outcome.TheVariants.{Allowed, Denied}
-use Rattle.sng_history.specs.Causes.{Request, ToPing, ToLeave, ToRegister, ToPublish, ToSubscribe, ToUnsubscribe, ToConfirm, ToAcknowledge, Untaken, Cause, publish_asked}
+use Rattle.sng_history.specs.Causes.{Request, ToPing, ToLeave, ToSleep, ToRegister, ToPublish, ToSubscribe, ToUnsubscribe, ToConfirm, ToAcknowledge}
+use Rattle.sng_history.specs.Causes.{ToState, Untaken, Cause, publish_asked}
 use Rattle.sng_history.specs.Causes.{ByMessage}
 use Rattle.sng_history.specs.Requests.{granted}
-use Rattle.sng_history.specs.Clients.{Around, Client, is_here, closed, gone, is_confirming, is_acknowledging, start_by, subscribed, subscribe_of, note_by, notes_by}
+use Rattle.sng_history.specs.Clients.{Around, Client, is_here, closed, gone, is_confirming, is_acknowledging, start_by, subscribed}
+use Rattle.sng_history.specs.Clients.{subscribe_of, statement_of, note_by, notes_by}
 use Rattle.sng_history.specs.Links.{Wanted, is_filter_of, wants}
 use Rattle.sng_history.specs.Standing.{holds, is_held, ended, released_from, released, dropped_of, unsubscribes, places_left, still_wanted}
 use Rattle.sng_history.specs.State.{State, around, asked_by, joined}
 use Rattle.sng_history.specs.Verdicts.{ping_verdict, subscribe_ask}
+use Rattle.sng_history.specs.WillAsks.{statement_notes}
 use Rattle.sng_history.specs.Answers.{denied_note}
 use Rattle.sng_history.specs.Outgoing.{all_gone, out_of_turn, handed_over}
-use Rattle.sng_history.specs.Lawful.{denial_of, confirmations, fixed_to, fixed_for}
+use Rattle.sng_history.specs.Lawful.{denial_of, confirmations, woken_notes, fixed_to, fixed_for}
 use Rattle.sng_history.specs.Steps.{newcomers_for, client_next, clients_next, asked_by_all, asked_for, next_by}
 use Rattle.sng_history.specs.Good.{Good}
 use Rattle.sng_history.proofs.Own.{same_self}
-use Rattle.sng_history.proofs.Steady.{start_filters}
-use Rattle.sng_history.proofs.Hands.{Every, OfMessages, every_handed, every_gone, every_confirmation, Calm, messages_calm, notes_calm}
+use Rattle.sng_history.proofs.Steady.{steady_self, start_filters, client_filters}
+use Rattle.sng_history.proofs.Hands.{Every, OfMessages, every_append, every_handed, every_gone, every_woken, every_confirmation, Calm, messages_calm, notes_calm}
+use Rattle.sng_history.proofs.Statements.{every_statement, denied_stated, statement_placid, placid_filters}
 use Rattle.sng_history.proofs.Asks.{of_register, of_publish, of_unsubscribe}
 use Rattle.sng_history.proofs.Filters.{subscribe_verdict, ask_cases}
 use Rattle.sng_history.proofs.Holding.{or_follows, with_stands}
@@ -139,9 +144,9 @@ pub denied_stays : (a : Around) (x : Client) (id : List ℕ) (message : SnFrame)
 denied_stays a x id (frame.Connect connect) = refl
 denied_stays a x id (frame.ConnectAck code) = refl
 denied_stays a x id frame.WillTopicRequest = refl
-denied_stays a x id (frame.WillTopic topic) = refl
+denied_stays a x id (frame.WillTopic topic) = denied_stated (statement_of a.cause) NotSupported x
 denied_stays a x id frame.WillMessageRequest = refl
-denied_stays a x id (frame.WillMessage message) = refl
+denied_stays a x id (frame.WillMessage message) = denied_stated (statement_of a.cause) NotSupported x
 denied_stays a x id (frame.Register register) = refl
 denied_stays a x id (frame.RegisterAck answer) = refl
 denied_stays a x id (frame.Publish p) = refl
@@ -156,29 +161,31 @@ denied_stays a x id (frame.UnsubscribeAck packet) = refl
 denied_stays a x id (frame.PingRequest client) = refl
 denied_stays a x id frame.PingResponse = refl
 denied_stays a x id (frame.Disconnect duration) = refl
-denied_stays a x id (frame.WillTopicUpdate topic) = refl
+denied_stays a x id (frame.WillTopicUpdate topic) = denied_stated (statement_of a.cause) NotSupported x
 denied_stays a x id (frame.WillTopicResponse code) = refl
-denied_stays a x id (frame.WillMessageUpdate message) = refl
+denied_stays a x id (frame.WillMessageUpdate message) = denied_stated (statement_of a.cause) NotSupported x
 denied_stays a x id (frame.WillMessageResponse code) = refl
 
 -- one note of a client that was heard
 abbrev Still : Around → Client → Decision → Type 0
 Still a x said = (note_by a said (start_by a x)).filters ≡ x.filters
 
-denial_still : (a : Around) (x : Client) (o : Outcome) → (notes_by a (denial_of x.id o) (start_by a x)).filters ≡ x.filters
-denial_still a x Allowed = start_filters a x
-denial_still a x (Denied rule) = start_filters a x
+denial_calm : (a : Around) (id : List ℕ) (o : Outcome) → Every (Calm a) (denial_of id o)
+denial_calm a id Allowed = tt
+denial_calm a id (Denied rule) = (λ x. steady_self x, tt)
 
 -- the request leaves the filters of its client as they are
 abbrev pub is_still : Request → Bool
 is_still (ToSubscribe r) = false
 is_still (ToUnsubscribe r) = false
 is_still (ToPing client) = true
+is_still (ToSleep duration) = true
 is_still ToLeave = true
 is_still (ToRegister r) = true
 is_still (ToConfirm r) = true
 is_still (ToAcknowledge r) = true
 is_still (ToPublish p) = true
+is_still (ToState statement) = true
 is_still (Untaken message) = true
 
 -- notes of messages move no filters
@@ -191,7 +198,14 @@ turn_still a true x notes every = calm_still a (start_by a x) notes every ∙ st
 turn_still a false x notes every = start_filters a x
 
 still_to : (a : Around) (s : State) (request : Request) (x : Client) → is_still request ≡ true → (notes_by a (fixed_to s request x) (start_by a x)).filters ≡ x.filters
-still_to a s (ToPing client) x is = denial_still a x (ping_verdict client x)
+still_to a s (ToPing client) x is =
+    let denial = denial_of x.id (ping_verdict client x) in
+    let woken = woken_notes s.policy client x in
+    calm_still a (start_by a x) (denial ++ woken)
+    (every_append (Calm a) denial woken (denial_calm a x.id (ping_verdict client x))
+    (every_woken (Calm a) s.policy client x (messages_calm a x.id)))
+    ∙ start_filters a x
+still_to a s (ToSleep duration) x is = turn_still a (is_due_messages x.phase) x [] tt
 still_to a s ToLeave x is = calm_still a (gone (start_by a x)) (all_gone x.id x.buffer.waiting) (every_gone (Calm a) x.id x.buffer.waiting (messages_calm a x.id)) ∙ start_filters a x
 still_to a s (ToRegister r) x is = of_register (Still a x) s.policy x r.name (λ name o. start_filters a x)
 still_to a s (ToPublish p) x is = of_publish (Still a x) s x p (λ name o. start_filters a x)
@@ -200,6 +214,8 @@ still_to a s (ToUnsubscribe r) x is = absurd cc
 still_to a s (ToConfirm r) x is = turn_still a (is_confirming r x) x (confirmations s.policy r x) (every_confirmation (Calm a) s.policy r x (messages_calm a x.id))
 still_to a s (ToAcknowledge r) x is =
     turn_still a (is_acknowledging r x) x (handed_over s.policy (closed x)) (every_handed (Calm a) s.policy (closed x) (messages_calm a x.id))
+still_to a s (ToState statement) x is =
+    placid_filters a (statement_notes s.policy statement x) (start_by a x) (statement_placid a s.policy statement x) ∙ start_filters a x
 still_to a s (Untaken message) x is = ap (λ y. y.filters) (denied_stays a (start_by a x) x.id message) ∙ start_filters a x
 
 still_if : (a : Around) (s : State) (request : Request) (x : Client) (here : Bool) → is_still request ≡ true
@@ -208,7 +224,9 @@ still_if a s request x true is = still_to a s request x is
 still_if a s request x false is = start_filters a x
 
 pub still_next : (s : State) (from : Address) (request : Request) (x : Client) → is_still request ≡ true → (client_next s (ByMessage from request) x).filters ≡ x.filters
-still_next s from request x is = still_if (around s (ByMessage from request)) s request x (is_here x from) is
+still_next s from request x is =
+    let c = ByMessage from request in
+    client_filters (around s c) (fixed_for s c x) x ∙ still_if (around s c) s request x (is_here x from) is
 
 pub still_endless : (s : State) (from : Address) (request : Request) → is_still request ≡ true → Endless s (ByMessage from request)
 still_endless s from request is = (refl, λ x. same_keeps x (client_next s (ByMessage from request) x) (still_next s from request x is))
@@ -231,7 +249,13 @@ subscribe_keeps s from r x true =
 subscribe_keeps s from r x false = let a = around s (ByMessage from (ToSubscribe r)) in same_keeps x (start_by a x) (start_filters a x)
 
 pub subscribe_endless : (s : State) (from : Address) (r : TopicRequest) → Endless s (ByMessage from (ToSubscribe r))
-subscribe_endless s from r = (refl, λ x. subscribe_keeps s from r x (is_here x from))
+subscribe_endless s from r =
+    let c = ByMessage from (ToSubscribe r) in (
+      refl,
+      λ x text is.
+          ap (λ held. stands held text) (client_filters (around s c) (fixed_for s c x) x)
+          ∙ subscribe_keeps s from r x (is_here x from) text is,
+    )
 
 -- ---- what a request asks for
 
@@ -240,11 +264,13 @@ abbrev pub is_quiet : Request → Bool
 is_quiet (ToPublish p) = false
 is_quiet (ToSubscribe r) = false
 is_quiet (ToPing client) = true
+is_quiet (ToSleep duration) = true
 is_quiet ToLeave = true
 is_quiet (ToRegister r) = true
 is_quiet (ToConfirm r) = true
 is_quiet (ToAcknowledge r) = true
 is_quiet (ToUnsubscribe r) = true
+is_quiet (ToState statement) = true
 is_quiet (Untaken message) = true
 
 denied_asks : (message : SnFrame) (client : List ℕ) → asked_by None (denied_note message (who.Client client) NotSupported) ≡ []
@@ -273,13 +299,13 @@ denied_asks (frame.WillTopicResponse code) client = refl
 denied_asks (frame.WillMessageUpdate message) client = refl
 denied_asks (frame.WillMessageResponse code) client = refl
 
-denial_asks : (id : List ℕ) (o : Outcome) → asked_by_all None (denial_of id o) ≡ []
-denial_asks id Allowed = refl
-denial_asks id (Denied rule) = refl
-
 -- notes of messages ask for nothing
 abbrev Quiet : Decision → Type 0
 Quiet said = asked_by None said ≡ []
+
+denial_quiet : (id : List ℕ) (o : Outcome) → Every Quiet (denial_of id o)
+denial_quiet id Allowed = tt
+denial_quiet id (Denied rule) = (refl, tt)
 
 messages_quiet : (client : List ℕ) → OfMessages Quiet client
 messages_quiet client = record { announces = λ name. refl; hands = λ name o. refl }
@@ -293,7 +319,13 @@ turn_asks true id notes every = all_quiet notes every
 turn_asks false id notes every = refl
 
 request_asks : (s : State) (request : Request) (x : Client) → is_quiet request ≡ true → asked_by_all (publish_asked request) (fixed_to s request x) ≡ []
-request_asks s (ToPing client) x is = denial_asks x.id (ping_verdict client x)
+request_asks s (ToPing client) x is =
+    let denial = denial_of x.id (ping_verdict client x) in
+    let woken = woken_notes s.policy client x in
+    all_quiet (denial ++ woken)
+    (every_append Quiet denial woken (denial_quiet x.id (ping_verdict client x))
+    (every_woken Quiet s.policy client x (messages_quiet x.id)))
+request_asks s (ToSleep duration) x is = turn_asks (is_due_messages x.phase) x.id [] tt
 request_asks s ToLeave x is = all_quiet (all_gone x.id x.buffer.waiting) (every_gone Quiet x.id x.buffer.waiting (messages_quiet x.id))
 request_asks s (ToRegister r) x is = of_register (λ said. asked_by_all None (said ∷ []) ≡ []) s.policy x r.name (λ name o. refl)
 request_asks s (ToPublish p) x is = absurd cc
@@ -301,6 +333,9 @@ request_asks s (ToSubscribe r) x is = absurd cc
 request_asks s (ToUnsubscribe r) x is = of_unsubscribe (λ said. asked_by_all None (said ∷ []) ≡ []) s.policy x r (λ filter o. refl)
 request_asks s (ToConfirm r) x is = turn_asks (is_confirming r x) x.id (confirmations s.policy r x) (every_confirmation Quiet s.policy r x (messages_quiet x.id))
 request_asks s (ToAcknowledge r) x is = turn_asks (is_acknowledging r x) x.id (handed_over s.policy (closed x)) (every_handed Quiet s.policy (closed x) (messages_quiet x.id))
+request_asks s (ToState statement) x is =
+    all_quiet (statement_notes s.policy statement x)
+    (every_statement Quiet s.policy statement x (record { states = λ name o. refl; leaves = refl; messages = messages_quiet x.id }))
 request_asks s (Untaken message) x is = ap (λ items. items ++ []) (denied_asks message x.id)
 
 asks_if : (p : Option Publish) (b : Bool) (notes : List Decision) → asked_by_all p notes ≡ [] → asked_by_all p (if b then notes else []) ≡ []

@@ -12,7 +12,6 @@ use Rattle.sng_fan.specs.declared.limits.TheConstants.{MAX_SUBSCRIPTIONS}
 use Rattle.sng_fan.specs.Subscriptions.{has_text, stands, is_full, with_filter, without_filter, IsOneClients}
 use Rattle.sng_fan.proofs.HeldLemmas.{once_kept, once_added}
 use Rattle.sng_fan.proofs.PlaceLemmas.{granted_last}
-use Rattle.sng_states.specs.declared.state.ClientState.TheVariants.{Active}
 use Rattle.sng_frames.specs.declared.messages.subscribe.TopicRequest.{TopicRequest}
 use Rattle.sng_book.specs.Denials.{is_allowed}
 use Rattle.sng_book.specs.declared.address.Address.{Address}
@@ -25,10 +24,12 @@ use Rattle.sng_book.specs.declared.outcome.Place.TheVariants as place
 use Rattle.sng_book.specs.declared.outcome.Outcome.{Outcome}
 use Rattle.sng_book.specs.declared.outcome.Outcome.TheVariants.{Allowed, Denied}
 use Rattle.sng_ids.specs.Ids.{is_full_for}
-use Rattle.sng_history.specs.Causes.{Request, ToPing, ToLeave, ToRegister, ToPublish, ToSubscribe, ToUnsubscribe, ToConfirm, ToAcknowledge, Untaken, Cause}
+use Rattle.sng_history.specs.Causes.{Request, ToPing, ToLeave, ToSleep, ToRegister, ToPublish, ToSubscribe, ToUnsubscribe, ToConfirm, ToAcknowledge}
+use Rattle.sng_history.specs.Causes.{ToState, Untaken, Cause}
 use Rattle.sng_history.specs.Causes.{ByConnect, ByMessage, BySource, ByBroken, ByPacket, ByUp, ByDown, ByTake, ByReplace, ByTick}
 use Rattle.sng_history.specs.Requests.{granted, gets_id}
-use Rattle.sng_history.specs.Clients.{Around, Client, blank, is_here, start_by, cleaned, entered_by, subscribed, unsubscribed, without, subscribe_of, note_by, notes_by}
+use Rattle.sng_history.specs.Clients.{Around, Client, blank, is_here, start_by, cleaned, opened, entered_by, subscribed, unsubscribed}
+use Rattle.sng_history.specs.Clients.{without, subscribe_of, statement_of, note_by, notes_by}
 use Rattle.sng_history.specs.Packets.{has_place}
 use Rattle.sng_history.specs.State.{State, around, policy_by, is_known}
 use Rattle.sng_history.specs.Verdicts.{coverage, and_then, may_ask, filter_in, subscribe_room_in, subscribe_room, subscribe_named, subscribe_by, subscribe_ask, entry}
@@ -36,8 +37,9 @@ use Rattle.sng_history.specs.Lawful.{end_of, ends_under, fixed_for}
 use Rattle.sng_history.specs.Steps.{newcomers_for, client_next, clients_next}
 use Rattle.sng_history.specs.Good.{Each, AllCovered, Good}
 use Rattle.sng_history.proofs.Own.{same_self, same_means, each_with, each_map, each_append, each_mapped}
-use Rattle.sng_history.proofs.Steady.{start_steady, handed_steady}
+use Rattle.sng_history.proofs.Steady.{handed_steady, repeated_steady, client_filters}
 pub use Rattle.sng_history.proofs.Steady.{start_filters}
+use Rattle.sng_history.proofs.Statements.{stated_keeps}
 use Rattle.sng_history.proofs.Kept.{client_id}
 use Rattle.sng_history.proofs.Waiting.{allowed_second, up_room}
 
@@ -55,9 +57,14 @@ kept_cleaned : (P : List Held → Type 0) → Lasting P → (clean : Bool) (x : 
 kept_cleaned P l true x p = l.none
 kept_cleaned P l false x p = p
 
+kept_opened : (P : List Held → Type 0) (will : Bool) (x : Client) → Kept P x (opened will x)
+kept_opened P true x p = p
+kept_opened P false x p = p
+
 kept_entered : (P : List Held → Type 0) → Lasting P → (clock : ℕ) (c : Cause) (x : Client) → Kept P x (entered_by clock c x)
 kept_entered P l clock (ByConnect from connect) x p =
-    kept_cleaned P l connect.flags.clean (record x { address = from; phase = Active; ids = []; duration = connect.duration; heard = clock }) p
+    let y : Client = record x { address = from; ids = []; duration = connect.duration; heard = clock } in
+    kept_opened P connect.flags.will (cleaned connect.flags.clean y) (kept_cleaned P l connect.flags.clean y p)
 kept_entered P l clock (ByMessage from request) x p = p
 kept_entered P l clock (BySource from source) x p = p
 kept_entered P l clock (ByBroken from rule) x p = p
@@ -85,10 +92,10 @@ kept_note P l a (note.End id text outcome) x quiet p = l.less x.filters text p
 kept_note P l a (note.Left id) x quiet p = p
 kept_note P l a (note.Register whom name outcome) x quiet p = p
 kept_note P l a (note.Publish whom name outcome) x quiet p = p
-kept_note P l a (note.Will whom name outcome) x quiet p = p
+kept_note P l a (note.Will whom name outcome) x quiet p = subst P (sym (stated_keeps (statement_of a.cause) outcome x).filters) p
 kept_note P l a (note.Announce id name) x quiet p = p
 kept_note P l a (note.Hand id name outcome) x quiet p = subst P (sym (handed_steady a name outcome x).filters) p
-kept_note P l a (note.Retry id name outcome) x quiet p = p
+kept_note P l a (note.Retry id name outcome) x quiet p = subst P (sym (repeated_steady a.clock outcome x).filters) p
 kept_note P l a (note.Forward whom name outcome) x quiet p = p
 kept_note P l a (note.Again whom name outcome) x quiet p = p
 kept_note P l a (note.Lost id) x quiet p = p
@@ -100,11 +107,14 @@ kept_notes P l a [] x quiet p = p
 kept_notes P l a (said ∷ notes) x quiet p = kept_notes P l a notes (note_by a said x) quiet (kept_note P l a said x quiet p)
 
 start_kept : (P : List Held → Type 0) (a : Around) (x : Client) → Kept P x (start_by a x)
-start_kept P a x p = subst P (sym (start_steady a x).filters) p
+start_kept P a x p = subst P (sym (start_filters a x)) p
 
 -- whatever the row, where it is no SUBSCRIBE
 pub kept_next : (P : List Held → Type 0) → Lasting P → (s : State) (c : Cause) (x : Client) → subscribe_of c ≡ None → Kept P x (client_next s c x)
-kept_next P l s c x quiet p = kept_notes P l (around s c) (fixed_for s c x) (start_by (around s c) x) quiet (start_kept P (around s c) x p)
+kept_next P l s c x quiet p =
+    let a = around s c in
+    let notes = fixed_for s c x in
+    subst P (sym (client_filters a notes x)) (kept_notes P l a notes (start_by a x) quiet (start_kept P a x p))
 
 -- ---- a SUBSCRIBE
 
@@ -208,9 +218,6 @@ covered_without : (policy : Policy) (client : List ℕ) (held : List Held) (text
 covered_without policy client [] text all = tt
 covered_without policy client (h ∷ held) text all =
     covered_less_by policy client h (without_filter held text) (not (has_text text h)) all.0 (covered_without policy client held text all.1)
-
-covered_less : (policy : Policy) (client : List ℕ) → Lasting (AllCovered policy client)
-covered_less policy client = record { less = covered_without policy client; none = tt }
 
 covered_more_by : (policy : Policy) (client : List ℕ) (h : Held) (held : List Held) (text : List ℕ) (q : Qos) (b : Bool) → AllCovered policy client (h ∷ held)
     → AllCovered policy client (with_filter held text q) → AllCovered policy client (if b then record h { qos = q } ∷ held else h ∷ with_filter held text q)
@@ -347,27 +354,39 @@ own_fit : (s : State) (c : Cause) (policy : Policy) (x : Client) → Fits policy
 own_fit s c policy x fits =
     (fits.0, subst (λ id. AllCovered policy id (client_next s c x).filters) (sym (client_id (around s c) (fixed_for s c x) x)) fits.1)
 
+-- whether it falls asleep again behind its notes
+last_fits : (s : State) (c : Cause) (policy : Policy) (x : Client)
+    → (let a = around s c in Fits policy x.id (notes_by a (fixed_for s c x) (start_by a x))) → Fits policy x.id (client_next s c x)
+last_fits s c policy x fits =
+    subst (λ held. IsOneClients held × AllCovered policy x.id held) (sym (client_filters (around s c) (fixed_for s c x) x)) fits
+
 quiet_fit : (s : State) (c : Cause) (x : Client) → subscribe_of c ≡ None → Fit s.policy x → Fit s.policy (client_next s c x)
 quiet_fit s c x quiet fit =
     own_fit s c s.policy x (kept_next (λ held. IsOneClients held × AllCovered s.policy x.id held) (fit_less s.policy x.id) s c x quiet fit)
 
 message_fit : (s : State) (from : Address) (request : Request) (x : Client) → Fit s.policy x → Fit s.policy (client_next s (ByMessage from request) x)
-message_fit s from (ToSubscribe r) x fit = own_fit s (ByMessage from (ToSubscribe r)) s.policy x (subscribe_fits s from r x (is_here x from) fit)
+message_fit s from (ToSubscribe r) x fit =
+    let c = ByMessage from (ToSubscribe r) in
+    own_fit s c s.policy x (last_fits s c s.policy x (subscribe_fits s from r x (is_here x from) fit))
 message_fit s from (ToPing client) x fit = quiet_fit s (ByMessage from (ToPing client)) x refl fit
+message_fit s from (ToSleep duration) x fit = quiet_fit s (ByMessage from (ToSleep duration)) x refl fit
 message_fit s from ToLeave x fit = quiet_fit s (ByMessage from ToLeave) x refl fit
 message_fit s from (ToRegister r) x fit = quiet_fit s (ByMessage from (ToRegister r)) x refl fit
 message_fit s from (ToPublish p) x fit = quiet_fit s (ByMessage from (ToPublish p)) x refl fit
 message_fit s from (ToUnsubscribe r) x fit = quiet_fit s (ByMessage from (ToUnsubscribe r)) x refl fit
 message_fit s from (ToConfirm r) x fit = quiet_fit s (ByMessage from (ToConfirm r)) x refl fit
 message_fit s from (ToAcknowledge r) x fit = quiet_fit s (ByMessage from (ToAcknowledge r)) x refl fit
+message_fit s from (ToState statement) x fit = quiet_fit s (ByMessage from (ToState statement)) x refl fit
 message_fit s from (Untaken message) x fit = quiet_fit s (ByMessage from (Untaken message)) x refl fit
 
 replaced_fit : (s : State) (policy : Policy) (x : Client) → Fit s.policy x → Fit policy (client_next s (ByReplace policy) x)
 replaced_fit s policy x fit =
     let c = ByReplace policy in
+    let a = around s c in
     own_fit s c policy x (
       kept_next IsOneClients once_less s c x refl fit.0,
-      subst (AllCovered policy x.id) (sym (ends_filters (around s c) policy x.id x.filters x)) (all_looked policy x.id x.filters x.filters (settling_self policy x.id x.filters)),
+      subst (AllCovered policy x.id) (sym (client_filters a (fixed_for s c x) x ∙ ends_filters a policy x.id x.filters x))
+          (all_looked policy x.id x.filters x.filters (settling_self policy x.id x.filters)),
     )
 
 pub fit_next : (s : State) (c : Cause) (x : Client) → Fit s.policy x → Fit (policy_by c s.policy) (client_next s c x)

@@ -1,5 +1,6 @@
 -- Packet ids: one that is given is free, and a packet shows the one that it was written with.
-use Rattle.std.proofs.Common.{◌≡◌, ℕ, ◌+◌, ◌-◌, ◌*◌, ◌/◌, ◌%◌, ◌≤◌, ◌==◌, Bool, true, false, List, [], ◌∷◌, ◌++◌, map, length, drop, cond, refl, ap, sym, ◌∙◌, subst, arith, length-append}
+use Rattle.std.proofs.Common.{◌≡◌, ℕ, ◌+◌, ◌-◌, ◌*◌, ◌/◌, ◌%◌, ◌≤◌, ◌==◌, Bool, true, false, List, [], ◌∷◌, ◌++◌, map, length, drop, cond}
+use Rattle.std.proofs.Common.{refl, ap, sym, ◌∙◌, subst, arith, length-append}
 use Rattle.std.specs.Prelude.{◌||◌, not, if◌then◌else◌, Option, Some, None}
 use Rattle.std.proofs.lemmas.Bool.{eqb-true, eqb-false, ne_eqb}
 use Rattle.std.proofs.lemmas.List.{append_assoc, length-map}
@@ -26,7 +27,8 @@ number_shown n small = omega arith
 
 lengths : (front payload : List ℕ) (n : ℕ) → length (front ++ (number_bytes n ++ payload)) - (length payload + 2) ≡ length front
 lengths front payload n =
-    let all : length (front ++ (number_bytes n ++ payload)) ≡ length front + length (number_bytes n ++ payload) = length-append front (number_bytes n ++ payload) in
+    let all : length (front ++ (number_bytes n ++ payload)) ≡ length front + length (number_bytes n ++ payload) =
+    length-append front (number_bytes n ++ payload) in
     omega arith
 
 before_payload : (front payload : List ℕ) (n : ℕ) → n ≤ 65535 → id_before payload (front ++ (number_bytes n ++ payload)) ≡ n
@@ -63,7 +65,8 @@ both_false false b one two = two
 used_append : (xs ys : List ℕ) (n : ℕ) → is_used xs n ≡ false → is_used ys n ≡ false → is_used (xs ++ ys) n ≡ false
 used_append [] ys n one two = two
 used_append (x ∷ xs) ys n one two =
-    both_false (x == n) (is_used (xs ++ ys) n) (first_false (x == n) (is_used xs n) one) (used_append xs ys n (later_false (x == n) (is_used xs n) one) two)
+    both_false (x == n) (is_used (xs ++ ys) n) (first_false (x == n) (is_used xs n) one)
+    (used_append xs ys n (later_false (x == n) (is_used xs n) one) two)
 
 other_way : (a b : ℕ) → (a == b) ≡ false → (b == a) ≡ false
 other_way a b is = ne_eqb b a (λ same. eqb-false a b is (sym same))
@@ -80,17 +83,22 @@ ids_push (one ∷ ids) n are some small free = (
 
 -- ---- fewer
 
-without_used_by : (sent : InFlight) (flights rest : List InFlight) (n : ℕ) (b : Bool) → is_used (ids_of (sent ∷ flights)) n ≡ false → is_used (ids_of rest) n ≡ false
+without_used_by : (sent : InFlight) (flights rest : List InFlight) (n : ℕ) (b : Bool) → is_used (ids_of (sent ∷ flights)) n ≡ false
+    → is_used (ids_of rest) n ≡ false
     → is_used (ids_of (if b then flights else sent ∷ rest)) n ≡ false
 without_used_by sent flights rest n true none less = later_false (sent.packet_id == n) (is_used (ids_of flights) n) none
-without_used_by sent flights rest n false none less = both_false (sent.packet_id == n) (is_used (ids_of rest) n) (first_false (sent.packet_id == n) (is_used (ids_of flights) n) none) less
+without_used_by sent flights rest n false none less =
+    both_false (sent.packet_id == n) (is_used (ids_of rest) n) (first_false (sent.packet_id == n) (is_used (ids_of flights) n) none) less
 
-without_used : (flights : List InFlight) (k n : ℕ) → is_used (ids_of flights) n ≡ false → is_used (ids_of (without_first flights k)) n ≡ false
+without_used : (flights : List InFlight) (k n : ℕ) → is_used (ids_of flights) n ≡ false
+    → is_used (ids_of (without_first flights k)) n ≡ false
 without_used [] k n none = refl
 without_used (sent ∷ flights) k n none =
-    without_used_by sent flights (without_first flights k) n (has_id k sent) none (without_used flights k n (later_false (sent.packet_id == n) (is_used (ids_of flights) n) none))
+    without_used_by sent flights (without_first flights k) n (has_id k sent) none
+    (without_used flights k n (later_false (sent.packet_id == n) (is_used (ids_of flights) n) none))
 
-without_ids_by : (sent : InFlight) (flights rest : List InFlight) (b : Bool) → AreIds (ids_of (sent ∷ flights)) → is_used (ids_of rest) sent.packet_id ≡ false → AreIds (ids_of rest)
+without_ids_by : (sent : InFlight) (flights rest : List InFlight) (b : Bool) → AreIds (ids_of (sent ∷ flights))
+    → is_used (ids_of rest) sent.packet_id ≡ false → AreIds (ids_of rest)
     → AreIds (ids_of (if b then flights else sent ∷ rest))
 without_ids_by sent flights rest true are free less = are.3
 without_ids_by sent flights rest false are free less = (are.0, are.1, free, less)
@@ -98,7 +106,8 @@ without_ids_by sent flights rest false are free less = (are.0, are.1, free, less
 pub without_ids : (flights : List InFlight) (k : ℕ) → AreIds (ids_of flights) → AreIds (ids_of (without_first flights k))
 without_ids [] k are = tt
 without_ids (sent ∷ flights) k are =
-    without_ids_by sent flights (without_first flights k) (has_id k sent) are (without_used flights k sent.packet_id are.2) (without_ids flights k are.3)
+    without_ids_by sent flights (without_first flights k) (has_id k sent) are (without_used flights k sent.packet_id are.2)
+    (without_ids flights k are.3)
 
 -- where the ids are apart, the first with an id is the only one
 none_same_by : (sent : InFlight) (rest : List InFlight) (b : Bool) → b ≡ false → cond (not b) (sent ∷ rest) rest ≡ sent ∷ rest
@@ -108,10 +117,12 @@ none_same_by sent rest false is = refl
 none_same : (flights : List InFlight) (k : ℕ) → is_used (ids_of flights) k ≡ false → others k flights ≡ flights
 none_same [] k none = refl
 none_same (sent ∷ flights) k none =
-    ap (λ rest. cond (not (sent.packet_id == k)) (sent ∷ rest) rest) (none_same flights k (later_false (sent.packet_id == k) (is_used (ids_of flights) k) none))
+    ap (λ rest. cond (not (sent.packet_id == k)) (sent ∷ rest) rest)
+    (none_same flights k (later_false (sent.packet_id == k) (is_used (ids_of flights) k) none))
     ∙ none_same_by sent flights (sent.packet_id == k) (first_false (sent.packet_id == k) (is_used (ids_of flights) k) none)
 
-one_other_by : (sent : InFlight) (flights rest : List InFlight) (k : ℕ) (b : Bool) → (sent.packet_id == k) ≡ b → is_used (ids_of flights) sent.packet_id ≡ false
+one_other_by : (sent : InFlight) (flights rest : List InFlight) (k : ℕ) (b : Bool) → (sent.packet_id == k) ≡ b
+    → is_used (ids_of flights) sent.packet_id ≡ false
     → rest ≡ others k flights → (if b then flights else sent ∷ rest) ≡ cond (not b) (sent ∷ others k flights) (others k flights)
 one_other_by sent flights rest k true is free later =
     let same : sent.packet_id ≡ k = eqb-true sent.packet_id k is in
@@ -123,18 +134,23 @@ one_other [] k are = refl
 one_other (sent ∷ flights) k are =
     one_other_by sent flights (without_first flights k) k (sent.packet_id == k) refl are.2 (one_other flights k are.3)
 
-still_used : (flights : List InFlight) (outcomes : List Outcome) (n : ℕ) → is_used (ids_of flights) n ≡ false → is_used (ids_of (still_in_flight flights outcomes)) n ≡ false
+still_used : (flights : List InFlight) (outcomes : List Outcome) (n : ℕ) → is_used (ids_of flights) n ≡ false
+    → is_used (ids_of (still_in_flight flights outcomes)) n ≡ false
 still_used [] outcomes n none = refl
 still_used (sent ∷ flights) [] n none = none
 still_used (sent ∷ flights) (Allowed ∷ outcomes) n none =
-    both_false (sent.packet_id == n) (is_used (ids_of (still_in_flight flights outcomes)) n) (first_false (sent.packet_id == n) (is_used (ids_of flights) n) none)
+    both_false (sent.packet_id == n) (is_used (ids_of (still_in_flight flights outcomes)) n)
+    (first_false (sent.packet_id == n) (is_used (ids_of flights) n) none)
     (still_used flights outcomes n (later_false (sent.packet_id == n) (is_used (ids_of flights) n) none))
-still_used (sent ∷ flights) (Denied rule ∷ outcomes) n none = still_used flights outcomes n (later_false (sent.packet_id == n) (is_used (ids_of flights) n) none)
+still_used (sent ∷ flights) (Denied rule ∷ outcomes) n none =
+    still_used flights outcomes n (later_false (sent.packet_id == n) (is_used (ids_of flights) n) none)
 
-pub still_ids : (flights : List InFlight) (outcomes : List Outcome) → AreIds (ids_of flights) → AreIds (ids_of (still_in_flight flights outcomes))
+pub still_ids : (flights : List InFlight) (outcomes : List Outcome) → AreIds (ids_of flights)
+    → AreIds (ids_of (still_in_flight flights outcomes))
 still_ids [] outcomes are = tt
 still_ids (sent ∷ flights) [] are = are
-still_ids (sent ∷ flights) (Allowed ∷ outcomes) are = (are.0, are.1, still_used flights outcomes sent.packet_id are.2, still_ids flights outcomes are.3)
+still_ids (sent ∷ flights) (Allowed ∷ outcomes) are =
+    (are.0, are.1, still_used flights outcomes sent.packet_id are.2, still_ids flights outcomes are.3)
 still_ids (sent ∷ flights) (Denied rule ∷ outcomes) are = still_ids flights outcomes are.3
 
 -- ---- the next id
@@ -151,7 +167,8 @@ pub record Free (link : Link) (n : ℕ) : Type 0 where
   pub small : n ≤ 65535
   pub unused : is_used (ids_of link.in_flight) n ≡ false
 
-one_open : (w : Wanted) (wanted : List Wanted) (used : Option ℕ) → length (open_ids wanted) ≤ length wanted → length (open_id used ++ open_ids wanted) ≤ length (w ∷ wanted)
+one_open : (w : Wanted) (wanted : List Wanted) (used : Option ℕ) → length (open_ids wanted) ≤ length wanted
+    → length (open_id used ++ open_ids wanted) ≤ length (w ∷ wanted)
 one_open w wanted None rest = omega (arith, rest)
 one_open w wanted (Some packet_id) rest = omega (arith, rest)
 
@@ -162,12 +179,19 @@ open_few (w ∷ wanted) = one_open w wanted w.open_id (open_few wanted)
 first_unused : (xs ys : List ℕ) (n : ℕ) → is_used (xs ++ ys) n ≡ false → is_used xs n ≡ false
 first_unused [] ys n none = refl
 first_unused (x ∷ xs) ys n none =
-    both_false (x == n) (is_used xs n) (first_false (x == n) (is_used (xs ++ ys) n) none) (first_unused xs ys n (later_false (x == n) (is_used (xs ++ ys) n) none))
+    both_false (x == n) (is_used xs n) (first_false (x == n) (is_used (xs ++ ys) n) none)
+    (first_unused xs ys n (later_false (x == n) (is_used (xs ++ ys) n) none))
 
 pub next_is_free : (link : Link) → Fit link → length link.in_flight ≤ 128 → Free link (next_packet_id link)
 next_is_free link fit few =
     let count : length (ids_of link.in_flight) ≡ length link.in_flight = length-map link.in_flight (λ (sent : InFlight). sent.packet_id) in
     let all : length (ids_of link.in_flight ++ open_ids link.wanted) ≡ length (ids_of link.in_flight) + length (open_ids link.wanted) =
     length-append (ids_of link.in_flight) (open_ids link.wanted) in
-    let free = next_free (ids_of link.in_flight ++ open_ids link.wanted) link.last (omega (arith, open_few link.wanted, fit.few)) fit.last in
-    record { some = free.0; small = free.1; unused = first_unused (ids_of link.in_flight) (open_ids link.wanted) (next_packet_id link) free.2 }
+    let free =
+    next_free (ids_of link.in_flight ++ open_ids link.wanted) link.last (omega (arith, open_few link.wanted, fit.few)) fit.last in
+    record {
+      some = free.0;
+      small = free.1;
+      unused = first_unused (ids_of link.in_flight) (open_ids link.wanted)
+          (next_packet_id link) free.2;
+    }

@@ -17,10 +17,10 @@ use Rattle.sng_book.specs.declared.outcome.Outcome.{Outcome}
 use Rattle.sng_book.specs.declared.outcome.Outcome.TheVariants.{Allowed, Denied}
 use Rattle.sng_history.specs.Arriving.{arrival, joins, turned_away_by, turned_away}
 use Rattle.sng_history.specs.Handing.{known_as}
-use Rattle.sng_history.specs.Clients.{Client, Around, confirmed_with, note_by, notes_by}
+use Rattle.sng_history.specs.Clients.{Client, Around, confirmed_with, is_waking, awake, note_by, notes_by}
 use Rattle.sng_history.specs.Entering.{served}
 use Rattle.sng_history.specs.Outgoing.{receive, behind, offered, judged_turn, turns, is_free, handed_over, all_gone, refusals, delivered_notes}
-use Rattle.sng_history.specs.Lawful.{confirmations}
+use Rattle.sng_history.specs.Lawful.{confirmations, woken_notes}
 use Rattle.sng_history.proofs.Steady.{Steady, steady_self, steady_then, confirmed_id, announced_steady, handed_steady}
 
 -- something holds of each of the notes
@@ -55,13 +55,18 @@ every_judged : (P : Decision → Type 0) (policy : Policy) (client : List ℕ) (
 every_judged P policy client ids m Allowed more of every = every_offered P client m (is_some (known_as policy ids m.name)) (is_full_for m.name ids) more of every
 every_judged P policy client ids m (Denied rule) more of every = (of.hands m.name (Denied rule), every)
 
-every_turn : (P : Decision → Type 0) (policy : Policy) (client : List ℕ) (ids : Ids) (waiting : List Message) → OfMessages P client → Every P (turns policy client ids waiting)
+pub every_turn : (P : Decision → Type 0) (policy : Policy) (client : List ℕ) (ids : Ids) (waiting : List Message) → OfMessages P client → Every P (turns policy client ids waiting)
 every_turn P policy client ids [] of = tt
 every_turn P policy client ids (m ∷ more) of =
     every_judged P policy client ids m (receive policy client m.name) (turns policy client ids more) of (every_turn P policy client ids more of)
 
 pub every_handed : (P : Decision → Type 0) (policy : Policy) (x : Client) → OfMessages P x.id → Every P (handed_over policy x)
 every_handed P policy x of = every_if P (is_free x) (turns policy x.id x.ids x.buffer.waiting) (every_turn P policy x.id x.ids x.buffer.waiting of)
+
+pub every_woken : (P : Decision → Type 0) (policy : Policy) (client : Option (List ℕ)) (x : Client) → OfMessages P x.id
+    → Every P (woken_notes policy client x)
+every_woken P policy client x of =
+    every_if P (is_waking client x) (handed_over policy (awake x)) (every_handed P policy (awake x) of)
 
 pub every_gone : (P : Decision → Type 0) (client : List ℕ) (waiting : List Message) → OfMessages P client → Every P (all_gone client waiting)
 every_gone P client [] of = tt

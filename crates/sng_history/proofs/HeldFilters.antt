@@ -1,6 +1,6 @@
 -- Each filter that stands for a client after a step is a topic filter, and so no longer than a packet can
 -- say, where each was before.
-use Rattle.std.proofs.Common.{◌≡◌, ℕ, Bool, true, false, List, [], ◌∷◌, ◌++◌, refl, ap, subst, if◌then◌else◌}
+use Rattle.std.proofs.Common.{◌≡◌, ℕ, Bool, true, false, List, [], ◌∷◌, ◌++◌, refl, ap, subst, if◌then◌else◌, sym}
 use Rattle.std.proofs.Common.{Ok, Err, ◌≤◌, ◌==◌, length, arith}
 use Rattle.std.specs.Prelude.{not, ◌||◌, nat_lt, is_none, filter, Option, Some, None}
 use Rattle.std.specs.Str.{is_utf8}
@@ -24,7 +24,7 @@ use Rattle.sng_book.specs.declared.outcome.Denial.{Denial}
 use Rattle.sng_book.specs.declared.outcome.Denial.TheVariants.{BadFilter, BadName}
 use Rattle.sng_book.specs.declared.outcome.Outcome.{Outcome}
 use Rattle.sng_book.specs.declared.outcome.Outcome.TheVariants.{Allowed, Denied}
-use Rattle.sng_history.specs.Causes.{Request, ToPing, ToLeave, ToRegister, ToPublish, ToSubscribe}
+use Rattle.sng_history.specs.Causes.{Request, ToPing, ToLeave, ToRegister, ToPublish, ToSubscribe, ToState, ToSleep}
 use Rattle.sng_history.specs.Causes.{ToUnsubscribe, ToConfirm, ToAcknowledge, Untaken, Cause}
 use Rattle.sng_history.specs.Causes.{ByConnect, ByMessage, BySource, ByBroken, ByPacket, ByUp, ByDown, ByTake}
 use Rattle.sng_history.specs.Causes.{ByReplace, ByTick}
@@ -37,6 +37,8 @@ use Rattle.sng_history.specs.Good.{Each}
 use Rattle.sng_history.proofs.Own.{same_means, each_map, each_append, each_mapped}
 use Rattle.sng_history.proofs.Filters.{Lasting, kept_next, subscribe_verdict, ask_cases, start_filters}
 use Rattle.sng_history.proofs.Filters.{Unheld, newcomers_unheld}
+use Rattle.sng_history.proofs.Steady.{client_filters}
+use Rattle.sng_history.specs.Lawful.{fixed_for}
 
 -- ---- what a SUBSCRIBE names
 
@@ -65,7 +67,7 @@ short_is : (given text : List ℕ) (b : Bool)
 short_is given text true is = given_filter given text BadFilter (is_filter given) (λ is. is) is
 short_is given text false is = absurd cc
 
-named_filter : (policy : Policy) (type : TopicIdType) (given text : List ℕ)
+pub named_filter : (policy : Policy) (type : TopicIdType) (given text : List ℕ)
     → filter_in policy type given ≡ Ok text → is_filter text ≡ true
 named_filter policy Normal given text is = given_filter given text BadFilter (is_filter given) (λ is. is) is
 named_filter policy Short given text is = short_is given text (is_name given) is
@@ -109,19 +111,24 @@ are_standing x y r text Allowed same one are = rw same (are_more x.filters text 
 
 subscribe_are : (s : State) (from : Address) (r : TopicRequest) (x : Client) (here : Bool)
     → AreFilters x.filters
-    → (let a = around s (ByMessage from (ToSubscribe r)) in AreFilters (notes_by a (if here then subscribe_ask s x r ∷ [] else []) (start_by a x)).filters)
+    →
+    (let a = around s (ByMessage from (ToSubscribe r)) in AreFilters
+    (notes_by a (if here then subscribe_ask s x r ∷ [] else []) (start_by a x)).filters)
 subscribe_are s from r x true are =
     let a = around s (ByMessage from (ToSubscribe r)) in
     let y = start_by a x in
     ask_cases (λ said. AreFilters (note_by a said y).filters) s x r
-    (λ text is. are_standing x y r text (subscribe_verdict s x r text) (start_filters a x) (named_filter s.policy r.flags.id_type r.topic text is) are)
+    (λ text is. are_standing x y r text (subscribe_verdict s x r text) (start_filters a x)
+    (named_filter s.policy r.flags.id_type r.topic text is) are)
     (λ rule. rw (start_filters a x) are)
 subscribe_are s from r x false are =
     let a = around s (ByMessage from (ToSubscribe r)) in rw (start_filters a x) are
 
 are_request : (s : State) (from : Address) (request : Request) (x : Client) → AreFilters x.filters
     → AreFilters (client_next s (ByMessage from request) x).filters
-are_request s from (ToSubscribe r) x are = subscribe_are s from r x (is_here x from) are
+are_request s from (ToSubscribe r) x are =
+    let c = ByMessage from (ToSubscribe r) in
+    subst AreFilters (sym (client_filters (around s c) (fixed_for s c x) x)) (subscribe_are s from r x (is_here x from) are)
 are_request s from (ToPing client) x are =
     kept_next AreFilters are_lasting s (ByMessage from (ToPing client)) x refl are
 are_request s from ToLeave x are = kept_next AreFilters are_lasting s (ByMessage from ToLeave) x refl are
@@ -135,6 +142,10 @@ are_request s from (ToConfirm r) x are =
     kept_next AreFilters are_lasting s (ByMessage from (ToConfirm r)) x refl are
 are_request s from (ToAcknowledge r) x are =
     kept_next AreFilters are_lasting s (ByMessage from (ToAcknowledge r)) x refl are
+are_request s from (ToSleep duration) x are =
+    kept_next AreFilters are_lasting s (ByMessage from (ToSleep duration)) x refl are
+are_request s from (ToState statement) x are =
+    kept_next AreFilters are_lasting s (ByMessage from (ToState statement)) x refl are
 are_request s from (Untaken message) x are =
     kept_next AreFilters are_lasting s (ByMessage from (Untaken message)) x refl are
 
@@ -160,7 +171,8 @@ filters_next s c are =
     let xs = s.clients ++ newcomers_for s c in
     each_mapped OwnFilters (client_next s c) xs
     (each_map OwnFilters (λ x. OwnFilters (client_next s c x)) xs (λ x was. are_client s c x was)
-    (each_append OwnFilters s.clients (newcomers_for s c) are (each_map Unheld OwnFilters (newcomers_for s c) (λ x none. rw none tt) (newcomers_unheld s c))))
+    (each_append OwnFilters s.clients (newcomers_for s c) are
+    (each_map Unheld OwnFilters (newcomers_for s c) (λ x none. rw none tt) (newcomers_unheld s c))))
 
 -- so a filter that stands for a client is one
 pub stands_filter : (held : List Held) (text : List ℕ) → AreFilters held → stands held text ≡ true

@@ -5,6 +5,7 @@ use Rattle.std.specs.List.{flat_map}
 use Rattle.std.specs.Str.{bytes_eq}
 use Rattle.std.proofs.lemmas.List.{append-nil}
 use Rattle.sng_text.specs.declared.qos.Qos.{Qos}
+use Rattle.sng_states.specs.States.{is_due_messages}
 use Rattle.sng_fan.specs.declared.held.Held.{Held}
 use Rattle.sng_fan.specs.Subscriptions.{has_text, stands, with_filter, without_filter}
 use Rattle.sng_frames.specs.declared.messages.publish.Publish.{Publish}
@@ -22,24 +23,26 @@ use Rattle.sng_book.specs.declared.outcome.Denial.{Denial}
 use Rattle.sng_book.specs.declared.outcome.Denial.TheVariants.{NotSupported}
 use Rattle.sng_book.specs.declared.outcome.Outcome.{Outcome}
 use Rattle.sng_book.specs.declared.outcome.Outcome.TheVariants.{Allowed, Denied}
-use Rattle.sng_history.specs.Causes.{Request, ToPing, ToLeave, ToRegister, ToPublish, ToSubscribe, ToUnsubscribe, ToConfirm, ToAcknowledge, Untaken, Cause, publish_asked}
+use Rattle.sng_history.specs.Causes.{Request, ToPing, ToLeave, ToSleep, ToRegister, ToPublish, ToSubscribe, ToUnsubscribe, ToConfirm, ToAcknowledge}
+use Rattle.sng_history.specs.Causes.{ToState, Untaken, Cause, publish_asked}
 use Rattle.sng_history.specs.Causes.{ByConnect, ByMessage, BySource, ByBroken, ByPacket, ByUp, ByDown, ByTake, ByReplace, ByTick}
 use Rattle.sng_history.specs.Requests.{granted}
 use Rattle.sng_history.specs.Clients.{Client, is_here, closed, is_confirming, is_acknowledging, start_by, subscribed, subscribe_of, note_by, notes_by}
 use Rattle.sng_history.specs.Links.{Wanted, wants}
 use Rattle.sng_history.specs.Packets.{answer_of, answered}
 use Rattle.sng_history.specs.Standing.{holds, is_held, still_wanted}
-use Rattle.sng_history.specs.State.{State, around, item_for, item_asked, subscribe_item, asked_by, qos_of, link_moved}
+use Rattle.sng_history.specs.State.{State, later, around, item_for, item_asked, subscribe_item, asked_by, qos_of, link_moved}
 use Rattle.sng_history.specs.Verdicts.{ping_verdict, subscribe_ask}
 use Rattle.sng_history.specs.Answers.{denied_note}
 use Rattle.sng_history.specs.Outgoing.{out_of_turn, handed_over}
-use Rattle.sng_history.specs.Lawful.{denial_of, confirmations, fixed_to, fixed_for, exits_for}
+use Rattle.sng_history.specs.Lawful.{denial_of, confirmations, woken_notes, fixed_to, fixed_for, exits_for}
 use Rattle.sng_history.specs.Steps.{newcomers_for, client_next, clients_next, asked_by_all, asked_for, next_by}
 use Rattle.sng_history.specs.Good.{Each, Good}
 use Rattle.sng_history.proofs.Own.{same_means, flip}
 use Rattle.sng_history.proofs.Asks.{of_register, of_publish, of_unsubscribe}
-use Rattle.sng_history.proofs.Hands.{Every, OfMessages, every_handed, every_gone, every_confirmation}
-use Rattle.sng_history.proofs.Steady.{start_filters}
+use Rattle.sng_history.proofs.Hands.{Every, OfMessages, every_handed, every_append, every_gone, every_woken, every_confirmation}
+use Rattle.sng_history.proofs.Statements.{every_statement, tick_placid, placid_filters}
+use Rattle.sng_history.proofs.Steady.{start_filters, client_filters}
 use Rattle.sng_history.proofs.Filters.{Lasting, kept_next, subscribe_verdict, ask_cases, Unheld, newcomers_unheld}
 use Rattle.sng_history.proofs.Wanted.{or_no, or_back, swap, joins, implied, same_wants, wants_kept, moved_wanted, subscribes, subscribes_both, joined_wants}
 
@@ -105,12 +108,14 @@ still_held s c wanted text quiet held =
 abbrev is_other : Request → Bool
 is_other (ToSubscribe r) = false
 is_other (ToPing client) = true
+is_other (ToSleep duration) = true
 is_other ToLeave = true
 is_other (ToRegister r) = true
 is_other (ToPublish p) = true
 is_other (ToUnsubscribe r) = true
 is_other (ToConfirm r) = true
 is_other (ToAcknowledge r) = true
+is_other (ToState statement) = true
 is_other (Untaken message) = true
 
 abbrev Unsubscribing : Option Publish → Decision → Type 0
@@ -170,7 +175,11 @@ turn_none true id notes all = all
 turn_none false id notes all = (λ text. refl, tt)
 
 request_none : (s : State) (request : Request) (x : Client) → is_other request ≡ true → AllUnsubscribing (publish_asked request) (fixed_to s request x)
-request_none s (ToPing client) x is = denial_none x.id (ping_verdict client x)
+request_none s (ToPing client) x is =
+    let verdict = ping_verdict client x in
+    every_append (Unsubscribing None) (denial_of x.id verdict) (woken_notes s.policy client x)
+    (denial_none x.id verdict) (every_woken (Unsubscribing None) s.policy client x (messages_none x.id))
+request_none s (ToSleep duration) x is = turn_none (is_due_messages x.phase) x.id [] tt
 request_none s ToLeave x is = (λ text. refl, every_gone (Unsubscribing None) x.id x.buffer.waiting (messages_none x.id))
 request_none s (ToRegister r) x is = (of_register (Unsubscribing None) s.policy x r.name (λ name o text. refl), tt)
 request_none s (ToPublish p) x is = (of_publish (Unsubscribing (Some p)) s x p (λ name o text. publish_item_none x.id name o p text), tt)
@@ -179,6 +188,9 @@ request_none s (ToUnsubscribe r) x is = (of_unsubscribe (Unsubscribing None) s.p
 request_none s (ToConfirm r) x is = turn_none (is_confirming r x) x.id (confirmations s.policy r x) (every_confirmation (Unsubscribing None) s.policy r x (messages_none x.id))
 request_none s (ToAcknowledge r) x is =
     turn_none (is_acknowledging r x) x.id (handed_over s.policy (closed x)) (every_handed (Unsubscribing None) s.policy (closed x) (messages_none x.id))
+request_none s (ToState statement) x is =
+    every_statement (Unsubscribing None) s.policy statement x
+    (record { states = λ name o text. refl; leaves = λ text. refl; messages = messages_none x.id })
 request_none s (Untaken message) x is = (denied_none message x.id, tt)
 
 all_none : (f : Client → List Item) (xs : List Client) (text : List ℕ) → ((x : Client) → subscribes (f x) text ≡ false) → subscribes (flat_map f xs) text ≡ false
@@ -257,7 +269,9 @@ pub subscribed_held : (s : State) (from : Address) (r : TopicRequest) (text : Li
 subscribed_held s from r text =
     let c = ByMessage from (ToSubscribe r) in
     ap (λ xs. is_held (map (client_next s c) xs) text) (append-nil s.clients)
-    ∙ all_stand (client_next s c) (λ x. asked_by_all None (fixed_for s c x)) s.clients text (λ x. subscribe_stands s from r x text (is_here x from))
+    ∙ all_stand (client_next s c) (λ x. asked_by_all None (fixed_for s c x)) s.clients text
+    (λ x. ap (λ held. stands held text) (client_filters (around s c) (fixed_for s c x) x)
+    ∙ subscribe_stands s from r x text (is_here x from))
 
 -- ---- each cause
 
@@ -284,22 +298,32 @@ message_wanted : (s : State) (from : Address) (request : Request) (text : List �
     → wants (next_by s (ByMessage from request)).link.wanted text ≡ is_held (clients_next s (ByMessage from request)) text
 message_wanted s from (ToSubscribe r) text held = subscribe_wanted s from r text held
 message_wanted s from (ToPing client) text held = other_wanted s from (ToPing client) text refl refl held
+message_wanted s from (ToSleep duration) text held = other_wanted s from (ToSleep duration) text refl refl held
 message_wanted s from ToLeave text held = other_wanted s from ToLeave text refl refl held
 message_wanted s from (ToRegister r) text held = other_wanted s from (ToRegister r) text refl refl held
 message_wanted s from (ToPublish p) text held = other_wanted s from (ToPublish p) text refl refl held
 message_wanted s from (ToUnsubscribe r) text held = other_wanted s from (ToUnsubscribe r) text refl refl held
 message_wanted s from (ToConfirm r) text held = other_wanted s from (ToConfirm r) text refl refl held
 message_wanted s from (ToAcknowledge r) text held = other_wanted s from (ToAcknowledge r) text refl refl held
+message_wanted s from (ToState statement) text held = other_wanted s from (ToState statement) text refl refl held
 message_wanted s from (Untaken message) text held = other_wanted s from (Untaken message) text refl refl held
 
 -- a client of whom nothing is noted is heard at most
 pub unmoved : (s : State) (c : Cause) (x : Client) → fixed_for s c x ≡ [] → (client_next s c x).filters ≡ x.filters
-unmoved s c x none = ap (λ notes. (notes_by (around s c) notes (start_by (around s c) x)).filters) none ∙ start_filters (around s c) x
+unmoved s c x none =
+    client_filters (around s c) (fixed_for s c x) x
+    ∙ ap (λ notes. (notes_by (around s c) notes (start_by (around s c) x)).filters) none ∙ start_filters (around s c) x
 
 broken_unmoved : (s : State) (from : Address) (rule : Denial) (x : Client) (here : Bool)
     → (let a = around s (ByBroken from rule) in (notes_by a (if here then note.Frame (who.Client x.id) (Denied rule) ∷ [] else []) (start_by a x)).filters ≡ x.filters)
 broken_unmoved s from rule x true = start_filters (around s (ByBroken from rule)) x
 broken_unmoved s from rule x false = start_filters (around s (ByBroken from rule)) x
+
+pub ticked_unmoved : (s : State) (clock : ℕ) (x : Client) → (client_next s (ByTick clock) x).filters ≡ x.filters
+ticked_unmoved s clock x =
+    let a = around s (ByTick clock) in
+    let notes = fixed_for s (ByTick clock) x in
+    client_filters a notes x ∙ placid_filters a notes x (tick_placid a s.policy s.link (later s.clock clock) s.clients x)
 
 -- a row that moves no filter
 unmoved_wanted : (s : State) (c : Cause) (wanted : List Wanted) (text : List ℕ) → ((x : Client) → (client_next s c x).filters ≡ x.filters) → wants wanted text ≡ is_held s.clients text
@@ -313,11 +337,16 @@ wanted_by_cause s (ByConnect from connect) text held = still_held s (ByConnect f
 wanted_by_cause s (ByReplace policy) text held = still_held s (ByReplace policy) s.link.wanted text refl held
 wanted_by_cause s (ByPacket p) text held = still_held s (ByPacket p) (answered s.link (answer_of p)).wanted text refl held
 wanted_by_cause s (BySource from p) text held = unmoved_wanted s (BySource from p) s.link.wanted text (λ x. unmoved s (BySource from p) x refl) held
-wanted_by_cause s (ByBroken from rule) text held = unmoved_wanted s (ByBroken from rule) s.link.wanted text (λ x. broken_unmoved s from rule x (is_here x from)) held
+wanted_by_cause s (ByBroken from rule) text held =
+    let c = ByBroken from rule in
+    unmoved_wanted s c s.link.wanted text
+    (λ x. client_filters (around s c) (fixed_for s c x) x ∙ broken_unmoved s from rule x (is_here x from)) held
 wanted_by_cause s ByUp text held = unmoved_wanted s ByUp (link_moved s ByUp (exits_for s ByUp)).wanted text (λ x. unmoved s ByUp x refl) held
 wanted_by_cause s ByDown text held = unmoved_wanted s ByDown s.link.wanted text (λ x. unmoved s ByDown x refl) held
 wanted_by_cause s ByTake text held = unmoved_wanted s ByTake (link_moved s ByTake (exits_for s ByTake)).wanted text (λ x. unmoved s ByTake x refl) held
-wanted_by_cause s (ByTick clock) text held = unmoved_wanted s (ByTick clock) s.link.wanted text (λ x. unmoved s (ByTick clock) x refl) held
+wanted_by_cause s (ByTick clock) text held =
+    let moved = link_moved s (ByTick clock) (exits_for s (ByTick clock)) in
+    unmoved_wanted s (ByTick clock) moved.wanted text (λ x. ticked_unmoved s clock x) held
 
 pub wanted_held_next : (s : State) (c : Cause) → Good s → (filter : List ℕ) → wants (next_by s c).link.wanted filter ≡ is_held (clients_next s c) filter
 wanted_held_next s c good filter =

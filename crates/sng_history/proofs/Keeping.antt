@@ -17,8 +17,9 @@ use Rattle.sng_book.specs.declared.out.Out.TheVariants.{Note}
 use Rattle.sng_history.specs.Causes.{Cause, cause_of, ByConnect, ByMessage, BySource, ByBroken, ByPacket, ByUp, ByDown, ByTake, ByReplace, ByTick}
 use Rattle.sng_history.specs.Clients.{Client, let_in, client_by}
 use Rattle.sng_history.specs.Notes.{notes_of}
-use Rattle.sng_history.specs.State.{State, around, after, state_of, present_in, newcomers, clients_by, asked_by, asked_in}
+use Rattle.sng_history.specs.State.{State, around, later, after, state_of, present_in, newcomers, clients_by, asked_by, asked_in}
 use Rattle.sng_history.specs.Packets.{answer_of, answer_outs}
+use Rattle.sng_history.specs.Ticking.{with_wills, ping_dropped}
 use Rattle.sng_history.specs.Standing.{Release, released, dropped_of}
 use Rattle.sng_history.specs.Verdicts.{entry, source_ask}
 use Rattle.sng_history.specs.Whole.{Notes, notes_in, spell, part, any_from, stranger_to, moved_by, drops, client_rows, frame_row, beside, entering_part, entry_outs, whole_by}
@@ -82,7 +83,9 @@ whole_same s (ByPacket p) m n exits same = ap (λ outs. outs ++ answer_outs s.up
 whole_same s ByUp m n exits same = ap (beginning s.link s.clock) exits
 whole_same s ByDown m n exits same = refl
 whole_same s (ByReplace policy) m n exits same = both_same s (ByReplace policy) m n same
-whole_same s (ByTick clock) m n exits same = refl
+whole_same s (ByTick clock) m n exits same =
+    let now = later s.clock clock in
+    ap (λ outs. outs ++ ping_dropped s.up (with_wills s.link now s.clients) now) (rows_same s (ByTick clock) [] m n same)
 
 pub each_left : (P : Client → Type 0) (xs ys : List Client) → Each P (xs ++ ys) → Each P xs
 each_left P [] ys all = tt

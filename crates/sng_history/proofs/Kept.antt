@@ -3,7 +3,6 @@ use Rattle.std.proofs.Common.{◌≡◌, ℕ, Bool, true, false, List, [], ◌�
 use Rattle.std.specs.Prelude.{if◌then◌else◌, ◌&&◌, ◌||◌, not, Option, Some, None}
 use Rattle.std.specs.Str.{bytes_eq}
 use Rattle.std.proofs.lemmas.List.{append-nil}
-use Rattle.sng_states.specs.declared.state.ClientState.TheVariants.{Active}
 use Rattle.sng_frames.specs.declared.messages.connect.Connect.{Connect}
 use Rattle.sng_frames.specs.declared.messages.subscribe.TopicRequest.{TopicRequest}
 use Rattle.sng_book.specs.declared.outcome.Outcome.{Outcome}
@@ -12,22 +11,27 @@ use Rattle.sng_book.specs.Denials.{is_allowed}
 use Rattle.sng_book.specs.declared.address.Address.{Address}
 use Rattle.sng_book.specs.declared.decision.Decision.{Decision}
 use Rattle.sng_book.specs.declared.decision.Decision.TheVariants as note
-use Rattle.sng_history.specs.Causes.{Cause, ByConnect, ByMessage, BySource, ByBroken, ByPacket, ByUp, ByDown, ByTake, ByReplace, ByTick}
-use Rattle.sng_history.specs.Clients.{Around, Client, blank, start_by, cleaned, let_in, entered_by, subscribed, subscribe_of, unsubscribed, note_by, notes_by, client_by}
+use Rattle.sng_history.specs.Causes.{Statement, Cause, ByConnect, ByMessage, BySource, ByBroken, ByPacket, ByUp, ByDown, ByTake, ByReplace, ByTick}
+use Rattle.sng_history.specs.Clients.{Around, Client, blank, start_by, cleaned, opened, let_in, entered_by, stated_by, statement_of, subscribed, subscribe_of, unsubscribed, note_by, notes_by, client_by}
 use Rattle.sng_history.specs.State.{State, is_known}
 use Rattle.sng_history.specs.Verdicts.{entry}
 use Rattle.sng_history.specs.Steps.{newcomers_for}
 use Rattle.sng_history.specs.Good.{Away, Distinct}
 use Rattle.sng_history.proofs.Own.{flip}
-use Rattle.sng_history.proofs.Steady.{start_steady, handed_steady}
+use Rattle.sng_history.proofs.Steady.{start_lasts, drained_lasts, handed_steady, repeated_steady}
 
 cleaned_id : (clean : Bool) (x : Client) → (cleaned clean x).id ≡ x.id
 cleaned_id true x = refl
 cleaned_id false x = refl
 
+opened_id : (will : Bool) (x : Client) → (opened will x).id ≡ x.id
+opened_id true x = refl
+opened_id false x = refl
+
 pub let_in_id : (clock : ℕ) (from : Address) (connect : Connect) (x : Client) → (let_in clock from connect x).id ≡ x.id
 let_in_id clock from connect x =
-    cleaned_id connect.flags.clean (record x { address = from; phase = Active; ids = []; duration = connect.duration; heard = clock })
+    let y : Client = record x { address = from; ids = []; duration = connect.duration; heard = clock } in
+    opened_id connect.flags.will (cleaned connect.flags.clean y) ∙ cleaned_id connect.flags.clean y
 
 entered_id : (clock : ℕ) (c : Cause) (x : Client) → (entered_by clock c x).id ≡ x.id
 entered_id clock (ByConnect from connect) x = let_in_id clock from connect x
@@ -56,14 +60,21 @@ unsubscribed_id None outcome x = refl
 unsubscribed_id (Some filter) Allowed x = refl
 unsubscribed_id (Some filter) (Denied rule) x = refl
 
-note_id : (a : Around) (said : Decision) (x : Client) → (note_by a said x).id ≡ x.id
+stated_id : (statement : Option Statement) (outcome : Outcome) (x : Client) → (stated_by statement outcome x).id ≡ x.id
+stated_id None outcome x = refl
+stated_id (Some statement) Allowed x = refl
+stated_id (Some statement) (Denied rule) x = refl
+
+pub note_id : (a : Around) (said : Decision) (x : Client) → (note_by a said x).id ≡ x.id
 note_id a (note.Connect id outcome) x = if_id (is_allowed outcome) (entered_by a.clock a.cause x) x (entered_id a.clock a.cause x)
 note_id a (note.Left id) x = refl
 note_id a (note.Register whom name outcome) x = refl
 note_id a (note.Subscribe whom filter outcome) x = subscribed_id (subscribe_of a.cause) filter outcome x
 note_id a (note.Unsubscribe whom filter outcome) x = unsubscribed_id filter outcome x
+note_id a (note.Will whom name outcome) x = stated_id (statement_of a.cause) outcome x
 note_id a (note.End id filter outcome) x = refl
 note_id a (note.Hand id name outcome) x = (handed_steady a name outcome x).id
+note_id a (note.Retry id name outcome) x = (repeated_steady a.clock outcome x).id
 note_id a _ x = refl
 
 notes_id : (a : Around) (notes : List Decision) (x : Client) → (notes_by a notes x).id ≡ x.id
@@ -71,7 +82,8 @@ notes_id a [] x = refl
 notes_id a (said ∷ notes) x = notes_id a notes (note_by a said x) ∙ note_id a said x
 
 pub client_id : (a : Around) (notes : List Decision) (x : Client) → (client_by a notes x).id ≡ x.id
-client_id a notes x = notes_id a notes (start_by a x) ∙ (start_steady a x).id
+client_id a notes x =
+    (drained_lasts (notes_by a notes (start_by a x))).id ∙ (notes_id a notes (start_by a x) ∙ (start_lasts a x).id)
 
 -- ---- ids
 

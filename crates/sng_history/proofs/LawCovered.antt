@@ -25,7 +25,7 @@ use Rattle.sng_history.specs.Verdicts.{and_then}
 use Rattle.sng_history.specs.LawsRules.{Rule, judged}
 use Rattle.sng_history.specs.LawsAnswers.{is_active, or_empty}
 use Rattle.sng_history.specs.LawsSubscriptions.{filter_meant, form_rules, gap_rule, room_rules, subscribe_rules, CoveredExactly, SubscribesExactly}
-use Rattle.sng_history.proofs.LawSubscriptions.{judged_both, meant_form, meant_filter}
+use Rattle.sng_history.proofs.LawForms.{judged_both, meant_form, meant_filter}
 
 -- what the grant of a client's scope is
 scope_grant : (policy : Policy) (id text : List ℕ) (scope : Option (List Pair)) → scope_of policy.clients id ≡ scope → lists policy id ≡ true

@@ -1,4 +1,4 @@
--- With the clock, and with an event of the connection to the broker, nothing is let out but what leaves for the broker.
+-- With an event of the connection to the broker nothing is let out but what leaves for the broker.
 use Rattle.std.proofs.Common.{◌≡◌, ℕ, Bool, true, false, List, [], ◌∷◌, ◌++◌, refl, ap, sym, ◌∙◌, subst}
 use Rattle.std.specs.Prelude.{Option}
 use Rattle.sng_grants.specs.declared.policy.Policy.{Policy}
@@ -76,7 +76,7 @@ take_exits : (s : State) (b : Bool) → s.up ≡ b → OnlyExits (outs_of s Take
 take_exits s true is = rw is (all_exit s.policy s.link s.link.waiting)
 take_exits s false is = rw is tt
 
-row_exits : (s : State) (e : Event) → is_upstream e ≡ true → OnlyExits (outs_of s e)
+pub row_exits : (s : State) (e : Event) → is_upstream e ≡ true → OnlyExits (outs_of s e)
 row_exits s Up is = again_exit s.policy s.link.in_flight (anew s) (wires_only (anew s) (anew_wires s))
 row_exits s Down is = tt
 row_exits s Take is = take_exits s s.up refl
@@ -94,6 +94,3 @@ exits_law h row l is =
 
 pub down_law : (h : List Row) (row : Row) → Lawful opening (row ∷ h) → row.event ≡ Down → row.outs ≡ []
 down_law h row l is = row_is h row Down l is
-
-pub tick_law : (h : List Row) (row : Row) (clock : ℕ) → Lawful opening (row ∷ h) → row.event ≡ Tick clock → row.outs ≡ []
-tick_law h row clock l is = row_is h row (Tick clock) l is

@@ -5,7 +5,7 @@ use Rattle.sng_book.specs.declared.event.Event.{Event}
 use Rattle.sng_book.specs.declared.event.Event.TheVariants.{Datagram, Broker, Up, Down, Take, Replace, Tick}
 use Rattle.sng_book.specs.declared.out.Out.{Out}
 use Rattle.sng_book.specs.declared.row.Row.{Row}
-use Rattle.sng_history.specs.Causes.{ByPacket, ByUp, ByReplace, cause_of, datagram_cause}
+use Rattle.sng_history.specs.Causes.{ByPacket, ByUp, ByReplace, ByTick, cause_of, datagram_cause}
 use Rattle.sng_history.specs.Links.{Link, wants, still_in_flight, resumed, filters_wanted}
 use Rattle.sng_history.specs.ViewsStanding.{held_in, wanted}
 use Rattle.sng_history.proofs.LawRows.{anew, anew_wires}
@@ -27,7 +27,7 @@ use Rattle.sng_history.proofs.FlightIds.{ids_of}
 use Rattle.sng_history.proofs.SeenRest.{flights_shown, again_stays}
 use Rattle.sng_history.proofs.SeenLast.{rest_shown}
 use Rattle.sng_history.proofs.LawAgain.{all_return, again_wires, none_again, given_by, take_wires, all_subscribe, wires_none, no_agains}
-use Rattle.sng_history.proofs.LawWires.{datagram_still, broker_wires, replace_wires}
+use Rattle.sng_history.proofs.LawWires.{datagram_still, broker_wires, replace_wires, tick_wires}
 
 -- ---- judged again
 
@@ -40,15 +40,17 @@ take_returns s false is = rw is refl
 
 row_returns : (h : List Row) (s : State) (e : Event) → Stands h s → s.link.in_flight ≡ in_flight h → RowReturns h e (outs_of s e)
 row_returns h s (Datagram from datagram) st flights =
-    no_agains (outs_of s (Datagram from datagram)) ((says s (datagram_cause from (frame_of datagram)) st.good.apart).exits ∙ (datagram_still s from (frame_of datagram)).exits)
+    no_agains (outs_of s (Datagram from datagram))
+    ((says s (datagram_cause from (frame_of datagram)) st.good.apart).exits ∙ (datagram_still s from (frame_of datagram)).exits)
 row_returns h s (Broker sent) st flights = no_agains (outs_of s (Broker sent)) (says s (ByPacket sent) st.good.apart).exits
 row_returns h s Up st flights =
     subst (λ policy. AllReturn policy (in_flight h) (agains (outs_of s Up))) st.shown.policy
-    (subst (λ fs. AllReturn s.policy fs (agains (outs_of s Up))) flights (all_return s.policy s.link.in_flight (anew s) (wires_none (anew s) (anew_wires s))))
+    (subst (λ fs. AllReturn s.policy fs (agains (outs_of s Up))) flights
+    (all_return s.policy s.link.in_flight (anew s) (wires_none (anew s) (anew_wires s))))
 row_returns h s Down st flights = refl
 row_returns h s Take st flights = take_returns s s.up refl
 row_returns h s (Replace policy) st flights = no_agains (outs_of s (Replace policy)) (says s (ByReplace policy) st.good.apart).exits
-row_returns h s (Tick clock) st flights = refl
+row_returns h s (Tick clock) st flights = no_agains (outs_of s (Tick clock)) (says s (ByTick clock) st.good.apart).exits
 
 pub each_returns : (h : List Row) → Lawful opening h → EachReturns h
 each_returns [] l = tt
@@ -77,10 +79,21 @@ begun_same h s are =
     let stays : still_in_flight s.link.in_flight (agains_of s.policy s.link.in_flight) ≡ allowed_again (in_flight h) (agains (outs_of s Up)) =
     again_stays s.policy s.link.in_flight (anew s) ∙ ap (λ flights. allowed_again flights (agains (outs_of s Up))) are.in_flight in
     ap (λ flights. record { in_flight = ids_of flights; wanted = s.link.wanted; last = s.link.last }) stays
-    ∙ (ap (λ wanted. record { in_flight = ids_of (allowed_again (in_flight h) (agains (outs_of s Up))); wanted = wanted; last = s.link.last }) are.wanted
-    ∙ ap (λ last. record { in_flight = ids_of (allowed_again (in_flight h) (agains (outs_of s Up))); wanted = wanted h; last = last }) are.last)
+    ∙ (ap (λ wanted. record {
+      in_flight = ids_of
+          (allowed_again (in_flight h) (agains (outs_of s Up)));
+      wanted = wanted;
+      last = s.link.last;
+    }) are.wanted
+    ∙ ap (λ last. record {
+      in_flight = ids_of
+          (allowed_again (in_flight h) (agains (outs_of s Up)));
+      wanted = wanted h;
+      last = last;
+    }) are.last)
 
-take_packets : (s : State) (held : List ℕ → Bool) (b : Bool) → s.up ≡ b → s.link.last ≤ 65535 → ((text : List ℕ) → wants s.link.wanted text ≡ held text)
+take_packets : (s : State) (held : List ℕ → Bool) (b : Bool) → s.up ≡ b → s.link.last ≤ 65535
+    → ((text : List ℕ) → wants s.link.wanted text ≡ held text)
     → MatchBool b (PacketsFor held (given_by s.link) s.link.waiting (departures (outs_of s Take)) (wires_in (outs_of s Take))) (wires_in (outs_of s Take) ≡ [])
 take_packets s held true is small same = rw is (take_wires held s.policy s.link s.link.waiting small same)
 take_packets s held false is small same = rw is refl
@@ -94,14 +107,16 @@ up_packets h s are =
     ∙ (ap (λ from. subscribes_with from (filters_wanted s.link)) (begun_same h s are)
     ∙ ap (λ all. subscribes_with given (map (λ w. w.filter) all)) are.wanted))
 
-row_packets : (h : List Row) (s : State) (e : Event) → Stands h s → RestShown h s.link → s.link.last ≤ 65535 → ((text : List ℕ) → wants s.link.wanted text ≡ held_in h text) → PacketsAt e h (outs_of s e)
+row_packets : (h : List Row) (s : State) (e : Event) → Stands h s → RestShown h s.link → s.link.last ≤ 65535
+    → ((text : List ℕ) → wants s.link.wanted text ≡ held_in h text) → PacketsAt e h (outs_of s e)
 row_packets h s (Datagram from datagram) st are small same = (datagram_still s from (frame_of datagram)).wires
 row_packets h s (Broker sent) st are small same = broker_wires s sent
 row_packets h s Up st are small same = up_packets h s are
 row_packets h s Down st are small same = refl
-row_packets h s Take st are small same = rw (sym (given_same h s.link are), sym st.shown.up, sym st.shown.waits) (take_packets s (held_in h) s.up refl small same)
+row_packets h s Take st are small same =
+    rw (sym (given_same h s.link are), sym st.shown.up, sym st.shown.waits) (take_packets s (held_in h) s.up refl small same)
 row_packets h s (Replace policy) st are small same = replace_wires s policy
-row_packets h s (Tick clock) st are small same = refl
+row_packets h s (Tick clock) st are small same = tick_wires s clock
 
 pub each_packet : (h : List Row) → Lawful opening h → EachPacket h
 each_packet [] l = tt

@@ -16,7 +16,7 @@ use Rattle.sng_history.specs.LawsHanding.{NothingIdles, NoneKept}
 use Rattle.sng_history.proofs.Takes.{away_same}
 use Rattle.sng_history.proofs.Own.{same_means}
 use Rattle.sng_history.proofs.SeenState.{ids_of, stands}
-use Rattle.sng_history.proofs.LawStrangers.{none_waits}
+use Rattle.sng_history.proofs.NeverAccepted.{none_waits}
 use Rattle.sng_history.proofs.LawArrivals.{free_shown}
 
 -- what is kept of a client that is at rest
@@ -35,20 +35,23 @@ kept_shown h x shown rest away =
 
 -- ---- the laws
 
-one_of : (P : List ℕ → Type 0) (id : List ℕ) (x : Client) (xs : List Client) (own : Bool) → bytes_eq id x.id ≡ own → P x.id → (is_among id (ids_of xs) ≡ true → P id)
+one_of : (P : List ℕ → Type 0) (id : List ℕ) (x : Client) (xs : List Client) (own : Bool) → bytes_eq id x.id ≡ own → P x.id
+    → (is_among id (ids_of xs) ≡ true → P id)
     → (own || is_among id (ids_of xs)) ≡ true → P id
 one_of P id x xs true same here more among = subst P (sym (same_means id x.id same)) here
 one_of P id x xs false same here more among = more among
 
 -- what holds of each client that is at rest, as it is shown
-of_rest : (P : List ℕ → Type 0) (h : List Row) (id : List ℕ) (xs : List Client) → ((x : Client) → ClientShown h x → AtRest x → P x.id) → Each (ClientShown h) xs → Each AtRest xs
+of_rest : (P : List ℕ → Type 0) (h : List Row) (id : List ℕ) (xs : List Client) → ((x : Client) → ClientShown h x → AtRest x → P x.id)
+    → Each (ClientShown h) xs → Each AtRest xs
     → is_among id (ids_of xs) ≡ true → P id
 of_rest P h id [] holds shown rest among = absurd (let e = among in cc)
 of_rest P h id (x ∷ xs) holds shown rest among =
     one_of P id x xs (bytes_eq id x.id) refl (holds x shown.0 rest.0) (λ later. of_rest P h id xs holds shown.1 rest.1 later) among
 
 -- and of who was never accepted, for whom nothing waits
-by_rest : (P : List ℕ → Type 0) (h : List Row) (id : List ℕ) (known : Bool) → Lawful opening h → ((x : Client) → ClientShown h x → AtRest x → P x.id) → (waits_for id h ≡ [] → P id)
+by_rest : (P : List ℕ → Type 0) (h : List Row) (id : List ℕ) (known : Bool) → Lawful opening h
+    → ((x : Client) → ClientShown h x → AtRest x → P x.id) → (waits_for id h ≡ [] → P id)
     → is_among id (accepted h) ≡ known → P id
 by_rest P h id true l holds none is =
     let st = stands h l in
@@ -56,7 +59,9 @@ by_rest P h id true l holds none is =
 by_rest P h id false l holds none is = none (none_waits h l id is)
 
 pub idle_law : (h : List Row) → Lawful opening h → (id : List ℕ) → NothingIdles h id
-idle_law h l id = by_rest (NothingIdles h) h id (is_among id (accepted h)) l (λ x shown rest. rest_shown h x shown rest) (λ none ready. none) refl
+idle_law h l id =
+    by_rest (NothingIdles h) h id (is_among id (accepted h)) l (λ x shown rest. rest_shown h x shown rest) (λ none ready. none) refl
 
 pub away_law : (h : List Row) → Lawful opening h → (id : List ℕ) → NoneKept h id
-away_law h l id = by_rest (NoneKept h) h id (is_among id (accepted h)) l (λ x shown rest. kept_shown h x shown rest) (λ none away. none) refl
+away_law h l id =
+    by_rest (NoneKept h) h id (is_among id (accepted h)) l (λ x shown rest. kept_shown h x shown rest) (λ none away. none) refl

@@ -10,7 +10,7 @@ use Rattle.sng_book.specs.declared.event.Event.{Event}
 use Rattle.sng_book.specs.declared.event.Event.TheVariants.{Datagram, Broker, Up, Down, Take, Replace, Tick}
 use Rattle.sng_book.specs.declared.out.Out.{Out}
 use Rattle.sng_book.specs.declared.row.Row.{Row}
-use Rattle.sng_history.specs.Causes.{ByPacket, ByUp, ByReplace, cause_of, datagram_cause}
+use Rattle.sng_history.specs.Causes.{ByPacket, ByUp, ByReplace, ByTick, cause_of, datagram_cause}
 use Rattle.sng_history.specs.Links.{resumed, filters_wanted}
 use Rattle.sng_history.specs.Exits.{subscribing}
 use Rattle.sng_history.specs.State.{State, opening, state_of}
@@ -23,7 +23,7 @@ use Rattle.sng_history.proofs.Says.{says}
 use Rattle.sng_history.proofs.Keeping.{exact_by}
 use Rattle.sng_history.proofs.LawLink.{all_depart, all_unsent, all_announced, no_departures, none_announced, Wires, subscribing_wires, wires_gone, wires_kept, wires_alone, about_all, publications_append, publications_added, publications_kept}
 use Rattle.sng_history.proofs.LawAgain.{none_departed, again_announced, again_unsent}
-use Rattle.sng_history.proofs.LawWires.{datagram_still, broker_wires, replace_wires}
+use Rattle.sng_history.proofs.LawWires.{datagram_still, broker_wires, replace_wires, tick_wires}
 use Rattle.sng_history.proofs.SeenState.{Stands, stands}
 
 -- ---- one row
@@ -50,7 +50,7 @@ row_departs h s Up st = none_departed s.policy s.link.in_flight (anew s) ∙ wir
 row_departs h s Down st = refl
 row_departs h s Take st = rw (sym st.shown.policy, sym st.shown.waits, sym st.shown.up) (take_departs s s.up refl)
 row_departs h s (Replace policy) st = no_departures (outs_of s (Replace policy)) (says s (ByReplace policy) st.good.apart).exits
-row_departs h s (Tick clock) st = refl
+row_departs h s (Tick clock) st = no_departures (outs_of s (Tick clock)) (says s (ByTick clock) st.good.apart).exits
 
 take_announced : (s : State) (b : Bool) → s.up ≡ b → Announced false (outs_of s Take)
 take_announced s true is = rw is (all_announced s.policy s.link s.link.waiting false)
@@ -63,7 +63,7 @@ row_announced s Up = again_announced s.policy s.link.in_flight (anew s) false (�
 row_announced s Down = tt
 row_announced s Take = take_announced s s.up refl
 row_announced s (Replace policy) = none_announced false (outs_of s (Replace policy)) (replace_wires s policy)
-row_announced s (Tick clock) = tt
+row_announced s (Tick clock) = none_announced false (outs_of s (Tick clock)) (tick_wires s clock)
 
 row_timely : (h : List Row) (s : State) (e : Event) → s.up ≡ is_up h → may_send e h ≡ false → wires_in (outs_of s e) ≡ []
 row_timely h s (Datagram from datagram) up never = (datagram_still s from (frame_of datagram)).wires
@@ -72,13 +72,13 @@ row_timely h s Up up never = absurd (let e = never in cc)
 row_timely h s Down up never = refl
 row_timely h s Take up never = rw (up ∙ never) refl
 row_timely h s (Replace policy) up never = replace_wires s policy
-row_timely h s (Tick clock) up never = refl
+row_timely h s (Tick clock) up never = tick_wires s clock
 
 take_unsent : (s : State) (b : Bool) → s.up ≡ b → sends_in (outs_of s Take) ≡ []
 take_unsent s true is = rw is (all_unsent s.policy s.link s.link.waiting)
 take_unsent s false is = rw is refl
 
-row_unsent : (s : State) (e : Event) → is_upstream e ≡ true → sends_in (outs_of s e) ≡ []
+pub row_unsent : (s : State) (e : Event) → is_upstream e ≡ true → sends_in (outs_of s e) ≡ []
 row_unsent s Up is = again_unsent s.policy s.link.in_flight (anew s) ∙ wires_kept (anew s) (anew_wires s)
 row_unsent s Down is = refl
 row_unsent s Take is = take_unsent s s.up refl
@@ -126,7 +126,7 @@ links_row : (by : ℕ) (h : List Row) (s : State) (e : Event) (outs : List Out) 
 links_row by h s e outs st is links =
     let departs : RowDeparts h e outs = subst (RowDeparts h e) (sym is) (row_departs h s e st) in
     record {
-      order = order_row h outs (drops e h) (lets_out e h) (asked_with e outs) (added e h (waiting h) outs) (publications_added e h (waiting h) outs) links.order departs;
+      order = order_row h outs (drops e h) (lets_out e h) (asked_with e h outs) (added e h (waiting h) outs) (publications_added e h (waiting h) outs) links.order departs;
       depart = (links.depart, departs);
       announced = (links.announced, subst (Announced false) (sym is) (row_announced s e));
       timely = (links.timely, λ never. ap wires_in is ∙ row_timely h s e st.shown.up never);

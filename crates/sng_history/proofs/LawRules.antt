@@ -1,16 +1,18 @@
 -- The policy's answers, by the tables of the laws.
-use Rattle.std.proofs.Common.{◌≡◌, ℕ, Bool, true, false, List, refl}
-use Rattle.std.specs.Prelude.{Option, Some, None}
+use Rattle.std.proofs.Common.{◌≡◌, ℕ, Bool, true, false, List, refl, ◌∙◌, if◌then◌else◌}
+use Rattle.std.specs.Prelude.{not, Option, Some, None}
 use Rattle.sng_grants.specs.Sources.{scope_of}
 use Rattle.sng_grants.specs.declared.scope.Pair.{Pair}
 use Rattle.sng_grants.specs.declared.policy.Policy.{Policy}
-use Rattle.sng_policy.specs.Grants.{is_granted}
+use Rattle.sng_policy.specs.Grants.{is_granted, lists}
 use Rattle.sng_policy.specs.declared.permission.Permission.TheVariants.{Publish, Subscribe}
 use Rattle.sng_outbox.specs.declared.origin.Origin.{Origin}
 use Rattle.sng_outbox.specs.declared.origin.Origin.TheVariants as origin
+use Rattle.sng_book.specs.declared.outcome.Denial.TheVariants.{MissingPub}
+use Rattle.sng_book.specs.declared.outcome.Outcome.TheVariants.{Allowed, Denied}
 use Rattle.sng_history.specs.Verdicts.{exit}
 use Rattle.sng_history.specs.Outgoing.{receive}
-use Rattle.sng_history.specs.LawsRules.{judged, publish_rules}
+use Rattle.sng_history.specs.LawsRules.{judged, may_publish, publish_rules}
 use Rattle.sng_history.specs.LawsHanding.{receive_rules}
 
 client_granted : (policy : Policy) (client name : List ℕ) (pairs : List Pair) (b : Bool) → scope_of policy.clients client ≡ Some pairs → is_granted Publish pairs name ≡ b
@@ -51,3 +53,14 @@ received_ruled policy client name (Some pairs) is = received_granted policy clie
 -- what is judged as a message has its turn
 pub receive_ruled : (policy : Policy) (client name : List ℕ) → receive policy client name ≡ judged (receive_rules policy client name)
 receive_ruled policy client name = received_ruled policy client name (scope_of policy.clients client) refl
+
+-- ---- what the policy says to a client that it lists
+
+missing_if : (b : Bool) (name : List ℕ) → (if not b then Denied (MissingPub name) else Allowed) ≡ (if b then Allowed else Denied (MissingPub name))
+missing_if true name = refl
+missing_if false name = refl
+
+pub listed_exit : (policy : Policy) (id name : List ℕ) → lists policy id ≡ true
+    → exit policy (origin.Client id) name ≡ (if may_publish (scope_of policy.clients id) name then Allowed else Denied (MissingPub name))
+listed_exit policy id name listed =
+    exit_ruled policy (origin.Client id) name ∙ (rw listed (missing_if (may_publish (scope_of policy.clients id) name) name))

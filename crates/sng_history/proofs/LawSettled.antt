@@ -23,16 +23,19 @@ use Rattle.sng_history.proofs.SeenStrangers.{Unheard}
 use Rattle.sng_history.proofs.SeenState.{ids_of, stands}
 
 -- what holds of each client holds of each id that was accepted
-among_by : (P : List ℕ → Type 0) (id one : List ℕ) (b later : Bool) → bytes_eq id one ≡ b → P one → (b || later) ≡ true → (later ≡ true → P id) → P id
+among_by : (P : List ℕ → Type 0) (id one : List ℕ) (b later : Bool) → bytes_eq id one ≡ b → P one → (b || later) ≡ true
+    → (later ≡ true → P id) → P id
 among_by P id one true later is here among rest = let same : id ≡ one = same_means id one is in subst P (sym same) here
 among_by P id one false later is here among rest = rest among
 
 pub of_accepted : (P : List ℕ → Type 0) (xs : List Client) (id : List ℕ) → Each (λ x. P x.id) xs → is_among id (ids_of xs) ≡ true → P id
 of_accepted P [] id each among = absurd cc
-of_accepted P (x ∷ xs) id each among = among_by P id x.id (bytes_eq id x.id) (is_among id (ids_of xs)) refl each.0 among (of_accepted P xs id each.1)
+of_accepted P (x ∷ xs) id each among =
+    among_by P id x.id (bytes_eq id x.id) (is_among id (ids_of xs)) refl each.0 among (of_accepted P xs id each.1)
 
 -- what holds of each client, and of who was never accepted, holds of all
-of_all : (P : List ℕ → Type 0) (h : List Row) → Lawful opening h → Each (λ x. P x.id) (state_of opening h).clients → ((id : List ℕ) → Unheard id h → P id) → (id : List ℕ) → P id
+of_all : (P : List ℕ → Type 0) (h : List Row) → Lawful opening h → Each (λ x. P x.id) (state_of opening h).clients
+    → ((id : List ℕ) → Unheard id h → P id) → (id : List ℕ) → P id
 of_all P h l each none id = by_accepted (is_among id (accepted h)) refl
   where
     by_accepted : (b : Bool) → is_among id (accepted h) ≡ b → P id
@@ -41,7 +44,8 @@ of_all P h l each none id = by_accepted (is_among id (accepted h)) refl
 
 -- ---- in order
 
-settled_so : (id : List ℕ) (h : List Row) (waiting : List Message) → Settling (due_of id h) (progress_of id h).settled (settled_of id h) waiting → SettledInOrder h id
+settled_so : (id : List ℕ) (h : List Row) (waiting : List Message)
+    → Settling (due_of id h) (progress_of id h).settled (settled_of id h) waiting → SettledInOrder h id
 settled_so id h waiting s =
     let t : Settling (due_of id h) (length (settled_of id h)) (settled_of id h) waiting =
     subst (λ n. Settling (due_of id h) n (settled_of id h) waiting) (settled_count id h) s in
@@ -51,12 +55,14 @@ none_settled : (id : List ℕ) (h : List Row) → Unheard id h → SettledInOrde
 none_settled id h unheard =
     settled_so id h []
     (subst (λ due. Settling due (progress_of id h).settled (settled_of id h) []) (sym unheard.due)
-    (subst (λ v. Settling [] v.progress.settled v.settled []) (sym unheard.view) (record { waits = refl; few = search rules; names = refl })))
+    (subst (λ v. Settling [] v.progress.settled v.settled []) (sym unheard.view)
+    (record { waits = refl; few = search rules; names = refl })))
 
 pub settled_in_order : (h : List Row) → Lawful opening h → (id : List ℕ) → SettledInOrder h id
 settled_in_order h l =
     of_all (SettledInOrder h) h l
-    (each_map (Mailed h) (λ x. SettledInOrder h x.id) (state_of opening h).clients (λ x mailed. settled_so x.id h x.buffer.waiting mailed.settling) (stands h l).shown.mailed)
+    (each_map (Mailed h) (λ x. SettledInOrder h x.id) (state_of opening h).clients
+    (λ x mailed. settled_so x.id h x.buffer.waiting mailed.settling) (stands h l).shown.mailed)
     (λ id unheard. none_settled id h unheard)
 
 -- ---- what is announced is for the front
@@ -72,7 +78,8 @@ none_announced h id unheard name is =
 pub front_announced : (h : List Row) → Lawful opening h → (id : List ℕ) → FrontAnnounced h id
 front_announced h l =
     of_all (FrontAnnounced h) h l
-    (each_map (Mailed h) (λ x. FrontAnnounced h x.id) (state_of opening h).clients (λ x mailed. front_so h x mailed) (stands h l).shown.mailed)
+    (each_map (Mailed h) (λ x. FrontAnnounced h x.id) (state_of opening h).clients (λ x mailed. front_so h x mailed)
+    (stands h l).shown.mailed)
     (λ id unheard. none_announced h id unheard)
 
 -- ---- each once
@@ -93,9 +100,17 @@ due_most : (id : List ℕ) (h : List Row) → length (due_of id h) ≤ length (s
 due_most id [] = search rules
 due_most id (row ∷ h) =
     let one : length (due_in id row h) ≤ length (option_to_list (brought_in row.event)) =
-    due_if (is_turned_back id row.outs) (meant_in id (brought_in row.event) h) (length (option_to_list (brought_in row.event))) (meant_most id (brought_in row.event) h) in
+    due_if (is_turned_back id row.outs) (meant_in id (brought_in row.event) h) (length (option_to_list (brought_in row.event)))
+    (meant_most id (brought_in row.event) h) in
     let rest : length (due_of id h) ≤ length (sent_of h) = due_most id h in
-    omega (arith, one, rest, length-append (due_of id h) (due_in id row h), length-append (sent_of h) (option_to_list (brought_in row.event)))
+    omega (
+      arith,
+      one,
+      rest,
+      length-append (due_of id h) (due_in id row h),
+      length-append (sent_of h)
+          (option_to_list (brought_in row.event)),
+    )
 
 some_most : (hands : List (List ℕ × Outcome)) → length (filter (λ hand. is_allowed hand.1) hands) ≤ length hands
 some_most [] = search rules

@@ -61,7 +61,7 @@ msg_id_same : (q : Qos) (n : ℕ) → n ≤ 65535 → msg_id_of q n ≡ (if is_a
 msg_id_same AtMostOnce n within = refl
 msg_id_same AtLeastOnce n within = next_same n within
 
-frame_qos_same : (q : Qos) → handing.frame_qos q ≡ laws.frame_qos q
+pub frame_qos_same : (q : Qos) → handing.frame_qos q ≡ laws.frame_qos q
 frame_qos_same AtMostOnce = refl
 frame_qos_same AtLeastOnce = refl
 
@@ -107,7 +107,7 @@ abbrev pub mail : Around → Client → List (List ℕ) → List (List ℕ) → 
 mail a x told known = record { policy = a.policy; id = x.id; address = x.address; told = told; known = known; number = x.number }
 
 -- the client, where these wait and no exchange is open
-abbrev ready : Client → List (List ℕ) → List (List ℕ) → List Message → Client
+abbrev pub ready : Client → List (List ℕ) → List (List ℕ) → List Message → Client
 ready x told known waiting = record x { ids = marked told known; buffer = record { waiting = waiting; exchange = None } }
 
 -- what holds of those that wait
@@ -147,7 +147,7 @@ Offered a dropped told known m more x o =
     ≡ handed_one (mail a x told known) m o (handed_out (mail a x told known) more)
 
 -- the last rule
-abbrev full_rule : Mailing → List ℕ → List Rule
+abbrev pub full_rule : Mailing → List ℕ → List Rule
 full_rule c name = (not (knows c name) && (not (is_among name c.told) && not (nat_lt (length c.told) 128)), Full place.Ids) ∷ []
 
 -- what the laws say of it, where the client knows the name, where no id is left, and where one is announced
@@ -163,7 +163,7 @@ known_one c m rest is = ap (λ o. handed_one c m o rest) (allowed c m.name is) �
     sent c m rest is = rw is refl
 
 -- no id of the name was told, and none is left
-abbrev is_crowded : Mailing → List ℕ → Bool
+abbrev pub is_crowded : Mailing → List ℕ → Bool
 is_crowded c name = not (is_among name c.told) && not (nat_lt (length c.told) 128)
 
 crowded_one : (c : Mailing) (m : Message) (rest : List Out) → knows c m.name ≡ false → is_crowded c m.name ≡ true
@@ -218,7 +218,7 @@ judged_if : (b : Bool) (rule : Denial) (o more : Outcome) → (if b then Denied 
 judged_if true rule o more = refl
 judged_if false rule o more = refl
 
-judged_append : (rules more : List Rule) → judged (rules ++ more) ≡ and_then (judged rules) (judged more)
+pub judged_append : (rules more : List Rule) → judged (rules ++ more) ≡ and_then (judged rules) (judged more)
 judged_append [] more = refl
 judged_append (rule ∷ rules) more =
     ap (λ o. if rule.0 then Denied rule.1 else o) (judged_append rules more) ∙ judged_if rule.0 rule.1 (judged rules) (judged more)
@@ -232,7 +232,7 @@ unturned true g id name = refl
 unturned false true id name = refl
 unturned false false id name = refl
 
-denied_settles : (policy : Policy) (id name : List ℕ) (rule : Denial) (x : Client) → judged (receive_rules policy id name) ≡ Denied rule
+pub denied_settles : (policy : Policy) (id name : List ℕ) (rule : Denial) (x : Client) → judged (receive_rules policy id name) ≡ Denied rule
     → denied_hand rule x ≡ (let y : Client = record x { buffer = settle x.buffer } in y)
 denied_settles policy id name rule x is =
     let rules = receive_rules policy id name in

@@ -1,4 +1,4 @@
--- No row of a datagram, nor of a packet of the broker, lets a packet out for the broker.
+-- No row of a datagram, of a packet of the broker, of a replacement or of a tick lets a packet out for the broker.
 use Rattle.std.proofs.Common.{◌≡◌, ℕ, Bool, true, false, List, [], ◌∷◌, ◌++◌, refl, ◌∙◌, if◌then◌else◌, Ok, Err}
 use Rattle.std.specs.Prelude.{◌&&◌, not, drop, Option, Some, None}
 use Rattle.std.specs.List.{flat_map}
@@ -13,7 +13,6 @@ use Rattle.sng_frames.specs.declared.messages.connect.Connect.{Connect}
 use Rattle.sng_frames.specs.declared.messages.publish.Publish.{Publish}
 use Rattle.sng_frames.specs.declared.qos.FrameQos.{FrameQos}
 use Rattle.sng_frames.specs.declared.qos.FrameQos.TheVariants as qos
-use Rattle.sng_frames.specs.declared.return_code.TheConstants.ReturnCode.{ACCEPTED}
 use Rattle.sng_frames.specs.declared.frame.SnFrame.{SnFrame}
 use Rattle.sng_frames.specs.declared.frame.SnFrame.TheVariants as frame
 use Rattle.sng_book.specs.declared.address.Address.{Address}
@@ -24,15 +23,17 @@ use Rattle.sng_book.specs.declared.outcome.Outcome.{Outcome}
 use Rattle.sng_book.specs.declared.outcome.Outcome.TheVariants.{Allowed, Denied}
 use Rattle.sng_book.specs.declared.out.Out.{Out}
 use Rattle.sng_book.specs.declared.out.Out.TheVariants.{Send, Wire, Note}
-use Rattle.sng_history.specs.Causes.{Request, ToPing, ToLeave, ToRegister, ToPublish, ToSubscribe, ToUnsubscribe, ToConfirm, ToAcknowledge, Untaken, Cause, datagram_cause, publish_cause, rule_of}
-use Rattle.sng_history.specs.Causes.{ByConnect, ByMessage, ByBroken, ByPacket, ByReplace}
+use Rattle.sng_history.specs.Causes.{Request, ToPing, ToLeave, ToRegister, ToPublish, ToSubscribe, ToUnsubscribe, ToConfirm, ToAcknowledge, ToState, Untaken, Cause, datagram_cause, publish_cause, rule_of, ToSleep}
+use Rattle.sng_history.specs.Causes.{ByConnect, ByMessage, ByBroken, ByPacket, ByReplace, ByTick}
+use Rattle.sng_history.specs.Causes.{StatesTopic, StatesMessage, UpdatesTopic, UpdatesMessage}
 use Rattle.sng_history.specs.Clients.{Around, Client, same_address, let_in}
-use Rattle.sng_history.specs.State.{State, around}
+use Rattle.sng_history.specs.State.{State, around, later}
+use Rattle.sng_history.specs.Ticking.{is_ping_due, with_wills, ping_dropped}
 use Rattle.sng_history.specs.Links.{Link}
 use Rattle.sng_history.specs.Packets.{Answer, Delivers, Acknowledges, Grants, Refuses, Confirms, Strange, answer_of, answer_outs, owed, has_place, dropped}
 use Rattle.sng_history.specs.Verdicts.{entry}
-use Rattle.sng_history.specs.Answers.{dismissed, connack}
-use Rattle.sng_history.specs.Whole.{Notes, spell, part, any_from, stranger_to, drops, client_rows, frame_row, moved, beside, entering_part, around_connack, entry_outs}
+use Rattle.sng_history.specs.Answers.{dismissed, welcome}
+use Rattle.sng_history.specs.Whole.{Notes, spell, part, any_from, stranger_to, drops, client_rows, frame_row, moved, beside, entering_part, around_welcome, entry_outs}
 use Rattle.sng_history.specs.Standing.{Release, drop_notes}
 use Rattle.sng_history.specs.Lawful.{exits_for}
 use Rattle.sng_history.specs.Steps.{outs_by, notes_for}
@@ -60,6 +61,8 @@ stranger_wires from (ToSubscribe r) = refl
 stranger_wires from (ToUnsubscribe r) = refl
 stranger_wires from (ToConfirm r) = refl
 stranger_wires from (ToAcknowledge r) = refl
+stranger_wires from (ToState statement) = refl
+stranger_wires from (ToSleep duration) = refl
 stranger_wires from (Untaken message) = refl
 
 either_wires : (stranger outs : List Out) (b : Bool) → wires_in stranger ≡ [] → wires_in outs ≡ [] → wires_in (if b then outs else stranger) ≡ []
@@ -90,9 +93,12 @@ entering_if : (a : Around) (n : Notes) (from : Address) (connect : Connect) (x :
 entering_if a n from connect x true = spell_wires a [] (let_in a.clock from connect x) (drop 1 (n.of x))
 entering_if a n from connect x false = refl
 
-around_wires : (from : Address) (clean : Bool) (own : List Out) → wires_in own ≡ [] → wires_in (around_connack clean own (connack from ACCEPTED)) ≡ []
-around_wires from true own none = wires_append own (connack from ACCEPTED ∷ []) none refl
-around_wires from false own none = none
+around_wires : (from : Address) (connect : Connect) (clean will : Bool) (own : List Out) → connect.flags.will ≡ will → wires_in own ≡ []
+    → wires_in (around_welcome clean own (welcome connect from)) ≡ []
+around_wires from connect true true own is none = wires_append own (welcome connect from ∷ []) none (rw is refl)
+around_wires from connect true false own is none = wires_append own (welcome connect from ∷ []) none (rw is refl)
+around_wires from connect false true own is none = rw is none
+around_wires from connect false false own is none = rw is none
 
 entry_wires : (s : State) (from : Address) (connect : Connect) (n : Notes) (o : Outcome) → wires_in (entry_outs s from connect n o) ≡ []
 entry_wires s from connect n Allowed =
@@ -101,11 +107,11 @@ entry_wires s from connect n Allowed =
     let others = flat_map (beside a n id) s.clients in
     let noted = drop_notes (drops s (ByConnect from connect) n) in
     let entering = flat_map (entering_part a n from connect) s.clients in
-    let last = around_connack connect.flags.clean entering (connack from ACCEPTED) in
+    let last = around_welcome connect.flags.clean entering (welcome connect from) in
     wires_append (flat_map (moved from id) s.clients) (others ++ (noted ++ last)) (wires_flat (moved from id) s.clients (moved_wires from id))
     (wires_append others (noted ++ last) (wires_flat (beside a n id) s.clients (λ x. beside_if a n x (bytes_eq id x.id)))
     (sent_wires noted last (drops_sent (drops s (ByConnect from connect) n))
-    ∙ around_wires from connect.flags.clean entering (wires_flat (entering_part a n from connect) s.clients (λ x. entering_if a n from connect x (bytes_eq id x.id)))))
+    ∙ around_wires from connect connect.flags.clean connect.flags.will entering refl (wires_flat (entering_part a n from connect) s.clients (λ x. entering_if a n from connect x (bytes_eq id x.id)))))
 entry_wires s from connect n (Denied rule) = refl
 
 -- ---- a datagram
@@ -127,7 +133,7 @@ publish_still s from p qos.ExactlyOnce = message_still s from (Untaken (frame.Pu
 
 disconnect_still : (s : State) (from : Address) (duration : Option ℕ) → Still s (datagram_cause from (Ok (frame.Disconnect duration)))
 disconnect_still s from None = message_still s from ToLeave
-disconnect_still s from (Some duration) = message_still s from (Untaken (frame.Disconnect (Some duration)))
+disconnect_still s from (Some duration) = message_still s from (ToSleep duration)
 
 pub datagram_still : (s : State) (from : Address) (read : Result SnFrame FrameFault) → Still s (datagram_cause from read)
 datagram_still s from (Ok (frame.Connect connect)) = record { exits = refl; wires = entry_wires s from connect (notes_for s (ByConnect from connect)) (entry s connect) }
@@ -138,6 +144,10 @@ datagram_still s from (Ok (frame.Unsubscribe r)) = message_still s from (ToUnsub
 datagram_still s from (Ok (frame.PingRequest client)) = message_still s from (ToPing client)
 datagram_still s from (Ok (frame.RegisterAck r)) = message_still s from (ToConfirm r)
 datagram_still s from (Ok (frame.PublishAck r)) = message_still s from (ToAcknowledge r)
+datagram_still s from (Ok (frame.WillTopic topic)) = message_still s from (ToState (StatesTopic topic))
+datagram_still s from (Ok (frame.WillMessage message)) = message_still s from (ToState (StatesMessage message))
+datagram_still s from (Ok (frame.WillTopicUpdate topic)) = message_still s from (ToState (UpdatesTopic topic))
+datagram_still s from (Ok (frame.WillMessageUpdate message)) = message_still s from (ToState (UpdatesMessage message))
 datagram_still s from (Ok (frame.Disconnect duration)) = disconnect_still s from duration
 datagram_still s from (Ok message) = message_still s from (Untaken message)
 datagram_still s from (Err broke) =
@@ -172,3 +182,19 @@ broker_wires s sent =
 -- and that of a replacement
 pub replace_wires : (s : State) (policy : Policy) → wires_in (outs_by s (ByReplace policy)) ≡ []
 replace_wires s policy = let c = ByReplace policy in rows_wires s c (drops s c (notes_for s c)) (notes_for s c)
+
+-- and that of a tick
+ping_wires : (up : Bool) (link : Link) (clock : ℕ) → wires_in (ping_dropped up link clock) ≡ []
+ping_wires up link clock = by_due (is_ping_due up link clock) (has_place link)
+  where
+    by_due : (due place : Bool) → wires_in (if due then (if place then [] else Note note.Outbox ∷ []) else []) ≡ []
+    by_due true true = refl
+    by_due true false = refl
+    by_due false place = refl
+
+pub tick_wires : (s : State) (clock : ℕ) → wires_in (outs_by s (ByTick clock)) ≡ []
+tick_wires s clock =
+    let c = ByTick clock in
+    let now = later s.clock clock in
+    let link = with_wills s.link now s.clients in
+    wires_append (client_rows s c [] (notes_for s c)) (ping_dropped s.up link now) (rows_wires s c [] (notes_for s c)) (ping_wires s.up link now)

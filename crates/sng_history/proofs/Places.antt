@@ -5,10 +5,9 @@ use Rattle.std.specs.Str.{bytes_eq}
 use Rattle.std.proofs.lemmas.List.{append-nil}
 use Rattle.std.proofs.lemmas.Bool.Decides.{nat_tests}
 use Rattle.sng_states.specs.States.{has_session}
-use Rattle.sng_states.specs.declared.state.ClientState.TheVariants.{Active}
 use Rattle.sng_frames.specs.declared.messages.connect.Connect.{Connect}
 use Rattle.sng_book.specs.declared.address.Address.{Address}
-use Rattle.sng_history.specs.Clients.{Client, blank, same_address, is_here, cleaned, let_in}
+use Rattle.sng_history.specs.Clients.{Client, blank, same_address, is_here, cleaned, opened, let_in}
 use Rattle.sng_history.specs.State.{is_known}
 use Rattle.sng_history.specs.Entering.{left_at, entering, entered}
 use Rattle.sng_history.specs.Good.{Each, Away, Distinct, Apart, OnePlace}
@@ -92,9 +91,14 @@ entered_at : (from : Address) (clean : Bool) (x : Client) → x.address ≡ from
 entered_at from true x at = at
 entered_at from false x at = at
 
+opened_at : (will : Bool) (x : Client) → (opened will x).address ≡ x.address
+opened_at true x = refl
+opened_at false x = refl
+
 pub let_in_at : (clock : ℕ) (from : Address) (connect : Connect) (x : Client) → (let_in clock from connect x).address ≡ from
 let_in_at clock from connect x =
-    entered_at from connect.flags.clean (record x { address = from; phase = Active; ids = []; duration = connect.duration; heard = clock }) refl
+    let y : Client = record x { address = from; ids = []; duration = connect.duration; heard = clock } in
+    opened_at connect.flags.will (cleaned connect.flags.clean y) ∙ entered_at from connect.flags.clean y refl
 
 -- another client stays, and is not at the address any more
 pub record Beside (from : Address) (x y : Client) : Type 0 where

@@ -9,7 +9,6 @@ use Rattle.sng_frames.specs.declared.messages.connect.Connect.{Connect}
 use Rattle.sng_frames.specs.declared.messages.publish.Publish.{Publish}
 use Rattle.sng_frames.specs.declared.frame.SnFrame.{SnFrame}
 use Rattle.sng_frames.specs.declared.frame.SnFrame.TheVariants as frame
-use Rattle.sng_frames.specs.declared.return_code.TheConstants.ReturnCode.{ACCEPTED}
 use Rattle.sng_book.specs.declared.address.Address.{Address}
 use Rattle.sng_book.specs.declared.decision.Decision.{Decision}
 use Rattle.sng_book.specs.declared.decision.Decision.TheVariants as note
@@ -21,16 +20,17 @@ use Rattle.sng_book.specs.declared.outcome.Outcome.TheVariants.{Allowed, Denied}
 use Rattle.sng_book.specs.declared.out.Out.{Out}
 use Rattle.sng_book.specs.declared.out.Out.TheVariants.{Note}
 use Rattle.sng_book.specs.Denials.{is_allowed}
-use Rattle.sng_history.specs.Causes.{Request, ToPing, ToLeave, ToRegister, ToPublish, ToSubscribe, ToUnsubscribe, ToConfirm, ToAcknowledge, Untaken, Cause, publish_asked}
+use Rattle.sng_history.specs.Causes.{Request, ToPing, ToLeave, ToSleep, ToRegister, ToPublish, ToSubscribe, ToUnsubscribe, ToConfirm, ToAcknowledge, ToState, Untaken, Cause, publish_asked}
 use Rattle.sng_history.specs.Causes.{ByConnect, ByMessage, BySource, ByBroken, ByPacket, ByUp, ByDown, ByTake, ByReplace, ByTick}
 use Rattle.sng_history.specs.Clients.{Client, blank, same_address, is_here, is_from, let_in}
 use Rattle.sng_history.specs.Notes.{notes_of, exits_in}
-use Rattle.sng_history.specs.State.{State, around, is_known, newcomers, asked_all, asked_in}
+use Rattle.sng_history.specs.State.{State, around, later, is_known, newcomers, asked_all, asked_in}
 use Rattle.sng_history.specs.Standing.{Release, drop_notes}
+use Rattle.sng_history.specs.Ticking.{with_wills, ping_dropped}
 use Rattle.sng_history.specs.Verdicts.{entry}
-use Rattle.sng_history.specs.Answers.{code_of, dismissed, connack, denied_note}
+use Rattle.sng_history.specs.Answers.{code_of, dismissed, connack, welcome, denied_note}
 use Rattle.sng_history.specs.Packets.{answer_of, dropped, answer_outs}
-use Rattle.sng_history.specs.Whole.{spell, part, any_from, stranger_to, drops, client_rows, frame_row, moved, beside, entering_part, around_connack, entry_row, entry_outs}
+use Rattle.sng_history.specs.Whole.{spell, part, any_from, stranger_to, drops, client_rows, frame_row, moved, beside, entering_part, around_welcome, entry_row, entry_outs}
 use Rattle.sng_history.specs.Lawful.{entering_notes, fixed_for, exits_for}
 use Rattle.sng_history.specs.Steps.{notes_for, outs_by, entrants, newcomers_for, asked_by_all, asked_for}
 use Rattle.sng_history.specs.Good.{Each, Away, Distinct}
@@ -39,7 +39,7 @@ use Rattle.sng_history.proofs.Spelled.{Mute, mute_none, mute_both, mute_of, AllA
 use Rattle.sng_history.proofs.Sent.{drops_sent}
 use Rattle.sng_history.proofs.Told.{tells}
 use Rattle.sng_history.proofs.Kept.{unknown_away}
-use Rattle.sng_history.proofs.SaysUpstream.{Foreign, foreign, foreign_source, take_exits, take_none, up_exits, up_none, mute_packet}
+use Rattle.sng_history.proofs.SaysUpstream.{Foreign, foreign, foreign_source, take_exits, take_none, up_exits, up_none, mute_packet, mute_ping}
 
 -- the outs have just these notes, and bring in who is accepted for the first time
 pub record Says (s : State) (c : Cause) (outs : List Out) : Type 0 where
@@ -178,38 +178,49 @@ only_entering s from connect =
 abbrev row_accepted : State → Address → Connect → List Out
 row_accepted s from connect = entry_row s from connect (notes_for s (ByConnect from connect))
 
--- CONNACK brings no note
-around_notes : (clean : Bool) (own : List Out) (from : Address) (d : List ℕ) → notes_of d (around_connack clean own (connack from ACCEPTED)) ≡ notes_of d own
-around_notes true own from d = notes_append d own (connack from ACCEPTED ∷ []) ∙ append-nil (notes_of d own)
-around_notes false own from d = refl
+-- the answer is CONNACK or WILLTOPICREQ, and brings no note
+mute_welcome : (connect : Connect) (from : Address) → Mute (welcome connect from ∷ [])
+mute_welcome connect from = by_will connect.flags.will refl
+  where
+    by_will : (will : Bool) → connect.flags.will ≡ will → Mute (welcome connect from ∷ [])
+    by_will true is = rw is (record { notes = λ c. refl; exits = refl; asks = λ q. refl })
+    by_will false is = rw is (record { notes = λ c. refl; exits = refl; asks = λ q. refl })
 
-around_exits : (clean : Bool) (own : List Out) (from : Address) → exits_in (around_connack clean own (connack from ACCEPTED)) ≡ exits_in own
-around_exits true own from = exits_append own (connack from ACCEPTED ∷ []) ∙ append-nil (exits_in own)
-around_exits false own from = refl
+around_notes : (clean : Bool) (own : List Out) (ack : Out) (d : List ℕ) → Mute (ack ∷ [])
+    → notes_of d (around_welcome clean own ack) ≡ notes_of d own
+around_notes true own ack d mute =
+    notes_append d own (ack ∷ []) ∙ (ap (λ notes. notes_of d own ++ notes) (mute.notes d) ∙ append-nil (notes_of d own))
+around_notes false own ack d mute = notes_append d (ack ∷ []) own ∙ ap (λ notes. notes ++ notes_of d own) (mute.notes d)
 
--- what stands behind the parts of the others: the notes of what is dropped, what waited, and CONNACK
+around_exits : (clean : Bool) (own : List Out) (ack : Out) → Mute (ack ∷ []) → exits_in (around_welcome clean own ack) ≡ exits_in own
+around_exits true own ack mute =
+    exits_append own (ack ∷ []) ∙ (ap (λ exits. exits_in own ++ exits) mute.exits ∙ append-nil (exits_in own))
+around_exits false own ack mute = exits_append (ack ∷ []) own ∙ ap (λ exits. exits ++ exits_in own) mute.exits
+
+-- what stands behind the parts of the others: the notes of what is dropped, what waited, and the answer
 abbrev end_accepted : State → Address → Connect → List Out
 end_accepted s from connect =
     drop_notes (drops_for s (ByConnect from connect))
-    ++ around_connack connect.flags.clean (flat_map (entering_for s from connect) s.clients) (connack from ACCEPTED)
+    ++ around_welcome connect.flags.clean (flat_map (entering_for s from connect) s.clients) (welcome connect from)
 
 end_notes : (s : State) (from : Address) (connect : Connect) (d : List ℕ)
     → notes_of d (end_accepted s from connect) ≡ notes_of d (flat_map (entering_for s from connect) s.clients)
 end_notes s from connect d =
     let dropped = drops_for s (ByConnect from connect) in
     let own = flat_map (entering_for s from connect) s.clients in
-    let last = around_connack connect.flags.clean own (connack from ACCEPTED) in
+    let last = around_welcome connect.flags.clean own (welcome connect from) in
     notes_append d (drop_notes dropped) last
-    ∙ (ap (λ notes. notes ++ notes_of d last) ((mute_of (drop_notes dropped) (drops_sent dropped)).notes d) ∙ around_notes connect.flags.clean own from d)
+    ∙ (ap (λ notes. notes ++ notes_of d last) ((mute_of (drop_notes dropped) (drops_sent dropped)).notes d)
+    ∙ around_notes connect.flags.clean own (welcome connect from) d (mute_welcome connect from))
 
 end_exits : (s : State) (from : Address) (connect : Connect) → exits_in (end_accepted s from connect) ≡ []
 end_exits s from connect =
     let dropped = drops_for s (ByConnect from connect) in
     let f = entering_for s from connect in
-    let last = around_connack connect.flags.clean (flat_map f s.clients) (connack from ACCEPTED) in
+    let last = around_welcome connect.flags.clean (flat_map f s.clients) (welcome connect from) in
     exits_append (drop_notes dropped) last
     ∙ (ap (λ exits. exits ++ exits_in last) (mute_of (drop_notes dropped) (drops_sent dropped)).exits
-    ∙ (around_exits connect.flags.clean (flat_map f s.clients) from
+    ∙ (around_exits connect.flags.clean (flat_map f s.clients) (welcome connect from) (mute_welcome connect from)
     ∙ no_exits f s.clients (each_all (λ x. exits_in (f x) ≡ []) s.clients (λ x. entering_exits_by s from connect x (bytes_eq connect.client_id x.id)))))
 
 pub accepted_notes : (s : State) (from : Address) (connect : Connect) (d : List ℕ)
@@ -275,7 +286,11 @@ accepted_own s from connect apart may =
 -- nothing waits for one of whom nothing was heard
 pub blank_enters : (s : State) (from : Address) (connect : Connect) (clean : Bool) → connect.flags.clean ≡ clean → entering_notes s from connect (blank connect.client_id) Allowed ≡ []
 blank_enters s from connect true is = rw is refl
-blank_enters s from connect false is = rw is refl
+blank_enters s from connect false is = by_will connect.flags.will refl
+  where
+    by_will : (will : Bool) → connect.flags.will ≡ will → entering_notes s from connect (blank connect.client_id) Allowed ≡ []
+    by_will true test = rw (is, test) refl
+    by_will false test = rw (is, test) refl
 
 -- who is accepted for the first time
 accepted_new : (s : State) (from : Address) (connect : Connect) (known : Bool) → is_known connect.client_id s.clients ≡ known → entry s connect ≡ Allowed
@@ -383,6 +398,7 @@ unasked_bye from (Some p) = refl
 
 pub mute_stranger : (from : Address) (request : Request) → Mute (stranger_to from request)
 mute_stranger from (ToPing client) = record { notes = λ c. refl; exits = refl; asks = λ q. refl }
+mute_stranger from (ToSleep duration) = record { notes = λ c. refl; exits = refl; asks = λ q. refl }
 mute_stranger from ToLeave = record { notes = λ c. refl; exits = refl; asks = λ q. refl }
 mute_stranger from (ToRegister r) = record { notes = λ c. refl; exits = refl; asks = λ q. refl }
 mute_stranger from (ToPublish p) = record { notes = λ c. refl; exits = refl; asks = unasked_bye from }
@@ -390,6 +406,7 @@ mute_stranger from (ToSubscribe r) = record { notes = λ c. refl; exits = refl; 
 mute_stranger from (ToUnsubscribe r) = record { notes = λ c. refl; exits = refl; asks = λ q. refl }
 mute_stranger from (ToConfirm r) = record { notes = λ c. refl; exits = refl; asks = λ q. refl }
 mute_stranger from (ToAcknowledge r) = record { notes = λ c. refl; exits = refl; asks = λ q. refl }
+mute_stranger from (ToState statement) = record { notes = λ c. refl; exits = refl; asks = λ q. refl }
 mute_stranger from (Untaken message) = mute_unsupported from message
 
 strange_message : (s : State) (from : Address) (request : Request) → Strange s (ByMessage from request) (stranger_to from request)
@@ -444,4 +461,7 @@ says s ByTake apart =
 says s (ByReplace policy) apart =
     let c = ByReplace policy in
     subst (Says s c) (append-nil (outs_by s c)) (rows_says s c (drops_for s c) [] refl refl refl apart mute_none)
-says s (ByTick clock) apart = mute_says s (ByTick clock) [] refl refl refl (foreign [] mute_none) (λ x. refl)
+says s (ByTick clock) apart =
+    let now = later s.clock clock in
+    let link = with_wills s.link now s.clients in
+    rows_says s (ByTick clock) [] (ping_dropped s.up link now) refl refl refl apart (mute_ping s.up link now)

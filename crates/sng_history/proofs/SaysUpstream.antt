@@ -25,13 +25,14 @@ use Rattle.sng_history.specs.Causes.{ByUp, ByTake}
 use Rattle.sng_history.specs.Notes.{notes_of, said_of, exits_in, exits_of_out}
 use Rattle.sng_history.specs.Links.{Link, wants, next_packet_id, packet_id_by, exited, resumed, filters_wanted, subscribe_sent, subscribe_left, unsubscribe_left}
 use Rattle.sng_history.specs.State.{State}
+use Rattle.sng_history.specs.Ticking.{is_ping_due, ping_dropped}
 use Rattle.sng_history.specs.Verdicts.{source_ask, named_ask, name_in, exit}
 use Rattle.sng_history.specs.Exits.{exits_of, forwarded, subscribe_packet, unsubscribe_packet, subscribing, leaving, agains_of, sent_again, resending}
 use Rattle.sng_history.specs.Packets.{Answer, Delivers, Acknowledges, Grants, Refuses, Confirms, Strange as StrangePacket, owed, has_place, dropped, misnamed, answer_outs}
 use Rattle.sng_history.specs.Lawful.{exits_for}
 use Rattle.sng_history.specs.Steps.{outs_by}
 use Rattle.sng_history.proofs.Own.{notes_append, exits_append}
-use Rattle.sng_history.proofs.Spelled.{Mute, mute_none, mute_both}
+use Rattle.sng_history.proofs.Spelled.{Mute, mute_none, mute_both, mute_if}
 
 -- ---- what leaves for the broker
 
@@ -162,6 +163,15 @@ mute_packet up link (Grants packet_id) = mute_none
 mute_packet up link (Refuses packet_id) = mute_none
 mute_packet up link Confirms = mute_none
 mute_packet up link StrangePacket = record { notes = λ c. refl; exits = refl; asks = λ q. refl }
+
+-- ---- a PINGREQ for which there is no place at a tick
+
+mute_full : (has : Bool) → Mute (if has then [] else Note note.Outbox ∷ [])
+mute_full has = mute_note has note.Outbox (record { notes = λ c. refl; exits = refl; asks = λ q. refl })
+
+pub mute_ping : (up : Bool) (link : Link) (clock : ℕ) → Mute (ping_dropped up link clock)
+mute_ping up link clock =
+    mute_if (is_ping_due up link clock) (if has_place link then [] else Note note.Outbox ∷ []) (mute_full (has_place link))
 
 -- ---- a publish of a source
 

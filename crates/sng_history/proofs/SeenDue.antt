@@ -53,7 +53,8 @@ use Rattle.sng_history.specs.Outgoing.{receive, behind, offered, judged_turn, tu
 use Rattle.sng_history.specs.Lawful.{refused_end, fixed_for}
 use Rattle.sng_history.specs.ViewsClients.{phase_of}
 use Rattle.sng_history.specs.ViewsStanding.{standing_of}
-use Rattle.sng_history.specs.ViewsHanding.{message_sent, is_at_least_once, is_matched, is_matched_at_one, qos_due, meant_for, meant_in, is_refused_at_once, hand_of, hands_in, is_turned_back, due_of}
+use Rattle.sng_history.specs.ViewsHanding.{message_sent, is_at_least_once, is_matched, is_matched_at_one, qos_due, meant_for, meant_in}
+use Rattle.sng_history.specs.ViewsHanding.{is_refused_at_once, hand_of, hands_in, is_turned_back, due_of}
 use Rattle.sng_history.proofs.Takes.{awaiting_same}
 use Rattle.sng_history.proofs.Own.{same_self}
 use Rattle.sng_history.proofs.SeenHanding.{never_refused}
@@ -74,27 +75,33 @@ greatest_so None = refl
 greatest_so (Some AtMostOnce) = refl
 greatest_so (Some AtLeastOnce) = refl
 
-raised_any : (g : Option Qos) (q : Qos) (b any : Bool) → (is_some (let o : Option Qos = if b then Some (raised g q) else g in o) || any) ≡ (is_some g || (b || any))
+raised_any : (g : Option Qos) (q : Qos) (b any : Bool)
+    → (is_some (let o : Option Qos = if b then Some (raised g q) else g in o) || any) ≡ (is_some g || (b || any))
 raised_any None q true any = refl
 raised_any (Some r) q true any = refl
 raised_any g q false any = refl
 
-raised_one : (g : Option Qos) (q : Qos) (b one : Bool) → (is_one (let o : Option Qos = if b then Some (raised g q) else g in o) || one) ≡ (is_one g || ((b && is_at_least_once q) || one))
+raised_one : (g : Option Qos) (q : Qos) (b one : Bool)
+    → (is_one (let o : Option Qos = if b then Some (raised g q) else g in o) || one) ≡ (is_one g || ((b && is_at_least_once q) || one))
 raised_one None q true one = refl
 raised_one (Some AtMostOnce) q true one = refl
 raised_one (Some AtLeastOnce) q true one = refl
 raised_one g q false one = refl
 
-greatest_by : (g : Option Qos) (held : List Held) (name : List ℕ) → greatest_from g held name ≡ greatest_of (is_some g || is_matched held name) (is_one g || is_matched_at_one held name)
+greatest_by : (g : Option Qos) (held : List Held) (name : List ℕ)
+    → greatest_from g held name ≡ greatest_of (is_some g || is_matched held name) (is_one g || is_matched_at_one held name)
 greatest_by g [] name = greatest_so g
 greatest_by g (h ∷ held) name =
     let b = matches h.filter name in
     greatest_by (if b then Some (raised g h.qos) else g) held name
-    ∙ (ap (λ any. greatest_of any (is_one (let o : Option Qos = if b then Some (raised g h.qos) else g in o) || is_matched_at_one held name)) (raised_any g h.qos b (is_matched held name))
+    ∙
+    (ap (λ any. greatest_of any (is_one (let o : Option Qos = if b then Some (raised g h.qos) else g in o) || is_matched_at_one held name))
+    (raised_any g h.qos b (is_matched held name))
     ∙ ap (greatest_of (is_some g || (b || is_matched held name))) (raised_one g h.qos b (is_matched_at_one held name)))
 
 -- it is due at the lesser of its QoS and the greatest that is granted
-granted_by : (p : Publish) (held : List Held) (owes : Option ℕ) (any at_one : Bool) → p.packet_id ≡ owes → is_matched_at_one held p.name ≡ at_one
+granted_by : (p : Publish) (held : List Held) (owes : Option ℕ) (any at_one : Bool) → p.packet_id ≡ owes
+    → is_matched_at_one held p.name ≡ at_one
     → granted_at p (greatest_of any at_one) ≡ (if any then Some (message p.name p.payload (qos_due held owes p.name) p.retain) else None)
 granted_by p held owes false at_one is one = refl
 granted_by p held None true at_one is one = rw is refl
@@ -102,20 +109,25 @@ granted_by p held (Some packet_id) true true is one = rw (is, one) refl
 granted_by p held (Some packet_id) true false is one = rw (is, one) refl
 
 granted_same : (p : Publish) (held : List Held)
-    → granted_at p (greatest_qos held p.name) ≡ (if is_matched held p.name then Some (message p.name p.payload (qos_due held p.packet_id p.name) p.retain) else None)
+    → granted_at p (greatest_qos held p.name)
+    ≡ (if is_matched held p.name then Some (message p.name p.payload (qos_due held p.packet_id p.name) p.retain) else None)
 granted_same p held =
     ap (granted_at p) (greatest_by None held p.name)
     ∙ granted_by p held p.packet_id (is_matched held p.name) (is_matched_at_one held p.name) refl refl
 
-both_if : (n d any : Bool) (m : Message) → (let o : Option Message = if n && d then (if any then Some m else None) else None in o) ≡ (if n && (d && any) then Some m else None)
+both_if : (n d any : Bool) (m : Message)
+    → (let o : Option Message = if n && d then (if any then Some m else None) else None in o) ≡ (if n && (d && any) then Some m else None)
 both_if true true any m = refl
 both_if true false any m = refl
 both_if false d any m = refl
 
-pub due_meant : (h : List Row) (x : Client) (p : Publish) → phase_of x.id h ≡ Some x.phase → x.filters ≡ standing_of x.id h → meant_for x.id p h ≡ due_to p x.phase x.filters
+pub due_meant : (h : List Row) (x : Client) (p : Publish) → phase_of x.id h ≡ Some x.phase → x.filters ≡ standing_of x.id h
+    → meant_for x.id p h ≡ due_to p x.phase x.filters
 due_meant h x p phase filters =
     sym (ap (λ o. if is_name p.name && is_due_messages x.phase then o else None) (granted_same p x.filters)
-    ∙ (both_if (is_name p.name) (is_due_messages x.phase) (is_matched x.filters p.name) (message p.name p.payload (qos_due x.filters p.packet_id p.name) p.retain)
+    ∙
+    (both_if (is_name p.name) (is_due_messages x.phase) (is_matched x.filters p.name)
+    (message p.name p.payload (qos_due x.filters p.packet_id p.name) p.retain)
     ∙ (rw (phase, awaiting_same x.phase, filters) refl)))
 
 -- ---- which is refused in its own row
@@ -132,7 +144,8 @@ other_back : (id : List ℕ) (said : Decision) → is_of id said ≡ false → n
 other_back id (note.Hand client name outcome) other = rw other refl
 other_back id _ other = refl
 
-note_backs : (id : List ℕ) (said : Decision) (notes : List Decision) (b : Bool) → is_of id said ≡ b → (note_back id said || is_back id notes) ≡ is_back id ((if b then said ∷ [] else []) ++ notes)
+note_backs : (id : List ℕ) (said : Decision) (notes : List Decision) (b : Bool) → is_of id said ≡ b
+    → (note_back id said || is_back id notes) ≡ is_back id ((if b then said ∷ [] else []) ++ notes)
 note_backs id said notes true own = refl
 note_backs id said notes false other = ap (λ b. b || is_back id notes) (other_back id said other)
 
@@ -146,34 +159,40 @@ outs_back id (Wire packet ∷ outs) = outs_back id outs
 
 back_append : (id : List ℕ) (xs ys : List Decision) → is_back id (xs ++ ys) ≡ (is_back id xs || is_back id ys)
 back_append id [] ys = refl
-back_append id (said ∷ xs) ys = ap (λ b. note_back id said || b) (back_append id xs ys) ∙ or_first (note_back id said) (is_back id xs) (is_back id ys)
+back_append id (said ∷ xs) ys =
+    ap (λ b. note_back id said || b) (back_append id xs ys) ∙ or_first (note_back id said) (is_back id xs) (is_back id ys)
   where
     or_first : (a b c : Bool) → (a || (b || c)) ≡ ((a || b) || c)
     or_first true b c = refl
     or_first false b c = refl
 
 -- what is judged as its turn comes waited
-hand_waits : (id name : List ℕ) (o : Outcome) (notes : List Decision) → is_refused_at_once o ≡ false → is_back id notes ≡ false → is_back id (note.Hand id name o ∷ notes) ≡ false
+hand_waits : (id name : List ℕ) (o : Outcome) (notes : List Decision) → is_refused_at_once o ≡ false → is_back id notes ≡ false
+    → is_back id (note.Hand id name o ∷ notes) ≡ false
 hand_waits id name o notes waits rest = rw (same_self id, waits) rest
 
 behind_waits : (id : List ℕ) (q : Qos) (more : List Decision) → is_back id more ≡ false → is_back id (behind q more) ≡ false
 behind_waits id AtMostOnce more rest = rest
 behind_waits id AtLeastOnce more rest = refl
 
-offered_waits : (id : List ℕ) (m : Message) (known full : Bool) (more : List Decision) → is_back id more ≡ false → is_back id (offered id m known full more) ≡ false
+offered_waits : (id : List ℕ) (m : Message) (known full : Bool) (more : List Decision) → is_back id more ≡ false
+    → is_back id (offered id m known full more) ≡ false
 offered_waits id m true full more rest = hand_waits id m.name Allowed (behind m.qos more) refl (behind_waits id m.qos more rest)
 offered_waits id m false true more rest = hand_waits id m.name (Denied (Full place.Ids)) more refl rest
 offered_waits id m false false more rest = refl
 
-judged_waits : (policy : Policy) (id : List ℕ) (ids : Ids) (m : Message) (o : Outcome) (more : List Decision) → is_refused_at_once o ≡ false → is_back id more ≡ false
+judged_waits : (policy : Policy) (id : List ℕ) (ids : Ids) (m : Message) (o : Outcome) (more : List Decision) → is_refused_at_once o ≡ false
+    → is_back id more ≡ false
     → is_back id (judged_turn policy id ids m o more) ≡ false
-judged_waits policy id ids m Allowed more waits rest = offered_waits id m (is_some (known_as policy ids m.name)) (is_full_for m.name ids) more rest
+judged_waits policy id ids m Allowed more waits rest =
+    offered_waits id m (is_some (known_as policy ids m.name)) (is_full_for m.name ids) more rest
 judged_waits policy id ids m (Denied rule) more waits rest = hand_waits id m.name (Denied rule) more waits rest
 
 turns_wait : (policy : Policy) (id : List ℕ) (ids : Ids) (waiting : List Message) → is_back id (turns policy id ids waiting) ≡ false
 turns_wait policy id ids [] = refl
 turns_wait policy id ids (m ∷ more) =
-    judged_waits policy id ids m (receive policy id m.name) (turns policy id ids more) (never_refused policy id m.name) (turns_wait policy id ids more)
+    judged_waits policy id ids m (receive policy id m.name) (turns policy id ids more) (never_refused policy id m.name)
+    (turns_wait policy id ids more)
 
 handed_wait : (policy : Policy) (x : Client) → is_back x.id (handed_over policy x) ≡ false
 handed_wait policy x = by_free (is_free x)
@@ -210,7 +229,8 @@ or_none : (a : Bool) → (a || false) ≡ a
 or_none true = refl
 or_none false = refl
 
-packet_back : (policy : Policy) (x : Client) (f : Option (List ℕ)) (m : Option Message) → is_back x.id (refused_end x f ++ delivered_notes policy m x) ≡ is_away m x.buffer
+packet_back : (policy : Policy) (x : Client) (f : Option (List ℕ)) (m : Option Message)
+    → is_back x.id (refused_end x f ++ delivered_notes policy m x) ≡ is_away m x.buffer
 packet_back policy x f m =
     let y : Client = record x { buffer = joins m x.buffer } in
     back_append x.id (refused_end x f) (delivered_notes policy m x)
@@ -237,17 +257,20 @@ due_all due (Some m) b = due_more due m (arrival b m)
 none_due : (due : List Message) (back : Bool) → due ++ (if back then [] else []) ≡ due
 none_due due back = ap (λ more. due ++ more) (if_none back) ∙ append-nil due
 
-publish_due : (from : Address) (p : Published) (q : FrameQos) (x : Client) (due : List Message) → due_after (publish_cause from p q) x due ≡ due
+publish_due : (from : Address) (p : Published) (q : FrameQos) (x : Client) (due : List Message)
+    → due_after (publish_cause from p q) x due ≡ due
 publish_due from p qos.WithoutSession x due = refl
 publish_due from p qos.AtMostOnce x due = refl
 publish_due from p qos.AtLeastOnce x due = refl
 publish_due from p qos.ExactlyOnce x due = refl
 
-disconnect_due : (from : Address) (duration : Option ℕ) (x : Client) (due : List Message) → due_after (datagram_cause from (Ok (frame.Disconnect duration))) x due ≡ due
+disconnect_due : (from : Address) (duration : Option ℕ) (x : Client) (due : List Message)
+    → due_after (datagram_cause from (Ok (frame.Disconnect duration))) x due ≡ due
 disconnect_due from None x due = refl
 disconnect_due from (Some duration) x due = refl
 
-datagram_due : (from : Address) (read : Result SnFrame FrameFault) (x : Client) (due : List Message) → due_after (datagram_cause from read) x due ≡ due
+datagram_due : (from : Address) (read : Result SnFrame FrameFault) (x : Client) (due : List Message)
+    → due_after (datagram_cause from read) x due ≡ due
 datagram_due from (Ok (frame.Publish p)) x due = publish_due from p p.flags.qos x due
 datagram_due from (Ok (frame.Disconnect duration)) x due = disconnect_due from duration x due
 datagram_due from (Ok message) x due = refl
@@ -278,8 +301,10 @@ pub datagram_brings : (by : ℕ) (h : List Row) (from : Address) (datagram : Lis
     → due_of id (record { by = by; event = Datagram from datagram; outs = outs } ∷ h) ≡ due_of id h
 datagram_brings by h from datagram outs id = none_due (due_of id h) (is_turned_back id outs)
 
-pub due_row : (by : ℕ) (h : List Row) (s : State) (e : Event) (outs : List Out) (x : Client) → phase_of x.id h ≡ Some x.phase → x.filters ≡ standing_of x.id h
-    → notes_of x.id outs ≡ fixed_for s (cause_of e) x → due_of x.id (record { by = by; event = e; outs = outs } ∷ h) ≡ due_after (cause_of e) x (due_of x.id h)
+pub due_row : (by : ℕ) (h : List Row) (s : State) (e : Event) (outs : List Out) (x : Client) → phase_of x.id h ≡ Some x.phase
+    → x.filters ≡ standing_of x.id h
+    → notes_of x.id outs ≡ fixed_for s (cause_of e) x
+    → due_of x.id (record { by = by; event = e; outs = outs } ∷ h) ≡ due_after (cause_of e) x (due_of x.id h)
 due_row by h s (Datagram from datagram) outs x phase filters own =
     none_due (due_of x.id h) (is_turned_back x.id outs) ∙ sym (datagram_due from (frame_of datagram) x (due_of x.id h))
 due_row by h s (Broker packet) outs x phase filters own =

@@ -20,7 +20,7 @@ use Rattle.sng_book.specs.declared.event.Event.TheVariants.{Datagram, Broker, Up
 use Rattle.sng_book.specs.declared.out.Out.{Out}
 use Rattle.sng_book.specs.declared.out.Out.TheVariants.{Send, Wire, Note}
 use Rattle.sng_book.specs.declared.row.Row.{Row}
-use Rattle.sng_history.specs.Causes.{ByUp, ByPacket, ByReplace, cause_of, datagram_cause}
+use Rattle.sng_history.specs.Causes.{ByUp, ByPacket, ByReplace, cause_of, datagram_cause, ByTick}
 use Rattle.sng_history.specs.Notes.{exits_in}
 use Rattle.sng_history.specs.Links.{Link, wants, next_packet_id, packet_id_by, sent_by, exited, resumed}
 use Rattle.sng_history.specs.Links.{filters_wanted, subscribe_sent, subscribes_sent, subscribe_left}
@@ -40,14 +40,15 @@ use Rattle.sng_history.proofs.FlightIds.{shown}
 use Rattle.sng_history.proofs.LawLink.{departed_note, later_exits}
 use Rattle.sng_history.proofs.LawAgain.{ids_by}
 use Rattle.sng_history.proofs.LawRows.{anew}
-use Rattle.sng_history.proofs.LawWires.{datagram_still, broker_wires, replace_wires}
+use Rattle.sng_history.proofs.LawWires.{datagram_still, broker_wires, replace_wires, tick_wires}
 use Rattle.sng_history.proofs.SeenState.{Stands, stands}
-use Rattle.sng_history.proofs.UpstreamWords.{publish_quiet, ack_quiet, subscribe_read, unsubscribe_read}
+use Rattle.sng_history.proofs.UpstreamWords.{publish_quiet, ack_quiet, subscribe_read, unsubscribe_read, ping_quiet}
 use Rattle.sng_history.proofs.UpstreamLeaving.{Speaks, ShortTexts, ShortEnds, next_is, exited_speaks}
 use Rattle.sng_history.proofs.UpstreamLeaving.{subscribe_speaks, unsubscribe_speaks}
 use Rattle.sng_history.proofs.UpstreamWanted.{WantedShown, wanted_shown, speaks_of, texts_short}
 use Rattle.sng_history.proofs.UpstreamWanted.{answered_last}
-use Rattle.sng_history.proofs.SeenRest.{flights_shown, datagram_unmoved}
+use Rattle.sng_history.proofs.SeenRest.{flights_shown}
+use Rattle.sng_history.proofs.SeenPings.{ticked_along, datagram_unmoved}
 
 -- ---- a row that gives none
 
@@ -124,7 +125,7 @@ leaving_last policy link (item.Unsubscribe text ∷ items) speaks short =
     ∙ leaving_last policy next items (unsubscribe_speaks link text speaks) short.1
 leaving_last policy link (item.Acknowledge packet_id ∷ items) speaks short =
     rw (ack_quiet packet_id).ids (leaving_last policy link items speaks short.1)
-leaving_last policy link (item.Ping ∷ items) speaks short = leaving_last policy link items speaks short.1
+leaving_last policy link (item.Ping ∷ items) speaks short = rw ping_quiet.ids (leaving_last policy link items speaks short.1)
 
 -- ---- a connection begins
 
@@ -191,7 +192,9 @@ row_moves h s Take st are = take_moves s s.up refl (speaks_of s st.good are.last
 row_moves h s (Replace policy) st are =
     still s (outs_of s (Replace policy)) (says s (ByReplace policy) st.good.apart).exits
     (replace_wires s policy)
-row_moves h s (Tick clock) st are = refl
+row_moves h s (Tick clock) st are =
+    (ticked_along s clock).last
+    ∙ still s (outs_of s (Tick clock)) (says s (ByTick clock) st.good.apart).exits (tick_wires s clock)
 
 pub last_shown : (h : List Row) → Lawful opening h → (state_of opening h).link.last ≡ last_id h
 last_shown [] l = refl
@@ -216,5 +219,5 @@ rest_shown h l =
       in_flight = are.in_flight;
       last = last_shown h l;
       wanted = (wanted_shown h l).wanted;
-      pinged = are.pinged;
+      pinged = (stands h l).shown.pinged;
     }

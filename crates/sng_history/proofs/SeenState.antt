@@ -14,43 +14,44 @@ use Rattle.sng_frames.specs.declared.frame.SnFrame.{SnFrame}
 use Rattle.sng_frames.specs.declared.frame.SnFrame.TheVariants as frame
 use Rattle.sng_book.specs.Denials.{is_allowed}
 use Rattle.sng_book.specs.declared.address.Address.{Address}
-use Rattle.sng_book.specs.declared.decision.Decision.{Decision}
-use Rattle.sng_book.specs.declared.decision.Decision.TheVariants as note
 use Rattle.sng_book.specs.declared.outcome.Outcome.{Outcome}
 use Rattle.sng_book.specs.declared.outcome.Outcome.TheVariants.{Allowed, Denied}
 use Rattle.sng_book.specs.declared.event.Event.{Event}
 use Rattle.sng_book.specs.declared.event.Event.TheVariants.{Datagram, Broker, Up, Down, Take, Replace, Tick}
 use Rattle.sng_book.specs.declared.out.Out.{Out}
 use Rattle.sng_book.specs.declared.row.Row.{Row}
-use Rattle.sng_history.specs.Causes.{Cause, ByConnect, ByReplace, datagram_cause, publish_cause, cause_of}
-use Rattle.sng_history.specs.Clients.{Client, blank, is_here, let_in, client_by}
+use Rattle.sng_history.specs.Causes.{Cause, ByConnect, datagram_cause, publish_cause, cause_of}
+use Rattle.sng_history.specs.Clients.{Client, blank}
 use Rattle.sng_history.specs.Notes.{notes_of}
 use Rattle.sng_history.specs.State.{State, opening, around, after, state_of, later, is_known, policy_by, clock_by, up_by}
 use Rattle.sng_history.specs.Verdicts.{entry}
 use Rattle.sng_history.specs.Whole.{Notes, entry_outs}
-use Rattle.sng_history.specs.Lawful.{Lawful, ends_under, fixed_for}
+use Rattle.sng_history.specs.Lawful.{Lawful, fixed_for}
 use Rattle.sng_history.specs.Steps.{outs_by, outs_of, notes_for, newcomers_for, client_next, next_of}
 use Rattle.sng_history.specs.Good.{Each, Good}
 use Rattle.sng_history.specs.Views.{policy_in_force, clock_at, is_up}
 use Rattle.sng_history.specs.ViewsMessages.{message_in, message_at}
-use Rattle.sng_history.specs.ViewsClients.{phase_of, address_of, duration_of, heard_of, came_from, stated_in, speaks, is_spoken, is_admitted, is_among, accepted, accepted_in, accepted_by}
+use Rattle.sng_history.specs.ViewsClients.{is_admitted, is_among, accepted, accepted_in, accepted_by}
 use Rattle.sng_history.specs.ViewsStanding.{standing_of, standing_after}
-use Rattle.sng_history.specs.ViewsLink.{waiting}
+use Rattle.sng_history.specs.ViewsLink.{waiting, pinged}
 use Rattle.sng_history.specs.LawsState.{ClientShown}
 use Rattle.sng_history.proofs.Own.{same_self, each_with, each_map, each_append, each_mapped}
 use Rattle.sng_history.proofs.Kept.{client_id}
-use Rattle.sng_history.proofs.Says.{says, blank_enters}
+use Rattle.sng_history.proofs.Says.{says}
 use Rattle.sng_history.proofs.Keeping.{exact_by, next_same}
 use Rattle.sng_history.proofs.GoodNext.{good_next, good_opening}
-use Rattle.sng_history.proofs.SeenNotes.{phase_notes, admitted_notes, phase_by_notes, admitted_by_notes}
-use Rattle.sng_history.proofs.SeenClients.{Before, Shows, kept_of, silent, ends_all, ends_show, packet_shows, let_in_shows, datagram_shows}
-use Rattle.sng_history.proofs.SeenDue.{datagram_brings}
-use Rattle.sng_history.proofs.SeenStrangers.{Unheard, unheard_first, start_none, unheard_row}
-use Rattle.sng_history.proofs.SeenMailed.{Mailed, mailed_waits, mailed_next, mailed_row, mailed_blank}
+use Rattle.sng_history.proofs.SeenStrangers.{Unheard, unheard_first, unheard_row}
+use Rattle.sng_history.proofs.SeenMailed.{Mailed}
 use Rattle.sng_history.proofs.LawStrangers.{row_admits, among_parts}
 use Rattle.sng_history.proofs.SeenLink.{waits_row}
-use Rattle.sng_history.proofs.StandingNotes.{standing_notes, standing_by_notes, standing_next}
+use Rattle.sng_history.proofs.StandingNotes.{standing_by_notes}
 use Rattle.sng_history.proofs.StandingStrangers.{unknown_row}
+use Rattle.sng_history.specs.ViewsWills.{will_of}
+use Rattle.sng_history.proofs.SeenPings.{Connected, pinged_row}
+use Rattle.sng_history.proofs.SeenViews.{InForce}
+use Rattle.sng_history.proofs.SeenSleepers.{Told}
+use Rattle.sng_history.proofs.SeenPongs.{row_told}
+use Rattle.sng_history.proofs.SeenRows.{WillShown, Seen, known_row, new_row}
 
 -- what is kept is what the rows show, with the clients in the order in which each was accepted first
 pub record StateShown (h : List Row) (s : State) : Type 0 where
@@ -58,143 +59,14 @@ pub record StateShown (h : List Row) (s : State) : Type 0 where
   pub clock : s.clock ≡ clock_at h
   pub up : s.up ≡ is_up h
   pub waits : s.link.waiting ≡ waiting h
+  pub pinged : s.link.pinged ≡ pinged h
   pub order : map (λ x. x.id) s.clients ≡ accepted h
   pub clients : Each (ClientShown h) s.clients
   pub mailed : Each (Mailed h) s.clients
+  pub willed : Each (WillShown h) s.clients
   -- nothing stands for who was never accepted, and nothing is shown of it
   pub strangers : (id : List ℕ) → is_among id (accepted h) ≡ false → standing_of id h ≡ []
   pub unheard : (id : List ℕ) → is_among id (accepted h) ≡ false → Unheard id h
-
--- ---- one client
-
--- what the rows show of a client and an event
-abbrev before_row : List ℕ → Event → List Row → Before
-before_row id e h = record {
-  phase = phase_of id h;
-  address = address_of id h;
-  duration = duration_of id h;
-  heard = heard_of id h;
-  from = came_from e;
-  stated = stated_in e;
-  clock = clock_at h;
-  spoke = speaks id e h;
-}
-
-shown_by : (by : ℕ) (h : List Row) (e : Event) (outs : List Out) (id : List ℕ) (n : List Decision) (y : Client)
-    → y.id ≡ id → notes_of id outs ≡ n → Shows id (before_row id e h) n y → Mailed (record { by = by; event = e; outs = outs } ∷ h) y
-    → y.filters ≡ standing_of y.id (record { by = by; event = e; outs = outs } ∷ h) → ClientShown (record { by = by; event = e; outs = outs } ∷ h) y
-shown_by by h e outs id n y same own shows mailed filters =
-    let rows = record { by = by; event = e; outs = outs } ∷ h in
-    let admitted : is_admitted id outs ≡ admitted_notes id n = admitted_by_notes id outs ∙ ap (admitted_notes id) own in
-    record {
-      phase = ap (λ i. phase_of i rows) same ∙ (phase_by_notes id outs (phase_of id h) ∙ (ap (λ ns. phase_notes id ns (phase_of id h)) own ∙ shows.0));
-      address = ap (λ i. address_of i rows) same ∙ (ap (λ b. if b then came_from e else address_of id h) admitted ∙ shows.1);
-      duration = ap (λ i. duration_of i rows) same ∙ (ap (λ b. if b then stated_in e else duration_of id h) admitted ∙ shows.2);
-      heard = ap (λ i. heard_of i rows) same ∙ (ap (λ b. if b || speaks id e h then Some (clock_at h) else heard_of id h) admitted ∙ shows.3);
-      ids = mailed.telling.marks;
-      filters = filters;
-      waiting = mailed_waits rows y mailed;
-      number = mailed.given;
-      exchange = mailed.exchange;
-    }
-
--- the client, who is kept as the rows before show, speaks by the event
-abbrev spoke_by : Event → Client → Bool
-spoke_by (Datagram from datagram) x = is_spoken (message_in (frame_of datagram)) && is_here x from
-spoke_by (Broker packet) x = false
-spoke_by Up x = false
-spoke_by Down x = false
-spoke_by Take x = false
-spoke_by (Replace policy) x = false
-spoke_by (Tick clock) x = false
-
-event_shows : (s : State) (x : Client) (e : Event)
-    → Shows x.id (kept_of x (came_from e) (stated_in e) s.clock (spoke_by e x)) (fixed_for s (cause_of e) x) (client_next s (cause_of e) x)
-event_shows s x (Datagram from datagram) = datagram_shows s x from (frame_of datagram)
-event_shows s x (Broker packet) = packet_shows s x packet
-event_shows s x Up = silent x None None s.clock false
-event_shows s x Down = silent x None None s.clock false
-event_shows s x Take = silent x None None s.clock false
-event_shows s x (Replace policy) =
-    ends_show x (around s (ByReplace policy)) s.clock (ends_under policy x.id x.filters) (ends_all x.id x.id (around s (ByReplace policy)) policy x.filters x)
-event_shows s x (Tick clock) = silent x None None s.clock false
-
-spoke_same : (h : List Row) (x : Client) (e : Event) → ClientShown h x → speaks x.id e h ≡ spoke_by e x
-spoke_same h x (Datagram from datagram) shown = rw (shown.phase, shown.address) refl
-spoke_same h x (Broker packet) shown = refl
-spoke_same h x Up shown = refl
-spoke_same h x Down shown = refl
-spoke_same h x Take shown = refl
-spoke_same h x (Replace policy) shown = refl
-spoke_same h x (Tick clock) shown = refl
-
--- the filters that stand for a client, where its notes are those that the cause fixes
-filters_row : (by : ℕ) (h : List Row) (s : State) (e : Event) (outs : List Out) (x : Client) → x.filters ≡ standing_of x.id h → notes_of x.id outs ≡ fixed_for s (cause_of e) x
-    → (client_next s (cause_of e) x).filters ≡ standing_of (client_next s (cause_of e) x).id (record { by = by; event = e; outs = outs } ∷ h)
-filters_row by h s e outs x shown own =
-    let c = cause_of e in
-    let m = message_at e in
-    let rows = record { by = by; event = e; outs = outs } ∷ h in
-    standing_next s e x
-    ∙ (ap (standing_notes m x.id (fixed_for s c x)) shown
-    ∙ (ap (λ notes. standing_notes m x.id notes (standing_of x.id h)) (sym own)
-    ∙ (sym (standing_by_notes m x.id outs (standing_of x.id h)) ∙ ap (λ id. standing_of id rows) (sym (client_id (around s c) (fixed_for s c x) x)))))
-
--- a client as it is shown, with what is open
-record Seen (h : List Row) (x : Client) : Type 0 where
-  shown : ClientShown h x
-  mailed : Mailed h x
-
--- a client that was accepted before
-known_row : (by : ℕ) (h : List Row) (s : State) (e : Event) (outs : List Out) (x : Client) → s.clock ≡ clock_at h → Seen h x → notes_of x.id outs ≡ fixed_for s (cause_of e) x
-    → Seen (record { by = by; event = e; outs = outs } ∷ h) (client_next s (cause_of e) x)
-known_row by h s e outs x clock seen own =
-    let shown = seen.shown in
-    let mailed = mailed_row by h s e outs x shown.phase shown.address shown.filters own seen.mailed in
-    record {
-      shown = shown_by by h e outs x.id (fixed_for s (cause_of e) x) (client_next s (cause_of e) x) (client_id (around s (cause_of e)) (fixed_for s (cause_of e) x) x) own
-          (rw (shown.phase, shown.address, shown.duration, shown.heard, sym clock, spoke_same h x e shown) (event_shows s x e))
-          mailed
-          (filters_row by h s e outs x shown.filters own);
-      mailed = mailed;
-    }
-
--- ---- one that is accepted for the first time
-
-entry_admitted : (s : State) (from : Address) (connect : Connect) (n : Notes) (o : Outcome) → is_admitted connect.client_id (entry_outs s from connect n o) ≡ is_allowed o
-entry_admitted s from connect n Allowed = rw (same_self connect.client_id) refl
-entry_admitted s from connect n (Denied rule) = rw (same_self connect.client_id) refl
-
-new_notes : (s : State) (from : Address) (connect : Connect) → entry s connect ≡ Allowed
-    → fixed_for s (ByConnect from connect) (blank connect.client_id) ≡ note.Connect connect.client_id Allowed ∷ []
-new_notes s from connect is =
-    rw (same_self connect.client_id, is) (ap (λ notes. note.Connect connect.client_id Allowed ∷ notes) (blank_enters s from connect connect.flags.clean refl))
-
-new_next : (s : State) (from : Address) (connect : Connect) → entry s connect ≡ Allowed
-    → client_next s (ByConnect from connect) (blank connect.client_id) ≡ let_in s.clock from connect (blank connect.client_id)
-new_next s from connect is =
-    ap (λ notes. client_by (around s (ByConnect from connect)) notes (blank connect.client_id)) (new_notes s from connect is)
-
--- the client that connects, by the verdict
-new_row : (by : ℕ) (h : List Row) (s : State) (from : Address) (datagram : List ℕ) (connect : Connect) (outs : List Out)
-    → frame_of datagram ≡ Ok (frame.Connect connect) → s.clock ≡ clock_at h → entry s connect ≡ Allowed
-    → notes_of connect.client_id outs ≡ fixed_for s (ByConnect from connect) (blank connect.client_id) → standing_of connect.client_id h ≡ [] → Unheard connect.client_id h
-    → Seen (record { by = by; event = Datagram from datagram; outs = outs } ∷ h) (client_next s (ByConnect from connect) (blank connect.client_id))
-new_row by h s from datagram connect outs read clock is own none unheard =
-    let id = connect.client_id in
-    let e = Datagram from datagram in
-    let c = ByConnect from connect in
-    let cause : cause_of e ≡ c = ap (datagram_cause from) read in
-    let mailed = mailed_next by h s c e outs (blank id) (sym cause) own (datagram_brings by h from datagram outs id) (start_none id e h unheard.phase) (mailed_blank h id unheard) in
-    record {
-      shown = shown_by by h e outs id (note.Connect id Allowed ∷ []) (client_next s c (blank id)) (client_id (around s c) (fixed_for s c (blank id)) (blank id)) (own ∙ new_notes s from connect is)
-          (subst (Shows id (before_row id e h) (note.Connect id Allowed ∷ [])) (sym (new_next s from connect is))
-          (let_in_shows (before_row id e h) id s.clock from connect (blank id) refl (rw read refl) (sym clock)))
-          mailed
-          (subst (λ d. (client_next s d (blank id)).filters ≡ standing_of (client_next s d (blank id)).id (record { by = by; event = e; outs = outs } ∷ h)) cause
-          (filters_row by h s e outs (blank id) (sym none) (subst (λ d. notes_of id outs ≡ fixed_for s d (blank id)) (sym cause) own)));
-      mailed = mailed;
-    }
 
 abbrev NewShown : State → Cause → List Row → List Client → Type 0
 NewShown s c rows xs = Each (λ x. Seen rows (client_next s c x)) xs
@@ -206,13 +78,18 @@ NewOwn s c outs xs = Each (λ x. notes_of x.id outs ≡ fixed_for s c x) xs
 abbrev Unstanding : List Row → State → Type 0
 Unstanding h s = (id : List ℕ) → is_known id s.clients ≡ false → (standing_of id h ≡ []) × Unheard id h
 
-entrant_row : (by : ℕ) (h : List Row) (s : State) (from : Address) (datagram : List ℕ) (connect : Connect) (outs : List Out) (o : Outcome) (known : Bool)
-    → frame_of datagram ≡ Ok (frame.Connect connect) → s.clock ≡ clock_at h → entry s connect ≡ o
-    → NewOwn s (ByConnect from connect) outs (if is_allowed o && not known then blank connect.client_id ∷ [] else []) → (known ≡ false → (standing_of connect.client_id h ≡ []) × Unheard connect.client_id h)
-    → NewShown s (ByConnect from connect) (record { by = by; event = Datagram from datagram; outs = outs } ∷ h) (if is_allowed o && not known then blank connect.client_id ∷ [] else [])
-entrant_row by h s from datagram connect outs Allowed false read clock is own none = (let both = none refl in new_row by h s from datagram connect outs read clock is own.0 both.0 both.1, tt)
-entrant_row by h s from datagram connect outs Allowed true read clock is own none = tt
-entrant_row by h s from datagram connect outs (Denied rule) known read clock is own none = tt
+entrant_row : (by : ℕ) (h : List Row) (s : State) (from : Address) (datagram : List ℕ) (connect : Connect) (outs : List Out) (o : Outcome)
+    (known : Bool)
+    → frame_of datagram ≡ Ok (frame.Connect connect) → InForce (around s (ByConnect from connect)) by h (Datagram from datagram) outs
+    → s.clock ≡ clock_at h → entry s connect ≡ o
+    → NewOwn s (ByConnect from connect) outs (if is_allowed o && not known then blank connect.client_id ∷ [] else [])
+    → (known ≡ false → (standing_of connect.client_id h ≡ []) × Unheard connect.client_id h)
+    → NewShown s (ByConnect from connect) (record { by = by; event = Datagram from datagram; outs = outs } ∷ h)
+    (if is_allowed o && not known then blank connect.client_id ∷ [] else [])
+entrant_row by h s from datagram connect outs Allowed false read force clock is own none =
+    (let both = none refl in new_row by h s from datagram connect outs read force clock is own.0 both.0 both.1, tt)
+entrant_row by h s from datagram connect outs Allowed true read force clock is own none = tt
+entrant_row by h s from datagram connect outs (Denied rule) known read force clock is own none = tt
 
 publish_news : (s : State) (from : Address) (p : Publish) (q : FrameQos) → newcomers_for s (publish_cause from p q) ≡ []
 publish_news s from p qos.WithoutSession = refl
@@ -220,36 +97,45 @@ publish_news s from p qos.AtMostOnce = refl
 publish_news s from p qos.AtLeastOnce = refl
 publish_news s from p qos.ExactlyOnce = refl
 
-disconnect_news : (s : State) (from : Address) (duration : Option ℕ) → newcomers_for s (datagram_cause from (Ok (frame.Disconnect duration))) ≡ []
+disconnect_news : (s : State) (from : Address) (duration : Option ℕ)
+    → newcomers_for s (datagram_cause from (Ok (frame.Disconnect duration))) ≡ []
 disconnect_news s from None = refl
 disconnect_news s from (Some duration) = refl
 
 none_shown : (s : State) (c : Cause) (rows : List Row) → newcomers_for s c ≡ [] → NewShown s c rows (newcomers_for s c)
 none_shown s c rows none = subst (NewShown s c rows) (sym none) tt
 
-datagram_news : (by : ℕ) (h : List Row) (s : State) (from : Address) (datagram : List ℕ) (read : Result SnFrame FrameFault) (outs : List Out)
-    → frame_of datagram ≡ read → s.clock ≡ clock_at h → Unstanding h s
+datagram_news : (by : ℕ) (h : List Row) (s : State) (from : Address) (datagram : List ℕ) (read : Result SnFrame FrameFault)
+    (outs : List Out)
+    → frame_of datagram ≡ read → InForce (around s (datagram_cause from read)) by h (Datagram from datagram) outs → s.clock ≡ clock_at h
+    → Unstanding h s
     → let c = datagram_cause from read in
-    NewOwn s c outs (newcomers_for s c) → NewShown s c (record { by = by; event = Datagram from datagram; outs = outs } ∷ h) (newcomers_for s c)
-datagram_news by h s from datagram (Ok (frame.Connect connect)) outs is clock none own =
-    entrant_row by h s from datagram connect outs (entry s connect) (is_known connect.client_id s.clients) is clock refl own (none connect.client_id)
-datagram_news by h s from datagram (Ok (frame.Publish p)) outs is clock none own =
-    none_shown s (publish_cause from p p.flags.qos) (record { by = by; event = Datagram from datagram; outs = outs } ∷ h) (publish_news s from p p.flags.qos)
-datagram_news by h s from datagram (Ok (frame.Disconnect duration)) outs is clock none own =
-    none_shown s (datagram_cause from (Ok (frame.Disconnect duration))) (record { by = by; event = Datagram from datagram; outs = outs } ∷ h) (disconnect_news s from duration)
-datagram_news by h s from datagram (Ok message) outs is clock none own = tt
-datagram_news by h s from datagram (Err broke) outs is clock none own = tt
+    NewOwn s c outs (newcomers_for s c)
+    → NewShown s c (record { by = by; event = Datagram from datagram; outs = outs } ∷ h) (newcomers_for s c)
+datagram_news by h s from datagram (Ok (frame.Connect connect)) outs is force clock none own =
+    entrant_row by h s from datagram connect outs (entry s connect) (is_known connect.client_id s.clients) is force clock refl own
+    (none connect.client_id)
+datagram_news by h s from datagram (Ok (frame.Publish p)) outs is force clock none own =
+    none_shown s (publish_cause from p p.flags.qos) (record { by = by; event = Datagram from datagram; outs = outs } ∷ h)
+    (publish_news s from p p.flags.qos)
+datagram_news by h s from datagram (Ok (frame.Disconnect duration)) outs is force clock none own =
+    none_shown s (datagram_cause from (Ok (frame.Disconnect duration)))
+    (record { by = by; event = Datagram from datagram; outs = outs } ∷ h) (disconnect_news s from duration)
+datagram_news by h s from datagram (Ok message) outs is force clock none own = tt
+datagram_news by h s from datagram (Err broke) outs is force clock none own = tt
 
-event_news : (by : ℕ) (h : List Row) (s : State) (e : Event) (outs : List Out) → s.clock ≡ clock_at h → Unstanding h s
+event_news : (by : ℕ) (h : List Row) (s : State) (e : Event) (outs : List Out) → InForce (around s (cause_of e)) by h e outs
+    → s.clock ≡ clock_at h → Unstanding h s
     → let c = cause_of e in
     NewOwn s c outs (newcomers_for s c) → NewShown s c (record { by = by; event = e; outs = outs } ∷ h) (newcomers_for s c)
-event_news by h s (Datagram from datagram) outs clock none own = datagram_news by h s from datagram (frame_of datagram) outs refl clock none own
-event_news by h s (Broker packet) outs clock none own = tt
-event_news by h s Up outs clock none own = tt
-event_news by h s Down outs clock none own = tt
-event_news by h s Take outs clock none own = tt
-event_news by h s (Replace policy) outs clock none own = tt
-event_news by h s (Tick clock) outs now none own = tt
+event_news by h s (Datagram from datagram) outs force clock none own =
+    datagram_news by h s from datagram (frame_of datagram) outs refl force clock none own
+event_news by h s (Broker packet) outs force clock none own = tt
+event_news by h s Up outs force clock none own = tt
+event_news by h s Down outs force clock none own = tt
+event_news by h s Take outs force clock none own = tt
+event_news by h s (Replace policy) outs force clock none own = tt
+event_news by h s (Tick clock) outs force now none own = tt
 
 -- ---- all clients
 
@@ -261,18 +147,23 @@ each_right : (P : Client → Type 0) (xs ys : List Client) → Each P (xs ++ ys)
 each_right P [] ys all = all
 each_right P (x ∷ xs) ys all = each_right P xs ys all.1
 
-clients_row : (by : ℕ) (h : List Row) (s : State) (e : Event) (outs : List Out) → s.clock ≡ clock_at h → Each (Seen h) s.clients → Unstanding h s
+clients_row : (by : ℕ) (h : List Row) (s : State) (e : Event) (outs : List Out) → InForce (around s (cause_of e)) by h e outs
+    → s.clock ≡ clock_at h → Each (Seen h) s.clients
+    → Each (Told s (cause_of e) outs) s.clients → Unstanding h s
     → NewOwn s (cause_of e) outs (s.clients ++ newcomers_for s (cause_of e))
-    → Each (Seen (record { by = by; event = e; outs = outs } ∷ h)) (map (client_next s (cause_of e)) (s.clients ++ newcomers_for s (cause_of e)))
-clients_row by h s e outs clock seen none own =
+    → Each (Seen (record { by = by; event = e; outs = outs } ∷ h))
+    (map (client_next s (cause_of e)) (s.clients ++ newcomers_for s (cause_of e)))
+clients_row by h s e outs force clock seen told none own =
     let c = cause_of e in
     let rows = record { by = by; event = e; outs = outs } ∷ h in
     let Own : Client → Type 0 = λ x. notes_of x.id outs ≡ fixed_for s c x in
     let Next : Client → Type 0 = λ x. Seen rows (client_next s c x) in
     each_mapped (Seen rows) (client_next s c) (s.clients ++ newcomers_for s c)
     (each_append Next s.clients (newcomers_for s c)
-    (each_with (Seen h) Own Next s.clients (λ x was is. known_row by h s e outs x clock was is) seen (each_left Own s.clients (newcomers_for s c) own))
-    (event_news by h s e outs clock none (each_right Own s.clients (newcomers_for s c) own)))
+    (each_with (λ x. Seen h x × Told s c outs x) Own Next s.clients (λ x both is. known_row by h s e outs x clock force both.0 is both.1)
+    (each_with (Seen h) (Told s c outs) (λ x. Seen h x × Told s c outs x) s.clients (λ x one two. (one, two)) seen told)
+    (each_left Own s.clients (newcomers_for s c) own))
+    (event_news by h s e outs force clock none (each_right Own s.clients (newcomers_for s c) own)))
 
 -- ---- their order
 
@@ -295,6 +186,11 @@ one_if : (b : Bool) (id : List ℕ) → ids_of (if b then blank id ∷ [] else [
 one_if true id = refl
 one_if false id = refl
 
+entry_admitted : (s : State) (from : Address) (connect : Connect) (n : Notes) (o : Outcome)
+    → is_admitted connect.client_id (entry_outs s from connect n o) ≡ is_allowed o
+entry_admitted s from connect n Allowed = rw (same_self connect.client_id) refl
+entry_admitted s from connect n (Denied rule) = rw (same_self connect.client_id) refl
+
 datagram_order : (s : State) (from : Address) (read : Result SnFrame FrameFault)
     → let c = datagram_cause from read in
     ids_of (newcomers_for s c) ≡ accepted_by (ids_of s.clients) (message_in read) (outs_by s c)
@@ -303,7 +199,8 @@ datagram_order s from (Ok (frame.Connect connect)) =
     rw (entry_admitted s from connect (notes_for s (ByConnect from connect)) (entry s connect), known_among id s.clients)
     (one_if (is_allowed (entry s connect) && not (is_known id s.clients)) id)
 datagram_order s from (Ok (frame.Publish p)) = ap ids_of (publish_news s from p p.flags.qos)
-datagram_order s from (Ok (frame.Disconnect duration)) = ap ids_of (disconnect_news s from duration)
+datagram_order s from (Ok (frame.Disconnect None)) = refl
+datagram_order s from (Ok (frame.Disconnect (Some duration))) = refl
 datagram_order s from (Ok message) = refl
 datagram_order s from (Err broke) = refl
 
@@ -317,11 +214,13 @@ event_order s (Replace policy) = refl
 event_order s (Tick clock) = refl
 
 order_row : (s : State) (e : Event) (h : List Row) → ids_of s.clients ≡ accepted h
-    → ids_of (map (client_next s (cause_of e)) (s.clients ++ newcomers_for s (cause_of e))) ≡ accepted h ++ accepted_in (accepted h) e (outs_of s e)
+    → ids_of (map (client_next s (cause_of e)) (s.clients ++ newcomers_for s (cause_of e)))
+    ≡ accepted h ++ accepted_in (accepted h) e (outs_of s e)
 order_row s e h order =
     let c = cause_of e in
     ids_next s c (s.clients ++ newcomers_for s c) ∙ (ids_append s.clients (newcomers_for s c)
-    ∙ subst (λ ids. ids_of s.clients ++ ids_of (newcomers_for s c) ≡ ids ++ accepted_in ids e (outs_of s e)) order (ap (λ ids. ids_of s.clients ++ ids) (event_order s e)))
+    ∙ subst (λ ids. ids_of s.clients ++ ids_of (newcomers_for s c) ≡ ids ++ accepted_in ids e (outs_of s e)) order
+    (ap (λ ids. ids_of s.clients ++ ids) (event_order s e)))
 
 -- ---- the state
 
@@ -352,7 +251,8 @@ record Moved (s : State) (e : Event) (rows h : List Row) : Type 0 where
   clock : clock_by (cause_of e) s.clock ≡ clock_at rows
   up : up_by (cause_of e) s.up ≡ is_up rows
 
-moved_row : (by : ℕ) (h : List Row) (s : State) (e : Event) (outs : List Out) → StateShown h s → Moved s e (record { by = by; event = e; outs = outs } ∷ h) h
+moved_row : (by : ℕ) (h : List Row) (s : State) (e : Event) (outs : List Out) → StateShown h s
+    → Moved s e (record { by = by; event = e; outs = outs } ∷ h) h
 moved_row by h s (Datagram from datagram) outs shown =
     let same = still from (frame_of datagram) in
     record { policy = same.policy s.policy ∙ shown.policy; clock = same.clock s.clock ∙ shown.clock; up = same.up s.up ∙ shown.up }
@@ -363,34 +263,49 @@ moved_row by h s Take outs shown = record { policy = shown.policy; clock = shown
 moved_row by h s (Replace policy) outs shown = record { policy = refl; clock = shown.clock; up = shown.up }
 moved_row by h s (Tick clock) outs shown = record { policy = shown.policy; clock = ap (λ was. later was clock) shown.clock; up = shown.up }
 
-shown_row : (by : ℕ) (h : List Row) (s : State) (e : Event) → Good s → StateShown h s → StateShown (record { by = by; event = e; outs = outs_of s e } ∷ h) (next_of s e)
+abbrev Both : List Row → Client → Type 0
+Both h x = ClientShown h x × Mailed h x
+
+shown_row : (by : ℕ) (h : List Row) (s : State) (e : Event) → Good s → StateShown h s
+    → StateShown (record { by = by; event = e; outs = outs_of s e } ∷ h) (next_of s e)
 shown_row by h s e good shown =
     let c = cause_of e in
     let outs = outs_of s e in
     let moved = moved_row by h s e outs shown in
+    let connected : Connected h s = record { up = shown.up; clock = shown.clock; pinged = shown.pinged } in
     let own = (says s c good.apart).own in
     let unstanding : Unstanding h s = λ id is.
     let none = ap (is_among id) (sym shown.order) ∙ (known_among id s.clients ∙ is) in (shown.strangers id none, shown.unheard id none) in
-    let seen = clients_row by h s e outs shown.clock
-    (each_with (ClientShown h) (Mailed h) (Seen h) s.clients (λ x one two. record { shown = one; mailed = two }) shown.clients shown.mailed) unstanding own in
+    let force : InForce (around s c) by h e outs = record { cause = refl; policy = moved.policy; clock = moved.clock } in
+    let seen = clients_row by h s e outs force shown.clock
+    (each_with (Both h) (WillShown h) (Seen h) s.clients (λ x both willed. record { shown = both.0; mailed = both.1; willed = willed })
+    (each_with (ClientShown h) (Mailed h) (Both h) s.clients (λ x one two. (one, two)) shown.clients shown.mailed) shown.willed)
+    (row_told s c good) unstanding own in
     let rows = record { by = by; event = e; outs = outs } ∷ h in
     let after = map (client_next s c) (s.clients ++ newcomers_for s c) in
-    let away : (id : List ℕ) → is_among id (accepted h) ≡ false → is_known id s.clients ≡ false = λ id before. sym (known_among id s.clients) ∙ (ap (is_among id) shown.order ∙ before) in
+    let away : (id : List ℕ) → is_among id (accepted h) ≡ false → is_known id s.clients ≡ false =
+    λ id before. sym (known_among id s.clients) ∙ (ap (is_among id) shown.order ∙ before) in
     record {
       policy = moved.policy;
       clock = moved.clock;
       up = moved.up;
-      waits = waits_row s e h shown.up shown.waits shown.order (each_map (ClientShown h) (λ x. x.filters ≡ standing_of x.id h) s.clients (λ x is. is.filters) shown.clients)
+      waits =
+          waits_row s e h connected shown.waits good.apart shown.order
+          (each_map (ClientShown h) (λ x. x.filters ≡ standing_of x.id h) s.clients (λ x is. is.filters) shown.clients)
+          (each_map (ClientShown h) (λ x. x.wills.will ≡ will_of x.id h) s.clients (λ x is. is.will) shown.clients)
           (each_left (λ x. notes_of x.id outs ≡ fixed_for s c x) s.clients (newcomers_for s c) own);
+      pinged = pinged_row h s e connected;
       order = order_row s e h shown.order;
       clients = each_map (Seen rows) (ClientShown rows) after (λ x is. is.shown) seen;
       mailed = each_map (Seen rows) (Mailed rows) after (λ x is. is.mailed) seen;
+      willed = each_map (Seen rows) (WillShown rows) after (λ x is. is.willed) seen;
       strangers = λ id none.
           let before : is_among id (accepted h) ≡ false = (among_parts id (accepted h) (accepted_in (accepted h) e outs) none).0 in
-          ap (standing_after (message_at e) id outs) (shown.strangers id before) ∙ (standing_by_notes (message_at e) id outs [] ∙ unknown_row s e id (away id before));
+          ap (standing_after (message_at e) id outs) (shown.strangers id before)
+          ∙ (standing_by_notes (message_at e) id outs [] ∙ unknown_row s e id (away id before));
       unheard = λ id none.
           let parts = among_parts id (accepted h) (accepted_in (accepted h) e outs) none in
-          unheard_row by h s e id (away id parts.0) (row_admits s e (accepted h) id parts.0 parts.1) (shown.unheard id parts.0);
+          unheard_row by h s e id force (away id parts.0) (row_admits s e (accepted h) id parts.0 parts.1) (shown.unheard id parts.0);
     }
 
 -- a state between rows of a lawful history
@@ -399,13 +314,32 @@ pub record Stands (h : List Row) (s : State) : Type 0 where
   pub shown : StateShown h s
 
 -- after a lawful row, too
-stands_row : (by : ℕ) (h : List Row) (s : State) (e : Event) (outs : List Out) → outs ≡ outs_of s e → Stands h s → Stands (record { by = by; event = e; outs = outs } ∷ h) (after s (cause_of e) outs)
+stands_row : (by : ℕ) (h : List Row) (s : State) (e : Event) (outs : List Out) → outs ≡ outs_of s e → Stands h s
+    → Stands (record { by = by; event = e; outs = outs } ∷ h) (after s (cause_of e) outs)
 stands_row by h s e outs is stands =
     subst (λ o. Stands (record { by = by; event = e; outs = o } ∷ h) (after s (cause_of e) o)) (sym is)
     (subst (Stands (record { by = by; event = e; outs = outs_of s e } ∷ h)) (sym (next_same s (cause_of e) stands.good))
     (record { good = good_next s (cause_of e) stands.good; shown = shown_row by h s e stands.good stands.shown }))
 
 pub stands : (h : List Row) → Lawful opening h → Stands h (state_of opening h)
-stands [] l = record { good = good_opening; shown = record { policy = refl; clock = refl; up = refl; waits = refl; order = refl; clients = tt; mailed = tt; strangers = λ id none. refl; unheard = λ id none. unheard_first id } }
+stands [] l =
+    record {
+      good = good_opening;
+      shown =
+          record {
+            policy = refl;
+            clock = refl;
+            up = refl;
+            waits = refl;
+            pinged = refl;
+            order = refl;
+            clients = tt;
+            mailed = tt;
+            willed = tt;
+            strangers = λ id none. refl;
+            unheard = λ id none. unheard_first id;
+          };
+    }
 stands (row ∷ h) l =
-    stands_row row.by h (state_of opening h) row.event row.outs (exact_by (state_of opening h) (cause_of row.event) row.outs l.1) (stands h l.0)
+    stands_row row.by h (state_of opening h) row.event row.outs (exact_by (state_of opening h) (cause_of row.event) row.outs l.1)
+    (stands h l.0)

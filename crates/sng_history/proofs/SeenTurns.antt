@@ -1,6 +1,7 @@
 -- What the rows show of the messages for a client, and what waits for it and is open with it, move alike: as a message is settled, as one
 -- leaves, and as an id is announced.
-use Rattle.std.proofs.Common.{◌≡◌, ℕ, zero, suc, ◌+◌, ◌≤◌, ◌<◌, Bool, true, false, List, [], ◌∷◌, ◌++◌, map, length, refl, ap, sym, ◌∙◌, if◌then◌else◌, arith, length-append}
+use Rattle.std.proofs.Common.{◌≡◌, ℕ, zero, suc, ◌+◌, ◌≤◌, ◌<◌, Bool, true, false, List, [], ◌∷◌, ◌++◌, map, length, refl, ap, sym, ◌∙◌}
+use Rattle.std.proofs.Common.{if◌then◌else◌, arith, length-append}
 use Rattle.std.specs.Prelude.{◌-◌, ◌%◌, ◌==◌, ◌||◌, nat_le, drop, take, slice_get, Option, Some, None}
 use Rattle.std.specs.Str.{bytes_eq}
 use Rattle.std.proofs.Math.Nat.{suc-mod, mod-eq_of_lt}
@@ -10,7 +11,7 @@ use Rattle.sng_ids.specs.Ids.{Ids, id_for, with_name as with_entry, confirmed}
 use Rattle.sng_queue.specs.declared.kind.TopicIdKind.{TopicIdKind}
 use Rattle.sng_queue.specs.declared.exchange.Exchange.{Exchange}
 use Rattle.sng_queue.specs.declared.exchange.Exchange.TheVariants.{Announcing, Acknowledging}
-use Rattle.sng_queue.specs.Exchanges.{first_sending}
+use Rattle.sng_queue.specs.Exchanges.{first_sending, repeat}
 use Rattle.sng_queue.specs.Messages.{Message}
 use Rattle.sng_queue.specs.Buffers.{Buffer}
 use Rattle.sng_book.specs.declared.outcome.Outcome.{Outcome}
@@ -18,10 +19,14 @@ use Rattle.sng_history.specs.Clients.{told as told_id}
 use Rattle.sng_history.specs.Handing.{number_after}
 use Rattle.sng_history.specs.ViewsClients.{is_among, with_name, id_told}
 use Rattle.sng_history.specs.ViewsHanding.{Opening, Announced, HandedOver, Progress, closes, last_number}
-use Rattle.sng_history.specs.LawsState.{IsOpen}
+use Rattle.sng_history.specs.LawsState.{sending_shown, exchange_shown}
 use Rattle.sng_history.specs.LawsHanding.{IsFront}
 use Rattle.sng_history.proofs.Marked.{id_marked}
-use Rattle.sng_history.proofs.SeenIds.{Telling, telling_none, telling_announced, telling_confirmed, telling_told, id_stays, among_self, among_more}
+use Rattle.sng_history.proofs.SeenIds.{Telling, telling_none, telling_announced, telling_confirmed, telling_told, id_stays, among_self}
+use Rattle.sng_history.proofs.SeenIds.{among_more}
+use Rattle.sng_history.specs.ViewsSendings.{Last, sent_first}
+use Rattle.sng_book.specs.declared.outcome.Outcome.TheVariants.{Allowed}
+use Rattle.sng_queue.specs.declared.kind.TopicIdKind.TheVariants.{Normal}
 
 -- ---- what is settled
 
@@ -41,7 +46,8 @@ pub record Next (due : List Message) (count : ℕ) (m : Message) (more : List Me
 next_first : (d : Message) (due : List Message) (m : Message) (more : List Message) → d ≡ m → due ≡ more → Next (d ∷ due) 0 m more
 next_first d due m more one rest = record { turn = ap Some one; rest = sym rest; few = omega arith; names = ap (λ o. o.name ∷ []) one }
 
-next_later : (d : Message) (due : List Message) (n : ℕ) (m : Message) (more : List Message) → Next due n m more → Next (d ∷ due) (suc n) m more
+next_later : (d : Message) (due : List Message) (n : ℕ) (m : Message) (more : List Message) → Next due n m more
+    → Next (d ∷ due) (suc n) m more
 next_later d due n m more next =
     let one : suc n + 1 ≡ suc (n + 1) = omega arith in
     let few : n + 1 ≤ length due = next.few in
@@ -61,11 +67,13 @@ next_is [] (suc n) m more is = absurd cc
 next_is (d ∷ due) zero m more is = let both = first_of_both d m due more (sym is) in next_first d due m more both.0 both.1
 next_is (d ∷ due) (suc n) m more is = next_later d due n m more (next_is due n m more is)
 
-names_more : (hands : List (List ℕ × Outcome)) (name : List ℕ) (o : Outcome) → map (λ hand. hand.0) (hands ++ (name, o) ∷ []) ≡ map (λ hand. hand.0) hands ++ name ∷ []
+names_more : (hands : List (List ℕ × Outcome)) (name : List ℕ) (o : Outcome)
+    → map (λ hand. hand.0) (hands ++ (name, o) ∷ []) ≡ map (λ hand. hand.0) hands ++ name ∷ []
 names_more [] name o = refl
 names_more (hand ∷ hands) name o = ap (λ names. hand.0 ∷ names) (names_more hands name o)
 
-pub settling_next : (due : List Message) (n : ℕ) (settled : List (List ℕ × Outcome)) (m : Message) (more : List Message) (o : Outcome) → Settling due n settled (m ∷ more)
+pub settling_next : (due : List Message) (n : ℕ) (settled : List (List ℕ × Outcome)) (m : Message) (more : List Message) (o : Outcome)
+    → Settling due n settled (m ∷ more)
     → Settling due (n + 1) (settled ++ (m.name, o) ∷ []) more
 settling_next due n settled m more o s =
     let next = next_is due n m more s.waits in
@@ -110,19 +118,21 @@ IsFor None told waiting = Unit {0}
 IsFor (Some (Announced name)) told waiting = (is_among name told ≡ true) × IsFront name waiting
 IsFor (Some (HandedOver m)) told waiting = Unit {0}
 
--- what the rows show of the names that a client was told and knows, of how its messages stand, and how those came out that are settled
+-- what the rows show of the names that a client was told and knows, of how its messages stand, how those came out that are settled,
 pub record View : Type 0 where
   pub told : List (List ℕ)
   pub known : List (List ℕ)
   pub progress : Progress
   pub settled : List (List ℕ × Outcome)
+  -- and of the frame that may be sent again
+  pub last : Last
 
 -- what is kept of the client is what is shown
 pub record Follows (due : List Message) (v : View) (ids : Ids) (number : ℕ) (b : Buffer) : Type 0 where
   pub telling : Telling v.told v.known ids
   pub settling : Settling due v.progress.settled v.settled b.waiting
   pub given : number ≡ last_number v.progress.numbered
-  pub exchange : IsOpen v.progress.unanswered v.told number b.exchange
+  pub exchange : b.exchange ≡ exchange_shown v.progress.unanswered v.told number v.last
   pub front : IsFor v.progress.unanswered v.told b.waiting
 
 -- nothing is open, and these wait
@@ -132,42 +142,69 @@ idle_with waiting = record { waiting = waiting; exchange = None }
 -- ---- as a message is settled, and as it leaves
 
 abbrev pub come_out : View → List ℕ → Outcome → View
-come_out v name o = record v { progress = record v.progress { settled = v.progress.settled + 1; unanswered = None }; settled = v.settled ++ (name, o) ∷ [] }
+come_out v name o =
+    record v { progress = record v.progress { settled = v.progress.settled + 1; unanswered = None }; settled = v.settled ++ (name, o) ∷ [] }
 
-pub settled_follows : (due : List Message) (v : View) (ids : Ids) (number : ℕ) (e : Option Exchange) (m : Message) (more : List Message) (o : Outcome)
+pub settled_follows : (due : List Message) (v : View) (ids : Ids) (number : ℕ) (e : Option Exchange) (m : Message) (more : List Message)
+    (o : Outcome)
     → Follows due v ids number (record { waiting = m ∷ more; exchange = e }) → Follows due (come_out v m.name o) ids number (idle_with more)
 settled_follows due v ids number e m more o f =
-    record { telling = f.telling; settling = settling_next due v.progress.settled v.settled m more o f.settling; given = f.given; exchange = refl; front = tt }
+    record {
+      telling = f.telling;
+      settling = settling_next due v.progress.settled v.settled m more o f.settling;
+      given = f.given;
+      exchange = refl;
+      front = tt;
+    }
 
-abbrev pub sent_view : View → Message → Outcome → View
-sent_view v m o = record v {
+-- a message leaves, by this topic id
+abbrev pub left_view : View → Message → Last → View
+left_view v m last = record (come_out v m.name Allowed) { last = last }
+
+pub left_follows : (due : List Message) (v : View) (ids : Ids) (number : ℕ) (e : Option Exchange) (m : Message) (more : List Message)
+    (last : Last)
+    → Follows due v ids number (record { waiting = m ∷ more; exchange = e }) → Follows due (left_view v m last) ids number (idle_with more)
+left_follows due v ids number e m more last f = record {
+  telling = f.telling;
+  settling = settling_next due v.progress.settled v.settled m more Allowed f.settling;
+  given = f.given;
+  exchange = refl;
+  front = tt;
+}
+
+abbrev pub sent_view : View → Message → Last → View
+sent_view v m last = record v {
   progress = record { settled = v.progress.settled + 1; numbered = v.progress.numbered + 1; unanswered = Some (HandedOver m) };
-  settled = v.settled ++ (m.name, o) ∷ [];
+  settled = v.settled ++ (m.name, Allowed) ∷ [];
+  last = last;
 }
 
 -- one at QoS 1 waits for its PUBACK
-pub sent_follows : (due : List Message) (v : View) (ids : Ids) (number : ℕ) (e : Option Exchange) (m : Message) (more : List Message) (o : Outcome) (kind : TopicIdKind) (topic_id clock : ℕ)
+pub sent_follows : (due : List Message) (v : View) (ids : Ids) (number : ℕ) (e : Option Exchange) (m : Message) (more : List Message)
+    (kind : TopicIdKind) (topic_id clock : ℕ)
     → Follows due v ids number (record { waiting = m ∷ more; exchange = e })
-    → Follows due (sent_view v m o) ids (number_after number) (record { waiting = more; exchange = Some (Acknowledging (first_sending topic_id (number_after number) clock) kind m) })
-sent_follows due v ids number e m more o kind topic_id clock f = record {
+    → Follows due (sent_view v m (sent_first clock (kind, topic_id))) ids (number_after number)
+    (record { waiting = more; exchange = Some (Acknowledging (first_sending topic_id (number_after number) clock) kind m) })
+sent_follows due v ids number e m more kind topic_id clock f = record {
   telling = f.telling;
-  settling = settling_next due v.progress.settled v.settled m more o f.settling;
+  settling = settling_next due v.progress.settled v.settled m more Allowed f.settling;
   given = ap number_after f.given ∙ sym (number_next v.progress.numbered);
-  exchange = (first_sending topic_id (number_after number) clock, (kind, (refl, refl)));
+  exchange = refl;
   front = tt;
 }
 
 -- ---- as an id is announced
 
-abbrev pub announced_view : View → List ℕ → View
-announced_view v name = record v {
+abbrev pub announced_view : View → List ℕ → ℕ → View
+announced_view v name clock = record v {
   told = with_name (Some name) v.told;
   progress = record v.progress { numbered = v.progress.numbered + 1; unanswered = Some (Announced name) };
+  last = sent_first clock (Normal, 0);
 }
 
 pub announced_follows : (due : List Message) (v : View) (ids : Ids) (number : ℕ) (m : Message) (more : List Message) (clock : ℕ)
     → Follows due v ids number (idle_with (m ∷ more))
-    → Follows due (announced_view v m.name) (with_entry m.name ids) (number_after number)
+    → Follows due (announced_view v m.name clock) (with_entry m.name ids) (number_after number)
     (record { waiting = m ∷ more; exchange = Some (Announcing (first_sending (id_for m.name ids) (number_after number) clock)) })
 announced_follows due v ids number m more clock f =
     let told : Telling v.told v.known ids = f.telling in
@@ -177,7 +214,7 @@ announced_follows due v ids number m more clock f =
       telling = telling_announced m.name v.told v.known ids told;
       settling = f.settling;
       given = ap number_after f.given ∙ sym (number_next v.progress.numbered);
-      exchange = (first_sending (id_for m.name ids) (number_after number) clock, (refl, (id, refl)));
+      exchange = ap (λ k. Some (Announcing (first_sending k (number_after number) clock))) id;
       front = (among_self m.name v.told, refl);
     }
 
@@ -186,43 +223,58 @@ announced_follows due v ids number m more clock f =
 abbrev pub closed_view : View → View
 closed_view v = record v { progress = closes v.progress }
 
-pub closed_follows : (due : List Message) (v : View) (ids : Ids) (number : ℕ) (b : Buffer) → Follows due v ids number b → Follows due (closed_view v) ids number (record b { exchange = None })
+pub closed_follows : (due : List Message) (v : View) (ids : Ids) (number : ℕ) (b : Buffer) → Follows due v ids number b
+    → Follows due (closed_view v) ids number (record b { exchange = None })
 closed_follows due v ids number b f = record { telling = f.telling; settling = f.settling; given = f.given; exchange = refl; front = tt }
 
 -- a CONNECT that is accepted
 pub entered_follows : (due : List Message) (v : View) (ids : Ids) (number : ℕ) (b : Buffer) → Follows due v ids number b
     → Follows due (record (closed_view v) { told = []; known = [] }) [] number (record b { exchange = None })
-entered_follows due v ids number b f = record { telling = telling_none; settling = f.settling; given = f.given; exchange = refl; front = tt }
+entered_follows due v ids number b f =
+    record { telling = telling_none; settling = f.settling; given = f.given; exchange = refl; front = tt }
 
 -- the client confirms the id that was announced
-pub confirmed_follows : (due : List Message) (v : View) (ids : Ids) (number : ℕ) (b : Buffer) (name : List ℕ) → is_among name v.told ≡ true → Follows due v ids number b
-    → Follows due (record (closed_view v) { known = with_name (Some name) v.known }) (confirmed (id_told name v.told) ids) number (record b { exchange = None })
+pub confirmed_follows : (due : List Message) (v : View) (ids : Ids) (number : ℕ) (b : Buffer) (name : List ℕ) → is_among name v.told ≡ true
+    → Follows due v ids number b
+    → Follows due (record (closed_view v) { known = with_name (Some name) v.known }) (confirmed (id_told name v.told) ids) number
+    (record b { exchange = None })
 confirmed_follows due v ids number b name among f =
-    record { telling = telling_confirmed name v.told v.known ids among f.telling; settling = f.settling; given = f.given; exchange = refl; front = tt }
+    record {
+      telling = telling_confirmed name v.told v.known ids among f.telling;
+      settling = f.settling;
+      given = f.given;
+      exchange = refl;
+      front = tt;
+    }
 
 -- ---- as an id is told
 
-id_before : (name : List ℕ) (names : List (List ℕ)) (next : List ℕ) → is_among name names ≡ true → id_told name (names ++ next ∷ []) ≡ id_told name names
+id_before : (name : List ℕ) (names : List (List ℕ)) (next : List ℕ) → is_among name names ≡ true
+    → id_told name (names ++ next ∷ []) ≡ id_told name names
 id_before name [] next is = absurd cc
 id_before name (one ∷ names) next is = by_first (bytes_eq name one) is (id_before name names next)
   where
-    by_first : (b : Bool) → (b || is_among name names) ≡ true → (is_among name names ≡ true → id_told name (names ++ next ∷ []) ≡ id_told name names)
+    by_first : (b : Bool) → (b || is_among name names) ≡ true
+        → (is_among name names ≡ true → id_told name (names ++ next ∷ []) ≡ id_told name names)
         → (if b then 1 else id_told name (names ++ next ∷ []) + 1) ≡ (if b then 1 else id_told name names + 1)
     by_first true among rest = refl
     by_first false among rest = ap (λ id. id + 1) (rest among)
 
-kept_by : (name : List ℕ) (names : List (List ℕ)) (next : List ℕ) (b : Bool) → is_among name names ≡ true → id_told name (if b then names else names ++ next ∷ []) ≡ id_told name names
+kept_by : (name : List ℕ) (names : List (List ℕ)) (next : List ℕ) (b : Bool) → is_among name names ≡ true
+    → id_told name (if b then names else names ++ next ∷ []) ≡ id_told name names
 kept_by name names next true is = refl
 kept_by name names next false is = id_before name names next is
 
-open_told : (o : Option Opening) (told : List (List ℕ)) (next : List ℕ) (number : ℕ) (e : Option Exchange) (waiting : List Message) → IsFor o told waiting → IsOpen o told number e
-    → IsOpen o (with_name (Some next) told) number e
-open_told None told next number e waiting front is = is
-open_told (Some (Announced name)) told next number e waiting front is =
-    (is.0, (is.1.0, (is.1.1.0 ∙ sym (kept_by name told next (is_among next told) front.0), is.1.1.1)))
-open_told (Some (HandedOver m)) told next number e waiting front is = is
+open_told : (o : Option Opening) (told : List (List ℕ)) (next : List ℕ) (number : ℕ) (last : Last) (waiting : List Message)
+    → IsFor o told waiting
+    → exchange_shown o told number last ≡ exchange_shown o (with_name (Some next) told) number last
+open_told None told next number last waiting front = refl
+open_told (Some (Announced name)) told next number last waiting front =
+    ap (λ k. Some (Announcing (sending_shown k number last))) (sym (kept_by name told next (is_among next told) front.0))
+open_told (Some (HandedOver m)) told next number last waiting front = refl
 
-for_told : (o : Option Opening) (told : List (List ℕ)) (next : List ℕ) (waiting : List Message) → IsFor o told waiting → IsFor o (with_name (Some next) told) waiting
+for_told : (o : Option Opening) (told : List (List ℕ)) (next : List ℕ) (waiting : List Message) → IsFor o told waiting
+    → IsFor o (with_name (Some next) told) waiting
 for_told None told next waiting front = tt
 for_told (Some (Announced name)) told next waiting front = (among_more name next told front.0, front.1)
 for_told (Some (HandedOver m)) told next waiting front = tt
@@ -233,7 +285,7 @@ told_follows due v ids number b name f = record {
   telling = telling_told name v.told v.known ids f.telling;
   settling = f.settling;
   given = f.given;
-  exchange = open_told v.progress.unanswered v.told name number b.exchange b.waiting f.front f.exchange;
+  exchange = f.exchange ∙ open_told v.progress.unanswered v.told name number v.last b.waiting f.front;
   front = for_told v.progress.unanswered v.told name b.waiting f.front;
 }
 
@@ -243,7 +295,8 @@ joined_front : (name : List ℕ) (waiting : List Message) (m : Message) → IsFr
 joined_front name [] m front = absurd front
 joined_front name (one ∷ waiting) m front = front
 
-joined_for : (o : Option Opening) (told : List (List ℕ)) (waiting : List Message) (m : Message) → IsFor o told waiting → IsFor o told (waiting ++ m ∷ [])
+joined_for : (o : Option Opening) (told : List (List ℕ)) (waiting : List Message) (m : Message) → IsFor o told waiting
+    → IsFor o told (waiting ++ m ∷ [])
 joined_for None told waiting m front = tt
 joined_for (Some (Announced name)) told waiting m front = (front.0, joined_front name waiting m front.1)
 joined_for (Some (HandedOver one)) told waiting m front = tt
@@ -264,3 +317,24 @@ joined_follows due v ids number b m f =
       exchange = f.exchange;
       front = joined_for v.progress.unanswered v.told b.waiting m f.front;
     }
+
+-- ---- as what is open is sent again
+
+abbrev pub repeated_view : View → ℕ → View
+repeated_view v clock = record v { last = record v.last { at = clock; tries = v.last.tries + 1 } }
+
+shown_again : (o : Option Opening) (told : List (List ℕ)) (number clock : ℕ) (last : Last)
+    → repeat (exchange_shown o told number last) clock ≡ exchange_shown o told number (record last { at = clock; tries = last.tries + 1 })
+shown_again None told number clock last = refl
+shown_again (Some (Announced name)) told number clock last = refl
+shown_again (Some (HandedOver m)) told number clock last = refl
+
+pub repeated_follows : (due : List Message) (v : View) (ids : Ids) (number clock : ℕ) (b : Buffer) → Follows due v ids number b
+    → Follows due (repeated_view v clock) ids number (record b { exchange = repeat b.exchange clock })
+repeated_follows due v ids number clock b f = record {
+  telling = f.telling;
+  settling = f.settling;
+  given = f.given;
+  exchange = ap (λ e. repeat e clock) f.exchange ∙ shown_again v.progress.unanswered v.told number clock v.last;
+  front = f.front;
+}

@@ -1,11 +1,12 @@
 -- What the rows show of the messages for a client is read from the client's own notes, and from what came before them.
-use Rattle.std.proofs.Common.{◌≡◌, ℕ, ◌+◌, Bool, true, false, List, [], ◌∷◌, ◌++◌, length, refl, ap, sym, ◌∙◌, if◌then◌else◌, arith, length-append, Ok, Err}
-use Rattle.std.specs.Prelude.{◌&&◌, ◌==◌, slice_get, Option, Some, None}
+use Rattle.std.proofs.Common.{◌≡◌, ℕ, ◌+◌, Bool, true, false, List, [], ◌∷◌, ◌++◌, length, refl, ap, sym, ◌∙◌, if◌then◌else◌, arith}
+use Rattle.std.proofs.Common.{length-append, Ok, Err}
+use Rattle.std.specs.Prelude.{◌&&◌, ◌==◌, slice_get, Option, Some, None, not}
 use Rattle.std.specs.Str.{bytes_eq}
 use Rattle.std.specs.declared.result.Result.{Result}
 use Rattle.std.proofs.lemmas.Bool.Decides.{nat_tests}
 use Rattle.std.proofs.lemmas.List.{append-nil, append_assoc}
-use Rattle.sng_states.specs.States.{takes_messages}
+use Rattle.sng_states.specs.States.{takes_messages, is_due_messages}
 use Rattle.sng_frames.specs.Reading.{frame_of}
 use Rattle.sng_frames.specs.declared.fault.FrameFault.{FrameFault}
 use Rattle.sng_frames.specs.declared.qos.FrameQos.{FrameQos}
@@ -14,7 +15,6 @@ use Rattle.sng_frames.specs.declared.messages.acks.TopicAck.{TopicAck}
 use Rattle.sng_frames.specs.declared.messages.publish.Publish.{Publish}
 use Rattle.sng_frames.specs.declared.frame.SnFrame.{SnFrame}
 use Rattle.sng_frames.specs.declared.frame.SnFrame.TheVariants as frame
-use Rattle.sng_queue.specs.declared.exchange.Exchange.{Exchange}
 use Rattle.sng_queue.specs.Messages.{Message}
 use Rattle.sng_book.specs.declared.address.Address.{Address}
 use Rattle.sng_book.specs.declared.decision.Decision.{Decision}
@@ -33,20 +33,47 @@ use Rattle.sng_history.specs.Causes.{publish_cause, datagram_cause, cause_of}
 use Rattle.sng_history.specs.Handing.{answers_announcement, ends_exchange}
 use Rattle.sng_history.specs.Clients.{Client, Around, is_here, is_confirming, is_acknowledging, is_turned_away, subscribe_of}
 use Rattle.sng_history.specs.Notes.{notes_of, is_of, is_client}
-use Rattle.sng_history.specs.ViewsMessages.{message_in, message_at, subscribe_in}
-use Rattle.sng_history.specs.ViewsClients.{phase_of, address_of, is_at, speaks_of, with_name, names_after, names_told, id_told}
-use Rattle.sng_history.specs.ViewsHanding.{Opening, Announced, HandedOver, Progress, closes, hand_of, hands_in, is_refused_at_once, settlements, settled_of, due_of, is_taking, progress_by, progress_after, last_number, is_regack_of, is_puback_of, is_at_least_once, leaves_by, handed_by, regack_has_turn, puback_has_turn, ends_by, ends_open, progress_of, knows_after, name_announced, confirmed_by, confirmed_in, names_known}
-use Rattle.sng_history.specs.LawsState.{IsOpen}
-use Rattle.sng_history.proofs.Takes.{taking_same}
+use Rattle.sng_history.specs.ViewsMessages.{message_in, message_at, subscribe_in, Publishes, Message as Spoken}
+use Rattle.sng_history.specs.ViewsClients.{phase_of, address_of, is_at, speaks_of, with_name, names_after, names_told, id_told, is_awaiting}
+use Rattle.sng_history.specs.ViewsClients.{names_by}
+use Rattle.sng_history.specs.ViewsHanding.{Opening, Announced, HandedOver, Progress, closes, hand_of, hands_in, is_refused_at_once}
+use Rattle.sng_history.specs.ViewsHanding.{settlements, settled_of, due_of, is_taking, progress_by, progress_after, last_number}
+use Rattle.sng_history.specs.ViewsHanding.{is_regack_of, is_puback_of, is_at_least_once, leaves_by, handed_by, regack_has_turn}
+use Rattle.sng_history.specs.ViewsHanding.{puback_has_turn, ends_by, ends_open, progress_of, knows_after, name_announced, confirmed_by}
+use Rattle.sng_history.specs.ViewsHanding.{confirmed_in, names_known}
+use Rattle.sng_history.specs.LawsState.{exchange_shown}
+use Rattle.sng_history.proofs.Takes.{taking_same, awaiting_same}
 use Rattle.sng_history.proofs.SeenTurns.{View, closed_view}
-use Rattle.sng_history.proofs.SeenHanding.{with_hands, view_by, view_notes}
-use Rattle.sng_history.proofs.SeenProgress.{confirmed_view, start_view}
+use Rattle.sng_history.proofs.SeenHanding.{with_hands, view_by, view_notes, Fits}
+use Rattle.sng_history.proofs.SeenAnswered.{confirmed_view}
+use Rattle.sng_history.proofs.SeenProgress.{start_view}
+use Rattle.sng_history.specs.ViewsSendings.{Last, last_by, last_after, last_of}
+use Rattle.sng_history.specs.Views.{policy_in_force, clock_at}
+use Rattle.sng_grants.specs.declared.policy.Policy.{Policy}
+use Rattle.sng_frames.specs.declared.messages.subscribe.TopicRequest.{TopicRequest}
 
 -- what the rows show of a client
 abbrev pub view_of : List ℕ → List Row → View
-view_of id h = record { told = names_told id h; known = names_known id h; progress = progress_of id h; settled = settled_of id h }
+view_of id h =
+    record { told = names_told id h; known = names_known id h; progress = progress_of id h; settled = settled_of id h; last = last_of id h }
 
 -- ---- all notes of a row, and those of the client
+
+-- the frame that may be sent again, given the SUBSCRIBE that the row holds
+abbrev last_outs : Policy → ℕ → Option TopicRequest → List ℕ → List Out → List (List ℕ) → Last → Last
+last_outs policy clock r id [] told now = now
+last_outs policy clock r id (Note said ∷ outs) told now =
+    last_outs policy clock r id outs (names_by r id said told) (last_by policy clock told id said now)
+last_outs policy clock r id (Send to datagram ∷ outs) told now = last_outs policy clock r id outs told now
+last_outs policy clock r id (Wire packet ∷ outs) told now = last_outs policy clock r id outs told now
+
+last_same : (policy : Policy) (clock : ℕ) (m : Option Spoken) (id : List ℕ) (outs : List Out) (told : List (List ℕ)) (now : Last)
+    → last_after policy clock m id outs told now ≡ last_outs policy clock (subscribe_in m) id outs told now
+last_same policy clock m id [] told now = refl
+last_same policy clock m id (Note said ∷ outs) told now =
+    last_same policy clock m id outs (names_by (subscribe_in m) id said told) (last_by policy clock told id said now)
+last_same policy clock m id (Send to datagram ∷ outs) told now = last_same policy clock m id outs told now
+last_same policy clock m id (Wire packet ∷ outs) told now = last_same policy clock m id outs told now
 
 abbrev pub view_outs : Around → List ℕ → List Message → List Out → View → View
 view_outs a id due outs v = record {
@@ -54,6 +81,7 @@ view_outs a id due outs v = record {
   known = knows_after (subscribe_of a.cause) id outs v.known;
   progress = progress_after id due outs v.progress;
   settled = v.settled ++ settlements (hands_in id outs);
+  last = last_outs a.policy a.clock (subscribe_of a.cause) id outs v.told v.last;
 }
 
 -- another's note shows nothing of the client
@@ -63,21 +91,26 @@ client_same id (who.Source source) = refl
 client_same id (who.Address address) = refl
 client_same id who.Broker = refl
 
-view_other : (a : Around) (id : List ℕ) (due : List Message) (said : Decision) (v : View) → is_of id said ≡ false → view_by a id due said v ≡ v
+view_other : (a : Around) (id : List ℕ) (due : List Message) (said : Decision) (v : View) → is_of id said ≡ false
+    → view_by a id due said v ≡ v
 view_other a id due (note.Connect client outcome) v other = rw other refl
 view_other a id due (note.Left client) v other = rw other refl
+view_other a id due (note.Lost client) v other = rw other refl
+view_other a id due (note.Retry client name outcome) v other = rw other refl
 view_other a id due (note.Register whom name outcome) v other = rw (sym (client_same id whom) ∙ other) refl
 view_other a id due (note.Subscribe whom filter outcome) v other = rw (sym (client_same id whom) ∙ other) refl
 view_other a id due (note.Announce client name) v other = rw other refl
 view_other a id due (note.Hand client name outcome) v other = rw other refl
 view_other a id due _ v other = refl
 
-view_note : (a : Around) (id : List ℕ) (due : List Message) (said : Decision) (notes : List Decision) (v : View) (b : Bool) → is_of id said ≡ b
+view_note : (a : Around) (id : List ℕ) (due : List Message) (said : Decision) (notes : List Decision) (v : View) (b : Bool)
+    → is_of id said ≡ b
     → view_notes a id due notes (view_by a id due said v) ≡ view_notes a id due ((if b then said ∷ [] else []) ++ notes) v
 view_note a id due said notes v true own = refl
 view_note a id due said notes v false other = ap (view_notes a id due notes) (view_other a id due said v other)
 
-settlements_by : (b : Bool) (hand : List ℕ × Outcome) (xs ys : List (List ℕ × Outcome)) → (if b then xs ++ ys else hand ∷ (xs ++ ys)) ≡ (if b then xs else hand ∷ xs) ++ ys
+settlements_by : (b : Bool) (hand : List ℕ × Outcome) (xs ys : List (List ℕ × Outcome))
+    → (if b then xs ++ ys else hand ∷ (xs ++ ys)) ≡ (if b then xs else hand ∷ xs) ++ ys
 settlements_by true hand xs ys = refl
 settlements_by false hand xs ys = refl
 
@@ -91,13 +124,17 @@ with_both : (hands later before : List (List ℕ × Outcome)) → before ++ (han
 with_both [] later before = refl
 with_both (hand ∷ hands) later before = sym (append_assoc before (hand ∷ hands) later)
 
-settled_both : (hands later before : List (List ℕ × Outcome)) → before ++ settlements (hands ++ later) ≡ with_hands (settlements hands) before ++ settlements later
-settled_both hands later before = ap (λ more. before ++ more) (settlements_append hands later) ∙ with_both (settlements hands) (settlements later) before
+settled_both : (hands later before : List (List ℕ × Outcome))
+    → before ++ settlements (hands ++ later) ≡ with_hands (settlements hands) before ++ settlements later
+settled_both hands later before =
+    ap (λ more. before ++ more) (settlements_append hands later) ∙ with_both (settlements hands) (settlements later) before
 
-pub outs_view : (a : Around) (id : List ℕ) (due : List Message) (outs : List Out) (v : View) → view_outs a id due outs v ≡ view_notes a id due (notes_of id outs) v
+pub outs_view : (a : Around) (id : List ℕ) (due : List Message) (outs : List Out) (v : View)
+    → view_outs a id due outs v ≡ view_notes a id due (notes_of id outs) v
 outs_view a id due [] v = ap (λ settled. let w : View = record v { settled = settled } in w) (append-nil v.settled)
 outs_view a id due (Note said ∷ outs) v =
-    ap (λ settled. let w : View = record (view_outs a id due (Note said ∷ outs) v) { settled = settled } in w) (settled_both (hand_of id said) (hands_in id outs) v.settled)
+    ap (λ settled. let w : View = record (view_outs a id due (Note said ∷ outs) v) { settled = settled } in w)
+    (settled_both (hand_of id said) (hands_in id outs) v.settled)
     ∙ (outs_view a id due outs (view_by a id due said v) ∙ view_note a id due said (notes_of id outs) v (is_of id said) refl)
 outs_view a id due (Send to datagram ∷ outs) v = outs_view a id due outs v
 outs_view a id due (Wire packet ∷ outs) v = outs_view a id due outs v
@@ -105,7 +142,8 @@ outs_view a id due (Wire packet ∷ outs) v = outs_view a id due outs v
 -- ---- how many are settled
 
 settled_more : (b refused : Bool) (name : List ℕ) (o : Outcome) (n : ℕ) → is_refused_at_once o ≡ refused
-    → (if b then (if refused then n else n + 1) else n) ≡ n + length (settlements (let hands : List (List ℕ × Outcome) = if b then (name, o) ∷ [] else [] in hands))
+    → (if b then (if refused then n else n + 1) else n)
+    ≡ n + length (settlements (let hands : List (List ℕ × Outcome) = if b then (name, o) ∷ [] else [] in hands))
 settled_more true true name o n is = rw is (omega arith)
 settled_more true false name o n is = rw is refl
 settled_more false refused name o n is = omega arith
@@ -114,19 +152,32 @@ leaves_more : (m : Option Message) (p : Progress) → (leaves_by m p).settled �
 leaves_more None p = refl
 leaves_more (Some m) p = by_level (is_at_least_once m.qos)
   where
-    by_level : (b : Bool) → (let q : Progress = if b then record { settled = p.settled + 1; numbered = p.numbered + 1; unanswered = Some (HandedOver m) } else record p { settled = p.settled + 1; unanswered = None } in q).settled ≡ p.settled + 1
+    by_level : (b : Bool)
+        →
+        (let q : Progress = if b then
+        record {
+          settled = p.settled + 1;
+          numbered = p.numbered + 1;
+          unanswered = Some
+              (HandedOver m);
+        } else record p { settled = p.settled + 1; unanswered = None } in q).settled ≡ p.settled + 1
     by_level true = refl
     by_level false = refl
 
-denied_more : (b : Bool) (p : Progress) → (let q : Progress = if b then p else record p { settled = p.settled + 1; unanswered = None } in q).settled ≡ (if b then p.settled else p.settled + 1)
+denied_more : (b : Bool) (p : Progress)
+    →
+    (let q : Progress = if b then p else record p { settled = p.settled + 1; unanswered = None } in q).settled
+    ≡ (if b then p.settled else p.settled + 1)
 denied_more true p = refl
 denied_more false p = refl
 
-handed_more : (due : List Message) (o : Outcome) (p : Progress) → (handed_by due o p).settled ≡ (if is_refused_at_once o then p.settled else p.settled + 1)
+handed_more : (due : List Message) (o : Outcome) (p : Progress)
+    → (handed_by due o p).settled ≡ (if is_refused_at_once o then p.settled else p.settled + 1)
 handed_more due Allowed p = leaves_more (slice_get due p.settled) p
 handed_more due (Denied rule) p = denied_more (is_turned_away rule) p
 
-if_settled : (b : Bool) (p q : Progress) (n : ℕ) → p.settled ≡ n → (let r : Progress = if b then p else q in r).settled ≡ (if b then n else q.settled)
+if_settled : (b : Bool) (p q : Progress) (n : ℕ) → p.settled ≡ n
+    → (let r : Progress = if b then p else q in r).settled ≡ (if b then n else q.settled)
 if_settled true p q n is = is
 if_settled false p q n is = refl
 
@@ -137,20 +188,27 @@ if_same false p q is = refl
 no_more : (n : ℕ) → n ≡ n + 0
 no_more n = omega arith
 
-note_settled : (id : List ℕ) (due : List Message) (said : Decision) (p : Progress) → (progress_by id due said p).settled ≡ p.settled + length (settlements (hand_of id said))
-note_settled id due (note.Connect client outcome) p = if_same (bytes_eq id client && is_allowed outcome) (closes p) p refl ∙ no_more p.settled
+note_settled : (id : List ℕ) (due : List Message) (said : Decision) (p : Progress)
+    → (progress_by id due said p).settled ≡ p.settled + length (settlements (hand_of id said))
+note_settled id due (note.Connect client outcome) p =
+    if_same (bytes_eq id client && is_allowed outcome) (closes p) p refl ∙ no_more p.settled
 note_settled id due (note.Left client) p = if_same (bytes_eq id client) (closes p) p refl ∙ no_more p.settled
+note_settled id due (note.Lost client) p = if_same (bytes_eq id client) (closes p) p refl ∙ no_more p.settled
+note_settled id due (note.Retry client name outcome) p =
+    if_same (bytes_eq id client && not (is_allowed outcome)) (closes p) p refl ∙ no_more p.settled
 note_settled id due (note.Announce client name) p =
     if_same (bytes_eq id client) (record p { numbered = p.numbered + 1; unanswered = Some (Announced name) }) p refl ∙ no_more p.settled
 note_settled id due (note.Hand client name outcome) p =
-    if_settled (bytes_eq id client) (handed_by due outcome p) p (if is_refused_at_once outcome then p.settled else p.settled + 1) (handed_more due outcome p)
+    if_settled (bytes_eq id client) (handed_by due outcome p) p (if is_refused_at_once outcome then p.settled else p.settled + 1)
+    (handed_more due outcome p)
     ∙ settled_more (bytes_eq id client) (is_refused_at_once outcome) name outcome p.settled refl
 note_settled id due _ p = no_more p.settled
 
 plus_both : (n : ℕ) (xs ys : List (List ℕ × Outcome)) → n + length xs + length ys ≡ n + length (xs ++ ys)
 plus_both n xs ys = omega (arith, length-append xs ys)
 
-outs_settled : (id : List ℕ) (due : List Message) (outs : List Out) (p : Progress) → (progress_after id due outs p).settled ≡ p.settled + length (settlements (hands_in id outs))
+outs_settled : (id : List ℕ) (due : List Message) (outs : List Out) (p : Progress)
+    → (progress_after id due outs p).settled ≡ p.settled + length (settlements (hands_in id outs))
 outs_settled id due [] p = no_more p.settled
 outs_settled id due (Note said ∷ outs) p =
     outs_settled id due outs (progress_by id due said p)
@@ -167,7 +225,8 @@ settled_count id (row ∷ h) =
     let p = progress_of id h in
     let q : Progress = if ends_open id p h row.event then closes p else p in
     outs_settled id (due_of id (row ∷ h)) row.outs q
-    ∙ (ap (λ n. n + length (settlements (hands_in id row.outs))) (if_same (ends_open id p h row.event) (closes p) p refl ∙ settled_count id h)
+    ∙
+    (ap (λ n. n + length (settlements (hands_in id row.outs))) (if_same (ends_open id p h row.event) (closes p) p refl ∙ settled_count id h)
     ∙ sym (length-append (settled_of id h) (settlements (hands_in id row.outs))))
 
 -- ---- what the event shows before the notes
@@ -178,6 +237,7 @@ view_start id e h = record {
   known = with_name (confirmed_in id h e) (names_known id h);
   progress = if ends_open id (progress_of id h) h e then closes (progress_of id h) else progress_of id h;
   settled = settled_of id h;
+  last = last_of id h;
 }
 
 -- the client as it is shown
@@ -185,27 +245,22 @@ pub record Kept (h : List Row) (x : Client) : Type 0 where
   pub phase : phase_of x.id h ≡ Some x.phase
   pub address : address_of x.id h ≡ Some x.address
   pub number : x.number ≡ last_number (progress_of x.id h).numbered
-  pub exchange : IsOpen (progress_of x.id h).unanswered (names_told x.id h) x.number x.buffer.exchange
+  pub exchange : x.buffer.exchange ≡ exchange_shown (progress_of x.id h).unanswered (names_told x.id h) x.number (last_of x.id h)
 
 equal_back : (a b : ℕ) → (a == b) ≡ (b == a)
 equal_back a b = grind (arith, nat_tests)
 
-regack_same : (o : Option Opening) (told : List (List ℕ)) (number : ℕ) (e : Option Exchange) (r : TopicAck) → IsOpen o told number e → is_regack_of o told number r ≡ answers_announcement e r
-regack_same None told number e r is = ap (λ one. answers_announcement one r) (sym is)
-regack_same (Some (Announced name)) told number e r is =
-    let sent = is.0 in
-    equal_both r.topic_id (id_told name told) sent.topic_id r.msg_id number sent.msg_id is.1.1.0 is.1.1.1 ∙ ap (λ one. answers_announcement one r) (sym is.1.0)
-  where
-    equal_both : (topic told_id sent_id msg number sent_msg : ℕ) → sent_id ≡ told_id → sent_msg ≡ number → ((topic == told_id) && (msg == number)) ≡ ((sent_id == topic) && (sent_msg == msg))
-    equal_both topic told_id sent_id msg number sent_msg one two = rw (one, two, equal_back topic told_id, equal_back msg number) refl
-regack_same (Some (HandedOver m)) told number e r is = ap (λ one. answers_announcement one r) (sym is.1.1.0)
+regack_same : (o : Option Opening) (told : List (List ℕ)) (number : ℕ) (last : Last) (r : TopicAck)
+    → is_regack_of o told number r ≡ answers_announcement (exchange_shown o told number last) r
+regack_same None told number last r = refl
+regack_same (Some (Announced name)) told number last r = rw (equal_back r.topic_id (id_told name told), equal_back r.msg_id number) refl
+regack_same (Some (HandedOver m)) told number last r = refl
 
-puback_same : (o : Option Opening) (told : List (List ℕ)) (number : ℕ) (e : Option Exchange) (r : TopicAck) → IsOpen o told number e → is_puback_of o number r ≡ ends_exchange e r
-puback_same None told number e r is = ap (λ one. ends_exchange one r) (sym is)
-puback_same (Some (Announced name)) told number e r is =
-    equal_back r.msg_id number ∙ (ap (λ n. n == r.msg_id) (sym is.1.1.1) ∙ ap (λ one. ends_exchange one r) (sym is.1.0))
-puback_same (Some (HandedOver m)) told number e r is =
-    equal_back r.msg_id number ∙ (ap (λ n. n == r.msg_id) (sym is.1.1.1) ∙ ap (λ one. ends_exchange one r) (sym is.1.1.0))
+puback_same : (o : Option Opening) (told : List (List ℕ)) (number : ℕ) (last : Last) (r : TopicAck)
+    → is_puback_of o number r ≡ ends_exchange (exchange_shown o told number last) r
+puback_same None told number last r = refl
+puback_same (Some (Announced name)) told number last r = equal_back r.msg_id number
+puback_same (Some (HandedOver m)) told number last r = equal_back r.msg_id number
 
 regack_turn : (h : List Row) (x : Client) (r : TopicAck) → Kept h x → regack_has_turn x.id (progress_of x.id h) h r ≡ is_confirming r x
 regack_turn h x r kept =
@@ -213,7 +268,8 @@ regack_turn h x r kept =
     ap (λ phase. is_taking phase && is_regack_of p.unanswered (names_told x.id h) (last_number p.numbered) r) kept.phase
     ∙ (ap (λ b. b && is_regack_of p.unanswered (names_told x.id h) (last_number p.numbered) r) (taking_same x.phase)
     ∙ (ap (λ n. takes_messages x.phase && is_regack_of p.unanswered (names_told x.id h) n r) (sym kept.number)
-    ∙ ap (λ b. takes_messages x.phase && b) (regack_same p.unanswered (names_told x.id h) x.number x.buffer.exchange r kept.exchange)))
+    ∙ ap (λ b. takes_messages x.phase && b)
+    (regack_same p.unanswered (names_told x.id h) x.number (last_of x.id h) r ∙ ap (λ e. answers_announcement e r) (sym kept.exchange))))
 
 puback_turn : (h : List Row) (x : Client) (r : TopicAck) → Kept h x → puback_has_turn x.id (progress_of x.id h) h r ≡ is_acknowledging r x
 puback_turn h x r kept =
@@ -221,14 +277,20 @@ puback_turn h x r kept =
     ap (λ phase. is_taking phase && is_puback_of p.unanswered (last_number p.numbered) r) kept.phase
     ∙ (ap (λ b. b && is_puback_of p.unanswered (last_number p.numbered) r) (taking_same x.phase)
     ∙ (ap (λ n. takes_messages x.phase && is_puback_of p.unanswered n r) (sym kept.number)
-    ∙ ap (λ b. takes_messages x.phase && b) (puback_same p.unanswered (names_told x.id h) x.number x.buffer.exchange r kept.exchange)))
+    ∙ ap (λ b. takes_messages x.phase && b)
+    (puback_same p.unanswered (names_told x.id h) x.number (last_of x.id h) r ∙ ap (λ e. ends_exchange e r) (sym kept.exchange))))
 
 at_same : (h : List Row) (x : Client) (from : Address) → Kept h x → is_at x.id from h ≡ is_here x from
 at_same h x from kept = rw (kept.phase, kept.address) refl
 
 -- what a message shows, by whether it comes from where the client is
 abbrev read_view : View → Bool → Option (List ℕ) → Bool → View
-read_view v here confirms ends = record v { known = with_name (if here then confirms else None) v.known; progress = if here && ends then closes v.progress else v.progress }
+read_view v here confirms ends =
+    record v {
+      known = with_name
+          (if here then confirms else None) v.known;
+      progress = if here && ends then closes v.progress else v.progress;
+    }
 
 none_read : (v : View) (here : Bool) → read_view v here None false ≡ v
 none_read v true = refl
@@ -239,7 +301,8 @@ stays true v = refl
 stays false v = refl
 
 regack_view : (v : View) (here accepts turn : Bool)
-    → read_view v here (if accepts && turn then name_announced v.progress.unanswered else None) (accepts && turn) ≡ (if here then (if accepts && turn then confirmed_view v else v) else v)
+    → read_view v here (if accepts && turn then name_announced v.progress.unanswered else None) (accepts && turn)
+    ≡ (if here then (if accepts && turn then confirmed_view v else v) else v)
 regack_view v true true true = refl
 regack_view v true true false = refl
 regack_view v true false turn = refl
@@ -257,26 +320,35 @@ publish_still from p qos.AtMostOnce x v = stays (is_here x from) v
 publish_still from p qos.AtLeastOnce x v = stays (is_here x from) v
 publish_still from p qos.ExactlyOnce x v = stays (is_here x from) v
 
-disconnect_still : (from : Address) (duration : Option ℕ) (x : Client) (v : View) → start_view (datagram_cause from (Ok (frame.Disconnect duration))) x v ≡ v
-disconnect_still from None x v = stays (is_here x from) v
-disconnect_still from (Some duration) x v = stays (is_here x from) v
+sleep_view : (v : View) (here turn : Bool) → read_view v here None turn ≡ (if here then (if turn then closed_view v else v) else v)
+sleep_view v true true = refl
+sleep_view v true false = refl
+sleep_view v false turn = refl
 
 datagram_start : (h : List Row) (x : Client) (from : Address) (read : Result SnFrame FrameFault) → Kept h x
     → let v = view_of x.id h in
-    read_view v (is_here x from) (confirmed_by x.id h (message_in read)) (ends_by x.id (progress_of x.id h) h (message_in read)) ≡ start_view (datagram_cause from read) x v
+    read_view v (is_here x from) (confirmed_by x.id h (message_in read)) (ends_by x.id (progress_of x.id h) h (message_in read))
+    ≡ start_view (datagram_cause from read) x v
 datagram_start h x from (Ok (frame.RegisterAck r)) kept =
     rw (regack_turn h x r kept) (regack_view (view_of x.id h) (is_here x from) (r.code.0 == 0) (is_confirming r x))
-datagram_start h x from (Ok (frame.PublishAck r)) kept = rw (puback_turn h x r kept) (puback_view (view_of x.id h) (is_here x from) (is_acknowledging r x))
+datagram_start h x from (Ok (frame.PublishAck r)) kept =
+    rw (puback_turn h x r kept) (puback_view (view_of x.id h) (is_here x from) (is_acknowledging r x))
 datagram_start h x from (Ok (frame.Connect connect)) kept = none_read (view_of x.id h) (is_here x from)
-datagram_start h x from (Ok (frame.Publish p)) kept = none_read (view_of x.id h) (is_here x from) ∙ sym (publish_still from p p.flags.qos x (view_of x.id h))
-datagram_start h x from (Ok (frame.Disconnect duration)) kept = none_read (view_of x.id h) (is_here x from) ∙ sym (disconnect_still from duration x (view_of x.id h))
+datagram_start h x from (Ok (frame.Publish p)) kept =
+    none_read (view_of x.id h) (is_here x from) ∙ sym (publish_still from p p.flags.qos x (view_of x.id h))
+datagram_start h x from (Ok (frame.Disconnect None)) kept =
+    none_read (view_of x.id h) (is_here x from) ∙ sym (stays (is_here x from) (view_of x.id h))
+datagram_start h x from (Ok (frame.Disconnect (Some duration))) kept =
+    ap (λ b. read_view (view_of x.id h) (is_here x from) None b) (ap is_awaiting kept.phase ∙ awaiting_same x.phase)
+    ∙ sleep_view (view_of x.id h) (is_here x from) (is_due_messages x.phase)
 datagram_start h x from (Ok message) kept = none_read (view_of x.id h) (is_here x from) ∙ sym (stays (is_here x from) (view_of x.id h))
 datagram_start h x from (Err broke) kept = none_read (view_of x.id h) (is_here x from)
 
 pub start_same : (h : List Row) (x : Client) (e : Event) → Kept h x → view_start x.id e h ≡ start_view (cause_of e) x (view_of x.id h)
 start_same h x (Datagram from datagram) kept =
     let read = message_in (frame_of datagram) in
-    ap (λ here. read_view (view_of x.id h) here (confirmed_by x.id h read) (ends_by x.id (progress_of x.id h) h read)) (at_same h x from kept)
+    ap (λ here. read_view (view_of x.id h) here (confirmed_by x.id h read) (ends_by x.id (progress_of x.id h) h read))
+    (at_same h x from kept)
     ∙ datagram_start h x from (frame_of datagram) kept
 start_same h x (Broker packet) kept = refl
 start_same h x Up kept = refl
@@ -293,13 +365,11 @@ publish_asks from p qos.AtMostOnce = refl
 publish_asks from p qos.AtLeastOnce = refl
 publish_asks from p qos.ExactlyOnce = refl
 
-disconnect_asks : (from : Address) (duration : Option ℕ) → subscribe_of (datagram_cause from (Ok (frame.Disconnect duration))) ≡ None
-disconnect_asks from None = refl
-disconnect_asks from (Some duration) = refl
-
-datagram_asks : (from : Address) (read : Result SnFrame FrameFault) → subscribe_of (datagram_cause from read) ≡ subscribe_in (message_in read)
+datagram_asks : (from : Address) (read : Result SnFrame FrameFault)
+    → subscribe_of (datagram_cause from read) ≡ subscribe_in (message_in read)
 datagram_asks from (Ok (frame.Publish p)) = publish_asks from p p.flags.qos
-datagram_asks from (Ok (frame.Disconnect duration)) = disconnect_asks from duration
+datagram_asks from (Ok (frame.Disconnect None)) = refl
+datagram_asks from (Ok (frame.Disconnect (Some duration))) = refl
 datagram_asks from (Ok message) = refl
 datagram_asks from (Err broke) = refl
 
@@ -312,18 +382,54 @@ subscribe_same Take = refl
 subscribe_same (Replace policy) = refl
 subscribe_same (Tick clock) = refl
 
--- the row
-pub row_view : (a : Around) (id : List ℕ) (by : ℕ) (h : List Row) (e : Event) (outs : List Out) → a.cause ≡ cause_of e
+-- ---- the CONNECT and the statement of a will, too
+
+publish_fits : (from : Address) (p : Publish) (q : FrameQos) → Fits (publish_cause from p q) (Some (Publishes p))
+publish_fits from p qos.WithoutSession = record { connects = refl; states = refl }
+publish_fits from p qos.AtMostOnce = record { connects = refl; states = refl }
+publish_fits from p qos.AtLeastOnce = record { connects = refl; states = refl }
+publish_fits from p qos.ExactlyOnce = record { connects = refl; states = refl }
+
+pub datagram_fits : (from : Address) (read : Result SnFrame FrameFault) → Fits (datagram_cause from read) (message_in read)
+datagram_fits from (Ok (frame.Publish p)) = publish_fits from p p.flags.qos
+datagram_fits from (Ok (frame.Disconnect None)) = record { connects = refl; states = refl }
+datagram_fits from (Ok (frame.Disconnect (Some duration))) = record { connects = refl; states = refl }
+datagram_fits from (Ok message) = record { connects = refl; states = refl }
+datagram_fits from (Err broke) = record { connects = refl; states = refl }
+
+pub event_fits : (e : Event) → Fits (cause_of e) (message_at e)
+event_fits (Datagram from datagram) = datagram_fits from (frame_of datagram)
+event_fits (Broker packet) = record { connects = refl; states = refl }
+event_fits Up = record { connects = refl; states = refl }
+event_fits Down = record { connects = refl; states = refl }
+event_fits Take = record { connects = refl; states = refl }
+event_fits (Replace policy) = record { connects = refl; states = refl }
+event_fits (Tick clock) = record { connects = refl; states = refl }
+
+-- the row, by the policy and the clock that are in force as it is written
+pub record InForce (a : Around) (by : ℕ) (h : List Row) (e : Event) (outs : List Out) : Type 0 where
+  pub cause : a.cause ≡ cause_of e
+  pub policy : a.policy ≡ policy_in_force (record { by = by; event = e; outs = outs } ∷ h)
+  pub clock : a.clock ≡ clock_at (record { by = by; event = e; outs = outs } ∷ h)
+
+pub row_view : (a : Around) (id : List ℕ) (by : ℕ) (h : List Row) (e : Event) (outs : List Out) → InForce a by h e outs
     → let rows = record { by = by; event = e; outs = outs } ∷ h in
     view_of id rows ≡ view_notes a id (due_of id rows) (notes_of id outs) (view_start id e h)
 row_view a id by h e outs is =
     let rows = record { by = by; event = e; outs = outs } ∷ h in
     let v = view_start id e h in
-    let same : subscribe_in (message_at e) ≡ subscribe_of a.cause = sym (ap subscribe_of is ∙ subscribe_same e) in
-    ap (λ r. let w : View = record {
+    let m = message_at e in
+    let same : subscribe_in m ≡ subscribe_of a.cause = sym (ap subscribe_of is.cause ∙ subscribe_same e) in
+    let last : last_of id rows ≡ last_outs a.policy a.clock (subscribe_in m) id outs v.told v.last =
+    ap (λ policy. last_after policy (clock_at rows) m id outs v.told v.last) (sym is.policy)
+    ∙
+    (ap (λ clock. last_after a.policy clock m id outs v.told v.last) (sym is.clock) ∙ last_same a.policy a.clock m id outs v.told v.last) in
+    ap (λ l. let w : View = record (view_of id rows) { last = l } in w) last
+    ∙ (ap (λ r. let w : View = record {
       told = names_after r id outs v.told;
       known = knows_after r id outs v.known;
       progress = progress_after id (due_of id rows) outs v.progress;
       settled = v.settled ++ settlements (hands_in id outs);
+      last = last_outs a.policy a.clock r id outs v.told v.last;
     } in w) same
-    ∙ outs_view a id (due_of id rows) outs v
+    ∙ outs_view a id (due_of id rows) outs v)

@@ -1,31 +1,39 @@
 -- What a row lets out for clients beside their notes is sent to them, so it brings no packet for the broker; only that an UNSUBSCRIBE was
 -- dropped is noted among it.
-use Rattle.std.proofs.Common.{◌≡◌, ℕ, Bool, true, false, List, [], ◌∷◌, ◌++◌, refl, ◌∙◌, if◌then◌else◌}
-use Rattle.std.specs.Prelude.{Option, Some, None}
+use Rattle.std.proofs.Common.{◌≡◌, ℕ, Bool, true, false, List, [], ◌∷◌, ◌++◌, refl, ap, sym, ◌∙◌, if◌then◌else◌}
+use Rattle.std.specs.Prelude.{slice_get, Option, Some, None}
 use Rattle.std.specs.List.{list_any}
+use Rattle.std.proofs.lemmas.List.{append-nil}
 use Rattle.sng_frames.specs.declared.messages.publish.Publish.{Publish}
 use Rattle.sng_frames.specs.declared.qos.FrameQos.{FrameQos}
 use Rattle.sng_frames.specs.declared.qos.FrameQos.TheVariants as qos
 use Rattle.sng_frames.specs.declared.frame.SnFrame.{SnFrame}
 use Rattle.sng_frames.specs.declared.frame.SnFrame.TheVariants as frame
+use Rattle.sng_states.specs.States.{is_due_messages}
 use Rattle.sng_queue.specs.Messages.{Message}
+use Rattle.sng_queue.specs.Buffers.{Buffer}
+use Rattle.sng_queue.specs.declared.exchange.Exchange.{Exchange}
+use Rattle.sng_queue.specs.declared.exchange.Exchange.TheVariants.{Announcing, Acknowledging}
+use Rattle.sng_queue.specs.declared.exchange.Sending.{Sending}
 use Rattle.sng_book.specs.declared.address.Address.{Address}
 use Rattle.sng_book.specs.declared.decision.Decision.{Decision}
 use Rattle.sng_book.specs.declared.decision.Decision.TheVariants as note
 use Rattle.sng_book.specs.declared.outcome.Denial.{Denial}
-use Rattle.sng_book.specs.declared.outcome.Denial.TheVariants.{NoSession}
+use Rattle.sng_book.specs.declared.outcome.Denial.TheVariants.{NoSession, OutOfTurn}
 use Rattle.sng_book.specs.declared.outcome.Outcome.{Outcome}
 use Rattle.sng_book.specs.declared.outcome.Outcome.TheVariants.{Allowed, Denied}
 use Rattle.sng_book.specs.declared.out.Out.{Out}
 use Rattle.sng_book.specs.declared.out.Out.TheVariants.{Send, Wire, Note}
-use Rattle.sng_history.specs.Causes.{Request, ToPing, ToLeave, ToRegister, ToPublish, ToSubscribe, ToUnsubscribe, ToConfirm, ToAcknowledge, Untaken, Cause, request_of}
-use Rattle.sng_history.specs.Handing.{Known, known_as, front, handed_outs}
-use Rattle.sng_history.specs.Clients.{Around, Client, is_author, start_by, note_by}
+use Rattle.sng_history.specs.Causes.{Statement, StatesTopic, StatesMessage, UpdatesTopic, UpdatesMessage}
+use Rattle.sng_history.specs.Causes.{Request, ToPing, ToLeave, ToSleep, ToRegister, ToPublish, ToSubscribe, ToUnsubscribe, ToConfirm, ToAcknowledge, ToState, Untaken, Cause, request_of}
+use Rattle.sng_history.specs.Handing.{Known, known_as, front, handed_outs, announced_again, repeated_outs}
+use Rattle.sng_history.specs.Clients.{Around, Client, is_author, start_by, note_by, notes_by, is_drained}
 use Rattle.sng_history.specs.Standing.{Release, is_release, drop_notes}
-use Rattle.sng_history.specs.Verdicts.{ping_verdict}
-use Rattle.sng_history.specs.Answers.{refusal, code_of, sent_to, puback, dismissed}
-use Rattle.sng_history.specs.Whole.{takes_leave, farewell, denied_to, denied_by, granted_to, granted_by, replied, dropped_with, handed_frames, frames_of, spell, pong_by, answer_to, answer, part}
-use Rattle.sng_history.specs.ViewsLink.{wires_in}
+use Rattle.sng_history.specs.Verdicts.{is_active, ping_verdict}
+use Rattle.sng_history.specs.Answers.{refusal, code_of, sent_to, puback, dismissed, statement_answer, dialogue_ended, statement_refused, pong}
+use Rattle.sng_history.specs.Whole.{takes_leave, farewell, denied_to, denied_by, granted_to, granted_by, replied, dropped_with, handed_frames, repeated_frames, frames_of}
+use Rattle.sng_history.specs.Whole.{spell, pong_by, answer_to, answer, drained_outs, part}
+use Rattle.sng_history.specs.Views.{wires_in}
 
 -- ---- frames
 
@@ -46,6 +54,10 @@ refused_sent : (to : Address) (o : Option SnFrame) → AllSent (sent_to to o)
 refused_sent to None = tt
 refused_sent to (Some message) = tt
 
+if_sent : (b : Bool) (outs : List Out) → AllSent outs → AllSent (if b then outs else [])
+if_sent true outs sent = sent
+if_sent false outs sent = tt
+
 leave_sent : (b : Bool) (to : Address) → AllSent (if b then dismissed to ∷ [] else [])
 leave_sent true to = tt
 leave_sent false to = tt
@@ -58,15 +70,27 @@ ping_sent : (to : Address) (client : Option (List ℕ)) (rule : Denial) → AllS
 ping_sent to client NoSession = tt
 ping_sent to client _ = tt
 
+ended_sent : (to : Address) (rule : Denial) → AllSent (dialogue_ended to rule)
+ended_sent to OutOfTurn = tt
+ended_sent to _ = tt
+
+statement_refused_sent : (statement : Statement) (to : Address) (rule : Denial) → AllSent (statement_refused statement to rule)
+statement_refused_sent (StatesTopic topic) to rule = ended_sent to rule
+statement_refused_sent (StatesMessage message) to rule = ended_sent to rule
+statement_refused_sent (UpdatesTopic topic) to rule = refused_sent to (refusal (frame.WillTopicUpdate topic) (code_of rule))
+statement_refused_sent (UpdatesMessage message) to rule = refused_sent to (refusal (frame.WillMessageUpdate message) (code_of rule))
+
 denied_to_sent : (request : Request) (to : Address) (rule : Denial) → AllSent (denied_to request to rule)
 denied_to_sent (ToPing client) to rule = ping_sent to client rule
 denied_to_sent ToLeave to rule = tt
+denied_to_sent (ToSleep duration) to rule = tt
 denied_to_sent (ToRegister r) to rule = refused_sent to (refusal (frame.Register r) (code_of rule))
 denied_to_sent (ToPublish p) to rule = refused_sent to (refusal (frame.Publish p) (code_of rule))
 denied_to_sent (ToSubscribe r) to rule = refused_sent to (refusal (frame.Subscribe r) (code_of rule))
 denied_to_sent (ToUnsubscribe r) to rule = refused_sent to (refusal (frame.Unsubscribe r) (code_of rule))
 denied_to_sent (ToConfirm r) to rule = tt
 denied_to_sent (ToAcknowledge r) to rule = tt
+denied_to_sent (ToState statement) to rule = statement_refused_sent statement to rule
 denied_to_sent (Untaken message) to rule = refused_sent to (refusal message (code_of rule))
 
 denied_sent : (request : Option Request) (to : Address) (rule : Denial) → AllSent (denied_by request to rule)
@@ -79,9 +103,17 @@ puback_sent to p qos.AtMostOnce = tt
 puback_sent to p qos.ExactlyOnce = tt
 puback_sent to p qos.WithoutSession = tt
 
+statement_sent : (statement : Statement) (to : Address) → AllSent (statement_answer statement to ∷ [])
+statement_sent (StatesTopic None) to = tt
+statement_sent (StatesTopic (Some topic)) to = tt
+statement_sent (StatesMessage message) to = tt
+statement_sent (UpdatesTopic topic) to = tt
+statement_sent (UpdatesMessage message) to = tt
+
 granted_to_sent : (request : Request) (x : Client) (name : Option (List ℕ)) → AllSent (granted_to request x name)
 granted_to_sent (ToPing client) x name = tt
 granted_to_sent ToLeave x name = tt
+granted_to_sent (ToSleep duration) x name = tt
 granted_to_sent (ToRegister r) x (Some name) = tt
 granted_to_sent (ToRegister r) x None = tt
 granted_to_sent (ToPublish p) x name = puback_sent x.address p p.flags.qos
@@ -90,6 +122,7 @@ granted_to_sent (ToSubscribe r) x None = tt
 granted_to_sent (ToUnsubscribe r) x filter = tt
 granted_to_sent (ToConfirm r) x name = tt
 granted_to_sent (ToAcknowledge r) x name = tt
+granted_to_sent (ToState statement) x name = statement_sent statement x.address
 granted_to_sent (Untaken message) x name = tt
 
 granted_sent : (request : Option Request) (x : Client) (name : Option (List ℕ)) → AllSent (granted_by request x name)
@@ -121,6 +154,19 @@ handed_sent : (a : Around) (x : Client) (name : List ℕ) (outcome : Outcome) �
 handed_sent a x name Allowed = handed_out_sent x.address x.number (front x.buffer) (known_as a.policy x.ids name)
 handed_sent a x name (Denied rule) = tt
 
+announced_again_sent : (to : Address) (sent : Sending) (m : Option Message) → AllSent (announced_again to sent m)
+announced_again_sent to sent None = tt
+announced_again_sent to sent (Some m) = tt
+
+repeated_out_sent : (to : Address) (b : Buffer) (open_ones : Option Exchange) → AllSent (repeated_outs to b open_ones)
+repeated_out_sent to b None = tt
+repeated_out_sent to b (Some (Announcing sent)) = announced_again_sent to sent (slice_get b.waiting 0)
+repeated_out_sent to b (Some (Acknowledging sent k m)) = tt
+
+repeated_sent : (x : Client) (outcome : Outcome) → AllSent (repeated_frames x outcome)
+repeated_sent x Allowed = repeated_out_sent x.address x.buffer x.buffer.exchange
+repeated_sent x (Denied rule) = tt
+
 pub frames_sent : (a : Around) (dropped : List Release) (x : Client) (said : Decision) → AllSent (frames_of a dropped x said)
 frames_sent a dropped x (note.Left id) = farewell_sent (request_of a.cause) x.address
 frames_sent a dropped x (note.Register who name outcome) = replied_sent a.cause x name outcome
@@ -134,7 +180,7 @@ frames_sent a dropped x (note.End id filter outcome) = dropped_sent dropped x.id
 frames_sent a dropped x (note.Announce id name) = tt
 frames_sent a dropped x (note.Hand id name outcome) = handed_sent a x name outcome
 frames_sent a dropped x (note.Connect id outcome) = tt
-frames_sent a dropped x (note.Retry id name outcome) = tt
+frames_sent a dropped x (note.Retry id name outcome) = repeated_sent x outcome
 frames_sent a dropped x (note.Forward who name outcome) = tt
 frames_sent a dropped x (note.Again who name outcome) = tt
 frames_sent a dropped x (note.Lost id) = tt
@@ -145,14 +191,18 @@ pong_sent Allowed to = tt
 pong_sent (Denied rule) to = tt
 
 answer_to_sent : (request : Request) (x : Client) → AllSent (answer_to request x)
-answer_to_sent (ToPing client) x = pong_sent (ping_verdict client x) x.address
+answer_to_sent (ToPing client) x =
+    let verdict = ping_verdict client x in
+    if_sent (is_active x.phase) (pong_by verdict x.address) (pong_sent verdict x.address)
 answer_to_sent ToLeave x = tt
+answer_to_sent (ToSleep duration) x = leave_sent (is_due_messages x.phase) x.address
 answer_to_sent (ToRegister r) x = tt
 answer_to_sent (ToPublish p) x = tt
 answer_to_sent (ToSubscribe r) x = tt
 answer_to_sent (ToUnsubscribe r) x = tt
 answer_to_sent (ToConfirm r) x = tt
 answer_to_sent (ToAcknowledge r) x = tt
+answer_to_sent (ToState statement) x = tt
 answer_to_sent (Untaken message) x = tt
 
 pub answer_sent : (request : Option Request) (x : Client) → AllSent (answer request x)
@@ -162,6 +212,9 @@ answer_sent (Some request) x = answer_to_sent request x
 author_sent : (request : Option Request) (x : Client) (b : Bool) → AllSent (if b then answer request x else [])
 author_sent request x true = answer_sent request x
 author_sent request x false = tt
+
+pub drained_sent : (x : Client) → AllSent (drained_outs x)
+drained_sent x = if_sent (is_drained x) (pong x.address ∷ []) tt
 
 -- ---- no packets
 
@@ -176,7 +229,19 @@ spell_wires a dropped x [] = refl
 spell_wires a dropped x (said ∷ notes) =
     sent_wires (frames_of a dropped x said) (spell a dropped (note_by a said x) notes) (frames_sent a dropped x said) ∙ spell_wires a dropped (note_by a said x) notes
 
+only_sent_wires : (xs : List Out) → AllSent xs → wires_in xs ≡ []
+only_sent_wires xs sent = ap wires_in (sym (append-nil xs)) ∙ sent_wires xs [] sent
+
+both_wires : (xs ys : List Out) → wires_in xs ≡ [] → AllSent ys → wires_in (xs ++ ys) ≡ []
+both_wires [] ys none sent = only_sent_wires ys sent
+both_wires (Send to datagram ∷ xs) ys none sent = both_wires xs ys none sent
+both_wires (Note said ∷ xs) ys none sent = both_wires xs ys none sent
+both_wires (Wire packet ∷ xs) ys none sent = absurd cc
+
 pub part_wires : (a : Around) (dropped : List Release) (notes : List Decision) (x : Client) → wires_in (part a dropped notes x) ≡ []
 part_wires a dropped notes x =
-    sent_wires (if is_author a.cause x then answer (request_of a.cause) x else []) (spell a dropped (start_by a x) notes) (author_sent (request_of a.cause) x (is_author a.cause x))
-    ∙ spell_wires a dropped (start_by a x) notes
+    let y = start_by a x in
+    let last = drained_outs (notes_by a notes y) in
+    sent_wires (if is_author a.cause x then answer (request_of a.cause) x else []) (spell a dropped y notes ++ last)
+    (author_sent (request_of a.cause) x (is_author a.cause x))
+    ∙ both_wires (spell a dropped y notes) last (spell_wires a dropped y notes) (drained_sent (notes_by a notes y))

@@ -2,18 +2,19 @@
 use Rattle.std.proofs.Common.{◌≡◌, ℕ, Bool, true, false, List, [], ◌∷◌, ◌++◌, refl, ap, ◌∙◌}
 use Rattle.std.specs.Prelude.{if◌then◌else◌, Option}
 use Rattle.std.specs.Str.{bytes_eq}
+use Rattle.std.proofs.lemmas.List.{append-nil}
 use Rattle.sng_frames.specs.declared.messages.publish.Publish.{Publish}
 use Rattle.sng_book.specs.declared.decision.Decision.{Decision}
 use Rattle.sng_book.specs.declared.out.Out.{Out}
 use Rattle.sng_history.specs.Causes.{Cause, request_of}
-use Rattle.sng_history.specs.Clients.{Around, Client, is_author, start_by, note_by}
+use Rattle.sng_history.specs.Clients.{Around, Client, is_author, start_by, note_by, notes_by}
 use Rattle.sng_history.specs.Notes.{notes_of, exits_in, is_of, exit_of}
-use Rattle.sng_history.specs.Whole.{frames_of, spell, answer, part}
+use Rattle.sng_history.specs.Whole.{frames_of, spell, answer, drained_outs, part}
 use Rattle.sng_history.specs.Standing.{Release}
 use Rattle.sng_history.specs.State.{asked_by, asked_all}
 use Rattle.sng_history.specs.Steps.{asked_by_all}
 use Rattle.sng_book.specs.declared.out.Out.TheVariants.{Send, Wire, Note}
-use Rattle.sng_history.proofs.Sent.{AllSent, frames_sent, answer_sent}
+use Rattle.sng_history.proofs.Sent.{AllSent, frames_sent, answer_sent, drained_sent}
 use Rattle.sng_history.proofs.Hands.{Every}
 use Rattle.sng_history.proofs.Own.{same_self, notes_append, exits_append, asks_append}
 
@@ -91,34 +92,58 @@ spell_exits a dropped x c (said ∷ notes) about =
 lead : (c : Cause) (x : Client) → Mute (if is_author c x then answer (request_of c) x else [])
 lead c x = mute_if (is_author c x) (answer (request_of c) x) (mute_answer c x)
 
-pub part_own : (a : Around) (dropped : List Release) (notes : List Decision) (x : Client) → AllAbout x.id notes → notes_of x.id (part a dropped notes x) ≡ notes
-part_own a dropped notes x about =
-    let y = start_by a x in
-    notes_append x.id (if is_author a.cause x then answer (request_of a.cause) x else []) (spell a dropped y notes)
-    ∙ (ap (λ more. more ++ notes_of x.id (spell a dropped y notes)) ((lead a.cause x).notes x.id) ∙ spell_own a dropped y x.id notes about)
+last : (x : Client) → Mute (drained_outs x)
+last x = mute_of (drained_outs x) (drained_sent x)
 
-pub part_other : (a : Around) (dropped : List Release) (notes : List Decision) (x : Client) (d : List ℕ) → bytes_eq d x.id ≡ false → AllAbout x.id notes → notes_of d (part a dropped notes x) ≡ []
+-- behind the answer, before which no note stands, and before the PINGRESP of one that falls asleep again
+abbrev between : Around → List Release → List Decision → Client → List Out
+between a dropped notes x = spell a dropped (start_by a x) notes ++ drained_outs (notes_by a notes (start_by a x))
+
+part_notes : (a : Around) (dropped : List Release) (notes : List Decision) (x : Client) (d : List ℕ)
+    → notes_of d (part a dropped notes x) ≡ notes_of d (spell a dropped (start_by a x) notes)
+part_notes a dropped notes x d =
+    let own = spell a dropped (start_by a x) notes in
+    let y = notes_by a notes (start_by a x) in
+    notes_append d (if is_author a.cause x then answer (request_of a.cause) x else []) (between a dropped notes x)
+    ∙ (ap (λ more. more ++ notes_of d (between a dropped notes x)) ((lead a.cause x).notes d)
+    ∙ (notes_append d own (drained_outs y) ∙ (ap (λ more. notes_of d own ++ more) ((last y).notes d) ∙ append-nil (notes_of d own))))
+
+pub part_own : (a : Around) (dropped : List Release) (notes : List Decision) (x : Client) → AllAbout x.id notes
+    → notes_of x.id (part a dropped notes x) ≡ notes
+part_own a dropped notes x about = part_notes a dropped notes x x.id ∙ spell_own a dropped (start_by a x) x.id notes about
+
+pub part_other : (a : Around) (dropped : List Release) (notes : List Decision) (x : Client) (d : List ℕ) → bytes_eq d x.id ≡ false
+    → AllAbout x.id notes → notes_of d (part a dropped notes x) ≡ []
 part_other a dropped notes x d away about =
-    let y = start_by a x in
-    notes_append d (if is_author a.cause x then answer (request_of a.cause) x else []) (spell a dropped y notes)
-    ∙ (ap (λ more. more ++ notes_of d (spell a dropped y notes)) ((lead a.cause x).notes d) ∙ spell_other a dropped y x.id d notes away about)
+    part_notes a dropped notes x d ∙ spell_other a dropped (start_by a x) x.id d notes away about
 
-pub part_exits : (a : Around) (dropped : List Release) (notes : List Decision) (x : Client) → AllAbout x.id notes → exits_in (part a dropped notes x) ≡ []
+pub part_exits : (a : Around) (dropped : List Release) (notes : List Decision) (x : Client) → AllAbout x.id notes
+    → exits_in (part a dropped notes x) ≡ []
 part_exits a dropped notes x about =
-    let y = start_by a x in
-    exits_append (if is_author a.cause x then answer (request_of a.cause) x else []) (spell a dropped y notes)
-    ∙ (ap (λ more. more ++ exits_in (spell a dropped y notes)) (lead a.cause x).exits ∙ spell_exits a dropped y x.id notes about)
+    let own = spell a dropped (start_by a x) notes in
+    let y = notes_by a notes (start_by a x) in
+    exits_append (if is_author a.cause x then answer (request_of a.cause) x else []) (between a dropped notes x)
+    ∙ (ap (λ more. more ++ exits_in (between a dropped notes x)) (lead a.cause x).exits
+    ∙ (exits_append own (drained_outs y)
+    ∙ (ap (λ more. more ++ exits_in (drained_outs y)) (spell_exits a dropped (start_by a x) x.id notes about) ∙ (last y).exits)))
 
 -- what a client's part asks for is what its notes ask for
-spell_asks : (a : Around) (dropped : List Release) (x : Client) (p : Option Publish) (notes : List Decision) → asked_all p (spell a dropped x notes) ≡ asked_by_all p notes
+spell_asks : (a : Around) (dropped : List Release) (x : Client) (p : Option Publish) (notes : List Decision)
+    → asked_all p (spell a dropped x notes) ≡ asked_by_all p notes
 spell_asks a dropped x p [] = refl
 spell_asks a dropped x p (said ∷ notes) =
     let y = note_by a said x in
     ap (λ more. asked_by p said ++ more)
-    (asks_append p (frames_of a dropped x said) (spell a dropped y notes) ∙ (ap (λ more. more ++ asked_all p (spell a dropped y notes)) ((mute_frames a dropped x said).asks p) ∙ spell_asks a dropped y p notes))
+    (asks_append p (frames_of a dropped x said) (spell a dropped y notes)
+    ∙ (ap (λ more. more ++ asked_all p (spell a dropped y notes)) ((mute_frames a dropped x said).asks p) ∙ spell_asks a dropped y p notes))
 
-pub part_asks : (a : Around) (dropped : List Release) (notes : List Decision) (x : Client) (p : Option Publish) → asked_all p (part a dropped notes x) ≡ asked_by_all p notes
+pub part_asks : (a : Around) (dropped : List Release) (notes : List Decision) (x : Client) (p : Option Publish)
+    → asked_all p (part a dropped notes x) ≡ asked_by_all p notes
 part_asks a dropped notes x p =
-    let y = start_by a x in
-    asks_append p (if is_author a.cause x then answer (request_of a.cause) x else []) (spell a dropped y notes)
-    ∙ (ap (λ more. more ++ asked_all p (spell a dropped y notes)) ((lead a.cause x).asks p) ∙ spell_asks a dropped y p notes)
+    let own = spell a dropped (start_by a x) notes in
+    let y = notes_by a notes (start_by a x) in
+    asks_append p (if is_author a.cause x then answer (request_of a.cause) x else []) (between a dropped notes x)
+    ∙ (ap (λ more. more ++ asked_all p (between a dropped notes x)) ((lead a.cause x).asks p)
+    ∙ (asks_append p own (drained_outs y)
+    ∙ (ap (λ more. asked_all p own ++ more) ((last y).asks p)
+    ∙ (append-nil (asked_all p own) ∙ spell_asks a dropped (start_by a x) p notes))))

@@ -26,7 +26,7 @@ are_after s e outs is good are =
     subst (λ o. Each OwnFilters (after s (cause_of e) o).clients) (sym is)
     (subst (λ t. Each OwnFilters t.clients) (sym (next_same s (cause_of e) good)) (filters_next s (cause_of e) are))
 
-are_filters : (h : List Row) → Lawful opening h → Each OwnFilters (state_of opening h).clients
+pub are_filters : (h : List Row) → Lawful opening h → Each OwnFilters (state_of opening h).clients
 are_filters [] l = tt
 are_filters (row ∷ h) l =
     let s = state_of opening h in are_after s row.event row.outs (exact_by s (cause_of row.event) row.outs l.1) (state_stands h l.0).good (are_filters h l.0)

@@ -12,7 +12,6 @@ use Rattle.sng_frames.specs.declared.messages.publish.Publish.{Publish}
 use Rattle.sng_frames.specs.declared.messages.subscribe.TopicRequest.{TopicRequest}
 use Rattle.sng_frames.specs.declared.frame.SnFrame.{SnFrame}
 use Rattle.sng_frames.specs.declared.frame.SnFrame.TheVariants as frame
-use Rattle.sng_states.specs.declared.state.ClientState.TheVariants.{Active}
 use Rattle.sng_book.specs.Denials.{is_allowed}
 use Rattle.sng_book.specs.declared.address.Address.{Address}
 use Rattle.sng_book.specs.declared.decision.Decision.{Decision}
@@ -25,9 +24,10 @@ use Rattle.sng_book.specs.declared.event.Event.{Event}
 use Rattle.sng_book.specs.declared.event.Event.TheVariants.{Datagram, Broker, Up, Down, Take, Replace, Tick}
 use Rattle.sng_book.specs.declared.out.Out.{Out}
 use Rattle.sng_book.specs.declared.out.Out.TheVariants.{Send, Wire, Note}
-use Rattle.sng_history.specs.Causes.{Cause, datagram_cause, publish_cause, cause_of}
+use Rattle.sng_history.specs.Causes.{Cause, datagram_cause, publish_cause, cause_of, Statement}
 use Rattle.sng_history.specs.Requests.{granted}
-use Rattle.sng_history.specs.Clients.{Client, Around, cleaned, entered_by, subscribed, unsubscribed, subscribe_of, note_by, notes_by, start_by}
+use Rattle.sng_history.specs.Clients.{Client, Around, cleaned, entered_by, subscribed, unsubscribed, subscribe_of, note_by, notes_by}
+use Rattle.sng_history.specs.Clients.{start_by, opened, stated_by, statement_of, repeated}
 use Rattle.sng_history.specs.Notes.{notes_of, is_of, is_client}
 use Rattle.sng_history.specs.State.{State, around}
 use Rattle.sng_history.specs.Lawful.{fixed_for}
@@ -38,7 +38,7 @@ use Rattle.sng_history.specs.ViewsStanding.{is_clean, qos_downstream, joined_by,
 use Rattle.sng_history.proofs.Own.{same_self}
 use Rattle.sng_history.proofs.Spelled.{AllAbout}
 use Rattle.sng_history.proofs.Told.{tells}
-use Rattle.sng_history.proofs.Steady.{start_filters, handed_steady}
+use Rattle.sng_history.proofs.Steady.{start_filters, handed_steady, client_filters}
 
 -- ---- what the rows show is read from the client's own notes
 
@@ -52,19 +52,22 @@ client_same id (who.Source source) = refl
 client_same id (who.Address address) = refl
 client_same id who.Broker = refl
 
-standing_other : (m : Option Message) (id : List ℕ) (said : Decision) (before : List Held) → is_of id said ≡ false → standing_by m id said before ≡ before
+standing_other : (m : Option Message) (id : List ℕ) (said : Decision) (before : List Held) → is_of id said ≡ false
+    → standing_by m id said before ≡ before
 standing_other m id (note.Connect client outcome) before other = rw other refl
 standing_other m id (note.Subscribe whom filter outcome) before other = rw (sym (client_same id whom) ∙ other) refl
 standing_other m id (note.Unsubscribe whom filter outcome) before other = rw (sym (client_same id whom) ∙ other) refl
 standing_other m id (note.End client filter outcome) before other = rw other refl
 standing_other m id _ before other = refl
 
-standing_note : (m : Option Message) (id : List ℕ) (said : Decision) (notes : List Decision) (before : List Held) (b : Bool) → is_of id said ≡ b
+standing_note : (m : Option Message) (id : List ℕ) (said : Decision) (notes : List Decision) (before : List Held) (b : Bool)
+    → is_of id said ≡ b
     → standing_notes m id notes (standing_by m id said before) ≡ standing_notes m id ((if b then said ∷ [] else []) ++ notes) before
 standing_note m id said notes before true own = refl
 standing_note m id said notes before false other = ap (standing_notes m id notes) (standing_other m id said before other)
 
-pub standing_by_notes : (m : Option Message) (id : List ℕ) (outs : List Out) (before : List Held) → standing_after m id outs before ≡ standing_notes m id (notes_of id outs) before
+pub standing_by_notes : (m : Option Message) (id : List ℕ) (outs : List Out) (before : List Held)
+    → standing_after m id outs before ≡ standing_notes m id (notes_of id outs) before
 standing_by_notes m id [] before = refl
 standing_by_notes m id (Note said ∷ outs) before =
     standing_by_notes m id outs (standing_by m id said before) ∙ standing_note m id said (notes_of id outs) before (is_of id said) refl
@@ -88,20 +91,27 @@ cleaned_filters : (clean : Bool) (x : Client) → (cleaned clean x).filters ≡ 
 cleaned_filters true x = refl
 cleaned_filters false x = refl
 
+opened_filters : (will : Bool) (x : Client) → (opened will x).filters ≡ x.filters
+opened_filters true x = refl
+opened_filters false x = refl
+
 alike_publish : (from : Address) (p : Publish) (q : FrameQos) → Alike (publish_cause from p q) (message_in (Ok (frame.Publish p)))
 alike_publish from p qos.WithoutSession = record { asks = refl; cleans = λ clock x. refl }
 alike_publish from p qos.AtMostOnce = record { asks = refl; cleans = λ clock x. refl }
 alike_publish from p qos.AtLeastOnce = record { asks = refl; cleans = λ clock x. refl }
 alike_publish from p qos.ExactlyOnce = record { asks = refl; cleans = λ clock x. refl }
 
-alike_disconnect : (from : Address) (duration : Option ℕ) → Alike (datagram_cause from (Ok (frame.Disconnect duration))) (message_in (Ok (frame.Disconnect duration)))
+alike_disconnect : (from : Address) (duration : Option ℕ)
+    → Alike (datagram_cause from (Ok (frame.Disconnect duration))) (message_in (Ok (frame.Disconnect duration)))
 alike_disconnect from None = record { asks = refl; cleans = λ clock x. refl }
 alike_disconnect from (Some duration) = record { asks = refl; cleans = λ clock x. refl }
 
 pub alike_datagram : (from : Address) (read : Result SnFrame FrameFault) → Alike (datagram_cause from read) (message_in read)
 alike_datagram from (Ok (frame.Connect connect)) = record {
   asks = refl;
-  cleans = λ clock x. cleaned_filters connect.flags.clean (record x { address = from; phase = Active; ids = []; duration = connect.duration; heard = clock });
+  cleans = λ clock x.
+      let y : Client = record x { address = from; ids = []; duration = connect.duration; heard = clock } in
+      opened_filters connect.flags.will (cleaned connect.flags.clean y) ∙ cleaned_filters connect.flags.clean y;
 }
 alike_datagram from (Ok (frame.Publish p)) = alike_publish from p p.flags.qos
 alike_datagram from (Ok (frame.Disconnect duration)) = alike_disconnect from duration
@@ -128,14 +138,26 @@ subscribed_filters (Some r) None (Denied rule) x = refl
 subscribed_filters (Some r) (Some text) Allowed x = ap (with_filter x.filters text) (qos_same r.flags.qos)
 subscribed_filters (Some r) (Some text) (Denied rule) x = refl
 
-unsubscribed_filters : (text : Option (List ℕ)) (o : Outcome) (x : Client) → (unsubscribed text o x).filters ≡ (if is_allowed o then left_by text x.filters else x.filters)
+unsubscribed_filters : (text : Option (List ℕ)) (o : Outcome) (x : Client)
+    → (unsubscribed text o x).filters ≡ (if is_allowed o then left_by text x.filters else x.filters)
 unsubscribed_filters None Allowed x = refl
 unsubscribed_filters None (Denied rule) x = refl
 unsubscribed_filters (Some text) Allowed x = refl
 unsubscribed_filters (Some text) (Denied rule) x = refl
 
+stated_filters : (statement : Option Statement) (o : Outcome) (x : Client) → (stated_by statement o x).filters ≡ x.filters
+stated_filters None o x = refl
+stated_filters (Some statement) Allowed x = refl
+stated_filters (Some statement) (Denied rule) x = refl
+
+repeated_filters : (clock : ℕ) (o : Outcome) (x : Client) → (repeated clock o x).filters ≡ x.filters
+repeated_filters clock Allowed x = refl
+repeated_filters clock (Denied rule) x = refl
+
 connected_filters : (a : Around) (m : Option Message) (o : Outcome) (x : Client) → Alike a.cause m
-    → (let y : Client = if is_allowed o then entered_by a.clock a.cause x else x in y).filters ≡ (if is_allowed o && is_clean m then [] else x.filters)
+    →
+    (let y : Client = if is_allowed o then entered_by a.clock a.cause x else x in y).filters
+    ≡ (if is_allowed o && is_clean m then [] else x.filters)
 connected_filters a m Allowed x same = same.cleans a.clock x
 connected_filters a m (Denied rule) x same = refl
 
@@ -143,12 +165,17 @@ note_filters : (a : Around) (m : Option Message) (id : List ℕ) (said : Decisio
     → (note_by a said x).filters ≡ standing_by m id said x.filters
 note_filters a m id (note.Connect client outcome) x same own = rw own (connected_filters a m outcome x same)
 note_filters a m id (note.Subscribe whom text outcome) x same own =
-    rw (sym (client_same id whom) ∙ own) (subscribed_filters (subscribe_of a.cause) text outcome x ∙ ap (λ r. if is_allowed outcome then joined_by r text x.filters else x.filters) same.asks)
-note_filters a m id (note.Unsubscribe whom text outcome) x same own = rw (sym (client_same id whom) ∙ own) (unsubscribed_filters text outcome x)
+    rw (sym (client_same id whom) ∙ own)
+    (subscribed_filters (subscribe_of a.cause) text outcome x
+    ∙ ap (λ r. if is_allowed outcome then joined_by r text x.filters else x.filters) same.asks)
+note_filters a m id (note.Unsubscribe whom text outcome) x same own =
+    rw (sym (client_same id whom) ∙ own) (unsubscribed_filters text outcome x)
 note_filters a m id (note.End client text outcome) x same own = rw own refl
 note_filters a m id (note.Register whom name outcome) x same own = refl
 note_filters a m id (note.Left client) x same own = refl
 note_filters a m id (note.Hand client name outcome) x same own = (handed_steady a name outcome x).filters
+note_filters a m id (note.Will whom name outcome) x same own = stated_filters (statement_of a.cause) outcome x
+note_filters a m id (note.Retry client name outcome) x same own = repeated_filters a.clock outcome x
 note_filters a m id _ x same own = refl
 
 notes_filters : (a : Around) (m : Option Message) (id : List ℕ) (notes : List Decision) (x : Client) → Alike a.cause m → AllAbout id notes
@@ -164,5 +191,6 @@ pub standing_next : (s : State) (e : Event) (x : Client)
 standing_next s e x =
     let c = cause_of e in
     let a = around s c in
-    notes_filters a (message_at e) x.id (fixed_for s c x) (start_by a x) (alike e) (tells s c x)
-    ∙ ap (standing_notes (message_at e) x.id (fixed_for s c x)) (start_filters a x)
+    client_filters a (fixed_for s c x) x
+    ∙ (notes_filters a (message_at e) x.id (fixed_for s c x) (start_by a x) (alike e) (tells s c x)
+    ∙ ap (standing_notes (message_at e) x.id (fixed_for s c x)) (start_filters a x))

@@ -33,5 +33,6 @@ held_same : (h : List Row) (xs : List Client) (text : List ℕ) → Each (Filter
 held_same h [] text shown = refl
 held_same h (x ∷ xs) text shown = rw (sym shown.0, held_same h xs text shown.1) refl
 
-pub held_shown : (h : List Row) (s : State) (text : List ℕ) → ids_of s.clients ≡ accepted h → Each (FiltersShown h) s.clients → held_in h text ≡ is_held s.clients text
+pub held_shown : (h : List Row) (s : State) (text : List ℕ) → ids_of s.clients ≡ accepted h → Each (FiltersShown h) s.clients
+    → held_in h text ≡ is_held s.clients text
 held_shown h s text order shown = ap (λ ids. held_by ids h text) (sym order) ∙ held_same h s.clients text shown

@@ -22,7 +22,7 @@ use Rattle.sng_history.specs.State.{State, around, is_known}
 use Rattle.sng_history.specs.Whole.{any_from}
 use Rattle.sng_history.specs.Lawful.{fixed_for}
 use Rattle.sng_history.specs.Steps.{outs_by, outs_of}
-use Rattle.sng_history.specs.ViewsMessages.{Message, message_in, message_at, subscribe_in}
+use Rattle.sng_history.specs.ViewsMessages.{Message, message_in, message_at, subscribe_in, Other, Sleeps}
 use Rattle.sng_history.specs.ViewsClients.{speaks_of}
 use Rattle.sng_history.specs.ViewsStanding.{is_clean, left_by, standing_by}
 use Rattle.sng_history.proofs.Own.{OnlyAbout, each_all, absent}
@@ -56,21 +56,31 @@ none_notes m id (said ∷ notes) quiet = ap (standing_notes m id notes) (none_by
 only_about : (s : State) (c : Cause) (x : Client) → OnlyAbout (part_for s c (drops_for s c)) x
 only_about s c x id other = part_other (around s c) (drops_for s c) (fixed_for s c x) x id other (tells s c x)
 
-unknown_notes : (s : State) (from : Address) (r : TopicRequest) (id : List ℕ) (b : Bool) → any_from (ByMessage from (ToSubscribe r)) s.clients ≡ b → is_known id s.clients ≡ false
+unknown_notes : (s : State) (from : Address) (r : TopicRequest) (id : List ℕ) (b : Bool)
+    → any_from (ByMessage from (ToSubscribe r)) s.clients ≡ b → is_known id s.clients ≡ false
     → notes_of id (outs_by s (ByMessage from (ToSubscribe r))) ≡ []
 unknown_notes s from r id true is unknown =
     let c = ByMessage from (ToSubscribe r) in
-    rw is (absent (part_for s c (drops_for s c)) id s.clients (each_all (OnlyAbout (part_for s c (drops_for s c))) s.clients (only_about s c)) (unknown_away id s.clients unknown))
+    rw is
+    (absent (part_for s c (drops_for s c)) id s.clients (each_all (OnlyAbout (part_for s c (drops_for s c))) s.clients (only_about s c))
+    (unknown_away id s.clients unknown))
 unknown_notes s from r id false is unknown = rw is refl
 
 unknown_datagram : (s : State) (from : Address) (read : Result SnFrame FrameFault) (id : List ℕ) → is_known id s.clients ≡ false
     → standing_notes (message_in read) id (notes_of id (outs_by s (datagram_cause from read))) [] ≡ []
 unknown_datagram s from (Ok (frame.Subscribe r)) id unknown =
     rw (unknown_notes s from r id (any_from (ByMessage from (ToSubscribe r)) s.clients) refl unknown) refl
-unknown_datagram s from (Ok message) id unknown = none_notes (message_in (Ok message)) id (notes_of id (outs_by s (datagram_cause from (Ok message)))) refl
+unknown_datagram s from (Ok (frame.Disconnect None)) id unknown =
+    let c = datagram_cause from (Ok (frame.Disconnect None)) in none_notes (Some Other) id (notes_of id (outs_by s c)) refl
+unknown_datagram s from (Ok (frame.Disconnect (Some duration))) id unknown =
+    let c =
+    datagram_cause from (Ok (frame.Disconnect (Some duration))) in none_notes (Some (Sleeps duration)) id (notes_of id (outs_by s c)) refl
+unknown_datagram s from (Ok message) id unknown =
+    none_notes (message_in (Ok message)) id (notes_of id (outs_by s (datagram_cause from (Ok message)))) refl
 unknown_datagram s from (Err broke) id unknown = none_notes None id (notes_of id (outs_by s (datagram_cause from (Err broke)))) refl
 
-pub unknown_row : (s : State) (e : Event) (id : List ℕ) → is_known id s.clients ≡ false → standing_notes (message_at e) id (notes_of id (outs_of s e)) [] ≡ []
+pub unknown_row : (s : State) (e : Event) (id : List ℕ) → is_known id s.clients ≡ false
+    → standing_notes (message_at e) id (notes_of id (outs_of s e)) [] ≡ []
 unknown_row s (Datagram from datagram) id unknown = unknown_datagram s from (frame_of datagram) id unknown
 unknown_row s (Broker packet) id unknown = none_notes None id (notes_of id (outs_of s (Broker packet))) refl
 unknown_row s Up id unknown = none_notes None id (notes_of id (outs_of s Up)) refl

@@ -4,7 +4,8 @@ use Rattle.std.specs.Prelude.{not, Some}
 use Rattle.sng_states.specs.declared.state.ClientState.{ClientState}
 use Rattle.sng_states.specs.declared.state.ClientState.TheVariants.{Dialogue, Active, Asleep, Awake, Disconnected, Lost}
 use Rattle.sng_states.specs.States.{has_session, is_due_messages, takes_messages}
-use Rattle.sng_history.specs.ViewsHanding.{is_awaiting, is_taking, is_away}
+use Rattle.sng_history.specs.ViewsHanding.{is_taking, is_away}
+use Rattle.sng_history.specs.ViewsClients.{is_awaiting}
 
 pub awaiting_same : (phase : ClientState) → is_awaiting (Some phase) ≡ is_due_messages phase
 awaiting_same Active = refl

@@ -4,6 +4,7 @@ use Rattle.std.specs.Prelude.{◌≡◌, if◌then◌else◌, Option, Some, None
 use Rattle.sng_grants.specs.declared.policy.Policy.{Policy}
 use Rattle.sng_fan.specs.declared.held.Held.{Held}
 use Rattle.std.specs.Str.{bytes_eq}
+use Rattle.sng_states.specs.States.{is_due_messages}
 use Rattle.sng_queue.specs.Messages.{Message}
 use Rattle.sng_frames.specs.declared.messages.connect.Connect.{Connect}
 use Rattle.sng_frames.specs.declared.frame.SnFrame.{SnFrame}
@@ -17,18 +18,19 @@ use Rattle.sng_book.specs.declared.outcome.Denial.{Denial}
 use Rattle.sng_book.specs.declared.outcome.Denial.TheVariants.{NotSupported, BrokerRefused, OutOfTurn}
 use Rattle.sng_book.specs.declared.outcome.Outcome.{Outcome}
 use Rattle.sng_book.specs.declared.outcome.Outcome.TheVariants.{Allowed, Denied}
-use Rattle.sng_history.specs.Causes.{Request, ToPing, ToLeave, ToRegister, ToPublish, ToSubscribe, ToUnsubscribe, ToConfirm, ToAcknowledge, Untaken, Cause}
+use Rattle.sng_history.specs.Causes.{Request, ToPing, ToLeave, ToSleep, ToRegister, ToPublish, ToSubscribe, ToUnsubscribe, ToConfirm, ToAcknowledge, ToState, Untaken, Cause}
 use Rattle.sng_history.specs.Causes.{ByConnect, ByMessage, BySource, ByBroken, ByPacket, ByUp, ByDown, ByTake, ByReplace, ByTick}
 use Rattle.sng_history.specs.Clients.{Client, is_here, let_in, closed, is_confirming, is_acknowledging, message_due}
-use Rattle.sng_history.specs.State.{State}
+use Rattle.sng_history.specs.State.{State, later}
 use Rattle.sng_history.specs.Packets.{answer_of, refused_filter}
 use Rattle.sng_history.specs.Standing.{holds}
 use Rattle.sng_history.specs.Verdicts.{entry, ping_verdict, coverage}
 use Rattle.sng_history.specs.Answers.{denied_note}
 use Rattle.sng_history.specs.Outgoing.{handed_over, all_gone, out_of_turn, delivered_notes}
-use Rattle.sng_history.specs.Lawful.{denial_of, confirmations, entering_notes, fixed_to, end_of, ends_under, refused_end, fixed_for}
+use Rattle.sng_history.specs.Lawful.{denial_of, confirmations, woken_notes, entering_notes, fixed_to, end_of, ends_under, refused_end, fixed_for}
 use Rattle.sng_history.proofs.Spelled.{About, AllAbout}
-use Rattle.sng_history.proofs.Hands.{OfMessages, every_append, every_if, every_handed, every_gone, every_delivered, every_confirmation}
+use Rattle.sng_history.proofs.Hands.{OfMessages, every_append, every_if, every_handed, every_gone, every_woken, every_delivered, every_confirmation}
+use Rattle.sng_history.proofs.Statements.{OfStatement, OfLost, every_statement, every_tick}
 use Rattle.sng_history.proofs.Kept.{let_in_id}
 use Rattle.sng_history.proofs.Asks.{of_register, of_publish, of_subscribe, of_unsubscribe}
 
@@ -118,6 +120,22 @@ about_either : (b : Bool) (c : List ℕ) (xs ys : List Decision) → AllAbout c 
 about_either true c xs ys one two = one
 about_either false c xs ys one two = two
 
+-- ---- a statement of a will, and a client that is lost
+
+about_statement : (c : List ℕ) → OfStatement (About c) c
+about_statement c = record {
+  states = λ name outcome. record { of = λ d. refl; stays = refl };
+  leaves = about_left c;
+  messages = about_messages c;
+}
+
+about_lost : (c : List ℕ) → OfLost (About c) c
+about_lost c = record {
+  loses = record { of = λ d. refl; stays = refl };
+  drops = λ name rule. record { of = λ d. refl; stays = refl };
+  messages = about_messages c;
+}
+
 -- ---- a CONNECT that is accepted
 
 about_entering : (s : State) (from : Address) (connect : Connect) (x : Client) (outcome : Outcome) → AllAbout x.id (entering_notes s from connect x outcome)
@@ -130,7 +148,11 @@ about_entering s from connect x (Denied rule) = tt
 -- ---- each request, and each cause
 
 told_to : (s : State) (request : Request) (x : Client) → AllAbout x.id (fixed_to s request x)
-told_to s (ToPing client) x = about_denial x.id (ping_verdict client x)
+told_to s (ToPing client) x =
+    let verdict = ping_verdict client x in
+    every_append (About x.id) (denial_of x.id verdict) (woken_notes s.policy client x)
+    (about_denial x.id verdict) (every_woken (About x.id) s.policy client x (about_messages x.id))
+told_to s (ToSleep duration) x = about_either (is_due_messages x.phase) x.id [] (out_of_turn x.id) tt (about_out x.id)
 told_to s ToLeave x = (about_left x.id, about_gone x.id x.buffer.waiting)
 told_to s (ToRegister r) x = (of_register (About x.id) s.policy x r.name (λ name o. record { of = λ d. refl; stays = refl }), tt)
 told_to s (ToPublish p) x = (of_publish (About x.id) s x p (λ name o. record { of = λ d. refl; stays = refl }), tt)
@@ -140,6 +162,7 @@ told_to s (ToConfirm r) x =
     about_either (is_confirming r x) x.id (confirmations s.policy r x) (out_of_turn x.id) (every_confirmation (About x.id) s.policy r x (about_messages x.id)) (about_out x.id)
 told_to s (ToAcknowledge r) x =
     about_either (is_acknowledging r x) x.id (handed_over s.policy (closed x)) (out_of_turn x.id) (about_handed s.policy x.id (closed x) refl) (about_out x.id)
+told_to s (ToState statement) x = every_statement (About x.id) s.policy statement x (about_statement x.id)
 told_to s (Untaken message) x = (about_denied x.id message NotSupported, tt)
 
 pub tells : (s : State) (c : Cause) (x : Client) → AllAbout x.id (fixed_for s c x)
@@ -159,4 +182,6 @@ tells s (BySource from p) x = tt
 tells s ByUp x = tt
 tells s ByDown x = tt
 tells s ByTake x = tt
-tells s (ByTick clock) x = tt
+tells s (ByTick clock) x =
+    every_tick (About x.id) s.policy s.link (later s.clock clock) s.clients x (about_lost x.id)
+    (λ name outcome. record { of = λ d. refl; stays = refl })

@@ -53,7 +53,7 @@ unturned client name grant.MissingPub = refl
 unturned client name grant.MissingSub = refl
 unturned client name (grant.Uncovered gap) = refl
 
-denied_settles : (policy : Policy) (client name : List ℕ) (rule : Denial) (x : Client) → receive policy client name ≡ Denied rule
+pub denied_settles : (policy : Policy) (client name : List ℕ) (rule : Denial) (x : Client) → receive policy client name ≡ Denied rule
     → denied_hand rule x ≡ (let y : Client = record x { buffer = settle x.buffer } in y)
 denied_settles policy client name rule x is =
     let away : is_turned_away rule ≡ false = sym (ap turned is) ∙ unturned client name (receive_grant policy client name) in rw away refl

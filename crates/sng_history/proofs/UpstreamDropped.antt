@@ -7,8 +7,6 @@ use Rattle.sng_fan.specs.declared.held.Held.{Held}
 use Rattle.sng_fan.specs.Subscriptions.{has_text, stands, without_filter}
 use Rattle.sng_frames.specs.declared.messages.connect.Connect.{Connect}
 use Rattle.sng_frames.specs.declared.messages.subscribe.TopicRequest.{TopicRequest}
-use Rattle.sng_frames.specs.declared.return_code.TheConstants.ReturnCode.{ACCEPTED}
-use Rattle.sng_states.specs.declared.state.ClientState.TheVariants.{Active}
 use Rattle.sng_book.specs.Denials.{is_allowed}
 use Rattle.sng_book.specs.declared.address.Address.{Address}
 use Rattle.sng_book.specs.declared.decision.Decision.{Decision}
@@ -18,20 +16,22 @@ use Rattle.sng_book.specs.declared.outcome.Outcome.TheVariants.{Allowed, Denied}
 use Rattle.sng_book.specs.declared.out.Out.{Out}
 use Rattle.sng_book.specs.declared.out.Out.TheVariants.{Send, Wire, Note}
 use Rattle.sng_history.specs.Causes.{Cause, request_of}
-use Rattle.sng_history.specs.Causes.{ByConnect, ByMessage, BySource, ByBroken, ByPacket, ByUp, ByDown, ByTake, ByReplace, ByTick}
+use Rattle.sng_history.specs.Causes.{ByConnect}
 use Rattle.sng_history.specs.Requests.{granted}
-use Rattle.sng_history.specs.Clients.{Around, Client, is_author, start_by, cleaned, entered_by, subscribed, unsubscribed, subscribe_of, note_by, notes_by}
+use Rattle.sng_history.specs.Clients.{Around, Client, is_author, start_by, entered_by, subscribed, unsubscribed, subscribe_of, statement_of, note_by, notes_by}
 use Rattle.sng_history.specs.Standing.{Release, is_held, ended, releases_of, released_from, released, places_left, is_release, drop_note, drop_notes}
 use Rattle.sng_history.specs.State.{State, around}
 use Rattle.sng_history.specs.Verdicts.{entry}
-use Rattle.sng_history.specs.Answers.{connack}
-use Rattle.sng_history.specs.Whole.{answer, replied, frames_of, spell, moved, beside, entering_part, around_connack, entry_outs}
+use Rattle.sng_history.specs.Answers.{welcome}
+use Rattle.sng_history.specs.Whole.{answer, replied, frames_of, spell, drained_outs, moved, beside, entering_part, around_welcome, entry_outs}
 use Rattle.sng_history.specs.Lawful.{fixed_for}
 use Rattle.sng_history.specs.Steps.{outs_by, notes_for, client_next}
 use Rattle.sng_history.specs.Good.{Each}
 use Rattle.sng_history.specs.ViewsLink.{is_outbox, is_outbox_noted}
 use Rattle.sng_history.proofs.Own.{same_self, same_means}
-use Rattle.sng_history.proofs.Steady.{start_steady, start_filters, handed_steady}
+use Rattle.sng_history.proofs.Steady.{start_lasts, repeated_steady, start_filters, client_filters, handed_steady}
+use Rattle.sng_history.proofs.Kept.{note_id}
+use Rattle.sng_history.proofs.Statements.{stated_keeps}
 use Rattle.sng_history.proofs.Holding.{with_stands}
 use Rattle.sng_history.proofs.Says.{part_for, drops_for}
 use Rattle.sng_history.proofs.UpstreamLeaving.{is_one}
@@ -54,7 +54,8 @@ noted_left : (xs ys : List Out) → is_outbox_noted xs ≡ true → is_outbox_no
 noted_left [] ys is = absurd cc
 noted_left (Note said ∷ xs) ys is = at (is_outbox said) is (noted_left xs ys)
   where
-    at : (b : Bool) → (b || is_outbox_noted xs) ≡ true → (is_outbox_noted xs ≡ true → is_outbox_noted (xs ++ ys) ≡ true) → (b || is_outbox_noted (xs ++ ys)) ≡ true
+    at : (b : Bool) → (b || is_outbox_noted xs) ≡ true → (is_outbox_noted xs ≡ true → is_outbox_noted (xs ++ ys) ≡ true)
+        → (b || is_outbox_noted (xs ++ ys)) ≡ true
     at true is rest = refl
     at false is rest = rest is
 noted_left (Send to datagram ∷ xs) ys is = noted_left xs ys is
@@ -65,47 +66,6 @@ noted_right [] ys is = is
 noted_right (Note said ∷ xs) ys is = or_one (is_outbox said) (is_outbox_noted (xs ++ ys)) (noted_right xs ys is)
 noted_right (Send to datagram ∷ xs) ys is = noted_right xs ys is
 noted_right (Wire sent ∷ xs) ys is = noted_right xs ys is
-
--- ---- a client keeps its id
-
-id_if : (b : Bool) (x y : Client) → x.id ≡ y.id → (let z : Client = if b then x else y in z).id ≡ y.id
-id_if true x y same = same
-id_if false x y same = refl
-
-id_cleaned : (clean : Bool) (x : Client) → (cleaned clean x).id ≡ x.id
-id_cleaned true x = refl
-id_cleaned false x = refl
-
-id_entered : (clock : ℕ) (c : Cause) (x : Client) → (entered_by clock c x).id ≡ x.id
-id_entered clock (ByConnect from connect) x =
-    id_cleaned connect.flags.clean (record x { address = from; phase = Active; ids = []; duration = connect.duration; heard = clock })
-id_entered clock (ByMessage from request) x = refl
-id_entered clock (BySource from p) x = refl
-id_entered clock (ByBroken from rule) x = refl
-id_entered clock (ByPacket p) x = refl
-id_entered clock ByUp x = refl
-id_entered clock ByDown x = refl
-id_entered clock ByTake x = refl
-id_entered clock (ByReplace policy) x = refl
-id_entered clock (ByTick now) x = refl
-
-id_subscribed : (r : Option TopicRequest) (text : Option (List ℕ)) (o : Outcome) (x : Client) → (subscribed r text o x).id ≡ x.id
-id_subscribed None text o x = refl
-id_subscribed (Some r) None o x = refl
-id_subscribed (Some r) (Some text) Allowed x = refl
-id_subscribed (Some r) (Some text) (Denied rule) x = refl
-
-id_unsubscribed : (text : Option (List ℕ)) (o : Outcome) (x : Client) → (unsubscribed text o x).id ≡ x.id
-id_unsubscribed None o x = refl
-id_unsubscribed (Some text) Allowed x = refl
-id_unsubscribed (Some text) (Denied rule) x = refl
-
-id_note : (a : Around) (said : Decision) (x : Client) → (note_by a said x).id ≡ x.id
-id_note a (note.Connect id o) x = id_if (is_allowed o) (entered_by a.clock a.cause x) x (id_entered a.clock a.cause x)
-id_note a (note.Subscribe whom text o) x = id_subscribed (subscribe_of a.cause) text o x
-id_note a (note.Unsubscribe whom text o) x = id_unsubscribed text o x
-id_note a (note.Hand client name o) x = (handed_steady a name o x).id
-id_note a _ x = refl
 
 -- ---- the notes that end a filter
 
@@ -136,7 +96,8 @@ ends_in text [] = false
 ends_in text (said ∷ notes) = ends_by text said || ends_in text notes
 
 -- other filters stay
-stays_by : (h : Held) (rest : List Held) (gone text : List ℕ) (one other : Bool) → has_text text h ≡ one → has_text gone h ≡ other → bytes_eq text gone ≡ false
+stays_by : (h : Held) (rest : List Held) (gone text : List ℕ) (one other : Bool) → has_text text h ≡ one → has_text gone h ≡ other
+    → bytes_eq text gone ≡ false
     → (one ≡ false → stands rest text ≡ true) → stands (if not other then h ∷ rest else rest) text ≡ true
 stays_by h rest gone text true true is goes away more =
     absurd (let e : h.filter ≡ text = same_means h.filter text is in let bad : true ≡ false = sym (subst (λ t. bytes_eq t gone ≡ true) e goes) ∙ away in cc)
@@ -144,19 +105,23 @@ stays_by h rest gone text false true is goes away more = more refl
 stays_by h rest gone text true false is goes away more = or_first (has_text text h) (stands rest text) is
 stays_by h rest gone text false false is goes away more = or_one (has_text text h) (stands rest text) (more refl)
 
-stays : (held : List Held) (gone text : List ℕ) → bytes_eq text gone ≡ false → stands held text ≡ true → stands (without_filter held gone) text ≡ true
+stays : (held : List Held) (gone text : List ℕ) → bytes_eq text gone ≡ false → stands held text ≡ true
+    → stands (without_filter held gone) text ≡ true
 stays [] gone text away stood = absurd cc
 stays (h ∷ held) gone text away stood =
-    stays_by h (without_filter held gone) gone text (has_text text h) (has_text gone h) refl refl away (λ other. stays held gone text away (sym (ap (λ b. b || stands held text) other) ∙ stood))
+    stays_by h (without_filter held gone) gone text (has_text text h) (has_text gone h) refl refl away
+    (λ other. stays held gone text away (sym (ap (λ b. b || stands held text) other) ∙ stood))
 
-stays_subscribed : (r : Option TopicRequest) (filter : Option (List ℕ)) (o : Outcome) (x : Client) (text : List ℕ) → stands x.filters text ≡ true → stands (subscribed r filter o x).filters text ≡ true
+stays_subscribed : (r : Option TopicRequest) (filter : Option (List ℕ)) (o : Outcome) (x : Client) (text : List ℕ)
+    → stands x.filters text ≡ true → stands (subscribed r filter o x).filters text ≡ true
 stays_subscribed None filter o x text stood = stood
 stays_subscribed (Some r) None o x text stood = stood
 stays_subscribed (Some r) (Some filter) Allowed x text stood =
     with_stands x.filters filter text (granted r.flags.qos) ∙ or_first (stands x.filters text) (bytes_eq text filter) stood
 stays_subscribed (Some r) (Some filter) (Denied rule) x text stood = stood
 
-stays_unsubscribed : (gone : Option (List ℕ)) (o : Outcome) (x : Client) (text : List ℕ) → ends_with text gone o ≡ false → stands x.filters text ≡ true → stands (unsubscribed gone o x).filters text ≡ true
+stays_unsubscribed : (gone : Option (List ℕ)) (o : Outcome) (x : Client) (text : List ℕ) → ends_with text gone o ≡ false
+    → stands x.filters text ≡ true → stands (unsubscribed gone o x).filters text ≡ true
 stays_unsubscribed None o x text other stood = stood
 stays_unsubscribed (Some gone) Allowed x text other stood = stays x.filters gone text other stood
 stays_unsubscribed (Some gone) (Denied rule) x text other stood = stood
@@ -165,7 +130,8 @@ stays_unsubscribed (Some gone) (Denied rule) x text other stood = stood
 abbrev pub NoEntry : Around → Type 0
 NoEntry a = (x : Client) → entered_by a.clock a.cause x ≡ x
 
-stays_note : (a : Around) (said : Decision) (x : Client) (text : List ℕ) → NoEntry a → ends_by text said ≡ false → stands x.filters text ≡ true → stands (note_by a said x).filters text ≡ true
+stays_note : (a : Around) (said : Decision) (x : Client) (text : List ℕ) → NoEntry a → ends_by text said ≡ false
+    → stands x.filters text ≡ true → stands (note_by a said x).filters text ≡ true
 stays_note a (note.Connect id o) x text none other stood = entered (is_allowed o)
   where
     entered : (b : Bool) → stands (let y : Client = if b then entered_by a.clock a.cause x else x in y).filters text ≡ true
@@ -176,33 +142,48 @@ stays_note a (note.Unsubscribe whom gone o) x text none other stood = stays_unsu
 stays_note a (note.End id gone o) x text none other stood = stays x.filters gone text other stood
 stays_note a (note.Left id) x text none other stood = stood
 stays_note a (note.Hand client name o) x text none other stood = ap (λ held. stands held text) (handed_steady a name o x).filters ∙ stood
+stays_note a (note.Will whom name o) x text none other stood =
+    ap (λ held. stands held text) (stated_keeps (statement_of a.cause) o x).filters ∙ stood
 stays_note a (note.Register whom name o) x text none other stood = stood
-stays_note a _ x text none other stood = stood
+stays_note a (note.Lost id) x text none other stood = stood
+stays_note a (note.Publish whom name o) x text none other stood = stood
+stays_note a (note.Announce id name) x text none other stood = stood
+stays_note a (note.Retry id name o) x text none other stood = ap (λ held. stands held text) (repeated_steady a.clock o x).filters ∙ stood
+stays_note a (note.Forward whom name o) x text none other stood = stood
+stays_note a (note.Again whom name o) x text none other stood = stood
+stays_note a note.Outbox x text none other stood = stood
+stays_note a (note.Frame whom o) x text none other stood = stood
 
-stays_notes : (a : Around) (notes : List Decision) (x : Client) (text : List ℕ) → NoEntry a → ends_in text notes ≡ false → stands x.filters text ≡ true → stands (notes_by a notes x).filters text ≡ true
+stays_notes : (a : Around) (notes : List Decision) (x : Client) (text : List ℕ) → NoEntry a → ends_in text notes ≡ false
+    → stands x.filters text ≡ true → stands (notes_by a notes x).filters text ≡ true
 stays_notes a [] x text none other stood = stood
 stays_notes a (said ∷ notes) x text none other stood =
     let both = or_false (ends_by text said) (ends_in text notes) other in
     stays_notes a notes (note_by a said x) text none both.1 (stays_note a said x text none both.0 stood)
 
 -- so what ended was ended by a note
-ends_noted : (s : State) (c : Cause) (x : Client) (text : List ℕ) → NoEntry (around s c) → stands x.filters text ≡ true → stands (client_next s c x).filters text ≡ false → ends_in text (fixed_for s c x) ≡ true
+ends_noted : (s : State) (c : Cause) (x : Client) (text : List ℕ) → NoEntry (around s c) → stands x.filters text ≡ true
+    → stands (client_next s c x).filters text ≡ false → ends_in text (fixed_for s c x) ≡ true
 ends_noted s c x text none stood gone = at (ends_in text (fixed_for s c x)) refl
   where
     at : (b : Bool) → ends_in text (fixed_for s c x) ≡ b → b ≡ true
     at true is = refl
     at false is =
         absurd (let kept : stands (client_next s c x).filters text ≡ true =
-        stays_notes (around s c) (fixed_for s c x) (start_by (around s c) x) text none is (ap (λ held. stands held text) (start_filters (around s c) x) ∙ stood) in
+        ap (λ held. stands held text) (client_filters (around s c) (fixed_for s c x) x)
+        ∙ stays_notes (around s c) (fixed_for s c x) (start_by (around s c) x) text none is
+        (ap (λ held. stands held text) (start_filters (around s c) x) ∙ stood) in
         let bad : true ≡ false = sym kept ∙ gone in cc)
 
 -- ---- an end that is dropped is noted
 
-drop_noted : (D : List Release) (client text gone : List ℕ) → bytes_eq text gone ≡ true → list_any (is_release client text) D ≡ true → is_outbox_noted (drop_note D client gone) ≡ true
+drop_noted : (D : List Release) (client text gone : List ℕ) → bytes_eq text gone ≡ true → list_any (is_release client text) D ≡ true
+    → is_outbox_noted (drop_note D client gone) ≡ true
 drop_noted D client text gone same there =
     rw (sym (ap (λ t. list_any (is_release client t) D) (same_means text gone same)) ∙ there) refl
 
-frames_noted : (a : Around) (D : List Release) (x : Client) (said : Decision) (text : List ℕ) → ends_by text said ≡ true → list_any (is_release x.id text) D ≡ true → is_outbox_noted (frames_of a D x said) ≡ true
+frames_noted : (a : Around) (D : List Release) (x : Client) (said : Decision) (text : List ℕ) → ends_by text said ≡ true
+    → list_any (is_release x.id text) D ≡ true → is_outbox_noted (frames_of a D x said) ≡ true
 frames_noted a D x (note.End id gone o) text ends there = drop_noted D x.id text gone ends there
 frames_noted a D x (note.Unsubscribe whom None o) text ends there = absurd cc
 frames_noted a D x (note.Unsubscribe whom (Some gone) Allowed) text ends there =
@@ -223,13 +204,15 @@ frames_noted a D x (note.Lost id) text ends there = absurd cc
 frames_noted a D x note.Outbox text ends there = absurd cc
 frames_noted a D x (note.Frame whom o) text ends there = absurd cc
 
-spell_noted : (a : Around) (D : List Release) (x : Client) (notes : List Decision) (text : List ℕ) → ends_in text notes ≡ true → list_any (is_release x.id text) D ≡ true → is_outbox_noted (spell a D x notes) ≡ true
+spell_noted : (a : Around) (D : List Release) (x : Client) (notes : List Decision) (text : List ℕ) → ends_in text notes ≡ true
+    → list_any (is_release x.id text) D ≡ true → is_outbox_noted (spell a D x notes) ≡ true
 spell_noted a D x [] text ends there = absurd cc
 spell_noted a D x (said ∷ notes) text ends there =
     at (ends_by text said) refl ends
-    (λ later. spell_noted a D (note_by a said x) notes text later (ap (λ id. list_any (is_release id text) D) (id_note a said x) ∙ there))
+    (λ later. spell_noted a D (note_by a said x) notes text later (ap (λ id. list_any (is_release id text) D) (note_id a said x) ∙ there))
   where
-    at : (b : Bool) → ends_by text said ≡ b → (b || ends_in text notes) ≡ true → (ends_in text notes ≡ true → is_outbox_noted (spell a D (note_by a said x) notes) ≡ true)
+    at : (b : Bool) → ends_by text said ≡ b → (b || ends_in text notes) ≡ true
+        → (ends_in text notes ≡ true → is_outbox_noted (spell a D (note_by a said x) notes) ≡ true)
         → is_outbox_noted (spell a D x (said ∷ notes)) ≡ true
     at true is ends rest =
         or_one (is_outbox said) (is_outbox_noted (frames_of a D x said ++ spell a D (note_by a said x) notes))
@@ -238,16 +221,22 @@ spell_noted a D x (said ∷ notes) text ends there =
         or_one (is_outbox said) (is_outbox_noted (frames_of a D x said ++ spell a D (note_by a said x) notes))
         (noted_right (frames_of a D x said) (spell a D (note_by a said x) notes) (rest ends))
 
-part_noted : (s : State) (c : Cause) (D : List Release) (x : Client) (text : List ℕ) → ends_in text (fixed_for s c x) ≡ true → list_any (is_release x.id text) D ≡ true → is_outbox_noted (part_for s c D x) ≡ true
+part_noted : (s : State) (c : Cause) (D : List Release) (x : Client) (text : List ℕ) → ends_in text (fixed_for s c x) ≡ true
+    → list_any (is_release x.id text) D ≡ true → is_outbox_noted (part_for s c D x) ≡ true
 part_noted s c D x text ends there =
     let a = around s c in
-    noted_right (if is_author a.cause x then answer (request_of a.cause) x else []) (spell a D (start_by a x) (fixed_for s c x))
-    (spell_noted a D (start_by a x) (fixed_for s c x) text ends (ap (λ id. list_any (is_release id text) D) (start_steady a x).id ∙ there))
+    let y = start_by a x in
+    let notes = fixed_for s c x in
+    noted_right (if is_author a.cause x then answer (request_of a.cause) x else []) (spell a D y notes ++ drained_outs (notes_by a notes y))
+    (noted_left (spell a D y notes) (drained_outs (notes_by a notes y))
+    (spell_noted a D (start_by a x) (fixed_for s c x) text ends (ap (λ id. list_any (is_release id text) D) (start_lasts a x).id ∙ there)))
 
 -- ---- each release
 
 -- a filter that is among those that ended stood, and does not any more
-ended_means : (before after : List Held) (text : List ℕ) → is_one (map (λ h. h.filter) (filter (λ h. not (stands after h.filter)) before)) text ≡ true → (stands before text ≡ true) × (stands after text ≡ false)
+ended_means : (before after : List Held) (text : List ℕ)
+    → is_one (map (λ h. h.filter) (filter (λ h. not (stands after h.filter)) before)) text ≡ true
+    → (stands before text ≡ true) × (stands after text ≡ false)
 ended_means [] after text is = absurd cc
 ended_means (h ∷ held) after text is =
     let kept = filter (λ g. not (stands after g.filter)) held in
@@ -281,11 +270,13 @@ abbrev AllTell : List Release → List Out → List Release → Type 0
 AllTell D outs [] = Unit {0}
 AllTell D outs (r ∷ rs) = Tells D outs r × AllTell D outs rs
 
-tell_append : (D : List Release) (outs : List Out) (xs ys : List Release) → AllTell D outs xs → AllTell D outs ys → AllTell D outs (xs ++ ys)
+tell_append : (D : List Release) (outs : List Out) (xs ys : List Release) → AllTell D outs xs → AllTell D outs ys
+    → AllTell D outs (xs ++ ys)
 tell_append D outs [] ys one two = two
 tell_append D outs (x ∷ xs) ys one two = (one.0, tell_append D outs xs ys one.1 two)
 
-tell_if : (D : List Release) (outs : List Out) (r : Release) (rs : List Release) (b : Bool) → Tells D outs r → AllTell D outs rs → AllTell D outs (if b then rs else r ∷ rs)
+tell_if : (D : List Release) (outs : List Out) (r : Release) (rs : List Release) (b : Bool) → Tells D outs r → AllTell D outs rs
+    → AllTell D outs (if b then rs else r ∷ rs)
 tell_if D outs r rs true one more = more
 tell_if D outs r rs false one more = (one, more)
 
@@ -298,9 +289,11 @@ tell_releases D outs client others (text ∷ texts) all =
     (tell_releases D outs client others texts (λ t is. all t (or_one (bytes_eq t text) (is_one texts t) is)))
 
 abbrev EndsTell : State → Cause → List Release → List Out → Client → Type 0
-EndsTell s c D outs x = (text : List ℕ) → is_one (ended x (client_next s c x)) text ≡ true → Tells D outs (record { client = x.id; filter = text })
+EndsTell s c D outs x = (text : List ℕ) → is_one (ended x (client_next s c x)) text ≡ true → Tells D outs
+    (record { client = x.id; filter = text })
 
-tell_from : (s : State) (c : Cause) (D : List Release) (outs : List Out) (earlier xs : List Client) → Each (EndsTell s c D outs) xs → AllTell D outs (released_from earlier xs (map (client_next s c) xs))
+tell_from : (s : State) (c : Cause) (D : List Release) (outs : List Out) (earlier xs : List Client) → Each (EndsTell s c D outs) xs
+    → AllTell D outs (released_from earlier xs (map (client_next s c) xs))
 tell_from s c D outs earlier [] all = tt
 tell_from s c D outs earlier (x ∷ xs) all =
     let y = client_next s c x in
@@ -309,7 +302,8 @@ tell_from s c D outs earlier (x ∷ xs) all =
     (tell_releases D outs x.id others (ended x y) all.0) (tell_from s c D outs (earlier ++ y ∷ []) xs all.1)
 
 -- the parts of all clients
-each_tells : (s : State) (c : Cause) (D : List Release) (xs : List Client) → NoEntry (around s c) → Each (EndsTell s c D (flat_map (part_for s c D) xs)) xs
+each_tells : (s : State) (c : Cause) (D : List Release) (xs : List Client) → NoEntry (around s c)
+    → Each (EndsTell s c D (flat_map (part_for s c D) xs)) xs
 each_tells s c D [] none = tt
 each_tells s c D (x ∷ xs) none = (
   λ text is there.
@@ -318,9 +312,11 @@ each_tells s c D (x ∷ xs) none = (
   more xs (each_tells s c D xs none),
 )
   where
-    more : (ys : List Client) → Each (EndsTell s c D (flat_map (part_for s c D) xs)) ys → Each (EndsTell s c D (part_for s c D x ++ flat_map (part_for s c D) xs)) ys
+    more : (ys : List Client) → Each (EndsTell s c D (flat_map (part_for s c D) xs)) ys
+        → Each (EndsTell s c D (part_for s c D x ++ flat_map (part_for s c D) xs)) ys
     more [] all = tt
-    more (y ∷ ys) all = (λ text is there. noted_right (part_for s c D x) (flat_map (part_for s c D) xs) (all.0 text is there), more ys all.1)
+    more (y ∷ ys) all =
+        (λ text is there. noted_right (part_for s c D x) (flat_map (part_for s c D) xs) (all.0 text is there), more ys all.1)
 
 tell_drop : (D : List Release) (outs : List Out) (n : ℕ) (rs : List Release) → AllTell D outs rs → AllTell D outs (drop n rs)
 tell_drop D outs zero rs all = all
@@ -331,15 +327,19 @@ none_told : (D rs : List Release) (outs : List Out) → D ≡ rs → AllTell D o
 none_told D [] outs is all none = refl
 none_told D (r ∷ rs) outs is all none =
     absurd (let there : list_any (is_release r.client r.filter) D ≡ true =
-    ap (list_any (is_release r.client r.filter)) is ∙ or_first (is_release r.client r.filter r) (list_any (is_release r.client r.filter) rs) (rw (same_self r.client, same_self r.filter) refl) in
+    ap (list_any (is_release r.client r.filter)) is
+    ∙ or_first (is_release r.client r.filter r) (list_any (is_release r.client r.filter) rs)
+    (rw (same_self r.client, same_self r.filter) refl) in
     let bad : true ≡ false = sym (all.0 there) ∙ none in cc)
 
 -- where the row does not note it, none is dropped
-pub rows_dropped : (s : State) (c : Cause) → NoEntry (around s c) → is_outbox_noted (flat_map (part_for s c (drops_for s c)) s.clients) ≡ false → drops_for s c ≡ []
+pub rows_dropped : (s : State) (c : Cause) → NoEntry (around s c)
+    → is_outbox_noted (flat_map (part_for s c (drops_for s c)) s.clients) ≡ false → drops_for s c ≡ []
 rows_dropped s c none quiet =
     let D = drops_for s c in
     let outs = flat_map (part_for s c D) s.clients in
-    let all : AllTell D outs (released s.clients (map (client_next s c) s.clients)) = tell_from s c D outs [] s.clients (each_tells s c D s.clients none) in
+    let all : AllTell D outs (released s.clients (map (client_next s c) s.clients)) =
+    tell_from s c D outs [] s.clients (each_tells s c D s.clients none) in
     none_told D D outs refl (tell_drop D outs (places_left s.link) (released s.clients (map (client_next s c) s.clients)) all) quiet
 
 -- a CONNECT that is accepted
@@ -361,13 +361,17 @@ false_left xs ys quiet = at (is_outbox_noted xs) refl
     at true is = absurd (let bad : true ≡ false = sym (noted_left xs ys is) ∙ quiet in cc)
     at false is = refl
 
-pub entry_dropped : (s : State) (from : Address) (connect : Connect) → entry s connect ≡ Allowed → is_outbox_noted (outs_by s (ByConnect from connect)) ≡ false → drops_for s (ByConnect from connect) ≡ []
+pub entry_dropped : (s : State) (from : Address) (connect : Connect) → entry s connect ≡ Allowed
+    → is_outbox_noted (outs_by s (ByConnect from connect)) ≡ false → drops_for s (ByConnect from connect) ≡ []
 entry_dropped s from connect is quiet =
     let c = ByConnect from connect in
     let D = drops_for s c in
     let one = flat_map (moved from connect.client_id) s.clients in
     let two = flat_map (beside (around s c) (notes_for s c) connect.client_id) s.clients in
-    let last = around_connack connect.flags.clean (flat_map (entering_part (around s c) (notes_for s c) from connect) s.clients) (connack from ACCEPTED) in
+    let last =
+    around_welcome connect.flags.clean (flat_map (entering_part (around s c) (notes_for s c) from connect) s.clients)
+    (welcome connect from) in
     let all : is_outbox_noted (one ++ (two ++ (drop_notes D ++ last))) ≡ false =
     sym (ap (λ o. is_outbox_noted (entry_outs s from connect (notes_for s c) o)) is) ∙ quiet in
-    drops_noted D (false_left (drop_notes D) (last) (false_right two (drop_notes D ++ last) (false_right one (two ++ (drop_notes D ++ last)) all)))
+    drops_noted D (false_left (drop_notes D) (last)
+    (false_right two (drop_notes D ++ last) (false_right one (two ++ (drop_notes D ++ last)) all)))

@@ -1,6 +1,7 @@
 -- What leaves for the broker says of each filter: a SUBSCRIBE that waits goes out where its filter is wanted, and an UNSUBSCRIBE where it
 -- is not; as a connection begins a SUBSCRIBE of each wanted filter goes out.
-use Rattle.std.proofs.Common.{◌≡◌, ℕ, ◌+◌, ◌≤◌, ◌==◌, Bool, true, false, List, [], ◌∷◌, ◌++◌, map, length, refl, ap, sym, ◌∙◌, subst, if◌then◌else◌, arith}
+use Rattle.std.proofs.Common.{◌≡◌, ℕ, ◌+◌, ◌≤◌, ◌==◌, Bool, true, false, List, [], ◌∷◌, ◌++◌, map, length, refl, ap, sym, ◌∙◌, subst}
+use Rattle.std.proofs.Common.{if◌then◌else◌, arith}
 use Rattle.std.specs.Prelude.{not, ◌&&◌, ◌||◌, Option, Some}
 use Rattle.std.specs.Str.{bytes_eq}
 use Rattle.std.proofs.lemmas.List.{append_assoc}
@@ -18,15 +19,17 @@ use Rattle.sng_book.specs.declared.outcome.Outcome.{Outcome}
 use Rattle.sng_book.specs.declared.outcome.Outcome.TheVariants.{Allowed, Denied}
 use Rattle.sng_book.specs.declared.out.Out.{Out}
 use Rattle.sng_book.specs.declared.out.Out.TheVariants.{Send, Wire, Note}
-use Rattle.sng_history.specs.Links.{Link, Wanted, wants, next_packet_id, packet_id_by, sent_by, exited, subscribe_sent, subscribes_sent, subscribe_left, unsubscribe_left, link_after, open_ids}
+use Rattle.sng_history.specs.Links.{Link, Wanted, wants, next_packet_id, packet_id_by, sent_by, exited, subscribe_sent, subscribes_sent}
+use Rattle.sng_history.specs.Links.{subscribe_left, unsubscribe_left, link_after, open_ids}
 use Rattle.sng_history.specs.Verdicts.{exit}
-use Rattle.sng_history.specs.Exits.{exits_of, agains_of, forwarded, leaving, sent_again, resending, subscribing, subscribe_leaves, unsubscribe_leaves}
+use Rattle.sng_history.specs.Exits.{exits_of, agains_of, forwarded, leaving, sent_again, resending, subscribing, subscribe_leaves}
+use Rattle.sng_history.specs.Exits.{unsubscribe_leaves}
 use Rattle.sng_history.specs.Views.{wires_in}
 use Rattle.sng_history.specs.ViewsStanding.{Word, Begins, Ends, words_read, words_of, words_sent, with_open, with_words, said_upstream}
 use Rattle.sng_history.proofs.Own.{same_means}
 use Rattle.sng_history.proofs.WaitingItems.{EachItem}
 use Rattle.sng_history.proofs.Wanted.{or_no, subscribes, same_wants, left_same}
-use Rattle.sng_history.proofs.UpstreamWords.{IsId, publish_quiet, ack_quiet, subscribe_read, unsubscribe_read}
+use Rattle.sng_history.proofs.UpstreamWords.{IsId, publish_quiet, ack_quiet, subscribe_read, unsubscribe_read, ping_quiet}
 
 -- ---- packet ids
 
@@ -47,7 +50,9 @@ counted_is ids (turn ∷ turns) n is = on (is_used ids n) (counted_is ids turns 
 
 pub next_is : (link : Link) → link.last ≤ 65535 → IsId (next_packet_id link)
 next_is link small =
-    let ids = map (λ (sent : InFlight). sent.packet_id) link.in_flight ++ open_ids link.wanted in counted_is ids ids (successor link.last) (successor_is link.last small)
+    let ids =
+    map (λ (sent : InFlight). sent.packet_id) link.in_flight ++ open_ids link.wanted in counted_is ids ids (successor link.last)
+    (successor_is link.last small)
 
 -- ---- what is kept as items leave
 
@@ -71,7 +76,8 @@ pub record Speaks (link : Link) : Type 0 where
   pub short : ShortWanted link.wanted
 
 speaks_same : (a b : Link) → b.last ≤ 65535 → map (λ w. w.filter) b.wanted ≡ map (λ w. w.filter) a.wanted → Speaks a → Speaks b
-speaks_same a b last same speaks = record { last = last; short = λ text is. speaks.short text (sym (same_wants b.wanted a.wanted same text) ∙ is) }
+speaks_same a b last same speaks =
+    record { last = last; short = λ text is. speaks.short text (sym (same_wants b.wanted a.wanted same text) ∙ is) }
 
 sent_last : (link : Link) (p : Publication) (q : Qos) → link.last ≤ 65535 → (sent_by link p q).last ≤ 65535
 sent_last link p AtMostOnce small = small
@@ -81,24 +87,29 @@ pub exited_last : (link : Link) (p : Publication) (o : Outcome) → link.last �
 exited_last link p Allowed small = sent_last link p p.qos small
 exited_last link p (Denied rule) small = small
 
-pub subscribe_last : (link : Link) (text : List ℕ) (b : Bool) → wants link.wanted text ≡ b → link.last ≤ 65535 → (subscribe_left link text).last ≤ 65535
+pub subscribe_last : (link : Link) (text : List ℕ) (b : Bool) → wants link.wanted text ≡ b → link.last ≤ 65535
+    → (subscribe_left link text).last ≤ 65535
 subscribe_last link text true is small = rw is (next_is link small).small
 subscribe_last link text false is small = rw is small
 
-pub unsubscribe_last : (link : Link) (text : List ℕ) (b : Bool) → wants link.wanted text ≡ b → link.last ≤ 65535 → (unsubscribe_left link text).last ≤ 65535
+pub unsubscribe_last : (link : Link) (text : List ℕ) (b : Bool) → wants link.wanted text ≡ b → link.last ≤ 65535
+    → (unsubscribe_left link text).last ≤ 65535
 unsubscribe_last link text true is small = rw is small
 unsubscribe_last link text false is small = rw is (next_is link small).small
 
 pub exited_speaks : (link : Link) (p : Publication) (o : Outcome) → Speaks link → Speaks (exited link p o)
-exited_speaks link p o speaks = speaks_same link (exited link p o) (exited_last link p o speaks.last) (left_same link (item.Publish p ∷ []) (o ∷ [])) speaks
+exited_speaks link p o speaks =
+    speaks_same link (exited link p o) (exited_last link p o speaks.last) (left_same link (item.Publish p ∷ []) (o ∷ [])) speaks
 
 pub subscribe_speaks : (link : Link) (text : List ℕ) → Speaks link → Speaks (subscribe_left link text)
 subscribe_speaks link text speaks =
-    speaks_same link (subscribe_left link text) (subscribe_last link text (wants link.wanted text) refl speaks.last) (left_same link (item.Subscribe text ∷ []) []) speaks
+    speaks_same link (subscribe_left link text) (subscribe_last link text (wants link.wanted text) refl speaks.last)
+    (left_same link (item.Subscribe text ∷ []) []) speaks
 
 pub unsubscribe_speaks : (link : Link) (text : List ℕ) → Speaks link → Speaks (unsubscribe_left link text)
 unsubscribe_speaks link text speaks =
-    speaks_same link (unsubscribe_left link text) (unsubscribe_last link text (wants link.wanted text) refl speaks.last) (left_same link (item.Unsubscribe text ∷ []) []) speaks
+    speaks_same link (unsubscribe_left link text) (unsubscribe_last link text (wants link.wanted text) refl speaks.last)
+    (left_same link (item.Unsubscribe text ∷ []) []) speaks
 
 -- ---- the words
 
@@ -110,12 +121,15 @@ wires_both (Note said ∷ xs) ys = wires_both xs ys
 
 words_both : (xs ys : List (List ℕ)) → words_of (xs ++ ys) ≡ words_of xs ++ words_of ys
 words_both [] ys = refl
-words_both (sent ∷ xs) ys = ap (λ more. words_read (decode sent) ++ more) (words_both xs ys) ∙ sym (append_assoc (words_read (decode sent)) (words_of xs) (words_of ys))
+words_both (sent ∷ xs) ys =
+    ap (λ more. words_read (decode sent) ++ more) (words_both xs ys)
+    ∙ sym (append_assoc (words_read (decode sent)) (words_of xs) (words_of ys))
 
 pub words_append : (xs ys : List Out) → words_sent (xs ++ ys) ≡ words_sent xs ++ words_sent ys
 words_append xs ys = ap words_of (wires_both xs ys) ∙ words_both (wires_in xs) (wires_in ys)
 
-pub said_both : (xs ys : List Word) (text : List ℕ) (before : Bool) → said_upstream (xs ++ ys) text before ≡ said_upstream ys text (said_upstream xs text before)
+pub said_both : (xs ys : List Word) (text : List ℕ) (before : Bool)
+    → said_upstream (xs ++ ys) text before ≡ said_upstream ys text (said_upstream xs text before)
 said_both [] ys text before = refl
 said_both (Begins filter packet_id ∷ xs) ys text before = said_both xs ys text (bytes_eq text filter || before)
 said_both (Ends filter ∷ xs) ys text before = said_both xs ys text (not (bytes_eq text filter) && before)
@@ -157,7 +171,8 @@ says_then link mid after one items first rest says more same joins = record {
       ∙ (ap (settled (wants link.wanted text) items text) (says.said text before) ∙ joins (wants link.wanted text) before text)));
 }
 
-says_nothing : (link mid : Link) (one : Item) → mid.wanted ≡ link.wanted → ((w before : Bool) (text : List ℕ) → settled w (one ∷ []) text before ≡ before) → Says link mid (one ∷ []) []
+says_nothing : (link mid : Link) (one : Item) → mid.wanted ≡ link.wanted
+    → ((w before : Bool) (text : List ℕ) → settled w (one ∷ []) text before ≡ before) → Says link mid (one ∷ []) []
 says_nothing link mid one same idle = record { wanted = sym same; said = λ text before. sym (idle (wants link.wanted text) before text) }
 
 not_or : (a b c : Bool) → (not (a || b) && c) ≡ (not b && (not a && c))
@@ -183,7 +198,8 @@ exited_wanted link p Allowed = sent_wanted link p p.qos
 exited_wanted link p (Denied rule) = refl
 
 forwarded_quiet : (p : Publication) (packet_id : Option ℕ) (o : Outcome) → words_sent (forwarded p packet_id o) ≡ []
-forwarded_quiet p packet_id Allowed = rw (publish_quiet (record { dup = false; retain = p.retain; packet_id = packet_id; name = p.name; payload = p.payload })).words refl
+forwarded_quiet p packet_id Allowed =
+    rw (publish_quiet (record { dup = false; retain = p.retain; packet_id = packet_id; name = p.name; payload = p.payload })).words refl
 forwarded_quiet p packet_id (Denied rule) = refl
 
 -- a SUBSCRIBE
@@ -193,7 +209,8 @@ subscribe_words link filter true is speaks =
     rw (is, (subscribe_read (next_packet_id link) filter (next_is link speaks.last) (speaks.short filter is)).words)
     (record { wanted = refl; said = λ text before. begins (wants link.wanted text) text before refl })
   where
-    begins : (w : Bool) (text : List ℕ) (before : Bool) → wants link.wanted text ≡ w → (bytes_eq text filter || before) ≡ settled w (item.Subscribe filter ∷ []) text before
+    begins : (w : Bool) (text : List ℕ) (before : Bool) → wants link.wanted text ≡ w
+        → (bytes_eq text filter || before) ≡ settled w (item.Subscribe filter ∷ []) text before
     begins true text before wanted = ap (λ b. b || before) (sym (or_no (bytes_eq text filter)))
     begins false text before wanted = other (bytes_eq text filter) refl
       where
@@ -203,7 +220,8 @@ subscribe_words link filter true is speaks =
 subscribe_words link filter false is speaks =
     rw is (record { wanted = refl; said = λ text before. none (wants link.wanted text) text before refl })
   where
-    none : (w : Bool) (text : List ℕ) (before : Bool) → wants link.wanted text ≡ w → before ≡ settled w (item.Subscribe filter ∷ []) text before
+    none : (w : Bool) (text : List ℕ) (before : Bool) → wants link.wanted text ≡ w
+        → before ≡ settled w (item.Subscribe filter ∷ []) text before
     none false text before wanted = refl
     none true text before wanted = other (bytes_eq text filter) refl
       where
@@ -218,7 +236,8 @@ unsubscribe_words link filter false is speaks short =
     rw (is, (unsubscribe_read (next_packet_id link) filter (next_is link speaks.last) short).words)
     (record { wanted = refl; said = λ text before. ends (wants link.wanted text) text before refl })
   where
-    ends : (w : Bool) (text : List ℕ) (before : Bool) → wants link.wanted text ≡ w → (not (bytes_eq text filter) && before) ≡ settled w (item.Unsubscribe filter ∷ []) text before
+    ends : (w : Bool) (text : List ℕ) (before : Bool) → wants link.wanted text ≡ w
+        → (not (bytes_eq text filter) && before) ≡ settled w (item.Unsubscribe filter ∷ []) text before
     ends false text before wanted = ap (λ b. not b && before) (sym (or_no (bytes_eq text filter)))
     ends true text before wanted = other (bytes_eq text filter) refl
       where
@@ -228,7 +247,8 @@ unsubscribe_words link filter false is speaks short =
 unsubscribe_words link filter true is speaks short =
     rw is (record { wanted = refl; said = λ text before. none (wants link.wanted text) text before refl })
   where
-    none : (w : Bool) (text : List ℕ) (before : Bool) → wants link.wanted text ≡ w → before ≡ settled w (item.Unsubscribe filter ∷ []) text before
+    none : (w : Bool) (text : List ℕ) (before : Bool) → wants link.wanted text ≡ w
+        → before ≡ settled w (item.Unsubscribe filter ∷ []) text before
     none true text before wanted = refl
     none false text before wanted = other (bytes_eq text filter) refl
       where
@@ -239,16 +259,19 @@ unsubscribe_words link filter true is speaks short =
 join_subscribe : (filter : List ℕ) (items : List Item) (w before : Bool) (text : List ℕ)
     → settled w items text (settled w (item.Subscribe filter ∷ []) text before) ≡ settled w (item.Subscribe filter ∷ items) text before
 join_subscribe filter items true before text =
-    ap (λ b. subscribes items text || (b || before)) (or_no (bytes_eq text filter)) ∙ or_turn (bytes_eq text filter) (subscribes items text) before
+    ap (λ b. subscribes items text || (b || before)) (or_no (bytes_eq text filter))
+    ∙ or_turn (bytes_eq text filter) (subscribes items text) before
 join_subscribe filter items false before text = refl
 
 join_unsubscribe : (filter : List ℕ) (items : List Item) (w before : Bool) (text : List ℕ)
     → settled w items text (settled w (item.Unsubscribe filter ∷ []) text before) ≡ settled w (item.Unsubscribe filter ∷ items) text before
 join_unsubscribe filter items true before text = refl
 join_unsubscribe filter items false before text =
-    ap (λ b. not (unsubscribes items text) && (not b && before)) (or_no (bytes_eq text filter)) ∙ sym (not_or (bytes_eq text filter) (unsubscribes items text) before)
+    ap (λ b. not (unsubscribes items text) && (not b && before)) (or_no (bytes_eq text filter))
+    ∙ sym (not_or (bytes_eq text filter) (unsubscribes items text) before)
 
-join_idle : (one : Item) (items : List Item) → ((w before : Bool) (text : List ℕ) → settled w (one ∷ []) text before ≡ before) → ((w before : Bool) (text : List ℕ) → settled w items text before ≡ settled w (one ∷ items) text before)
+join_idle : (one : Item) (items : List Item) → ((w before : Bool) (text : List ℕ) → settled w (one ∷ []) text before ≡ before)
+    → ((w before : Bool) (text : List ℕ) → settled w items text before ≡ settled w (one ∷ items) text before)
     → (w before : Bool) (text : List ℕ) → settled w items text (settled w (one ∷ []) text before) ≡ settled w (one ∷ items) text before
 join_idle one items idle same w before text = ap (settled w items text) (idle w before text) ∙ same w before text
 
@@ -264,7 +287,8 @@ leaving_says policy link (item.Publish p ∷ items) speaks short =
     let mid = exited link p o in
     let outs = forwarded p (packet_id_by link p.qos) o in
     let more = leaving mid items (exits_of policy items) in
-    subst (Says link (link_after mid items (exits_of policy items)) (item.Publish p ∷ items)) (sym (words_append outs more ∙ ap (λ first. first ++ words_sent more) (forwarded_quiet p (packet_id_by link p.qos) o)))
+    subst (Says link (link_after mid items (exits_of policy items)) (item.Publish p ∷ items))
+    (sym (words_append outs more ∙ ap (λ first. first ++ words_sent more) (forwarded_quiet p (packet_id_by link p.qos) o)))
     (says_then link mid (link_after mid items (exits_of policy items)) (item.Publish p ∷ []) items [] (words_sent more)
     (says_nothing link mid (item.Publish p) (exited_wanted link p o) (λ w before text. idle_if w before))
     (leaving_says policy mid items (exited_speaks link p o speaks) short.1) (ap (map (λ w. w.filter)) (exited_wanted link p o))
@@ -274,30 +298,47 @@ leaving_says policy link (item.Subscribe filter ∷ items) speaks short =
     let outs = subscribe_leaves link filter in
     let more = leaving mid items (exits_of policy items) in
     subst (Says link (link_after mid items (exits_of policy items)) (item.Subscribe filter ∷ items)) (sym (words_append outs more))
-    (says_then link mid (link_after mid items (exits_of policy items)) (item.Subscribe filter ∷ []) items (words_sent outs) (words_sent more)
+    (says_then link mid (link_after mid items (exits_of policy items)) (item.Subscribe filter ∷ []) items (words_sent outs)
+    (words_sent more)
     (subscribe_words link filter (wants link.wanted filter) refl speaks)
-    (leaving_says policy mid items (subscribe_speaks link filter speaks) short.1) (left_same link (item.Subscribe filter ∷ []) []) (join_subscribe filter items))
+    (leaving_says policy mid items (subscribe_speaks link filter speaks) short.1) (left_same link (item.Subscribe filter ∷ []) [])
+    (join_subscribe filter items))
 leaving_says policy link (item.Unsubscribe filter ∷ items) speaks short =
     let mid = unsubscribe_left link filter in
     let outs = unsubscribe_leaves link filter in
     let more = leaving mid items (exits_of policy items) in
     subst (Says link (link_after mid items (exits_of policy items)) (item.Unsubscribe filter ∷ items)) (sym (words_append outs more))
-    (says_then link mid (link_after mid items (exits_of policy items)) (item.Unsubscribe filter ∷ []) items (words_sent outs) (words_sent more)
+    (says_then link mid (link_after mid items (exits_of policy items)) (item.Unsubscribe filter ∷ []) items (words_sent outs)
+    (words_sent more)
     (unsubscribe_words link filter (wants link.wanted filter) refl speaks short.0)
-    (leaving_says policy mid items (unsubscribe_speaks link filter speaks) short.1) (left_same link (item.Unsubscribe filter ∷ []) []) (join_unsubscribe filter items))
+    (leaving_says policy mid items (unsubscribe_speaks link filter speaks) short.1) (left_same link (item.Unsubscribe filter ∷ []) [])
+    (join_unsubscribe filter items))
 leaving_says policy link (item.Acknowledge packet_id ∷ items) speaks short =
     let more = leaving link items (exits_of policy items) in
     let later = leaving_says policy link items speaks short.1 in
-    subst (Says link (link_after link items (exits_of policy items)) (item.Acknowledge packet_id ∷ items)) (sym (ap (λ first. first ++ words_sent more) (ack_quiet packet_id).words))
+    subst (Says link (link_after link items (exits_of policy items)) (item.Acknowledge packet_id ∷ items))
+    (sym (ap (λ first. first ++ words_sent more) (ack_quiet packet_id).words))
     (record { wanted = later.wanted; said = later.said })
 leaving_says policy link (item.Ping ∷ items) speaks short =
-    let later = leaving_says policy link items speaks short.1 in record { wanted = later.wanted; said = later.said }
+    let more = leaving link items (exits_of policy items) in
+    let later = leaving_says policy link items speaks short.1 in
+    subst (Says link (link_after link items (exits_of policy items)) (item.Ping ∷ items))
+    (sym (ap (λ first. first ++ words_sent more) ping_quiet.words))
+    (record { wanted = later.wanted; said = later.said })
 
 -- ---- a connection begins
 
 again_quiet : (sent : InFlight) (o : Outcome) → words_sent (sent_again sent o) ≡ []
 again_quiet sent Allowed =
-    rw (publish_quiet (record { dup = false; retain = sent.publication.retain; packet_id = Some sent.packet_id; name = sent.publication.name; payload = sent.publication.payload })).words refl
+    rw
+    (publish_quiet
+    (record {
+      dup = false;
+      retain = sent.publication.retain;
+      packet_id = Some sent.packet_id;
+      name = sent.publication.name;
+      payload = sent.publication.payload;
+    })).words refl
 again_quiet sent (Denied rule) = refl
 
 pub resending_quiet : (policy : Policy) (flights : List InFlight) → words_sent (resending flights (agains_of policy flights)) ≡ []
@@ -320,23 +361,30 @@ pub record Subscribes (link : Link) (filters : List (List ℕ)) (words : List Wo
   pub wanted : with_words link.wanted words ≡ (subscribes_sent link filters).wanted
   pub said : (text : List ℕ) (before : Bool) → said_upstream words text before ≡ (is_one filters text || before)
 
-pub subscribing_says : (link : Link) (filters : List (List ℕ)) → link.last ≤ 65535 → ShortTexts filters → Subscribes link filters (words_sent (subscribing link filters))
+pub subscribing_says : (link : Link) (filters : List (List ℕ)) → link.last ≤ 65535 → ShortTexts filters
+    → Subscribes link filters (words_sent (subscribing link filters))
 subscribing_says link [] small short = record { wanted = refl; said = λ text before. refl }
 subscribing_says link (filter ∷ filters) small short =
     let mid = subscribe_sent link filter in
     let later = subscribing_says mid filters (next_is link small).small short.1 in
     rw (subscribe_read (next_packet_id link) filter (next_is link small) short.0).words
-    (record { wanted = later.wanted; said = λ text before. later.said text (bytes_eq text filter || before) ∙ or_turn (bytes_eq text filter) (is_one filters text) before })
+    (record {
+      wanted = later.wanted;
+      said = λ text before. later.said text (bytes_eq text filter || before)
+          ∙ or_turn (bytes_eq text filter) (is_one filters text) before;
+    })
 
 pub sent_small : (link : Link) (filters : List (List ℕ)) → link.last ≤ 65535 → (subscribes_sent link filters).last ≤ 65535
 sent_small link [] small = small
 sent_small link (filter ∷ filters) small = sent_small (subscribe_sent link filter) filters (next_is link small).small
 
-pub after_small : (policy : Policy) (link : Link) (items : List Item) → link.last ≤ 65535 → (link_after link items (exits_of policy items)).last ≤ 65535
+pub after_small : (policy : Policy) (link : Link) (items : List Item) → link.last ≤ 65535
+    → (link_after link items (exits_of policy items)).last ≤ 65535
 after_small policy link [] small = small
 after_small policy link (item.Publish p ∷ items) small =
     after_small policy (exited link p (exit policy p.origin p.name)) items (exited_last link p (exit policy p.origin p.name) small)
-after_small policy link (item.Subscribe filter ∷ items) small = after_small policy (subscribe_left link filter) items (subscribe_last link filter (wants link.wanted filter) refl small)
+after_small policy link (item.Subscribe filter ∷ items) small =
+    after_small policy (subscribe_left link filter) items (subscribe_last link filter (wants link.wanted filter) refl small)
 after_small policy link (item.Unsubscribe filter ∷ items) small =
     after_small policy (unsubscribe_left link filter) items (unsubscribe_last link filter (wants link.wanted filter) refl small)
 after_small policy link (item.Acknowledge packet_id ∷ items) small = after_small policy link items small

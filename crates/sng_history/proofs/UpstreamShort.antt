@@ -20,14 +20,15 @@ pub held_short : (xs : List Client) (text : List ℕ) → Each OwnFilters xs →
 held_short [] text short stood = absurd cc
 held_short (x ∷ xs) text short stood = at (holds text x) refl stood (λ later. held_short xs text short.1 later)
   where
-    at : (b : Bool) → holds text x ≡ b → (b || is_held xs text) ≡ true → (is_held xs text ≡ true → length text ≤ 65535) → length text ≤ 65535
+    at : (b : Bool) → holds text x ≡ b → (b || is_held xs text) ≡ true → (is_held xs text ≡ true → length text ≤ 65535)
+        → length text ≤ 65535
     at true is stood rest = filter_short text (stands_filter x.filters text short.0 is)
     at false is stood rest = rest stood
 
 -- ---- what waits to be ended upstream
 
 ends_added : Added ShortEnd
-ends_added = record { publish = λ p. tt; subscribe = λ filter. tt; acknowledge = λ packet_id. tt }
+ends_added = record { publish = λ p. tt; subscribe = λ filter. tt; acknowledge = λ packet_id. tt; ping = tt }
 
 -- what is let go of stood for somebody
 abbrev ShortReleases : List Release → Type 0
@@ -42,14 +43,17 @@ short_list : (held : List Held) → AreFilters held → ShortList (map (λ h. h.
 short_list [] are = tt
 short_list (h ∷ held) are = (filter_short h.filter are.0, short_list held are.1)
 
-releases_by : (r : Release) (rs : List Release) (b : Bool) → length r.filter ≤ 65535 → ShortReleases rs → ShortReleases (if b then rs else r ∷ rs)
+releases_by : (r : Release) (rs : List Release) (b : Bool) → length r.filter ≤ 65535 → ShortReleases rs
+    → ShortReleases (if b then rs else r ∷ rs)
 releases_by r rs true one short = short
 releases_by r rs false one short = (one, short)
 
-short_releases : (client : List ℕ) (others : List ℕ → Bool) (texts : List (List ℕ)) → ShortList texts → ShortReleases (releases_of client others texts)
+short_releases : (client : List ℕ) (others : List ℕ → Bool) (texts : List (List ℕ)) → ShortList texts
+    → ShortReleases (releases_of client others texts)
 short_releases client others [] short = tt
 short_releases client others (text ∷ texts) short =
-    releases_by (record { client = client; filter = text }) (releases_of client others texts) (others text) short.0 (short_releases client others texts short.1)
+    releases_by (record { client = client; filter = text }) (releases_of client others texts) (others text) short.0
+    (short_releases client others texts short.1)
 
 releases_append : (xs ys : List Release) → ShortReleases xs → ShortReleases ys → ShortReleases (xs ++ ys)
 releases_append [] ys one two = two
@@ -59,8 +63,11 @@ short_from : (earlier xs ys : List Client) → Each OwnFilters xs → ShortRelea
 short_from earlier [] ys short = tt
 short_from earlier (x ∷ xs) [] short = tt
 short_from earlier (x ∷ xs) (y ∷ ys) short =
-    releases_append (releases_of x.id (λ text. is_held earlier text || is_held xs text) (ended x y)) (released_from (earlier ++ y ∷ []) xs ys)
-    (short_releases x.id (λ text. is_held earlier text || is_held xs text) (ended x y) (short_list (filter (λ h. not (stands y.filters h.filter)) x.filters) (are_keep (λ h. not (stands y.filters h.filter)) x.filters short.0)))
+    releases_append (releases_of x.id (λ text. is_held earlier text || is_held xs text) (ended x y))
+    (released_from (earlier ++ y ∷ []) xs ys)
+    (short_releases x.id (λ text. is_held earlier text || is_held xs text) (ended x y)
+    (short_list (filter (λ h. not (stands y.filters h.filter)) x.filters)
+    (are_keep (λ h. not (stands y.filters h.filter)) x.filters short.0)))
     (short_from (earlier ++ y ∷ []) xs ys short.1)
 
 ends_released : (n : ℕ) (rs : List Release) → ShortReleases rs → ShortEnds (map (λ r. item.Unsubscribe r.filter) (take n rs))

@@ -31,11 +31,11 @@ use Rattle.sng_history.proofs.Wanted.{or_no, subscribes}
 use Rattle.sng_history.proofs.Holding.{unmoved}
 use Rattle.sng_history.proofs.Keeping.{exact_by, next_same}
 use Rattle.sng_history.proofs.SeenState.{stands}
-use Rattle.sng_history.proofs.LawWires.{datagram_still, broker_wires, replace_wires}
+use Rattle.sng_history.proofs.LawWires.{datagram_still, broker_wires, replace_wires, tick_wires}
 use Rattle.sng_history.proofs.StandingState.{standing_shown, held_shown}
 use Rattle.sng_history.proofs.UpstreamLeaving.{ShortEnds, Speaks, unsubscribes, settled, leaving_says}
 use Rattle.sng_history.proofs.UpstreamWanted.{WantedShown, wanted_shown, speaks_of}
-use Rattle.sng_history.proofs.UpstreamOwes.{Owes, settled_right, same_held, replace_carries, datagram_carries, packet_held, refuses_same, broker_owes, take_owes, up_said, up_owes}
+use Rattle.sng_history.proofs.UpstreamOwes.{Owes, settled_right, same_held, replace_carries, datagram_carries, packet_held, refuses_same, broker_owes, tick_owes, take_owes, up_said, up_owes}
 
 -- ---- each row
 
@@ -84,7 +84,10 @@ owed_row by h s (Replace policy) good shown quiet was up text =
     let e = Replace policy in
     let u = is_upstream h text in
     subst (Owes (next_of s e) text) (sym (unsaid (outs_of s e) text u (replace_wires s policy))) (replace_carries s policy good quiet text u (was up text))
-owed_row by h s (Tick clock) good shown quiet was up text = was up text
+owed_row by h s (Tick clock) good shown quiet was up text =
+    let e = Tick clock in
+    let u = is_upstream h text in
+    subst (Owes (next_of s e) text) (sym (unsaid (outs_of s e) text u (tick_wires s clock))) (tick_owes s clock text u (was up text))
 
 owed_after : (by : ℕ) (h : List Row) (s : State) (e : Event) (outs : List Out) → outs ≡ outs_of s e → Good s → WantedShown h s → is_outbox_noted outs ≡ false → OwedBefore h s
     → OwedAt by h e outs (after s (cause_of e) outs)
@@ -214,7 +217,7 @@ stays_at h row (Replace policy) l same up still lawful text =
     unsaid_row s e row.outs text (is_upstream h text) (exact_by s (cause_of e) row.outs lawful) (replace_wires s policy) ∙ (same text ∙ sym (still text))
 stays_at h row (Tick clock) l same up still lawful text =
     let s = state_of opening h in
-    unsaid_row s (Tick clock) row.outs text (is_upstream h text) (exact_by s (cause_of (Tick clock)) row.outs lawful) refl ∙ (same text ∙ sym (still text))
+    unsaid_row s (Tick clock) row.outs text (is_upstream h text) (exact_by s (cause_of (Tick clock)) row.outs lawful) (tick_wires s clock) ∙ (same text ∙ sym (still text))
 
 pub stays_same : (h : List Row) (row : Row) → Lawful opening (row ∷ h) → is_up (row ∷ h) ≡ true → IsSame h → StandsStill h row → IsSame (row ∷ h)
 stays_same h row l up same still = stays_at h row row.event l.0 same up still l.1

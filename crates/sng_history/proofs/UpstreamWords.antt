@@ -1,5 +1,6 @@
 -- What is said to the broker, and the packet ids that were given, are read from the packets again.
-use Rattle.std.proofs.Common.{◌≡◌, ℕ, ◌+◌, ◌≤◌, ◌==◌, Bool, true, false, List, [], ◌∷◌, ◌++◌, length, refl, ap, sym, ◌∙◌, if◌then◌else◌, Ok, Err, arith, length-append}
+use Rattle.std.proofs.Common.{◌≡◌, ℕ, ◌+◌, ◌≤◌, ◌==◌, Bool, true, false, List, [], ◌∷◌, ◌++◌, length, refl, ap, sym, ◌∙◌, if◌then◌else◌, Ok}
+use Rattle.std.proofs.Common.{Err, arith, length-append}
 use Rattle.std.specs.Prelude.{nat_lt, take, drop}
 use Rattle.std.specs.declared.result.Result.{Result}
 use Rattle.std.proofs.lemmas.List.{append-nil}
@@ -46,7 +47,8 @@ quiet_then (Err fault) f quiet size = record { words = refl; ids = refl }
 
 quiet_publish : (flags : PublishFlags) (bytes : List ℕ) → Quiet (body_of (kinds.Publish flags) bytes)
 quiet_publish flags bytes =
-    quiet_then (text_at bytes) _ (λ name. quiet_then (optional_id_at flags.identified name.1) _ (λ id size. record { words = refl; ids = refl }))
+    quiet_then (text_at bytes) _
+    (λ name. quiet_then (optional_id_at flags.identified name.1) _ (λ id size. record { words = refl; ids = refl }))
 
 quiet_ack : (bytes : List ℕ) → Quiet (body_of kinds.PublishAck bytes)
 quiet_ack bytes = quiet_then (whole_id bytes) _ (λ id size. record { words = refl; ids = refl })
@@ -55,13 +57,15 @@ quiet_if : (b : Bool) (one other : Front) → Silent one → Silent other → Si
 quiet_if true one other is is_not = is
 quiet_if false one other is is_not = is_not
 
-quiet_length : (first : ℕ) (kind : Kind) (at : Length) (bytes : List ℕ) → kind_of first ≡ Ok kind → ((rest : List ℕ) → Quiet (body_of kind rest)) → Silent (behind_header (with_length first at) bytes)
+quiet_length : (first : ℕ) (kind : Kind) (at : Length) (bytes : List ℕ) → kind_of first ≡ Ok kind
+    → ((rest : List ℕ) → Quiet (body_of kind rest)) → Silent (behind_header (with_length first at) bytes)
 quiet_length first kind lengths.Unfinished bytes is quiet = record { words = refl; ids = refl }
 quiet_length first kind lengths.Overlong bytes is quiet = record { words = refl; ids = refl }
 quiet_length first kind (lengths.Known value size) bytes is quiet =
     rw is
     (quiet_if (nat_lt MAX_PACKET (1 + size + value)) _ _ (record { words = refl; ids = refl })
-    (quiet_if (nat_lt (length bytes) (1 + size + value)) _ _ (record { words = refl; ids = refl }) (quiet (take value (drop (1 + size) bytes)) (1 + size + value))))
+    (quiet_if (nat_lt (length bytes) (1 + size + value)) _ _ (record { words = refl; ids = refl })
+    (quiet (take value (drop (1 + size) bytes)) (1 + size + value))))
 
 pub publish_quiet : (p : Publish) → Silent (decode (written (packet.Publish p)))
 publish_quiet p =
@@ -94,6 +98,10 @@ read_again p fits is short =
     let whole = ap decode (sym (append-nil (written p))) ∙ written-read p [] fits is count in
     record { words = ap words_read whole; ids = ap id_read whole }
 
+-- nor does a PINGREQ say anything of filters
+pub ping_quiet : Silent (decode (written packet.PingRequest))
+ping_quiet = let reads = read_again packet.PingRequest tt refl (omega arith) in record { words = reads.words; ids = reads.ids }
+
 id_fits : (n : ℕ) → 1 ≤ n → (n == 0) ≡ false
 id_fits n some = ne_eqb n 0 (λ same. omega (arith, same, some))
 
@@ -101,9 +109,12 @@ pub subscribe_read : (n : ℕ) (text : List ℕ) → IsId n → length text ≤ 
     → Reads (packet.Subscribe (record { packet_id = n; requests = record { filter = text; qos = requested.AtLeastOnce } ∷ [] }))
 subscribe_read n text is short =
     let p = packet.Subscribe (record { packet_id = n; requests = record { filter = text; qos = requested.AtLeastOnce } ∷ [] }) in
-    read_again p (omega (arith, is.small)) (rw (id_fits n is.some, lt-ltb (length text) 65536 (omega (arith, short))) refl) (omega (arith, short, length-append text (1 ∷ [])))
+    read_again p (omega (arith, is.small)) (rw (id_fits n is.some, lt-ltb (length text) 65536 (omega (arith, short))) refl)
+    (omega (arith, short, length-append text (1 ∷ [])))
 
-pub unsubscribe_read : (n : ℕ) (text : List ℕ) → IsId n → length text ≤ 65535 → Reads (packet.Unsubscribe (record { packet_id = n; filters = text ∷ [] }))
+pub unsubscribe_read : (n : ℕ) (text : List ℕ) → IsId n → length text ≤ 65535
+    → Reads (packet.Unsubscribe (record { packet_id = n; filters = text ∷ [] }))
 unsubscribe_read n text is short =
     let p = packet.Unsubscribe (record { packet_id = n; filters = text ∷ [] }) in
-    read_again p (omega (arith, is.small)) (rw (id_fits n is.some, lt-ltb (length text) 65536 (omega (arith, short))) refl) (omega (arith, short, length-append text []))
+    read_again p (omega (arith, is.small)) (rw (id_fits n is.some, lt-ltb (length text) 65536 (omega (arith, short))) refl)
+    (omega (arith, short, length-append text []))

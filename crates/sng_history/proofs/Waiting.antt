@@ -1,4 +1,4 @@
--- What waits for the broker after a step is no PINGREQ, and no more publishes at QoS 1 wait or are in flight than may.
+-- After a step no more publishes at QoS 1 wait for the broker or are in flight than may.
 use Rattle.std.proofs.Common.{◌≡◌, ◌≤◌, ◌<◌, ◌+◌, ℕ, Bool, true, false, List, [], ◌∷◌, ◌++◌, length, refl, ap, sym, ◌∙◌, subst, arith, ◌⊎◌, inl, inr}
 use Rattle.std.specs.Prelude.{if◌then◌else◌, ◌&&◌, nat_lt, count_by, map, take, Option, Some, None, Ok, Err}
 use Rattle.std.specs.declared.result.Result.{Result}
@@ -28,41 +28,24 @@ use Rattle.sng_book.specs.declared.outcome.Place.TheVariants as place
 use Rattle.sng_book.specs.declared.outcome.Outcome.{Outcome}
 use Rattle.sng_book.specs.declared.outcome.Outcome.TheVariants.{Allowed, Denied}
 use Rattle.sng_book.specs.Denials.{is_allowed}
-use Rattle.sng_history.specs.Causes.{Request, ToPing, ToLeave, ToRegister, ToPublish, ToSubscribe, ToUnsubscribe, ToConfirm, ToAcknowledge, Untaken, Cause, publish_asked}
+use Rattle.sng_history.specs.Causes.{Request, ToPing, ToLeave, ToSleep, ToRegister, ToPublish, ToSubscribe, ToUnsubscribe, ToConfirm, ToAcknowledge}
+use Rattle.sng_history.specs.Causes.{ToState, Untaken, Cause, publish_asked}
 use Rattle.sng_history.specs.Causes.{ByConnect, ByMessage, BySource, ByBroken, ByPacket, ByUp, ByDown, ByTake, ByReplace, ByTick}
 use Rattle.sng_history.specs.Clients.{Client, is_here}
 use Rattle.sng_history.specs.Links.{Link, wants, next_packet_id, sent_by, exited, link_after, still_in_flight, resumed, filters_wanted, subscribe_sent, subscribes_sent, subscribe_left, unsubscribe_left}
 use Rattle.sng_history.specs.Packets.{Answer, Delivers, Acknowledges, Grants, Refuses, Confirms, Strange, answer_of, owed, has_place, acknowledgement, acknowledgements, answered}
-use Rattle.sng_history.specs.State.{State, item_for, subscribe_item, asked_by, qos_of, link_moved}
+use Rattle.sng_history.specs.Room.{has_flight, room_in}
+use Rattle.sng_history.specs.Ticking.{with_item, ticked}
+use Rattle.sng_history.specs.State.{State, later, item_for, subscribe_item, asked_by, qos_of, link_moved}
 use Rattle.sng_history.specs.Standing.{Release, released, places_left}
-use Rattle.sng_history.specs.Verdicts.{exit, and_then, has_flight, room_in, room, verdict, named_ask, source_ask, name_in, may_ask, publish_named, publish_by, publish_ask}
+use Rattle.sng_history.specs.Verdicts.{exit, and_then, room, verdict, named_ask, source_ask, name_in, may_ask, publish_named, publish_by}
+use Rattle.sng_history.specs.Verdicts.{publish_ask}
 use Rattle.sng_history.specs.Exits.{exits_of}
 use Rattle.sng_history.specs.Lawful.{fixed_for, exits_for}
 use Rattle.sng_history.specs.Steps.{asked_by_all, asked_for, clients_next}
-use Rattle.sng_history.specs.Good.{Each, Apart, OnePlace, IsPlain, AllPlain}
-use Rattle.sng_history.proofs.WaitingItems.{EachItem, Added, waiting_next, let_go, each_next}
-
--- ---- what waits is no PINGREQ
-
-plain_each : (items : List Item) → AllPlain items → EachItem IsPlain items
-plain_each [] all = tt
-plain_each (one ∷ items) all = (all.0, plain_each items all.1)
-
-each_plain : (items : List Item) → EachItem IsPlain items → AllPlain items
-each_plain [] all = tt
-each_plain (one ∷ items) all = (all.0, each_plain items all.1)
-
-plain_added : Added IsPlain
-plain_added = record { publish = λ p. tt; subscribe = λ filter. tt; acknowledge = λ packet_id. tt }
-
-plain_released : (rs : List Release) → EachItem IsPlain (map (λ r. item.Unsubscribe r.filter) rs)
-plain_released [] = tt
-plain_released (r ∷ rs) = (tt, plain_released rs)
-
-pub plain_next : (s : State) (c : Cause) → AllPlain s.link.waiting → AllPlain (waiting_next s c)
-plain_next s c all =
-    each_plain (waiting_next s c)
-    (each_next IsPlain plain_added s c (plain_released (take (places_left s.link) (released s.clients (clients_next s c)))) (plain_each s.link.waiting all))
+use Rattle.sng_history.specs.Good.{Each, Apart, OnePlace}
+use Rattle.sng_history.proofs.WaitingItems.{waiting_next, let_go}
+use Rattle.sng_history.proofs.Ticked.{ticked_holds}
 
 -- ---- how many of them ask for an acknowledgement
 
@@ -112,10 +95,13 @@ pub up_room : (up : Bool) (o : Outcome) → (if up then o else Denied UpstreamDo
 up_room true o is = is
 up_room false o is = absurd cc
 
+flight_in : (link : Link) → room_in link AtLeastOnce ≡ Allowed
+    → load (record { waiting = link.waiting; in_flight = link.in_flight }) < MAX_IN_FLIGHT
+flight_in link is =
+    within (load (record { waiting = link.waiting; in_flight = link.in_flight })) (has_it (has_flight link AtLeastOnce) (has_place link) is)
+
 flight_room : (s : State) → room s AtLeastOnce ≡ Allowed → load (record { waiting = s.link.waiting; in_flight = s.link.in_flight }) < MAX_IN_FLIGHT
-flight_room s is =
-    within (load (record { waiting = s.link.waiting; in_flight = s.link.in_flight }))
-    (has_it (has_flight s.link AtLeastOnce) (has_place s.link) (up_room s.up (room_in s.link AtLeastOnce) is))
+flight_room s is = flight_in s.link (up_room s.up (room_in s.link AtLeastOnce) is)
 
 item_acks : (asker : Origin) (name : List ℕ) (q : Qos) (p : Publish) (o : Outcome) (n : ℕ) → n ≤ MAX_IN_FLIGHT → (o ≡ Allowed → q ≡ AtLeastOnce → n < MAX_IN_FLIGHT)
     → acks (if is_allowed o then item_for asker name q p ∷ [] else []) + n ≤ MAX_IN_FLIGHT
@@ -295,12 +281,14 @@ asked_fits s from (ToPublish p) places few =
     let adds : Client → List Item = λ x. asked_by_all (Some p) (fixed_for s (ByMessage from (ToPublish p)) x) in
     all_fit s adds s.clients few (λ x. one_fits s x p (is_here x from) few) (sole from adds s.clients (λ y off. rw off refl) places)
 asked_fits s from (ToPing client) places few = unasked_fits s from (ToPing client) refl few
+asked_fits s from (ToSleep duration) places few = unasked_fits s from (ToSleep duration) refl few
 asked_fits s from ToLeave places few = unasked_fits s from ToLeave refl few
 asked_fits s from (ToRegister r) places few = unasked_fits s from (ToRegister r) refl few
 asked_fits s from (ToSubscribe r) places few = unasked_fits s from (ToSubscribe r) refl few
 asked_fits s from (ToUnsubscribe r) places few = unasked_fits s from (ToUnsubscribe r) refl few
 asked_fits s from (ToConfirm r) places few = unasked_fits s from (ToConfirm r) refl few
 asked_fits s from (ToAcknowledge r) places few = unasked_fits s from (ToAcknowledge r) refl few
+asked_fits s from (ToState statement) places few = unasked_fits s from (ToState statement) refl few
 asked_fits s from (Untaken message) places few = unasked_fits s from (Untaken message) refl few
 
 -- what the broker is told of filters that end needs no room among those
@@ -319,6 +307,25 @@ begun_few s few =
     rw (subscribes_flights begun (filters_wanted s.link))
     (up_few s.up s.link.waiting (length begun.in_flight) (length s.link.in_flight) (still_less s.link.in_flight (exits_for s ByUp)) few)
 
+-- the will of a lost client waits where there is room for it, and a PINGREQ asks for no acknowledgement
+abbrev FewOf : Link → Type 0
+FewOf link = Few link.waiting link.in_flight
+
+will_few : (link : Link) (p : Publication) (q : Qos) → p.qos ≡ q → room_in link q ≡ Allowed → FewOf link
+    → FewOf (with_item link (item.Publish p))
+will_few link p AtMostOnce same is few =
+    let none : acks (item.Publish p ∷ []) ≡ 0 = rw same refl in omega (arith, few, none, acks_append link.waiting (item.Publish p ∷ []))
+will_few link p AtLeastOnce same is few =
+    let one : acks (item.Publish p ∷ []) ≡ 1 = rw same refl in
+    omega (arith, flight_in link is, one, acks_append link.waiting (item.Publish p ∷ []))
+
+ticked_few : (up : Bool) (link : Link) (clock : ℕ) (xs : List Client) → FewOf link → FewOf (ticked up link clock xs)
+ticked_few up link clock xs few =
+    ticked_holds FewOf (record {
+      publish = λ l p is before. will_few l p p.qos refl is before;
+      ping = λ l now before. omega (arith, before, acks_append l.waiting (item.Ping ∷ []));
+    }) up link clock xs few
+
 pub few_next : (s : State) (c : Cause) → OnePlace s.clients → Few s.link.waiting s.link.in_flight → Few (waiting_next s c) (link_moved s c (exits_for s c)).in_flight
 few_next s (ByConnect from connect) places few = go_few s (clients_next s (ByConnect from connect)) few
 few_next s (ByMessage from request) places few = message_few s from request places few
@@ -332,4 +339,4 @@ few_next s ByUp places few = begun_few s few
 few_next s ByDown places few = omega (arith, counted-publishes s.link.waiting)
 few_next s ByTake places few = take_few s s.up refl few
 few_next s (ByReplace policy) places few = go_few s (clients_next s (ByReplace policy)) few
-few_next s (ByTick clock) places few = few
+few_next s (ByTick clock) places few = ticked_few s.up s.link (later s.clock clock) s.clients few

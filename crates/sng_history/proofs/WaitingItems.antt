@@ -27,11 +27,13 @@ use Rattle.sng_history.specs.Links.{Link}
 use Rattle.sng_history.specs.Packets.{Answer, Delivers, Acknowledges, Grants, Refuses, Confirms, Strange}
 use Rattle.sng_history.specs.Packets.{answer_of, owed, has_place, acknowledgement, acknowledgements}
 use Rattle.sng_history.specs.State.{State, item_for, item_asked, publish_item, subscribe_item, asked_by}
-use Rattle.sng_history.specs.State.{qos_of, waiting_by}
+use Rattle.sng_history.specs.State.{qos_of, waiting_by, later}
 use Rattle.sng_history.specs.Standing.{released, unsubscribes}
 use Rattle.sng_history.specs.Verdicts.{source_ask}
 use Rattle.sng_history.specs.Lawful.{fixed_for}
+use Rattle.sng_history.specs.Ticking.{ticked}
 use Rattle.sng_history.specs.Steps.{asked_by_all, asked_for, clients_next}
+use Rattle.sng_history.proofs.Ticked.{ticked_holds}
 
 abbrev pub EachItem : (Item → Type 0) → List Item → Type 0
 EachItem P [] = Unit {0}
@@ -42,6 +44,7 @@ pub record Added (P : Item → Type 0) : Type 0 where
   pub publish : (p : Publication) → P (item.Publish p)
   pub subscribe : (filter : List ℕ) → P (item.Subscribe filter)
   pub acknowledge : (packet_id : ℕ) → P (item.Acknowledge packet_id)
+  pub ping : P item.Ping
 
 item_append : (P : Item → Type 0) (xs ys : List Item) → EachItem P xs → EachItem P ys → EachItem P (xs ++ ys)
 item_append P [] ys one two = two
@@ -120,6 +123,14 @@ item_answer P added up link (Refuses packet_id) = tt
 item_answer P added up link Confirms = tt
 item_answer P added up link Strange = tt
 
+item_ticked : (P : Item → Type 0) → Added P → (up : Bool) (link : Link) (clock : ℕ) (xs : List Client)
+    → EachItem P link.waiting → EachItem P (ticked up link clock xs).waiting
+item_ticked P added up link clock xs all =
+    ticked_holds (λ l. EachItem P l.waiting) (record {
+      publish = λ l p room before. item_append P l.waiting (item.Publish p ∷ []) before (added.publish p, tt);
+      ping = λ l now before. item_append P l.waiting (item.Ping ∷ []) before (added.ping, tt);
+    }) up link clock xs all
+
 -- what waits after a step
 abbrev pub waiting_next : State → Cause → List Item
 waiting_next s c = waiting_by s c (asked_for s c) (clients_next s c)
@@ -151,4 +162,4 @@ each_next P added s ByDown ends all = item_publishes P s.link.waiting all
 each_next P added s ByTake ends all = item_if P s.up [] s.link.waiting tt all
 each_next P added s (ByReplace policy) ends all =
     item_append P s.link.waiting (let_go s (clients_next s (ByReplace policy))) all ends
-each_next P added s (ByTick clock) ends all = all
+each_next P added s (ByTick clock) ends all = item_ticked P added s.up s.link (later s.clock clock) s.clients all

@@ -15,12 +15,15 @@ use Rattle.sng_history.specs.Causes.{ByConnect, ByMessage, BySource, ByBroken, B
 use Rattle.sng_history.specs.Links.{Link, Wanted, is_filter_of, wants, opened, is_open, closed, next_packet_id, sent_by, exited, link_after, resumed, filters_wanted, subscribe_sent, subscribes_sent, subscribe_left, unsubscribe_left}
 use Rattle.sng_history.specs.Packets.{Answer, Delivers, Acknowledges, Grants, Refuses, Confirms, Strange, answer_of, answered}
 use Rattle.sng_history.specs.Standing.{is_held, still_wanted}
-use Rattle.sng_history.specs.State.{State, link_moved, with_wanted, joined}
+use Rattle.sng_history.specs.Clients.{Client}
+use Rattle.sng_history.specs.Ticking.{ticked}
+use Rattle.sng_history.specs.State.{State, later, link_moved, with_wanted, joined}
 use Rattle.sng_history.specs.Exits.{exits_of}
 use Rattle.sng_history.specs.Lawful.{exits_for}
 use Rattle.sng_history.specs.Steps.{clients_next, asked_for, next_by}
 use Rattle.sng_history.specs.Good.{WantedOnce, Good}
 use Rattle.sng_history.proofs.Own.{same_means, flip}
+use Rattle.sng_history.proofs.Ticked.{ticked_holds}
 
 -- ---- booleans
 
@@ -156,6 +159,11 @@ take_same : (s : State) (b : Bool) → s.up ≡ b → SameFilters (link_moved s 
 take_same s true is = rw is (left_same s.link s.link.waiting (exits_of s.policy s.link.waiting))
 take_same s false is = rw is refl
 
+-- a tick leaves them as they are
+ticked_wanted : (up : Bool) (link : Link) (clock : ℕ) (xs : List Client) → (ticked up link clock xs).wanted ≡ link.wanted
+ticked_wanted up link clock xs =
+    ticked_holds (λ l. l.wanted ≡ link.wanted) (record { publish = λ l p room same. same; ping = λ l now same. same }) up link clock xs refl
+
 pub moved_wanted : (s : State) (c : Cause) → SameFilters (link_moved s c (exits_for s c)).wanted s.link.wanted
 moved_wanted s (ByConnect from connect) = refl
 moved_wanted s (ByMessage from request) = refl
@@ -166,7 +174,7 @@ moved_wanted s ByUp = anew_same (resumed s.link s.clock (exits_for s ByUp)) (fil
 moved_wanted s ByDown = refl
 moved_wanted s ByTake = take_same s s.up refl
 moved_wanted s (ByReplace policy) = refl
-moved_wanted s (ByTick clock) = refl
+moved_wanted s (ByTick clock) = ap (map (λ w. w.filter)) (ticked_wanted s.up s.link (later s.clock clock) s.clients)
 
 -- ---- what joins
 

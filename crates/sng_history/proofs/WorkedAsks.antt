@@ -25,18 +25,18 @@ use Rattle.sng_history.proofs.WorkedClients.{hello, cause_s1, home_one}
 t1_ascii : IsAscii (116 ∷ 47 ∷ 49 ∷ [])
 t1_ascii = search rules
 
-t1_utf8 : is_utf8 (116 ∷ 47 ∷ 49 ∷ []) ≡ true
+pub t1_utf8 : is_utf8 (116 ∷ 47 ∷ 49 ∷ []) ≡ true
 t1_utf8 = is_utf8-from_IsUtf8 (116 ∷ 47 ∷ 49 ∷ []) (IsUtf8-from_ascii (116 ∷ 47 ∷ 49 ∷ []) t1_ascii)
 
 t2_ascii : IsAscii (116 ∷ 47 ∷ 50 ∷ [])
 t2_ascii = search rules
 
-t2_utf8 : is_utf8 (116 ∷ 47 ∷ 50 ∷ []) ≡ true
+pub t2_utf8 : is_utf8 (116 ∷ 47 ∷ 50 ∷ []) ≡ true
 t2_utf8 = is_utf8-from_IsUtf8 (116 ∷ 47 ∷ 50 ∷ []) (IsUtf8-from_ascii (116 ∷ 47 ∷ 50 ∷ []) t2_ascii)
 
 -- ---- the states, one after the other
 
-abbrev up_one : State
+abbrev pub up_one : State
 up_one = record opening { policy = one_listed; up = true }
 
 abbrev pub inside : State

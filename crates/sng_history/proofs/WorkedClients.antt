@@ -23,10 +23,10 @@ use Rattle.sng_history.specs.ExamplesClients.{one_listed, both_listed, s1, s2, h
 s1_ascii : IsAscii (115 ∷ 49 ∷ [])
 s1_ascii = search rules
 
-s1_utf8 : is_utf8 (115 ∷ 49 ∷ []) ≡ true
+pub s1_utf8 : is_utf8 (115 ∷ 49 ∷ []) ≡ true
 s1_utf8 = is_utf8-from_IsUtf8 (115 ∷ 49 ∷ []) (IsUtf8-from_ascii (115 ∷ 49 ∷ []) s1_ascii)
 
-s1_chars : chars (115 ∷ 49 ∷ []) ≡ 115 ∷ 49 ∷ []
+pub s1_chars : chars (115 ∷ 49 ∷ []) ≡ 115 ∷ 49 ∷ []
 s1_chars = chars-IsAscii (115 ∷ 49 ∷ []) s1_ascii
 
 s2_ascii : IsAscii (115 ∷ 50 ∷ [])

@@ -44,16 +44,16 @@ standing ids texts = record inside {
   clients = map (holding_these ids texts) inside.clients;
 }
 
-abbrev under_in : State
+abbrev pub under_in : State
 under_in = standing [] (under_a ∷ [])
 
-under_is : state_of opening stands_under_a ≡ under_in
+pub under_is : state_of opening stands_under_a ≡ under_in
 under_is = ap (λ s. then s (Datagram home subscribe_under_a) (subscribes_under_a Allowed ∷ subscribed_under_a ∷ [])) inside_is ∙ rw under_utf8 refl
 
-abbrev ab_in : State
+abbrev pub ab_in : State
 ab_in = standing ((ab, true) ∷ []) (ab ∷ [])
 
-ab_is : state_of opening stands_ab ≡ ab_in
+pub ab_is : state_of opening stands_ab ≡ ab_in
 ab_is = holding_is ∙ rw ab_utf8 refl
 
 abbrev both_in : State
@@ -80,7 +80,7 @@ ungranted_is = ap (λ s. then s (Replace both_listed) (ends_under_a ∷ [])) ann
 
 -- ---- announced, accepted, and handed over
 
-stands_under : Lawful opening stands_under_a
+pub stands_under : Lawful opening stands_under_a
 stands_under = (
   home_one,
   came (s1_home one_listed) inside (Datagram home subscribe_under_a) (subscribes_under_a Allowed ∷ subscribed_under_a ∷ []) inside_is

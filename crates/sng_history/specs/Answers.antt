@@ -9,6 +9,7 @@ use Rattle.sng_frames.specs.declared.flags.TopicIdType.{TopicIdType}
 use Rattle.sng_frames.specs.declared.flags.TopicIdType.TheVariants.{Normal, Predefined, Short, Reserved}
 use Rattle.sng_frames.specs.declared.qos.FrameQos.{FrameQos}
 use Rattle.sng_frames.specs.declared.qos.FrameQos.TheVariants as qos
+use Rattle.sng_frames.specs.declared.messages.connect.Connect.{Connect}
 use Rattle.sng_frames.specs.declared.messages.publish.Publish.{Publish}
 use Rattle.sng_frames.specs.declared.messages.subscribe.TopicRequest.{TopicRequest}
 use Rattle.sng_frames.specs.declared.frame.SnFrame.{SnFrame}
@@ -24,6 +25,7 @@ use Rattle.sng_book.specs.declared.outcome.Denial.TheVariants.{Malformed, NotSup
 use Rattle.sng_book.specs.declared.outcome.Outcome.TheVariants.{Denied}
 use Rattle.sng_book.specs.declared.out.Out.{Out}
 use Rattle.sng_book.specs.declared.out.Out.TheVariants.{Send}
+use Rattle.sng_history.specs.Causes.{Statement, StatesTopic, StatesMessage, UpdatesTopic, UpdatesMessage}
 use Rattle.sng_history.specs.Requests.{granted, gets_id, id_in}
 
 -- a message that is denied before a name was read: an ask under its own kind, any other as a frame. A CONNECT has a row of its own
@@ -148,13 +150,37 @@ suback to r ids filter =
 abbrev pub unsuback : Address → TopicRequest → Out
 unsuback to r = Send to (written (frame.UnsubscribeAck r.msg_id))
 
--- a DISCONNECT says that there is no session at the address any more, or none at all (MQTT-SN 1.2, 6.14)
-abbrev pub dismissed : Address → Out
-dismissed to = Send to (written (frame.Disconnect None))
-
 -- the CONNACK with a code, and the PINGRESP
 abbrev pub connack : Address → ReturnCode → Out
 connack to code = Send to (written (frame.ConnectAck code))
 
 abbrev pub pong : Address → Out
 pong to = Send to (written frame.PingResponse)
+
+-- a DISCONNECT says that there is no session at the address any more, or none at all (MQTT-SN 1.2, 6.14)
+abbrev pub dismissed : Address → Out
+dismissed to = Send to (written (frame.Disconnect None))
+
+-- what a CONNECT that is accepted is answered: one with Will by WILLTOPICREQ, any other by CONNACK (MQTT-SN 1.2, 6.2 and 6.3)
+abbrev pub welcome : Connect → Address → Out
+welcome connect to = if connect.flags.will then Send to (written frame.WillTopicRequest) else connack to ACCEPTED
+
+-- the answer to a statement of a will that is allowed: a WILLTOPIC with a topic lets its message be asked for, the end of the dialogue is
+-- answered by CONNACK, and an update by its own acknowledgement
+abbrev pub statement_answer : Statement → Address → Out
+statement_answer (StatesTopic None) to = connack to ACCEPTED
+statement_answer (StatesTopic (Some topic)) to = Send to (written frame.WillMessageRequest)
+statement_answer (StatesMessage message) to = connack to ACCEPTED
+statement_answer (UpdatesTopic topic) to = Send to (written (frame.WillTopicResponse ACCEPTED))
+statement_answer (UpdatesMessage message) to = Send to (written (frame.WillMessageResponse ACCEPTED))
+
+-- one that is denied ends the dialogue, which CONNACK says; out of turn it ends nothing, and is not answered
+abbrev pub dialogue_ended : Address → Denial → List Out
+dialogue_ended to OutOfTurn = []
+dialogue_ended to rule = connack to (code_of rule) ∷ []
+
+abbrev pub statement_refused : Statement → Address → Denial → List Out
+statement_refused (StatesTopic topic) to rule = dialogue_ended to rule
+statement_refused (StatesMessage message) to rule = dialogue_ended to rule
+statement_refused (UpdatesTopic topic) to rule = refused to (frame.WillTopicUpdate topic) rule
+statement_refused (UpdatesMessage message) to rule = refused to (frame.WillMessageUpdate message) rule

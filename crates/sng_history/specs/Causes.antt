@@ -14,6 +14,7 @@ use Rattle.sng_frames.specs.declared.messages.publish.Publish.{Publish}
 use Rattle.sng_frames.specs.declared.messages.register.Register.{Register}
 use Rattle.sng_frames.specs.declared.messages.acks.TopicAck.{TopicAck}
 use Rattle.sng_frames.specs.declared.messages.subscribe.TopicRequest.{TopicRequest}
+use Rattle.sng_frames.specs.declared.messages.will.WillTopic.{WillTopic}
 use Rattle.sng_frames.specs.declared.frame.SnFrame.{SnFrame}
 use Rattle.sng_frames.specs.declared.frame.SnFrame.TheVariants as frame
 use Rattle.sng_book.specs.declared.address.Address.{Address}
@@ -22,12 +23,23 @@ use Rattle.sng_book.specs.declared.outcome.Denial.TheVariants.{Malformed, NotSup
 use Rattle.sng_book.specs.declared.event.Event.{Event}
 use Rattle.sng_book.specs.declared.event.Event.TheVariants as event
 
+-- what a client states of its will (MQTT-SN 1.2, 6.3 and 6.4)
+pub data Statement : Type 0 where
+  -- in the dialogue behind a CONNECT: a WILLTOPIC, where it has none to delete the will, and a WILLMSG
+  StatesTopic : Option WillTopic → Statement
+  StatesMessage : List ℕ → Statement
+  -- later: a WILLTOPICUPD, and a WILLMSGUPD
+  UpdatesTopic : Option WillTopic → Statement
+  UpdatesMessage : List ℕ → Statement
+
 -- what a message of a session is about, where it is no CONNECT
 pub data Request : Type 0 where
   -- a PINGREQ, with the client's id where it has one
   ToPing : Option (List ℕ) → Request
   -- a DISCONNECT without Duration
   ToLeave : Request
+  -- a DISCONNECT with a Duration, in seconds
+  ToSleep : ℕ → Request
   -- a REGISTER
   ToRegister : Register → Request
   -- a PUBLISH at QoS 0 or 1
@@ -40,6 +52,8 @@ pub data Request : Type 0 where
   ToConfirm : TopicAck → Request
   -- a PUBACK
   ToAcknowledge : TopicAck → Request
+  -- a message about the client's will
+  ToState : Statement → Request
   -- a message of a type or form that is not taken
   Untaken : SnFrame → Request
 
@@ -75,7 +89,7 @@ publish_cause from p qos.ExactlyOnce = ByMessage from (Untaken (frame.Publish p)
 
 abbrev pub disconnect_cause : Address → Option ℕ → Cause
 disconnect_cause from None = ByMessage from ToLeave
-disconnect_cause from (Some duration) = ByMessage from (Untaken (frame.Disconnect (Some duration)))
+disconnect_cause from (Some duration) = ByMessage from (ToSleep duration)
 
 abbrev pub frame_cause : Address → SnFrame → Cause
 frame_cause from (frame.Connect connect) = ByConnect from connect
@@ -84,9 +98,9 @@ frame_cause from (frame.PingRequest client) = ByMessage from (ToPing client)
 frame_cause from (frame.Disconnect duration) = disconnect_cause from duration
 frame_cause from (frame.ConnectAck code) = ByMessage from (Untaken (frame.ConnectAck code))
 frame_cause from frame.WillTopicRequest = ByMessage from (Untaken frame.WillTopicRequest)
-frame_cause from (frame.WillTopic topic) = ByMessage from (Untaken (frame.WillTopic topic))
+frame_cause from (frame.WillTopic topic) = ByMessage from (ToState (StatesTopic topic))
 frame_cause from frame.WillMessageRequest = ByMessage from (Untaken frame.WillMessageRequest)
-frame_cause from (frame.WillMessage message) = ByMessage from (Untaken (frame.WillMessage message))
+frame_cause from (frame.WillMessage message) = ByMessage from (ToState (StatesMessage message))
 frame_cause from (frame.Register register) = ByMessage from (ToRegister register)
 frame_cause from (frame.RegisterAck answer) = ByMessage from (ToConfirm answer)
 frame_cause from (frame.PublishAck answer) = ByMessage from (ToAcknowledge answer)
@@ -98,9 +112,9 @@ frame_cause from (frame.SubscribeAck answer) = ByMessage from (Untaken (frame.Su
 frame_cause from (frame.Unsubscribe request) = ByMessage from (ToUnsubscribe request)
 frame_cause from (frame.UnsubscribeAck id) = ByMessage from (Untaken (frame.UnsubscribeAck id))
 frame_cause from frame.PingResponse = ByMessage from (Untaken frame.PingResponse)
-frame_cause from (frame.WillTopicUpdate topic) = ByMessage from (Untaken (frame.WillTopicUpdate topic))
+frame_cause from (frame.WillTopicUpdate topic) = ByMessage from (ToState (UpdatesTopic topic))
 frame_cause from (frame.WillTopicResponse code) = ByMessage from (Untaken (frame.WillTopicResponse code))
-frame_cause from (frame.WillMessageUpdate message) = ByMessage from (Untaken (frame.WillMessageUpdate message))
+frame_cause from (frame.WillMessageUpdate message) = ByMessage from (ToState (UpdatesMessage message))
 frame_cause from (frame.WillMessageResponse code) = ByMessage from (Untaken (frame.WillMessageResponse code))
 
 abbrev pub datagram_cause : Address → Result SnFrame FrameFault → Cause
@@ -121,11 +135,13 @@ abbrev pub publish_asked : Request → Option Publish
 publish_asked (ToPublish p) = Some p
 publish_asked (ToPing client) = None
 publish_asked ToLeave = None
+publish_asked (ToSleep duration) = None
 publish_asked (ToRegister r) = None
 publish_asked (ToSubscribe r) = None
 publish_asked (ToUnsubscribe r) = None
 publish_asked (ToConfirm r) = None
 publish_asked (ToAcknowledge r) = None
+publish_asked (ToState statement) = None
 publish_asked (Untaken message) = None
 
 -- the SUBSCRIBE
@@ -133,12 +149,28 @@ abbrev pub subscribe_asked : Request → Option TopicRequest
 subscribe_asked (ToSubscribe r) = Some r
 subscribe_asked (ToPing client) = None
 subscribe_asked ToLeave = None
+subscribe_asked (ToSleep duration) = None
 subscribe_asked (ToRegister r) = None
 subscribe_asked (ToPublish p) = None
 subscribe_asked (ToUnsubscribe r) = None
 subscribe_asked (ToConfirm r) = None
 subscribe_asked (ToAcknowledge r) = None
+subscribe_asked (ToState statement) = None
 subscribe_asked (Untaken message) = None
+
+-- the statement of a will
+abbrev pub statement_asked : Request → Option Statement
+statement_asked (ToState statement) = Some statement
+statement_asked (ToPing client) = None
+statement_asked ToLeave = None
+statement_asked (ToSleep duration) = None
+statement_asked (ToRegister r) = None
+statement_asked (ToPublish p) = None
+statement_asked (ToSubscribe r) = None
+statement_asked (ToUnsubscribe r) = None
+statement_asked (ToConfirm r) = None
+statement_asked (ToAcknowledge r) = None
+statement_asked (Untaken message) = None
 
 -- the message that it holds is about this
 abbrev pub request_of : Cause → Option Request

@@ -1,21 +1,24 @@
 -- One client of the gateway (MQTT-SN 1.2, 6.2 to 6.14): what is kept of it, and how an event and the notes of a row move it.
-use Rattle.std.specs.Prelude.{ℕ, ◌==◌, ◌&&◌, Bool, true, false, List, [], ◌∷◌, if◌then◌else◌, Option, Some, None}
+use Rattle.std.specs.Prelude.{ℕ, ◌==◌, ◌&&◌, Bool, true, false, List, [], ◌∷◌, is_none, slice_get, if◌then◌else◌, Option, Some, None, unwrap_or}
 use Rattle.std.specs.Option.{option_and_then}
 use Rattle.std.specs.Str.{bytes_eq}
 use Rattle.sng_grants.specs.declared.policy.Policy.{Policy}
 use Rattle.sng_states.specs.declared.state.ClientState.{ClientState}
-use Rattle.sng_states.specs.declared.state.ClientState.TheVariants.{Active, Disconnected}
-use Rattle.sng_states.specs.States.{has_session, takes_messages}
+use Rattle.sng_states.specs.declared.state.ClientState.TheVariants.{Dialogue, Active, Asleep, Awake, Disconnected, Lost}
+use Rattle.sng_states.specs.States.{has_session, takes_messages, is_due_messages, is_asleep, is_awake}
 use Rattle.sng_ids.specs.Ids.{Ids, id_for, with_name, confirmed}
 use Rattle.sng_queue.specs.Messages.{Message}
+use Rattle.sng_queue.specs.Exchanges.{repeat}
 use Rattle.sng_queue.specs.Buffers.{Buffer, nothing, settle, announce}
 use Rattle.sng_fan.specs.declared.held.Held.{Held}
 use Rattle.sng_fan.specs.Subscriptions.{with_filter, without_filter}
-use Rattle.sng_wills.specs.Wills.{Wills}
-use Rattle.sng_wills.specs.declared.will.Stage.TheVariants.{Closed}
+use Rattle.sng_wills.specs.Wills.{Wills, stated_topic, after_topic, after_message, after_topic_update, after_message_update}
+use Rattle.sng_wills.specs.declared.will.Stage.TheVariants.{Closed, TopicAwaited}
+use Rattle.sng_wills.specs.declared.will.StatedTopic.{StatedTopic}
 use Rattle.sng_frames.specs.declared.messages.connect.Connect.{Connect}
 use Rattle.sng_frames.specs.declared.messages.acks.TopicAck.{TopicAck}
 use Rattle.sng_frames.specs.declared.messages.subscribe.TopicRequest.{TopicRequest}
+use Rattle.sng_frames.specs.declared.messages.will.WillTopic.{WillTopic}
 use Rattle.sng_book.specs.declared.address.Address.{Address}
 use Rattle.sng_book.specs.declared.decision.Decision.{Decision}
 use Rattle.sng_book.specs.declared.decision.Decision.TheVariants as note
@@ -25,8 +28,9 @@ use Rattle.sng_book.specs.declared.outcome.Denial.TheVariants.{Malformed, NotSup
 use Rattle.sng_book.specs.declared.outcome.Outcome.{Outcome}
 use Rattle.sng_book.specs.declared.outcome.Outcome.TheVariants.{Allowed, Denied}
 use Rattle.sng_book.specs.Denials.{is_allowed}
-use Rattle.sng_history.specs.Causes.{Cause, request_of, subscribe_asked}
-use Rattle.sng_history.specs.Causes.{Request, ToPing, ToLeave, ToRegister, ToPublish, ToSubscribe, ToUnsubscribe, ToConfirm, ToAcknowledge, Untaken}
+use Rattle.sng_history.specs.Causes.{Cause, request_of, subscribe_asked, statement_asked}
+use Rattle.sng_history.specs.Causes.{Statement, StatesTopic, StatesMessage, UpdatesTopic, UpdatesMessage}
+use Rattle.sng_history.specs.Causes.{Request, ToPing, ToLeave, ToSleep, ToRegister, ToPublish, ToSubscribe, ToUnsubscribe, ToConfirm, ToAcknowledge, ToState, Untaken}
 use Rattle.sng_history.specs.Causes.{ByConnect, ByMessage, BySource, ByBroken, ByPacket, ByUp, ByDown, ByTake, ByReplace, ByTick}
 use Rattle.sng_history.specs.Requests.{granted, gets_id}
 use Rattle.sng_history.specs.Packets.{Answer, Delivers, Acknowledges, Grants, Refuses, Confirms, Strange, answer_of}
@@ -126,16 +130,33 @@ abbrev pub confirmed_with : TopicAck → Client → Client
 confirmed_with r x =
     if r.code.0 == 0 then record (closed x) { ids = confirmed r.topic_id x.ids } else x
 
--- what a message does to its client before any note (MQTT-SN 1.2, 6.5 and 6.6)
+-- a client falls asleep: nothing is open with it, what waits stays, and from then on its Duration counts (MQTT-SN 1.2, 6.14)
+abbrev pub asleep : ℕ → Client → Client
+asleep duration x = record (closed x) { phase = Asleep; duration = duration }
+
+-- a PINGREQ that names the client itself wakes it where it sleeps
+abbrev pub names_own : Option (List ℕ) → List ℕ → Bool
+names_own None own = false
+names_own (Some id) own = bytes_eq id own
+
+abbrev pub is_waking : Option (List ℕ) → Client → Bool
+is_waking client x = is_asleep x.phase && names_own client x.id
+
+abbrev pub awake : Client → Client
+awake x = record x { phase = Awake }
+
+-- what a message does to its client before any note (MQTT-SN 1.2, 6.5, 6.6 and 6.14)
 abbrev pub answered_by : Option Request → Client → Client
 answered_by (Some (ToConfirm r)) x = if is_confirming r x then confirmed_with r x else x
 answered_by (Some (ToAcknowledge r)) x = if is_acknowledging r x then closed x else x
-answered_by (Some (ToPing client)) x = x
+answered_by (Some (ToPing client)) x = if is_waking client x then awake x else x
+answered_by (Some (ToSleep duration)) x = if is_due_messages x.phase then asleep duration x else x
 answered_by (Some ToLeave) x = x
 answered_by (Some (ToRegister r)) x = x
 answered_by (Some (ToPublish p)) x = x
 answered_by (Some (ToSubscribe r)) x = x
 answered_by (Some (ToUnsubscribe r)) x = x
+answered_by (Some (ToState statement)) x = x
 answered_by (Some (Untaken message)) x = x
 answered_by None x = x
 
@@ -173,10 +194,16 @@ cleaned clean x =
     then record x { filters = []; wills = record { stage = Closed; will = None }; buffer = nothing }
     else record x { wills = record x.wills { stage = Closed }; buffer = record x.buffer { exchange = None } }
 
+-- a CONNECT with Will opens a dialogue, in which a WILLTOPIC is awaited; after any other the client is active
+abbrev pub opened : Bool → Client → Client
+opened will x =
+    if will then record x { phase = Dialogue; wills = record x.wills { stage = TopicAwaited } } else record x { phase = Active }
+
 -- a CONNECT is accepted: the client is where it came from, and knows no topic id
 abbrev pub let_in : ℕ → Address → Connect → Client → Client
 let_in clock from connect x =
-    cleaned connect.flags.clean (record x { address = from; phase = Active; ids = []; duration = connect.duration; heard = clock })
+    opened connect.flags.will
+    (cleaned connect.flags.clean (record x { address = from; ids = []; duration = connect.duration; heard = clock }))
 
 abbrev pub entered_by : ℕ → Cause → Client → Client
 entered_by clock (ByConnect from connect) x = let_in clock from connect x
@@ -193,6 +220,46 @@ entered_by now (ByTick clock) x = x
 -- a client leaves: nothing is open with it, and what waits for it is gone; its subscriptions, its will and its ids stay
 abbrev pub gone : Client → Client
 gone x = record x { phase = Disconnected; wills = record x.wills { stage = Closed }; buffer = nothing }
+
+-- a client is lost as it was silent for too long: nothing is open with it, and what waits for it is gone; its subscriptions, its will and
+-- its ids stay
+abbrev pub lost : Client → Client
+lost x = record x { phase = Lost; wills = record x.wills { stage = Closed }; buffer = nothing }
+
+-- the topic that a WILLTOPIC or a WILLTOPICUPD states, with its QoS and Retain; QoS 2 is kept as 1
+abbrev pub topic_stated : WillTopic → StatedTopic
+topic_stated w = stated_topic w.topic (granted w.flags.qos) w.flags.retain
+
+-- a will is deleted
+abbrev pub no_will : Wills
+no_will = record { stage = Closed; will = None }
+
+-- a statement that is allowed moves the will: a WILLTOPIC lets its message be awaited, an empty one deletes the will, and so does an empty
+-- WILLTOPICUPD; else the will is of what is stated
+abbrev pub wills_stated : Statement → Wills → Wills
+wills_stated (StatesTopic None) wills = no_will
+wills_stated (StatesTopic (Some w)) wills = unwrap_or (after_topic (topic_stated w) wills) wills
+wills_stated (StatesMessage message) wills = unwrap_or (after_message message wills) wills
+wills_stated (UpdatesTopic None) wills = no_will
+wills_stated (UpdatesTopic (Some w)) wills = unwrap_or (after_topic_update (topic_stated w) wills) wills
+wills_stated (UpdatesMessage message) wills = unwrap_or (after_message_update message wills) wills
+
+-- the dialogue is over then, and the client active: the statement was its last, or deleted the will
+abbrev pub phase_stated : Statement → ClientState → ClientState
+phase_stated (StatesTopic None) phase = Active
+phase_stated (StatesTopic (Some w)) phase = phase
+phase_stated (StatesMessage message) phase = Active
+phase_stated (UpdatesTopic topic) phase = phase
+phase_stated (UpdatesMessage message) phase = phase
+
+abbrev pub stated : Statement → Client → Client
+stated statement x = record x { phase = phase_stated statement x.phase; wills = wills_stated statement x.wills }
+
+-- where a statement is not allowed, and where there is none, as for the will of a lost client, nothing moves
+abbrev pub stated_by : Option Statement → Outcome → Client → Client
+stated_by (Some statement) Allowed x = stated statement x
+stated_by (Some statement) (Denied rule) x = x
+stated_by None outcome x = x
 
 -- the ids once the client was told an id of the name: its old one, or else the next (MQTT-SN 1.2, 6.5)
 abbrev pub told : List ℕ → Ids → Ids
@@ -277,6 +344,15 @@ handed a name (Denied rule) x = denied_hand rule x
 abbrev pub subscribe_of : Cause → Option TopicRequest
 subscribe_of c = option_and_then subscribe_asked (request_of c)
 
+-- the statement of a will
+abbrev pub statement_of : Cause → Option Statement
+statement_of c = option_and_then statement_asked (request_of c)
+
+-- what is open is sent again, or is open no more
+abbrev pub repeated : ℕ → Outcome → Client → Client
+repeated clock Allowed x = record x { buffer = record x.buffer { exchange = repeat x.buffer.exchange clock } }
+repeated clock (Denied rule) x = closed x
+
 -- the client after a note of its own
 abbrev pub note_by : Around → Decision → Client → Client
 note_by a (note.Connect id outcome) x = if is_allowed outcome then entered_by a.clock a.cause x else x
@@ -285,14 +361,14 @@ note_by a (note.Register who name outcome) x = record x { ids = registered name 
 note_by a (note.Publish who name outcome) x = x
 note_by a (note.Subscribe who filter outcome) x = subscribed (subscribe_of a.cause) filter outcome x
 note_by a (note.Unsubscribe who filter outcome) x = unsubscribed filter outcome x
-note_by a (note.Will who name outcome) x = x
+note_by a (note.Will who name outcome) x = stated_by (statement_of a.cause) outcome x
 note_by a (note.Announce id name) x = announced a.clock name x
 note_by a (note.Hand id name outcome) x = handed a name outcome x
-note_by a (note.Retry id name outcome) x = x
+note_by a (note.Retry id name outcome) x = repeated a.clock outcome x
 note_by a (note.Forward who name outcome) x = x
 note_by a (note.Again who name outcome) x = x
 note_by a (note.End id filter outcome) x = without filter x
-note_by a (note.Lost id) x = x
+note_by a (note.Lost id) x = lost x
 note_by a note.Outbox x = x
 note_by a (note.Frame who outcome) x = x
 
@@ -300,6 +376,13 @@ abbrev pub notes_by : Around → List Decision → Client → Client
 notes_by a [] x = x
 notes_by a (said ∷ notes) x = notes_by a notes (note_by a said x)
 
+-- an awake client for which nothing is left, waiting or open, falls asleep again (MQTT-SN 1.2, 6.14)
+abbrev pub is_drained : Client → Bool
+is_drained x = is_awake x.phase && (is_none (slice_get x.buffer.waiting 0) && is_none x.buffer.exchange)
+
+abbrev pub drained : Client → Client
+drained x = if is_drained x then record x { phase = Asleep } else x
+
 -- the client after a row with this event and these notes of it
 abbrev pub client_by : Around → List Decision → Client → Client
-client_by a notes x = notes_by a notes (start_by a x)
+client_by a notes x = drained (notes_by a notes (start_by a x))

@@ -59,8 +59,11 @@ abbrev pub subscribing : Link → List (List ℕ) → List Out
 subscribing link [] = []
 subscribing link (filter ∷ filters) = subscribe_packet (next_packet_id link) filter ∷ subscribing (subscribe_sent link filter) filters
 
--- items leave on the link, in order, with the outcomes of the publishes among them, and each acknowledgement goes out. Nothing asks for a
--- PINGREQ yet
+-- the packet that keeps the connection alive (MQTT 3.1.1, 3.12)
+abbrev pub pinging : Out
+pinging = Wire (written packet.PingRequest)
+
+-- items leave on the link, in order, with the outcomes of the publishes among them; each acknowledgement and each PINGREQ goes out
 abbrev pub leaving : Link → List Item → List Outcome → List Out
 leaving link [] outcomes = []
 leaving link (item.Publish p ∷ items) [] = []
@@ -71,7 +74,7 @@ leaving link (item.Subscribe filter ∷ items) outcomes =
 leaving link (item.Unsubscribe filter ∷ items) outcomes =
     unsubscribe_leaves link filter ++ leaving (unsubscribe_left link filter) items outcomes
 leaving link (item.Acknowledge packet_id ∷ items) outcomes = acknowledged packet_id ∷ leaving link items outcomes
-leaving link (item.Ping ∷ items) outcomes = leaving link items outcomes
+leaving link (item.Ping ∷ items) outcomes = pinging ∷ leaving link items outcomes
 
 -- the outcomes of the publishes in flight under the policy, as a connection begins
 abbrev pub agains_of : Policy → List InFlight → List Outcome

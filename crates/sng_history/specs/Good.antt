@@ -1,21 +1,19 @@
 -- What holds of every state between rows that the gateway comes to: its clients are apart, in their ids and where they are, each is at
 -- rest, and there are no more than may be. A history may begin at any state, so no law of rows asks for it.
-use Rattle.std.specs.Prelude.{ℕ, ◌≡◌, ◌≤◌, false, not, ◌&&◌, List, [], ◌∷◌, length, if◌then◌else◌}
+use Rattle.std.specs.Prelude.{ℕ, ◌≡◌, ◌≤◌, false, not, ◌&&◌, List, [], ◌∷◌, length, if◌then◌else◌, None}
 use Rattle.std.specs.Str.{bytes_eq}
 use Rattle.sng_grants.specs.declared.policy.Policy.{Policy}
 use Rattle.sng_fan.specs.Subscriptions.{IsOneClients}
 use Rattle.sng_fan.specs.declared.held.Held.{Held}
-use Rattle.sng_states.specs.States.{in_dialogue, has_session}
+use Rattle.sng_states.specs.States.{in_dialogue, has_session, takes_messages}
 use Rattle.sng_outbox.specs.Sending.{load}
 use Rattle.sng_outbox.specs.declared.limits.TheConstants.{MAX_IN_FLIGHT}
-use Rattle.sng_outbox.specs.declared.item.Item.{Item}
-use Rattle.sng_outbox.specs.declared.item.Item.TheVariants as item
 use Rattle.sng_queue.specs.Buffers.{nothing}
 use Rattle.sng_wills.specs.Wills.{is_closed}
 use Rattle.sng_book.specs.declared.address.Address.{Address}
 use Rattle.sng_book.specs.declared.outcome.Outcome.TheVariants.{Allowed}
 use Rattle.sng_history.specs.declared.limits.TheConstants.{MAX_CLIENTS}
-use Rattle.sng_history.specs.Clients.{Client, is_here}
+use Rattle.sng_history.specs.Clients.{Client, is_here, is_drained}
 use Rattle.sng_history.specs.Outgoing.{is_free}
 use Rattle.sng_history.specs.Links.{Wanted, wants}
 use Rattle.sng_history.specs.Standing.{is_held}
@@ -45,24 +43,14 @@ abbrev pub OnePlace : List Client → Type 0
 OnePlace [] = Unit {0}
 OnePlace (x ∷ xs) = Each (Apart x) xs × OnePlace xs
 
--- all that may be handed over was: what waits for a client that takes messages waits behind an open exchange; nothing is kept for one that
--- has no session; and a dialogue is open exactly in its phase
+-- all that may be handed over was: what waits for a client that takes messages waits behind an open exchange; one is open only with such a
+-- client, and with each that is awake; nothing is kept for one that has no session; and a dialogue is open exactly in its phase
 pub record AtRest (x : Client) : Type 0 where
   pub handed : (if is_free x then x.buffer.waiting else []) ≡ []
+  pub quiet : (if takes_messages x.phase then None else x.buffer.exchange) ≡ None
+  pub busy : is_drained x ≡ false
   pub away : (if has_session x.phase then nothing else x.buffer) ≡ nothing
   pub dialogue : in_dialogue x.phase ≡ not (is_closed x.wills.stage)
-
--- what waits is no PINGREQ, as nothing asks for one yet
-abbrev pub IsPlain : Item → Type 0
-IsPlain (item.Publish p) = Unit {0}
-IsPlain (item.Subscribe filter) = Unit {0}
-IsPlain (item.Unsubscribe filter) = Unit {0}
-IsPlain (item.Acknowledge packet_id) = Unit {0}
-IsPlain item.Ping = ⊥
-
-abbrev pub AllPlain : List Item → Type 0
-AllPlain [] = Unit {0}
-AllPlain (one ∷ items) = IsPlain one × AllPlain items
 
 -- each of these filters is allowed to the client by the policy
 abbrev pub AllCovered : Policy → List ℕ → List Held → Type 0
@@ -83,8 +71,6 @@ pub record Good (s : State) : Type 0 where
   pub rest : Each AtRest s.clients
   -- there are no more than may be
   pub most : length s.clients ≤ MAX_CLIENTS
-  -- nothing waits for the broker that nobody asks for yet
-  pub plain : AllPlain s.link.waiting
   -- no more publishes at QoS 1 wait or are in flight than may
   pub few : load (record { waiting = s.link.waiting; in_flight = s.link.in_flight }) ≤ MAX_IN_FLIGHT
   -- each client's filters stand once, there are no more of them than may be, and the policy in force allows each

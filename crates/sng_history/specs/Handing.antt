@@ -1,6 +1,6 @@
 -- How messages are handed over to a client: by which topic id, in which frame, and how the client is moved by it (MQTT-SN 1.2, 5.3.11,
 -- 5.4.10, 5.4.12, 6.5, 6.6 and 6.10).
-use Rattle.std.specs.Prelude.{ℕ, ◌+◌, ◌==◌, ◌&&◌, nat_le, Bool, false, List, [], ◌∷◌, length, slice_get, if◌then◌else◌, Option, Some, None}
+use Rattle.std.specs.Prelude.{ℕ, ◌+◌, ◌==◌, ◌&&◌, nat_le, Bool, true, false, List, [], ◌∷◌, length, slice_get, if◌then◌else◌, Option, Some, None}
 use Rattle.std.specs.Option.{option_map}
 use Rattle.sng_text.specs.declared.qos.Qos.{Qos}
 use Rattle.sng_text.specs.declared.qos.Qos.TheVariants.{AtMostOnce, AtLeastOnce}
@@ -91,6 +91,27 @@ handed_outs to number (Some m) (Some known) = handed_out to number m known ∷ [
 abbrev pub announced_out : Address → ℕ → Ids → List ℕ → Out
 announced_out to number ids name =
     Send to (written (frame.Register (record { topic_id = id_for name ids; msg_id = number_after number; name = name })))
+
+-- what is open, sent again: the REGISTER unchanged, and the PUBLISH with DUP, with the ids of the first sending (MQTT-SN 1.2, 5.3.1, 6.12 and
+-- 6.13)
+abbrev pub announced_again : Address → Sending → Option Message → List Out
+announced_again to sent None = []
+announced_again to sent (Some m) =
+    Send to (written (frame.Register (record { topic_id = sent.topic_id; msg_id = sent.msg_id; name = m.name }))) ∷ []
+
+abbrev pub handed_again : Address → Sending → TopicIdKind → Message → Out
+handed_again to sent k m =
+    Send to (written (frame.Publish (record {
+      flags = record (publish_flags m k) { dup = true };
+      topic_id = sent.topic_id;
+      msg_id = sent.msg_id;
+      payload = m.payload;
+    })))
+
+abbrev pub repeated_outs : Address → Buffer → Option Exchange → List Out
+repeated_outs to b None = []
+repeated_outs to b (Some (Announcing sent)) = announced_again to sent (slice_get b.waiting 0)
+repeated_outs to b (Some (Acknowledging sent k m)) = handed_again to sent k m ∷ []
 
 -- ---- the buffer and the MsgId that was given last, as messages leave and are answered
 

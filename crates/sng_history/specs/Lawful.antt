@@ -17,12 +17,15 @@ use Rattle.sng_book.specs.declared.outcome.Outcome.TheVariants.{Allowed, Denied}
 use Rattle.sng_book.specs.declared.event.Event.{Event}
 use Rattle.sng_book.specs.declared.out.Out.{Out}
 use Rattle.sng_book.specs.declared.row.Row.{Row}
-use Rattle.sng_history.specs.Causes.{Request, ToPing, ToLeave, ToRegister, ToPublish, ToSubscribe, ToUnsubscribe, ToConfirm, ToAcknowledge, Untaken}
+use Rattle.sng_history.specs.Causes.{Request, ToPing, ToLeave, ToSleep, ToRegister, ToPublish, ToSubscribe, ToUnsubscribe, ToConfirm, ToAcknowledge, ToState, Untaken}
 use Rattle.sng_history.specs.Causes.{Cause, cause_of}
 use Rattle.sng_history.specs.Causes.{ByConnect, ByMessage, BySource, ByBroken, ByPacket, ByUp, ByDown, ByTake, ByReplace, ByTick}
-use Rattle.sng_history.specs.Clients.{Client, is_here, let_in, closed, confirmed_with, is_confirming, is_acknowledging, message_due}
+use Rattle.sng_states.specs.States.{is_due_messages}
+use Rattle.sng_history.specs.Clients.{Client, is_here, let_in, closed, confirmed_with, is_confirming, is_acknowledging, is_waking, awake, message_due}
 use Rattle.sng_history.specs.Notes.{notes_of, exits_in}
-use Rattle.sng_history.specs.State.{State, state_of, Leads, present_in}
+use Rattle.sng_history.specs.State.{State, state_of, Leads, present_in, later}
+use Rattle.sng_history.specs.Losing.{tick_notes}
+use Rattle.sng_history.specs.WillAsks.{statement_notes}
 use Rattle.sng_history.specs.Packets.{answer_of, refused_filter}
 use Rattle.sng_history.specs.Standing.{holds}
 use Rattle.sng_history.specs.Verdicts.{entry, ping_verdict, register_ask, publish_ask, subscribe_ask, unsubscribe_ask, coverage}
@@ -57,10 +60,15 @@ confirmations policy r x =
     then handed_over policy (confirmed_with r x)
     else refusals x.id r.code.0 x.buffer.waiting ++ handed_over policy (record x { buffer = settle x.buffer })
 
+-- to a client that wakes is handed over what waited meanwhile
+abbrev pub woken_notes : Policy → Option (List ℕ) → Client → List Decision
+woken_notes policy client x = if is_waking client x then handed_over policy (awake x) else []
+
 -- the notes that a message fixes of the client from which it came: its ask with the verdict, that it leaves, and any other message that is
 -- denied
 abbrev pub fixed_to : State → Request → Client → List Decision
-fixed_to s (ToPing client) x = denial_of x.id (ping_verdict client x)
+fixed_to s (ToPing client) x = denial_of x.id (ping_verdict client x) ++ woken_notes s.policy client x
+fixed_to s (ToSleep duration) x = if is_due_messages x.phase then [] else out_of_turn x.id
 fixed_to s ToLeave x = note.Left x.id ∷ all_gone x.id x.buffer.waiting
 fixed_to s (ToRegister r) x = register_ask s.policy x r.name ∷ []
 fixed_to s (ToPublish p) x = publish_ask s x p ∷ []
@@ -68,6 +76,7 @@ fixed_to s (ToSubscribe r) x = subscribe_ask s x r ∷ []
 fixed_to s (ToUnsubscribe r) x = unsubscribe_ask s.policy x r ∷ []
 fixed_to s (ToConfirm r) x = if is_confirming r x then confirmations s.policy r x else out_of_turn x.id
 fixed_to s (ToAcknowledge r) x = if is_acknowledging r x then handed_over s.policy (closed x) else out_of_turn x.id
+fixed_to s (ToState statement) x = statement_notes s.policy statement x
 fixed_to s (Untaken message) x = denied_note message (who.Client x.id) NotSupported ∷ []
 
 -- the end of a subscription that is not allowed any more
@@ -106,7 +115,7 @@ fixed_for s ByUp x = []
 fixed_for s ByDown x = []
 fixed_for s ByTake x = []
 fixed_for s (ByReplace policy) x = ends_under policy x.id x.filters
-fixed_for s (ByTick clock) x = []
+fixed_for s (ByTick clock) x = tick_notes s.policy s.link (later s.clock clock) s.clients x
 
 -- a row with this cause may have these notes of the client
 pub record LawfulFor (s : State) (c : Cause) (x : Client) (notes : List Decision) : Type 0 where

@@ -28,7 +28,7 @@ use Rattle.sng_book.specs.declared.decision.Who.TheVariants as who
 use Rattle.sng_book.specs.declared.outcome.IdKind.TheVariants as kind
 use Rattle.sng_book.specs.declared.outcome.Place.TheVariants as place
 use Rattle.sng_book.specs.declared.outcome.Denial.{Denial}
-use Rattle.sng_book.specs.declared.outcome.Denial.TheVariants.{Malformed, NotSupported, NoScope, NoSession, UnknownSource, BadName, IdType, UnknownId, MissingPub, OutOfTurn, UpstreamDown, Full}
+use Rattle.sng_book.specs.declared.outcome.Denial.TheVariants.{Malformed, NotSupported, NoScope, NoSession, UnknownSource, BadName, IdType, UnknownId, MissingPub, UpstreamDown, Full}
 use Rattle.sng_book.specs.declared.outcome.Outcome.{Outcome}
 use Rattle.sng_book.specs.declared.outcome.Outcome.TheVariants.{Allowed, Denied}
 use Rattle.sng_book.specs.declared.event.Event.TheVariants.{Datagram}
@@ -37,11 +37,12 @@ use Rattle.sng_book.specs.declared.out.Out.TheVariants.{Send, Note}
 use Rattle.sng_book.specs.declared.row.Row.{Row}
 use Rattle.sng_history.specs.Clients.{same_address}
 use Rattle.sng_history.specs.Views.{policy_in_force, is_up}
-use Rattle.sng_history.specs.ViewsClients.{phase_of, address_of, accepted, is_among, those_at}
+use Rattle.sng_history.specs.ViewsClients.{is_awaiting, is_asleep, phase_of, address_of, accepted, is_among, those_at}
 use Rattle.sng_history.specs.ViewsLink.{waiting}
 use Rattle.sng_history.specs.LawsRules.{Rule, judged, may_publish}
 use Rattle.sng_history.specs.LawsEnds.{clean_answer}
-use Rattle.sng_history.specs.LawsHanding.{gone_answer, around_connack}
+use Rattle.sng_history.specs.ViewsHanding.{waits_for}
+use Rattle.sng_history.specs.LawsHanding.{gone_answer, around_welcome, mailing, handed_awake, out_of_turn, is_awake}
 
 -- the row is of a datagram from the address, which holds the message
 pub record Brought (row : Row) (from : Address) (message : SnFrame) : Type 0 where
@@ -57,17 +58,20 @@ pub record Broken (row : Row) (from : Address) (broke : FrameFault) : Type 0 whe
 
 -- ---- CONNECT (MQTT-SN 1.2, 5.4.4 and 6.2)
 
--- what forbids a CONNECT, in order: another ProtocolId than 1, a will, no scope, and no place for a client that was never accepted
+-- what forbids a CONNECT, in order: another ProtocolId than 1, no scope, and no place for a client that was never accepted
 abbrev pub connect_rules : List Row → Connect → List Rule
 connect_rules h c =
     (not (c.protocol_id == 1), NotSupported)
-    ∷ (c.flags.will, NotSupported)
     ∷ (not (lists (policy_in_force h) c.client_id), NoScope c.client_id)
     ∷ (not (is_among c.client_id (accepted h)) && not (nat_lt (length (accepted h)) 256), Full place.Clients)
     ∷ []
 
 abbrev pub connack_to : Address → ReturnCode → Out
 connack_to to code = Send to (written (frame.ConnectAck code))
+
+-- a CONNECT with Will is answered by WILLTOPICREQ, and any other by CONNACK (6.2 and 6.3)
+abbrev pub welcome_to : Connect → Address → Out
+welcome_to c to = if c.flags.will then Send to (written frame.WillTopicRequest) else connack_to to ACCEPTED
 
 -- DISCONNECT: there is no session at the address any more, or none at all
 abbrev pub bye : Address → Out
@@ -95,14 +99,15 @@ others_leave h from id =
 
 -- the row begins with the note of the CONNECT; one that is denied is answered by its code. As one is accepted, the client is dismissed
 -- where it was before, another client at the address leaves, of the subscriptions that a clean one ends it is noted where the broker is not
--- told, and CONNACK comes last, but for what waits for the client: a clean one drops it before, and else it is handed over behind
+-- told, and its answer comes last, but for what waits for the client: a clean one drops it before, and else it is handed over behind
+-- CONNACK, while one with Will keeps it until its dialogue is over
 abbrev pub entry_answer : List Row → Address → Connect → Outcome → List Out
 entry_answer h from c (Denied rule) = Note (note.Connect c.client_id (Denied rule)) ∷ connack_to from (code_for rule) ∷ []
 entry_answer h from c Allowed =
     Note (note.Connect c.client_id Allowed)
     ∷ (old_place h from c.client_id
     ++ (others_leave h from c.client_id
-    ++ (clean_answer h c ++ around_connack h from c.client_id c.flags.clean (connack_to from ACCEPTED))))
+    ++ (clean_answer h c ++ around_welcome h from c (welcome_to c from))))
 
 abbrev pub connect_answer : List Row → Address → Connect → List Out
 connect_answer h from c = entry_answer h from c (judged (connect_rules h c))
@@ -187,12 +192,25 @@ abbrev pub names_another : Option (List ℕ) → List ℕ → Bool
 names_another None id = false
 names_another (Some named) id = not (bytes_eq named id)
 
--- PINGREQ (5.4.19): one that names another client has no session; out of turn it is noted alone; else PINGRESP answers, without a note
+-- PINGREQ (5.4.19 and 6.14): one that names another client has no session. Of an active client PINGRESP answers it, without a note. One
+-- that names its client wakes it where it sleeps: what waited is handed over, and PINGRESP says that nothing is left; an awake client goes on.
+-- Else it is out of turn and noted alone
+abbrev pub ping_awake : List Row → Address → List ℕ → List Out
+ping_awake h from id =
+    if is_asleep (phase_of id h)
+    then handed_awake true (mailing h id from) (waits_for id h)
+    else (if is_awake (phase_of id h) then [] else out_of_turn id)
+
 abbrev pub ping_answer : List Row → Address → Option (List ℕ) → List ℕ → List Out
 ping_answer h from named id =
     if names_another named id
     then Note (note.Frame (who.Client id) (Denied NoSession)) ∷ bye from ∷ []
-    else (if is_active (phase_of id h) then Send from (written frame.PingResponse) ∷ [] else Note (note.Frame (who.Client id) (Denied OutOfTurn)) ∷ [])
+    else (if is_active (phase_of id h) then Send from (written frame.PingResponse) ∷ []
+    else (if is_some named then ping_awake h from id else out_of_turn id))
+
+-- DISCONNECT with Duration (5.4.21 and 6.14): the client falls asleep, which DISCONNECT answers; while its dialogue is open that is out of turn
+abbrev pub sleep_answer : List Row → Address → List ℕ → List Out
+sleep_answer h from id = if is_awaiting (phase_of id h) then bye from ∷ [] else out_of_turn id
 
 -- DISCONNECT without Duration (5.4.21): the client leaves, is answered by DISCONNECT, and what waits for it is gone
 abbrev pub leave_answer : List Row → Address → List ℕ → List Out

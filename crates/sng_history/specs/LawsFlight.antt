@@ -121,7 +121,7 @@ AreNext given (packet_id ∷ []) = packet_id ≡ next_given given
 AreNext given (packet_id ∷ another ∷ ids) = ⊥
 
 -- the packets of items that leave, in order: of a publish the one that follows its note, for an acknowledgement the PUBACK with its packet
--- id (MQTT 3.1.1, 3.4), a SUBSCRIBE where its filter stands for somebody then, and an UNSUBSCRIBE where its filter stands for nobody. A
+-- id (MQTT 3.1.1, 3.4), a PINGREQ (3.12), a SUBSCRIBE where its filter stands for somebody then, and an UNSUBSCRIBE where its filter stands for nobody. A
 -- publish at QoS 1, a SUBSCRIBE and an UNSUBSCRIBE have each the next packet id
 abbrev pub PacketsFor : (List ℕ → Bool) → Given → List Item → List Departure → List (List ℕ) → Type 0
 PacketsFor held given [] ds sent = sent ≡ []
@@ -139,7 +139,8 @@ PacketsFor held given (item.Unsubscribe text ∷ items) ds sent =
     (rest : List (List ℕ))
     × ((sent ≡ (if held text then rest else unsubscribe_with (next_given given) text ∷ rest))
     × PacketsFor held (if held text then given else given_unsubscribe given) items ds rest)
-PacketsFor held given (item.Ping ∷ items) ds sent = PacketsFor held given items ds sent
+PacketsFor held given (item.Ping ∷ items) ds sent =
+    (rest : List (List ℕ)) × ((sent ≡ written packet.PingRequest ∷ rest) × PacketsFor held given items ds rest)
 
 -- a SUBSCRIBE of each filter, in order, each with the next packet id
 abbrev pub subscribes_with : Given → List (List ℕ) → List (List ℕ)

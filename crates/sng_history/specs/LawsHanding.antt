@@ -17,7 +17,10 @@ use Rattle.sng_frames.specs.declared.flags.TopicIdType.TheVariants.{Normal, Pred
 use Rattle.sng_frames.specs.declared.qos.FrameQos.{FrameQos}
 use Rattle.sng_frames.specs.declared.qos.FrameQos.TheVariants as qos
 use Rattle.sng_frames.specs.declared.messages.acks.TopicAck.{TopicAck}
+use Rattle.sng_frames.specs.declared.messages.connect.Connect.{Connect}
 use Rattle.sng_frames.specs.declared.frame.SnFrame.TheVariants as frame
+use Rattle.sng_states.specs.declared.state.ClientState.{ClientState}
+use Rattle.sng_states.specs.declared.state.ClientState.TheVariants.{Dialogue, Active, Asleep, Awake, Disconnected, Lost}
 use Rattle.sng_book.specs.Denials.{is_allowed}
 use Rattle.sng_book.specs.declared.address.Address.{Address}
 use Rattle.sng_book.specs.declared.decision.Decision.{Decision}
@@ -129,6 +132,22 @@ abbrev pub handed_out : Mailing → List Message → List Out
 handed_out c [] = []
 handed_out c (m ∷ more) = handed_one c m (judged (hand_rules c m.name)) (handed_out c more)
 
+-- whether it ends with something open: an announcement, or a message at QoS 1
+abbrev pub opens_by : Mailing → Message → Outcome → Bool → Bool
+opens_by c m (Denied rule) rest = rest
+opens_by c m Allowed rest = if knows c m.name then is_at_least_once m.qos || rest else true
+
+abbrev pub opens : Mailing → List Message → Bool
+opens c [] = false
+opens c (m ∷ more) = opens_by c m (judged (hand_rules c m.name)) (opens c more)
+
+-- an awake client for which nothing is open then, so that nothing waits either, is told so by PINGRESP, and sleeps again (6.14)
+abbrev pub pong_to : Address → Out
+pong_to to = Send to (written frame.PingResponse)
+
+abbrev pub handed_awake : Bool → Mailing → List Message → List Out
+handed_awake awake c ms = handed_out c ms ++ (if awake && not (opens c ms) then pong_to c.address ∷ [] else [])
+
 -- as the rows show it
 abbrev pub mailing : List Row → List ℕ → Address → Mailing
 mailing h id to = record {
@@ -146,12 +165,26 @@ mailing h id to = record {
 abbrev pub gone_answer : List Row → List ℕ → List Out
 gone_answer h id = map (λ m. Note (note.Hand id m.name (Denied Gone))) (waits_for id h)
 
--- what waits for one that connects: a clean CONNECT drops it before CONNACK, else it is handed over behind it; no topic id is known
-abbrev pub around_connack : List Row → Address → List ℕ → Bool → Out → List Out
-around_connack h from id true ack = gone_answer h id ++ ack ∷ []
-around_connack h from id false ack = ack ∷ handed_out (record (mailing h id from) { told = []; known = [] }) (waits_for id h)
+-- what waits for one that connects: a clean CONNECT drops it before its answer; else it is handed over behind CONNACK, and no topic id is
+-- known, but with Will it goes on waiting
+abbrev pub around_welcome : List Row → Address → Connect → Out → List Out
+around_welcome h from c ack =
+    if c.flags.clean
+    then gone_answer h c.client_id ++ ack ∷ []
+    else (if c.flags.will
+    then ack ∷ []
+    else ack ∷ handed_out (record (mailing h c.client_id from) { told = []; known = [] }) (waits_for c.client_id h))
 
 -- ---- REGACK and PUBACK of a client (5.4.11, 5.4.13, 6.5 and 6.6)
+
+abbrev pub is_awake : Option ClientState → Bool
+is_awake None = false
+is_awake (Some Awake) = true
+is_awake (Some Active) = false
+is_awake (Some Asleep) = false
+is_awake (Some Dialogue) = false
+is_awake (Some Disconnected) = false
+is_awake (Some Lost) = false
 
 abbrev pub out_of_turn : List ℕ → List Out
 out_of_turn id = Note (note.Frame (who.Client id) (Denied OutOfTurn)) ∷ []
@@ -168,13 +201,15 @@ regack_answer h from r id =
     let c = mailing h id from in
     if regack_has_turn id now h r
     then (if r.code.0 == 0
-    then handed_out (record c { known = with_name (name_announced now.unanswered) c.known }) (waits_for id h)
-    else refused_by id r.code.0 (waits_for id h) ++ handed_out c (drop 1 (waits_for id h)))
+    then handed_awake (is_awake (phase_of id h)) (record c { known = with_name (name_announced now.unanswered) c.known }) (waits_for id h)
+    else refused_by id r.code.0 (waits_for id h) ++ handed_awake (is_awake (phase_of id h)) c (drop 1 (waits_for id h)))
     else out_of_turn id
 
 abbrev pub puback_answer : List Row → Address → TopicAck → List ℕ → List Out
 puback_answer h from r id =
-    if puback_has_turn id (progress_of id h) h r then handed_out (mailing h id from) (waits_for id h) else out_of_turn id
+    if puback_has_turn id (progress_of id h) h r
+    then handed_awake (is_awake (phase_of id h)) (mailing h id from) (waits_for id h)
+    else out_of_turn id
 
 -- ---- a message of the broker (MQTT 3.1.1, 3.3)
 
@@ -264,7 +299,7 @@ IsDenial policy id name (Full place.Subscriptions) = ⊥
 IsDenial policy id name (Full place.InFlight) = ⊥
 IsDenial policy id name (Full place.Outbox) = ⊥
 
--- and so is a note that a message was handed over, or an id of its name announced
+-- and so is a note that a message was handed over, an id of its name announced, or what is open sent again or not
 abbrev pub IsJudged : Policy → Decision → Type 0
 IsJudged policy (note.Hand id name Allowed) = judged (receive_rules policy id name) ≡ Allowed
 IsJudged policy (note.Hand id name (Denied rule)) = IsDenial policy id name rule
@@ -276,7 +311,8 @@ IsJudged policy (note.Publish whom name outcome) = Unit {0}
 IsJudged policy (note.Subscribe whom filter outcome) = Unit {0}
 IsJudged policy (note.Unsubscribe whom filter outcome) = Unit {0}
 IsJudged policy (note.Will whom name outcome) = Unit {0}
-IsJudged policy (note.Retry client name outcome) = Unit {0}
+IsJudged policy (note.Retry client name Allowed) = judged (receive_rules policy client name) ≡ Allowed
+IsJudged policy (note.Retry client name (Denied rule)) = judged (receive_rules policy client name) ≡ Denied rule
 IsJudged policy (note.Forward whom name outcome) = Unit {0}
 IsJudged policy (note.Again whom name outcome) = Unit {0}
 IsJudged policy (note.End client filter outcome) = Unit {0}

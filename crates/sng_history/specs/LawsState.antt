@@ -1,27 +1,28 @@
 -- What is kept of a client, in the views' words.
 use Rattle.std.specs.Prelude.{ℕ, ◌≡◌, ◌≤◌, false, List, [], ◌∷◌, ◌++◌, map, length, Option, Some, None}
 use Rattle.sng_book.specs.declared.row.Row.{Row}
-use Rattle.sng_queue.specs.declared.kind.TopicIdKind.{TopicIdKind}
 use Rattle.sng_queue.specs.declared.exchange.Exchange.{Exchange}
 use Rattle.sng_queue.specs.declared.exchange.Exchange.TheVariants.{Announcing, Acknowledging}
 use Rattle.sng_queue.specs.declared.exchange.Sending.{Sending}
-use Rattle.sng_wills.specs.declared.will.Stage.TheVariants.{Closed}
 use Rattle.sng_history.specs.Clients.{Client}
 use Rattle.sng_history.specs.Links.{Link}
-use Rattle.sng_history.specs.Views.{began}
 use Rattle.sng_history.specs.ViewsClients.{phase_of, address_of, duration_of, heard_of, is_among, names_told, id_told}
 use Rattle.sng_history.specs.ViewsHanding.{Opening, Announced, HandedOver, waits_for, progress_of, number_of, names_known}
+use Rattle.sng_history.specs.ViewsSendings.{Last, last_of}
 use Rattle.sng_history.specs.ViewsFlight.{in_flight, last_id}
+use Rattle.sng_history.specs.ViewsLink.{pinged}
+use Rattle.sng_history.specs.ViewsWills.{stating_of, will_of, stage_shown}
 use Rattle.sng_history.specs.ViewsStanding.{standing_of, wanted}
 
--- the exchange is what the rows show to be open: the announcement of a name, with its topic id and its MsgId, or a message that was handed
--- over, with its MsgId
-abbrev pub IsOpen : Option Opening → List (List ℕ) → ℕ → Option Exchange → Type 0
-IsOpen None told number exchange = exchange ≡ None
-IsOpen (Some (Announced name)) told number exchange =
-    (sent : Sending) × ((exchange ≡ Some (Announcing sent)) × ((sent.topic_id ≡ id_told name told) × (sent.msg_id ≡ number)))
-IsOpen (Some (HandedOver m)) told number exchange =
-    (sent : Sending) × ((kind : TopicIdKind) × ((exchange ≡ Some (Acknowledging sent kind m)) × (sent.msg_id ≡ number)))
+-- the exchange is what the rows show to be open: the announcement of a name, or a message that was handed over, with the topic id and the
+-- MsgId of its first sending, the clock of its last one, and how often it was sent again
+abbrev pub sending_shown : ℕ → ℕ → Last → Sending
+sending_shown topic_id number last = record { topic_id = topic_id; msg_id = number; sent = last.at; tries = last.tries }
+
+abbrev pub exchange_shown : Option Opening → List (List ℕ) → ℕ → Last → Option Exchange
+exchange_shown None told number last = None
+exchange_shown (Some (Announced name)) told number last = Some (Announcing (sending_shown (id_told name told) number last))
+exchange_shown (Some (HandedOver m)) told number last = Some (Acknowledging (sending_shown last.topic_id number last) last.kind m)
 
 -- what is kept of a client is what the rows show of it
 pub record ClientShown (h : List Row) (x : Client) : Type 0 where
@@ -35,19 +36,18 @@ pub record ClientShown (h : List Row) (x : Client) : Type 0 where
   -- what waits for it, the MsgId that it was given last, and what is open with it
   pub waiting : x.buffer.waiting ≡ waits_for x.id h
   pub number : x.number ≡ number_of x.id h
-  pub exchange : IsOpen (progress_of x.id h).unanswered (names_told x.id h) x.number x.buffer.exchange
+  pub exchange : x.buffer.exchange ≡ exchange_shown (progress_of x.id h).unanswered (names_told x.id h) (number_of x.id h) (last_of x.id h)
+  -- its will, and how far the dialogue about it has come
+  pub will : x.wills.will ≡ will_of x.id h
+  pub stage : x.wills.stage ≡ stage_shown (phase_of x.id h) (stating_of x.id h).awaited
 
 -- what the link holds beside what waits: the publishes in flight, the packet id that was given last, the filters that are wanted and when
--- the connection began are what the rows show
+-- the connection began or was kept alive last are what the rows show
 pub record RestShown (h : List Row) (link : Link) : Type 0 where
   pub in_flight : link.in_flight ≡ in_flight h
   pub last : link.last ≡ last_id h
   pub wanted : link.wanted ≡ wanted h
-  pub pinged : link.pinged ≡ began h
-
--- what nothing moves of a client yet: it has no will
-pub record Untold (x : Client) : Type 0 where
-  pub wills : x.wills ≡ record { stage = Closed; will = None }
+  pub pinged : link.pinged ≡ pinged h
 
 -- no name stands twice
 abbrev pub NoneTwice : List (List ℕ) → Type 0

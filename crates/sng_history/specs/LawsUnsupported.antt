@@ -1,5 +1,5 @@
 -- The messages that are not supported: how each is noted, and what acknowledges it.
-use Rattle.std.specs.Prelude.{ℕ, Bool, true, false, List, [], ◌∷◌, map, None, is_some}
+use Rattle.std.specs.Prelude.{ℕ, Bool, true, false, List, [], ◌∷◌, map, None}
 use Rattle.sng_frames.specs.Writing.{written}
 use Rattle.sng_frames.specs.declared.flags.Flags.{Flags}
 use Rattle.sng_frames.specs.declared.flags.TopicIdType.TheVariants.{Normal}
@@ -25,18 +25,19 @@ is_exactly_once qos.AtMostOnce = false
 is_exactly_once qos.AtLeastOnce = false
 is_exactly_once qos.WithoutSession = false
 
--- all but CONNECT, REGISTER, SUBSCRIBE, UNSUBSCRIBE, PINGREQ, DISCONNECT without Duration, and PUBLISH of another QoS than 2
+-- all but CONNECT, REGISTER, SUBSCRIBE, UNSUBSCRIBE, REGACK, PUBACK, PINGREQ, DISCONNECT, PUBLISH of another QoS than 2,
+-- and what a client states of its will
 abbrev pub is_unsupported : SnFrame → Bool
 is_unsupported (frame.Connect connect) = false
 is_unsupported (frame.Register register) = false
 is_unsupported (frame.PingRequest client) = false
-is_unsupported (frame.Disconnect duration) = is_some duration
+is_unsupported (frame.Disconnect duration) = false
 is_unsupported (frame.Publish p) = is_exactly_once p.flags.qos
 is_unsupported (frame.ConnectAck code) = true
 is_unsupported frame.WillTopicRequest = true
-is_unsupported (frame.WillTopic topic) = true
+is_unsupported (frame.WillTopic topic) = false
 is_unsupported frame.WillMessageRequest = true
-is_unsupported (frame.WillMessage message) = true
+is_unsupported (frame.WillMessage message) = false
 is_unsupported (frame.RegisterAck answer) = false
 is_unsupported (frame.PublishAck answer) = false
 is_unsupported (frame.PublishComplete id) = true
@@ -47,9 +48,9 @@ is_unsupported (frame.SubscribeAck answer) = true
 is_unsupported (frame.Unsubscribe request) = false
 is_unsupported (frame.UnsubscribeAck id) = true
 is_unsupported frame.PingResponse = true
-is_unsupported (frame.WillTopicUpdate topic) = true
+is_unsupported (frame.WillTopicUpdate topic) = false
 is_unsupported (frame.WillTopicResponse code) = true
-is_unsupported (frame.WillMessageUpdate message) = true
+is_unsupported (frame.WillMessageUpdate message) = false
 is_unsupported (frame.WillMessageResponse code) = true
 
 -- an ask is noted under its own kind, any other message as a frame

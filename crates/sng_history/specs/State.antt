@@ -32,6 +32,7 @@ use Rattle.sng_history.specs.Notes.{notes_of, exits_in}
 use Rattle.sng_history.specs.Links.{Link, Wanted, idle, wants, link_after, resumed, filters_wanted, subscribes_sent}
 use Rattle.sng_history.specs.Packets.{answer_of, acknowledgements, answered}
 use Rattle.sng_history.specs.Standing.{released, unsubscribes, still_wanted}
+use Rattle.sng_history.specs.Ticking.{ticked}
 
 -- the policy in force, the clock in ms, whether the broker's connection is up, the link, and the clients, in the order in which each was
 -- accepted first
@@ -211,7 +212,7 @@ asked_in ByTake outs = []
 asked_in (ByReplace policy) outs = []
 asked_in (ByTick clock) outs = []
 
--- a take while up leaves nothing; a lost connection, and a new one, leave the publishes alone; else what was asked for joins what waits,
+-- a take while up leaves nothing, and a tick lets the wills of lost clients and a PINGREQ wait; a lost connection, and a new one, leave the publishes alone; else what was asked for joins what waits,
 -- and behind it the broker is told of filters that stand for nobody any more. The last list are the clients after the row
 abbrev pub waiting_by : State → Cause → List Item → List Client → List Item
 waiting_by s (ByMessage from request) asked after = s.link.waiting ++ (asked ++ unsubscribes s.link (released s.clients after))
@@ -223,7 +224,7 @@ waiting_by s (ByPacket p) asked after = s.link.waiting ++ acknowledgements s.up 
 waiting_by s ByUp asked after = if s.up then publishes s.link.waiting else s.link.waiting
 waiting_by s ByDown asked after = publishes s.link.waiting
 waiting_by s ByTake asked after = if s.up then [] else s.link.waiting
-waiting_by s (ByTick clock) asked after = s.link.waiting
+waiting_by s (ByTick clock) asked after = (ticked s.up s.link (later s.clock clock) s.clients).waiting
 
 -- what leaves at a take while up moves the link, and a packet of the broker may answer what was sent. As a connection begins, what is in
 -- flight and denied now is forgotten, and each filter that is wanted is subscribed anew
@@ -237,7 +238,7 @@ link_moved s ByUp outcomes = subscribes_sent (resumed s.link s.clock outcomes) (
 link_moved s ByDown outcomes = s.link
 link_moved s ByTake outcomes = if s.up then link_after s.link s.link.waiting outcomes else s.link
 link_moved s (ByReplace policy) outcomes = s.link
-link_moved s (ByTick clock) outcomes = s.link
+link_moved s (ByTick clock) outcomes = ticked s.up s.link (later s.clock clock) s.clients
 
 -- a filter that is not wanted yet comes last
 abbrev pub with_wanted : List Wanted → List ℕ → List Wanted

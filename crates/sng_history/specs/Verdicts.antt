@@ -6,7 +6,7 @@ use Rattle.std.specs.Str.{bytes_eq}
 use Rattle.std.specs.declared.result.Result.{Result}
 use Rattle.sng_text.specs.Texts.{is_name, is_filter}
 use Rattle.sng_text.specs.declared.qos.Qos.{Qos}
-use Rattle.sng_text.specs.declared.qos.Qos.TheVariants.{AtMostOnce, AtLeastOnce}
+use Rattle.sng_text.specs.declared.qos.Qos.TheVariants.{AtMostOnce}
 use Rattle.sng_grants.specs.declared.policy.Policy.{Policy}
 use Rattle.sng_policy.specs.Grants.{publish_grant, source_grant, subscribe_grant, lists, lists_source, topic}
 use Rattle.sng_policy.specs.declared.grant.Grant.{Grant}
@@ -16,8 +16,6 @@ use Rattle.sng_frames.specs.declared.messages.publish.Publish.{Publish}
 use Rattle.sng_frames.specs.declared.messages.subscribe.TopicRequest.{TopicRequest}
 use Rattle.sng_frames.specs.declared.flags.TopicIdType.{TopicIdType}
 use Rattle.sng_frames.specs.declared.flags.TopicIdType.TheVariants.{Normal, Predefined, Short, Reserved}
-use Rattle.sng_outbox.specs.Sending.{load}
-use Rattle.sng_outbox.specs.declared.limits.TheConstants.{MAX_IN_FLIGHT}
 use Rattle.sng_outbox.specs.declared.origin.Origin.{Origin}
 use Rattle.sng_outbox.specs.declared.origin.Origin.TheVariants as origin
 use Rattle.sng_book.specs.declared.decision.Decision.{Decision}
@@ -31,13 +29,14 @@ use Rattle.sng_book.specs.declared.outcome.Outcome.{Outcome}
 use Rattle.sng_book.specs.declared.outcome.Outcome.TheVariants.{Allowed, Denied}
 use Rattle.sng_fan.specs.Subscriptions.{is_full}
 use Rattle.sng_ids.specs.Ids.{Ids, name_of, is_full_for}
+use Rattle.sng_states.specs.States.{is_due_messages}
 use Rattle.sng_states.specs.declared.state.ClientState.{ClientState}
 use Rattle.sng_states.specs.declared.state.ClientState.TheVariants.{Dialogue, Active, Asleep, Awake, Disconnected, Lost}
 use Rattle.sng_history.specs.declared.limits.TheConstants.{MAX_CLIENTS}
 use Rattle.sng_history.specs.Clients.{Client}
-use Rattle.sng_history.specs.Links.{Link}
 use Rattle.sng_history.specs.Packets.{has_place}
 use Rattle.sng_history.specs.Requests.{gets_id, id_in}
+use Rattle.sng_history.specs.Room.{room_in}
 use Rattle.sng_history.specs.State.{State, is_known, qos_of}
 
 -- the policy does not list who asks
@@ -64,15 +63,7 @@ abbrev pub and_then : Outcome → Outcome → Outcome
 and_then Allowed next = next
 and_then (Denied denial) next = Denied denial
 
--- one more publish at this QoS may wait or be in flight
-abbrev pub has_flight : Link → Qos → Bool
-has_flight link AtMostOnce = true
-has_flight link AtLeastOnce = nat_lt (load (record { waiting = link.waiting; in_flight = link.in_flight })) MAX_IN_FLIGHT
-
--- whether there is a connection, and room for one more publish at this QoS: among those in flight, then in the outbox
-abbrev pub room_in : Link → Qos → Outcome
-room_in link q = if has_flight link q then (if has_place link then Allowed else Denied (Full place.Outbox)) else Denied (Full place.InFlight)
-
+-- whether there is a connection, and room for one more publish at this QoS
 abbrev pub room : State → Qos → Outcome
 room s q = if s.up then room_in s.link q else Denied UpstreamDown
 
@@ -118,9 +109,9 @@ source_ask s source p =
     then named_ask s source (name_in s.policy None p.flags.id_type p.topic_id)
     else note.Publish (who.Source source) None (Denied UnknownSource)
 
--- the CONNECT is of MQTT-SN 1.2, whose ProtocolId is 1; one that asks for a will is not taken yet
+-- the CONNECT is of MQTT-SN 1.2, whose ProtocolId is 1
 abbrev pub entry_form : Connect → Outcome
-entry_form c = if (c.protocol_id == 1) && not c.flags.will then Allowed else Denied NotSupported
+entry_form c = if c.protocol_id == 1 then Allowed else Denied NotSupported
 
 -- the policy lists the client
 abbrev pub client_scope : Policy → List ℕ → Outcome
@@ -145,7 +136,7 @@ is_active Awake = false
 is_active Disconnected = false
 is_active Lost = false
 
--- a message of a client has its turn where the client is active; a client does not sleep yet
+-- a message of a client has its turn where the client is active
 abbrev pub in_turn : Client → Outcome
 in_turn x = if is_active x.phase then Allowed else Denied OutOfTurn
 
@@ -154,8 +145,13 @@ abbrev pub names_other : Option (List ℕ) → List ℕ → Bool
 names_other None own = false
 names_other (Some id) own = not (bytes_eq id own)
 
+-- one that names its client has its turn also where the client sleeps, or is awake
+abbrev pub ping_turn : Option (List ℕ) → Client → Outcome
+ping_turn None x = in_turn x
+ping_turn (Some id) x = if is_due_messages x.phase then Allowed else Denied OutOfTurn
+
 abbrev pub ping_verdict : Option (List ℕ) → Client → Outcome
-ping_verdict client x = if names_other client x.id then Denied NoSession else in_turn x
+ping_verdict client x = if names_other client x.id then Denied NoSession else ping_turn client x
 
 -- ---- asks of a client
 

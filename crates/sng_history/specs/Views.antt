@@ -58,20 +58,6 @@ abbrev pub is_up : List Row → Bool
 is_up [] = false
 is_up (row ∷ earlier) = is_up_after row.event (is_up earlier)
 
--- the clock as the last connection began, 0 before any
-abbrev pub began_after : Event → ℕ → ℕ → ℕ
-began_after (Datagram from datagram) clock before = before
-began_after (Broker packet) clock before = before
-began_after Up clock before = clock
-began_after Down clock before = before
-began_after Take clock before = before
-began_after (Replace policy) clock before = before
-began_after (Tick now) clock before = before
-
-abbrev pub began : List Row → ℕ
-began [] = 0
-began (row ∷ earlier) = began_after row.event (clock_at earlier) (began earlier)
-
 -- the packets that a row sends to the broker
 abbrev pub wires_in : List Out → List (List ℕ)
 wires_in [] = []

@@ -1,14 +1,18 @@
 -- What the rows show of each client: its state, where it is, when it was heard last, who was accepted so far, and the names that a client
 -- was told topic ids of.
 use Rattle.std.specs.Prelude.{ℕ, ◌+◌, ◌==◌, Bool, true, false, ◌&&◌, ◌||◌, not, List, [], ◌∷◌, ◌++◌, filter, length, if◌then◌else◌, Option, Some, None}
+use Rattle.std.specs.List.{list_any}
 use Rattle.std.specs.Str.{bytes_eq}
 use Rattle.sng_text.specs.Texts.{is_name}
 use Rattle.sng_states.specs.declared.state.ClientState.{ClientState}
-use Rattle.sng_states.specs.declared.state.ClientState.TheVariants.{Active, Disconnected}
+use Rattle.sng_states.specs.declared.state.ClientState.TheVariants.{Dialogue, Active, Asleep, Awake, Disconnected, Lost}
 use Rattle.sng_states.specs.States.{has_session}
 use Rattle.sng_frames.specs.Reading.{frame_of}
+use Rattle.sng_frames.specs.Writing.{written}
+use Rattle.sng_frames.specs.declared.frame.SnFrame.TheVariants as frame
 use Rattle.sng_frames.specs.declared.flags.TopicIdType.{TopicIdType}
 use Rattle.sng_frames.specs.declared.flags.TopicIdType.TheVariants.{Normal, Predefined, Short, Reserved}
+use Rattle.sng_frames.specs.declared.messages.connect.Connect.{Connect}
 use Rattle.sng_frames.specs.declared.messages.subscribe.TopicRequest.{TopicRequest}
 use Rattle.sng_book.specs.Denials.{is_allowed}
 use Rattle.sng_book.specs.declared.address.Address.{Address}
@@ -23,44 +27,8 @@ use Rattle.sng_book.specs.declared.out.Out.TheVariants.{Send, Wire, Note}
 use Rattle.sng_book.specs.declared.row.Row.{Row}
 use Rattle.sng_history.specs.Clients.{same_address}
 use Rattle.sng_history.specs.Views.{clock_at}
-use Rattle.sng_history.specs.ViewsMessages.{Message, Connects, Registers, Publishes, Subscribes, Unsubscribes, Confirms, Acknowledges, Other, message_in, message_at, subscribe_in, is_without_session}
-
--- ---- the state of a client
-
--- a client that leaves is disconnected; one that was never accepted has no state
-abbrev pub left_from : Option ClientState → Option ClientState
-left_from None = None
-left_from (Some before) = Some Disconnected
-
--- a note sets the state of a client where it lets that client in, or says that it left
-abbrev pub phase_by : List ℕ → Decision → Option ClientState → Option ClientState
-phase_by id (note.Connect client outcome) before = if bytes_eq id client && is_allowed outcome then Some Active else before
-phase_by id (note.Left client) before = if bytes_eq id client then left_from before else before
-phase_by id (note.Register who name outcome) before = before
-phase_by id (note.Publish who name outcome) before = before
-phase_by id (note.Subscribe who filter outcome) before = before
-phase_by id (note.Unsubscribe who filter outcome) before = before
-phase_by id (note.Will who name outcome) before = before
-phase_by id (note.Announce client name) before = before
-phase_by id (note.Hand client name outcome) before = before
-phase_by id (note.Retry client name outcome) before = before
-phase_by id (note.Forward who name outcome) before = before
-phase_by id (note.Again who name outcome) before = before
-phase_by id (note.End client filter outcome) before = before
-phase_by id (note.Lost client) before = before
-phase_by id note.Outbox before = before
-phase_by id (note.Frame who outcome) before = before
-
-abbrev pub phase_after : List ℕ → List Out → Option ClientState → Option ClientState
-phase_after id [] before = before
-phase_after id (Note said ∷ outs) before = phase_after id outs (phase_by id said before)
-phase_after id (Send to datagram ∷ outs) before = phase_after id outs before
-phase_after id (Wire packet ∷ outs) before = phase_after id outs before
-
--- the state of a client: none before it was accepted first, then what the last note that sets it says
-abbrev pub phase_of : List ℕ → List Row → Option ClientState
-phase_of id [] = None
-phase_of id (row ∷ earlier) = phase_after id row.outs (phase_of id earlier)
+use Rattle.sng_history.specs.ViewsMessages.{Message, Connects, Registers, Publishes, Subscribes, Unsubscribes, Confirms, Acknowledges, States, Pings, Sleeps, Other, message_in, message_at, subscribe_in, statement_in, connect_in, is_without_session}
+use Rattle.sng_history.specs.Causes.{Statement, StatesTopic, StatesMessage, UpdatesTopic, UpdatesMessage}
 
 -- ---- where it is
 
@@ -110,6 +78,143 @@ is_there None place from = false
 is_there (Some phase) None from = false
 is_there (Some phase) (Some place) from = has_session phase && same_address place from
 
+-- ---- the state of a client
+
+-- the note is of that client
+abbrev pub speaks_of : List ℕ → Who → Bool
+speaks_of id (who.Client client) = bytes_eq id client
+speaks_of id (who.Source source) = false
+speaks_of id (who.Address address) = false
+speaks_of id who.Broker = false
+
+-- a client that leaves is disconnected, and one that is lost is lost; one that was never accepted has no state
+abbrev pub left_from : Option ClientState → Option ClientState
+left_from None = None
+left_from (Some before) = Some Disconnected
+
+abbrev pub lost_from : Option ClientState → Option ClientState
+lost_from None = None
+lost_from (Some before) = Some Lost
+
+-- a CONNECT with Will opens a dialogue, and any other makes its client active (MQTT-SN 1.2, 6.2 and 6.3)
+abbrev pub phase_entered : Option Connect → ClientState
+phase_entered None = Active
+phase_entered (Some connect) = if connect.flags.will then Dialogue else Active
+
+-- the dialogue is over with a WILLMSG, and with a WILLTOPIC that has no topic
+abbrev pub ends_dialogue : Option Statement → Bool
+ends_dialogue None = false
+ends_dialogue (Some (StatesTopic None)) = true
+ends_dialogue (Some (StatesTopic (Some w))) = false
+ends_dialogue (Some (StatesMessage message)) = true
+ends_dialogue (Some (UpdatesTopic topic)) = false
+ends_dialogue (Some (UpdatesMessage message)) = false
+
+-- a note sets the state of a client where it lets that client in, allows what ends the dialogue about its will, or says that it left or is
+-- lost
+abbrev pub phase_by : Option Message → List ℕ → Decision → Option ClientState → Option ClientState
+phase_by m id (note.Connect client outcome) before =
+    if bytes_eq id client && is_allowed outcome then Some (phase_entered (connect_in m)) else before
+phase_by m id (note.Will whom name outcome) before =
+    if speaks_of id whom && (is_allowed outcome && ends_dialogue (statement_in m)) then Some Active else before
+phase_by m id (note.Left client) before = if bytes_eq id client then left_from before else before
+phase_by m id (note.Lost client) before = if bytes_eq id client then lost_from before else before
+phase_by m id (note.Register whom name outcome) before = before
+phase_by m id (note.Publish whom name outcome) before = before
+phase_by m id (note.Subscribe whom filter outcome) before = before
+phase_by m id (note.Unsubscribe whom filter outcome) before = before
+phase_by m id (note.Announce client name) before = before
+phase_by m id (note.Hand client name outcome) before = before
+phase_by m id (note.Retry client name outcome) before = before
+phase_by m id (note.Forward whom name outcome) before = before
+phase_by m id (note.Again whom name outcome) before = before
+phase_by m id (note.End client filter outcome) before = before
+phase_by m id note.Outbox before = before
+phase_by m id (note.Frame whom outcome) before = before
+
+abbrev pub phase_after : Option Message → List ℕ → List Out → Option ClientState → Option ClientState
+phase_after m id [] before = before
+phase_after m id (Note said ∷ outs) before = phase_after m id outs (phase_by m id said before)
+phase_after m id (Send to datagram ∷ outs) before = phase_after m id outs before
+phase_after m id (Wire packet ∷ outs) before = phase_after m id outs before
+
+-- messages for the client wait for it: it is connected or sleeps, and no dialogue is open (MQTT-SN 1.2, 6.14)
+abbrev pub is_awaiting : Option ClientState → Bool
+is_awaiting None = false
+is_awaiting (Some Active) = true
+is_awaiting (Some Asleep) = true
+is_awaiting (Some Awake) = true
+is_awaiting (Some Dialogue) = false
+is_awaiting (Some Disconnected) = false
+is_awaiting (Some Lost) = false
+
+-- an own message before any note: a PINGREQ that names it wakes a client that sleeps, and by a DISCONNECT with Duration it falls asleep, where
+-- messages wait for it
+abbrev pub is_asleep : Option ClientState → Bool
+is_asleep None = false
+is_asleep (Some Asleep) = true
+is_asleep (Some Active) = false
+is_asleep (Some Awake) = false
+is_asleep (Some Dialogue) = false
+is_asleep (Some Disconnected) = false
+is_asleep (Some Lost) = false
+
+abbrev pub woken : List ℕ → Option (List ℕ) → Option ClientState → Option ClientState
+woken id None before = before
+woken id (Some named) before = if bytes_eq named id && is_asleep before then Some Awake else before
+
+abbrev pub phase_spoken : List ℕ → Option Message → Option ClientState → Option ClientState
+phase_spoken id (Some (Pings client)) before = woken id client before
+phase_spoken id (Some (Sleeps duration)) before = if is_awaiting before then Some Asleep else before
+phase_spoken id (Some (Connects connect)) before = before
+phase_spoken id (Some (Registers r)) before = before
+phase_spoken id (Some (Publishes p)) before = before
+phase_spoken id (Some (Subscribes r)) before = before
+phase_spoken id (Some (Unsubscribes r)) before = before
+phase_spoken id (Some (Confirms r)) before = before
+phase_spoken id (Some (Acknowledges r)) before = before
+phase_spoken id (Some (States statement)) before = before
+phase_spoken id (Some Other) before = before
+phase_spoken id None before = before
+
+-- the message that the event is, where it comes from where the client is
+abbrev pub own_message : Option ClientState → Option Address → Event → Option Message
+own_message phase place (Datagram from datagram) = if is_there phase place from then message_in (frame_of datagram) else None
+own_message phase place (Broker packet) = None
+own_message phase place Up = None
+own_message phase place Down = None
+own_message phase place Take = None
+own_message phase place (Replace policy) = None
+own_message phase place (Tick clock) = None
+
+-- PINGRESP goes to the place
+abbrev pub is_pong_to : Option Address → Out → Bool
+is_pong_to None out = false
+is_pong_to (Some place) (Send to datagram) = same_address place to && bytes_eq datagram (written frame.PingResponse)
+is_pong_to (Some place) (Wire packet) = false
+is_pong_to (Some place) (Note said) = false
+
+abbrev pub is_ponged : Option Address → List Out → Bool
+is_ponged place outs = list_any (is_pong_to place) outs
+
+-- an awake client is told by PINGRESP that nothing is left for it, and sleeps again
+abbrev pub put_to_sleep : Bool → Option ClientState → Option ClientState
+put_to_sleep ponged None = None
+put_to_sleep ponged (Some Awake) = if ponged then Some Asleep else Some Awake
+put_to_sleep ponged (Some Dialogue) = Some Dialogue
+put_to_sleep ponged (Some Active) = Some Active
+put_to_sleep ponged (Some Asleep) = Some Asleep
+put_to_sleep ponged (Some Disconnected) = Some Disconnected
+put_to_sleep ponged (Some Lost) = Some Lost
+
+-- the state of a client: none before it was accepted first, then what its own message, the notes, and PINGRESP make of it
+abbrev pub phase_of : List ℕ → List Row → Option ClientState
+phase_of id [] = None
+phase_of id (row ∷ earlier) =
+    put_to_sleep (is_ponged (address_of id earlier) row.outs)
+    (phase_after (message_at row.event) id row.outs
+    (phase_spoken id (own_message (phase_of id earlier) (address_of id earlier) row.event) (phase_of id earlier)))
+
 -- the client has a session, and the address is where it is
 abbrev pub is_at : List ℕ → Address → List Row → Bool
 is_at id from h = is_there (phase_of id h) (address_of id h) from
@@ -124,6 +229,9 @@ duration_by (Some (Unsubscribes r)) = None
 duration_by (Some (Publishes p)) = None
 duration_by (Some (Confirms r)) = None
 duration_by (Some (Acknowledges r)) = None
+duration_by (Some (States statement)) = None
+duration_by (Some (Pings client)) = None
+duration_by (Some (Sleeps duration)) = None
 duration_by (Some Other) = None
 duration_by None = None
 
@@ -137,10 +245,28 @@ stated_in Take = None
 stated_in (Replace policy) = None
 stated_in (Tick clock) = None
 
--- the Duration of the client's last accepted CONNECT
+-- the Duration with which it falls asleep, by an own message
+abbrev pub slept_for : Option Message → Option ClientState → Option ℕ → Option ℕ
+slept_for (Some (Sleeps duration)) phase before = if is_awaiting phase then Some duration else before
+slept_for (Some (Connects connect)) phase before = before
+slept_for (Some (Registers r)) phase before = before
+slept_for (Some (Publishes p)) phase before = before
+slept_for (Some (Subscribes r)) phase before = before
+slept_for (Some (Unsubscribes r)) phase before = before
+slept_for (Some (Confirms r)) phase before = before
+slept_for (Some (Acknowledges r)) phase before = before
+slept_for (Some (States statement)) phase before = before
+slept_for (Some (Pings client)) phase before = before
+slept_for (Some Other) phase before = before
+slept_for None phase before = before
+
+-- the Duration of the client's last accepted CONNECT, or of its last sleep since
 abbrev pub duration_of : List ℕ → List Row → Option ℕ
 duration_of id [] = None
-duration_of id (row ∷ earlier) = if is_admitted id row.outs then stated_in row.event else duration_of id earlier
+duration_of id (row ∷ earlier) =
+    if is_admitted id row.outs
+    then stated_in row.event
+    else slept_for (own_message (phase_of id earlier) (address_of id earlier) row.event) (phase_of id earlier) (duration_of id earlier)
 
 -- a session's message: any but a PUBLISH without a session
 abbrev pub is_spoken : Option Message → Bool
@@ -151,6 +277,9 @@ is_spoken (Some (Unsubscribes r)) = true
 is_spoken (Some (Publishes p)) = not (is_without_session p.flags.qos)
 is_spoken (Some (Confirms r)) = true
 is_spoken (Some (Acknowledges r)) = true
+is_spoken (Some (States statement)) = true
+is_spoken (Some (Pings client)) = true
+is_spoken (Some (Sleeps duration)) = true
 is_spoken (Some Other) = true
 is_spoken None = false
 
@@ -185,6 +314,9 @@ accepted_by ids (Some (Subscribes r)) outs = []
 accepted_by ids (Some (Unsubscribes r)) outs = []
 accepted_by ids (Some (Confirms r)) outs = []
 accepted_by ids (Some (Acknowledges r)) outs = []
+accepted_by ids (Some (States statement)) outs = []
+accepted_by ids (Some (Pings client)) outs = []
+accepted_by ids (Some (Sleeps duration)) outs = []
 accepted_by ids (Some Other) outs = []
 accepted_by ids None outs = []
 
@@ -207,13 +339,6 @@ abbrev pub those_at : Address → List Row → List (List ℕ)
 those_at from h = filter (λ id. is_at id from h) (accepted h)
 
 -- ---- the names that it was told topic ids of
-
--- the note is of that client
-abbrev pub speaks_of : List ℕ → Who → Bool
-speaks_of id (who.Client client) = bytes_eq id client
-speaks_of id (who.Source source) = false
-speaks_of id (who.Address address) = false
-speaks_of id who.Broker = false
 
 -- a name that was not told yet comes last
 abbrev pub with_name : Option (List ℕ) → List (List ℕ) → List (List ℕ)

@@ -1,6 +1,6 @@
 -- What the rows show of the messages of the broker for a client: which were due to it, how many were settled and how, what waits, and what is
 -- open with it.
-use Rattle.std.specs.Prelude.{ℕ, ◌+◌, ◌-◌, ◌==◌, ◌%◌, ◌&&◌, Bool, true, false, List, [], ◌∷◌, ◌++◌, length, drop, slice_get, if◌then◌else◌, Option, Some, None}
+use Rattle.std.specs.Prelude.{ℕ, ◌+◌, ◌-◌, ◌==◌, ◌%◌, ◌&&◌, not, Bool, true, false, List, [], ◌∷◌, ◌++◌, length, drop, slice_get, if◌then◌else◌, Option, Some, None}
 use Rattle.std.specs.List.{list_any}
 use Rattle.std.specs.Option.{option_to_list}
 use Rattle.std.specs.Str.{bytes_eq}
@@ -29,8 +29,8 @@ use Rattle.sng_book.specs.declared.out.Out.{Out}
 use Rattle.sng_book.specs.declared.out.Out.TheVariants.{Send, Wire, Note}
 use Rattle.sng_book.specs.declared.row.Row.{Row}
 use Rattle.sng_history.specs.Clients.{is_turned_away}
-use Rattle.sng_history.specs.ViewsMessages.{Message as Spoken, Connects, Registers, Publishes, Subscribes, Unsubscribes, Confirms, Acknowledges, Other, message_in, message_at, subscribe_in}
-use Rattle.sng_history.specs.ViewsClients.{phase_of, is_at, speaks_of, with_name, name_subscribed, names_told, id_told}
+use Rattle.sng_history.specs.ViewsMessages.{Message as Spoken, Connects, Registers, Publishes, Subscribes, Unsubscribes, Confirms, Acknowledges, States, Pings, Sleeps, Other, message_in, message_at, subscribe_in}
+use Rattle.sng_history.specs.ViewsClients.{is_awaiting, phase_of, is_at, speaks_of, with_name, name_subscribed, names_told, id_told}
 use Rattle.sng_history.specs.ViewsStanding.{standing_of}
 
 -- ---- which messages were due to a client
@@ -74,17 +74,7 @@ abbrev pub qos_due : List Held → Option ℕ → List ℕ → Qos
 qos_due held None name = AtMostOnce
 qos_due held (Some packet_id) name = if is_matched_at_one held name then AtLeastOnce else AtMostOnce
 
--- messages for the client wait for it: it is connected or sleeps, and no dialogue is open (MQTT-SN 1.2, 6.14)
-abbrev pub is_awaiting : Option ClientState → Bool
-is_awaiting None = false
-is_awaiting (Some Active) = true
-is_awaiting (Some Asleep) = true
-is_awaiting (Some Awake) = true
-is_awaiting (Some Dialogue) = false
-is_awaiting (Some Disconnected) = false
-is_awaiting (Some Lost) = false
-
--- and are handed over to it: it does not sleep, or asked for them
+-- messages for the client are handed over to it: it does not sleep, or asked for them
 abbrev pub is_taking : Option ClientState → Bool
 is_taking None = false
 is_taking (Some Active) = true
@@ -216,11 +206,11 @@ progress_by id due (note.Publish whom name outcome) before = before
 progress_by id due (note.Subscribe whom filter outcome) before = before
 progress_by id due (note.Unsubscribe whom filter outcome) before = before
 progress_by id due (note.Will whom name outcome) before = before
-progress_by id due (note.Retry client name outcome) before = before
+progress_by id due (note.Retry client name outcome) before = if bytes_eq id client && not (is_allowed outcome) then closes before else before
 progress_by id due (note.Forward whom name outcome) before = before
 progress_by id due (note.Again whom name outcome) before = before
 progress_by id due (note.End client filter outcome) before = before
-progress_by id due (note.Lost client) before = before
+progress_by id due (note.Lost client) before = if bytes_eq id client then closes before else before
 progress_by id due note.Outbox before = before
 progress_by id due (note.Frame whom outcome) before = before
 
@@ -253,7 +243,7 @@ regack_has_turn id now h r =
 abbrev pub puback_has_turn : List ℕ → Progress → List Row → TopicAck → Bool
 puback_has_turn id now h r = is_taking (phase_of id h) && is_puback_of now.unanswered (last_number now.numbered) r
 
--- the message ends what is open: a REGACK that accepts the id, or a PUBACK
+-- the message ends what is open: a REGACK that accepts the id, a PUBACK, or a DISCONNECT by which the client falls asleep
 abbrev pub ends_by : List ℕ → Progress → List Row → Option Spoken → Bool
 ends_by id now h (Some (Confirms r)) = (r.code.0 == 0) && regack_has_turn id now h r
 ends_by id now h (Some (Acknowledges r)) = puback_has_turn id now h r
@@ -262,6 +252,9 @@ ends_by id now h (Some (Registers r)) = false
 ends_by id now h (Some (Publishes p)) = false
 ends_by id now h (Some (Subscribes r)) = false
 ends_by id now h (Some (Unsubscribes r)) = false
+ends_by id now h (Some (States statement)) = false
+ends_by id now h (Some (Pings client)) = false
+ends_by id now h (Some (Sleeps duration)) = is_awaiting (phase_of id h)
 ends_by id now h (Some Other) = false
 ends_by id now h None = false
 
@@ -333,6 +326,9 @@ confirmed_by id h (Some (Registers r)) = None
 confirmed_by id h (Some (Publishes p)) = None
 confirmed_by id h (Some (Subscribes r)) = None
 confirmed_by id h (Some (Unsubscribes r)) = None
+confirmed_by id h (Some (States statement)) = None
+confirmed_by id h (Some (Pings client)) = None
+confirmed_by id h (Some (Sleeps duration)) = None
 confirmed_by id h (Some Other) = None
 confirmed_by id h None = None
 

@@ -1,5 +1,5 @@
 -- What the rows show of the way to the broker: what was asked for, what waits, and what left.
-use Rattle.std.specs.Prelude.{ℕ, ◌-◌, Bool, true, false, ◌&&◌, ◌||◌, not, List, [], ◌∷◌, ◌++◌, map, filter, take, length, if◌then◌else◌, Option, Some, None}
+use Rattle.std.specs.Prelude.{ℕ, ◌-◌, nat_le, Bool, true, false, ◌&&◌, ◌||◌, not, List, [], ◌∷◌, ◌++◌, map, filter, take, length, if◌then◌else◌, Option, Some, None}
 use Rattle.std.specs.List.{list_any}
 use Rattle.sng_text.specs.declared.qos.Qos.{Qos}
 use Rattle.sng_text.specs.declared.qos.Qos.TheVariants.{AtMostOnce, AtLeastOnce}
@@ -11,6 +11,7 @@ use Rattle.sng_frames.specs.Reading.{frame_of}
 use Rattle.sng_frames.specs.declared.qos.FrameQos.{FrameQos}
 use Rattle.sng_frames.specs.declared.qos.FrameQos.TheVariants as qos
 use Rattle.sng_frames.specs.declared.messages.publish.Publish.{Publish}
+use Rattle.sng_wills.specs.declared.will.Will.{Will}
 use Rattle.sng_outbox.specs.Sending.{publishes}
 use Rattle.sng_outbox.specs.declared.item.Item.{Item}
 use Rattle.sng_outbox.specs.declared.item.Item.TheVariants as item
@@ -30,10 +31,11 @@ use Rattle.sng_book.specs.declared.event.Event.TheVariants.{Datagram, Broker, Up
 use Rattle.sng_book.specs.declared.out.Out.{Out}
 use Rattle.sng_book.specs.declared.out.Out.TheVariants.{Send, Wire, Note}
 use Rattle.sng_book.specs.declared.row.Row.{Row}
-use Rattle.sng_history.specs.Views.{is_up}
+use Rattle.sng_history.specs.Views.{is_up, ticks, greatest, clock_at}
 pub use Rattle.sng_history.specs.Views.{wires_in}
-use Rattle.sng_history.specs.ViewsMessages.{Message, Connects, Registers, Publishes, Subscribes, Unsubscribes, Confirms, Acknowledges, Other, message_in, message_at}
-use Rattle.sng_history.specs.ViewsClients.{is_spoken, accepted}
+use Rattle.sng_history.specs.ViewsMessages.{Message, Connects, Registers, Publishes, Subscribes, Unsubscribes, Confirms, Acknowledges, States, Pings, Sleeps, Other, message_in, message_at}
+use Rattle.sng_history.specs.ViewsClients.{is_spoken, accepted, speaks_of}
+use Rattle.sng_history.specs.ViewsWills.{will_of}
 use Rattle.sng_history.specs.ViewsStanding.{begun_by, standing_after, standing_of}
 
 -- ---- what was asked for
@@ -99,6 +101,9 @@ publish_in (Some (Subscribes r)) = None
 publish_in (Some (Unsubscribes r)) = None
 publish_in (Some (Confirms r)) = None
 publish_in (Some (Acknowledges r)) = None
+publish_in (Some (States statement)) = None
+publish_in (Some (Pings client)) = None
+publish_in (Some (Sleeps duration)) = None
 publish_in (Some Other) = None
 publish_in None = None
 
@@ -111,14 +116,80 @@ abbrev pub asks_for : Option Publish → List Out → List Publication
 asks_for None outs = []
 asks_for (Some p) outs = allowed_in p outs
 
--- the publish that was asked for and allowed with this event and these outs
-abbrev pub asked_with : Event → List Out → List Publication
-asked_with e outs = asks_for (publish_in (message_at e)) outs
+-- the will of a client that is lost, as a publish of it
+abbrev pub published_for : List ℕ → Option Will → List Publication
+published_for id None = []
+published_for id (Some will) =
+    record { origin = origin.Client id; name = will.topic; payload = will.payload; qos = will.qos; retain = will.retain } ∷ []
+
+-- the note says that the will of the client found no place
+abbrev pub is_will_denied : List ℕ → Decision → Bool
+is_will_denied id (note.Will whom name outcome) = speaks_of id whom && not (is_allowed outcome)
+is_will_denied id (note.Connect client outcome) = false
+is_will_denied id (note.Register whom name outcome) = false
+is_will_denied id (note.Publish whom name outcome) = false
+is_will_denied id (note.Subscribe whom filter outcome) = false
+is_will_denied id (note.Unsubscribe whom filter outcome) = false
+is_will_denied id (note.Announce client name) = false
+is_will_denied id (note.Hand client name outcome) = false
+is_will_denied id (note.Retry client name outcome) = false
+is_will_denied id (note.Forward whom name outcome) = false
+is_will_denied id (note.Again whom name outcome) = false
+is_will_denied id (note.End client filter outcome) = false
+is_will_denied id (note.Lost client) = false
+is_will_denied id (note.Left client) = false
+is_will_denied id note.Outbox = false
+is_will_denied id (note.Frame whom outcome) = false
+
+abbrev pub finds_no_place : List ℕ → List Out → Bool
+finds_no_place id [] = false
+finds_no_place id (Note said ∷ outs) = is_will_denied id said || finds_no_place id outs
+finds_no_place id (Send to datagram ∷ outs) = finds_no_place id outs
+finds_no_place id (Wire packet ∷ outs) = finds_no_place id outs
+
+-- a client that is lost asks for its will, unless the row notes that it found no place
+abbrev pub testament_by : List Row → List Out → Decision → List Publication
+testament_by earlier all (note.Lost client) = if finds_no_place client all then [] else published_for client (will_of client earlier)
+testament_by earlier all (note.Connect client outcome) = []
+testament_by earlier all (note.Register whom name outcome) = []
+testament_by earlier all (note.Publish whom name outcome) = []
+testament_by earlier all (note.Subscribe whom filter outcome) = []
+testament_by earlier all (note.Unsubscribe whom filter outcome) = []
+testament_by earlier all (note.Will whom name outcome) = []
+testament_by earlier all (note.Announce client name) = []
+testament_by earlier all (note.Hand client name outcome) = []
+testament_by earlier all (note.Retry client name outcome) = []
+testament_by earlier all (note.Forward whom name outcome) = []
+testament_by earlier all (note.Again whom name outcome) = []
+testament_by earlier all (note.End client filter outcome) = []
+testament_by earlier all (note.Left client) = []
+testament_by earlier all note.Outbox = []
+testament_by earlier all (note.Frame whom outcome) = []
+
+abbrev pub testaments_in : List Row → List Out → List Out → List Publication
+testaments_in earlier all [] = []
+testaments_in earlier all (Note said ∷ outs) = testament_by earlier all said ++ testaments_in earlier all outs
+testaments_in earlier all (Send to datagram ∷ outs) = testaments_in earlier all outs
+testaments_in earlier all (Wire packet ∷ outs) = testaments_in earlier all outs
+
+-- clients are lost as the clock moves
+abbrev pub testaments_with : Event → List Row → List Out → List Publication
+testaments_with (Tick clock) earlier outs = testaments_in earlier outs outs
+testaments_with (Datagram from datagram) earlier outs = []
+testaments_with (Broker packet) earlier outs = []
+testaments_with Up earlier outs = []
+testaments_with Down earlier outs = []
+testaments_with Take earlier outs = []
+testaments_with (Replace policy) earlier outs = []
+
+-- the publishes that were asked for and allowed with this event and these outs, and the wills of clients that are lost
+abbrev pub asked_with : Event → List Row → List Out → List Publication
+asked_with e earlier outs = asks_for (publish_in (message_at e)) outs ++ testaments_with e earlier outs
 
 -- everything that was ever asked for and allowed, the oldest first
 abbrev pub asked : List Row → List Publication
 asked [] = []
-asked (row ∷ earlier) = asked earlier ++ asked_with row.event row.outs
+asked (row ∷ earlier) = asked earlier ++ asked_with row.event earlier row.outs
 
 -- ---- what is owed to the broker
 
@@ -175,6 +246,41 @@ owed_with Take earlier outs = []
 owed_with (Replace policy) earlier outs = []
 owed_with (Tick clock) earlier outs = []
 
+-- ---- the connection is kept alive
+
+-- a PINGREQ is due to the broker at a tick while up, 30,000 ms or more after the connection began or the last was asked for, whose clock is
+-- this one
+abbrev pub is_ping_due : Event → List Row → ℕ → Bool
+is_ping_due (Tick clock) earlier last = is_up earlier && nat_le 30000 (greatest (clock ∷ ticks earlier) - last)
+is_ping_due (Datagram from datagram) earlier last = false
+is_ping_due (Broker packet) earlier last = false
+is_ping_due Up earlier last = false
+is_ping_due Down earlier last = false
+is_ping_due Take earlier last = false
+is_ping_due (Replace policy) earlier last = false
+
+-- it is asked for, unless the row notes that no more could wait
+abbrev pub asks_ping : Event → List Row → ℕ → List Out → Bool
+asks_ping e earlier last outs = is_ping_due e earlier last && not (is_outbox_noted outs)
+
+-- the clock as the last connection began, or the last PINGREQ was asked for; 0 before any
+abbrev pub pinged_after : Event → List Row → List Out → ℕ → ℕ
+pinged_after Up earlier outs last = clock_at earlier
+pinged_after (Tick clock) earlier outs last =
+    if asks_ping (Tick clock) earlier last outs then greatest (clock ∷ ticks earlier) else last
+pinged_after (Datagram from datagram) earlier outs last = last
+pinged_after (Broker packet) earlier outs last = last
+pinged_after Down earlier outs last = last
+pinged_after Take earlier outs last = last
+pinged_after (Replace policy) earlier outs last = last
+
+abbrev pub pinged : List Row → ℕ
+pinged [] = 0
+pinged (row ∷ earlier) = pinged_after row.event earlier row.outs (pinged earlier)
+
+abbrev pub pings_with : Event → List Row → List Out → List Item
+pings_with e earlier outs = if asks_ping e earlier (pinged earlier) outs then item.Ping ∷ [] else []
+
 -- ---- what waits
 
 abbrev pub is_take : Event → Bool
@@ -223,6 +329,9 @@ items_for (Some (Subscribes r)) outs = items_in None outs
 items_for (Some (Unsubscribes r)) outs = items_in None outs
 items_for (Some (Confirms r)) outs = items_in None outs
 items_for (Some (Acknowledges r)) outs = items_in None outs
+items_for (Some (States statement)) outs = items_in None outs
+items_for (Some (Pings client)) outs = items_in None outs
+items_for (Some (Sleeps duration)) outs = items_in None outs
 items_for (Some Other) outs = items_in None outs
 items_for None outs = []
 
@@ -256,11 +365,13 @@ abbrev pub told_with : Event → List Row → List Out → ℕ → List (List �
 told_with e earlier outs places = if is_told e then take places (released_among e earlier outs [] (accepted earlier)) else []
 
 -- what a row adds to what waits: what is asked for and allowed, an UNSUBSCRIBE of each filter that stands for nobody any more while there is
--- place, and the acknowledgement that is owed
+-- place, the acknowledgement that is owed, the wills of clients that are lost, and the PINGREQ that is due
 abbrev pub added : Event → List Row → List Item → List Out → List Item
 added e earlier items outs =
     items_for (message_at e) outs
-    ++ (map item.Unsubscribe (told_with e earlier outs (512 - length items)) ++ map item.Acknowledge (owed_with e earlier outs))
+    ++ (map item.Unsubscribe (told_with e earlier outs (512 - length items))
+    ++ (map item.Acknowledge (owed_with e earlier outs)
+    ++ (map item.Publish (testaments_with e earlier outs) ++ pings_with e earlier outs)))
 
 -- what was added since the last take while up, without what was dropped
 abbrev pub waiting : List Row → List Item

@@ -29,7 +29,7 @@ use Rattle.sng_book.specs.declared.out.Out.TheVariants.{Send, Wire, Note}
 use Rattle.sng_book.specs.declared.row.Row.{Row}
 use Rattle.sng_history.specs.Links.{Wanted}
 use Rattle.sng_history.specs.Views.{wires_in}
-use Rattle.sng_history.specs.ViewsMessages.{Message, Connects, Registers, Publishes, Subscribes, Unsubscribes, Confirms, Acknowledges, Other, message_at, subscribe_in}
+use Rattle.sng_history.specs.ViewsMessages.{Message, Connects, Registers, Publishes, Subscribes, Unsubscribes, Confirms, Acknowledges, States, Pings, Sleeps, Other, message_at, subscribe_in}
 use Rattle.sng_history.specs.ViewsClients.{speaks_of, accepted}
 
 -- ---- the filters that stand for a client
@@ -43,6 +43,9 @@ is_clean (Some (Subscribes r)) = false
 is_clean (Some (Unsubscribes r)) = false
 is_clean (Some (Confirms r)) = false
 is_clean (Some (Acknowledges r)) = false
+is_clean (Some (States statement)) = false
+is_clean (Some (Pings client)) = false
+is_clean (Some (Sleeps duration)) = false
 is_clean (Some Other) = false
 is_clean None = false
 

@@ -2,10 +2,9 @@
 use Rattle.std.specs.Prelude.{ℕ, Bool, true, false, ◌&&◌, ◌||◌, not, List, [], ◌∷◌, ◌++◌, map, drop, if◌then◌else◌, Option, Some, None}
 use Rattle.std.specs.List.{flat_map}
 use Rattle.std.specs.Str.{bytes_eq}
-use Rattle.sng_states.specs.States.{has_session}
+use Rattle.sng_states.specs.States.{has_session, is_due_messages}
 use Rattle.sng_ids.specs.Ids.{id_for}
 use Rattle.sng_frames.specs.declared.messages.connect.Connect.{Connect}
-use Rattle.sng_frames.specs.declared.return_code.TheConstants.ReturnCode.{ACCEPTED}
 use Rattle.sng_frames.specs.declared.frame.SnFrame.TheVariants as frame
 use Rattle.sng_book.specs.declared.address.Address.{Address}
 use Rattle.sng_book.specs.declared.decision.Decision.{Decision}
@@ -17,16 +16,17 @@ use Rattle.sng_book.specs.declared.outcome.Outcome.{Outcome}
 use Rattle.sng_book.specs.declared.outcome.Outcome.TheVariants.{Allowed, Denied}
 use Rattle.sng_book.specs.declared.out.Out.{Out}
 use Rattle.sng_book.specs.declared.out.Out.TheVariants.{Note}
-use Rattle.sng_history.specs.Causes.{Request, ToPing, ToLeave, ToRegister, ToPublish, ToSubscribe, ToUnsubscribe, ToConfirm, ToAcknowledge, Untaken}
+use Rattle.sng_history.specs.Causes.{Request, ToPing, ToLeave, ToSleep, ToRegister, ToPublish, ToSubscribe, ToUnsubscribe, ToConfirm, ToAcknowledge, ToState, Untaken}
 use Rattle.sng_history.specs.Causes.{Cause, request_of}
 use Rattle.sng_history.specs.Causes.{ByConnect, ByMessage, BySource, ByBroken, ByPacket, ByUp, ByDown, ByTake, ByReplace, ByTick}
-use Rattle.sng_history.specs.Handing.{known_as, front, handed_outs, announced_out}
-use Rattle.sng_history.specs.Clients.{Client, Around, same_address, is_from, is_author, let_in, start_by, note_by, client_by}
+use Rattle.sng_history.specs.Handing.{known_as, front, handed_outs, announced_out, repeated_outs}
+use Rattle.sng_history.specs.Clients.{Client, Around, same_address, is_from, is_author, let_in, start_by, note_by, notes_by, client_by, is_drained}
 use Rattle.sng_history.specs.Standing.{Release, released, dropped_of, drop_note, drop_notes}
 use Rattle.sng_history.specs.Notes.{notes_of, exits_in}
-use Rattle.sng_history.specs.State.{State, around}
-use Rattle.sng_history.specs.Verdicts.{source_ask, entry, ping_verdict}
-use Rattle.sng_history.specs.Answers.{denied_note, code_of, refused, regack, puback, suback, unsuback, dismissed, connack, pong}
+use Rattle.sng_history.specs.State.{State, around, later}
+use Rattle.sng_history.specs.Ticking.{with_wills, ping_dropped}
+use Rattle.sng_history.specs.Verdicts.{source_ask, entry, is_active, ping_verdict}
+use Rattle.sng_history.specs.Answers.{denied_note, code_of, refused, regack, puback, suback, unsuback, statement_answer, statement_refused, dismissed, connack, welcome, pong}
 use Rattle.sng_history.specs.Exits.{leaving, beginning}
 use Rattle.sng_history.specs.Packets.{answer_of, answer_outs}
 
@@ -43,12 +43,14 @@ notes_in outs = record { of = λ x. notes_of x.id outs; exits = exits_in outs }
 abbrev pub takes_leave : Request → Bool
 takes_leave ToLeave = true
 takes_leave (ToPing client) = false
+takes_leave (ToSleep duration) = false
 takes_leave (ToRegister r) = false
 takes_leave (ToPublish p) = false
 takes_leave (ToSubscribe r) = false
 takes_leave (ToUnsubscribe r) = false
 takes_leave (ToConfirm r) = false
 takes_leave (ToAcknowledge r) = false
+takes_leave (ToState statement) = false
 takes_leave (Untaken message) = false
 
 -- a client that takes its leave is answered by DISCONNECT; one that another client at its address puts out is not
@@ -61,12 +63,14 @@ abbrev pub denied_to : Request → Address → Denial → List Out
 denied_to (ToPing client) to NoSession = dismissed to ∷ []
 denied_to (ToPing client) to rule = []
 denied_to ToLeave to rule = []
+denied_to (ToSleep duration) to rule = []
 denied_to (ToRegister r) to rule = refused to (frame.Register r) rule
 denied_to (ToPublish p) to rule = refused to (frame.Publish p) rule
 denied_to (ToSubscribe r) to rule = refused to (frame.Subscribe r) rule
 denied_to (ToUnsubscribe r) to rule = refused to (frame.Unsubscribe r) rule
 denied_to (ToConfirm r) to rule = []
 denied_to (ToAcknowledge r) to rule = []
+denied_to (ToState statement) to rule = statement_refused statement to rule
 denied_to (Untaken message) to rule = refused to message rule
 
 abbrev pub denied_by : Option Request → Address → Denial → List Out
@@ -84,8 +88,10 @@ granted_to (ToSubscribe r) x None = []
 granted_to (ToUnsubscribe r) x filter = unsuback x.address r ∷ []
 granted_to (ToPing client) x name = []
 granted_to ToLeave x name = []
+granted_to (ToSleep duration) x name = []
 granted_to (ToConfirm r) x name = []
 granted_to (ToAcknowledge r) x name = []
+granted_to (ToState statement) x name = statement_answer statement x.address ∷ []
 granted_to (Untaken message) x name = []
 
 abbrev pub granted_by : Option Request → Client → Option (List ℕ) → List Out
@@ -106,6 +112,11 @@ abbrev pub handed_frames : Around → Client → List ℕ → Outcome → List O
 handed_frames a x name Allowed = handed_outs x.address x.number (front x.buffer) (known_as a.policy x.ids name)
 handed_frames a x name (Denied rule) = []
 
+-- what is open is sent again, with the ids of its first sending
+abbrev pub repeated_frames : Client → Outcome → List Out
+repeated_frames x Allowed = repeated_outs x.address x.buffer x.buffer.exchange
+repeated_frames x (Denied rule) = []
+
 -- what follows a note of a client, which is as it is at that place: the note of an UNSUBSCRIBE that is dropped, and frames
 abbrev pub frames_of : Around → List Release → Client → Decision → List Out
 frames_of a dropped x (note.Left id) = farewell (request_of a.cause) x.address
@@ -119,7 +130,7 @@ frames_of a dropped x (note.End id filter outcome) = drop_note dropped x.id filt
 frames_of a dropped x (note.Connect id outcome) = []
 frames_of a dropped x (note.Announce id name) = announced_out x.address x.number x.ids name ∷ []
 frames_of a dropped x (note.Hand id name outcome) = handed_frames a x name outcome
-frames_of a dropped x (note.Retry id name outcome) = []
+frames_of a dropped x (note.Retry id name outcome) = repeated_frames x outcome
 frames_of a dropped x (note.Forward who name outcome) = []
 frames_of a dropped x (note.Again who name outcome) = []
 frames_of a dropped x (note.Lost id) = []
@@ -132,13 +143,15 @@ spell a dropped x (said ∷ notes) = Note said ∷ (frames_of a dropped x said +
 
 -- ---- the part of a client
 
--- the answer to a message that makes no note: a PINGREQ in its turn is answered by PINGRESP (MQTT-SN 1.2, 6.11)
+-- the answer to a message that makes no note: a PINGREQ of an active client is answered by PINGRESP (MQTT-SN 1.2, 6.11), and a DISCONNECT
+-- with Duration by DISCONNECT (6.14)
 abbrev pub pong_by : Outcome → Address → List Out
 pong_by Allowed to = pong to ∷ []
 pong_by (Denied rule) to = []
 
 abbrev pub answer_to : Request → Client → List Out
-answer_to (ToPing client) x = pong_by (ping_verdict client x) x.address
+answer_to (ToPing client) x = if is_active x.phase then pong_by (ping_verdict client x) x.address else []
+answer_to (ToSleep duration) x = if is_due_messages x.phase then dismissed x.address ∷ [] else []
 answer_to ToLeave x = []
 answer_to (ToRegister r) x = []
 answer_to (ToPublish p) x = []
@@ -146,16 +159,22 @@ answer_to (ToSubscribe r) x = []
 answer_to (ToUnsubscribe r) x = []
 answer_to (ToConfirm r) x = []
 answer_to (ToAcknowledge r) x = []
+answer_to (ToState statement) x = []
 answer_to (Untaken message) x = []
 
 abbrev pub answer : Option Request → Client → List Out
 answer None x = []
 answer (Some request) x = answer_to request x
 
+-- an awake client for which nothing is left is told so by PINGRESP (MQTT-SN 1.2, 6.14)
+abbrev pub drained_outs : Client → List Out
+drained_outs x = if is_drained x then pong x.address ∷ [] else []
+
 -- all that a row lets out for one client
 abbrev pub part : Around → List Release → List Decision → Client → List Out
 part a dropped notes x =
-    (if is_author a.cause x then answer (request_of a.cause) x else []) ++ spell a dropped (start_by a x) notes
+    (if is_author a.cause x then answer (request_of a.cause) x else [])
+    ++ (spell a dropped (start_by a x) notes ++ drained_outs (notes_by a notes (start_by a x)))
 
 -- ---- the row
 
@@ -167,6 +186,7 @@ any_from c (x ∷ xs) = is_from c x || any_from c xs
 -- a message from an address at which no client is: it is noted, and one that needs a session is answered by DISCONNECT
 abbrev pub stranger_to : Address → Request → List Out
 stranger_to from (ToPing client) = Note (note.Frame (who.Address from) (Denied NoSession)) ∷ dismissed from ∷ []
+stranger_to from (ToSleep duration) = Note (note.Frame (who.Address from) (Denied NoSession)) ∷ dismissed from ∷ []
 stranger_to from ToLeave = Note (note.Frame (who.Address from) (Denied NoSession)) ∷ dismissed from ∷ []
 stranger_to from (ToRegister r) = Note (note.Register (who.Address from) None (Denied NoSession)) ∷ dismissed from ∷ []
 stranger_to from (ToPublish p) = Note (note.Publish (who.Address from) None (Denied NoSession)) ∷ dismissed from ∷ []
@@ -174,6 +194,7 @@ stranger_to from (ToSubscribe r) = Note (note.Subscribe (who.Address from) None 
 stranger_to from (ToUnsubscribe r) = Note (note.Unsubscribe (who.Address from) None (Denied NoSession)) ∷ dismissed from ∷ []
 stranger_to from (ToConfirm r) = Note (note.Frame (who.Address from) (Denied NoSession)) ∷ dismissed from ∷ []
 stranger_to from (ToAcknowledge r) = Note (note.Frame (who.Address from) (Denied NoSession)) ∷ dismissed from ∷ []
+stranger_to from (ToState statement) = Note (note.Will (who.Address from) None (Denied NoSession)) ∷ dismissed from ∷ []
 stranger_to from (Untaken message) = Note (denied_note message (who.Address from) NotSupported) ∷ []
 
 -- the clients after the row, by its notes of each
@@ -209,26 +230,26 @@ abbrev pub entering_part : Around → Notes → Address → Connect → Client �
 entering_part a notes from connect x =
     if bytes_eq connect.client_id x.id then spell a [] (let_in a.clock from connect x) (drop 1 (notes.of x)) else []
 
--- what a clean session drops is noted before its CONNACK; else what waits is handed over behind it
-abbrev pub around_connack : Bool → List Out → Out → List Out
-around_connack true own ack = own ++ ack ∷ []
-around_connack false own ack = ack ∷ own
+-- what a clean session drops is noted before its answer; else what waits is handed over behind it
+abbrev pub around_welcome : Bool → List Out → Out → List Out
+around_welcome true own ack = own ++ ack ∷ []
+around_welcome false own ack = ack ∷ own
 
 -- a CONNECT that is accepted: the client is dismissed where it was before, another client at the address leaves, what a clean session
--- ends is dropped where it finds no place, and CONNACK answers
+-- ends is dropped where it finds no place, and CONNACK answers, or WILLTOPICREQ
 abbrev pub entry_row : State → Address → Connect → Notes → List Out
 entry_row s from connect notes =
     let c = ByConnect from connect in
     flat_map (moved from connect.client_id) s.clients
     ++ (flat_map (beside (around s c) notes connect.client_id) s.clients
     ++ (drop_notes (drops s c notes)
-    ++ around_connack connect.flags.clean (flat_map (entering_part (around s c) notes from connect) s.clients) (connack from ACCEPTED)))
+    ++ around_welcome connect.flags.clean (flat_map (entering_part (around s c) notes from connect) s.clients) (welcome connect from)))
 
 abbrev pub entry_outs : State → Address → Connect → Notes → Outcome → List Out
 entry_outs s from connect notes Allowed = Note (note.Connect connect.client_id Allowed) ∷ entry_row s from connect notes
 entry_outs s from connect notes (Denied rule) = Note (note.Connect connect.client_id (Denied rule)) ∷ connack from (code_of rule) ∷ []
 
--- the whole row. As the policy is replaced, each client's subscriptions end that it does not cover any more; where the broker refuses one,
+-- the whole row. At a tick the PINGREQ to the broker that finds no place is noted behind all clients. As the policy is replaced, each client's subscriptions end that it does not cover any more; where the broker refuses one,
 -- it needs no word of the end
 abbrev pub whole_by : State → Cause → Notes → List Out
 whole_by s (ByConnect from connect) notes = entry_outs s from connect notes (entry s connect)
@@ -241,4 +262,6 @@ whole_by s ByUp notes = beginning s.link s.clock notes.exits
 whole_by s ByDown notes = []
 whole_by s ByTake notes = if s.up then leaving s.link s.link.waiting notes.exits else []
 whole_by s (ByReplace policy) notes = client_rows s (ByReplace policy) (drops s (ByReplace policy) notes) notes
-whole_by s (ByTick clock) notes = []
+whole_by s (ByTick clock) notes =
+    client_rows s (ByTick clock) [] notes
+    ++ ping_dropped s.up (with_wills s.link (later s.clock clock) s.clients) (later s.clock clock)

@@ -4,7 +4,10 @@
 #![tactic(auto)]
 
 pub mod limits;
+pub mod promise;
+pub mod sleep;
 pub mod subscriptions;
+pub mod wills;
 pub mod worked;
 
 ghost use Rattle.std.specs.Prelude.{◌≡◌, ◌≤◌, ℕ, true, false, List, [], ◌∷◌, length, map, Option, Some, None};
@@ -28,7 +31,7 @@ ghost use Rattle.sng_history.specs.Good.{Each, Good};
 ghost use Rattle.sng_history.specs.Lawful.{Lawful, LawfulRow, Keeps};
 ghost use Rattle.sng_history.specs.LawsAnswers.{Brought, Broken, connect_answer, source_answer, answer_to};
 ghost use Rattle.sng_history.specs.LawsAnswers.{no_session, ping_answer};
-ghost use Rattle.sng_history.specs.LawsAnswers.{leave_answer, broken_stranger, broken_answer};
+ghost use Rattle.sng_history.specs.LawsAnswers.{leave_answer, sleep_answer, broken_stranger, broken_answer};
 ghost use Rattle.sng_history.specs.LawsHanding.{SettledInOrder, HandedOnce, FrontAnnounced, NothingIdles};
 ghost use Rattle.sng_history.specs.LawsHanding.{NoneKept};
 ghost use Rattle.sng_history.specs.LawsHanding.{EachHandJudged};
@@ -40,7 +43,7 @@ ghost use Rattle.sng_history.specs.LawsLink.{EachUpstream};
 ghost use Rattle.sng_history.specs.LawsLink.{is_upstream, OnlyExits};
 ghost use Rattle.sng_history.specs.LawsFlight.{EachReturns, IdsApart, EachPacket};
 ghost use Rattle.sng_history.specs.LawsRules.{judged};
-ghost use Rattle.sng_history.specs.LawsState.{ClientShown, RestShown, Untold, NoneTwice, OneMore};
+ghost use Rattle.sng_history.specs.LawsState.{ClientShown, RestShown, NoneTwice, OneMore};
 ghost use Rattle.sng_history.specs.LawsAsks.{register_stranger, register_answer, is_of_session};
 ghost use Rattle.sng_history.specs.LawsAsks.{publish_stranger, publish_answer};
 ghost use Rattle.sng_history.specs.LawsAsks.{register_rules, told_as, packet_answer};
@@ -57,7 +60,7 @@ ghost use Rattle.sng_history.specs.ViewsClients.{names_told, id_told};
 ghost use Rattle.sng_history.specs.ViewsLink.{waiting};
 ghost use Rattle.sng_history.specs.ViewsMessages.{is_without_session};
 
-pub use limits::MAX_CLIENTS;
+pub use limits::{MAX_CLIENTS, PING_MS, RETRY_MS};
 
 /// A step from a good state keeps a history lawful, and leads to the state after it, which is good again; the
 /// opening state is good. `exactly`: where the state is good a row may come exactly if its outs are those of
@@ -75,8 +78,9 @@ pub fn step_is_lawful()
 /// what was asked for, is owed or is to be told to the broker and has not left, the publishes in flight, the
 /// packet id that was given last, the filters that stand for anybody, the clients in the order in which each
 /// was accepted first, and of each client its state, where it is, the Duration that it stated and when it was
-/// heard last, the filters that stand for it; and its topic ids: the k-th name that it was told since its
-/// last accepted CONNECT has id k.
+/// heard last, the filters that stand for it, its will, which is the last topic that was allowed since the
+/// will was deleted last, with the last message, and how far the dialogue about it has come; and its topic
+/// ids: the k-th name that it was told since its last accepted CONNECT has id k.
 /// `strangers`: a client that was never accepted has no state, so the rows show no other client.
 pub fn state_is_shown()
     ensures policy { (h : List Row) → Lawful opening h → (state_of opening h).policy ≡ policy_in_force h }
@@ -87,7 +91,6 @@ pub fn state_is_shown()
     ensures order { (h : List Row) → Lawful opening h
         → map (λ x. x.id) (state_of opening h).clients ≡ accepted h }
     ensures clients { (h : List Row) → Lawful opening h → Each (ClientShown h) (state_of opening h).clients }
-    ensures untold { (h : List Row) → Each Untold (state_of opening h).clients }
     ensures strangers { (h : List Row) → Lawful opening h → (id : List ℕ)
         → is_among id (accepted h) ≡ false → phase_of id h ≡ None }
 {}
@@ -99,13 +102,13 @@ pub fn state_is_shown()
 /// with its own name, payload and Retain, and a packet id just at QoS 1; at no other row such a note stands.
 /// `announced`: no PUBLISH goes to the broker but at once behind a note that lets it go. `timely`: no packet
 /// goes to it but at a take while up, or as a connection begins. `packets`: at a take while up the packets
-/// are those behind the notes, a PUBACK for each acknowledgement that waits, a SUBSCRIBE where its filter
-/// stands for somebody, and an UNSUBSCRIBE where its filter stands for nobody, in the order in which all of
-/// them waited; as a connection begins they are those behind the notes and a SUBSCRIBE for each filter that
-/// stands for anybody, in the order in which each stood first. A publish at QoS 1 that leaves, a SUBSCRIBE
-/// and an UNSUBSCRIBE have each the next packet id: it counts on from the last that was given, past those of
-/// publishes in flight and of open SUBSCRIBEs. `upstream`: with an event of that connection alone nothing is
-/// sent to a client.
+/// are those behind the notes, a PUBACK for each acknowledgement that waits, a PINGREQ for each that waits, a
+/// SUBSCRIBE where its filter stands for somebody, and an UNSUBSCRIBE where its filter stands for nobody, in
+/// the order in which all of them waited; as a connection begins they are those behind the notes and a
+/// SUBSCRIBE for each filter that stands for anybody, in the order in which each stood first. A publish at
+/// QoS 1 that leaves, a SUBSCRIBE and an UNSUBSCRIBE have each the next packet id: it counts on from the last
+/// that was given, past those of publishes in flight and of open SUBSCRIBEs. `upstream`: with an event of
+/// that connection alone nothing is sent to a client.
 pub fn publishes_leave_judged()
     ensures in_order { (h : List Row) → Lawful opening h → LeavesInOrder h }
     ensures judged { (h : List Row) → Lawful opening h → EachDeparts h }
@@ -126,15 +129,12 @@ pub fn publishes_return_judged()
     ensures ids { (h : List Row) → Lawful opening h → IdsApart h }
 {}
 
-/// What reaches clients with the clock and with the connection to the broker, in every lawful history:
-/// nothing. `ticks`: as the clock moves nothing is let out. `downs`: nor as a connection ends. `exits`: as
+/// What reaches clients with the connection to the broker, in every lawful history: nothing. `downs`: as a
+/// connection ends nothing is let out. `exits`: as
 /// one begins, as one ends and at a take nothing is sent to a client, and each note is of a publish that
 /// leaves or is sent again: nothing is handed over or announced to a client, and nobody leaves or loses a
 /// subscription.
-pub fn clock_and_connection_reach_no_client()
-    ensures ticks { (h : List Row) → (row : Row) → (clock : ℕ) → Lawful opening (row ∷ h)
-        → row.event ≡ Tick clock
-        → row.outs ≡ [] }
+pub fn connection_reaches_no_client()
     ensures downs { (h : List Row) → (row : Row) → Lawful opening (row ∷ h) → row.event ≡ Down
         → row.outs ≡ [] }
     ensures exits { (h : List Row) → (row : Row) → Lawful opening (row ∷ h)
@@ -147,12 +147,13 @@ pub fn one_client_at_an_address()
 {}
 
 /// In every lawful history a row whose datagram holds a CONNECT begins with its note, with the first rule
-/// that forbids it, in this order: a ProtocolId other than 1 and a will are not supported; a client that the
+/// that forbids it, in this order: a ProtocolId other than 1 is not supported; a client that the
 /// policy in force does not list has no scope; and a client that was never accepted finds its place full
 /// where 256 were. One that is denied is answered by the rule's code. As one is accepted, the client is
 /// dismissed where it was, if that is elsewhere, another client at the address leaves, of each filter that a
 /// clean one leaves with nobody it is noted where there is no place to tell the broker, what waits for the
-/// client is gone if it is clean, CONNACK answers, and else what waits is handed over. Nothing else is let
+/// client is gone if it is clean, CONNACK answers, and else what waits is handed over; one with Will is
+/// answered by WILLTOPICREQ, and what waits is kept. Nothing else is let
 /// out.
 pub fn connects_are_judged()
     ensures { (h : List Row) → (row : Row) → (from : Address) → (connect : Connect) → Lawful opening (row ∷ h)
@@ -275,8 +276,11 @@ pub fn messages_are_handed_over()
 {}
 
 /// In every lawful history any other datagram is answered to the client at its address, or else to nobody's.
-/// `pings`: a PINGREQ that names another client has no session and is answered by DISCONNECT, one of a client
-/// that is not active is out of turn, any other is answered by PINGRESP without a note. `leaves`: by
+/// `pings`: a PINGREQ that names another client has no session and is answered by DISCONNECT; of an active
+/// client PINGRESP answers it without a note; one that names its client wakes it where it sleeps: what waited
+/// is handed over, the oldest first, and PINGRESP says that nothing is left; an awake client goes on; else it
+/// is out of turn. `sleeps`: by DISCONNECT with Duration a client falls asleep, which DISCONNECT answers; while
+/// a dialogue is open that is out of turn. `leaves`: by
 /// DISCONNECT without Duration the client leaves, DISCONNECT answers, and what waits for it is gone. A
 /// PINGREQ and a DISCONNECT from an address at which no client is have no session, and are answered by
 /// DISCONNECT. `unsupported`: other messages are not supported, which an acknowledgement says to a client
@@ -294,6 +298,10 @@ pub fn messages_are_answered()
     ensures leaves { (h : List Row) → (row : Row) → (from : Address) → Lawful opening (row ∷ h)
         → Brought row from (frame.Disconnect None)
         → row.outs ≡ answer_to (no_session from) (leave_answer h from) (those_at from h) }
+    ensures sleeps { (h : List Row) → (row : Row) → (from : Address) → (duration : ℕ)
+        → Lawful opening (row ∷ h)
+        → Brought row from (frame.Disconnect (Some duration))
+        → row.outs ≡ answer_to (no_session from) (sleep_answer h from) (those_at from h) }
     ensures unsupported { (h : List Row) → (row : Row) → (from : Address) → (message : SnFrame)
         → Lawful opening (row ∷ h)
         → Brought row from message → is_unsupported message ≡ true

@@ -1,6 +1,6 @@
 //! Worked rows: histories that are lawful by the definitions, and rows that are not.
 ghost use Rattle.std.specs.Prelude.{◌∷◌, [], codes};
-ghost use Rattle.sng_book.specs.declared.event.Event.TheVariants.{Datagram, Broker, Up, Take, Replace};
+ghost use Rattle.sng_book.specs.declared.event.Event.TheVariants.{Datagram, Broker, Up, Take, Replace, Tick};
 ghost use Rattle.sng_book.specs.declared.outcome.Denial.TheVariants.{MissingPub};
 ghost use Rattle.sng_book.specs.declared.outcome.Outcome.TheVariants.{Allowed, Denied};
 ghost use Rattle.sng_history.specs.State.{opening};
@@ -10,11 +10,17 @@ ghost use Rattle.sng_history.specs.Examples.{unknown_source, without_up, strange
 ghost use Rattle.sng_history.specs.Examples.{waits, waits_replaced, waits_down};
 ghost use Rattle.sng_history.specs.ExamplesClients.{home, away, s1, s2, connect_s1, connect_s2, disconnect, lets_in, welcome, bye};
 ghost use Rattle.sng_history.specs.ExamplesClients.{not_listed, moves, takes_over, goes, pings, at_home};
-ghost use Rattle.sng_history.specs.ExamplesClients.{t1, publish_t1, asks_t1, forward_t1, again_t1, packet_t1, refused_t1};
+ghost use Rattle.sng_history.specs.ExamplesClients.{t1, t2, publish_t1, asks_t1, forward_t1, again_t1, packet_t1, refused_t1};
 ghost use Rattle.sng_history.specs.ExamplesClients.{both_listed, ended_ab, holds_ab};
 ghost use Rattle.sng_history.specs.ExamplesClients.{untold, acknowledged_t1, knows_t1, flies_and_waits, flies_ungranted};
 ghost use Rattle.sng_history.specs.ExamplesClients.{message_ab, accept_ab, hands_ab, handed_ab};
+ghost use Rattle.sng_history.specs.ExamplesClients.{ping_s1, pong, announces_ab, announcement_ab};
+ghost use Rattle.sng_history.specs.ExamplesSleep.{sleeps_again, is_asleep, is_buffered};
+ghost use Rattle.sng_history.specs.ExamplesSleep.{answered_one, given_up, is_tried_out, retries_ab, handed_again};
 ghost use Rattle.sng_history.specs.ExamplesClients.{handed_over_ab, denied_ab, once_ab, announced_ungranted, holds_both};
+ghost use Rattle.sng_history.specs.ExamplesWills.{topic_t2, asks_message, states, ping_broker, packet_twice};
+ghost use Rattle.sng_history.specs.ExamplesWills.{will_refused, will_published, will_unpublished};
+ghost use Rattle.sng_history.specs.ExamplesWills.{awaits_topic, is_silent, is_lost};
 
 /// Lawful histories of devices without a session: a publish that is granted goes out, with a Length of one
 /// octet or of three; a source that is not listed and one without a connection are denied; a session that is
@@ -108,4 +114,41 @@ pub fn unlawful_messages()
         (hands_ab Allowed ∷ handed_ab ∷ []) → ⊥ }
     ensures twice { LawfulRow holds_both (Broker message_ab)
         (hands_ab Allowed ∷ handed_ab ∷ hands_ab Allowed ∷ handed_ab ∷ []) → ⊥ }
+{}
+
+/// Lawful histories of wills: one whose topic is not granted ends the dialogue; the will of a client that is
+/// silent for one and a half of its Duration leaves for the broker once that client is lost, between two
+/// PINGREQs; and the will of a client that took its leave is not published.
+pub fn lawful_wills()
+    ensures refused { Lawful opening will_refused }
+    ensures published { Lawful opening will_published }
+    ensures unpublished { Lawful opening will_unpublished }
+{}
+
+/// Rows that may not come: the dialogue goes on with a topic that is not granted; a client is kept one tick
+/// more than its Duration allows; and a will leaves at QoS 2, at which it was stated, where it is kept at 1.
+pub fn unlawful_wills()
+    ensures ungranted { LawfulRow awaits_topic (Datagram home topic_t2) (states t2 Allowed ∷ asks_message ∷ []) → ⊥ }
+    ensures kept { LawfulRow is_silent (Tick 90000) [] → ⊥ }
+    ensures exactly_once { LawfulRow is_lost Take (forward_t1 Allowed ∷ packet_twice ∷ ping_broker ∷ []) → ⊥ }
+{}
+
+/// Lawful histories of a client that sleeps, and of what is sent again. `asleep`: messages that come while it
+/// sleeps wait; its PINGREQ wakes it, the id of their name is announced, and with the REGACK both are handed
+/// over, behind which PINGRESP says that nothing is left; it sleeps again, and the next one waits. `answered`:
+/// a message at QoS 1 that is not acknowledged in ten seconds is sent again with DUP, until a PUBACK comes.
+/// `given_up`: after three tries without an answer the client is lost.
+pub fn lawful_sleep()
+    ensures asleep { Lawful opening sleeps_again }
+    ensures answered { Lawful opening answered_one }
+    ensures given_up { Lawful opening given_up }
+{}
+
+/// Rows that may not come: PINGRESP to a client that wakes while messages wait for it; a message for a client
+/// that sleeps; and a fourth try.
+pub fn unlawful_sleep()
+    ensures early { LawfulRow is_buffered (Datagram home ping_s1)
+        (announces_ab ∷ announcement_ab ∷ pong home ∷ []) → ⊥ }
+    ensures asleep { LawfulRow is_asleep (Broker message_ab) (announces_ab ∷ announcement_ab ∷ []) → ⊥ }
+    ensures fourth { LawfulRow is_tried_out (Tick 40000) (retries_ab Allowed ∷ handed_again ∷ []) → ⊥ }
 {}

@@ -2,3 +2,4 @@ pub mod Flights
 pub mod Steps
 pub mod Taking
 pub mod Resending
+pub mod Rooms

@@ -18,7 +18,7 @@ use Rattle.sng_book.specs.declared.out.Out.{Out}
 use Rattle.sng_history.specs.Good.{WantedOnce}
 use Rattle.sng_history.specs.Links.{Link, Wanted, wants, opened, next_packet_id, exited, subscribe_left}
 use Rattle.sng_history.specs.Links.{unsubscribe_left, link_after}
-use Rattle.sng_history.specs.Exits.{acknowledged, exits_of, forwarded, leaving, subscribe_packet}
+use Rattle.sng_history.specs.Exits.{acknowledged, exits_of, forwarded, leaving, pinging, subscribe_packet}
 use Rattle.sng_history.specs.Exits.{unsubscribe_packet}
 use Rattle.sng_history.specs.Verdicts.{exit}
 use Rattle.sng_wanted.specs.declared.limits.TheConstants.{MAX_WANTED}
@@ -55,7 +55,7 @@ item_outs policy wanted next (item.Publish p) = forwarded p (id_at p.qos next) (
 item_outs policy wanted next (item.Subscribe filter) = if wants wanted filter then subscribe_packet next filter ∷ [] else []
 item_outs policy wanted next (item.Unsubscribe filter) = if wants wanted filter then [] else unsubscribe_packet next filter ∷ []
 item_outs policy wanted next (item.Acknowledge packet_id) = acknowledged packet_id ∷ []
-item_outs policy wanted next item.Ping = []
+item_outs policy wanted next item.Ping = pinging ∷ []
 
 -- what it takes into use
 abbrev pub item_step : Policy → List Wanted → ℕ → Item → Step

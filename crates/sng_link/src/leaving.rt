@@ -1,5 +1,5 @@
 //! What waits leaves for the broker, each publish judged by the policy in force (MQTT 3.1.1, 2.3.1, 3.3, 3.4,
-//! 3.8 and 3.10).
+//! 3.8, 3.10 and 3.12).
 ghost use Rattle.std.specs.Prelude.{◌≡◌, ◌≤◌, ◌<◌, ℕ, [], ◌∷◌, ◌++◌, true, false, length, set, if◌then◌else◌};
 ghost use Rattle.std.specs.Prelude.{IfOk, OnOk};
 ghost use Rattle.std.specs.List.{list_any};
@@ -18,7 +18,9 @@ ghost use Rattle.sng_link.specs.Taking.{numbered, wanted_after, IsStep, Planned}
 
 use crate::exit::exit;
 use crate::step::Step;
-use mqtt_frames::{encode_publish_ack, encode_subscribe, encode_unsubscribe, write_publish};
+use mqtt_frames::{
+    encode_ping_request, encode_publish_ack, encode_subscribe, encode_unsubscribe, write_publish,
+};
 use sng_book::{Decision, Out, Outs, Who};
 use sng_grants::Policy;
 use sng_outbox::{Item, Outbox, PacketIds, Publication};
@@ -129,8 +131,10 @@ fn leaves(
             outs.push(Out::Wire(encode_publish_ack(alloc, *packet_id)?))?;
             Ok(no_step())
         }
-        // Nothing asks for this yet.
-        Item::Ping => Ok(no_step()),
+        Item::Ping => {
+            outs.push(Out::Wire(encode_ping_request(alloc)?))?;
+            Ok(no_step())
+        }
     }
 }
 

@@ -7,14 +7,18 @@ ghost use Rattle.sng_history.specs.Exits.{agains_of, beginning, exits_of, leavin
 ghost use Rattle.sng_history.specs.Packets.{has_place, answered, filter_open, Acknowledges, Grants};
 ghost use Rattle.sng_history.specs.Standing.{places_left};
 ghost use Rattle.sng_history.specs.State.{with_wanted};
-ghost use Rattle.sng_history.specs.Verdicts.{has_flight, room_in};
+ghost use Rattle.sng_history.specs.Room.{has_flight, room_in};
+ghost use Rattle.sng_history.specs.Ticking.{is_ping_due, pinged, placed};
 ghost use Rattle.sng_wanted.specs.declared.limits.TheConstants.{MAX_WANTED};
 ghost use Rattle.sng_link.specs.Flights.{without_wanted};
+ghost use Rattle.sng_link.specs.Rooms.{room_of};
 
 use crate::again::begin;
+use crate::room::Room;
 use crate::taking::take;
 use sng_book::{Denial, Outcome, Outs, Place};
 use sng_grants::Policy;
+use sng_history::PING_MS;
 use sng_outbox::{Item, MAX_IN_FLIGHT, MAX_OUTBOX_ITEMS, Outbox, PacketIds, Publication};
 use sng_text::{Qos, TopicFilter};
 use sng_wanted::Wanted;
@@ -23,14 +27,14 @@ use std::marker::Model;
 
 /// What waits for the broker, the publishes in flight to it, the filters that are wanted upstream, the packet
 /// ids in use, which are those of the publishes in flight and of the open SUBSCRIBEs, and when the connection
-/// began. Room for all that may wait, be in flight and be wanted is made once. Contracts see the link of a
+/// began, or was last asked whether it is there. Room for all that may wait, be in flight and be wanted is made once. Contracts see the link of a
 /// history.
 #[derive(Drop)]
 pub struct Link {
     outbox: Outbox,
     ids: PacketIds,
     wanted: Wanted,
-    /// The clock, in ms, as the connection began.
+    /// The clock, in ms, as the connection began, or as the last PINGREQ came to wait on it.
     pinged: u64,
 }
 
@@ -96,6 +100,16 @@ impl Link {
         MAX_OUTBOX_ITEMS - self.outbox.len()
     }
 
+    /// The room that there is for publishes.
+    pub fn room_left(&self) -> Room
+        ensures { result ≡ room_of self.now }
+    {
+        Room {
+            places: self.places_left(),
+            flights: MAX_IN_FLIGHT - self.outbox.load(),
+        }
+    }
+
     /// Whether the filter is wanted.
     pub fn wants(&self, filter: &TopicFilter) -> bool
         ensures { result ≡ wants self.now.wanted filter.now }
@@ -117,6 +131,35 @@ impl Link {
             ≡ record self.old { waiting = self.old.waiting ++ Item.Publish publication ∷ [] } }
     {
         add(&mut self.outbox, Item::Publish(publication));
+    }
+
+    /// The publish waits behind all else, where there is room for it. Takes no memory.
+    pub fn place(&mut self, publication: Publication)
+        ensures { self.new ≡ placed self.old publication }
+    {
+        match self.room(publication.qos) {
+            Outcome::Allowed => self.push(publication),
+            Outcome::Denied(_) => {}
+        }
+    }
+
+    /// Whether a PINGREQ is due at this time, in ms of the clock: the connection is up, and `PING_MS` passed
+    /// since it began or the last PINGREQ (3.1.2.10 and 3.12). Takes no memory.
+    pub fn is_ping_due(&self, is_up: bool, clock: u64) -> bool
+        ensures { result ≡ is_ping_due is_up self.now clock }
+    {
+        is_up && clock.saturating_sub(self.pinged) >= PING_MS
+    }
+
+    /// Where a PINGREQ is due at this time, in ms of the clock, and there is place for it, it waits behind all
+    /// else. Takes no memory.
+    pub fn ping(&mut self, is_up: bool, clock: u64)
+        ensures { self.new ≡ pinged is_up self.old clock }
+    {
+        if self.is_ping_due(is_up, clock) && self.has_place() {
+            add(&mut self.outbox, Item::Ping);
+            self.pinged = clock;
+        }
     }
 
     /// The response to a message of the broker with this packet id waits behind all else (3.4). Takes no

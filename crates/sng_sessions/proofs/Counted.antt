@@ -6,7 +6,7 @@ use Rattle.indexmap.specs.IndexMap.{set_value_at}
 use Rattle.sng_fan.specs.Subscriptions.{stands}
 use Rattle.sng_book.specs.declared.address.Address.{Address}
 use Rattle.sng_frames.specs.declared.messages.connect.Connect.{Connect}
-use Rattle.sng_history.specs.Clients.{Client, blank, is_here, let_in}
+use Rattle.sng_history.specs.Clients.{Client, blank, is_here, let_in, opened, cleaned}
 use Rattle.sng_history.specs.Entering.{entering, entering_first, entered}
 use Rattle.sng_history.specs.State.{is_known}
 use Rattle.sng_sessions.specs.declared.session.Session.{Session}
@@ -72,11 +72,14 @@ entering-count text clock from connect (x ∷ xs) new =
     by false is_there is = rw (is, is_there) refl
 
 let_in-nothing : (clock : ℕ) (from : Address) (connect : Connect) (id : List ℕ) → (let_in clock from connect (blank id)).filters ≡ []
-let_in-nothing clock from connect id = by connect.flags.clean refl
+let_in-nothing clock from connect id = by connect.flags.clean connect.flags.will
   where
-    by : (clean : Bool) → connect.flags.clean ≡ clean → (let_in clock from connect (blank id)).filters ≡ []
-    by true is = rw is refl
-    by false is = rw is refl
+    by : (clean will : Bool)
+        → (opened will (cleaned clean (record (blank id) { address = from; ids = []; duration = connect.duration; heard = clock }))).filters ≡ []
+    by true true = refl
+    by true false = refl
+    by false true = refl
+    by false false = refl
 
 pub entered-count : (text : List ℕ) (clock : ℕ) (from : Address) (connect : Connect) (xs : List Client) → is_known connect.client_id xs ≡ false
     → holder_count text (entered clock from connect xs) ≡ holder_count text xs

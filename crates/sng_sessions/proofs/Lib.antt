@@ -1,7 +1,9 @@
 pub mod CountLemmas
 pub mod MovedLists
-mod HandedLemmas
+pub mod HandedLemmas
 mod IdLemmas
 mod Looks
 mod Moves
 mod Counted
+mod WillLemmas
+mod SleepLemmas

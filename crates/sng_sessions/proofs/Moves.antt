@@ -12,14 +12,16 @@ use Rattle.sng_frames.specs.declared.messages.connect.Connect.{Connect}
 use Rattle.sng_ids.specs.Ids.{Ids}
 use Rattle.sng_queue.specs.Buffers.{Buffer, nothing}
 use Rattle.sng_states.specs.States.{has_session}
-use Rattle.sng_states.specs.declared.state.ClientState.TheVariants.{Active}
-use Rattle.sng_history.specs.Clients.{Client, same_address, is_here, let_in, blank}
+use Rattle.sng_states.specs.declared.state.ClientState.{ClientState}
+use Rattle.sng_wills.specs.Wills.{Wills}
+use Rattle.sng_history.specs.Clients.{Client, same_address, is_here, let_in, opened, cleaned, no_will, blank}
 use Rattle.sng_history.specs.State.{is_known}
 use Rattle.sng_history.specs.Good.{Away, Distinct}
 use Rattle.sng_sessions.specs.declared.session.Presence.{Presence}
 use Rattle.sng_sessions.specs.declared.session.Session.{Session}
 use Rattle.sng_history.specs.Entering.{left_at, entering, entered}
 use Rattle.sng_sessions.specs.Standing.{client_at}
+use Rattle.sng_sessions.specs.Willing.{phase_opened, wills_opened}
 use Rattle.sng_sessions.specs.Places.{client_of, clients_of, holds_at, stands_at, is_place, points_at, presence_in, was_at, Indexed, moved_at, vacated, settled}
 use Rattle.sng_sessions.proofs.Looks.{is_place-self, is_place-same, points-same}
 
@@ -98,26 +100,32 @@ clients-same (entry ∷ entries) zero session after found same =
 clients-same (entry ∷ entries) (suc place) session after found same =
     ap (λ rest. client_of entry ∷ rest) (clients-same entries place session after found same)
 
--- a client as its presence, its ids, its last MsgId, what waits for it and its filters have it
-abbrev kept_as : List ℕ → Presence → Ids → ℕ → Buffer → List Held → Client
-kept_as id at ids number queue held =
-    record (blank id) { address = at.address; phase = at.phase; duration = at.duration; heard = at.heard; ids = ids; number = number; buffer = queue; filters = held }
+-- a client as its presence, its ids, its last MsgId, what waits for it, its filters and its will have it
+abbrev kept_as : List ℕ → Presence → Ids → ℕ → Buffer → List Held → Wills → Client
+kept_as id at ids number queue held wills =
+    record (blank id) { address = at.address; phase = at.phase; duration = at.duration; heard = at.heard; ids = ids; number = number; buffer = queue; filters = held; wills = wills }
 
 -- the client of a session that begins anew
 pub client-begun : (id : List ℕ) (clock : ℕ) (from : Address) (connect : Connect) (session after : Session)
-    → after.presence ≡ record { address = from; phase = Active; duration = connect.duration; heard = clock } → after.ids ≡ []
+    → after.presence ≡ record { address = from; phase = phase_opened connect.flags.will; duration = connect.duration; heard = clock } → after.ids ≡ []
     → after.number ≡ session.number
     → after.queue ≡ (if connect.flags.clean then nothing else record session.queue { exchange = None })
     → after.filters ≡ (if connect.flags.clean then [] else session.filters)
+    → after.wills ≡ wills_opened connect.flags.clean connect.flags.will session.wills
     → let_in clock from connect (client_of (id, session)) ≡ client_of (id, after)
-client-begun id clock from connect session after one two three four five =
-    by connect.flags.clean refl ∙ (λ i. kept_as id (sym one i) (sym two i) (sym three i) (sym four i) (sym five i))
+client-begun id clock from connect session after one two three four five six =
+    by connect.flags.clean connect.flags.will
+    ∙ (λ i. kept_as id (sym one i) (sym two i) (sym three i) (sym four i) (sym five i) (sym six i))
   where
-    by : (clean : Bool) → connect.flags.clean ≡ clean → let_in clock from connect (client_of (id, session))
-        ≡ kept_as id (record { address = from; phase = Active; duration = connect.duration; heard = clock }) [] session.number
-        (if connect.flags.clean then nothing else record session.queue { exchange = None }) (if connect.flags.clean then [] else session.filters)
-    by true is = rw is refl
-    by false is = rw is refl
+    by : (clean will : Bool)
+        → opened will (cleaned clean (record (client_of (id, session)) { address = from; ids = []; duration = connect.duration; heard = clock }))
+        ≡ kept_as id (record { address = from; phase = phase_opened will; duration = connect.duration; heard = clock }) [] session.number
+        (if clean then nothing else record session.queue { exchange = None }) (if clean then [] else session.filters)
+        (wills_opened clean will session.wills)
+    by true true = refl
+    by true false = refl
+    by false true = refl
+    by false false = refl
 
 -- a test that the move keeps passes where it did
 pub holds_at-kept : (test : Client → Bool) (f : Client → Client) → ((x : Client) → test (f x) ≡ test x)
@@ -137,11 +145,12 @@ holds_at-other test f (x ∷ xs) zero (suc place) other = refl
 holds_at-other test f (x ∷ xs) (suc at) zero other = refl
 holds_at-other test f (x ∷ xs) (suc at) (suc place) other = holds_at-other test f xs at place other
 
--- who left is nowhere
-stands_at-left : (clock : ℕ) (from : Address) (xs : List Client) (at : ℕ) → stands_at from (moved_at at (left_at clock) xs) at ≡ false
-stands_at-left clock from [] at = refl
-stands_at-left clock from (x ∷ xs) zero = refl
-stands_at-left clock from (x ∷ xs) (suc at) = stands_at-left clock from xs at
+-- who is nowhere once moved stands nowhere
+stands_at-left : (f : Client → Client) (from : Address) (xs : List Client) (at : ℕ) → ((x : Client) → is_here (f x) from ≡ false)
+    → stands_at from (moved_at at f xs) at ≡ false
+stands_at-left f from [] at off = refl
+stands_at-left f from (x ∷ xs) zero off = off x
+stands_at-left f from (x ∷ xs) (suc at) off = stands_at-left f from xs at off
 
 stands_at-was : (from : Address) (entries : List (List ℕ × Session)) (at : ℕ)
     → stands_at from (clients_of entries) at ≡ was_at (presence_in (slice_get (values_of entries) at)) from
@@ -149,15 +158,16 @@ stands_at-was from [] at = refl
 stands_at-was from (entry ∷ entries) zero = refl
 stands_at-was from (entry ∷ entries) (suc at) = stands_at-was from entries at
 
-pub left-indexed : (look after : Address → Option ℕ) (entries : List (List ℕ × Session)) (at clock : ℕ)
-    → Indexed look (clients_of entries)
+-- a client leaves, or is lost
+pub left-indexed : (look after : Address → Option ℕ) (entries : List (List ℕ × Session)) (at : ℕ) (f : Client → Client)
+    → ((x : Client) (from : Address) → is_here (f x) from ≡ false) → Indexed look (clients_of entries)
     → ((from : Address) → after from ≡ (if was_at (presence_in (slice_get (values_of entries) at)) from then None else look from))
-    → Indexed after (moved_at at (left_at clock) (clients_of entries))
-left-indexed look after entries at clock indexed looks =
-    indexed-moved look after xs (moved_at at (left_at clock) xs) at (was_at (presence_in (slice_get (values_of entries) at))) (λ from. false) indexed (record {
+    → Indexed after (moved_at at f (clients_of entries))
+left-indexed look after entries at f off indexed looks =
+    indexed-moved look after xs (moved_at at f xs) at (was_at (presence_in (slice_get (values_of entries) at))) (λ from. false) indexed (record {
       before = λ from. stands_at-was from entries at;
-      here = λ from. stands_at-left clock from xs at;
-      others = λ from place other. holds_at-other (λ x. is_here x from) (left_at clock) xs at place other;
+      here = λ from. stands_at-left f from xs at (λ x. off x from);
+      others = λ from place other. holds_at-other (λ x. is_here x from) f xs at place other;
       looks = looks;
       alone = λ from place now other. absurd (true≢false (sym now));
     })
@@ -406,19 +416,32 @@ known_vacated clock from id (x ∷ xs) =
     by false false is is_there = rw (is, is_there) is
 
 -- the session of an accepted CONNECT of a client that was not known
-abbrev pub session_by : ℕ → Address → Connect → Ids → Buffer → List Held → Session
-session_by clock from connect ids queue held = record {
-  presence = record { address = from; phase = Active; duration = connect.duration; heard = clock };
+abbrev pub session_by : ℕ → Address → Connect → ClientState → Ids → Buffer → List Held → Wills → Session
+session_by clock from connect phase ids queue held wills = record {
+  presence = record { address = from; phase = phase; duration = connect.duration; heard = clock };
   ids = ids;
   number = 0;
   queue = queue;
   filters = held;
+  wills = wills;
 }
 
-let_in-blank : (clock : ℕ) (from : Address) (connect : Connect) (clean : Bool) → connect.flags.clean ≡ clean
-    → client_of (connect.client_id, session_by clock from connect [] nothing []) ≡ let_in clock from connect (blank connect.client_id)
-let_in-blank clock from connect true is = rw is refl
-let_in-blank clock from connect false is = rw is refl
+abbrev pub begun_wills : Connect → Wills → Wills
+begun_wills connect wills = wills_opened connect.flags.clean connect.flags.will wills
+
+let_in-blank : (clock : ℕ) (from : Address) (connect : Connect)
+    → client_of (connect.client_id, session_by clock from connect (phase_opened connect.flags.will) [] nothing [] (begun_wills connect no_will))
+    ≡ let_in clock from connect (blank connect.client_id)
+let_in-blank clock from connect = by connect.flags.clean connect.flags.will
+  where
+    by : (clean will : Bool)
+        → kept_as connect.client_id (record { address = from; phase = phase_opened will; duration = connect.duration; heard = clock }) [] 0
+        nothing [] (wills_opened clean will no_will)
+        ≡ opened will (cleaned clean (record (blank connect.client_id) { address = from; ids = []; duration = connect.duration; heard = clock }))
+    by true true = refl
+    by true false = refl
+    by false true = refl
+    by false false = refl
 
 -- the first of a list that is not known, and the rest
 pub known-first : (id : List ℕ) (x : Client) (xs : List Client) → is_known id (x ∷ xs) ≡ false → (bytes_eq id x.id ≡ false) × (is_known id xs ≡ false)
@@ -443,20 +466,21 @@ entering-new clock from connect session (x ∷ xs) new =
     by false is_there is = rw (is, is_there, is) refl
 
 settled_entered : (clock : ℕ) (from : Address) (connect : Connect) (xs : List Client) → is_known connect.client_id xs ≡ false
-    → settled connect.client_id (session_by clock from connect [] nothing []) (map (vacated clock from connect.client_id) xs)
+    → settled connect.client_id (session_by clock from connect (phase_opened connect.flags.will) [] nothing [] (begun_wills connect no_will)) (map (vacated clock from connect.client_id) xs)
     ≡ entered clock from connect xs
 settled_entered clock from connect xs unknown =
     let known = known_vacated clock from connect.client_id xs in
-    let new = let_in-blank clock from connect connect.flags.clean refl in
-    let all = entering-new clock from connect (session_by clock from connect [] nothing []) xs unknown in
+    let new = let_in-blank clock from connect in
+    let all = entering-new clock from connect (session_by clock from connect (phase_opened connect.flags.will) [] nothing [] (begun_wills connect no_will)) xs unknown in
     λ i. all i ++ (if known i then [] else new i ∷ [])
 
-pub settled-entered : (clock : ℕ) (from : Address) (connect : Connect) (ids : Ids) (queue : Buffer) (held : List Held)
-    → (ids ≡ []) × (queue ≡ nothing) × (held ≡ []) → (xs : List Client) → is_known connect.client_id xs ≡ false
-    → settled connect.client_id (session_by clock from connect ids queue held) (map (vacated clock from connect.client_id) xs)
+pub settled-entered : (clock : ℕ) (from : Address) (connect : Connect) (phase : ClientState) (ids : Ids) (queue : Buffer) (held : List Held) (wills after : Wills)
+    → (ids ≡ []) × (queue ≡ nothing) × (held ≡ []) × (wills ≡ no_will) → phase ≡ phase_opened connect.flags.will → after ≡ begun_wills connect wills → (xs : List Client) → is_known connect.client_id xs ≡ false
+    → settled connect.client_id (session_by clock from connect phase ids queue held after) (map (vacated clock from connect.client_id) xs)
     ≡ entered clock from connect xs
-settled-entered clock from connect ids queue held none xs unknown =
-    (λ i. settled connect.client_id (session_by clock from connect (none.0 i) (none.1 i) (none.2 i)) (map (vacated clock from connect.client_id) xs))
+settled-entered clock from connect phase ids queue held wills after none stands is xs unknown =
+    let begun = is ∙ ap (begun_wills connect) none.3 in
+    (λ i. settled connect.client_id (session_by clock from connect (stands i) (none.0 i) (none.1 i) (none.2 i) (begun i)) (map (vacated clock from connect.client_id) xs))
     ∙ settled_entered clock from connect xs unknown
 
 -- ---- a client that connects again
@@ -557,11 +581,15 @@ returned-entered clock from connect xs found only =
 
 -- who connects is at the address
 let_in-here : (clock : ℕ) (at from : Address) (connect : Connect) (x : Client) → is_here (let_in clock at connect x) from ≡ same_address at from
-let_in-here clock at from connect x = by connect.flags.clean refl
+let_in-here clock at from connect x = by connect.flags.clean connect.flags.will
   where
-    by : (clean : Bool) → connect.flags.clean ≡ clean → is_here (let_in clock at connect x) from ≡ same_address at from
-    by true is = rw is refl
-    by false is = rw is refl
+    by : (clean will : Bool)
+        → is_here (opened will (cleaned clean (record x { address = at; ids = []; duration = connect.duration; heard = clock }))) from
+        ≡ same_address at from
+    by true true = refl
+    by true false = refl
+    by false true = refl
+    by false false = refl
 
 stands_at-let_in : (clock : ℕ) (at from : Address) (connect : Connect) (entries : List (List ℕ × Session)) (place : ℕ) (session : Session)
     → slice_get (values_of entries) place ≡ Some session

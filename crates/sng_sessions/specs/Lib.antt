@@ -3,3 +3,5 @@ pub mod Moving
 pub mod Counts
 pub mod Places
 pub mod Handed
+pub mod Willing
+pub mod Sleeping

@@ -14,7 +14,7 @@ use Rattle.sng_sessions.specs.declared.session.Session.{Session}
 abbrev pub client_of : List ℕ × Session → Client
 client_of entry =
     let at = entry.1.presence in
-    record (blank entry.0) { address = at.address; phase = at.phase; duration = at.duration; heard = at.heard; ids = entry.1.ids; number = entry.1.number; buffer = entry.1.queue; filters = entry.1.filters }
+    record (blank entry.0) { address = at.address; phase = at.phase; duration = at.duration; heard = at.heard; ids = entry.1.ids; number = entry.1.number; buffer = entry.1.queue; filters = entry.1.filters; wills = entry.1.wills }
 
 abbrev pub clients_of : List (List ℕ × Session) → List Client
 clients_of entries = map client_of entries

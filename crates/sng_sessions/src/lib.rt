@@ -9,7 +9,11 @@ pub mod ids;
 mod places;
 pub mod session;
 pub mod sessions;
+pub mod sleeping;
 mod subscribing;
+pub mod wills;
 
 pub use handing::{Handed, Opens, number_after};
 pub use sessions::Sessions;
+pub use sleeping::{Change, is_tried_out, is_unanswered};
+pub use wills::Stating;

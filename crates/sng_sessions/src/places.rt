@@ -10,7 +10,9 @@ ghost use Rattle.sng_ids.specs.Ids.{is_full_for};
 ghost use Rattle.sng_book.specs.declared.outcome.Outcome.TheVariants.{Allowed};
 ghost use Rattle.sng_fan.specs.Subscriptions.{stands};
 ghost use Rattle.sng_queue.specs.Buffers.{nothing};
-ghost use Rattle.sng_history.specs.Clients.{let_in, told};
+ghost use Rattle.sng_wills.specs.declared.will.Stage.TheVariants.{Closed};
+ghost use Rattle.sng_sessions.specs.Willing.{phase_opened, wills_opened};
+ghost use Rattle.sng_history.specs.Clients.{let_in, lost, told};
 ghost use Rattle.sng_history.specs.State.{is_known};
 ghost use Rattle.sng_history.specs.Entering.{heard_at, left_at, entered};
 ghost use Rattle.sng_sessions.specs.Counts.{count_of, one_if, Counted, Follows};
@@ -28,6 +30,7 @@ use sng_frames::Connect;
 use sng_queue::Queue;
 use sng_states::ClientState;
 use sng_text::{ClientId, TopicName};
+use sng_wills::WillDialogue;
 
 /// The client at this place leaves, and its address is free. Takes no memory.
 pub fn leave_at(
@@ -46,8 +49,29 @@ pub fn leave_at(
     if let Some(session) = clients.get_index_mut(place) {
         release(places, Some(session.presence));
         session.queue.empty();
+        session.wills.stop();
         session.presence.phase = ClientState::Disconnected;
         session.presence.heard = clock;
+    }
+}
+
+/// The client at this place is lost, and its address is free. Its subscriptions, its will and its ids stay.
+/// Takes no memory.
+pub fn lose_at(
+    clients: &mut IndexMap<ClientId, Session>,
+    places: &mut IndexMap<Address, usize>,
+    place: usize,
+)
+    requires { Indexed (get same_address places.old) (clients_of clients.old.entries) }
+    ensures clients { clients_of clients.new.entries
+        ≡ moved_at place lost (clients_of clients.old.entries) }
+    ensures indexed { Indexed (get same_address places.new) (clients_of clients.new.entries) }
+{
+    if let Some(session) = clients.get_index_mut(place) {
+        release(places, Some(session.presence));
+        session.queue.empty();
+        session.wills.stop();
+        session.presence.phase = ClientState::Lost;
     }
 }
 
@@ -74,11 +98,13 @@ pub fn admit(
     ids: ClientIds,
     queue: Queue,
     filters: Subscriptions,
+    wills: WillDialogue,
     clock: u64,
 )
     requires indexed { Indexed (get same_address places.old) (clients_of clients.old.entries) }
     requires new { is_known connect.client_id (clients_of clients.old.entries) ≡ false }
-    requires none { (ids ≡ []) × (queue ≡ nothing) × (filters ≡ []) }
+    requires none { (ids ≡ []) × (queue ≡ nothing) × (filters ≡ [])
+        × (wills ≡ record { stage = Closed; will = None }) }
     requires room { 0 < spare clients.old }
     requires place_room { 0 < spare places.old }
     ensures clients { clients_of clients.new.entries
@@ -86,10 +112,12 @@ pub fn admit(
     ensures indexed { Indexed (get same_address places.new) (clients_of clients.new.entries) }
 {
     vacate(clients, places, from, &connect.client_id, clock);
+    let mut wills = wills;
+    open(&mut wills, connect.flags.clean, connect.flags.will);
     let session = Session {
         presence: Presence {
             address: from,
-            phase: ClientState::Active,
+            phase: phase_opened(connect.flags.will),
             duration: connect.duration,
             heard: clock,
         },
@@ -97,6 +125,7 @@ pub fn admit(
         number: 0,
         queue,
         filters,
+        wills,
     };
     settle(clients, places, connect.client_id, session);
 }
@@ -157,13 +186,13 @@ fn return_at(
     }
 }
 
-/// A session begins anew, with no exchange open: a clean one ends what stood and waited for its client
-/// (MQTT-SN 1.2, 6.2 and 6.3).
+/// A session begins anew, with no exchange open: a clean one ends what stood and waited for its client, and
+/// its will (MQTT-SN 1.2, 6.2 and 6.3).
 fn begin(session: &mut Session, holders: &mut Holders, from: Address, connect: &Connect, clock: u64)
     requires { (text : List ℕ) → one_if (stands session.old.filters text) ≤ count_of holders.old.held text }
     ensures presence { session.new.presence ≡ record {
       address = from;
-      phase = ClientState.Active;
+      phase = phase_opened connect.now.flags.will;
       duration = connect.now.duration;
       heard = clock;
     } }
@@ -172,6 +201,8 @@ fn begin(session: &mut Session, holders: &mut Holders, from: Address, connect: &
     ensures queue { session.new.queue ≡ (if connect.now.flags.clean then nothing
         else record session.old.queue { exchange = None }) }
     ensures filters { session.new.filters ≡ (if connect.now.flags.clean then [] else session.old.filters) }
+    ensures wills { session.new.wills
+        ≡ wills_opened connect.now.flags.clean connect.now.flags.will session.old.wills }
     ensures counts { Follows holders.old.held holders.new.held session.old.filters session.new.filters }
 {
     session.queue.close();
@@ -179,13 +210,40 @@ fn begin(session: &mut Session, holders: &mut Holders, from: Address, connect: &
         end_all(&mut session.filters, holders);
         session.queue.empty();
     }
+    open(&mut session.wills, connect.flags.clean, connect.flags.will);
     session.ids.clear();
     session.presence = Presence {
         address: from,
-        phase: ClientState::Active,
+        phase: phase_opened(connect.flags.will),
         duration: connect.duration,
         heard: clock,
     };
+}
+
+/// How a client stands whose CONNECT is accepted: one with Will opens the dialogue about its will.
+fn phase_opened(will: bool) -> ClientState
+    ensures { result ≡ phase_opened will }
+{
+    if will {
+        ClientState::Dialogue
+    } else {
+        ClientState::Active
+    }
+}
+
+/// The dialogue about the will of a client whose CONNECT is accepted: one with Will opens it, and else none
+/// is open. A clean session has no will yet.
+fn open(wills: &mut WillDialogue, clean: bool, will: bool)
+    ensures { wills.new ≡ wills_opened clean will wills.old }
+{
+    if clean {
+        wills.clear();
+    } else {
+        wills.stop();
+    }
+    if will {
+        wills.start();
+    }
 }
 
 /// Whoever is at the address and has another id leaves.

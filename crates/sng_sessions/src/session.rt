@@ -1,9 +1,14 @@
 //! What is kept of one client.
+ghost use Rattle.std.specs.Prelude.{◌≡◌, ◌&&◌};
+ghost use Rattle.sng_states.specs.States.{has_session};
+ghost use Rattle.sng_states.specs.Silence.{overdue};
+
 use crate::ids::ClientIds;
 use sng_book::Address;
 use sng_fan::subscriptions::Subscriptions;
 use sng_queue::Queue;
-use sng_states::ClientState;
+use sng_states::{ClientState, overdue};
+use sng_wills::WillDialogue;
 
 /// Where a client is, and how it stands with the gateway.
 #[derive(Clone, Copy, Debug)]
@@ -18,6 +23,16 @@ pub struct Presence {
     pub heard: u64,
 }
 
+impl Presence {
+    /// Whether the client has a session and was silent for longer than its Duration allows, as the clock is at
+    /// this, in ms. Takes no memory.
+    pub fn is_overdue(&self, clock: u64) -> bool
+        ensures { result ≡ (has_session self.now.phase && overdue self.now.duration self.now.heard clock) }
+    {
+        self.phase.has_session() && overdue(self.duration, self.heard, clock)
+    }
+}
+
 /// What is kept of one client beside its id.
 #[derive(Debug, Drop)]
 pub struct Session {
@@ -30,4 +45,6 @@ pub struct Session {
     pub queue: Queue,
     /// The filters that stand for it.
     pub filters: Subscriptions,
+    /// Its will, where it has one, and the dialogue about it.
+    pub wills: WillDialogue,
 }

@@ -3,7 +3,8 @@ ghost use Rattle.std.specs.Prelude.{◌≡◌, ◌<◌, ◌+◌, ◌||◌, [], l
 ghost use Rattle.std.specs.Option.{ForSome};
 ghost use Rattle.sng_fan.specs.Subscriptions.{is_full, IsOneClients};
 ghost use Rattle.sng_fan.specs.Greatest.{greatest_qos};
-ghost use Rattle.sng_history.specs.Clients.{without};
+ghost use Rattle.sng_history.specs.Clients.{lost, without};
+ghost use Rattle.sng_history.specs.Ticking.{is_overdue};
 ghost use Rattle.sng_history.specs.Standing.{holds, is_held};
 ghost use Rattle.sng_history.specs.Good.{Distinct, OnePlace};
 ghost use Rattle.sng_ids.specs.Ids.{is_full_for};
@@ -12,13 +13,17 @@ ghost use Rattle.sng_history.specs.Entering.{heard_at, left_at, entered};
 ghost use Rattle.sng_sessions.specs.Standing.{place_at, place_of, client_at, told_at, subscribed_at};
 ghost use Rattle.sng_sessions.specs.Places.{moved_at};
 ghost use Rattle.sng_sessions.specs.Handed.{delivered, handed_by, answered};
+ghost use Rattle.sng_sessions.specs.Sleeping.{changed};
+ghost use Rattle.sng_sessions.specs.Willing.{stating_at};
 
 use crate::handing::{Handed, Opens, answer_at, deliver_at, hand_at};
 use crate::holders::Holders;
 use crate::ids::ClientIds;
-use crate::places::{admit, hear_at, leave_at, readmit, tell_at, tell_if};
+use crate::places::{admit, hear_at, leave_at, lose_at, readmit, tell_at, tell_if};
 use crate::session::Session;
+use crate::sleeping::{Change, change_at};
 use crate::subscribing::{end_at, stand_at};
+use crate::wills::{Stating, state_at};
 use indexmap::IndexMap;
 use sng_book::Address;
 use sng_fan::Held;
@@ -28,6 +33,7 @@ use sng_ids::IdTable;
 use sng_queue::{Queue, Waiting};
 use sng_states::ClientState;
 use sng_text::{ClientId, Qos, TopicFilter, TopicName};
+use sng_wills::WillDialogue;
 use std::alloc::{AllocError, Global};
 use std::marker::Model;
 
@@ -145,6 +151,23 @@ impl Sessions {
         &self.clients[place].queue
     }
 
+    /// The will of the client at this place, where it has one, and the dialogue about it. Takes no memory.
+    pub fn wills(&self, place: usize) -> &WillDialogue
+        requires { place < length self.now }
+        ensures { result.now ≡ (client_at self.now place).wills }
+    {
+        &self.clients[place].wills
+    }
+
+    /// Whether the client at this place has a session and was silent for longer than its Duration allows, as
+    /// the clock is at this, in ms. Takes no memory.
+    pub fn is_overdue(&self, place: usize, clock: u64) -> bool
+        requires { place < length self.now }
+        ensures { result ≡ is_overdue clock (client_at self.now place) }
+    {
+        self.clients[place].presence.is_overdue(clock)
+    }
+
     /// The greatest QoS among the filters of the client at this place that match the name, where one matches.
     /// Takes no memory.
     pub fn greatest(&self, place: usize, name: &TopicName) -> Option<Qos>
@@ -233,6 +256,29 @@ impl Sessions {
         leave_at(&mut self.clients, &mut self.places, place, clock);
     }
 
+    /// The client at this place is lost, and its address is free. Its subscriptions, its will and its ids stay.
+    /// Takes no memory.
+    pub fn lose(&mut self, place: usize)
+        ensures { self.new ≡ moved_at place lost self.old }
+    {
+        lose_at(&mut self.clients, &mut self.places, place);
+    }
+
+    /// This happens to the client at this place. Takes no memory.
+    pub fn change(&mut self, place: usize, change: Change, clock: u64)
+        ensures { self.new ≡ moved_at place (changed clock change) self.old }
+    {
+        change_at(&mut self.clients, place, change, clock);
+    }
+
+    /// The client at this place is heard, and its will is as it states; what is out of turn changes nothing
+    /// of it. Takes no memory.
+    pub fn state(&mut self, place: usize, stating: Stating, clock: u64)
+        ensures { self.new ≡ moved_at place (stating_at clock stating) self.old }
+    {
+        state_at(&mut self.clients, place, stating, clock);
+    }
+
     /// The client at this place is heard, and the filter stands for it at this QoS; where it stood it keeps
     /// its place. Where a name is given, the client is told the id that this has from now on. The copy is
     /// what the filter is counted by where nobody held it. An `Err` is a failed allocation; nothing changed.
@@ -311,9 +357,12 @@ impl Sessions {
                 let ids = ClientIds::new(alloc)?;
                 let queue = Queue::new(alloc)?;
                 let filters = Subscriptions::new(alloc)?;
+                let wills = WillDialogue::new(alloc);
                 self.clients.reserve(1)?;
                 let (clients, places) = (&mut self.clients, &mut self.places);
-                admit(clients, places, from, connect, ids, queue, filters, clock);
+                admit(
+                    clients, places, from, connect, ids, queue, filters, wills, clock,
+                );
                 Ok(())
             }
         }

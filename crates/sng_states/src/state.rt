@@ -19,7 +19,7 @@ pub enum ClientState {
 }
 
 impl ClientState {
-    ghost use Rattle.sng_states.specs.States.{has_session, is_due_messages, takes_messages};
+    ghost use Rattle.sng_states.specs.States.{has_session, is_due_messages, takes_messages, is_asleep, is_awake};
 
     /// Whether the gateway holds a session with the client at its address.
     pub fn has_session(self) -> bool
@@ -41,6 +41,34 @@ impl ClientState {
         match self {
             ClientState::Active | ClientState::Asleep | ClientState::Awake => true,
             ClientState::Dialogue | ClientState::Disconnected | ClientState::Lost => false,
+        }
+    }
+
+    /// Whether it sleeps, and has not asked for what waits.
+    pub fn is_asleep(self) -> bool
+        ensures { result ≡ is_asleep self }
+    {
+        match self {
+            ClientState::Asleep => true,
+            ClientState::Dialogue
+            | ClientState::Active
+            | ClientState::Awake
+            | ClientState::Disconnected
+            | ClientState::Lost => false,
+        }
+    }
+
+    /// Whether it sleeps, and has asked for what waits.
+    pub fn is_awake(self) -> bool
+        ensures { result ≡ is_awake self }
+    {
+        match self {
+            ClientState::Awake => true,
+            ClientState::Dialogue
+            | ClientState::Active
+            | ClientState::Asleep
+            | ClientState::Disconnected
+            | ClientState::Lost => false,
         }
     }
 

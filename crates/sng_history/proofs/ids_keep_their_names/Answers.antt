@@ -1,4 +1,5 @@
-use Rattle.sng_history.proofs.LawNames.{name_told, names_kept, names_once}
+use Rattle.sng_history.proofs.LawNames.{name_told, names_kept}
+use Rattle.sng_history.proofs.NamesOnce.{names_once}
 use Rattle.sng_history.proofs.ids_keep_their_names.Goals as goal
 
 pub returns : goal.returns

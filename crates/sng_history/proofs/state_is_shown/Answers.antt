@@ -1,6 +1,5 @@
 use Rattle.sng_history.proofs.SeenState.{stands}
-use Rattle.sng_history.proofs.SeenUntold.{each_untold}
-use Rattle.sng_history.proofs.LawStrangers.{never_accepted}
+use Rattle.sng_history.proofs.NeverAccepted.{never_accepted}
 use Rattle.sng_history.proofs.SeenLast.{rest_shown}
 use Rattle.sng_history.proofs.state_is_shown.Goals as goal
 
@@ -13,6 +12,5 @@ returns c = record {
   rest = rest_shown;
   order = λ h l. (stands h l).shown.order;
   clients = λ h l. (stands h l).shown.clients;
-  untold = each_untold;
   strangers = never_accepted;
 }

@@ -3,7 +3,7 @@ use Rattle.std.proofs.Common.{sym, ap, ◌∙◌}
 use Rattle.std.specs.Prelude.{if◌then◌else◌}
 use Rattle.sng_history.specs.Entering.{heard_at}
 use Rattle.sng_sessions.specs.Standing.{client_at}
-use Rattle.sng_core.specs.Confirming.{served_next, confirming_next, acknowledge_next}
+use Rattle.sng_core.specs.Confirming.{served_next, acknowledge_next}
 use Rattle.sng_core.proofs.ConfirmLemmas.{moved-here}
 use Rattle.sng_core.proofs.confirm.acknowledge_at.Goals as goal
 

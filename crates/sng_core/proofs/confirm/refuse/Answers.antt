@@ -1,5 +1,5 @@
 -- Something waits, or nothing.
-use Rattle.std.proofs.Common.{◌≡◌, [], ◌∷◌, ◌++◌, drop, slice_get, Some, sym, ap, ◌∙◌}
+use Rattle.std.proofs.Common.{[], ◌∷◌, ◌++◌, slice_get, sym, ap, ◌∙◌}
 use Rattle.std.specs.Option.{option_copied}
 use Rattle.std.proofs.lemmas.List.{append_assoc}
 use Rattle.sng_book.specs.declared.decision.Decision.TheVariants as note
@@ -8,7 +8,7 @@ use Rattle.sng_book.specs.declared.outcome.Outcome.TheVariants.{Denied}
 use Rattle.sng_book.specs.declared.out.Out.TheVariants.{Note}
 use Rattle.sng_history.specs.Entering.{heard_at}
 use Rattle.sng_sessions.specs.Standing.{client_at}
-use Rattle.sng_core.specs.Confirming.{over_outs, served_next, refusing_outs, refusing_next}
+use Rattle.sng_core.specs.Confirming.{served_outs, served_next, refusing_outs, refusing_next}
 use Rattle.sng_core.proofs.ConfirmLemmas.{moved-here, nothing-waits, one-waits}
 use Rattle.sng_core.proofs.confirm.refuse.Goals as goal
 
@@ -30,9 +30,9 @@ returns-clause-outs c =
     let there = one-waits x.buffer.waiting c.in-Some.front.now
     (ap (λ b. slice_get b.waiting 0) (sym c.queue.ensures) ∙ (sym c.at.ensures ∙ ap option_copied c.in-Some.is)) in
     c.in_ok-serve.ensures.outs
-    ∙ (ap (λ o. o ++ over_outs policy 0 1 x) (c.in_ok-note_hand.ensures
+    ∙ (ap (λ o. o ++ served_outs policy 0 1 x) (c.in_ok-note_hand.ensures
     ∙ (λ i. outs ++ Note (note.Hand (c.id.ensures i) (c.name.ensures.value i) refused) ∷ []))
-    ∙ (append_assoc outs (Note (note.Hand x.id c.in-Some.front.now.name refused) ∷ []) (over_outs policy 0 1 x)
+    ∙ (append_assoc outs (Note (note.Hand x.id c.in-Some.front.now.name refused) ∷ []) (served_outs policy 0 1 x)
     ∙ ap (λ ms. outs ++ refusing_outs policy c.args.code x ms) (sym there)))
 
 pub returns-clause-next : goal.returns-clause-next

@@ -1,8 +1,6 @@
 -- One message more had its turn.
-use Rattle.std.proofs.Common.{◌≡◌, ◌<◌, ◌≤◌, ◌+◌, length, true, false, sym, ap, ◌∙◌, arith}
+use Rattle.std.proofs.Common.{sym, ap, ◌∙◌, arith}
 use Rattle.std.specs.Option.{option_copied}
-use Rattle.sng_sessions.specs.declared.handing.Handed.{Handed}
-use Rattle.sng_sessions.specs.declared.handing.Opens.{Opens}
 use Rattle.sng_core.specs.HandingOver.{is_open}
 use Rattle.sng_core.proofs.HandOverLemmas.{stop-outs, stop-plan, go-outs, go-plan, opened}
 use Rattle.sng_core.proofs.hand_over.hand_over.Goals as goal

@@ -1,6 +1,5 @@
 -- The id that is confirmed is known, and any other as it was.
 use Rattle.std.proofs.Common.{sym, ap, is_some, ◌∙◌}
-use Rattle.std.specs.Option.{option_copied}
 use Rattle.sng_core.proofs.KnownLemmas.{told-now, told-before, told-none, some-copied}
 use Rattle.sng_core.proofs.known.told_id.Goals as goal
 use Rattle.sng_core.proofs.known.told_id.Goals.{else-id_for-confirming-via-then-id_for-confirming+else-is_some, else-id_for-confirming-via-else-id_for-confirming}

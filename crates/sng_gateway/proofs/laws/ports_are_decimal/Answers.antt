@@ -1,4 +1,4 @@
-use Rattle.sng_gateway.proofs.PortLemmas.{ports_are_decimal}
+use Rattle.sng_gateway.proofs.NumberLemmas.{ports_are_decimal}
 use Rattle.sng_gateway.proofs.laws.ports_are_decimal.Goals as goal
 
 pub returns : goal.returns

@@ -13,5 +13,5 @@ settle-requires-clause-alone c =
 pub returns-clause-clients : goal.returns-clause-clients
 returns-clause-clients c =
     c.settle.ensures.clients
-    ∙ ap (settled c.args.connect.client_id (session_by c.args.clock c.args.from c.args.connect c.args.ids c.args.queue c.args.filters)) c.vacate.ensures.clients
-    ∙ settled-entered c.args.clock c.args.from c.args.connect c.args.ids c.args.queue c.args.filters c.requires.none _ c.requires.new
+    ∙ ap (settled c.args.connect.client_id (session_by c.args.clock c.args.from c.args.connect c.phase_opened.result c.args.ids c.args.queue c.args.filters c.open.new.wills)) c.vacate.ensures.clients
+    ∙ settled-entered c.args.clock c.args.from c.args.connect c.phase_opened.result c.args.ids c.args.queue c.args.filters c.args.wills c.open.new.wills c.requires.none c.phase_opened.ensures c.open.ensures _ c.requires.new

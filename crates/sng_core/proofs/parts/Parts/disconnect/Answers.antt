@@ -9,4 +9,4 @@ returns-in-None-clause-outs c =
 
 pub returns-in-Some-clause-outs : goal.returns-in-Some-clause-outs
 returns-in-Some-clause-outs c =
-    subst (λ d. IfOk c.unsupported.result (λ outs. outs ≡ outs_by c.args.self.now (disconnect_cause c.args.from d))) (sym c.in-Some.is) c.unsupported.ensures.outs
+    subst (λ d. IfOk c.sleep.result (λ outs. outs ≡ outs_by c.args.self.now (disconnect_cause c.args.from d))) (sym c.in-Some.is) c.sleep.ensures.outs

@@ -16,13 +16,13 @@ pub returns-in-WillTopicRequest-clause-outs : goal.returns-in-WillTopicRequest-c
 returns-in-WillTopicRequest-clause-outs c = subst (λ f. IfOk c.unsupported-in-WillTopicRequest.result (λ outs. outs ≡ outs_by c.args.self.now (frame_cause c.args.from f))) (sym c.in-WillTopicRequest.is) c.unsupported-in-WillTopicRequest.ensures.outs
 
 pub returns-in-WillTopic-clause-outs : goal.returns-in-WillTopic-clause-outs
-returns-in-WillTopic-clause-outs c = subst (λ f. IfOk c.unsupported-in-WillTopic.result (λ outs. outs ≡ outs_by c.args.self.now (frame_cause c.args.from f))) (sym c.in-WillTopic.is) c.unsupported-in-WillTopic.ensures.outs
+returns-in-WillTopic-clause-outs c = subst (λ f. IfOk c.state.result (λ outs. outs ≡ outs_by c.args.self.now (frame_cause c.args.from f))) (sym c.in-WillTopic.is) c.state.ensures.outs
 
 pub returns-in-WillMessageRequest-clause-outs : goal.returns-in-WillMessageRequest-clause-outs
 returns-in-WillMessageRequest-clause-outs c = subst (λ f. IfOk c.unsupported-in-WillMessageRequest.result (λ outs. outs ≡ outs_by c.args.self.now (frame_cause c.args.from f))) (sym c.in-WillMessageRequest.is) c.unsupported-in-WillMessageRequest.ensures.outs
 
 pub returns-in-WillMessage-clause-outs : goal.returns-in-WillMessage-clause-outs
-returns-in-WillMessage-clause-outs c = subst (λ f. IfOk c.unsupported-in-WillMessage.result (λ outs. outs ≡ outs_by c.args.self.now (frame_cause c.args.from f))) (sym c.in-WillMessage.is) c.unsupported-in-WillMessage.ensures.outs
+returns-in-WillMessage-clause-outs c = subst (λ f. IfOk c.state-in-WillMessage.result (λ outs. outs ≡ outs_by c.args.self.now (frame_cause c.args.from f))) (sym c.in-WillMessage.is) c.state-in-WillMessage.ensures.outs
 
 pub returns-in-Register-clause-outs : goal.returns-in-Register-clause-outs
 returns-in-Register-clause-outs c = subst (λ f. IfOk c.register.result (λ outs. outs ≡ outs_by c.args.self.now (frame_cause c.args.from f))) (sym c.in-Register.is) c.register.ensures.outs
@@ -58,13 +58,13 @@ pub returns-in-PingResponse-clause-outs : goal.returns-in-PingResponse-clause-ou
 returns-in-PingResponse-clause-outs c = subst (λ f. IfOk c.unsupported-in-PingResponse.result (λ outs. outs ≡ outs_by c.args.self.now (frame_cause c.args.from f))) (sym c.in-PingResponse.is) c.unsupported-in-PingResponse.ensures.outs
 
 pub returns-in-WillTopicUpdate-clause-outs : goal.returns-in-WillTopicUpdate-clause-outs
-returns-in-WillTopicUpdate-clause-outs c = subst (λ f. IfOk c.unsupported-in-WillTopicUpdate.result (λ outs. outs ≡ outs_by c.args.self.now (frame_cause c.args.from f))) (sym c.in-WillTopicUpdate.is) c.unsupported-in-WillTopicUpdate.ensures.outs
+returns-in-WillTopicUpdate-clause-outs c = subst (λ f. IfOk c.state-in-WillTopicUpdate.result (λ outs. outs ≡ outs_by c.args.self.now (frame_cause c.args.from f))) (sym c.in-WillTopicUpdate.is) c.state-in-WillTopicUpdate.ensures.outs
 
 pub returns-in-WillTopicResponse-clause-outs : goal.returns-in-WillTopicResponse-clause-outs
 returns-in-WillTopicResponse-clause-outs c = subst (λ f. IfOk c.unsupported-in-WillTopicResponse.result (λ outs. outs ≡ outs_by c.args.self.now (frame_cause c.args.from f))) (sym c.in-WillTopicResponse.is) c.unsupported-in-WillTopicResponse.ensures.outs
 
 pub returns-in-WillMessageUpdate-clause-outs : goal.returns-in-WillMessageUpdate-clause-outs
-returns-in-WillMessageUpdate-clause-outs c = subst (λ f. IfOk c.unsupported-in-WillMessageUpdate.result (λ outs. outs ≡ outs_by c.args.self.now (frame_cause c.args.from f))) (sym c.in-WillMessageUpdate.is) c.unsupported-in-WillMessageUpdate.ensures.outs
+returns-in-WillMessageUpdate-clause-outs c = subst (λ f. IfOk c.state-in-WillMessageUpdate.result (λ outs. outs ≡ outs_by c.args.self.now (frame_cause c.args.from f))) (sym c.in-WillMessageUpdate.is) c.state-in-WillMessageUpdate.ensures.outs
 
 pub returns-in-WillMessageResponse-clause-outs : goal.returns-in-WillMessageResponse-clause-outs
 returns-in-WillMessageResponse-clause-outs c = subst (λ f. IfOk c.unsupported-in-WillMessageResponse.result (λ outs. outs ≡ outs_by c.args.self.now (frame_cause c.args.from f))) (sym c.in-WillMessageResponse.is) c.unsupported-in-WillMessageResponse.ensures.outs

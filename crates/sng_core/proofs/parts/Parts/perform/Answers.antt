@@ -8,7 +8,7 @@ use Rattle.sng_history.specs.Steps.{outs_of, next_of}
 use Rattle.sng_history.specs.Good.{Good}
 use Rattle.sng_core.specs.Forms.{taken_outs, taken_next, begun_next}
 use Rattle.sng_history.specs.Exits.{agains_of, beginning}
-use Rattle.sng_core.proofs.Rows.{up_row, down_row, take_row, tick_row}
+use Rattle.sng_core.proofs.Rows.{up_row, down_row, take_row}
 use Rattle.sng_core.proofs.SubscribeRows.{wanted_room}
 use Rattle.sng_core.proofs.parts.Parts.perform.Goals as goal
 
@@ -46,7 +46,12 @@ returns-in-Replace-clause-outs c =
     subst (λ e. IfOk c.replace.result (λ outs. outs ≡ outs_of c.args.self.now e)) (sym c.in-Replace.is) c.replace.ensures.outs
 
 pub returns-in-Tick-clause-next : goal.returns-in-Tick-clause-next
-returns-in-Tick-clause-next c = c.set_clock.ensures ∙ ((tick_row c.args.self.now c.in-Tick.clock c.requires).next ∙ sym (ap (next_of c.args.self.now) c.in-Tick.is))
+returns-in-Tick-clause-next c =
+    subst (λ e. OnOk c.tick.result (c.tick.new.self ≡ next_of c.args.self.now e)) (sym c.in-Tick.is) c.tick.ensures.next
+
+pub returns-in-Tick-clause-outs : goal.returns-in-Tick-clause-outs
+returns-in-Tick-clause-outs c =
+    subst (λ e. IfOk c.tick.result (λ outs. outs ≡ outs_of c.args.self.now e)) (sym c.in-Tick.is) c.tick.ensures.outs
 
 take_next : {E : Type 0} (s after : State) (e : Event) (result : Result (List Out) E) → Good s → e ≡ event.Take → OnOk result (after ≡ taken_next s) → OnOk result (after ≡ next_of s e)
 take_next s after e (Ok outs) good is next = next ∙ ((take_row s good).next ∙ sym (ap (next_of s) is))

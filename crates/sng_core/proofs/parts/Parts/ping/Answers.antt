@@ -1,6 +1,6 @@
 use Rattle.std.proofs.Common.{subst, sym, ◌∙◌, ap}
 use Rattle.sng_history.specs.Causes.{ByMessage, ToPing}
-use Rattle.sng_core.proofs.Rows.{ping_row}
+use Rattle.sng_core.proofs.SleepRows.{ping_row}
 use Rattle.sng_history.specs.State.{State}
 use Rattle.sng_history.specs.Steps.{outs_by, next_by}
 use Rattle.sng_history.specs.Good.{Good}

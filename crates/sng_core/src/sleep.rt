@@ -1,0 +1,223 @@
+//! How a client asks whether its session lives, falls asleep, and asks for what waits (MQTT-SN 1.2, 6.11 and 6.14).
+//! What is let out is planned first, and what changes cannot fail.
+ghost use Rattle.std.specs.Prelude.{◌≡◌, ◌<◌, ◌++◌, ◌∷◌, [], length, IfOk, OnOk, OnErr};
+ghost use Rattle.sng_history.specs.Answers.{dismissed};
+ghost use Rattle.sng_history.specs.Causes.{ToPing, ToSleep};
+ghost use Rattle.sng_history.specs.Whole.{stranger_to};
+ghost use Rattle.sng_sessions.specs.Moving.{moved_at};
+ghost use Rattle.sng_sessions.specs.Sleeping.{slept};
+ghost use Rattle.sng_core.specs.Forms.{place_at, client_at, at_place, moved_if, heard_at, found_outs, broken_outs};
+ghost use Rattle.sng_core.specs.Sleeping.{slept_outs, pinged, woken_outs, woken_next, own_ping_outs, own_ping_next, other_ping_outs, ping_outs, ping_next};
+
+use crate::answers::{dismissed, only, pong};
+use crate::messages::{denied_frame, no_session_frame};
+use crate::serve::serve_plan;
+use crate::verdict::is_active;
+use sng_book::{Address, Denial, Outs};
+use sng_grants::Policy;
+use sng_sessions::{Change, Sessions};
+use sng_states::ClientState;
+use sng_text::ClientId;
+use std::alloc::{AllocError, Global};
+
+/// A DISCONNECT with Duration, in seconds: where it has its turn the client falls asleep, and what waits stays.
+pub fn sleep(
+    alloc: Global,
+    clock: u64,
+    from: Address,
+    duration: u16,
+    sessions: &mut Sessions,
+) -> Result<Outs, AllocError>
+    ensures outs { IfOk result (λ outs. outs
+        ≡ found_outs (stranger_to from (ToSleep duration)) slept_outs (at_place sessions.old (place_at from sessions.old))) }
+    ensures next { OnOk result (sessions.new
+        ≡ moved_if (place_at from sessions.old) (slept clock duration) sessions.old) }
+    ensures err { OnErr result (sessions.new ≡ sessions.old) }
+{
+    let Some(place) = sessions.at(from) else {
+        let outs = no_session_frame(alloc, from)?;
+        return Ok(outs);
+    };
+    let outs = slept_outs(alloc, sessions, place)?;
+    sessions.change(place, Change::Sleeps(duration), clock);
+    Ok(outs)
+}
+
+fn slept_outs(alloc: Global, sessions: &Sessions, place: usize) -> Result<Outs, AllocError>
+    requires { place < length sessions.now }
+    ensures { IfOk result (λ outs. outs ≡ slept_outs (client_at sessions.now place)) }
+{
+    if sessions.phase(place).is_due_messages() {
+        only(alloc, dismissed(alloc, sessions.address(place))?)
+    } else {
+        denied_frame(alloc, sessions, place, Denial::OutOfTurn)
+    }
+}
+
+/// A PINGREQ.
+pub fn ping(
+    alloc: Global,
+    policy: &Policy,
+    clock: u64,
+    from: Address,
+    client: Option<ClientId>,
+    sessions: &mut Sessions,
+) -> Result<Outs, AllocError>
+    ensures outs { IfOk result (λ outs. outs
+        ≡ found_outs (stranger_to from (ToPing client)) (ping_outs policy.now client)
+        (at_place sessions.old (place_at from sessions.old))) }
+    ensures next { OnOk result (sessions.new
+        ≡ moved_if (place_at from sessions.old) (ping_next policy.now clock client) sessions.old) }
+    ensures err { OnErr result (sessions.new ≡ sessions.old) }
+{
+    let Some(place) = sessions.at(from) else {
+        let outs = no_session_frame(alloc, from)?;
+        return Ok(outs);
+    };
+    let outs = ping_at(alloc, policy, clock, client, sessions, place)?;
+    Ok(outs)
+}
+
+/// A PINGREQ of the client at this place.
+fn ping_at(
+    alloc: Global,
+    policy: &Policy,
+    clock: u64,
+    client: Option<ClientId>,
+    sessions: &mut Sessions,
+    place: usize,
+) -> Result<Outs, AllocError>
+    requires { place < length sessions.old }
+    ensures outs { IfOk result (λ outs. outs ≡ ping_outs policy.now client (client_at sessions.old place)) }
+    ensures next { OnOk result (sessions.new
+        ≡ moved_at place (ping_next policy.now clock client) sessions.old) }
+    ensures err { OnErr result (sessions.new ≡ sessions.old) }
+{
+    match client {
+        None => still_pinged(alloc, clock, false, sessions, place),
+        Some(id) => named_ping(alloc, policy, clock, &id, sessions, place),
+    }
+}
+
+/// A PINGREQ that names a client: one that names another client is dismissed.
+fn named_ping(
+    alloc: Global,
+    policy: &Policy,
+    clock: u64,
+    id: &ClientId,
+    sessions: &mut Sessions,
+    place: usize,
+) -> Result<Outs, AllocError>
+    requires { place < length sessions.old }
+    ensures outs { IfOk result (λ outs. outs ≡ ping_outs policy.now (Some id.now) (client_at sessions.old place)) }
+    ensures next { OnOk result (sessions.new
+        ≡ moved_at place (ping_next policy.now clock (Some id.now)) sessions.old) }
+    ensures err { OnErr result (sessions.new ≡ sessions.old) }
+{
+    if id == sessions.id(place) {
+        let outs = own_ping(alloc, policy, clock, sessions, place)?;
+        return Ok(outs);
+    }
+    let outs = dismiss(alloc, clock, sessions, place)?;
+    Ok(outs)
+}
+
+/// A PINGREQ that names its client: it wakes it where it sleeps.
+fn own_ping(
+    alloc: Global,
+    policy: &Policy,
+    clock: u64,
+    sessions: &mut Sessions,
+    place: usize,
+) -> Result<Outs, AllocError>
+    requires { place < length sessions.old }
+    ensures outs { IfOk result (λ outs. outs ≡ own_ping_outs policy.now (client_at sessions.old place)) }
+    ensures next { OnOk result (sessions.new ≡ moved_at place (own_ping_next policy.now clock) sessions.old) }
+    ensures err { OnErr result (sessions.new ≡ sessions.old) }
+{
+    if sessions.phase(place).is_asleep() {
+        let outs = wake(alloc, policy, clock, sessions, place)?;
+        return Ok(outs);
+    }
+    let outs = still_pinged(alloc, clock, true, sessions, place)?;
+    Ok(outs)
+}
+
+/// A PINGREQ that wakes nobody; it names its client, or none.
+fn still_pinged(
+    alloc: Global,
+    clock: u64,
+    is_named: bool,
+    sessions: &mut Sessions,
+    place: usize,
+) -> Result<Outs, AllocError>
+    requires { place < length sessions.old }
+    ensures outs { IfOk result (λ outs. outs ≡ pinged is_named (client_at sessions.old place)) }
+    ensures next { OnOk result (sessions.new ≡ moved_at place (heard_at clock) sessions.old) }
+    ensures err { OnErr result (sessions.new ≡ sessions.old) }
+{
+    let outs = pinged(alloc, is_named, sessions, place)?;
+    sessions.hear(place, clock);
+    Ok(outs)
+}
+
+/// One of an active client is answered, and one of an awake client has its turn where it names the client.
+fn pinged(
+    alloc: Global,
+    is_named: bool,
+    sessions: &Sessions,
+    place: usize,
+) -> Result<Outs, AllocError>
+    requires { place < length sessions.now }
+    ensures { IfOk result (λ outs. outs ≡ pinged is_named (client_at sessions.now place)) }
+{
+    let phase = sessions.phase(place);
+    if is_active(phase) {
+        only(alloc, pong(alloc, sessions.address(place))?)
+    } else if is_named && phase.is_due_messages() {
+        Ok(Outs::new(alloc))
+    } else {
+        denied_frame(alloc, sessions, place, Denial::OutOfTurn)
+    }
+}
+
+/// It names another client: it is denied, and answered by DISCONNECT.
+fn dismiss(
+    alloc: Global,
+    clock: u64,
+    sessions: &mut Sessions,
+    place: usize,
+) -> Result<Outs, AllocError>
+    requires { place < length sessions.old }
+    ensures outs { IfOk result (λ outs. outs ≡ other_ping_outs (client_at sessions.old place)) }
+    ensures next { OnOk result (sessions.new ≡ moved_at place (heard_at clock) sessions.old) }
+    ensures err { OnErr result (sessions.new ≡ sessions.old) }
+{
+    let mut outs = denied_frame(alloc, sessions, place, Denial::NoSession)?;
+    outs.push(dismissed(alloc, sessions.address(place))?)?;
+    sessions.hear(place, clock);
+    Ok(outs)
+}
+
+/// The client at this place, which sleeps, wakes up: what waits is handed over, and where nothing is left for it
+/// it sleeps again.
+fn wake(
+    alloc: Global,
+    policy: &Policy,
+    clock: u64,
+    sessions: &mut Sessions,
+    place: usize,
+) -> Result<Outs, AllocError>
+    requires { place < length sessions.old }
+    ensures outs { IfOk result (λ outs. outs ≡ woken_outs policy.now (client_at sessions.old place)) }
+    ensures next { OnOk result (sessions.new ≡ moved_at place (woken_next policy.now clock) sessions.old) }
+    ensures err { OnErr result (sessions.new ≡ sessions.old) }
+{
+    let mut outs = Outs::new(alloc);
+    let phase = ClientState::Awake;
+    let handed = serve_plan(alloc, policy, phase, sessions, place, 0, 0, &mut outs)?;
+    sessions.change(place, Change::Wakes, clock);
+    sessions.hand(place, handed, clock);
+    sessions.change(place, Change::Drains, clock);
+    Ok(outs)
+}

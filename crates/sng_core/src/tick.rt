@@ -1,0 +1,244 @@
+//! The clock goes on (MQTT-SN 1.2, 5.4.4, 6.3, 6.11 and 6.13; MQTT 3.1.1, 3.1.2.10 and 3.12): each client that was
+//! silent for too long, or did not answer as often as it was asked, is lost, and its will waits for the broker
+//! where it finds its place; what another one did not answer in time is sent again; a PINGREQ to the broker comes
+//! behind them where it is due. What is let out is planned first, and what changes cannot fail. Where nothing is
+//! due nothing takes memory.
+ghost use Rattle.std.specs.Prelude.{◌≡◌, ◌<◌, ◌++◌, length, IfOk, OnOk, OnErr};
+ghost use Rattle.sng_history.specs.Causes.{ByTick};
+ghost use Rattle.sng_history.specs.Good.{Good};
+ghost use Rattle.sng_history.specs.State.{later};
+ghost use Rattle.sng_history.specs.Steps.{outs_by, next_by};
+ghost use Rattle.sng_history.specs.Ticking.{is_ping_due, is_lost_at};
+ghost use Rattle.sng_core.specs.Forms.{client_at};
+ghost use Rattle.sng_core.specs.Losing.{publication_of, will_outs, kept_will, room_behind, lost_outs, loss_of, lost_clients, lost_link};
+ghost use Rattle.sng_core.specs.Dues.{due_outs, due_at, room_after, dues_outs, dues_plan, dues_room, due_clients, due_link, dues_clients, dues_link, ping_noted, ticked_outs, ticked_next};
+
+use crate::again::{Retried, again, carry_again, is_repeating};
+use crate::hand_over::all_gone;
+use crate::parts::Parts;
+use sng_book::{Decision, Out, Outcome, Outs, Who};
+use sng_grants::Policy;
+use sng_link::{Link, Room};
+use sng_outbox::{Origin, Publication};
+use sng_sessions::{Sessions, is_tried_out};
+use sng_text::ClientId;
+use sng_wills::{Will, WillDialogue};
+use std::alloc::{AllocError, Global};
+
+/// A client that is lost, by its place, and its will, where it finds its place.
+#[derive(Debug, Drop)]
+pub struct Loss {
+    pub place: usize,
+    pub will: Option<Publication>,
+}
+
+/// What comes of a client with whom something is due.
+#[derive(Debug, Drop)]
+pub enum Due {
+    /// It is lost.
+    Lost(Loss),
+    /// What is open with the client at the place was not answered in time.
+    Unanswered(usize, Retried),
+}
+
+impl Parts {
+    /// The clock is at this time, in ms, where that is not before its own. An `Err` is a failed allocation, and
+    /// nothing changed.
+    pub fn tick(&mut self, alloc: Global, clock: u64) -> Result<Outs, AllocError>
+        requires { Good self.old }
+        ensures outs { IfOk result (λ outs. outs ≡ outs_by self.old (ByTick clock)) }
+        ensures next { OnOk result (self.new ≡ next_by self.old (ByTick clock)) }
+        ensures err { OnErr result (self.new ≡ self.old) }
+    {
+        let outs = self.tick_to(alloc, clock)?;
+        Ok(outs)
+    }
+
+    /// The clock is at this time then, or where it was.
+    fn tick_to(&mut self, alloc: Global, clock: u64) -> Result<Outs, AllocError>
+        ensures outs { IfOk result (λ outs. outs ≡ ticked_outs self.old (later self.old.clock clock)) }
+        ensures next { OnOk result (self.new ≡ ticked_next self.old (later self.old.clock clock)) }
+        ensures err { OnErr result (self.new ≡ self.old) }
+    {
+        let clock = later(self.clock, clock);
+        let mut outs = Outs::new(alloc);
+        let mut room = self.link.room_left();
+        let sessions = &self.sessions;
+        let dues = dues(alloc, &self.policy, clock, sessions, &mut room, &mut outs)?;
+        note_ping(self.link.is_ping_due(self.is_up, clock), room, &mut outs)?;
+        carry_out(dues, &mut self.sessions, &mut self.link, clock);
+        self.link.ping(self.is_up, clock);
+        self.clock = clock;
+        Ok(outs)
+    }
+}
+
+/// The clock does not go back.
+fn later(clock: u64, other: u64) -> u64
+    ensures { result ≡ later clock other }
+{
+    if clock <= other { other } else { clock }
+}
+
+/// A PINGREQ that is due and finds no place is noted.
+fn note_ping(is_due: bool, room: Room, outs: &mut Outs) -> Result<(), AllocError>
+    ensures { OnOk result (outs.new ≡ outs.old ++ ping_noted is_due room) }
+{
+    if is_due && room.places == 0 {
+        outs.push(Out::Note(Decision::Outbox))?;
+    }
+    Ok(())
+}
+
+/// What is let out for each client with whom something is due, in order, and what comes of them. The room is what
+/// is left then.
+fn dues(
+    alloc: Global,
+    policy: &Policy,
+    clock: u64,
+    sessions: &Sessions,
+    room: &mut Room,
+    outs: &mut Outs,
+) -> Result<Vec<Due>, AllocError>
+    ensures outs { OnOk result (outs.new ≡ outs.old ++ dues_outs policy.now clock room.old sessions.now) }
+    ensures dues { IfOk result (λ dues. dues.items ≡ dues_plan policy.now clock room.old 0 sessions.now) }
+    ensures room { OnOk result (room.new ≡ dues_room clock room.old sessions.now) }
+{
+    let mut dues = Vec::new(alloc);
+    for place in 0..sessions.len() {
+        add_due(alloc, policy, clock, sessions, place, room, &mut dues, outs)?;
+    }
+    Ok(dues)
+}
+
+/// What is due with the client at this place comes behind the others.
+fn add_due(
+    alloc: Global,
+    policy: &Policy,
+    clock: u64,
+    sessions: &Sessions,
+    place: usize,
+    room: &mut Room,
+    dues: &mut Vec<Due>,
+    outs: &mut Outs,
+) -> Result<(), AllocError>
+    requires { place < length sessions.now }
+    ensures outs { OnOk result (outs.new
+        ≡ outs.old ++ due_outs policy.now clock room.old (client_at sessions.now place)) }
+    ensures dues { OnOk result (dues.new.items
+        ≡ dues.old.items ++ due_at policy.now clock room.old place (client_at sessions.now place)) }
+    ensures room { OnOk result (room.new ≡ room_after clock room.old (client_at sessions.now place)) }
+{
+    if is_lost_at(sessions, place, clock) {
+        let loss = lose(sessions, place, room, outs)?;
+        dues.push(Due::Lost(loss))?;
+    } else if is_repeating(sessions, place, clock) {
+        let retried = again(alloc, policy, sessions, place, outs)?;
+        dues.push(Due::Unanswered(place, retried))?;
+    }
+    Ok(())
+}
+
+/// Whether the client at this place was silent for too long, or did not answer in time what was sent again as
+/// often as it may be. Takes no memory.
+fn is_lost_at(sessions: &Sessions, place: usize, clock: u64) -> bool
+    requires { place < length sessions.now }
+    ensures { result ≡ is_lost_at clock (client_at sessions.now place) }
+{
+    sessions.is_overdue(place, clock)
+        || is_repeating(sessions, place, clock) && is_tried_out(sessions.queue(place))
+}
+
+/// The client at this place is lost, and what waits for it is gone.
+fn lose(
+    sessions: &Sessions,
+    place: usize,
+    room: &mut Room,
+    outs: &mut Outs,
+) -> Result<Loss, AllocError>
+    requires { place < length sessions.now }
+    ensures outs { OnOk result (outs.new ≡ outs.old ++ lost_outs room.old (client_at sessions.now place)) }
+    ensures loss { IfOk result (λ loss. loss ≡ loss_of room.old place (client_at sessions.now place)) }
+    ensures room { OnOk result (room.new
+        ≡ room_behind room.old (client_at sessions.now place).wills.will) }
+{
+    let client = sessions.id(place);
+    outs.push(Out::Note(Decision::Lost(client.copy()?)))?;
+    all_gone(client, sessions.queue(place), outs)?;
+    let will = kept_will(client, sessions.wills(place), room, outs)?;
+    Ok(Loss { place, will })
+}
+
+/// A copy of the will, where there is one and it finds its place; where there is no room for it, that is noted.
+fn kept_will(
+    client: &ClientId,
+    wills: &WillDialogue,
+    room: &mut Room,
+    outs: &mut Outs,
+) -> Result<Option<Publication>, AllocError>
+    ensures outs { OnOk result (outs.new ≡ outs.old ++ will_outs room.old client.now wills.now.will) }
+    ensures kept { IfOk result (λ kept. kept ≡ kept_will room.old client.now wills.now.will) }
+    ensures room { OnOk result (room.new ≡ room_behind room.old wills.now.will) }
+{
+    let Some(will) = wills.will() else {
+        return Ok(None);
+    };
+    match room.take(will.qos) {
+        Outcome::Allowed => {
+            let publication = publication(client, will)?;
+            Ok(Some(publication))
+        }
+        Outcome::Denied(rule) => {
+            let who = Who::Client(client.copy()?);
+            let name = Some(will.topic.copy()?);
+            outs.push(Out::Note(Decision::Will(who, name, Outcome::Denied(rule))))?;
+            Ok(None)
+        }
+    }
+}
+
+/// The will, as a publish of its client.
+fn publication(client: &ClientId, will: &Will) -> Result<Publication, AllocError>
+    ensures { IfOk result (λ publication. publication ≡ publication_of client.now will.now) }
+{
+    Ok(Publication {
+        origin: Origin::Client(client.copy()?),
+        name: will.topic.copy()?,
+        payload: will.payload.copy()?,
+        qos: will.qos,
+        retain: will.retain,
+    })
+}
+
+/// All this comes of the clients, one after another. Takes no memory.
+fn carry_out(dues: Vec<Due>, sessions: &mut Sessions, link: &mut Link, clock: u64)
+    ensures sessions { sessions.new ≡ dues_clients clock dues.items sessions.old }
+    ensures link { link.new ≡ dues_link dues.items link.old }
+{
+    for due in dues {
+        carry_out_one(due, sessions, link, clock);
+    }
+}
+
+/// This comes of one client. Takes no memory.
+fn carry_out_one(due: Due, sessions: &mut Sessions, link: &mut Link, clock: u64)
+    ensures sessions { sessions.new ≡ due_clients clock sessions.old due }
+    ensures link { link.new ≡ due_link link.old due }
+{
+    match due {
+        Due::Lost(loss) => carry_loss(loss, sessions, link),
+        Due::Unanswered(place, retried) => carry_again(retried, sessions, place, clock),
+    }
+}
+
+/// One is lost. Takes no memory.
+fn carry_loss(loss: Loss, sessions: &mut Sessions, link: &mut Link)
+    ensures sessions { sessions.new ≡ lost_clients sessions.old loss }
+    ensures link { link.new ≡ lost_link link.old loss }
+{
+    let Loss { place, will } = loss;
+    sessions.lose(place);
+    if let Some(will) = will {
+        link.place(will);
+    }
+}
