@@ -4,10 +4,17 @@ ghost use Rattle.clap.specs.Values.{kind_of};
 ghost use Rattle.clap.specs.declared.error.ErrorKind.TheVariants.{DisplayHelp, DisplayVersion};
 ghost use Rattle.sng.specs.Words.{filters_of, is_escape};
 
-use clap::{Arg, ArgAction, ArgMatches, Command, Error};
+use clap::{Arg, ArgAction, ArgMatches, Command, Error, value_parser};
 use sng_gateway::Status;
+use sng_serve::{MAX_WORKERS, Words as ServeWords};
 use sng_text::Octets;
 use std::alloc::{AllocError, Global};
+
+/// The version, and what `rt version` prints of the kit that proves it.
+const VERSION: &str = "0.1.0, proved by rattle-kit-13b logic dac8208d650f15bf";
+
+/// How many tries to connect may fail, one after another, where nothing else is asked for.
+const USUAL_TRIES: u32 = 5;
 
 /// What the command line asks for.
 #[derive(Clone, Copy, Debug, PartialEq, Eq)]
@@ -20,6 +27,10 @@ pub enum Chosen<'a> {
     May(MayWords<'a>),
     /// Checks the policy of the file, and that of standard input where there is none.
     Policy(Option<&'a str>),
+    /// Serves between devices and a broker.
+    Serve(ServeWords<'a>),
+    /// Serves MQTT clients at this address, for tests.
+    Broker(&'a str),
 }
 
 /// The words of a question to a policy.
@@ -43,16 +54,21 @@ pub fn read_command(alloc: Global, words: &[String]) -> Result<Chosen<'_>, Error
     let play = Command::new(alloc, "play").about("Plays a script of events from standard input");
     let command = Command::new(alloc, "sng")
         .about("A gateway from MQTT-SN 1.2 to MQTT 3.1.1")
+        .version(VERSION)
         .subcommand_required(true)
         .subcommand(play)?
         .subcommand(cover_command(alloc)?)?
         .subcommand(may_command(alloc)?)?
-        .subcommand(policy_command(alloc)?)?;
+        .subcommand(policy_command(alloc)?)?
+        .subcommand(serve_command(alloc)?)?
+        .subcommand(broker_command(alloc)?)?;
     let matches = command.try_get_matches_from(words)?;
     match matches.subcommand() {
         Some(("cover", _)) => Ok(Chosen::Cover),
         Some(("may", asked)) => Ok(Chosen::May(may_words(asked))),
         Some(("policy", asked)) => Ok(Chosen::Policy(asked.get_str("FILE"))),
+        Some(("serve", asked)) => Ok(Chosen::Serve(serve_words(asked))),
+        Some(("broker", asked)) => Ok(Chosen::Broker(asked.get_str("LISTEN").unwrap_or(""))),
         _ => Ok(Chosen::Play),
     }
 }
@@ -122,6 +138,68 @@ fn policy_command<'a>(alloc: Global) -> Result<Command<'a>, AllocError> {
     Command::new(alloc, "policy")
         .about("Checks a policy, and shows where its first fault stands")
         .arg(file)
+}
+
+/// The words of `sng serve ..`. Those that are required are there, and the numbers are ones.
+fn serve_words<'a>(matches: &ArgMatches<'a>) -> ServeWords<'a> {
+    let tries = matches.get_one::<u32>("TRIES").unwrap_or(USUAL_TRIES);
+    ServeWords {
+        listen: matches.get_str("LISTEN").unwrap_or(""),
+        broker: matches.get_str("BROKER").unwrap_or(""),
+        id: matches.get_str("ID").unwrap_or(""),
+        workers: matches.get_one::<u16>("N").unwrap_or(1),
+        tries: if tries == 0 { u32::MAX } else { tries },
+        policy: matches.get_str("FILE"),
+        is_verbose: matches.get_flag("verbose"),
+    }
+}
+
+fn serve_command<'a>(alloc: Global) -> Result<Command<'a>, AllocError> {
+    let listen = needed(alloc, "LISTEN", "listen").help("Where devices are listened to, IP:PORT");
+    let broker = needed(alloc, "BROKER", "broker").help("Where the broker is, IP:PORT");
+    let id = needed(alloc, "ID", "id").help("The client id of the gateway at the broker");
+    let workers = needed(alloc, "N", "workers")
+        .help("How many workers read datagrams, from 1 to 8")
+        .value_parser(value_parser!(u16).range(1..=i64::from(MAX_WORKERS)));
+    let tries = Arg::new(alloc, "TRIES")
+        .long("tries")
+        .help("How many tries to connect may fail in a row: 5 where it is left out; 0 is no end")
+        .action(ArgAction::Set)
+        .value_parser(value_parser!(u32));
+    let policy = Arg::new(alloc, "FILE")
+        .long("policy")
+        .help("The file of the policy, read at the start and on a line `reload`")
+        .action(ArgAction::Set);
+    let verbose = Arg::new(alloc, "verbose")
+        .long("verbose")
+        .help("Prints rows as they are made")
+        .action(ArgAction::SetTrue);
+    Command::new(alloc, "serve")
+        .about(
+            "Serves between MQTT-SN devices and an MQTT broker, until `quit` or the end of input",
+        )
+        .arg(listen)?
+        .arg(broker)?
+        .arg(id)?
+        .arg(workers)?
+        .arg(tries)?
+        .arg(policy)?
+        .arg(verbose)
+}
+
+fn broker_command<'a>(alloc: Global) -> Result<Command<'a>, AllocError> {
+    let listen = needed(alloc, "LISTEN", "listen").help("Where clients are listened to, IP:PORT");
+    Command::new(alloc, "broker")
+        .about("A small MQTT broker for tests, until it is stopped from outside")
+        .arg(listen)
+}
+
+/// An option that has to be given.
+fn needed<'a>(alloc: Global, id: &'a str, long: &'a str) -> Arg<'a> {
+    Arg::new(alloc, id)
+        .long(long)
+        .required(true)
+        .action(ArgAction::Set)
 }
 
 /// The filters among the words of `sng cover ..`, as they came: all but the first two, and but the first `--`

@@ -6,6 +6,7 @@ mod file;
 mod may;
 mod policy;
 mod report;
+mod serving;
 mod words;
 
 use command::{Chosen, filters_among, read_command};
@@ -29,6 +30,8 @@ fn main(rt: HostRuntime) -> ExitCode {
             }
             Ok(Chosen::May(asked)) => may::answer(&rt, words.as_slice(), &asked),
             Ok(Chosen::Policy(path)) => policy::check(&rt, words.as_slice(), path),
+            Ok(Chosen::Serve(asked)) => serving::serve(&rt, words.as_slice(), &asked),
+            Ok(Chosen::Broker(listen)) => serving::broker(&rt, words.as_slice(), listen),
             Err(error) => report(&rt, &error),
         },
         Err(AllocError) => out_of_memory(&rt),

@@ -1,13 +1,10 @@
 -- A piece, and then an empty one.
 use Rattle.std.proofs.Common.{◌≡◌, ◌≢◌, List, [], ◌∷◌, length, refl, arith}
-use Rattle.std.specs.Prelude.{Ok, Err}
-use Rattle.std.specs.declared.result.Result.{Result}
+use Rattle.std.specs.Prelude.{Err}
 use Rattle.mqtt_frames.specs.declared.fault.StreamFault.{StreamFault}
 use Rattle.mqtt_frames.specs.declared.fault.StreamFault.TheVariants.{Malformed, NotSupported, TooLong, Failed, Memory}
-use Rattle.mqtt_frames.specs.declared.packet.Packet.{Packet}
 use Rattle.mqtt_frames.specs.Streams
 use Rattle.mqtt_frames.specs.Streams.{State, Reading, Kept, fed, TakesMemory}
-use Rattle.sng_desk.specs.Streaming.{is_fault}
 
 takes_none : (s : State) → TakesMemory s [] → ⊥
 takes_none (Reading held) t = t

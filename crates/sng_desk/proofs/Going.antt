@@ -1,5 +1,5 @@
 -- What was done, put together.
-use Rattle.std.proofs.Common.{ℕ, Bool, ◌+◌, ◌≤◌, ◌≡◌, List, [], ◌∷◌, ◌++◌, refl, sym, ◌∙◌, ap, arith}
+use Rattle.std.proofs.Common.{ℕ, Bool, ◌≤◌, ◌≡◌, List, [], ◌∷◌, ◌++◌, refl, sym, ◌∙◌, ap, arith}
 use Rattle.std.specs.List.{flat_map}
 use Rattle.std.proofs.lemmas.List.{append_assoc, append-nil, map-append}
 use Rattle.std.proofs.lemmas.Grind.{flat_map-append}
@@ -11,7 +11,7 @@ use Rattle.sng_book.specs.declared.out.Out.{Out}
 use Rattle.sng_book.specs.declared.out.Out.TheVariants.{Send, Wire, Note}
 use Rattle.sng_desk.specs.Sights.{Share, Receipt}
 use Rattle.sng_desk.specs.declared.trail.Trail.{Trail}
-use Rattle.sng_desk.specs.Acts.{Moves, Act, Logs, Acted, no_trail, events_of, receipts_of, receipt_in, sends_in, sends_of, wires_in, wires_of}
+use Rattle.sng_desk.specs.Acts.{Moves, Act, Acted, no_trail, events_of, receipts_of, receipt_in, sends_in, sends_of, wires_in}
 use Rattle.std.specs.Prelude.{Option, Some, None}
 use Rattle.sng_desk.specs.declared.ending.WorkerFault.{WorkerFault}
 use Rattle.sng_desk.specs.declared.ending.WorkerFault.TheVariants.{Memory, Device, GaveUp, Refused}

@@ -6,3 +6,4 @@ pub mod Writing
 pub mod Turns
 pub mod Feeding
 pub mod Places
+pub mod Crossing

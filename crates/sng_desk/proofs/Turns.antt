@@ -1,11 +1,8 @@
 -- A turn, put together, and turns one after another.
-use Rattle.std.proofs.Common.{ℕ, Bool, true, false, not, ◌&&◌, ◌≡◌, Option, List, [], ◌∷◌, ◌++◌, map, drop, length, refl, sym, ◌∙◌, ap, arith}
-use Rattle.std.specs.Prelude.{None}
+use Rattle.std.proofs.Common.{ℕ, Bool, true, false, not, ◌&&◌, ◌≡◌, List, [], ◌∷◌, ◌++◌, map, drop, length, refl, sym, ◌∙◌, ap, arith}
 use Rattle.std.specs.List.{flat_map}
-use Rattle.std.proofs.lemmas.List.{append-nil, map-append}
-use Rattle.std.proofs.lemmas.Grind.{flat_map-append}
+use Rattle.std.proofs.lemmas.List.{map-append}
 use Rattle.std.proofs.lemmas.Bool.{false≢true}
-use Rattle.std.proofs.Math.Seq.{drop-append_seam}
 use Rattle.mqtt_frames.specs.declared.packet.Packet.{Packet}
 use Rattle.sng_book.specs.declared.event.Event.{Event}
 use Rattle.sng_book.specs.declared.event.Event.TheVariants.{Up}
@@ -28,7 +25,7 @@ use Rattle.sng_desk.specs.declared.connection.Terms.{Terms}
 use Rattle.sng_desk.specs.Streaming.{accepts}
 use Rattle.sng_desk.specs.Acts
 use Rattle.sng_desk.specs.Acts.{Moves, Act, Acted, Logs, events_of, receipts_of, receipt_in, sends_of, sends_in, wires_of, all_taken, is_taken}
-use Rattle.sng_desk.specs.Turning.{Turn, Turned, Turns, Worked, Taken, Answered, Heard, Settled, all_acts, acts_of, calls_of, opening_call, got_call, may_ask, may_try, is_connected, is_opened, is_closing, is_staying, owed, greeting_of, was_up, has_some, downs, events_at, goes_on, heard, rest_of, broken_of, packets_of, stage_on, stage_off, stage_after, next_stage, ends_of}
+use Rattle.sng_desk.specs.Turning.{Turn, Turned, Turns, Worked, Taken, Answered, Heard, Settled, all_acts, acts_of, calls_of, opening_call, got_call, may_ask, may_try, is_connected, is_opened, owed, greeting_of, was_up, has_some, downs, events_at, goes_on, heard, rest_of, broken_of, packets_of, stage_on, stage_after, next_stage, ends_of}
 use Rattle.sng_desk.proofs.Going.{still, moves_on, flat_push, sends_grow, drop_grown}
 use Rattle.sng_desk.proofs.Acting.{logs_on, logs_none, taken_on}
 

@@ -6,9 +6,7 @@ use Rattle.std.proofs.lemmas.Bool.{false≢true}
 use Rattle.std.specs.List.{flat_map}
 use Rattle.sng_desk.specs.declared.connection.Call.{Call}
 use Rattle.sng_desk.specs.declared.connection.Call.TheVariants.{Wrote, NotWritten}
-use Rattle.sng_book.specs.declared.out.Out.{Out}
-use Rattle.sng_book.specs.declared.out.Out.TheVariants.{Wire, Send}
-use Rattle.sng_desk.specs.Acts.{Moves, wires_in, sends_in}
+use Rattle.sng_desk.specs.Acts.{Moves}
 use Rattle.sng_desk.specs.Turning.{Writes, fails}
 use Rattle.sng_desk.proofs.Going.{still, moves_on}
 

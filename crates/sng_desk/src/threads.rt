@@ -104,8 +104,9 @@ impl<P: Policies> Promise<WorkerEnd<P, NoSender>> for LoaderPromise<P> {
     ghost kept_by = { λ p end. LoaderEnded P.tells P.gave P.failures P.has_ended p.source.value p.share.value p.may_stop end };
 }
 
-/// Where the desk is found, under its lock.
-pub trait Locked {
+/// Where the desk is found, under its lock. The functions that start a thread know no more of it: that a desk
+/// under its lock may be shared among threads is then shown once, where they are called.
+trait Locked {
     fn desk(&self) -> &Mutex<Desk>;
 }
 
@@ -119,7 +120,6 @@ impl Locked for Mutex<Desk> {
 /// those that were started have ended.
 pub fn run_workers<
     R: Threads + Wait + Sync,
-    M: Locked + Sync,
     D: Datagrams + Send,
     U: Upstream + Send,
     B: Beats + Send,
@@ -128,7 +128,7 @@ pub fn run_workers<
 >(
     rt: &R,
     alloc: Global,
-    desk: &M,
+    desk: &Mutex<Desk>,
     crew: Crew<D, U, B, P>,
     terms: &Terms,
     gate: &G,

@@ -1,4 +1,4 @@
-use Rattle.std.proofs.Common.{[], ◌∷◌, refl, true, false}
+use Rattle.std.proofs.Common.{[], refl, true, false}
 use Rattle.sng_desk.specs.declared.connection.Opening.TheVariants.{Made, Missed}
 use Rattle.sng_desk.proofs.Turns.{none_left, opened}
 use Rattle.sng_desk.proofs.upstream.Round.open.Goals as goal

@@ -1,5 +1,8 @@
+use denote.Param.Send.{sendable}
 use Rattle.std.proofs.Common.{rules, ◌≡◌, ◌<◌, length, ap, sym, ◌∙◌}
+use Rattle.std.proofs.Crossing.{crosses}
 use Rattle.std.specs.Prelude.{vec_len}
+use Rattle.sng_desk.proofs.Crossing.{desk_send}
 use Rattle.sng_desk.proofs.Places.{same_at, same_length}
 use Rattle.sng_desk.proofs.threads.fn.run_workers.scope.Goals as goal
 
@@ -23,3 +26,15 @@ returns-in-Ok g c =
       ticker = search rules;
       policies = search rules;
     }
+
+pub start_all-requires-sync-M : goal.start_all-requires-sync-M
+start_all-requires-sync-M g c κs within = search (desk_send, crosses, sendable) depth 20
+
+pub start_upstream-requires-sync-M : goal.start_upstream-requires-sync-M
+start_upstream-requires-sync-M g c κs within = search (desk_send, crosses, sendable) depth 20
+
+pub start_ticker-requires-sync-M : goal.start_ticker-requires-sync-M
+start_ticker-requires-sync-M g c κs within = search (desk_send, crosses, sendable) depth 20
+
+pub start_loader-requires-sync-M : goal.start_loader-requires-sync-M
+start_loader-requires-sync-M g c κs within = search (desk_send, crosses, sendable) depth 20

@@ -1,0 +1,97 @@
+#!/usr/bin/env python3
+"""desk.py [BENCH]
+
+Measures what a row of the audit book takes and what an act costs, beside the bare step. BENCH is the proved
+program of bench/desk.rt.in; where none is given, it is laid as a crate beside the crates of this repository,
+proved and built by `rt run`, which takes minutes (and long without `rt all check` before), and taken away
+again.
+
+A hundred publishes of a source at QoS -1, each with a payload of 32 octets, and a take make 101 rows: each
+publish one with a note, the take one with a note and a packet for each. Prints what a row costs in processor
+time and by the clock: of the core alone, of a desk in one thread, and of four threads that share a desk. Then
+the bytes of memory that the book keeps for a row, with all that the row holds: of a publish that is denied,
+and for each publish that is allowed, with its share of the take. Each time is the best of several runs that
+take turns. Fails where a job lets out another number of outs."""
+import os
+import shutil
+import subprocess
+import sys
+import time
+
+HERE = os.path.dirname(os.path.abspath(__file__))
+ROOT = os.path.dirname(HERE)
+NAME = 'desk_bench'
+LIBRARIES = 'sng_text sng_grants sng_book sng_core sng_desk'
+TIMES = 404_000
+RUNS = 5
+JOBS = [('bare', 'the core alone'), ('alone', 'a desk, one thread'), ('four', 'a desk, four threads')]
+
+
+def built():
+    """The program, proved and built in the repository's own crates; the caller removes what was laid."""
+    crate = os.path.join(ROOT, 'crates', NAME)
+    os.makedirs(os.path.join(crate, 'src'))
+    shutil.copy(os.path.join(HERE, 'desk.rt.in'), os.path.join(crate, 'src', 'main.rt'))
+    answers = os.path.join(crate, 'proofs', 'fn', 'four', 'scope')
+    os.makedirs(answers)
+    shutil.copy(os.path.join(HERE, 'desk.antt.in'), os.path.join(answers, 'Answers.antt'))
+    with open(os.path.join(ROOT, 'crates.txt'), 'a') as file:
+        file.write('%s: %s\n' % (NAME, LIBRARIES))
+    subprocess.run(['rt', 'run'], cwd=crate, check=True, stdout=subprocess.DEVNULL)
+    return os.path.join(crate, 'out', NAME)
+
+
+def removed():
+    """Takes away what `built` laid."""
+    shutil.rmtree(os.path.join(ROOT, 'crates', NAME), ignore_errors=True)
+    path = os.path.join(ROOT, 'crates.txt')
+    with open(path) as file:
+        lines = [line for line in file if not line.startswith(NAME + ':')]
+    with open(path, 'w') as file:
+        file.writelines(lines)
+
+
+def run(bench, job, times):
+    """Processor seconds, seconds by the clock, the greatest memory in bytes, and how many outs there were."""
+    begun = time.perf_counter()
+    process = subprocess.Popen([bench, job, str(times)], stdout=subprocess.PIPE, text=True)
+    outs = int(process.stdout.read())
+    _, status, used = os.wait4(process.pid, 0)
+    if status:
+        raise SystemExit('%s failed' % job)
+    return used.ru_utime + used.ru_stime, time.perf_counter() - begun, used.ru_maxrss * 1024, outs
+
+
+def measure(bench):
+    best = {}
+    for _ in range(RUNS):
+        for job, _title in JOBS:
+            seconds, clock, _, outs = run(bench, job, TIMES)
+            if outs != TIMES // 101 * 300:
+                raise SystemExit('%s let out %d outs' % (job, outs))
+            old = best.get(job, (seconds, clock))
+            best[job] = min(old[0], seconds), min(old[1], clock)
+    for job, title in JOBS:
+        seconds, clock = (least / TIMES * 1e9 for least in best[job])
+        print('%-20s %6.0f ns a row, by the clock %6.0f' % (title, seconds, clock))
+    print('the row of a denied publish keeps %.0f bytes' % kept(bench, 'denied', TIMES))
+    print('a publish that is allowed, all told, %.0f bytes' % (kept(bench, 'alone', TIMES) * 1.01))
+
+
+def kept(bench, job, times):
+    """The bytes that a row keeps: what twice as many rows take more, by the greatest memory of a run."""
+    return (run(bench, job, times)[2] - run(bench, job, times // 2)[2]) / (times - times // 2)
+
+
+def main():
+    if len(sys.argv) > 1:
+        measure(os.path.abspath(sys.argv[1]))
+        return
+    try:
+        measure(built())
+    finally:
+        removed()
+
+
+if __name__ == '__main__':
+    main()

@@ -1,0 +1,40 @@
+//! `sng serve ..` and `sng broker ..`.
+use crate::file::{first_no_text, report_word};
+use sng_gateway::Status;
+use sng_serve::Words;
+use sng_text::Octets;
+use std::net::Net;
+use std::rt::{Clock, Files};
+use std::sync::Wait;
+use std::thread::Threads;
+
+/// Serves as the words say.
+pub fn serve<R: Threads + Wait + Sync + Net + Clock + Files + Input + Print + Eprint + AllocGlobal>(
+    rt: &R,
+    words: &[Octets],
+    asked: &Words<'_>,
+) -> Status
+where
+    R::Reader: Send,
+    R::File: Send,
+    R::Dir: Send,
+    R::Listener: Send,
+    R::Stream: Send,
+{
+    match first_no_text(words) {
+        Some(place) => report_word(rt, place),
+        None => sng_serve::serve(rt, asked),
+    }
+}
+
+/// Serves MQTT clients as the test broker.
+pub fn broker<R: Wait + Net + Print + Eprint + AllocGlobal>(
+    rt: &R,
+    words: &[Octets],
+    listen: &str,
+) -> Status {
+    match first_no_text(words) {
+        Some(place) => report_word(rt, place),
+        None => sng_serve::broker(rt, listen),
+    }
+}

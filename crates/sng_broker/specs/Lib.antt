@@ -1,0 +1,3 @@
+pub mod Brokers
+pub mod Steps
+pub mod Laws

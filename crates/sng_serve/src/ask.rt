@@ -1,0 +1,129 @@
+//! What `sng serve` is asked for, read in the order in which its faults are told.
+
+use crate::policies::file_text;
+use crate::socket::socket_address;
+use mqtt_frames::encode_connect;
+use sng_gateway::report::{Report, report_of};
+use sng_gateway::sender::address_of;
+use sng_scope::read_policy;
+use sng_text::{ClientId, Octets, TextFault};
+use std::alloc::{AllocError, Global};
+use std::io::Error;
+use std::net::SocketAddr;
+use std::rt::Files;
+
+/// More bytes than this no client id has: 23 characters of at most four.
+const MAX_ID_BYTES: usize = 92;
+
+/// The keep alive of the connection to the broker, in seconds (MQTT 3.1.1, 3.1.2.10).
+const KEEP_ALIVE: u16 = 60;
+
+/// The words of the command line.
+#[derive(Clone, Copy, Debug, PartialEq, Eq)]
+pub struct Words<'a> {
+    /// Where devices are listened to, as IP:PORT.
+    pub listen: &'a str,
+    /// Where the broker is, as IP:PORT.
+    pub broker: &'a str,
+    /// By which id the gateway is known to the broker.
+    pub id: &'a str,
+    /// How many workers share the socket of the devices.
+    pub workers: u16,
+    /// How many tries to connect may fail, one after another.
+    pub tries: u32,
+    /// The file of the policy.
+    pub policy: Option<&'a str>,
+    /// Rows are printed as they are made.
+    pub is_verbose: bool,
+}
+
+/// What the words ask for.
+#[derive(Drop)]
+pub struct Ask {
+    pub listen: SocketAddr,
+    pub broker: SocketAddr,
+    /// The first packet of a connection to the broker.
+    pub greeting: Octets,
+    pub workers: u16,
+    pub tries: u32,
+    /// The file of the policy, and its text, which is a policy.
+    pub file: Option<String>,
+    pub text: Option<Vec<u8>>,
+    pub is_verbose: bool,
+}
+
+/// Why nothing is started.
+#[derive(Drop)]
+pub enum Fault<'a> {
+    /// The word is no IPv4 address with a port.
+    Address(&'a str),
+    /// The id is no client id.
+    Id,
+    /// The file of the policy cannot be read.
+    File(&'a str, Error),
+    /// The policy of the file is refused.
+    Policy(Report),
+    Memory,
+}
+
+impl<'a> From<AllocError> for Fault<'a> {
+    fn from(_: AllocError) -> Fault<'a> {
+        Fault::Memory
+    }
+}
+
+/// Reads the words. The first of them that is not valid is the fault.
+pub fn ask_of<'a, R: Files + AllocGlobal>(rt: &R, words: &Words<'a>) -> Result<Ask, Fault<'a>> {
+    let listen = socket_address_of(words.listen)?;
+    let broker = socket_address_of(words.broker)?;
+    let greeting = greeting_of(rt.alloc(), words.id.as_bytes())?;
+    let (file, text) = match words.policy {
+        Some(path) => {
+            let text = policy_in(rt, path)?;
+            (Some(String::from_str(rt.alloc(), path)?), Some(text))
+        }
+        None => (None, None),
+    };
+    Ok(Ask {
+        listen,
+        broker,
+        greeting,
+        workers: words.workers,
+        tries: words.tries,
+        file,
+        text,
+        is_verbose: words.is_verbose,
+    })
+}
+
+/// The address that the word is.
+pub fn socket_address_of(word: &str) -> Result<SocketAddr, Fault<'_>> {
+    match address_of(word.as_bytes()) {
+        Some(address) => Ok(socket_address(address)),
+        None => Err(Fault::Address(word)),
+    }
+}
+
+/// The CONNECT of the gateway under this id: a clean session.
+fn greeting_of<'a>(alloc: Global, id: &[u8]) -> Result<Octets, Fault<'a>> {
+    if MAX_ID_BYTES < id.len() {
+        return Err(Fault::Id);
+    }
+    match ClientId::read(alloc, id) {
+        Ok(_) => Ok(encode_connect(alloc, id, true, KEEP_ALIVE)?),
+        Err(TextFault::Memory) => Err(Fault::Memory),
+        Err(_) => Err(Fault::Id),
+    }
+}
+
+/// The text in the file, which is a policy.
+fn policy_in<'a, R: Files + AllocGlobal>(rt: &R, path: &'a str) -> Result<Vec<u8>, Fault<'a>> {
+    let text = match file_text(rt, path) {
+        Ok(text) => text,
+        Err(error) => return Err(Fault::File(path, error)),
+    };
+    match read_policy(rt.alloc(), text.as_slice()) {
+        Ok(_) => Ok(text),
+        Err(_) => Err(Fault::Policy(report_of(rt.alloc(), text.as_slice())?)),
+    }
+}

@@ -1,0 +1,24 @@
+//! The gateway between devices and a broker: sockets, a clock, standard input and the desk's workers at them.
+#![tactic(auto)]
+
+pub mod ask;
+mod beats;
+mod bell;
+mod closing;
+mod hub;
+pub mod limits;
+mod link;
+mod opening;
+mod peer;
+mod policies;
+mod printing;
+pub mod serving;
+mod socket;
+mod switch;
+mod tell;
+pub mod testing;
+
+pub use ask::Words;
+pub use limits::{FULL_ROWS, MAX_WORKERS, NEARLY_FULL_ROWS};
+pub use serving::serve;
+pub use testing::broker;
