@@ -143,7 +143,8 @@ def command_lines():
     for name, words in (('nothing', []), ('no-such-command', ['nonsense']), ('cover-nothing', ['cover']),
                         ('play-with-a-word', ['play', 'x']), ('no-such-option', ['cover', '--x', 'a'])):
         yield Case('command-line-' + name, words, b'', 2, b'')
-    for words in (['--help'], ['cover', '--help'], ['may', '--help'], ['policy', '--help'], ['help']):
+    for words in (['--help'], ['cover', '--help'], ['may', '--help'], ['policy', '--help'], ['serve', '--help'],
+                  ['broker', '--help'], ['help']):
         yield Case('-'.join(words).replace('--', ''), words, b'', 0, None)
 
 

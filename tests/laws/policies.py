@@ -1,0 +1,180 @@
+"""The text of a policy, its refusals, and what a policy grants (docs/policy.md; RFC 9431, 2.3; RFC 9237,
+2)."""
+import base64
+import binascii
+import json
+import math
+import re
+from dataclasses import dataclass, field
+
+from laws.texts import gap, is_client_id, is_filter, is_name, matches, shown
+
+MOST_LISTED, MOST_TOPICS, MOST_PAIRS, MOST_NESTED = 256, 1024, 64, 127
+NUMBERS = {'NotJson': 1, 'Shape': 2, 'BadFilter': 3, 'BadPermission': 4, 'BadBase64': 5, 'BadClientId': 6,
+           'BadSource': 7, 'BadTopicId': 8, 'TooMany': 9}
+
+
+class Refused(Exception):
+    """A text is no policy: its first fault."""
+
+    def __str__(self):
+        return '%d %s' % (NUMBERS[self.args[0]], self.args[0])
+
+
+@dataclass
+class Policy:
+    """Clients and sources, each with pairs of a filter and its permissions; and the topics by their ids."""
+    clients: dict = field(default_factory=dict)
+    sources: dict = field(default_factory=dict)
+    topics: dict = field(default_factory=dict)
+
+    def publish_outcome(self, origin, name):
+        """What the policy says of a publish of a client (bytes) or a source (str) under a name."""
+        if isinstance(origin, str):
+            if origin not in self.sources:
+                return '5 UnknownSource'
+            scope = self.sources[origin]
+        elif origin not in self.clients:
+            return '3 NoScope ' + shown(origin)
+        else:
+            scope = self.clients[origin]
+        return 'allowed' if grants(scope, 'pub', name) else '10 MissingPub ' + shown(name)
+
+    def receive_outcome(self, client, name):
+        if client not in self.clients:
+            return '3 NoScope ' + shown(client)
+        return 'allowed' if grants(self.clients[client], 'sub', name) else '11 MissingSub ' + shown(name)
+
+    def subscribe_outcome(self, client, pattern):
+        if client not in self.clients:
+            return '3 NoScope ' + shown(client)
+        leak = gap(pattern, [granted for granted, words in self.clients[client] if 'sub' in words])
+        return 'allowed' if leak is None else '12 Uncovered %s %s' % (shown(pattern), shown(leak))
+
+    def topic_id(self, name):
+        """The least predefined id of a name, if there is one."""
+        return min((number for number, topic in self.topics.items() if topic == name), default=None)
+
+
+def grants(scope, word, name):
+    return any(word in words and matches(pattern, name) for pattern, words in scope)
+
+
+def read_policy(text):
+    value = read_json(text)
+    known = {'version', 'clients', 'sources', 'topics'}
+    need(isinstance(value, dict) and type(value.get('version')) is int and value['version'] == 1
+         and set(value) <= known, 'Shape')
+    return Policy(
+        dict(members(value, 'clients', MOST_LISTED, read_client)),
+        dict(members(value, 'sources', MOST_LISTED, read_source)),
+        dict(members(value, 'topics', MOST_TOPICS, read_topic)))
+
+
+def members(value, name, most, read):
+    """What `read` makes of each member of a part, in the byte order of the keys."""
+    part = value.get(name, {})
+    need(isinstance(part, dict), 'Shape')
+    need(len(part) <= most, 'TooMany')
+    return [read(key, part[key]) for key in sorted(part, key=str.encode)]
+
+
+def read_client(key, value):
+    need(is_client_id(key.encode()), 'BadClientId')
+    return key.encode(), read_scope(value)
+
+
+def read_source(key, value):
+    need(is_ip(key), 'BadSource')
+    return key, read_scope(value)
+
+
+def read_topic(key, value):
+    need(re.fullmatch(r'[1-9][0-9]{0,4}', key, re.A) and int(key) <= 65_534, 'BadTopicId')
+    need(isinstance(value, str), 'Shape')
+    need(is_name(value.encode()), 'BadTopicId')
+    return int(key), value.encode()
+
+
+def is_ip(text):
+    """Four decimal numbers from 0 to 255 without leading zeros."""
+    parts = text.split('.')
+    return len(parts) == 4 and all(
+        re.fullmatch(r'0|[1-9][0-9]{0,2}', part, re.A) and int(part) <= 255 for part in parts)
+
+
+def read_scope(value):
+    if isinstance(value, str):
+        value = read_json(read_base64(value))
+        need(isinstance(value, list), 'Shape')
+    need(isinstance(value, list), 'Shape')
+    need(len(value) <= MOST_PAIRS, 'TooMany')
+    return [read_pair(pair) for pair in value]
+
+
+def read_pair(pair):
+    need(isinstance(pair, list) and len(pair) == 2 and isinstance(pair[0], str) and isinstance(pair[1], list)
+         and all(isinstance(word, str) for word in pair[1]), 'Shape')
+    need(is_filter(pair[0].encode()), 'BadFilter')
+    need(set(pair[1]) <= {'pub', 'sub'}, 'BadPermission')
+    return pair[0].encode(), set(pair[1])
+
+
+def read_base64(text):
+    """RFC 4648, 5, without padding; what is left of the last character is zero."""
+    need(re.fullmatch(r'[A-Za-z0-9_-]*', text, re.A) and len(text) % 4 != 1, 'BadBase64')
+    try:
+        octets = base64.urlsafe_b64decode(text + '=' * (-len(text) % 4))
+    except binascii.Error:
+        raise Refused('BadBase64')
+    need(base64.urlsafe_b64encode(octets).decode().rstrip('=') == text, 'BadBase64')
+    return octets
+
+
+def read_json(text):
+    """The JSON value of a text (RFC 8259) that is UTF-8, without a byte order mark, without halves of a
+    pair of surrogates, without numbers beyond a double, and nested 127 deep at most."""
+    try:
+        text = text.decode()
+        need(not text.startswith('\ufeff') and depth_of(text) <= MOST_NESTED, 'NotJson')
+        value = json.loads(text, parse_int=whole, parse_float=finite, parse_constant=no_constant,
+                           object_pairs_hook=lambda pairs: dict((encodable(key), it) for key, it in pairs))
+        json.dumps(value, ensure_ascii=False).encode()
+    except (ValueError, RecursionError):
+        raise Refused('NotJson')
+    return value
+
+
+def depth_of(text):
+    deepest = depth = 0
+    for mark in re.findall(r'"(?:[^"\\]|\\.)*"?|[\[\]{}]', text, re.S):
+        depth += {'[': 1, '{': 1, ']': -1, '}': -1}.get(mark, 0)
+        deepest = max(deepest, depth)
+    return deepest
+
+
+def whole(digits):
+    if len(digits) > 20:
+        return finite(digits)
+    return 0.0 if digits == '-0' else int(digits)
+
+
+def finite(digits):
+    value = float(digits)
+    if math.isinf(value):
+        raise ValueError(digits)
+    return value
+
+
+def no_constant(word):
+    raise ValueError(word)
+
+
+def encodable(text):
+    text.encode()
+    return text
+
+
+def need(holds, fault):
+    if not holds:
+        raise Refused(fault)
