@@ -1,15 +1,9 @@
 -- Each message that is handed over or sent again, or whose name is announced, is judged by the policy in force at that row, and so is each
 -- that the policy forbids: a part of what each note stands for.
-use Rattle.std.proofs.Common.{ℕ, List, [], ◌∷◌, sym}
+use Rattle.std.proofs.Common.{ℕ, List, [], ◌∷◌}
 use Rattle.sng_grants.specs.declared.policy.Policy.{Policy}
 use Rattle.sng_book.specs.declared.decision.Decision.{Decision}
 use Rattle.sng_book.specs.declared.decision.Decision.TheVariants as note
-use Rattle.sng_book.specs.declared.outcome.Place.{Place}
-use Rattle.sng_book.specs.declared.outcome.Place.TheVariants as place
-use Rattle.sng_book.specs.declared.outcome.Denial.{Denial}
-use Rattle.sng_book.specs.declared.outcome.Denial.TheVariants.{Malformed, NotSupported, NoScope, NoSession, UnknownSource, BadName, BadFilter}
-use Rattle.sng_book.specs.declared.outcome.Denial.TheVariants.{IdType, UnknownId, MissingPub, MissingSub, Uncovered, ClientRefused}
-use Rattle.sng_book.specs.declared.outcome.Denial.TheVariants.{BrokerRefused, OutOfTurn, UpstreamDown, Full, TooLong, Gone}
 use Rattle.sng_book.specs.declared.outcome.Outcome.{Outcome}
 use Rattle.sng_book.specs.declared.outcome.Outcome.TheVariants.{Allowed, Denied}
 use Rattle.sng_book.specs.declared.out.Out.{Out}
@@ -18,51 +12,17 @@ use Rattle.sng_book.specs.declared.row.Row.{Row}
 use Rattle.sng_history.specs.State.{opening}
 use Rattle.sng_history.specs.Lawful.{Lawful}
 use Rattle.sng_history.specs.Views.{policy_in_force}
-use Rattle.sng_history.specs.LawsHanding.{IsDenial, IsJudged, AllJudged, EachHandJudged}
-use Rattle.sng_history.specs.LawsPromise.{HandDenied, MayHand, Stands, AllStand, EachStands}
+use Rattle.sng_history.specs.LawsHanding.{IsJudged, AllJudged, EachHandJudged}
+use Rattle.sng_history.specs.LawsPromise.{MayHand, Stands, AllStand, EachStands}
 use Rattle.sng_history.proofs.LawPromise.{promise_law}
-
-full_judged : (policy : Policy) (id name : List ℕ) (where_full : Place) → HandDenied policy id name (Full where_full)
-    → IsDenial policy id name (Full where_full)
-full_judged policy id name place.Ids denied = tt
-full_judged policy id name place.Queue denied = tt
-full_judged policy id name place.Clients denied = denied
-full_judged policy id name place.Subscriptions denied = denied
-full_judged policy id name place.InFlight denied = denied
-full_judged policy id name place.Outbox denied = denied
-
-denial_judged : (policy : Policy) (id name : List ℕ) (rule : Denial) → HandDenied policy id name rule → IsDenial policy id name rule
-denial_judged policy id name (NoScope client) denied = denied
-denial_judged policy id name (MissingSub text) denied = denied
-denial_judged policy id name (Full where_full) denied = full_judged policy id name where_full denied
-denial_judged policy id name (ClientRefused code) denied = tt
-denial_judged policy id name TooLong denied = tt
-denial_judged policy id name Gone denied = tt
-denial_judged policy id name Malformed denied = denied
-denial_judged policy id name NotSupported denied = denied
-denial_judged policy id name NoSession denied = denied
-denial_judged policy id name UnknownSource denied = denied
-denial_judged policy id name BadName denied = denied
-denial_judged policy id name BadFilter denied = denied
-denial_judged policy id name IdType denied = denied
-denial_judged policy id name (UnknownId kind number) denied = denied
-denial_judged policy id name (MissingPub text) denied = denied
-denial_judged policy id name (Uncovered text gap) denied = denied
-denial_judged policy id name BrokerRefused denied = denied
-denial_judged policy id name OutOfTurn denied = denied
-denial_judged policy id name UpstreamDown denied = denied
 
 hand_judged : (policy : Policy) (id name : List ℕ) (o : Outcome) → MayHand policy id name o → IsJudged policy (note.Hand id name o)
 hand_judged policy id name Allowed may = may
-hand_judged policy id name (Denied rule) may = denial_judged policy id name rule may
-
-again_judged : (policy : Policy) (id name : List ℕ) (o : Outcome) → Stands policy (note.Retry id name o) → IsJudged policy (note.Retry id name o)
-again_judged policy id name Allowed is = sym is
-again_judged policy id name (Denied rule) is = sym is
+hand_judged policy id name (Denied rule) may = may
 
 said_judged : (policy : Policy) (said : Decision) → Stands policy said → IsJudged policy said
 said_judged policy (note.Hand id name outcome) stands = hand_judged policy id name outcome stands
-said_judged policy (note.Retry id name outcome) stands = again_judged policy id name outcome stands
+said_judged policy (note.Retry id name outcome) stands = stands
 said_judged policy (note.Announce id name) stands = stands
 said_judged policy (note.Connect client outcome) stands = tt
 said_judged policy (note.Left client) stands = tt

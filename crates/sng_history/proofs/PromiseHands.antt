@@ -27,8 +27,8 @@ use Rattle.sng_history.specs.Outgoing.{receive, behind, offered, judged_turn, tu
 use Rattle.sng_history.specs.Outgoing.{delivered_notes}
 use Rattle.sng_history.specs.Lawful.{confirmations}
 use Rattle.sng_history.specs.LawsRules.{judged}
-use Rattle.sng_history.specs.LawsHanding.{may_receive, receive_rules}
-use Rattle.sng_history.specs.LawsPromise.{HandDenied, Stands}
+use Rattle.sng_history.specs.LawsHanding.{may_receive, receive_rules, IsDenial}
+use Rattle.sng_history.specs.LawsPromise.{Stands}
 use Rattle.sng_history.proofs.Hands.{Every, every_append, every_if}
 use Rattle.sng_history.proofs.LawRules.{receive_ruled}
 
@@ -37,7 +37,7 @@ use Rattle.sng_history.proofs.LawRules.{receive_ruled}
 -- what the policy says, by its two rules
 abbrev AsDenied : Policy → List ℕ → List ℕ → Outcome → Type 0
 AsDenied policy id name Allowed = Unit {0}
-AsDenied policy id name (Denied rule) = HandDenied policy id name rule
+AsDenied policy id name (Denied rule) = IsDenial policy id name rule
 
 denial_by : (policy : Policy) (id name : List ℕ) (unlisted unmatched : Bool)
     → judged (receive_rules policy id name) ≡ judged ((unlisted, NoScope id) ∷ (unmatched, MissingSub name) ∷ [])
@@ -47,7 +47,7 @@ denial_by policy id name false true is = is
 denial_by policy id name false false is = tt
 
 denial_so : (policy : Policy) (id name : List ℕ) (rule : Denial) → judged (receive_rules policy id name) ≡ Denied rule
-    → HandDenied policy id name rule
+    → IsDenial policy id name rule
 denial_so policy id name rule is =
     let scope = scope_of policy.clients id in
     subst (AsDenied policy id name) is (denial_by policy id name (not (is_some scope)) (not (may_receive scope name)) refl)

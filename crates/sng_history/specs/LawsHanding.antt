@@ -271,12 +271,12 @@ NothingIdles h id = is_ready h id ≡ true → waits_for id h ≡ []
 abbrev pub NoneKept : List Row → List ℕ → Type 0
 NoneKept h id = is_away (phase_of id h) ≡ true → waits_for id h ≡ []
 
--- a message may be denied so: for want of a scope, or of a pair that matches, it is the judgement by this policy; else for want of an id,
--- by the client, as it came, or as it is gone; and for no other reason
+-- a message may be denied so: for want of a scope, or of a pair that matches, it is the judgement by this policy; for want of an id only where
+-- this policy allows it; by the client, as it came, or as it is gone, which is no policy's; and for no other reason
 abbrev pub IsDenial : Policy → List ℕ → List ℕ → Denial → Type 0
 IsDenial policy id name (NoScope client) = judged (receive_rules policy id name) ≡ Denied (NoScope client)
 IsDenial policy id name (MissingSub text) = judged (receive_rules policy id name) ≡ Denied (MissingSub text)
-IsDenial policy id name (Full place.Ids) = Unit {0}
+IsDenial policy id name (Full place.Ids) = judged (receive_rules policy id name) ≡ Allowed
 IsDenial policy id name (ClientRefused code) = Unit {0}
 IsDenial policy id name TooLong = Unit {0}
 IsDenial policy id name (Full place.Queue) = Unit {0}
@@ -311,8 +311,7 @@ IsJudged policy (note.Publish whom name outcome) = Unit {0}
 IsJudged policy (note.Subscribe whom filter outcome) = Unit {0}
 IsJudged policy (note.Unsubscribe whom filter outcome) = Unit {0}
 IsJudged policy (note.Will whom name outcome) = Unit {0}
-IsJudged policy (note.Retry client name Allowed) = judged (receive_rules policy client name) ≡ Allowed
-IsJudged policy (note.Retry client name (Denied rule)) = judged (receive_rules policy client name) ≡ Denied rule
+IsJudged policy (note.Retry client name outcome) = outcome ≡ judged (receive_rules policy client name)
 IsJudged policy (note.Forward whom name outcome) = Unit {0}
 IsJudged policy (note.Again whom name outcome) = Unit {0}
 IsJudged policy (note.End client filter outcome) = Unit {0}

@@ -14,7 +14,6 @@ use Rattle.sng_book.specs.declared.decision.Decision.{Decision}
 use Rattle.sng_book.specs.declared.decision.Decision.TheVariants as note
 use Rattle.sng_book.specs.declared.decision.Who.{Who}
 use Rattle.sng_book.specs.declared.decision.Who.TheVariants as who
-use Rattle.sng_book.specs.declared.outcome.Place.TheVariants as place
 use Rattle.sng_book.specs.declared.outcome.Denial.{Denial}
 use Rattle.sng_book.specs.declared.outcome.Denial.TheVariants.{Malformed, NotSupported, NoScope, NoSession, UnknownSource, BadName}
 use Rattle.sng_book.specs.declared.outcome.Denial.TheVariants.{BadFilter, IdType, UnknownId, MissingPub, MissingSub, Uncovered}
@@ -26,7 +25,7 @@ use Rattle.sng_book.specs.declared.out.Out.TheVariants.{Send, Wire, Note}
 use Rattle.sng_book.specs.declared.row.Row.{Row}
 use Rattle.sng_history.specs.Views.{policy_in_force}
 use Rattle.sng_history.specs.LawsRules.{judged, publish_rules}
-use Rattle.sng_history.specs.LawsHanding.{receive_rules, may_receive}
+use Rattle.sng_history.specs.LawsHanding.{receive_rules, may_receive, IsDenial}
 
 -- ---- kinds of rules
 
@@ -197,35 +196,9 @@ MayConnect policy id (Denied rule) =
 
 -- a message leaves for a client as the policy says. That it was too long, that its queue was full, that the client refused it or is gone is
 -- no policy's
-abbrev pub HandDenied : Policy → List ℕ → List ℕ → Denial → Type 0
-HandDenied policy id name (NoScope client) = judged (receive_rules policy id name) ≡ Denied (NoScope client)
-HandDenied policy id name (MissingSub text) = judged (receive_rules policy id name) ≡ Denied (MissingSub text)
-HandDenied policy id name (Full place.Ids) = judged (receive_rules policy id name) ≡ Allowed
-HandDenied policy id name (Full place.Queue) = Unit {0}
-HandDenied policy id name TooLong = Unit {0}
-HandDenied policy id name (ClientRefused code) = Unit {0}
-HandDenied policy id name Gone = Unit {0}
-HandDenied policy id name Malformed = ⊥
-HandDenied policy id name NotSupported = ⊥
-HandDenied policy id name NoSession = ⊥
-HandDenied policy id name UnknownSource = ⊥
-HandDenied policy id name BadName = ⊥
-HandDenied policy id name BadFilter = ⊥
-HandDenied policy id name IdType = ⊥
-HandDenied policy id name (UnknownId kind number) = ⊥
-HandDenied policy id name (MissingPub text) = ⊥
-HandDenied policy id name (Uncovered filter gap) = ⊥
-HandDenied policy id name BrokerRefused = ⊥
-HandDenied policy id name OutOfTurn = ⊥
-HandDenied policy id name UpstreamDown = ⊥
-HandDenied policy id name (Full place.Clients) = ⊥
-HandDenied policy id name (Full place.Subscriptions) = ⊥
-HandDenied policy id name (Full place.InFlight) = ⊥
-HandDenied policy id name (Full place.Outbox) = ⊥
-
 abbrev pub MayHand : Policy → List ℕ → List ℕ → Outcome → Type 0
 MayHand policy id name Allowed = judged (receive_rules policy id name) ≡ Allowed
-MayHand policy id name (Denied rule) = HandDenied policy id name rule
+MayHand policy id name (Denied rule) = IsDenial policy id name rule
 
 -- a publish leaves for the broker exactly as the policy says of who asked for it
 abbrev pub MayLeave : Policy → Who → List ℕ → Outcome → Type 0

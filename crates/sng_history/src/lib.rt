@@ -254,14 +254,17 @@ pub fn messages_are_settled_in_order()
 /// How messages of the broker come to a client, in every lawful history. `judged`: a message is handed over,
 /// or an id of its name announced, only where the policy in force at that row lets the client receive the
 /// name by a pair with `sub` that matches it; one is denied for want of a scope or of such a pair just by
-/// that policy, and else only for want of an id, by the client, as too long, for a full queue, or as it is
-/// gone. `turns`: a message is handed over, denied by the policy or for want of an id, or its name announced,
-/// only where at that place in the row the client takes messages and nothing is open with it; it is handed
-/// over only where the client knows its name then, and an id is announced only where it does not. `regacks`,
-/// `pubacks`: a REGACK has its turn where the client takes messages and its TopicId and MsgId are those of
-/// the announcement that is open, a PUBACK where its MsgId is that of what is open; else they are out of
-/// turn. A REGACK with another code than 0 refuses the front. Then all leaves that may, the oldest first,
-/// each judged, with its own payload, QoS and Retain, until something is open again.
+/// that policy, for want of an id only where that policy allows it, and else only by the client, as too long,
+/// for a full queue, or as it is gone; what is open is sent again, or not, just by that policy. `turns`: a
+/// message is handed over, denied by the policy or for want of an id, or its name announced, only where at
+/// that place in the row the client takes messages and nothing is open with it, but for an announced message
+/// that is judged again and denied; it is handed over only where the client knows its name then, and an id is
+/// announced only where it does not; and only what is open with a client that takes messages is judged again.
+/// `regacks`, `pubacks`: a REGACK has its turn where the client takes messages and its TopicId and MsgId are
+/// those of the announcement that is open, a PUBACK where its MsgId is that of what is open; else they are out
+/// of turn. A REGACK with another code than 0 refuses the front. Then all leaves that may, the oldest first,
+/// each judged, with its own payload, QoS and Retain, until something is open again; an awake client with whom
+/// nothing is then is sent PINGRESP.
 pub fn messages_are_handed_over()
     ensures judged { (h : List Row) → Lawful opening h → EachHandJudged h }
     ensures turns { (h : List Row) → Lawful opening h → (id : List ℕ) → EachInTurn id h }
