@@ -67,8 +67,11 @@ id_only bytes =
 text_only : (bytes : List ℕ) → OnlyMalformed (text_at bytes)
 text_only bytes =
     bind_only (number_at bytes)
-    (λ count. if nat_lt (length count.1) count.0 then Err Malformed else Ok (take count.0 count.1, drop count.0 count.1)) (number_only bytes)
-    (λ count. if_only (nat_lt (length count.1) count.0) (Err Malformed) (Ok (take count.0 count.1, drop count.0 count.1)) fault_only (ok_only (take count.0 count.1, drop count.0 count.1)))
+    (λ count. if nat_lt (length count.1) count.0 then Err Malformed
+    else Ok (take count.0 count.1, drop count.0 count.1)) (number_only bytes)
+    (λ count. if_only (nat_lt (length count.1) count.0) (Err Malformed)
+    (Ok (take count.0 count.1, drop count.0 count.1)) fault_only
+    (ok_only (take count.0 count.1, drop count.0 count.1)))
 
 end_only : {A : Type 0} (x : A) (bytes : List ℕ) → OnlyMalformed (at_end x bytes)
 end_only x [] e is = absurd cc
@@ -77,7 +80,8 @@ end_only x (b ∷ bytes) e is = cc
 connect_rest-only : (clean_session : Bool) (bytes : List ℕ) → OnlyMalformed (connect_rest clean_session bytes)
 connect_rest-only clean_session bytes =
     bind_only (number_at bytes) _ (number_only bytes)
-    (λ keep_alive. bind_only (text_at keep_alive.1) _ (text_only keep_alive.1) (λ client_id. end_only _ client_id.1))
+    (λ keep_alive. bind_only (text_at keep_alive.1) _ (text_only keep_alive.1)
+    (λ client_id. end_only _ client_id.1))
 
 session_only : (flags : ℕ) → OnlyMalformed (session_of flags)
 session_only flags =
@@ -104,7 +108,8 @@ whole_id-only body = bind_only (id_at body) (λ id. at_end id.0 id.1) (id_only b
 qos_only : (byte : ℕ) → OnlyMalformed (qos_of byte)
 qos_only byte =
     if_only (byte == 0) (Ok _) _ (ok_only _)
-    (if_only (byte == 1) (Ok _) _ (ok_only _) (if_only (byte == 2) (Ok _) (Err Malformed) (ok_only _) fault_only))
+    (if_only (byte == 1) (Ok _) _ (ok_only _)
+    (if_only (byte == 2) (Ok _) (Err Malformed) (ok_only _) fault_only))
 
 qos_behind-only : (filter bytes : List ℕ) → OnlyMalformed (qos_behind filter bytes)
 qos_behind-only filter [] e is = cc
@@ -126,7 +131,8 @@ items_only item_at each zero (b ∷ bytes) e is = cc
 items_only {A} item_at each (suc most) (b ∷ bytes) e is =
     bind_only (item_at (b ∷ bytes))
     (λ item. items_within item_at most item.1 >>= λ items. Ok (item.0 ∷ items)) (each (b ∷ bytes))
-    (λ item. bind_only (items_within item_at most item.1) (λ items. Ok (item.0 ∷ items)) (items_only item_at each most item.1) (λ items. ok_only (item.0 ∷ items))) e is
+    (λ item. bind_only (items_within item_at most item.1) (λ items. Ok (item.0 ∷ items))
+    (items_only item_at each most item.1) (λ items. ok_only (item.0 ∷ items))) e is
 
 code_only : (byte : ℕ) → OnlyMalformed (code_of byte)
 code_only byte =
@@ -137,7 +143,8 @@ codes_only : (bytes : List ℕ) → OnlyMalformed (codes_of bytes)
 codes_only [] e is = absurd cc
 codes_only (byte ∷ bytes) e is =
     bind_only (code_of byte) (λ code. codes_of bytes >>= λ codes. Ok (code ∷ codes)) (code_only byte)
-    (λ code. bind_only (codes_of bytes) (λ codes. Ok (code ∷ codes)) (codes_only bytes) (λ codes. ok_only (code ∷ codes))) e is
+    (λ code. bind_only (codes_of bytes) (λ codes. Ok (code ∷ codes)) (codes_only bytes)
+    (λ codes. ok_only (code ∷ codes))) e is
 
 some_only : {A : Type 0} (all_of : List ℕ → Result (List A) PacketFault)
     → ((bytes : List ℕ) → OnlyMalformed (all_of bytes)) → (bytes : List ℕ)
@@ -148,12 +155,15 @@ some_only all_of each (b ∷ bytes) e is = each (b ∷ bytes) e is
 publish_only : (flags : PublishFlags) (body : List ℕ) → OnlyMalformed (publish_of flags body)
 publish_only flags body =
     bind_only (text_at body) _ (text_only body)
-    (λ name. bind_only (optional_id_at flags.identified name.1) _ (optional_id-only flags.identified name.1) (λ id. ok_only _))
+    (λ name. bind_only (optional_id_at flags.identified name.1) _ (optional_id-only flags.identified name.1)
+    (λ id. ok_only _))
 
 subscribe_only : (body : List ℕ) → OnlyMalformed (subscribe_of body)
 subscribe_only body =
     bind_only (id_at body) _ (id_only body)
-    (λ id. bind_only (some_of (items_of request_at) id.1) _ (some_only (items_of request_at) (λ bytes. items_only request_at request_only (length bytes) bytes) id.1) (λ requests. ok_only _))
+    (λ id. bind_only (some_of (items_of request_at) id.1) _
+    (some_only (items_of request_at)
+    (λ bytes. items_only request_at request_only (length bytes) bytes) id.1) (λ requests. ok_only _))
 
 subscribe_ack-only : (body : List ℕ) → OnlyMalformed (subscribe_ack_of body)
 subscribe_ack-only body =
@@ -163,7 +173,9 @@ subscribe_ack-only body =
 unsubscribe_only : (body : List ℕ) → OnlyMalformed (unsubscribe_of body)
 unsubscribe_only body =
     bind_only (id_at body) _ (id_only body)
-    (λ id. bind_only (some_of (items_of text_at) id.1) _ (some_only (items_of text_at) (λ bytes. items_only text_at text_only (length bytes) bytes) id.1) (λ filters. ok_only _))
+    (λ id. bind_only (some_of (items_of text_at) id.1) _
+    (some_only (items_of text_at) (λ bytes. items_only text_at text_only (length bytes) bytes) id.1)
+    (λ filters. ok_only _))
 
 -- a CONNECT of other flags is not supported
 
@@ -188,19 +200,30 @@ connect_behind-fault : (bytes : List ℕ) (e : PacketFault) → connect_behind b
     → (e ≡ Malformed) ⊎ ((e ≡ NotSupported) × IsOther bytes)
 connect_behind-fault [] e is = inl cc
 connect_behind-fault (flags ∷ rest) e is =
-    elim (either_fault (flags == 0) (connect_rest false rest) (if flags == 2 then connect_rest true rest else Err NotSupported) e is) [
+    elim (either_fault (flags == 0) (connect_rest false rest)
+    (if flags == 2 then connect_rest true rest else Err NotSupported) e is) [
       | inl none ↦ inl (connect_rest-only false rest e none.1)
       | inr some ↦ elim (either_fault (flags == 2) (connect_rest true rest) (Err NotSupported) e some.1) [
         | inl clean ↦ inl (connect_rest-only true rest e clean.1)
         | inr other ↦ (let same : NotSupported ≡ e = err_is {A = Packet} NotSupported e other.1 in
-            inr (sym same, record { flags = flags; rest = rest; not_none = differs flags 0 some.0; not_clean = differs flags 2 other.0; is = refl }))
+            inr (
+              sym same,
+              record {
+                flags = flags;
+                rest = rest;
+                not_none = differs flags 0 some.0;
+                not_clean = differs flags 2 other.0;
+                is = refl;
+              },
+            ))
       ]
     ]
 
 connect_fault : (body : List ℕ) (e : PacketFault) → connect_of body ≡ Err e
     → (e ≡ Malformed) ⊎ ((e ≡ NotSupported) × HasOtherFlags body)
 connect_fault body e is =
-    elim (either_fault (bytes_eq (take 7 body) protocol) (connect_behind (drop 7 body)) (Err Malformed) e is) [
+    elim (either_fault (bytes_eq (take 7 body) protocol) (connect_behind (drop 7 body))
+    (Err Malformed) e is) [
       | inl same ↦ elim (connect_behind-fault (drop 7 body) e same.1) [
         | inl malformed ↦ inl malformed
         | inr other ↦ (let o = other.1 in
@@ -237,16 +260,19 @@ BodyFault kind body e = (e ≡ Malformed) ⊎ ((e ≡ NotSupported) × (kind ≡
 pub body_fault : (kind : Kind) (body : List ℕ) (e : PacketFault) → body_of kind body ≡ Err e
     → BodyFault kind body e
 body_fault kinds.Connect body e is =
-    elim (connect_fault body e is) [ inl malformed ↦ inl malformed | inr other ↦ inr (other.0, refl, other.1) ]
+    elim (connect_fault body e is)
+    [ inl malformed ↦ inl malformed | inr other ↦ inr (other.0, refl, other.1) ]
 body_fault kinds.ConnectAck body e is = inl (connect_ack-only body e is)
 body_fault (kinds.Publish f) body e is = inl (publish_only f body e is)
 body_fault kinds.PublishAck body e is =
-    inl (bind_only (whole_id body) (λ id. Ok (variants.PublishAck id)) (whole_id-only body) (λ id. ok_only (variants.PublishAck id)) e is)
+    inl (bind_only (whole_id body) (λ id. Ok (variants.PublishAck id)) (whole_id-only body)
+    (λ id. ok_only (variants.PublishAck id)) e is)
 body_fault kinds.Subscribe body e is = inl (subscribe_only body e is)
 body_fault kinds.SubscribeAck body e is = inl (subscribe_ack-only body e is)
 body_fault kinds.Unsubscribe body e is = inl (unsubscribe_only body e is)
 body_fault kinds.UnsubscribeAck body e is =
-    inl (bind_only (whole_id body) (λ id. Ok (variants.UnsubscribeAck id)) (whole_id-only body) (λ id. ok_only (variants.UnsubscribeAck id)) e is)
+    inl (bind_only (whole_id body) (λ id. Ok (variants.UnsubscribeAck id)) (whole_id-only body)
+    (λ id. ok_only (variants.UnsubscribeAck id)) e is)
 body_fault kinds.PingRequest body e is = inl (end_only variants.PingRequest body e is)
 body_fault kinds.PingResponse body e is = inl (end_only variants.PingResponse body e is)
 body_fault kinds.Disconnect body e is = inl (end_only variants.Disconnect body e is)
@@ -306,7 +332,14 @@ kind_fault first e is =
             | inl publish ↦ (let high : first / 16 ≡ 3 = eqb-true (first / 16) 3 publish.0 in
                 elim (publish_kind-fault (first % 16) e publish.1) [
                   | inl at_2 ↦ (let byte = publish_byte-at_2 (first % 16) (omega arith) at_2.1 in
-                      inl (at_2.0, inl (record { dup = first % 16 / 8 == 1; retain = first % 16 % 2 == 1; is = omega arith })))
+                      inl (
+                        at_2.0,
+                        inl (record {
+                          dup = first % 16 / 8 == 1;
+                          retain = first % 16 % 2 == 1;
+                          is = omega arith;
+                        }),
+                      ))
                   | inr malformed ↦ inr malformed
                 ])
             | inr none ↦ inr (sym (err_is {A = Kind} Malformed e none.1))

@@ -90,7 +90,8 @@ pub text_at-reads : (bytes : List ℕ) (x : List ℕ × List ℕ) → text_at by
 text_at-reads bytes x is =
     let count =
     bind_ok (number_at bytes)
-    (λ count. if nat_lt (length count.1) count.0 then Err Malformed else Ok (take count.0 count.1, drop count.0 count.1)) x is in
+    (λ count. if nat_lt (length count.1) count.0 then Err Malformed
+    else Ok (take count.0 count.1, drop count.0 count.1)) x is in
     let n = count.0.0 in
     let behind = count.0.1 in
     let test = guard_ok (nat_lt (length behind) n) Malformed (Ok (take n behind, drop n behind)) x count.2 in
@@ -101,7 +102,14 @@ text_at-reads bytes x is =
     subst (λ (y : List ℕ × List ℕ). IsText bytes y.0 y.1) same (record {
       high = split.high;
       low = split.low;
-      value = omega (arith, ap length whole, length-append (take n behind) (drop n behind), length-drop n behind, split.value);
+      value =
+          omega (
+            arith,
+            ap length whole,
+            length-append (take n behind) (drop n behind),
+            length-drop n behind,
+            split.value,
+          );
       parts = split.parts ∙ ap (λ (t : List ℕ). split.high ∷ split.low ∷ t) (sym whole);
     })
 
@@ -116,7 +124,8 @@ Consumes-text_at bytes x rest is = omega (arith, length-text bytes x rest (text_
 pub qos_of-reads : (byte : ℕ) (qos : RequestedQos) → qos_of byte ≡ Ok qos → qos_byte qos ≡ byte
 qos_of-reads byte qos is =
     link byte 0 AtMostOnce _ qos qos_byte refl
-    (λ one. link byte 1 AtLeastOnce _ qos qos_byte refl (λ two. link byte 2 ExactlyOnce (Err Malformed) qos qos_byte refl (λ three. absurd cc) two) one) is
+    (λ one. link byte 1 AtLeastOnce _ qos qos_byte refl
+    (λ two. link byte 2 ExactlyOnce (Err Malformed) qos qos_byte refl (λ three. absurd cc) two) one) is
 
 -- a topic filter and its level at the front
 pub record IsRequest (bytes : List ℕ) (r : Request) (rest : List ℕ) : Type 0 where

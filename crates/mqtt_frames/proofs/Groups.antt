@@ -19,7 +19,8 @@ groups-room (suc most) (suc least) n fits below =
     elim (cases_lt n 128) [
       | inl small ↦ groups-last (suc most) n small ∙ sym (groups-last (suc least) n small)
       | inr large ↦ groups-next most n large
-          ∙ ap (λ bytes. (n % 128 + 128) ∷ bytes) (groups-room most least (n / 128) (omega arith) (omega arith))
+          ∙ ap (λ bytes. (n % 128 + 128) ∷ bytes)
+          (groups-room most least (n / 128) (omega arith) (omega arith))
           ∙ sym (groups-next least n large)
     ]
 

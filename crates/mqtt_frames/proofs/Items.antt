@@ -32,16 +32,21 @@ items_within-room {A} item_at consumes (suc most) (suc least) (b ∷ bytes) fits
     bind_same (item_at (b ∷ bytes))
     (λ item. items_within item_at most item.1 >>= λ items. Ok (item.0 ∷ items))
     (λ item. items_within item_at least item.1 >>= λ items. Ok (item.0 ∷ items))
-    (λ x is. ap (λ (r : Result (List A) PacketFault). r >>= λ items. Ok (x.0 ∷ items)) (items_within-room item_at consumes most least x.1 (omega (arith, consumes (b ∷ bytes) x.0 x.1 is)) (omega arith)))
+    (λ x is. ap (λ (r : Result (List A) PacketFault). r >>= λ items. Ok (x.0 ∷ items))
+    (items_within-room item_at consumes most least x.1 (omega (arith, consumes (b ∷ bytes) x.0 x.1 is))
+    (omega arith)))
 
 pub items_of-next : {A : Type 0} (item_at : List ℕ → Result (A × List ℕ) PacketFault) → Consumes item_at
     → (bytes : List ℕ) (x : A) (rest : List ℕ) → item_at bytes ≡ Ok (x, rest)
     → items_of item_at bytes ≡ (items_of item_at rest >>= λ items. Ok (x ∷ items))
 items_of-next item_at consumes [] x rest is = absurd (omega (arith, consumes [] x rest is))
 items_of-next {A} item_at consumes (b ∷ bytes) x rest is =
-    rw is (ap (λ (r : Result (List A) PacketFault). r >>= λ items. Ok (x ∷ items)) (items_within-room item_at consumes (length bytes) (length rest) rest (omega arith) (omega (arith, consumes (b ∷ bytes) x rest is))))
+    rw is (ap (λ (r : Result (List A) PacketFault). r >>= λ items. Ok (x ∷ items))
+    (items_within-room item_at consumes (length bytes) (length rest) rest (omega arith)
+    (omega (arith, consumes (b ∷ bytes) x rest is))))
 
-pub items_of-fails : {A : Type 0} (item_at : List ℕ → Result (A × List ℕ) PacketFault) (bytes : List ℕ) (e : PacketFault) → 0 < length bytes → item_at bytes ≡ Err e → items_of item_at bytes ≡ Err e
+pub items_of-fails : {A : Type 0} (item_at : List ℕ → Result (A × List ℕ) PacketFault) (bytes : List ℕ)
+    (e : PacketFault) → 0 < length bytes → item_at bytes ≡ Err e → items_of item_at bytes ≡ Err e
 items_of-fails item_at [] e some is = absurd (omega arith)
 items_of-fails item_at (b ∷ bytes) e some is = rw is refl
 

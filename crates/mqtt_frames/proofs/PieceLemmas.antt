@@ -41,7 +41,8 @@ length_at-positive (suc most) (b ∷ bytes) value size is =
       | inl small ↦ (let one : lengths.Known b 1 ≡ lengths.Known value size = rw (lt-ltb b 128 small) at is in
           let count : 1 ≡ size = cc in
           omega arith)
-      | inr large ↦ (let next = behind_group-told b (length_at most bytes) value size (rw (le-ltb b 128 large) at is) in
+      | inr large ↦ (let next = behind_group-told b (length_at most bytes) value size
+          (rw (le-ltb b 128 large) at is) in
           omega (arith, next.count))
     ]
 
@@ -57,8 +58,10 @@ length_at-cut zero bytes more value size waits is = absurd cc
 length_at-cut (suc most) [] more value size waits is = length_at-positive (suc most) more value size is
 length_at-cut (suc most) (b ∷ bytes) more value size waits is =
     elim (cases_lt b 128) [
-      | inl small ↦ absurd (let e : lengths.Known b 1 ≡ lengths.Unfinished = rw (lt-ltb b 128 small) at waits in cc)
-      | inr large ↦ (let next = behind_group-told b (length_at most (bytes ++ more)) value size (rw (le-ltb b 128 large) at is) in
+      | inl small ↦ absurd (let e : lengths.Known b 1
+          ≡ lengths.Unfinished = rw (lt-ltb b 128 small) at waits in cc)
+      | inr large ↦ (let next = behind_group-told b (length_at most (bytes ++ more)) value size
+          (rw (le-ltb b 128 large) at is) in
           let others = behind_group-unfinished b (length_at most bytes) (rw (le-ltb b 128 large) at waits) in
           omega (arith, next.count, length_at-cut most bytes more next.value next.others others next.told))
     ]
@@ -93,7 +96,8 @@ length_at-done (suc most) [] enough is = omega arith
 length_at-done (suc most) (b ∷ bytes) enough is =
     elim (cases_lt b 128) [
       | inl small ↦ (let e : lengths.Known b 1 ≡ lengths.Unfinished = rw (lt-ltb b 128 small) at is in cc)
-      | inr large ↦ length_at-done most bytes (omega arith) (behind_group-unfinished b (length_at most bytes) (rw (le-ltb b 128 large) at is))
+      | inr large ↦ length_at-done most bytes (omega arith)
+          (behind_group-unfinished b (length_at most bytes) (rw (le-ltb b 128 large) at is))
     ]
 
 header_at-done : (bytes : List ℕ) → 5 ≤ length bytes → header_at bytes ≡ headers.Unfinished → ⊥
@@ -103,7 +107,8 @@ header_at-done (first ∷ bytes) enough is =
 
 pub header_at-fixed : (bytes more : List ℕ) → 5 ≤ length bytes → header_at bytes ≡ header_at (bytes ++ more)
 header_at-fixed bytes more enough =
-    elim (header_at-more bytes more) [ inl waits ↦ absurd (header_at-done bytes enough waits) | inr same ↦ sym same ]
+    elim (header_at-more bytes more)
+    [ inl waits ↦ absurd (header_at-done bytes enough waits) | inr same ↦ sym same ]
 
 pub header_at-few : (held piece : List ℕ) → header_at (held ++ take 5 piece) ≡ header_at (held ++ piece)
 header_at-few held piece =
@@ -111,7 +116,8 @@ header_at-few held piece =
       | inl long ↦ (let count : length (take 5 piece) ≡ 5 = length-take-le 5 piece (omega arith) in
           let enough : 5 ≤ length (held ++ take 5 piece) = omega (arith, length-append held (take 5 piece)) in
           header_at-fixed (held ++ take 5 piece) (drop 5 piece) enough
-          ∙ ap header_at (append_assoc held (take 5 piece) (drop 5 piece) ∙ ap (λ (b : List ℕ). held ++ b) (take-append-drop 5 piece)))
+          ∙ ap header_at (append_assoc held (take 5 piece) (drop 5 piece)
+          ∙ ap (λ (b : List ℕ). held ++ b) (take-append-drop 5 piece)))
       | inr short ↦ ap (λ (b : List ℕ). header_at (held ++ b)) (take_all 5 piece short)
     ]
 
@@ -124,7 +130,8 @@ waits_short bytes kind start rest waits told short =
     let is : behind_header (headers.Known kind start rest) bytes ≡ fronts.Waiting = rw told at waits in
     elim (cases_lt (length bytes) (start + rest)) [
       | inl part ↦ part
-      | inr whole ↦ absurd (not_sized (start + rest) (body_of kind (take rest (drop start bytes))) (rw (le-ltb MAX_PACKET (start + rest) short, le-ltb (length bytes) (start + rest) whole) at is))
+      | inr whole ↦ absurd (not_sized (start + rest) (body_of kind (take rest (drop start bytes)))
+          (rw (le-ltb MAX_PACKET (start + rest) short, le-ltb (length bytes) (start + rest) whole) at is))
     ]
 
 pub is_part : (held piece : List ℕ) (kind : Kind) (start rest : ℕ) → decode held ≡ fronts.Waiting
@@ -176,8 +183,13 @@ whole-read held part behind kind start rest told short size =
     ap (λ (b : List ℕ). take rest (drop start b)) (sym (append_assoc held part behind))
     ∙ body-more start rest (held ++ part) behind (omega arith)
     ∙ take_all rest (drop start (held ++ part)) (omega (arith, length-drop start (held ++ part))) in
-    let front : decode (held ++ (part ++ behind)) ≡ sized (start + rest) (body_of kind (drop start (held ++ part))) =
-    rw (told, le-ltb MAX_PACKET (start + rest) short, le-ltb (length (held ++ (part ++ behind))) (start + rest) enough) (ap (λ b. sized (start + rest) (body_of kind b)) body) in
+    let front : decode (held ++ (part ++ behind))
+    ≡ sized (start + rest) (body_of kind (drop start (held ++ part))) =
+    rw (
+      told,
+      le-ltb MAX_PACKET (start + rest) short,
+      le-ltb (length (held ++ (part ++ behind))) (start + rest) enough,
+    ) (ap (λ b. sized (start + rest) (body_of kind b)) body) in
     let left : drop (start + rest) (held ++ (part ++ behind)) ≡ behind =
     ap (drop (start + rest)) (sym (append_assoc held part behind))
     ∙ drop-append-le (start + rest) (held ++ part) behind (omega arith)
@@ -216,7 +228,8 @@ decode-two bytes p size is =
     omega (arith, h.total, header_at-two bytes h.kind h.start h.rest h.is)
 
 few-behind : (f : Front) (bytes : List ℕ) → decode bytes ≡ f
-    → ((others : List ℕ) → length others < length bytes → 2 * length (read_all others).packets ≤ length others)
+    → ((others : List ℕ) → length others < length bytes
+    → 2 * length (read_all others).packets ≤ length others)
     → 2 * length (read_all bytes).packets ≤ length bytes
 few-behind fronts.Waiting bytes is few =
     omega (arith, ap (λ (r : Read). length r.packets) (read_all-waiting bytes is))
@@ -225,7 +238,12 @@ few-behind (fronts.Faulty fault) bytes is few =
 few-behind (fronts.Whole packet size) bytes is few =
     let within = decode-within bytes packet size is in
     let others = few (drop size bytes) (omega (arith, length-drop size bytes)) in
-    omega (arith, ap (λ (r : Read). length r.packets) (read_all-whole bytes packet size is), decode-two bytes packet size is, length-drop size bytes)
+    omega (
+      arith,
+      ap (λ (r : Read). length r.packets) (read_all-whole bytes packet size is),
+      decode-two bytes packet size is,
+      length-drop size bytes,
+    )
 
 few-within : (most : ℕ) (bytes : List ℕ) → length bytes ≤ most
     → 2 * length (read_all bytes).packets ≤ length bytes
@@ -245,7 +263,13 @@ few-held (fronts.Whole packet size) held piece waits is =
     let h = behind_header-known (header_at all) all packet size is in
     let part = is_part held piece h.kind h.start h.rest waits h.is h.short in
     let others = few-within (length (drop size all)) (drop size all) (omega arith) in
-    omega (arith, ap (λ (r : Read). length r.packets) (read_all-whole all packet size is), h.total, length-drop size all, length-append held piece)
+    omega (
+      arith,
+      ap (λ (r : Read). length r.packets) (read_all-whole all packet size is),
+      h.total,
+      length-drop size all,
+      length-append held piece,
+    )
 
 pub few_packets : (held piece : List ℕ) → decode held ≡ fronts.Waiting
     → 2 * length (read_all (held ++ piece)).packets ≤ 2 + length piece

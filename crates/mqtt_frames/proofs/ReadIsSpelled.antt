@@ -86,8 +86,10 @@ length_at-spelled (suc most) (b ∷ bytes) n size are is =
       | inl small ↦ (let one : lengths.Known b 1 ≡ lengths.Known n size = rw (lt-ltb b 128 small) at is in
           let value : b ≡ n = cc in
           let count : 1 ≡ size = cc in
-          subst (λ (k : ℕ). IsLength (b ∷ bytes) n k × (k ≤ suc most)) count (record { groups = inl (small, sym value, refl); within = omega arith }, omega arith))
-      | inr large ↦ (let next = behind_group-told b (length_at most bytes) n size (rw (le-ltb b 128 large) at is) in
+          subst (λ (k : ℕ). IsLength (b ∷ bytes) n k × (k ≤ suc most)) count
+          (record { groups = inl (small, sym value, refl); within = omega arith }, omega arith))
+      | inr large ↦ (let next = behind_group-told b (length_at most bytes) n size
+          (rw (le-ltb b 128 large) at is) in
           let others = length_at-spelled most bytes next.value next.others are.1 next.told in
           let count : suc next.others ≡ size = omega (arith, next.count) in
           subst (λ (k : ℕ). IsLength (b ∷ bytes) n k × (k ≤ suc most)) count (
@@ -140,7 +142,10 @@ publish_kind-reads bits kind small is =
       | inr some ↦ elim (either (bits / 2 % 4 == 1) _ _ kind some.1) [
         | inl one ↦ (let bits_are : bits / 2 % 4 ≡ 1 = eqb-true (bits / 2 % 4) 1 one.0 in
             ap byte_of (sym (ok_is _ kind one.1)) ∙ publish_byte-is bits true small (omega arith))
-        | inr more ↦ elim (either (bits / 2 % 4 == 2) (Err NotSupported) (Err Malformed) kind more.1) [ inl two ↦ absurd (not_ok NotSupported kind two.1) | inr three ↦ absurd (not_ok Malformed kind three.1) ]
+        | inr more ↦ elim (either (bits / 2 % 4 == 2) (Err NotSupported) (Err Malformed) kind more.1) [
+          | inl two ↦ absurd (not_ok NotSupported kind two.1)
+          | inr three ↦ absurd (not_ok Malformed kind three.1)
+        ]
       ]
     ]
 
@@ -176,7 +181,13 @@ number-took bytes x are is =
     let all = subst AreBytes s.parts are in
     record {
       taken = s.high ∷ s.low ∷ [];
-      spelled = record { high = s.high; low = s.low; is = record { high_fits = all.0; low_fits = all.1.0; value = s.value }; bytes = refl };
+      spelled =
+          record {
+            high = s.high;
+            low = s.low;
+            is = record { high_fits = all.0; low_fits = all.1.0; value = s.value };
+            bytes = refl;
+          };
       parts = s.parts;
       others = all.1.1;
     }
@@ -189,7 +200,16 @@ id-took bytes x are is =
     let all = subst AreBytes s.parts are in
     record {
       taken = s.high ∷ s.low ∷ [];
-      spelled = record { positive = r.0; number = record { high = s.high; low = s.low; is = record { high_fits = all.0; low_fits = all.1.0; value = s.value }; bytes = refl } };
+      spelled =
+          record {
+            positive = r.0;
+            number = record {
+              high = s.high;
+              low = s.low;
+              is = record { high_fits = all.0; low_fits = all.1.0; value = s.value };
+              bytes = refl;
+            };
+          };
       parts = s.parts;
       others = all.1.1;
     }
@@ -202,7 +222,13 @@ is_text-took bytes text rest are t =
       taken = t.high ∷ t.low ∷ text;
       spelled = record {
         count = t.high ∷ t.low ∷ [];
-        number = record { high = t.high; low = t.low; is = record { high_fits = all.0; low_fits = all.1.0; value = t.value }; bytes = refl };
+        number =
+            record {
+              high = t.high;
+              low = t.low;
+              is = record { high_fits = all.0; low_fits = all.1.0; value = t.value };
+              bytes = refl;
+            };
         bytes = refl;
       };
       parts = t.parts;
@@ -250,8 +276,13 @@ requests-spelled (suc most) (b ∷ bytes) requests are is =
     let t = is_text-took (b ∷ bytes) item.0.0.filter r.behind are r.filter in
     let behind = subst AreBytes r.parts t.others in
     subst (λ (rs : List Request). SpellsRequests rs (b ∷ bytes))
-    (ok_is (item.0.0 ∷ others.0) requests others.2)
-    (t.taken, item.0.1, t.spelled, requests-spelled most item.0.1 others.0 behind.1 others.1, t.parts ∙ ap (λ (x : List ℕ). t.taken ++ x) r.parts)
+    (ok_is (item.0.0 ∷ others.0) requests others.2) (
+      t.taken,
+      item.0.1,
+      t.spelled,
+      requests-spelled most item.0.1 others.0 behind.1 others.1,
+      t.parts ∙ ap (λ (x : List ℕ). t.taken ++ x) r.parts,
+    )
 
 filters-spelled : (most : ℕ) (bytes : List ℕ) (filters : List (List ℕ)) → AreBytes bytes
     → items_within text_at most bytes ≡ Ok filters → SpellsFilters filters bytes
@@ -313,14 +344,25 @@ connect_rest-spelled : (clean_session : Bool) (bytes : List ℕ) (p : Packet) �
 connect_rest-spelled clean_session bytes p are is =
     let keep =
     bind_ok (number_at bytes)
-    (λ keep_alive. text_at keep_alive.1 >>= λ client_id. at_end (variants.Connect (record { clean_session = clean_session; keep_alive = keep_alive.0; client_id = client_id.0 })) client_id.1) p is in
+    (λ keep_alive. text_at keep_alive.1 >>= λ client_id. at_end
+    (variants.Connect (record {
+      clean_session = clean_session;
+      keep_alive = keep_alive.0;
+      client_id = client_id.0;
+    })) client_id.1) p is in
     let k = number-took bytes keep.0 are keep.1 in
     let id =
     bind_ok (text_at keep.0.1)
-    (λ client_id. at_end (variants.Connect (record { clean_session = clean_session; keep_alive = keep.0.0; client_id = client_id.0 })) client_id.1) p keep.2 in
+    (λ client_id. at_end (variants.Connect
+    (record { clean_session = clean_session; keep_alive = keep.0.0; client_id = client_id.0 }))
+    client_id.1) p keep.2 in
     let t = text-took keep.0.1 id.0 k.others id.1 in
     let end =
-    at_end-is (variants.Connect (record { clean_session = clean_session; keep_alive = keep.0.0; client_id = id.0.0 })) p id.0.1 id.2 in
+    at_end-is (variants.Connect (record {
+      clean_session = clean_session;
+      keep_alive = keep.0.0;
+      client_id = id.0.0;
+    })) p id.0.1 id.2 in
     record {
       connect = record { clean_session = clean_session; keep_alive = keep.0.0; client_id = id.0.0 };
       is = end.1;
@@ -330,7 +372,8 @@ connect_rest-spelled clean_session bytes p are is =
       client_id = t.taken;
       client_id_text = t.spelled;
       parts = k.parts
-          ∙ ap (λ (x : List ℕ). k.taken ++ x) (t.parts ∙ ap (λ (x : List ℕ). t.taken ++ x) end.0 ∙ append-nil t.taken);
+          ∙ ap (λ (x : List ℕ). k.taken ++ x)
+          (t.parts ∙ ap (λ (x : List ℕ). t.taken ++ x) end.0 ∙ append-nil t.taken);
     }
 
 record IsFlagged (bytes : List ℕ) (p : Packet) : Type 0 where
@@ -343,10 +386,21 @@ connect_behind-spelled : (bytes : List ℕ) (p : Packet) → AreBytes bytes → 
     → IsFlagged bytes p
 connect_behind-spelled [] p are is = absurd cc
 connect_behind-spelled (flags ∷ rest) p are is =
-    elim (either (flags == 0) (connect_rest false rest) (if flags == 2 then connect_rest true rest else Err NotSupported) p is) [
-      | inl none ↦ record { clean_session = false; rest = rest; parts = ap (λ f. f ∷ rest) (eqb-true flags 0 none.0); connect = connect_rest-spelled false rest p are.1 none.1 }
+    elim (either (flags == 0) (connect_rest false rest)
+    (if flags == 2 then connect_rest true rest else Err NotSupported) p is) [
+      | inl none ↦ record {
+        clean_session = false;
+        rest = rest;
+        parts = ap (λ f. f ∷ rest) (eqb-true flags 0 none.0);
+        connect = connect_rest-spelled false rest p are.1 none.1;
+      }
       | inr other ↦ (let two = pass_ok (flags == 2) NotSupported (connect_rest true rest) p other.1 in
-          record { clean_session = true; rest = rest; parts = ap (λ f. f ∷ rest) (eqb-true flags 2 two.0); connect = connect_rest-spelled true rest p are.1 two.1 })
+          record {
+            clean_session = true;
+            rest = rest;
+            parts = ap (λ f. f ∷ rest) (eqb-true flags 2 two.0);
+            connect = connect_rest-spelled true rest p are.1 two.1;
+          })
     ]
 
 connect-spelled : (body : List ℕ) (p : Packet) → AreBytes body → connect_of body ≡ Ok p
@@ -359,7 +413,8 @@ connect-spelled body p are is =
     let whole : body ≡ protocol ++ (flag c.connect.clean_session 2 ∷ (c.keep_alive ++ c.client_id)) =
     sym (take-append-drop 7 body) ∙ ap (λ (x : List ℕ). x ++ drop 7 body) front
     ∙ ap (λ (x : List ℕ). protocol ++ x)
-    (f.parts ∙ ap (λ (x : List ℕ). flag f.clean_session 2 ∷ x) c.parts ∙ ap (λ b. flag b 2 ∷ (c.keep_alive ++ c.client_id)) (sym c.clean)) in
+    (f.parts ∙ ap (λ (x : List ℕ). flag f.clean_session 2 ∷ x) c.parts
+    ∙ ap (λ b. flag b 2 ∷ (c.keep_alive ++ c.client_id)) (sym c.clean)) in
     subst (IsBody kinds.Connect body) c.is (
       record {
         keep_alive = c.keep_alive;
@@ -374,7 +429,8 @@ connect-spelled body p are is =
 session_of-reads : (flags : ℕ) (present : Bool) → session_of flags ≡ Ok present → flag present 1 ≡ flags
 session_of-reads flags present is =
     link flags 0 false _ present (λ b. flag b 1) refl
-    (λ one. link flags 1 true (Err Malformed) present (λ b. flag b 1) refl (λ more. absurd (not_ok Malformed present more)) one) is
+    (λ one. link flags 1 true (Err Malformed) present (λ b. flag b 1) refl
+    (λ more. absurd (not_ok Malformed present more)) one) is
 
 ack-spelled : (body : List ℕ) (p : Packet) → connect_ack_of body ≡ Ok p → IsBody kinds.ConnectAck body p
 ack-spelled [] p is = absurd cc
@@ -382,7 +438,8 @@ ack-spelled (a ∷ []) p is = absurd cc
 ack-spelled (flags ∷ code ∷ []) p is =
     let present =
     bind_ok (session_of flags)
-    (λ session_present. Ok (variants.ConnectAck (record { session_present = session_present; code = code }))) p is in
+    (λ session_present. Ok (variants.ConnectAck (record { session_present = session_present; code = code })))
+    p is in
     subst (IsBody kinds.ConnectAck (flags ∷ code ∷ []))
     (ok_is (variants.ConnectAck (record { session_present = present.0; code = code })) p present.2)
     (ap (λ f. f ∷ code ∷ []) (sym (session_of-reads flags present.0 present.1)), refl)
@@ -398,11 +455,24 @@ publish-spelled : (f : PublishFlags) (body : List ℕ) (p : Packet) → AreBytes
 publish-spelled f body p are is =
     let name =
     bind_ok (text_at body)
-    (λ name. optional_id_at f.identified name.1 >>= λ id. Ok (variants.Publish (record { dup = f.dup; retain = f.retain; packet_id = id.0; name = name.0; payload = id.1 }))) p is in
+    (λ name. optional_id_at f.identified name.1 >>= λ id. Ok
+    (variants.Publish (record {
+      dup = f.dup;
+      retain = f.retain;
+      packet_id = id.0;
+      name = name.0;
+      payload = id.1;
+    }))) p is in
     let n = text-took body name.0 are name.1 in
     let id =
     bind_ok (optional_id_at f.identified name.0.1)
-    (λ id. Ok (variants.Publish (record { dup = f.dup; retain = f.retain; packet_id = id.0; name = name.0.0; payload = id.1 }))) p name.2 in
+    (λ id. Ok (variants.Publish (record {
+      dup = f.dup;
+      retain = f.retain;
+      packet_id = id.0;
+      name = name.0.0;
+      payload = id.1;
+    }))) p name.2 in
     let i = optional_id-took f.identified name.0.1 id.0 n.others id.1 in
     let publish : Publish =
     record { dup = f.dup; retain = f.retain; packet_id = id.0.0; name = name.0.0; payload = id.0.1 } in
@@ -431,7 +501,8 @@ subscribe-spelled : (body : List ℕ) (p : Packet) → AreBytes body → subscri
 subscribe-spelled body p are is =
     let id =
     bind_ok (id_at body)
-    (λ id. some_of (items_of request_at) id.1 >>= λ requests. Ok (variants.Subscribe (record { packet_id = id.0; requests = requests }))) p is in
+    (λ id. some_of (items_of request_at) id.1 >>= λ requests. Ok
+    (variants.Subscribe (record { packet_id = id.0; requests = requests }))) p is in
     let t = id-took body id.0 are id.1 in
     let rs =
     bind_ok (some_of (items_of request_at) id.0.1)
@@ -456,7 +527,8 @@ unsubscribe-spelled : (body : List ℕ) (p : Packet) → AreBytes body → unsub
 unsubscribe-spelled body p are is =
     let id =
     bind_ok (id_at body)
-    (λ id. some_of (items_of text_at) id.1 >>= λ filters. Ok (variants.Unsubscribe (record { packet_id = id.0; filters = filters }))) p is in
+    (λ id. some_of (items_of text_at) id.1 >>= λ filters. Ok
+    (variants.Unsubscribe (record { packet_id = id.0; filters = filters }))) p is in
     let t = id-took body id.0 are id.1 in
     let fs =
     bind_ok (some_of (items_of text_at) id.0.1)
@@ -481,7 +553,8 @@ subscribe_ack-spelled : (body : List ℕ) (p : Packet) → AreBytes body → sub
 subscribe_ack-spelled body p are is =
     let id =
     bind_ok (id_at body)
-    (λ id. some_of codes_of id.1 >>= λ codes. Ok (variants.SubscribeAck (record { packet_id = id.0; codes = codes }))) p is in
+    (λ id. some_of codes_of id.1 >>= λ codes. Ok
+    (variants.SubscribeAck (record { packet_id = id.0; codes = codes }))) p is in
     let t = id-took body id.0 are id.1 in
     let cs =
     bind_ok (some_of codes_of id.0.1)
@@ -550,14 +623,20 @@ with_length-told first lengths.Unfinished bytes kind start rest l is = absurd cc
 with_length-told first lengths.Overlong bytes kind start rest l is = absurd cc
 with_length-told first (lengths.Known value size) bytes kind start rest l is =
     let k = with_kind-told (kind_of first) (1 + size) value kind start rest is in
-    record { size = size; told = l ∙ ap (λ (n : ℕ). lengths.Known n size) k.2; kind_is = k.0; begins = sym k.1 }
+    record {
+      size = size;
+      told = l ∙ ap (λ (n : ℕ). lengths.Known n size) k.2;
+      kind_is = k.0;
+      begins = sym k.1;
+    }
 
 sized-told : (n size : ℕ) (r : Result Packet PacketFault) (p : Packet) → sized n r ≡ fronts.Whole p size
     → (r ≡ Ok p) × (n ≡ size)
 sized-told n size (Ok packet) p is = (ap Ok cc, cc)
 sized-told n size (Err fault) p is = absurd cc
 
-pub record IsBehindHeader (kind : Kind) (start rest : ℕ) (bytes : List ℕ) (p : Packet) (size : ℕ) : Type 0 where
+pub record IsBehindHeader (kind : Kind) (start rest : ℕ) (bytes : List ℕ) (p : Packet)
+    (size : ℕ) : Type 0 where
   pub total : start + rest ≡ size
   pub short : start + rest ≤ MAX_PACKET
   pub enough : start + rest ≤ length bytes
@@ -568,10 +647,15 @@ pub behind_header-told : (kind : Kind) (start rest : ℕ) (bytes : List ℕ) (p 
     → IsBehindHeader kind start rest bytes p size
 behind_header-told kind start rest bytes p size is =
     elim (cases_lt MAX_PACKET (start + rest)) [
-      | inl long ↦ absurd (let e : fronts.Faulty TooLong ≡ fronts.Whole p size = rw (lt-ltb MAX_PACKET (start + rest) long) at is in cc)
+      | inl long ↦ absurd (let e : fronts.Faulty TooLong
+          ≡ fronts.Whole p size = rw (lt-ltb MAX_PACKET (start + rest) long) at is in cc)
       | inr short ↦ elim (cases_lt (length bytes) (start + rest)) [
-        | inl part ↦ absurd (let e : fronts.Waiting ≡ fronts.Whole p size = rw (le-ltb MAX_PACKET (start + rest) short, lt-ltb (length bytes) (start + rest) part) at is in cc)
-        | inr whole ↦ (let s = sized-told (start + rest) size (body_of kind (take rest (drop start bytes))) p (rw (le-ltb MAX_PACKET (start + rest) short, le-ltb (length bytes) (start + rest) whole) at is) in
+        | inl part ↦ absurd (let e : fronts.Waiting
+            ≡ fronts.Whole p size =
+            rw (le-ltb MAX_PACKET (start + rest) short, lt-ltb (length bytes) (start + rest) part) at
+            is in cc)
+        | inr whole ↦ (let s = sized-told (start + rest) size (body_of kind (take rest (drop start bytes))) p
+            (rw (le-ltb MAX_PACKET (start + rest) short, le-ltb (length bytes) (start + rest) whole) at is) in
             record { total = s.1; short = short; enough = whole; body = s.0 })
       ]
     ]
@@ -598,7 +682,11 @@ told-spelled first bytes kind start rest p size are h b =
         behind = behind;
         variable = s.0;
         remaining = take n bytes;
-        total = record { groups = subst (λ (v : ℕ). SpellsGroups v (take n bytes)) (sym count) l.0.groups; most = omega (arith, length-take n bytes, l.1) };
+        total =
+            record {
+              groups = subst (λ (v : ℕ). SpellsGroups v (take n bytes)) (sym count) l.0.groups;
+              most = omega (arith, length-take n bytes, l.1);
+            };
         bytes = ap (λ (k : ℕ). take k (first ∷ bytes)) total
             ∙ ap (λ (x : List ℕ). first ∷ x) (take-add n rest bytes)
             ∙ ap (λ (f : ℕ). f ∷ (take n bytes ++ behind)) (sym byte);

@@ -86,7 +86,8 @@ groups_shortest : (n : ℕ) (bytes : List ℕ) → SpellsGroups n bytes
     → (bytes ≡ remaining_length n) ⊎ (length (remaining_length n) < length bytes)
 groups_shortest n [] s = absurd s
 groups_shortest n (b ∷ bytes) (inl last) =
-    inl (ap (λ (x : List ℕ). b ∷ x) last.2 ∙ ap (λ (x : ℕ). x ∷ []) (sym last.1) ∙ sym (remaining_length-last n (omega (arith, last.0, last.1))))
+    inl (ap (λ (x : List ℕ). b ∷ x) last.2 ∙ ap (λ (x : ℕ). x ∷ []) (sym last.1)
+    ∙ sym (remaining_length-last n (omega (arith, last.0, last.1))))
 groups_shortest n (b ∷ bytes) (inr next) =
     let rest = next.2.0 in
     let others = next.2.2 in
@@ -95,8 +96,15 @@ groups_shortest n (b ∷ bytes) (inr next) =
       | inr large ↦ (let high : rest ≡ n / 128 = omega (arith, next.0, next.1, next.2.1) in
           let low : b ≡ n % 128 + 128 = omega (arith, next.0, next.1, next.2.1) in
           elim (groups_shortest rest bytes others) [
-            | inl same ↦ inl (ap (λ (x : ℕ). x ∷ bytes) low ∙ ap (λ (x : List ℕ). (n % 128 + 128) ∷ x) (same ∙ ap remaining_length high) ∙ sym (remaining_length-next n large))
-            | inr longer ↦ inr (omega (arith, length-remaining_length-next n large, ap (λ (k : ℕ). length (remaining_length k)) high, longer))
+            | inl same ↦ inl (ap (λ (x : ℕ). x ∷ bytes) low
+                ∙ ap (λ (x : List ℕ). (n % 128 + 128) ∷ x) (same ∙ ap remaining_length high)
+                ∙ sym (remaining_length-next n large))
+            | inr longer ↦ inr (omega (
+              arith,
+              length-remaining_length-next n large,
+              ap (λ (k : ℕ). length (remaining_length k)) high,
+              longer,
+            ))
           ])
     ]
 
@@ -108,5 +116,12 @@ shortest p b s =
           s.bytes ∙ ap (λ (x : List ℕ). first_byte p ∷ (x ++ s.behind)) same
           ∙ ap (λ (x : List ℕ). first_byte p ∷ (remaining_length (length x) ++ x)) behind
           )
-      | inr longer ↦ inr (omega (arith, length-written p, size-is p b s, ap length behind, ap (λ (x : List ℕ). length (remaining_length (length x))) behind, longer))
+      | inr longer ↦ inr (omega (
+        arith,
+        length-written p,
+        size-is p b s,
+        ap length behind,
+        ap (λ (x : List ℕ). length (remaining_length (length x))) behind,
+        longer,
+      ))
     ]

@@ -68,7 +68,8 @@ kind_for variants.PingResponse = kinds.PingResponse
 kind_for variants.Disconnect = kinds.Disconnect
 
 publish-kind : (dup retain : Bool) (id : Option ℕ)
-    → kind_of (48 + flag dup 8 + qos_bits id + flag retain 1) ≡ Ok (kinds.Publish (record { dup = dup; identified = is_some id; retain = retain }))
+    → kind_of (48 + flag dup 8 + qos_bits id + flag retain 1)
+    ≡ Ok (kinds.Publish (record { dup = dup; identified = is_some id; retain = retain }))
 publish-kind true true None = refl
 publish-kind true true (Some id) = refl
 publish-kind true false None = refl
@@ -173,9 +174,14 @@ connect-read c b s =
     ∙ rw (number-read c.keep_alive s.keep_alive s.client_id s.keep_alive_number, text) refl
 
 publish-read : (p : Publish) (b : List ℕ) → SpellsPublish p b
-    → publish_of (record { dup = p.dup; identified = is_some p.packet_id; retain = p.retain }) b ≡ Ok (variants.Publish p)
+    → publish_of (record { dup = p.dup; identified = is_some p.packet_id; retain = p.retain }) b
+    ≡ Ok (variants.Publish p)
 publish-read p b s =
-    rw (s.bytes, text-read p.name s.name (s.id ++ p.payload) s.name_text, optional_id-read p.packet_id s.id p.payload s.packet_id) refl
+    rw (
+      s.bytes,
+      text-read p.name s.name (s.id ++ p.payload) s.name_text,
+      optional_id-read p.packet_id s.id p.payload s.packet_id,
+    ) refl
 
 whole_id-read : (id : ℕ) (b : List ℕ) → SpellsId id b → whole_id b ≡ Ok id
 whole_id-read id b s =
@@ -183,7 +189,8 @@ whole_id-read id b s =
     rw is refl
 
 session-read : (present : Bool) (code : ℕ)
-    → connect_ack_of (flag present 1 ∷ code ∷ []) ≡ Ok (variants.ConnectAck (record { session_present = present; code = code }))
+    → connect_ack_of (flag present 1 ∷ code ∷ [])
+    ≡ Ok (variants.ConnectAck (record { session_present = present; code = code }))
 session-read true code = refl
 session-read false code = refl
 
@@ -197,11 +204,25 @@ body-read (variants.ConnectAck a) b s = ack-read a b s
 body-read (variants.Publish p) b s = publish-read p b s
 body-read (variants.PublishAck id) b s = rw (whole_id-read id b s) refl
 body-read (variants.Subscribe s) b l =
-    rw (l.bytes, id-read s.packet_id l.id_bytes l.items_bytes l.packet_id, some-read (items_of request_at) s.requests l.items_bytes refl l.some (requests-read s.requests l.items_bytes l.listed)) refl
+    rw (
+      l.bytes,
+      id-read s.packet_id l.id_bytes l.items_bytes l.packet_id,
+      some-read (items_of request_at) s.requests l.items_bytes refl l.some
+          (requests-read s.requests l.items_bytes l.listed),
+    ) refl
 body-read (variants.SubscribeAck a) b l =
-    rw (l.bytes, id-read a.packet_id l.id_bytes l.items_bytes l.packet_id, some-read codes_of a.codes l.items_bytes refl l.some (ap codes_of l.listed ∙ codes-read a.codes)) refl
+    rw (
+      l.bytes,
+      id-read a.packet_id l.id_bytes l.items_bytes l.packet_id,
+      some-read codes_of a.codes l.items_bytes refl l.some (ap codes_of l.listed ∙ codes-read a.codes),
+    ) refl
 body-read (variants.Unsubscribe u) b l =
-    rw (l.bytes, id-read u.packet_id l.id_bytes l.items_bytes l.packet_id, some-read (items_of text_at) u.filters l.items_bytes refl l.some (filters-read u.filters l.items_bytes l.listed)) refl
+    rw (
+      l.bytes,
+      id-read u.packet_id l.id_bytes l.items_bytes l.packet_id,
+      some-read (items_of text_at) u.filters l.items_bytes refl l.some
+          (filters-read u.filters l.items_bytes l.listed),
+    ) refl
 body-read (variants.UnsubscribeAck id) b s = rw (whole_id-read id b s) refl
 body-read variants.PingRequest b s = rw s refl
 body-read variants.PingResponse b s = rw s refl
@@ -212,7 +233,9 @@ body-read variants.Disconnect b s = rw s refl
 pub header-read : (p : Packet) (b more : List ℕ) (s : Spells p b)
     → header_at (b ++ more) ≡ headers.Known (kind_for p) (1 + length s.remaining) (length s.behind)
 header-read p b more s =
-    let is : length_at 4 (s.remaining ++ (s.behind ++ more)) ≡ lengths.Known (length s.behind) (length s.remaining) = groups-read 4 (length s.behind) s.remaining (s.behind ++ more) s.total.groups s.total.most in
+    let is : length_at 4 (s.remaining ++ (s.behind ++ more))
+    ≡ lengths.Known (length s.behind) (length s.remaining) =
+    groups-read 4 (length s.behind) s.remaining (s.behind ++ more) s.total.groups s.total.most in
     let parts : b ++ more ≡ first_byte p ∷ (s.remaining ++ (s.behind ++ more)) =
     ap (λ (x : List ℕ). x ++ more) s.bytes
     ∙ ap (λ (x : List ℕ). first_byte p ∷ x) (append_assoc s.remaining s.behind more) in
@@ -236,7 +259,14 @@ front-read p b more s short =
     let body : take (length s.behind) (drop (1 + length s.remaining) (b ++ more)) ≡ s.behind =
     body-more (1 + length s.remaining) (length s.behind) b more within
     ∙ ap (take (length s.behind)) (behind-is p b s) ∙ take_all (length s.behind) s.behind (omega arith) in
-    rw (header-read p b more s, size, le-ltb MAX_PACKET (length b) short, le-ltb (length (b ++ more)) (length b) enough, body, body-read p s.behind s.variable) refl
+    rw (
+      header-read p b more s,
+      size,
+      le-ltb MAX_PACKET (length b) short,
+      le-ltb (length (b ++ more)) (length b) enough,
+      body,
+      body-read p s.behind s.variable,
+    ) refl
 
 pub spells_one : (b : List ℕ) (one other : Packet) → Spells one b → Spells other b → one ≡ other
 spells_one b one other s t =

@@ -28,7 +28,12 @@ SpellsGroups-groups zero n fits = inl (omega arith, refl, refl)
 SpellsGroups-groups (suc most) n fits =
     elim (cases_lt n 128) [
       | inl small ↦ subst (SpellsGroups n) (sym (groups-last (suc most) n small)) (inl (small, refl, refl))
-      | inr large ↦ subst (SpellsGroups n) (sym (groups-next most n large)) (inr (omega arith, omega arith, (n / 128, omega arith, SpellsGroups-groups most (n / 128) (omega arith))))
+      | inr large ↦ subst (SpellsGroups n) (sym (groups-next most n large))
+          (inr (
+            omega arith,
+            omega arith,
+            (n / 128, omega arith, SpellsGroups-groups most (n / 128) (omega arith)),
+          ))
     ]
 
 at_most-one : (n : ℕ) → n < 128 → length (remaining_length n) ≤ 1
@@ -91,15 +96,25 @@ SpellsRequests-written : (requests : List Request) → are_requests requests ≡
     → SpellsRequests requests (requests_bytes requests)
 SpellsRequests-written [] are = refl
 SpellsRequests-written (r ∷ requests) are =
-    let parts = both (is_text r.filter) (are_requests requests) are in
-    (text_bytes r.filter, requests_bytes requests, SpellsText-written r.filter parts.0, SpellsRequests-written requests parts.1, refl)
+    let parts = both (is_text r.filter) (are_requests requests) are in (
+      text_bytes r.filter,
+      requests_bytes requests,
+      SpellsText-written r.filter parts.0,
+      SpellsRequests-written requests parts.1,
+      refl,
+    )
 
 SpellsFilters-written : (filters : List (List ℕ)) → are_filters filters ≡ true
     → SpellsFilters filters (filters_bytes filters)
 SpellsFilters-written [] are = refl
 SpellsFilters-written (f ∷ filters) are =
-    let parts = both (is_text f) (are_filters filters) are in
-    (text_bytes f, filters_bytes filters, SpellsText-written f parts.0, SpellsFilters-written filters parts.1, refl)
+    let parts = both (is_text f) (are_filters filters) are in (
+      text_bytes f,
+      filters_bytes filters,
+      SpellsText-written f parts.0,
+      SpellsFilters-written filters parts.1,
+      refl,
+    )
 
 not_empty : {A : Type 0} (xs : List A) → not (length xs == 0) ≡ true → xs ≢ []
 not_empty [] is none = cc

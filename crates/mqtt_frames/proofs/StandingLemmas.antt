@@ -105,8 +105,10 @@ marked zero bytes is = absurd cc
 marked (suc most) [] is = (tt, omega arith)
 marked (suc most) (b ∷ bytes) is =
     elim (cases_lt b 128) [
-      | inl small ↦ absurd (let e : lengths.Known b 1 ≡ lengths.Unfinished = rw (lt-ltb b 128 small) at is in cc)
-      | inr large ↦ (let others = marked most bytes (behind_group-unfinished b (length_at most bytes) (rw (le-ltb b 128 large) at is)) in
+      | inl small ↦ absurd (let e : lengths.Known b 1 ≡ lengths.Unfinished = rw (lt-ltb b 128 small) at is in
+          cc)
+      | inr large ↦ (let others = marked most bytes
+          (behind_group-unfinished b (length_at most bytes) (rw (le-ltb b 128 large) at is)) in
           ((large, others.0), omega (arith, others.1)))
     ]
 
@@ -160,7 +162,8 @@ record IsCase (kind : Kind) (start value : ℕ) (b : List ℕ) (f : Front) : Typ
 abbrev Cases : Kind → ℕ → ℕ → List ℕ → Front → Type 0
 Cases kind start value b f =
     ((MAX_PACKET < start + value) × (f ≡ fronts.Faulty TooLong))
-    ⊎ (((start + value ≤ MAX_PACKET) × (length b < start + value) × (f ≡ fronts.Waiting)) ⊎ IsCase kind start value b f)
+    ⊎ (((start + value ≤ MAX_PACKET) × (length b < start + value) × (f ≡ fronts.Waiting))
+    ⊎ IsCase kind start value b f)
 
 cases_of : (kind : Kind) (start value : ℕ) (b : List ℕ) (f : Front)
     → behind_header (headers.Known kind start value) b ≡ f → Cases kind start value b f
@@ -168,8 +171,16 @@ cases_of kind start value b f is =
     elim (cases_lt MAX_PACKET (start + value)) [
       | inl long ↦ inl (long, sym (rw (lt-ltb MAX_PACKET (start + value) long) at is))
       | inr short ↦ elim (cases_lt (length b) (start + value)) [
-        | inl part ↦ inr (inl (short, part, sym (rw (le-ltb MAX_PACKET (start + value) short, lt-ltb (length b) (start + value) part) at is)))
-        | inr whole ↦ inr (inr (record { short = short; whole = whole; is = rw (le-ltb MAX_PACKET (start + value) short, le-ltb (length b) (start + value) whole) at is }))
+        | inl part ↦ inr (inl (
+          short,
+          part,
+          sym (rw (le-ltb MAX_PACKET (start + value) short, lt-ltb (length b) (start + value) part) at is),
+        ))
+        | inr whole ↦ inr (inr (record {
+          short = short;
+          whole = whole;
+          is = rw (le-ltb MAX_PACKET (start + value) short, le-ltb (length b) (start + value) whole) at is;
+        }))
       ]
     ]
 
@@ -186,8 +197,15 @@ waiting_is (headers.Faulty fault) b fact is = absurd cc
 waiting_is (headers.Known kind start value) b fact is =
     elim (cases_of kind start value b fronts.Waiting is) [
       | inl long ↦ absurd (let e = long.1 in cc)
-      | inr (inl part) ↦ inr (record { first = fact.first; start = start; value = value; header = fact.header; has = record { kind = is_first fact.first kind fact.is; short = part.0; part = part.1 } })
-      | inr (inr whole) ↦ absurd (not_sized (start + value) (body_of kind (take value (drop start b))) whole.is)
+      | inr (inl part) ↦ inr (record {
+        first = fact.first;
+        start = start;
+        value = value;
+        header = fact.header;
+        has = record { kind = is_first fact.first kind fact.is; short = part.0; part = part.1 };
+      })
+      | inr (inr whole) ↦ absurd (not_sized (start + value)
+          (body_of kind (take value (drop start b))) whole.is)
     ]
 
 pub unfinished_of : (b : List ℕ) → AreBytes b → decode b ≡ fronts.Waiting → IsUnfinished b
@@ -200,7 +218,8 @@ waits_of b (inr u) =
     header_at-begins u.first u.start u.value b u.header
     ∙ ap (λ (r : Result Kind PacketFault). with_kind r u.start u.value) (first_kind u.first u.has.kind) in
     ap (λ (h : Header). behind_header h b) known
-    ∙ rw (le-ltb MAX_PACKET (u.start + u.value) u.has.short, lt-ltb (length b) (u.start + u.value) u.has.part) refl
+    ∙ rw (le-ltb MAX_PACKET (u.start + u.value) u.has.short, lt-ltb (length b) (u.start + u.value) u.has.part)
+    refl
 
 -- too long
 
@@ -209,15 +228,23 @@ long_is headers.Unfinished b fact is = absurd cc
 long_is (headers.Faulty fault) b (inl malformed) is = absurd (let e : fault ≡ TooLong = cc in cc)
 long_is (headers.Faulty fault) b (inr begun) is =
     let e : fault ≡ TooLong = cc in
-    elim (kind_fault begun.first fault begun.has) [ inl unsupported ↦ absurd (let f = unsupported.0 in cc) | inr malformed ↦ absurd cc ]
+    elim (kind_fault begun.first fault begun.has)
+    [ inl unsupported ↦ absurd (let f = unsupported.0 in cc) | inr malformed ↦ absurd cc ]
 long_is (headers.Known kind start value) b fact is =
     elim (cases_of kind start value b (fronts.Faulty TooLong) is) [
-      | inl long ↦ record { first = fact.first; start = start; value = value; header = fact.header; has = record { kind = is_first fact.first kind fact.is; long = long.0 } }
+      | inl long ↦ record {
+        first = fact.first;
+        start = start;
+        value = value;
+        header = fact.header;
+        has = record { kind = is_first fact.first kind fact.is; long = long.0 };
+      }
       | inr (inl part) ↦ absurd (let e = part.2 in cc)
-      | inr (inr whole) ↦ elim (body_fault kind (take value (drop start b)) TooLong (sized_fault (start + value) _ TooLong whole.is)) [
-        | inl malformed ↦ absurd cc
-        | inr other ↦ absurd (let f = other.0 in cc)
-      ]
+      | inr (inr whole) ↦ elim (body_fault kind (take value (drop start b)) TooLong
+          (sized_fault (start + value) _ TooLong whole.is)) [
+            | inl malformed ↦ absurd cc
+            | inr other ↦ absurd (let f = other.0 in cc)
+          ]
     ]
 
 pub too_long_of : (b : List ℕ) → AreBytes b → decode b ≡ fronts.Faulty TooLong → IsTooLong b
@@ -242,23 +269,36 @@ unsupported_is (headers.Faulty fault) b (inl malformed) is = absurd (let e : fau
 unsupported_is (headers.Faulty fault) b (inr begun) is =
     let e : fault ≡ NotSupported = cc in
     elim (kind_fault begun.first fault begun.has) [
-      | inl qos_2 ↦ record { first = begun.first; start = begun.start; value = begun.value; header = begun.header; has = inl qos_2.1 }
+      | inl qos_2 ↦ record {
+        first = begun.first;
+        start = begun.start;
+        value = begun.value;
+        header = begun.header;
+        has = inl qos_2.1;
+      }
       | inr malformed ↦ absurd cc
     ]
 unsupported_is (headers.Known kind start value) b fact is =
     elim (cases_of kind start value b (fronts.Faulty NotSupported) is) [
       | inl long ↦ absurd (let e = long.1 in cc)
       | inr (inl part) ↦ absurd (let e = part.2 in cc)
-      | inr (inr whole) ↦ elim (body_fault kind (take value (drop start b)) NotSupported (sized_fault (start + value) _ NotSupported whole.is)) [
-        | inl malformed ↦ absurd cc
-        | inr other ↦ record {
-          first = fact.first;
-          start = start;
-          value = value;
-          header = fact.header;
-          has = inr (record { connect = other_first fact.first kind fact.is other.1; short = whole.short; whole = whole.whole; flags = other.2 });
-        }
-      ]
+      | inr (inr whole) ↦ elim (body_fault kind (take value (drop start b)) NotSupported
+          (sized_fault (start + value) _ NotSupported whole.is)) [
+            | inl malformed ↦ absurd cc
+            | inr other ↦ record {
+              first = fact.first;
+              start = start;
+              value = value;
+              header = fact.header;
+              has =
+                  inr (record {
+                    connect = other_first fact.first kind fact.is other.1;
+                    short = whole.short;
+                    whole = whole.whole;
+                    flags = other.2;
+                  });
+            }
+          ]
     ]
 
 pub unsupported_of : (b : List ℕ) → AreBytes b → decode b ≡ fronts.Faulty NotSupported → IsUnsupported b

@@ -58,9 +58,18 @@ stands-behind (fronts.Whole packet size) bytes are is next =
     let others = drop size bytes in
     let behind = next others (omega (arith, length-drop size bytes)) (AreBytes-drop size bytes are) in
     let short : length (take size bytes) ≤ MAX_PACKET =
-    omega (arith, spelled.1, ap length (take-append-drop size bytes), length-append (take size bytes) (drop size bytes), length-drop size bytes) in
-    subst (Stands bytes) (sym (read_all-whole bytes packet size is))
-    (behind.0, (take size bytes, others, spelled.0, short, sym (take-append-drop size bytes), behind.1), behind.2)
+    omega (
+      arith,
+      spelled.1,
+      ap length (take-append-drop size bytes),
+      length-append (take size bytes) (drop size bytes),
+      length-drop size bytes,
+    ) in
+    subst (Stands bytes) (sym (read_all-whole bytes packet size is)) (
+      behind.0,
+      (take size bytes, others, spelled.0, short, sym (take-append-drop size bytes), behind.1),
+      behind.2,
+    )
 
 stands-within : (most : ℕ) (bytes : List ℕ) → length bytes ≤ most → AreBytes bytes
     → Stands bytes (read_all bytes)
@@ -80,7 +89,8 @@ no_packet bytes more b rest fault p is s short same =
     let whole = front-read p b rest s short in
     elim (decode-more bytes more) [
       | inl waits ↦ (let e : fronts.Faulty fault ≡ fronts.Waiting = sym is ∙ waits in cc)
-      | inr equal ↦ (let e : fronts.Faulty fault ≡ fronts.Whole p (length b) = sym is ∙ sym equal ∙ ap decode same ∙ whole in cc)
+      | inr equal ↦ (let e : fronts.Faulty fault ≡ fronts.Whole p (length b) = sym is ∙ sym equal
+          ∙ ap decode same ∙ whole in cc)
     ]
 
 -- piece by piece
@@ -94,20 +104,32 @@ kept-silent fault [] = refl
 kept-silent fault (piece ∷ pieces) = failed-silent pieces
 
 kept-known : (fault : PacketFault) (pieces : List (List ℕ))
-    → known_fault (story_of (Kept fault) pieces).reported (story_of (Kept fault) pieces).state ≡ Some (stream_fault fault)
+    → known_fault (story_of (Kept fault) pieces).reported (story_of (Kept fault) pieces).state
+    ≡ Some (stream_fault fault)
 kept-known fault [] = refl
 kept-known fault (piece ∷ pieces) = refl
 
 tells-next : (packets : List Packet) (e : End) (pieces : List (List ℕ)) → WaitsAt e
-    → ((held : List ℕ) → decode held ≡ fronts.Waiting → Tells (story_of (Reading held) pieces) (read_all (held ++ joined pieces)))
-    → Tells (with_answer (settled_of packets e).0 (story_of (settled_of packets e).1 pieces)) (continued_from packets e (joined pieces))
+    → ((held : List ℕ) → decode held ≡ fronts.Waiting
+    → Tells (story_of (Reading held) pieces) (read_all (held ++ joined pieces)))
+    → Tells (with_answer (settled_of packets e).0 (story_of (settled_of packets e).1 pieces))
+    (continued_from packets e (joined pieces))
 tells-next packets (Rest held) pieces waits next =
     let later = next held waits in
-    record { packets = ap (λ (ps : List Packet). packets ++ ps) later.packets; fault = later.fault; held = later.held }
+    record {
+      packets = ap (λ (ps : List Packet). packets ++ ps) later.packets;
+      fault = later.fault;
+      held = later.held;
+    }
 tells-next [] (Fault fault) pieces waits next =
     record { packets = failed-silent pieces; fault = refl; held = tt }
 tells-next (p ∷ packets) (Fault fault) pieces waits next =
-    record { packets = ap (λ (ps : List Packet). (p ∷ packets) ++ ps) (kept-silent fault pieces) ∙ append-nil (p ∷ packets); fault = kept-known fault pieces; held = tt }
+    record {
+      packets = ap (λ (ps : List Packet). (p ∷ packets) ++ ps) (kept-silent fault pieces)
+          ∙ append-nil (p ∷ packets);
+      fault = kept-known fault pieces;
+      held = tt;
+    }
 
 tells-from : (held : List ℕ) (pieces : List (List ℕ)) → decode held ≡ fronts.Waiting
     → Tells (story_of (Reading held) pieces) (read_all (held ++ joined pieces))
@@ -118,11 +140,13 @@ tells-from held [] waits =
     (record { packets = refl; fault = refl; held = refl })
 tells-from held (piece ∷ pieces) waits =
     let first = read_all (held ++ piece) in
-    let all : read_all (held ++ (piece ++ joined pieces)) ≡ continued_from first.packets first.ending (joined pieces) =
+    let all : read_all (held ++ (piece ++ joined pieces))
+    ≡ continued_from first.packets first.ending (joined pieces) =
     ap read_all (sym (append_assoc held piece (joined pieces)))
     ∙ read_all-append (held ++ piece) (joined pieces) in
     subst (Tells (story_of (Reading held) (piece ∷ pieces))) (sym all)
-    (tells-next first.packets first.ending pieces (read_all-waits (held ++ piece)) (λ rest waits_too. tells-from rest pieces waits_too))
+    (tells-next first.packets first.ending pieces (read_all-waits (held ++ piece))
+    (λ rest waits_too. tells-from rest pieces waits_too))
 
 pub tells_all : (pieces : List (List ℕ)) → Tells (story_of (Reading []) pieces) (read_all (joined pieces))
 tells_all pieces = tells-from [] pieces refl

@@ -30,16 +30,19 @@ length_at-more (suc most) [] more = inl refl
 length_at-more (suc most) (b ∷ bytes) more =
     elim (nat_lt b 128) as (λ t.
     ((if t then lengths.Known b 1 else behind_group b (length_at most bytes)) ≡ lengths.Unfinished)
-    ⊎ ((if t then lengths.Known b 1 else behind_group b (length_at most (bytes ++ more))) ≡ (if t then lengths.Known b 1 else behind_group b (length_at most bytes)))) [
+    ⊎ ((if t then lengths.Known b 1 else behind_group b (length_at most (bytes ++ more)))
+    ≡ (if t then lengths.Known b 1 else behind_group b (length_at most bytes)))) [
       | true ↦ inr refl
-      | false ↦ elim (length_at-more most bytes more) [ inl waits ↦ inl (ap (behind_group b) waits) | inr same ↦ inr (ap (behind_group b) same) ]
+      | false ↦ elim (length_at-more most bytes more)
+          [ inl waits ↦ inl (ap (behind_group b) waits) | inr same ↦ inr (ap (behind_group b) same) ]
     ]
 
 pub header_at-more : (bytes more : List ℕ)
     → (header_at bytes ≡ headers.Unfinished) ⊎ (header_at (bytes ++ more) ≡ header_at bytes)
 header_at-more [] more = inl refl
 header_at-more (first ∷ rest) more =
-    elim (length_at-more 4 rest more) [ inl waits ↦ inl (ap (with_length first) waits) | inr same ↦ inr (ap (with_length first) same) ]
+    elim (length_at-more 4 rest more)
+    [ inl waits ↦ inl (ap (with_length first) waits) | inr same ↦ inr (ap (with_length first) same) ]
 
 pub body-more : (start rest : ℕ) (bytes more : List ℕ) → start + rest ≤ length bytes
     → take rest (drop start (bytes ++ more)) ≡ take rest (drop start bytes)
@@ -56,9 +59,17 @@ behind_header-more (headers.Known kind start rest) bytes more =
     elim (cases_lt MAX_PACKET (start + rest)) [
       | inl long ↦ inr (rw (lt-ltb MAX_PACKET (start + rest) long) refl)
       | inr short ↦ elim (cases_lt (length bytes) (start + rest)) [
-        | inl part ↦ inl (rw (le-ltb MAX_PACKET (start + rest) short, lt-ltb (length bytes) (start + rest) part) refl)
-        | inr whole ↦ (let above : start + rest ≤ length (bytes ++ more) = omega (arith, length-append bytes more) in
-            inr (rw (le-ltb MAX_PACKET (start + rest) short, le-ltb (length bytes) (start + rest) whole, le-ltb (length (bytes ++ more)) (start + rest) above) (ap (λ b. sized (start + rest) (body_of kind b)) (body-more start rest bytes more whole))))
+        | inl part ↦ inl (rw (
+          le-ltb MAX_PACKET (start + rest) short,
+          lt-ltb (length bytes) (start + rest) part,
+        ) refl)
+        | inr whole ↦ (let above : start + rest ≤ length (bytes ++ more) =
+            omega (arith, length-append bytes more) in
+            inr (rw (
+              le-ltb MAX_PACKET (start + rest) short,
+              le-ltb (length bytes) (start + rest) whole,
+              le-ltb (length (bytes ++ more)) (start + rest) above,
+            ) (ap (λ b. sized (start + rest) (body_of kind b)) (body-more start rest bytes more whole))))
       ]
     ]
 
@@ -67,7 +78,8 @@ pub decode-more : (bytes more : List ℕ)
 decode-more bytes more =
     elim (header_at-more bytes more) [
       | inl waits ↦ inl (rw waits refl)
-      | inr same ↦ elim (behind_header-more (header_at bytes) bytes more) [ inl waits ↦ inl waits | inr equal ↦ inr (rw same equal) ]
+      | inr same ↦ elim (behind_header-more (header_at bytes) bytes more)
+          [ inl waits ↦ inl waits | inr equal ↦ inr (rw same equal) ]
     ]
 
 -- a packet takes a byte or more, and no more than there are
@@ -106,7 +118,9 @@ behind_header-within (headers.Known kind start rest) bytes positive =
       | inr short ↦ elim (cases_lt (length bytes) (start + rest)) [
         | inl part ↦ rw (le-ltb MAX_PACKET (start + rest) short, lt-ltb (length bytes) (start + rest) part) tt
         | inr whole ↦ (let above : 0 < start + rest = omega (arith, positive kind start rest refl) in
-            rw (le-ltb MAX_PACKET (start + rest) short, le-ltb (length bytes) (start + rest) whole) (sized-within (length bytes) (start + rest) (body_of kind (take rest (drop start bytes))) above whole))
+            rw (le-ltb MAX_PACKET (start + rest) short, le-ltb (length bytes) (start + rest) whole)
+            (sized-within (length bytes) (start + rest)
+            (body_of kind (take rest (drop start bytes))) above whole))
       ]
     ]
 
@@ -155,7 +169,9 @@ pub read_all-whole : (bytes : List ℕ) (packet : Packet) (size : ℕ) → decod
 read_all-whole [] packet size is = absurd cc
 read_all-whole (b ∷ bytes) packet size is =
     let within = decode-within (b ∷ bytes) packet size is in
-    rw is (ap (with_packets (packet ∷ [])) (read_within-room (length bytes) (length (drop size (b ∷ bytes))) (drop size (b ∷ bytes)) (omega arith) (omega (arith, length-drop size (b ∷ bytes)))))
+    rw is (ap (with_packets (packet ∷ []))
+    (read_within-room (length bytes) (length (drop size (b ∷ bytes))) (drop size (b ∷ bytes))
+    (omega arith) (omega (arith, length-drop size (b ∷ bytes)))))
 
 pub with_packets-both : (first second : List Packet) (read : Read)
     → with_packets first (with_packets second read) ≡ with_packets (first ++ second) read
@@ -206,7 +222,8 @@ continued-both packets others (Rest bytes) more =
 continued-both packets others (Fault fault) more = refl
 
 append-behind : (f : Front) (bytes more : List ℕ) → decode bytes ≡ f
-    → ((rest : List ℕ) → length rest < length bytes → read_all (rest ++ more) ≡ continued (read_all rest) more)
+    → ((rest : List ℕ) → length rest < length bytes
+    → read_all (rest ++ more) ≡ continued (read_all rest) more)
     → read_all (bytes ++ more) ≡ continued (read_all bytes) more
 append-behind fronts.Waiting bytes more is others =
     sym (ap (λ (r : Read). continued r more) (read_all-waiting bytes is))
@@ -222,7 +239,8 @@ append-behind (fronts.Whole packet size) bytes more is others =
       | inr same ↦ (let within = decode-within bytes packet size is in
           let rest = drop size bytes in
           read_all-whole (bytes ++ more) packet size (same ∙ is)
-          ∙ ap (λ (b : List ℕ). with_packets (packet ∷ []) (read_all b)) (drop-append-le size bytes more within.1)
+          ∙ ap (λ (b : List ℕ). with_packets (packet ∷ []) (read_all b))
+          (drop-append-le size bytes more within.1)
           ∙ ap (with_packets (packet ∷ [])) (others rest (omega (arith, length-drop size bytes)))
           ∙ sym (continued-both (packet ∷ []) (read_all rest).packets (read_all rest).ending more)
           ∙ sym (ap (λ (r : Read). continued r more) (read_all-whole bytes packet size is)))

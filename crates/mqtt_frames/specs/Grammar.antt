@@ -86,7 +86,8 @@ SpellsFilters (f ∷ filters) b =
     × (b ≡ filter ++ rest)
 
 -- a packet identifier, and behind it one thing or more of a kind (3.8, 3.9 and 3.10)
-pub record SpellsListed {A : Type 0} (SpellsItems : List A → List ℕ → Type 0) (id : ℕ) (items : List A) (b : List ℕ) : Type 0 where
+pub record SpellsListed {A : Type 0} (SpellsItems : List A → List ℕ → Type 0) (id : ℕ) (items : List A)
+    (b : List ℕ) : Type 0 where
   pub id_bytes : List ℕ
   pub packet_id : SpellsId id id_bytes
   pub some : items ≢ []

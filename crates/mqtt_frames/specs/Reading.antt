@@ -71,7 +71,11 @@ abbrev pub connect_rest : Bool → List ℕ → Result Packet PacketFault
 connect_rest clean_session bytes = do
   keep_alive ← number_at bytes
   client_id ← text_at keep_alive.1
-  at_end (variants.Connect (record { clean_session = clean_session; keep_alive = keep_alive.0; client_id = client_id.0 })) client_id.1
+  at_end (variants.Connect (record {
+    clean_session = clean_session;
+    keep_alive = keep_alive.0;
+    client_id = client_id.0;
+  })) client_id.1
 
 -- the flags of a CONNECT: those with a will, a user name or a password, and reserved ones, are not supported
 -- (3.1.2.3)
@@ -107,7 +111,13 @@ abbrev pub publish_of : PublishFlags → List ℕ → Result Packet PacketFault
 publish_of flags body = do
   name ← text_at body
   id ← optional_id_at flags.identified name.1
-  Ok (variants.Publish (record { dup = flags.dup; retain = flags.retain; packet_id = id.0; name = name.0; payload = id.1 }))
+  Ok (variants.Publish (record {
+    dup = flags.dup;
+    retain = flags.retain;
+    packet_id = id.0;
+    name = name.0;
+    payload = id.1;
+  }))
 
 -- nothing but a packet identifier
 abbrev pub whole_id : List ℕ → Result ℕ PacketFault

@@ -1,4 +1,5 @@
-//! The first bytes of packets: the packet type in the high four bits, and the flags (MQTT 3.1.1, 2.2.1 and 2.2.2).
+//! The first bytes of packets: the packet type in the high four bits, and the flags (MQTT 3.1.1, 2.2.1 and
+//! 2.2.2).
 
 /// CONNECT (3.1).
 pub const CONNECT: u8 = 0x10;

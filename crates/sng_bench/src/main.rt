@@ -1,5 +1,6 @@
-//! Work whose speed is measured from outside, by `bench/speed.py`: one job is done as often as the command line says, and what came of
-//! it is printed as one number, so that no work can be left out. Without words it does nothing.
+//! Work whose speed is measured from outside, by `bench/speed.py`: one job is done as often as the command
+//! line says, and what came of it is printed as one number, so that no work can be left out. Without words it
+//! does nothing.
 #![tactic(auto)]
 
 mod jobs;

@@ -1,5 +1,6 @@
 -- What the broker does with a message, in the words of its use.
-use Rattle.std.specs.Prelude.{ℕ, ◌≡◌, ◌==◌, true, false, ◌↔◌, List, [], ◌∷◌, ◌++◌, filter, if◌then◌else◌, is_some}
+use Rattle.std.specs.Prelude.{ℕ, ◌≡◌, ◌==◌, true, false, ◌↔◌, List, [], ◌∷◌, ◌++◌, filter, if◌then◌else◌}
+use Rattle.std.specs.Prelude.{is_some}
 use Rattle.std.specs.declared.option.Option.{Option}
 use Rattle.std.specs.List.{Any}
 use Rattle.sng_text.specs.Matching.{matches}
@@ -22,7 +23,8 @@ Fits conn name s = (s.conn ≡ conn) × (matches s.filter name ≡ true)
 
 -- a message goes at QoS 1 where it came so, and a filter that matches was granted it: at the smaller QoS
 abbrev pub IsSure : Message → ℕ → List Standing → Type 0
-IsSure m conn standing = (m.qos ≡ AtLeastOnce) × Any (λ s. Fits conn m.name s × (s.qos ≡ AtLeastOnce)) standing
+IsSure m conn standing =
+    (m.qos ≡ AtLeastOnce) × Any (λ s. Fits conn m.name s × (s.qos ≡ AtLeastOnce)) standing
 
 -- the packets are one copy of the message, at the smaller QoS
 abbrev pub IsOneCopy : Message → ℕ → List Standing → List Packet → Type 0
@@ -33,7 +35,8 @@ IsOneCopy m conn standing packets =
 -- filters match; and to no other
 abbrev pub OneCopyEach : Type 0
 OneCopyEach = (standing : List Standing) (m : Message) (peers : List Peer) (conn : ℕ) → EachOnce peers
-    → (is_open peers conn ≡ true → Any (Fits conn m.name) standing → IsOneCopy m conn standing (sent_to conn (fan_out standing m peers)))
+    → (is_open peers conn ≡ true → Any (Fits conn m.name) standing
+    → IsOneCopy m conn standing (sent_to conn (fan_out standing m peers)))
     × ((is_open peers conn ≡ false) → sent_to conn (fan_out standing m peers) ≡ [])
     × ((Any (Fits conn m.name) standing → ⊥) → sent_to conn (fan_out standing m peers) ≡ [])
 
@@ -43,10 +46,13 @@ AreCopies s [] [] = Unit {0}
 AreCopies s [] (out ∷ outs) = ⊥
 AreCopies s (m ∷ messages) [] = ⊥
 AreCopies s (m ∷ messages) (out ∷ outs) =
-    ((id : Option ℕ) × (out ≡ (s.conn, packet_of true id m)) × ((is_some id ≡ true) ↔ ((m.qos ≡ AtLeastOnce) × (s.qos ≡ AtLeastOnce))))
+    ((id : Option ℕ) × (out ≡ (s.conn, packet_of true id m))
+    × ((is_some id ≡ true) ↔ ((m.qos ≡ AtLeastOnce) × (s.qos ≡ AtLeastOnce))))
     × AreCopies s messages outs
 
--- who subscribes gets each retained message whose name the filter matches, once and in order, at the smaller QoS
+-- who subscribes gets each retained message whose name the filter matches, once and in order, at the smaller
+-- QoS
 abbrev pub RetainedAreReplayed : Type 0
 RetainedAreReplayed = (s : Standing) (sending : Sending) (kept : List Message) → (copies : List (ℕ × Packet))
-    × ((replay s sending kept).outs ≡ sending.outs ++ copies) × AreCopies s (filter (λ m. matches s.filter m.name) kept) copies
+    × ((replay s sending kept).outs ≡ sending.outs ++ copies)
+    × AreCopies s (filter (λ m. matches s.filter m.name) kept) copies

@@ -19,7 +19,8 @@ use Rattle.mqtt_frames.specs.declared.packet.Unsubscribe.{Unsubscribe}
 use Rattle.sng_broker.specs.declared.parts.Message.{Message}
 use Rattle.sng_broker.specs.declared.parts.Peer.{Peer}
 use Rattle.sng_broker.specs.declared.parts.Standing.{Standing}
-use Rattle.sng_broker.specs.Brokers.{Broker, is_peer, is_open, next_id, identified, is_at_least_once, fits, fits_surely, let_stand, ended, forgotten, retained}
+use Rattle.sng_broker.specs.Brokers.{Broker, is_peer, is_open, next_id, identified, is_at_least_once, fits}
+use Rattle.sng_broker.specs.Brokers.{fits_surely, let_stand, ended, forgotten, retained}
 
 -- a copy has a packet identifier at QoS 1, and none at QoS 0
 abbrev pub id_for : Bool → ℕ → Option ℕ
@@ -33,7 +34,14 @@ last_after false last = last
 
 -- a copy of a message
 abbrev pub packet_of : Bool → Option ℕ → Message → Packet
-packet_of retain id m = packet.Publish (record { dup = false; retain = retain; packet_id = id; name = m.name; payload = m.payload })
+packet_of retain id m =
+    packet.Publish (record {
+      dup = false;
+      retain = retain;
+      packet_id = id;
+      name = m.name;
+      payload = m.payload;
+    })
 
 -- some filter of the connection matches the message's name
 abbrev pub gets : List Standing → Message → ℕ → Bool
@@ -179,7 +187,9 @@ published b conn p = elim (name_fault p.name) [ None ↦ delivered b conn p | So
 abbrev pub replayed : Broker → ℕ → Subscribe → Sending
 replayed b conn s = replay_all b.kept (record {
   last_id = last_of b.peers conn;
-  outs = (conn, packet.SubscribeAck (record { packet_id = s.packet_id; codes = codes_for conn s.requests })) ∷ [];
+  outs =
+      (conn, packet.SubscribeAck (record { packet_id = s.packet_id; codes = codes_for conn s.requests }))
+      ∷ [];
 }) (all_granted conn s.requests)
 
 abbrev pub subscribed : Broker → ℕ → Subscribe → Stepped

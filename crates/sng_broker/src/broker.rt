@@ -1,7 +1,8 @@
 //! The broker: a packet of a connection goes in, and what is sent to whom comes back.
 ghost use Rattle.std.specs.Prelude.{◌≡◌, [], false, IfOk, OnErr};
 ghost use Rattle.sng_broker.specs.Brokers.{is_open, forgotten, EachOnce};
-ghost use Rattle.sng_broker.specs.Steps.{step, taken, greeted, published, subscribed, unsubscribed, welcomed, answered, dropped};
+ghost use Rattle.sng_broker.specs.Steps.{step, taken, greeted, published, subscribed, unsubscribed, welcomed};
+ghost use Rattle.sng_broker.specs.Steps.{answered, dropped};
 
 use crate::parts::{Message, Peer, Standing};
 use crate::publishing::{Outs, count_copies, fan_out, qos_of, retain};

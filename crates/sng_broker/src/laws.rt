@@ -1,4 +1,5 @@
-//! The laws of the broker. The functions here only state them: a contract is the law, and a call does nothing.
+//! The laws of the broker. The functions here only state them: a contract is the law, and a call does
+//! nothing.
 ghost use Rattle.sng_broker.specs.Laws.{OneCopyEach, RetainedAreReplayed};
 
 /// A message goes once to each connection with a filter that matches its name, at the smaller QoS, and to no

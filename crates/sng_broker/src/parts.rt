@@ -1,6 +1,7 @@
 //! What a broker keeps.
 ghost use Rattle.std.specs.Prelude.{◌≡◌, IfOk};
-ghost use Rattle.sng_broker.specs.Brokers.{next_id, identified, is_at_least_once, is_peer, is_held, is_same, fits, fits_surely};
+ghost use Rattle.sng_broker.specs.Brokers.{next_id, identified, is_at_least_once, is_peer, is_held, is_same};
+ghost use Rattle.sng_broker.specs.Brokers.{fits, fits_surely};
 ghost use Rattle.sng_broker.specs.Steps.{id_for, last_after, packet_of};
 
 use mqtt_frames::{Packet, Publish};

@@ -1,7 +1,9 @@
 //! What is granted, and the filters that stand.
-ghost use Rattle.std.specs.Prelude.{◌≡◌, ◌≤◌, ◌<◌, ◌+◌, ◌++◌, [], ◌∷◌, length, map, vec_len, vec_capacity, IfOk, OnOk};
+ghost use Rattle.std.specs.Prelude.{◌≡◌, ◌≤◌, ◌<◌, ◌+◌, ◌++◌, [], ◌∷◌, length, map, vec_len, vec_capacity};
+ghost use Rattle.std.specs.Prelude.{IfOk, OnOk};
 ghost use Rattle.sng_broker.specs.Brokers.{let_stand, ended, identified};
-ghost use Rattle.sng_broker.specs.Steps.{granted_qos, told_qos, granted, code_for, all_granted, codes_for, all_stand, all_ended, last_of};
+ghost use Rattle.sng_broker.specs.Steps.{granted_qos, told_qos, granted, code_for, all_granted, codes_for};
+ghost use Rattle.sng_broker.specs.Steps.{all_stand, all_ended, last_of};
 
 use crate::parts::{Peer, Standing};
 use mqtt_frames::{Request, RequestedQos, SubscribeCode};

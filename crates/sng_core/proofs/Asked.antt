@@ -1,6 +1,6 @@
 -- What a client asked for, and what follows where it was allowed.
-use Rattle.std.proofs.Common.{◌≡◌, ℕ, ◌<◌, Bool, true, false, List, refl, ap, sym, ◌∙◌, length}
-use Rattle.std.specs.Prelude.{if◌then◌else◌, Option, Some, None, Ok, Err}
+use Rattle.std.proofs.Common.{◌≡◌, ℕ, ◌<◌, List, refl, ap, sym, ◌∙◌, length}
+use Rattle.std.specs.Prelude.{Option, Some, None, Ok, Err}
 use Rattle.std.specs.declared.result.Result.{Result}
 use Rattle.std.proofs.lemmas.Bool.{lt-ltb}
 use Rattle.sng_grants.specs.declared.policy.Policy.{Policy}
@@ -8,61 +8,69 @@ use Rattle.sng_frames.specs.declared.messages.publish.Publish.{Publish}
 use Rattle.sng_outbox.specs.declared.item.Publication.{Publication}
 use Rattle.sng_outbox.specs.declared.origin.Origin.TheVariants as origin
 use Rattle.sng_book.specs.declared.outcome.Denial.{Denial}
-use Rattle.sng_book.specs.declared.outcome.Denial.TheVariants.{UpstreamDown}
 use Rattle.sng_book.specs.declared.outcome.Outcome.{Outcome}
 use Rattle.sng_book.specs.declared.outcome.Outcome.TheVariants.{Allowed, Denied}
 use Rattle.sng_history.specs.Clients.{Client}
 use Rattle.sng_history.specs.State.{State, qos_of}
 use Rattle.sng_history.specs.Room.{room_in}
-use Rattle.sng_history.specs.Verdicts.{exit, and_then, room, may_ask, name_in}
+use Rattle.sng_history.specs.Verdicts.{exit, room, may_ask, name_in}
 use Rattle.sng_core.specs.declared.verdict.Judged.{Judged}
-use Rattle.sng_core.specs.Forms.{client_at, register_judged, told_at, register_next, publish_named, publish_by, publish_judged, publication_by}
+use Rattle.sng_core.specs.Forms.{client_at, register_judged, told_at, register_next, publish_named}
+use Rattle.sng_core.specs.Forms.{publish_by, publish_judged, publication_by}
 use Rattle.sng_sessions.specs.Moving.{moved_at}
 use Rattle.sng_core.proofs.Found.{moved_same, read_at}
-
-second_allowed : (a b : Outcome) → and_then a b ≡ Allowed → b ≡ Allowed
-second_allowed Allowed b is = is
-second_allowed (Denied rule) b is = absurd cc
+use Rattle.sng_history.proofs.WaitingAcks.{allowed_second, up_room}
 
 -- ---- a REGISTER
 
 -- the client that is moved is the one that was judged
-pub told_judged : (policy : Policy) (clock : ℕ) (text : List ℕ) (xs : List Client) (place : ℕ) (j : Judged) → place < length xs → j ≡ register_judged policy (client_at xs place) text
+pub told_judged : (policy : Policy) (clock : ℕ) (text : List ℕ) (xs : List Client) (place : ℕ) (j : Judged)
+    → place < length xs → j ≡ register_judged policy (client_at xs place) text
     → moved_at place (told_at clock j.name j.outcome) xs ≡ moved_at place (register_next policy clock text) xs
 told_judged policy clock text xs place j within is =
     let x = client_at xs place in
-    moved_same (told_at clock j.name j.outcome) (register_next policy clock text) xs place x (read_at xs place (lt-ltb place (length xs) within)) (ap (λ k. told_at clock k.name k.outcome x) is)
+    moved_same (told_at clock j.name j.outcome) (register_next policy clock text) xs place x
+    (read_at xs place (lt-ltb place (length xs) within)) (ap (λ k. told_at clock k.name k.outcome x) is)
 
 -- ---- a PUBLISH
 
-named_room : (policy : Policy) (r : Outcome) (x : Client) (named : Result (List ℕ) Denial) → (publish_named policy r x named).outcome ≡ Allowed → r ≡ Allowed
-named_room policy r x (Ok name) is = second_allowed (exit policy (origin.Client x.id) name) r is
+named_room : (policy : Policy) (r : Outcome) (x : Client) (named : Result (List ℕ) Denial)
+    → (publish_named policy r x named).outcome ≡ Allowed → r ≡ Allowed
+named_room policy r x (Ok name) is = allowed_second (exit policy (origin.Client x.id) name) r is
 named_room policy r x (Err rule) is = absurd cc
 
-may_room : (policy : Policy) (r : Outcome) (x : Client) (p : Publish) (may : Outcome) → (publish_by policy r x p.flags.id_type p.topic_id may).outcome ≡ Allowed → r ≡ Allowed
-may_room policy r x p Allowed is = named_room policy r x (name_in policy (Some x.ids) p.flags.id_type p.topic_id) is
+may_room : (policy : Policy) (r : Outcome) (x : Client) (p : Publish) (may : Outcome)
+    → (publish_by policy r x p.flags.id_type p.topic_id may).outcome ≡ Allowed → r ≡ Allowed
+may_room policy r x p Allowed is =
+    named_room policy r x (name_in policy (Some x.ids) p.flags.id_type p.topic_id) is
 may_room policy r x p (Denied rule) is = absurd cc
-
-up_room : (up : Bool) (o : Outcome) → (if up then o else Denied UpstreamDown) ≡ Allowed → o ≡ Allowed
-up_room true o is = is
-up_room false o is = absurd cc
 
 -- a publish that is to wait was allowed, at the QoS that was asked for
 pub record Asks (p : Publish) (outcome : Outcome) (publication : Publication) : Type 0 where
   pub allowed : outcome ≡ Allowed
   pub qos : publication.qos ≡ qos_of p.flags.qos
 
-asks_for : (id : List ℕ) (p : Publish) (name : Option (List ℕ)) (o : Outcome) (publication : Publication) → publication_by id p name o ≡ Some publication → Asks p o publication
+asks_for : (id : List ℕ) (p : Publish) (name : Option (List ℕ)) (o : Outcome) (publication : Publication)
+    → publication_by id p name o ≡ Some publication → Asks p o publication
 asks_for id p (Some name) Allowed publication is =
-    let e : record { origin = origin.Client id; name = name; payload = p.payload; qos = qos_of p.flags.qos; retain = p.flags.retain } ≡ publication = cc in
+    let e : record {
+      origin = origin.Client id;
+      name = name;
+      payload = p.payload;
+      qos = qos_of p.flags.qos;
+      retain = p.flags.retain;
+    } ≡ publication = cc in
     record { allowed = refl; qos = sym (ap (λ b. b.qos) e) }
 asks_for id p (Some name) (Denied rule) publication is = absurd cc
 asks_for id p None o publication is = absurd cc
 
 -- so there is room for it
-pub has_room : (s : State) (id : List ℕ) (p : Publish) (x : Client) (r : Outcome) (j : Judged) (publication : Publication) → r ≡ room s (qos_of p.flags.qos)
-    → j ≡ publish_judged s.policy r x p.flags.id_type p.topic_id → publication_by id p j.name j.outcome ≡ Some publication → room_in s.link publication.qos ≡ Allowed
+pub has_room : (s : State) (id : List ℕ) (p : Publish) (x : Client) (r : Outcome) (j : Judged)
+    (publication : Publication) → r ≡ room s (qos_of p.flags.qos)
+    → j ≡ publish_judged s.policy r x p.flags.id_type p.topic_id
+    → publication_by id p j.name j.outcome ≡ Some publication → room_in s.link publication.qos ≡ Allowed
 has_room s id p x r j publication is_room is asked =
     let asks = asks_for id p j.name j.outcome publication asked in
-    let fits : r ≡ Allowed = may_room s.policy r x p (may_ask s.policy x) (sym (ap (λ k. k.outcome) is) ∙ asks.allowed) in
+    let fits : r ≡ Allowed =
+    may_room s.policy r x p (may_ask s.policy x) (sym (ap (λ k. k.outcome) is) ∙ asks.allowed) in
     ap (room_in s.link) asks.qos ∙ up_room s.up (room_in s.link (qos_of p.flags.qos)) (sym is_room ∙ fits)

@@ -8,6 +8,8 @@ use Rattle.sng_core.specs.Delivering.{keep_all}
 
 -- one more is kept
 pub keep-more : (clock : ℕ) (kept : List Kept) (k : Kept) (xs : List Client)
-    → keep_all clock (kept ++ k ∷ []) xs ≡ moved_at k.place (delivered clock k.message k.opens) (keep_all clock kept xs)
+    → keep_all clock (kept ++ k ∷ []) xs
+    ≡ moved_at k.place (delivered clock k.message k.opens) (keep_all clock kept xs)
 keep-more clock [] k xs = refl
-keep-more clock (one ∷ kept) k xs = keep-more clock kept k (moved_at one.place (delivered clock one.message one.opens) xs)
+keep-more clock (one ∷ kept) k xs =
+    keep-more clock kept k (moved_at one.place (delivered clock one.message one.opens) xs)

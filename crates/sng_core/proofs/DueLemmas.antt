@@ -10,6 +10,7 @@ pub clients-more : (clock : ℕ) (dues : List Due) (due : Due) (xs : List Client
 clients-more clock [] due xs = refl
 clients-more clock (k ∷ dues) due xs = clients-more clock dues due (due_clients clock xs k)
 
-pub link-more : (dues : List Due) (due : Due) (link : Link) → dues_link (dues ++ due ∷ []) link ≡ due_link (dues_link dues link) due
+pub link-more : (dues : List Due) (due : Due) (link : Link)
+    → dues_link (dues ++ due ∷ []) link ≡ due_link (dues_link dues link) due
 link-more [] due link = refl
 link-more (k ∷ dues) due link = link-more dues due (due_link link k)

@@ -1,4 +1,5 @@
--- A client falls asleep again only where nothing is left for it; any other is as its notes leave it, and lets out just what they say.
+-- A client falls asleep again only where nothing is left for it; any other is as its notes leave it, and lets
+-- out just what they say.
 use Rattle.std.proofs.Common.{◌≡◌, false, List, [], ◌∷◌, ◌++◌, ap, ◌∙◌}
 use Rattle.std.specs.Prelude.{if◌then◌else◌, ◌&&◌, is_none, slice_get}
 use Rattle.std.proofs.lemmas.List.{append-nil}
@@ -13,7 +14,7 @@ use Rattle.sng_history.specs.State.{State, around}
 use Rattle.sng_history.specs.Steps.{client_next}
 use Rattle.sng_history.specs.Whole.{answer, spell, drained_outs}
 use Rattle.sng_history.specs.Good.{Each, AtRest}
-use Rattle.sng_history.proofs.Says.{part_for}
+use Rattle.sng_history.proofs.SaysParts.{part_for}
 use Rattle.sng_history.proofs.Steady.{undrained}
 
 -- something is left for the client, or it is not awake
@@ -28,9 +29,11 @@ plain_next s c x = let a = around s c in notes_by a (fixed_for s c x) (start_by 
 abbrev pub plain_part : State → Cause → List Release → Client → List Out
 plain_part s c dropped x =
     let a = around s c in
-    (if is_author a.cause x then answer (request_of a.cause) x else []) ++ spell a dropped (start_by a x) (fixed_for s c x)
+    (if is_author a.cause x then answer (request_of a.cause) x else [])
+    ++ spell a dropped (start_by a x) (fixed_for s c x)
 
-pub plain_moves : (s : State) (c : Cause) (x : Client) → Busy (plain_next s c x) → client_next s c x ≡ plain_next s c x
+pub plain_moves : (s : State) (c : Cause) (x : Client) → Busy (plain_next s c x)
+    → client_next s c x ≡ plain_next s c x
 plain_moves s c x busy = undrained (plain_next s c x) busy
 
 pub busy_outs : (x : Client) → Busy x → drained_outs x ≡ []
@@ -42,7 +45,8 @@ plain_row s c dropped x busy =
     let a = around s c in
     let lead : List Out = if is_author a.cause x then answer (request_of a.cause) x else [] in
     let own = spell a dropped (start_by a x) (fixed_for s c x) in
-    ap (λ more. lead ++ (own ++ more)) (busy_outs (plain_next s c x) busy) ∙ ap (λ more. lead ++ more) (append-nil own)
+    ap (λ more. lead ++ (own ++ more)) (busy_outs (plain_next s c x) busy)
+    ∙ ap (λ more. lead ++ more) (append-nil own)
 
 -- one that is not awake is busy,
 pub sleepless : (x : Client) → is_awake x.phase ≡ false → Busy x

@@ -1,5 +1,6 @@
 -- The room that is counted ahead is the room on the link, as the publishes come to wait one after another.
-use Rattle.std.proofs.Common.{◌≡◌, ℕ, ◌+◌, ◌-◌, ◌==◌, Bool, true, false, List, [], ◌∷◌, ◌++◌, length, refl, ap, sym, ◌∙◌, arith}
+use Rattle.std.proofs.Common.{◌≡◌, ℕ, ◌+◌, ◌-◌, ◌==◌, Bool, true, false, List, [], ◌∷◌, ◌++◌, length, refl}
+use Rattle.std.proofs.Common.{ap, sym, ◌∙◌, arith}
 use Rattle.std.specs.Prelude.{if◌then◌else◌, nat_lt, count_by}
 use Rattle.std.proofs.lemmas.List.{length-append}
 use Rattle.std.proofs.lemmas.List.Sums.{sum_by-append}
@@ -25,11 +26,13 @@ use Rattle.sng_link.specs.declared.room.Room.{Room}
 
 -- ---- whether there is room
 
-place_test : (n : ℕ) (b : Bool) → nat_lt n MAX_OUTBOX_ITEMS ≡ b → (MAX_OUTBOX_ITEMS - n == 0) ≡ (if b then false else true)
+place_test : (n : ℕ) (b : Bool) → nat_lt n MAX_OUTBOX_ITEMS ≡ b
+    → (MAX_OUTBOX_ITEMS - n == 0) ≡ (if b then false else true)
 place_test n true is = grind (arith, nat_tests, is)
 place_test n false is = grind (arith, nat_tests, is)
 
-flight_test : (n : ℕ) (b : Bool) → nat_lt n MAX_IN_FLIGHT ≡ b → (MAX_IN_FLIGHT - n == 0) ≡ (if b then false else true)
+flight_test : (n : ℕ) (b : Bool) → nat_lt n MAX_IN_FLIGHT ≡ b
+    → (MAX_IN_FLIGHT - n == 0) ≡ (if b then false else true)
 flight_test n true is = grind (arith, nat_tests, is)
 flight_test n false is = grind (arith, nat_tests, is)
 
@@ -41,7 +44,8 @@ if_not : (b : Bool) (x y : Outcome) → (if b then x else y) ≡ (if (if b then 
 if_not true x y = refl
 if_not false x y = refl
 
-place_same : (link : Link) → (if has_place link then Allowed else Denied (Full place.Outbox)) ≡ place_by (room_of link).places
+place_same : (link : Link) → (if has_place link then Allowed else Denied (Full place.Outbox))
+    ≡ place_by (room_of link).places
 place_same link =
     if_not (has_place link) Allowed (Denied (Full place.Outbox))
     ∙ ap (λ b. if b then Denied (Full place.Outbox) else Allowed) (sym (place_left link))
@@ -52,7 +56,8 @@ room_same link AtLeastOnce =
     let n = load (record { waiting = link.waiting; in_flight = link.in_flight }) in
     let places = if has_place link then Allowed else Denied (Full place.Outbox) in
     if_not (nat_lt n MAX_IN_FLIGHT) places (Denied (Full place.InFlight))
-    ∙ (ap (λ b. if b then Denied (Full place.InFlight) else places) (sym (flight_test n (nat_lt n MAX_IN_FLIGHT) refl))
+    ∙ (ap (λ b. if b then Denied (Full place.InFlight) else places)
+    (sym (flight_test n (nat_lt n MAX_IN_FLIGHT) refl))
     ∙ ap (λ o. if (room_of link).flights == 0 then Denied (Full place.InFlight) else o) (place_same link))
 
 -- ---- what is left of it
@@ -71,28 +76,34 @@ one_asks items one b is =
 abbrev room_with : ℕ → ℕ → Room
 room_with places flights = record { places = places; flights = flights }
 
-waits_by : (link : Link) (p : Publication) (q : Qos) → p.qos ≡ q → room_of (with_item link (item.Publish p)) ≡ less (room_of link) q
+waits_by : (link : Link) (p : Publication) (q : Qos) → p.qos ≡ q
+    → room_of (with_item link (item.Publish p)) ≡ less (room_of link) q
 waits_by link p AtMostOnce is =
     let w = link.waiting in
     let one : Item = item.Publish p in
-    let places : MAX_OUTBOX_ITEMS - length (w ++ one ∷ []) ≡ (MAX_OUTBOX_ITEMS - length w) - 1 = omega (arith, one_more w one) in
+    let places : MAX_OUTBOX_ITEMS - length (w ++ one ∷ []) ≡ (MAX_OUTBOX_ITEMS - length w) - 1 =
+    omega (arith, one_more w one) in
     let asks = one_asks w one false (rw is refl) in
     let n = length link.in_flight in
-    let flights : MAX_IN_FLIGHT - (count_by asks_for_ack (w ++ one ∷ []) + n) ≡ MAX_IN_FLIGHT - (count_by asks_for_ack w + n) =
+    let flights : MAX_IN_FLIGHT - (count_by asks_for_ack (w ++ one ∷ []) + n)
+    ≡ MAX_IN_FLIGHT - (count_by asks_for_ack w + n) =
     omega (arith, asks) in
     λ i. room_with (places i) (flights i)
 waits_by link p AtLeastOnce is =
     let w = link.waiting in
     let one : Item = item.Publish p in
-    let places : MAX_OUTBOX_ITEMS - length (w ++ one ∷ []) ≡ (MAX_OUTBOX_ITEMS - length w) - 1 = omega (arith, one_more w one) in
+    let places : MAX_OUTBOX_ITEMS - length (w ++ one ∷ []) ≡ (MAX_OUTBOX_ITEMS - length w) - 1 =
+    omega (arith, one_more w one) in
     let asks = one_asks w one true (rw is refl) in
     let n = length link.in_flight in
-    let flights : MAX_IN_FLIGHT - (count_by asks_for_ack (w ++ one ∷ []) + n) ≡ (MAX_IN_FLIGHT - (count_by asks_for_ack w + n)) - 1 =
+    let flights : MAX_IN_FLIGHT - (count_by asks_for_ack (w ++ one ∷ []) + n)
+    ≡ (MAX_IN_FLIGHT - (count_by asks_for_ack w + n)) - 1 =
     omega (arith, asks) in
     λ i. room_with (places i) (flights i)
 
 placed_by : (link : Link) (p : Publication) (o : Outcome)
-    → room_of (if is_allowed o then with_item link (item.Publish p) else link) ≡ left_by (room_of link) p.qos o
+    → room_of (if is_allowed o then with_item link (item.Publish p) else link)
+    ≡ left_by (room_of link) p.qos o
 placed_by link p Allowed = waits_by link p p.qos refl
 placed_by link p (Denied rule) = refl
 

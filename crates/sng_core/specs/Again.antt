@@ -29,7 +29,8 @@ use Rattle.sng_core.specs.declared.again.Retried.TheVariants.{Nothing, Sent, Ove
 
 abbrev pub register_again : Address → Sending → List ℕ → Out
 register_again to sent name =
-    Send to (written (frame.Register (record { topic_id = sent.topic_id; msg_id = sent.msg_id; name = name })))
+    Send to (written (frame.Register
+    (record { topic_id = sent.topic_id; msg_id = sent.msg_id; name = name })))
 
 -- its message is judged so
 abbrev pub announced_by : Policy → Client → Sending → Message → Outcome → List Out
@@ -87,4 +88,5 @@ abbrev pub retried_clients : ℕ → ℕ → Retried → List Client → List Cl
 retried_clients clock place Nothing xs = xs
 retried_clients clock place Sent xs = moved_at place (changed clock Repeats) xs
 retried_clients clock place (Over handed) xs =
-    moved_at place (changed clock Drains) (moved_at place (handed_by clock handed) (moved_at place (changed clock Closes) xs))
+    moved_at place (changed clock Drains)
+    (moved_at place (handed_by clock handed) (moved_at place (changed clock Closes) xs))

@@ -1,5 +1,6 @@
 -- What a CONNECT lets out and leads to, with no notes and no search.
-use Rattle.std.specs.Prelude.{ℕ, zero, suc, ◌+◌, ◌-◌, Bool, ◌&&◌, ◌||◌, not, List, [], ◌∷◌, ◌++◌, length, take, drop, if◌then◌else◌, Option}
+use Rattle.std.specs.Prelude.{ℕ, zero, suc, ◌+◌, ◌-◌, Bool, ◌&&◌, ◌||◌, not, List, [], ◌∷◌, ◌++◌, length}
+use Rattle.std.specs.Prelude.{take, drop, if◌then◌else◌, Option}
 use Rattle.std.specs.Prelude.{Some, None}
 use Rattle.std.specs.Str.{bytes_eq}
 use Rattle.sng_states.specs.States.{has_session}
@@ -32,7 +33,8 @@ use Rattle.sng_core.specs.Forms.{at_place, moved_if}
 -- as a CONNECT is accepted, the client is dismissed where it was before
 abbrev pub moved_outs : Address → Option Client → List Out
 moved_outs from None = []
-moved_outs from (Some x) = if has_session x.phase && not (same_address x.address from) then dismissed x.address ∷ [] else []
+moved_outs from (Some x) =
+    if has_session x.phase && not (same_address x.address from) then dismissed x.address ∷ [] else []
 
 -- and another client at the address leaves, and what waits for it is gone
 abbrev pub put_out : List ℕ → Option Client → List Out
@@ -79,10 +81,11 @@ let_go link (text ∷ texts) = let_go (let_go_one link text) texts
 abbrev pub accepted_outs : Address → List ℕ → List Client → ℕ → List Out
 accepted_outs from id xs dropped =
     Note (note.Connect id Allowed)
-    ∷ (moved_outs from (at_place xs (place_of id xs)) ++ (put_out id (at_place xs (place_at from xs)) ++ dropped_notes dropped))
+    ∷ (moved_outs from (at_place xs (place_of id xs))
+    ++ (put_out id (at_place xs (place_at from xs)) ++ dropped_notes dropped))
 
--- a clean session drops what waits for the client before the answer, and else it is handed over behind that; in the dialogue about a will
--- it still waits
+-- a clean session drops what waits for the client before the answer, and else it is handed over behind that;
+-- in the dialogue about a will it still waits
 abbrev pub behind_welcome : Policy → Address → Connect → Client → List Out
 behind_welcome policy from connect x =
     if connect.flags.will then [] else hand_outs policy connect.client_id from [] 0 x.number x.buffer.waiting
@@ -102,7 +105,8 @@ own_plan policy connect None = nothing_handed
 own_plan policy connect (Some x) =
     if connect.flags.clean
     then nothing_handed
-    else (if connect.flags.will then nothing_handed else hand_plan policy connect.client_id [] 0 0 x.buffer.waiting)
+    else (if connect.flags.will then nothing_handed
+    else hand_plan policy connect.client_id [] 0 0 x.buffer.waiting)
 
 abbrev pub refused_outs : Address → List ℕ → Denial → List Out
 refused_outs from id rule = Note (note.Connect id (Denied rule)) ∷ connack from (code_of rule) ∷ []
@@ -117,13 +121,16 @@ returning s connect = at_place s.clients (place_of connect.client_id s.clients)
 
 abbrev pub connect_outs : State → Address → Connect → Outcome → List Out
 connect_outs s from connect Allowed =
-    accepted_outs from connect.client_id s.clients (dropped_by s connect) ++ own_outs s.policy from connect (returning s connect)
+    accepted_outs from connect.client_id s.clients (dropped_by s connect)
+    ++ own_outs s.policy from connect (returning s connect)
 connect_outs s from connect (Denied rule) = refused_outs from connect.client_id rule
 
 abbrev pub connect_next : State → Address → Connect → Outcome → State
 connect_next s from connect Allowed = record s {
   link = let_go s.link (alone_by connect s.clients);
-  clients = moved_if (place_of connect.client_id s.clients) (handed_by s.clock (own_plan s.policy connect (returning s connect)))
+  clients =
+      moved_if (place_of connect.client_id s.clients)
+      (handed_by s.clock (own_plan s.policy connect (returning s connect)))
       (entered s.clock from connect s.clients);
 }
 connect_next s from connect (Denied rule) =

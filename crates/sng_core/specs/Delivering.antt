@@ -1,4 +1,5 @@
--- What a message of the broker lets out for each client to whom it is due, and what is kept of it, with no notes.
+-- What a message of the broker lets out for each client to whom it is due, and what is kept of it, with no
+-- notes.
 use Rattle.std.specs.Prelude.{ℕ, suc, nat_le, List, [], ◌∷◌, ◌++◌, length, if◌then◌else◌, Option, Some, None}
 use Rattle.std.specs.Option.{option_map}
 use Rattle.sng_text.specs.declared.qos.Qos.{Qos}
@@ -27,11 +28,19 @@ use Rattle.sng_core.specs.HandingOver.{fixed_id, is_open, message_outs, message_
 
 -- the message of a PUBLISH
 abbrev pub incoming : Policy → Publish → Incoming
-incoming policy p = record { name = p.name; payload = p.payload; qos = sent_at p.packet_id; retain = p.retain; fixed = fixed_id policy p.name }
+incoming policy p =
+    record {
+      name = p.name;
+      payload = p.payload;
+      qos = sent_at p.packet_id;
+      retain = p.retain;
+      fixed = fixed_id policy p.name;
+    }
 
 -- the QoS at which it is due to a client
 abbrev pub due_at : Incoming → Client → Option Qos
-due_at i x = if is_due_messages x.phase then option_map (lesser i.qos) (greatest_qos x.filters i.name) else None
+due_at i x =
+    if is_due_messages x.phase then option_map (lesser i.qos) (greatest_qos x.filters i.name) else None
 
 abbrev pub message_at : Incoming → Qos → Message
 message_at i qos = message i.name i.payload qos i.retain
@@ -47,7 +56,8 @@ arrive_outs policy m x =
 
 -- what is kept where it took its turn, and where it waits
 abbrev pub kept_opened : ℕ → Message → Opens → List Kept
-kept_opened place m opens = if is_open opens then record { place = place; message = m; opens = opens } ∷ [] else []
+kept_opened place m opens =
+    if is_open opens then record { place = place; message = m; opens = opens } ∷ [] else []
 
 abbrev pub arrive_kept : Policy → ℕ → Message → Client → List Kept
 arrive_kept policy place m x =

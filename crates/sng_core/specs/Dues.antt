@@ -1,4 +1,5 @@
--- What a tick of the clock lets out and leads to, client by client, with no notes (MQTT-SN 1.2, 5.4.4, 6.3, 6.11 and 6.13).
+-- What a tick of the clock lets out and leads to, client by client, with no notes (MQTT-SN 1.2, 5.4.4, 6.3,
+-- 6.11 and 6.13).
 use Rattle.std.specs.Prelude.{ℕ, suc, ◌==◌, ◌&&◌, Bool, List, [], ◌∷◌, ◌++◌, if◌then◌else◌}
 use Rattle.sng_grants.specs.declared.policy.Policy.{Policy}
 use Rattle.sng_book.specs.declared.decision.Decision.TheVariants as note
@@ -30,7 +31,8 @@ abbrev pub due_outs : Policy → ℕ → Room → Client → List Out
 due_outs policy clock room x = if is_lost_at clock x then lost_outs room x else again_outs policy clock x
 
 abbrev pub due_at : Policy → ℕ → Room → ℕ → Client → List Due
-due_at policy clock room place x = if is_lost_at clock x then Lost (loss_of room place x) ∷ [] else again_at policy clock place x
+due_at policy clock room place x =
+    if is_lost_at clock x then Lost (loss_of room place x) ∷ [] else again_at policy clock place x
 
 abbrev pub room_after : ℕ → Room → Client → Room
 room_after clock room x = if is_lost_at clock x then room_behind room x.wills.will else room
@@ -39,7 +41,8 @@ room_after clock room x = if is_lost_at clock x then room_behind room x.wills.wi
 
 abbrev pub dues_outs : Policy → ℕ → Room → List Client → List Out
 dues_outs policy clock room [] = []
-dues_outs policy clock room (x ∷ xs) = due_outs policy clock room x ++ dues_outs policy clock (room_after clock room x) xs
+dues_outs policy clock room (x ∷ xs) =
+    due_outs policy clock room x ++ dues_outs policy clock (room_after clock room x) xs
 
 abbrev pub dues_plan : Policy → ℕ → Room → ℕ → List Client → List Due
 dues_plan policy clock room place [] = []
@@ -78,7 +81,8 @@ ping_outs s clock room = ping_noted (is_ping_due s.up s.link clock) room
 
 abbrev pub ticked_outs : State → ℕ → List Out
 ticked_outs s clock =
-    dues_outs s.policy clock (room_of s.link) s.clients ++ ping_outs s clock (dues_room clock (room_of s.link) s.clients)
+    dues_outs s.policy clock (room_of s.link) s.clients
+    ++ ping_outs s clock (dues_room clock (room_of s.link) s.clients)
 
 abbrev pub ticked_next : State → ℕ → State
 ticked_next s clock =

@@ -49,7 +49,8 @@ left_outs x = Note (note.Left x.id) ∷ dismissed x.address ∷ gone_outs x.id x
 
 -- a client's message that is not taken
 abbrev pub unsupported_outs : SnFrame → Client → List Out
-unsupported_outs message x = Note (denied_note message (who.Client x.id) NotSupported) ∷ refused x.address message NotSupported
+unsupported_outs message x =
+    Note (denied_note message (who.Client x.id) NotSupported) ∷ refused x.address message NotSupported
 
 -- a datagram of a client that is not a message
 abbrev pub broken_outs : Denial → Client → List Out
@@ -71,7 +72,11 @@ abbrev pub unread : Denial → Judged
 unread rule = record { name = None; outcome = Denied rule }
 
 abbrev pub register_named : Policy → Client → Result (List ℕ) Denial → Judged
-register_named policy x (Ok name) = record { name = Some name; outcome = and_then (exit policy (origin.Client x.id) name) (id_room name x.ids) }
+register_named policy x (Ok name) =
+    record {
+      name = Some name;
+      outcome = and_then (exit policy (origin.Client x.id) name) (id_room name x.ids);
+    }
 register_named policy x (Err rule) = unread rule
 
 abbrev pub register_by : Policy → Client → List ℕ → Outcome → Judged
@@ -87,10 +92,12 @@ abbrev pub register_reply : ℕ → Client → Option (List ℕ) → Outcome →
 register_reply msg_id x (Some name) Allowed = regack x.address (id_for name x.ids) msg_id ∷ []
 register_reply msg_id x None Allowed = []
 register_reply msg_id x name (Denied rule) =
-    Send x.address (written (frame.RegisterAck (record { topic_id = 0; msg_id = msg_id; code = code_of rule }))) ∷ []
+    Send x.address (written (frame.RegisterAck
+    (record { topic_id = 0; msg_id = msg_id; code = code_of rule }))) ∷ []
 
 abbrev pub register_noted : ℕ → Client → Judged → List Out
-register_noted msg_id x j = Note (note.Register (who.Client x.id) j.name j.outcome) ∷ register_reply msg_id x j.name j.outcome
+register_noted msg_id x j =
+    Note (note.Register (who.Client x.id) j.name j.outcome) ∷ register_reply msg_id x j.name j.outcome
 
 abbrev pub register_outs : Policy → ℕ → List ℕ → Client → List Out
 register_outs policy msg_id text x = register_noted msg_id x (register_judged policy x text)
@@ -100,11 +107,13 @@ abbrev pub register_next : Policy → ℕ → List ℕ → Client → Client
 register_next policy clock text x = let j = register_judged policy x text in told_at clock j.name j.outcome x
 
 abbrev pub publish_named : Policy → Outcome → Client → Result (List ℕ) Denial → Judged
-publish_named policy room x (Ok name) = record { name = Some name; outcome = and_then (exit policy (origin.Client x.id) name) room }
+publish_named policy room x (Ok name) =
+    record { name = Some name; outcome = and_then (exit policy (origin.Client x.id) name) room }
 publish_named policy room x (Err rule) = unread rule
 
 abbrev pub publish_by : Policy → Outcome → Client → TopicIdType → ℕ → Outcome → Judged
-publish_by policy room x id_type id Allowed = publish_named policy room x (name_in policy (Some x.ids) id_type id)
+publish_by policy room x id_type id Allowed =
+    publish_named policy room x (name_in policy (Some x.ids) id_type id)
 publish_by policy room x id_type id (Denied rule) = unread rule
 
 -- how a PUBLISH under this topic id comes out, given whether there is room for it
@@ -117,12 +126,19 @@ publish_reply to p Allowed = puback to p p.flags.qos
 publish_reply to p (Denied rule) = refused to (frame.Publish p) rule
 
 abbrev pub publish_noted : Publish → Client → Judged → List Out
-publish_noted p x j = Note (note.Publish (who.Client x.id) j.name j.outcome) ∷ publish_reply x.address p j.outcome
+publish_noted p x j =
+    Note (note.Publish (who.Client x.id) j.name j.outcome) ∷ publish_reply x.address p j.outcome
 
 -- the publish that was asked for under this name, where it was allowed
 abbrev pub publication_by : List ℕ → Publish → Option (List ℕ) → Outcome → Option Publication
 publication_by id p (Some name) Allowed =
-    Some (record { origin = origin.Client id; name = name; payload = p.payload; qos = qos_of p.flags.qos; retain = p.flags.retain })
+    Some (record {
+      origin = origin.Client id;
+      name = name;
+      payload = p.payload;
+      qos = qos_of p.flags.qos;
+      retain = p.flags.retain;
+    })
 publication_by id p (Some name) (Denied rule) = None
 publication_by id p None outcome = None
 
@@ -144,7 +160,8 @@ carried_items s p x = let j = carried_judged s p x in items_of (publication_by x
 abbrev pub carried : State → Publish → Option ℕ → State
 carried s p None = s
 carried s p (Some place) =
-    record (joined s (carried_items s p (client_at s.clients place))) { clients = moved_at place (heard_at s.clock) s.clients }
+    record (joined s (carried_items s p (client_at s.clients place)))
+    { clients = moved_at place (heard_at s.clock) s.clients }
 
 -- ---- the link
 
@@ -154,14 +171,20 @@ taken_outs s = if s.up then leaving s.link s.link.waiting (exits_of s.policy s.l
 
 abbrev pub taken_next : State → State
 taken_next s =
-    record s { link = if s.up then record (link_after s.link s.link.waiting (exits_of s.policy s.link.waiting)) { waiting = [] } else s.link }
+    record s {
+      link = if s.up then
+          record (link_after s.link s.link.waiting (exits_of s.policy s.link.waiting)) { waiting = [] }
+          else s.link;
+    }
 
--- a connection begins: where one was up, that one ended, what is in flight is judged and sent again, and each filter that is wanted is
--- subscribed anew
+-- a connection begins: where one was up, that one ended, what is in flight is judged and sent again, and each
+-- filter that is wanted is subscribed anew
 abbrev pub begun_next : State → State
 begun_next s = record s {
   up = true;
-  link = record (subscribes_sent (resumed s.link s.clock (agains_of s.policy s.link.in_flight)) (filters_wanted s.link)) {
-    waiting = if s.up then publishes s.link.waiting else s.link.waiting;
-  };
+  link =
+      record (subscribes_sent (resumed s.link s.clock (agains_of s.policy s.link.in_flight))
+      (filters_wanted s.link)) {
+        waiting = if s.up then publishes s.link.waiting else s.link.waiting;
+      };
 }

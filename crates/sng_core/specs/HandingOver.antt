@@ -1,5 +1,6 @@
 -- What a hand-over to one client lets out and comes to, message by message, with no notes.
-use Rattle.std.specs.Prelude.{ℕ, suc, ◌==◌, Bool, true, false, List, [], ◌∷◌, ◌++◌, length, if◌then◌else◌, Option, Some, None}
+use Rattle.std.specs.Prelude.{ℕ, suc, ◌==◌, Bool, true, false, List, [], ◌∷◌, ◌++◌, length, if◌then◌else◌}
+use Rattle.std.specs.Prelude.{Option, Some, None}
 use Rattle.sng_text.specs.declared.qos.Qos.{Qos}
 use Rattle.sng_text.specs.declared.qos.Qos.TheVariants.{AtMostOnce, AtLeastOnce}
 use Rattle.sng_grants.specs.declared.policy.Policy.{Policy}
@@ -35,7 +36,8 @@ predefined (Some id) = Some (record { kind = kind.Predefined; id = id })
 -- the topic id that a name has for each client
 abbrev pub fixed_id : Policy → List ℕ → Option KnownId
 fixed_id policy name =
-    if length name == 2 then Some (record { kind = kind.Short; id = id_in name }) else predefined (topic_id policy name)
+    if length name == 2 then Some (record { kind = kind.Short; id = id_in name })
+    else predefined (topic_id policy name)
 
 abbrev pub normal : Option ℕ → Option KnownId
 normal None = None
@@ -49,7 +51,8 @@ known_id None ids name = normal (id_of name ids)
 -- ---- the turn of one message
 
 abbrev pub offer_outs : List ℕ → Address → Ids → ℕ → Message → Option KnownId → List Out
-offer_outs id to ids number m (Some k) = Note (note.Hand id m.name Allowed) ∷ handed_out to number m (known_of k) ∷ []
+offer_outs id to ids number m (Some k) =
+    Note (note.Hand id m.name Allowed) ∷ handed_out to number m (known_of k) ∷ []
 offer_outs id to ids number m None =
     if is_full_for m.name ids
     then Note (note.Hand id m.name (Denied (Full place.Ids))) ∷ []
@@ -76,11 +79,13 @@ turn_opens ids m (Denied rule) known = Nothing
 -- the same by the policy, for a client that knows its ids and one more (0 is none)
 abbrev pub message_outs : Policy → List ℕ → Address → Ids → ℕ → ℕ → Message → List Out
 message_outs policy id to ids more number m =
-    turn_outs id to ids number m (receive policy id m.name) (known_id (fixed_id policy m.name) (confirmed more ids) m.name)
+    turn_outs id to ids number m (receive policy id m.name)
+    (known_id (fixed_id policy m.name) (confirmed more ids) m.name)
 
 abbrev pub message_opens : Policy → List ℕ → Ids → ℕ → Message → Opens
 message_opens policy id ids more m =
-    turn_opens ids m (receive policy id m.name) (known_id (fixed_id policy m.name) (confirmed more ids) m.name)
+    turn_opens ids m (receive policy id m.name)
+    (known_id (fixed_id policy m.name) (confirmed more ids) m.name)
 
 -- ---- a hand-over
 
@@ -94,7 +99,8 @@ abbrev pub hand_outs : Policy → List ℕ → Address → Ids → ℕ → ℕ �
 hand_outs policy id to ids more number [] = []
 hand_outs policy id to ids more number (m ∷ waiting) =
     message_outs policy id to ids more number m
-    ++ (if is_open (message_opens policy id ids more m) then [] else hand_outs policy id to ids more number waiting)
+    ++ (if is_open (message_opens policy id ids more m) then []
+    else hand_outs policy id to ids more number waiting)
 
 -- and what it comes to, where the first of these messages stands at this place
 abbrev pub hand_plan : Policy → List ℕ → Ids → ℕ → ℕ → List Message → Handed

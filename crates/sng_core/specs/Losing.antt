@@ -1,4 +1,5 @@
--- How a client is lost, with no notes (MQTT-SN 1.2, 5.4.4, 6.3 and 6.13): what is let out, and where its will finds its place.
+-- How a client is lost, with no notes (MQTT-SN 1.2, 5.4.4, 6.3 and 6.13): what is let out, and where its will
+-- finds its place.
 use Rattle.std.specs.Prelude.{ℕ, List, [], ◌∷◌, ◌++◌, Option, Some, None}
 use Rattle.sng_wills.specs.declared.will.Will.{Will}
 use Rattle.sng_outbox.specs.declared.item.Publication.{Publication}
@@ -23,7 +24,13 @@ use Rattle.sng_core.specs.declared.tick.Loss.{Loss}
 -- the will, as a publish of its client
 abbrev pub publication_of : List ℕ → Will → Publication
 publication_of id will =
-    record { origin = origin.Client id; name = will.topic; payload = will.payload; qos = will.qos; retain = will.retain }
+    record {
+      origin = origin.Client id;
+      name = will.topic;
+      payload = will.payload;
+      qos = will.qos;
+      retain = will.retain;
+    }
 
 -- where there is no room for the will, that is noted
 abbrev pub turned_down : List ℕ → List ℕ → Outcome → List Out
@@ -49,7 +56,8 @@ room_behind room None = room
 room_behind room (Some will) = room_past room will.qos
 
 abbrev pub lost_outs : Room → Client → List Out
-lost_outs room x = Note (note.Lost x.id) ∷ (gone_outs x.id x.buffer.waiting ++ will_outs room x.id x.wills.will)
+lost_outs room x =
+    Note (note.Lost x.id) ∷ (gone_outs x.id x.buffer.waiting ++ will_outs room x.id x.wills.will)
 
 abbrev pub loss_of : Room → ℕ → Client → Loss
 loss_of room place x = record { place = place; will = kept_will room x.id x.wills.will }

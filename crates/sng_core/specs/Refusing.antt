@@ -1,4 +1,5 @@
--- What a packet of the broker lets out and leads to, and how a filter ends that the broker refuses, with no search.
+-- What a packet of the broker lets out and leads to, and how a filter ends that the broker refuses, with no
+-- search.
 use Rattle.std.specs.Prelude.{ℕ, List, [], ◌∷◌, ◌++◌, map, if◌then◌else◌, Option, Some, None}
 use Rattle.std.specs.List.{flat_map}
 use Rattle.sng_wanted.specs.Filters.{without_wanted}
@@ -9,7 +10,8 @@ use Rattle.sng_book.specs.declared.out.Out.{Out}
 use Rattle.sng_book.specs.declared.out.Out.TheVariants.{Note}
 use Rattle.sng_history.specs.Clients.{Client, without}
 use Rattle.sng_history.specs.Links.{Link, Wanted}
-use Rattle.sng_history.specs.Packets.{Answer, Delivers, Acknowledges, Grants, Refuses, Confirms, Strange, acknowledgements, answered, answer_outs, refused_filter}
+use Rattle.sng_history.specs.Packets.{Answer, Delivers, Acknowledges, Grants, Refuses, Confirms, Strange}
+use Rattle.sng_history.specs.Packets.{acknowledgements, answered, answer_outs, refused_filter}
 use Rattle.sng_history.specs.Standing.{holds}
 use Rattle.sng_history.specs.State.{State}
 use Rattle.sng_text.specs.Texts.{is_name}
@@ -63,14 +65,21 @@ delivered_clients s Strange xs = xs
 
 -- what a packet of the broker lets out
 abbrev pub packet_outs : State → Answer → List Out
-packet_outs s a = refused_notes (refused_filter s.link a) s.clients ++ (delivered_outs s a ++ answer_outs s.up s.link a)
+packet_outs s a =
+    refused_notes (refused_filter s.link a) s.clients ++ (delivered_outs s a ++ answer_outs s.up s.link a)
 
 -- and the state after it
 abbrev pub packet_link : State → Answer → Link
 packet_link s a =
     let moved = answered s.link a in
-    record moved { waiting = s.link.waiting ++ acknowledgements s.up s.link a; wanted = refused_wanted (refused_filter s.link a) moved.wanted }
+    record moved {
+      waiting = s.link.waiting ++ acknowledgements s.up s.link a;
+      wanted = refused_wanted (refused_filter s.link a) moved.wanted;
+    }
 
 abbrev pub packet_next : State → Answer → State
 packet_next s a =
-    record s { link = packet_link s a; clients = delivered_clients s a (refused_clients (refused_filter s.link a) s.clients) }
+    record s {
+      link = packet_link s a;
+      clients = delivered_clients s a (refused_clients (refused_filter s.link a) s.clients);
+    }

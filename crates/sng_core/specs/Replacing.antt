@@ -23,7 +23,8 @@ abbrev pub ending_list : Option Ending → List Ending
 ending_list None = []
 ending_list (Some ending) = ending ∷ []
 
--- the filter stands for nobody any more: it is wanted no more, and the broker is told so where there is place for that
+-- the filter stands for nobody any more: it is wanted no more, and the broker is told so where there is place
+-- for that
 abbrev pub let_go : Link → List ℕ → Link
 let_go link text = record link {
   waiting = if has_place link then link.waiting ++ item.Unsubscribe text ∷ [] else link.waiting;
@@ -39,10 +40,13 @@ abbrev pub ended_link : Link → List Client → List ℕ → Link
 ended_link link after text = if is_held after text then link else let_go link text
 
 abbrev pub ended_notes : Link → List Client → List ℕ → List Out
-ended_notes link after text = if is_held after text then [] else (if has_place link then [] else Note note.Outbox ∷ [])
+ended_notes link after text =
+    if is_held after text then [] else (if has_place link then [] else Note note.Outbox ∷ [])
 
 abbrev pub ended_next : State → Ending → State
-ended_next s e = let after = ended_clients s.clients e in record s { clients = after; link = ended_link s.link after e.filter }
+ended_next s e =
+    let after = ended_clients s.clients e in
+    record s { clients = after; link = ended_link s.link after e.filter }
 
 abbrev pub ended_outs : State → Ending → List Out
 ended_outs s e = Note e.note ∷ ended_notes s.link (ended_clients s.clients e) e.filter
@@ -59,7 +63,8 @@ all_outs s (e ∷ endings) = ended_outs s e ++ all_outs (ended_next s e) endings
 -- the ending of a filter that is denied to the client at this place
 abbrev pub ending_of : ℕ → List ℕ → List ℕ → Outcome → List Ending
 ending_of place client text Allowed = []
-ending_of place client text (Denied rule) = record { place = place; filter = text; note = note.End client text (Denied rule) } ∷ []
+ending_of place client text (Denied rule) =
+    record { place = place; filter = text; note = note.End client text (Denied rule) } ∷ []
 
 -- those of the filters of one client, in order
 abbrev pub endings_by : Policy → ℕ → List ℕ → List Held → List Ending
@@ -70,4 +75,5 @@ endings_by policy place client (h ∷ held) =
 -- and those of all clients from this place on
 abbrev pub endings_from : Policy → ℕ → List Client → List Ending
 endings_from policy place [] = []
-endings_from policy place (x ∷ xs) = endings_by policy place x.id x.filters ++ endings_from policy (suc place) xs
+endings_from policy place (x ∷ xs) =
+    endings_by policy place x.id x.filters ++ endings_from policy (suc place) xs

@@ -1,5 +1,5 @@
--- What a client is served, with no notes: all that may leave of what waits for it, and PINGRESP where it is awake and nothing is left
--- (MQTT-SN 1.2, 6.10 and 6.14).
+-- What a client is served, with no notes: all that may leave of what waits for it, and PINGRESP where it is
+-- awake and nothing is left (MQTT-SN 1.2, 6.10 and 6.14).
 use Rattle.std.specs.Prelude.{ℕ, ◌&&◌, not, List, [], ◌∷◌, ◌++◌, drop, if◌then◌else◌}
 use Rattle.sng_grants.specs.declared.policy.Policy.{Policy}
 use Rattle.sng_states.specs.States.{is_awake}
@@ -13,7 +13,8 @@ use Rattle.sng_core.specs.HandingOver.{is_open, hand_outs, hand_plan}
 
 -- the hand-over to a client, once it has confirmed the id (0 is none), of what waits from this place on
 abbrev pub over_outs : Policy → ℕ → ℕ → Client → List Out
-over_outs policy more first x = hand_outs policy x.id x.address x.ids more x.number (drop first x.buffer.waiting)
+over_outs policy more first x =
+    hand_outs policy x.id x.address x.ids more x.number (drop first x.buffer.waiting)
 
 abbrev pub over_plan : Policy → ℕ → ℕ → Client → Handed
 over_plan policy more first x = hand_plan policy x.id x.ids more first (drop first x.buffer.waiting)

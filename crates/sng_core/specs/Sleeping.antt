@@ -1,5 +1,7 @@
--- What a PINGREQ and a DISCONNECT with Duration let out and lead to, with no notes (MQTT-SN 1.2, 6.11 and 6.14).
-use Rattle.std.specs.Prelude.{ℕ, Bool, true, false, ◌&&◌, List, [], ◌∷◌, ◌++◌, if◌then◌else◌, Option, Some, None}
+-- What a PINGREQ and a DISCONNECT with Duration let out and lead to, with no notes (MQTT-SN 1.2, 6.11 and
+-- 6.14).
+use Rattle.std.specs.Prelude.{ℕ, Bool, true, false, ◌&&◌, List, [], ◌∷◌, ◌++◌, if◌then◌else◌, Option, Some}
+use Rattle.std.specs.Prelude.{None}
 use Rattle.std.specs.Str.{bytes_eq}
 use Rattle.sng_grants.specs.declared.policy.Policy.{Policy}
 use Rattle.sng_states.specs.States.{is_due_messages, is_asleep}
@@ -25,7 +27,8 @@ slept_outs x = if is_due_messages x.phase then dismissed x.address ∷ [] else b
 -- one that wakes nobody
 abbrev pub pinged : Bool → Client → List Out
 pinged named x =
-    if is_active x.phase then pong x.address ∷ [] else (if named && is_due_messages x.phase then [] else broken_outs OutOfTurn x)
+    if is_active x.phase then pong x.address ∷ []
+    else (if named && is_due_messages x.phase then [] else broken_outs OutOfTurn x)
 
 -- one that names its client wakes it where it sleeps
 abbrev pub woken_outs : Policy → Client → List Out
@@ -50,4 +53,5 @@ ping_outs policy (Some id) x = if bytes_eq id x.id then own_ping_outs policy x e
 
 abbrev pub ping_next : Policy → ℕ → Option (List ℕ) → Client → Client
 ping_next policy clock None x = heard_at clock x
-ping_next policy clock (Some id) x = if bytes_eq id x.id then own_ping_next policy clock x else heard_at clock x
+ping_next policy clock (Some id) x =
+    if bytes_eq id x.id then own_ping_next policy clock x else heard_at clock x

@@ -1,5 +1,6 @@
 -- What a statement of a will lets out and leads to, with no notes and no search (MQTT-SN 1.2, 6.3 and 6.4).
-use Rattle.std.specs.Prelude.{ℕ, ◌≡◌, ◌&&◌, Bool, true, false, List, [], ◌∷◌, is_some, is_none, if◌then◌else◌, Option, Some, None}
+use Rattle.std.specs.Prelude.{ℕ, ◌≡◌, ◌&&◌, Bool, true, false, List, [], ◌∷◌, is_some, is_none, if◌then◌else◌}
+use Rattle.std.specs.Prelude.{Option, Some, None}
 use Rattle.sng_text.specs.Texts.{is_name}
 use Rattle.sng_grants.specs.declared.policy.Policy.{Policy}
 use Rattle.sng_policy.specs.Grants.{lists}
@@ -26,7 +27,8 @@ use Rattle.sng_sessions.specs.Handed.{handed_by}
 use Rattle.sng_sessions.specs.Willing.{stating_at}
 use Rattle.sng_sessions.specs.declared.handing.Handed.{Handed}
 use Rattle.sng_sessions.specs.declared.wills.Stating.{Stating}
-use Rattle.sng_sessions.specs.declared.wills.Stating.TheVariants.{NoWill, Topic, Message, Deletion, NewTopic, NewMessage}
+use Rattle.sng_sessions.specs.declared.wills.Stating.TheVariants.{NoWill, Topic, Message, Deletion, NewTopic}
+use Rattle.sng_sessions.specs.declared.wills.Stating.TheVariants.{NewMessage}
 use Rattle.sng_core.specs.HandingOver.{gone_outs}
 use Rattle.sng_core.specs.Serving.{over_outs, over_plan}
 use Rattle.sng_core.specs.Connecting.{nothing_handed}
@@ -77,7 +79,8 @@ granted_nothing = record { name = None; outcome = Allowed }
 abbrev pub text_judged : Policy → List ℕ → List ℕ → Judged
 text_judged policy id text =
     if lists policy id
-    then (if is_name text then record { name = Some text; outcome = exit policy (origin.Client id) text } else unread BadName)
+    then (if is_name text then record { name = Some text; outcome = exit policy (origin.Client id) text }
+    else unread BadName)
     else unread (NoScope id)
 
 abbrev pub topic_judged : Policy → List ℕ → Option (List ℕ) → Judged
@@ -110,7 +113,8 @@ answer_of statement to Allowed = statement_answer statement to
 answer_of (StatesTopic topic) to (Denied rule) = connack to (code_of rule)
 answer_of (StatesMessage message) to (Denied rule) = connack to (code_of rule)
 answer_of (UpdatesTopic topic) to (Denied rule) = Send to (written (frame.WillTopicResponse (code_of rule)))
-answer_of (UpdatesMessage message) to (Denied rule) = Send to (written (frame.WillMessageResponse (code_of rule)))
+answer_of (UpdatesMessage message) to (Denied rule) =
+    Send to (written (frame.WillMessageResponse (code_of rule)))
 
 -- what waits is handed over then
 abbrev pub serves : Statement → Client → Bool
@@ -124,7 +128,8 @@ kept_plan policy statement x = if serves statement x then over_plan policy 0 0 x
 
 -- one that is denied ends the dialogue, and the client leaves
 abbrev pub refused_outs : Statement → Client → List Out
-refused_outs statement x = if is_of_dialogue statement then Note (note.Left x.id) ∷ gone_outs x.id x.buffer.waiting else []
+refused_outs statement x =
+    if is_of_dialogue statement then Note (note.Left x.id) ∷ gone_outs x.id x.buffer.waiting else []
 
 abbrev pub following_outs : Policy → Statement → Client → Outcome → List Out
 following_outs policy statement x Allowed = kept_outs policy statement x
@@ -144,7 +149,8 @@ untimely_outs statement x =
 
 abbrev pub statement_outs : Policy → Statement → Client → List Out
 statement_outs policy statement x =
-    if has_turn statement x then noted_outs policy statement x (statement_judged policy statement x) else untimely_outs statement x
+    if has_turn statement x then noted_outs policy statement x (statement_judged policy statement x)
+    else untimely_outs statement x
 
 -- ---- what it leads to
 

@@ -1,5 +1,6 @@
 -- What code makes of a SUBSCRIBE and an UNSUBSCRIBE of one client at its place, with no notes and no search.
-use Rattle.std.specs.Prelude.{ℕ, ◌+◌, ◌≡◌, Bool, true, false, ◌&&◌, ◌||◌, not, take, drop, List, [], ◌∷◌, ◌++◌, Option, Some, None, Ok, Err, if◌then◌else◌}
+use Rattle.std.specs.Prelude.{ℕ, ◌+◌, ◌≡◌, Bool, true, false, ◌&&◌, ◌||◌, not, take, drop, List, [], ◌∷◌}
+use Rattle.std.specs.Prelude.{◌++◌, Option, Some, None, Ok, Err, if◌then◌else◌}
 use Rattle.std.specs.declared.result.Result.{Result}
 use Rattle.sng_grants.specs.declared.policy.Policy.{Policy}
 use Rattle.sng_fan.specs.Subscriptions.{is_full}
@@ -35,7 +36,10 @@ unread_filter rule = record { filter = None; outcome = Denied rule }
 
 abbrev pub subscribe_named : State → Client → TopicRequest → Result (List ℕ) Denial → JudgedFilter
 subscribe_named s x r (Ok filter) =
-    record { filter = Some filter; outcome = and_then (coverage s.policy x.id filter) (subscribe_room s x r filter) }
+    record {
+      filter = Some filter;
+      outcome = and_then (coverage s.policy x.id filter) (subscribe_room s x r filter);
+    }
 subscribe_named s x r (Err rule) = unread_filter rule
 
 abbrev pub subscribe_by : State → Client → TopicRequest → Outcome → JudgedFilter
@@ -53,7 +57,8 @@ subscribe_reply r x None Allowed = []
 subscribe_reply r x filter (Denied rule) = refused x.address (frame.Subscribe r) rule
 
 abbrev pub subscribe_noted : TopicRequest → Client → JudgedFilter → List Out
-subscribe_noted r x j = Note (note.Subscribe (who.Client x.id) j.filter j.outcome) ∷ subscribe_reply r x j.filter j.outcome
+subscribe_noted r x j =
+    Note (note.Subscribe (who.Client x.id) j.filter j.outcome) ∷ subscribe_reply r x j.filter j.outcome
 
 abbrev pub subscribe_outs : State → TopicRequest → Client → List Out
 subscribe_outs s r x = subscribe_noted r x (subscribe_judged s r x)
@@ -66,10 +71,14 @@ stands_next clock r j x = subscribed (Some r) j.filter j.outcome (heard_at clock
 abbrev pub asked_for : State → JudgedFilter → State
 asked_for s j =
     let items = subscribe_item j.filter j.outcome in
-    record s { link = record s.link { waiting = s.link.waiting ++ items; wanted = joined s.link.wanted items } }
+    record s {
+      link = record s.link
+          { waiting = s.link.waiting ++ items; wanted = joined s.link.wanted items };
+    }
 
 abbrev pub stands_at : State → TopicRequest → ℕ → JudgedFilter → State
-stands_at s r place j = record (asked_for s j) { clients = moved_at place (stands_next s.clock r j) s.clients }
+stands_at s r place j =
+    record (asked_for s j) { clients = moved_at place (stands_next s.clock r j) s.clients }
 
 -- the state after the SUBSCRIBE of the client at this place, or of nobody
 abbrev pub stood : State → TopicRequest → Option ℕ → State
@@ -140,7 +149,8 @@ unsubscribe_noted s r place j =
 
 abbrev pub unsubscribe_outs : State → TopicRequest → Option ℕ → List Out → List Out
 unsubscribe_outs s r None stranger = stranger
-unsubscribe_outs s r (Some place) stranger = unsubscribe_noted s r place (unsubscribe_judged s.policy r (client_at s.clients place))
+unsubscribe_outs s r (Some place) stranger =
+    unsubscribe_noted s r place (unsubscribe_judged s.policy r (client_at s.clients place))
 
 -- the client that asked is heard, and the filter ends for it where that was allowed
 abbrev pub ends_next : ℕ → JudgedFilter → Client → Client
@@ -150,11 +160,16 @@ abbrev pub let_go_next : State → ℕ → JudgedFilter → State
 let_go_next s place j =
     let gone = let_go s.clients place j.filter j.outcome in
     record s {
-      link = record s.link { waiting = s.link.waiting ++ told_of (has_place s.link) gone; wanted = unwanted s.link.wanted gone };
+      link =
+          record s.link {
+            waiting = s.link.waiting ++ told_of (has_place s.link) gone;
+            wanted = unwanted s.link.wanted gone;
+          };
     }
 
 abbrev pub ends_at : State → ℕ → JudgedFilter → State
-ends_at s place j = record (let_go_next s place j) { clients = moved_at place (ends_next s.clock j) s.clients }
+ends_at s place j =
+    record (let_go_next s place j) { clients = moved_at place (ends_next s.clock j) s.clients }
 
 -- the state after the UNSUBSCRIBE of the client at this place, or of nobody
 abbrev pub ended : State → TopicRequest → Option ℕ → State

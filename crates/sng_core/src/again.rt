@@ -1,9 +1,11 @@
-//! What a client did not answer in time is sent again (MQTT-SN 1.2, 6.13): its message is judged by the policy in
-//! force, and denied, the exchange is over, and what waits behind it is handed over.
+//! What a client did not answer in time is sent again (MQTT-SN 1.2, 6.13): its message is judged by the
+//! policy in force, and denied, the exchange is over, and what waits behind it is handed over.
 ghost use Rattle.std.specs.Prelude.{◌≡◌, ◌<◌, ◌≤◌, ◌∷◌, ◌++◌, [], length, IfOk, OnOk};
 ghost use Rattle.sng_history.specs.Ticking.{is_repeating};
 ghost use Rattle.sng_core.specs.Forms.{client_at};
-ghost use Rattle.sng_core.specs.Again.{exchange_outs, exchange_comes, announced_outs, announced_comes, announced_by, announced_to, handed_outs_by, handed_to, handed_again_outs, handed_again_comes, retried_clients};
+ghost use Rattle.sng_core.specs.Again.{exchange_outs, exchange_comes, announced_outs, announced_comes};
+ghost use Rattle.sng_core.specs.Again.{announced_by, announced_to, handed_outs_by, handed_to};
+ghost use Rattle.sng_core.specs.Again.{handed_again_outs, handed_again_comes, retried_clients};
 
 use crate::serve::serve_plan;
 use crate::turn::{note_hand, receive, repeat_publish, repeat_register};

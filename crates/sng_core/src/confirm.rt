@@ -6,8 +6,11 @@ ghost use Rattle.sng_history.specs.Clients.{is_confirming, is_acknowledging};
 ghost use Rattle.sng_history.specs.Handing.{answers_sent};
 ghost use Rattle.sng_history.specs.Whole.{stranger_to};
 ghost use Rattle.sng_sessions.specs.Moving.{moved_at};
-ghost use Rattle.sng_core.specs.Forms.{place_at, client_at, at_place, moved_if, found_outs, broken_outs, heard_at};
-ghost use Rattle.sng_core.specs.Confirming.{served_outs, served_next, refusing_outs, refusing_next, confirming_outs, confirming_next, confirm_outs, confirm_next, acknowledge_outs, acknowledge_next};
+ghost use Rattle.sng_core.specs.Forms.{place_at, client_at, at_place, moved_if, found_outs, broken_outs};
+ghost use Rattle.sng_core.specs.Forms.{heard_at};
+ghost use Rattle.sng_core.specs.Confirming.{served_outs, served_next, refusing_outs, refusing_next};
+ghost use Rattle.sng_core.specs.Confirming.{confirming_outs, confirming_next, confirm_outs, confirm_next};
+ghost use Rattle.sng_core.specs.Confirming.{acknowledge_outs, acknowledge_next};
 
 use crate::messages::{denied_frame, no_session_frame};
 use crate::serve::serve_plan;
@@ -53,8 +56,10 @@ fn confirm_at(
     place: usize,
 ) -> Result<Outs, AllocError>
     requires { place < length sessions.old }
-    ensures outs { IfOk result (λ outs. outs ≡ confirm_outs policy.now answer (client_at sessions.old place)) }
-    ensures next { OnOk result (sessions.new ≡ moved_at place (confirm_next policy.now clock answer) sessions.old) }
+    ensures outs { IfOk result (λ outs. outs
+        ≡ confirm_outs policy.now answer (client_at sessions.old place)) }
+    ensures next { OnOk result (sessions.new
+        ≡ moved_at place (confirm_next policy.now clock answer) sessions.old) }
     ensures err { OnErr result (sessions.new ≡ sessions.old) }
 {
     if !is_confirming(sessions, place, answer) {
@@ -135,8 +140,10 @@ fn acknowledge_at(
     place: usize,
 ) -> Result<Outs, AllocError>
     requires { place < length sessions.old }
-    ensures outs { IfOk result (λ outs. outs ≡ acknowledge_outs policy.now answer (client_at sessions.old place)) }
-    ensures next { OnOk result (sessions.new ≡ moved_at place (acknowledge_next policy.now clock answer) sessions.old) }
+    ensures outs { IfOk result (λ outs. outs
+        ≡ acknowledge_outs policy.now answer (client_at sessions.old place)) }
+    ensures next { OnOk result (sessions.new
+        ≡ moved_at place (acknowledge_next policy.now clock answer) sessions.old) }
     ensures err { OnErr result (sessions.new ≡ sessions.old) }
 {
     if !is_acknowledging(sessions, place, answer) {
@@ -148,7 +155,8 @@ fn acknowledge_at(
     Ok(outs)
 }
 
-/// The client at this place is heard, knows the id (0 is none), and what waits from this one on is handed over.
+/// The client at this place is heard, knows the id (0 is none), and what waits from this one on is handed
+/// over.
 fn serve(
     alloc: Global,
     policy: &Policy,

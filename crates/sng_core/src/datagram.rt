@@ -1,8 +1,10 @@
 //! One datagram: as the message that it holds it is brought to who takes it (MQTT-SN 1.2, 5).
 ghost use Rattle.std.specs.Prelude.{◌≡◌, IfOk, OnOk, OnErr};
 ghost use Rattle.sng_frames.specs.Reading.{frame_of};
-ghost use Rattle.sng_history.specs.Causes.{ByConnect, ByMessage, BySource, ByBroken, datagram_cause, frame_cause, publish_cause, disconnect_cause};
-ghost use Rattle.sng_history.specs.Causes.{ToPing, ToLeave, ToSleep, ToRegister, ToPublish, ToSubscribe, ToUnsubscribe, ToConfirm, ToAcknowledge, ToState, Untaken};
+ghost use Rattle.sng_history.specs.Causes.{ByConnect, ByMessage, BySource, ByBroken, datagram_cause};
+ghost use Rattle.sng_history.specs.Causes.{frame_cause, publish_cause, disconnect_cause};
+ghost use Rattle.sng_history.specs.Causes.{ToPing, ToLeave, ToSleep, ToRegister, ToPublish, ToSubscribe};
+ghost use Rattle.sng_history.specs.Causes.{ToUnsubscribe, ToConfirm, ToAcknowledge, ToState, Untaken};
 ghost use Rattle.sng_history.specs.Good.{Good};
 ghost use Rattle.sng_history.specs.Steps.{outs_by, next_by};
 ghost use Rattle.sng_core.specs.Stating.{said};

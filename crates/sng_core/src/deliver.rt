@@ -1,13 +1,14 @@
 //! A message of the broker goes to each client for whom a filter stands that matches its name (MQTT 3.1.1,
-//! 3.3 and 4.6; MQTT-SN 1.2, 6.6, 6.10 and 6.14). What it lets out is planned for one client after another, with
-//! all memory, and what changes cannot fail.
+//! 3.3 and 4.6; MQTT-SN 1.2, 6.6, 6.10 and 6.14). What it lets out is planned for one client after another,
+//! with all memory, and what changes cannot fail.
 ghost use Rattle.std.specs.Prelude.{◌≡◌, ◌<◌, ◌∷◌, ◌++◌, [], length, true, IfOk, OnOk};
 ghost use Rattle.sng_queue.specs.Messages.{is_sendable};
 ghost use Rattle.sng_history.specs.Arriving.{lesser};
 ghost use Rattle.sng_history.specs.Outgoing.{is_free};
 ghost use Rattle.sng_sessions.specs.Standing.{client_at};
 ghost use Rattle.sng_core.specs.HandingOver.{fixed_id, message_outs, message_opens};
-ghost use Rattle.sng_core.specs.Delivering.{due_at, message_at, arrive_outs, arrive_kept, kept_opened, deliver_outs, deliver_kept, all_outs, all_kept, keep_all};
+ghost use Rattle.sng_core.specs.Delivering.{due_at, message_at, arrive_outs, arrive_kept, kept_opened};
+ghost use Rattle.sng_core.specs.Delivering.{deliver_outs, deliver_kept, all_outs, all_kept, keep_all};
 
 use crate::hand_over::is_open;
 use crate::known::{KnownId, known_id};
@@ -80,8 +81,8 @@ fn deliver_to(
     }
 }
 
-/// The QoS at which the message is due to the client at this place, where it is due: once, at the lesser of its
-/// own and the greatest that is granted among the filters that match. Takes no memory.
+/// The QoS at which the message is due to the client at this place, where it is due: once, at the lesser of
+/// its own and the greatest that is granted among the filters that match. Takes no memory.
 fn due_at(message: &Incoming, sessions: &Sessions, place: usize) -> Option<Qos>
     requires { place < length sessions.now }
     ensures { result ≡ due_at message.now (client_at sessions.now place) }
@@ -140,8 +141,8 @@ fn arrive(
     }
 }
 
-/// Whether the client at this place takes messages, and no exchange is open with it: then nothing waits. Takes
-/// no memory.
+/// Whether the client at this place takes messages, and no exchange is open with it: then nothing waits.
+/// Takes no memory.
 fn is_free(sessions: &Sessions, place: usize) -> bool
     requires { place < length sessions.now }
     ensures { result ≡ is_free (client_at sessions.now place) }
@@ -196,7 +197,8 @@ fn keep_opened(
     kept: &mut Vec<Kept>,
 ) -> Result<(), AllocError>
     requires { is_sendable message.now.name message.now.payload ≡ true }
-    ensures { OnOk result (kept.new.items ≡ kept.old.items ++ kept_opened place (message_at message.now qos) opens) }
+    ensures { OnOk result (kept.new.items
+        ≡ kept.old.items ++ kept_opened place (message_at message.now qos) opens) }
 {
     if is_open(&opens) {
         keep(message, qos, place, opens, kept)

@@ -8,7 +8,9 @@ ghost use Rattle.sng_history.specs.Standing.{places_left};
 ghost use Rattle.sng_history.specs.Verdicts.{entry};
 ghost use Rattle.sng_sessions.specs.Handed.{handed_by};
 ghost use Rattle.sng_core.specs.Forms.{place_at, place_of, client_at, at_place, moved_if, heard_at, entered};
-ghost use Rattle.sng_core.specs.Connecting.{moved_outs, put_out, dropped_notes, own_outs, own_plan, nothing_handed, alone_in, held_beside, alone_by, let_go_one, let_go, accepted_outs, refused_outs, connect_outs, connect_next};
+ghost use Rattle.sng_core.specs.Connecting.{moved_outs, put_out, dropped_notes, own_outs, own_plan};
+ghost use Rattle.sng_core.specs.Connecting.{nothing_handed, alone_in, held_beside, alone_by, let_go_one};
+ghost use Rattle.sng_core.specs.Connecting.{let_go, accepted_outs, refused_outs, connect_outs, connect_next};
 
 use crate::answers::{code_of, connack, dismissed, welcome};
 use crate::hand_over::{all_gone, hand_over};
@@ -69,8 +71,8 @@ impl Parts {
         }
     }
 
-    /// It is accepted. What a clean session ends, and nobody else holds, is let go of upstream; after any other
-    /// what waits is handed over.
+    /// It is accepted. What a clean session ends, and nobody else holds, is let go of upstream; after any
+    /// other what waits is handed over.
     fn accept(&mut self, alloc: Global, from: Address, connect: Connect) -> Result<Outs, AllocError>
         ensures outs { IfOk result (λ outs. outs ≡ connect_outs self.old from connect Outcome.Allowed) }
         ensures next { OnOk result (self.new ≡ connect_next self.old from connect Outcome.Allowed) }

@@ -1,7 +1,9 @@
 //! The hand-over of what waits for one client (MQTT-SN 1.2, 6.6, 6.10 and 6.14): the messages take their
-//! turns, the oldest first, until an exchange begins. It is planned with all memory, and carried out without any.
+//! turns, the oldest first, until an exchange begins. It is planned with all memory, and carried out without
+//! any.
 ghost use Rattle.std.specs.Prelude.{◌≡◌, ◌≤◌, ◌++◌, length, drop, IfOk, OnOk};
-ghost use Rattle.sng_core.specs.HandingOver.{message_outs, message_opens, is_open, hand_outs, hand_plan, gone_outs};
+ghost use Rattle.sng_core.specs.HandingOver.{message_outs, message_opens, is_open, hand_outs, hand_plan};
+ghost use Rattle.sng_core.specs.HandingOver.{gone_outs};
 
 use crate::known::{fixed_id, known_id};
 use crate::turn::{note_hand, receive, take_turn};

@@ -4,7 +4,8 @@ ghost use Rattle.std.specs.Prelude.{◌≡◌, ◌<◌, ◌∷◌, [], length, I
 ghost use Rattle.sng_history.specs.Answers.{dismissed};
 ghost use Rattle.sng_history.specs.Causes.{ToLeave, Untaken};
 ghost use Rattle.sng_history.specs.Whole.{stranger_to};
-ghost use Rattle.sng_core.specs.Forms.{place_at, client_at, at_place, moved_if, heard_at, left_at, found_outs, left_outs, unsupported_outs, broken_outs};
+ghost use Rattle.sng_core.specs.Forms.{place_at, client_at, at_place, moved_if, heard_at, left_at};
+ghost use Rattle.sng_core.specs.Forms.{found_outs, left_outs, unsupported_outs, broken_outs};
 
 use crate::answers::{denied_note, dismissed, only, refused};
 use crate::hand_over::all_gone;
@@ -21,7 +22,8 @@ pub fn leave(
     sessions: &mut Sessions,
 ) -> Result<Outs, AllocError>
     ensures outs { IfOk result (λ outs. outs
-        ≡ found_outs (stranger_to from ToLeave) left_outs (at_place sessions.old (place_at from sessions.old))) }
+        ≡ found_outs (stranger_to from ToLeave) left_outs
+        (at_place sessions.old (place_at from sessions.old))) }
     ensures next { OnOk result (sessions.new
         ≡ moved_if (place_at from sessions.old) (left_at clock) sessions.old) }
     ensures err { OnErr result (sessions.new ≡ sessions.old) }
@@ -118,7 +120,8 @@ pub fn broken(
     sessions: &Sessions,
 ) -> Result<Outs, AllocError>
     ensures { IfOk result (λ outs. outs
-        ≡ found_outs (Out.Note (Decision.Frame (Who.Address from) (Outcome.Denied rule)) ∷ []) (broken_outs rule)
+        ≡ found_outs (Out.Note (Decision.Frame (Who.Address from) (Outcome.Denied rule)) ∷ [])
+        (broken_outs rule)
         (at_place sessions.now (place_at from sessions.now))) }
 {
     let Some(place) = sessions.at(from) else {

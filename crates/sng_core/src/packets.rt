@@ -1,13 +1,16 @@
 //! A packet of the broker (MQTT 3.1.1, 3.3, 3.4, 3.9 and 4.3.2): what it lets out is planned first, and what
 //! changes cannot fail.
-ghost use Rattle.std.specs.Prelude.{◌≡◌, ◌∷◌, ◌++◌, ◌<◌, ℕ, [], None, length, map, if◌then◌else◌, IfOk, OnOk, OnErr};
+ghost use Rattle.std.specs.Prelude.{◌≡◌, ◌∷◌, ◌++◌, ◌<◌, ℕ, [], None, length, map, if◌then◌else◌, IfOk, OnOk};
+ghost use Rattle.std.specs.Prelude.{OnErr};
 ghost use Rattle.sng_history.specs.Causes.{ByPacket};
 ghost use Rattle.sng_history.specs.Clients.{without};
 ghost use Rattle.sng_history.specs.Good.{Good};
-ghost use Rattle.sng_history.specs.Packets.{Delivers, Grants, Refuses, subscribe_answer, answer_of, misnamed, dropped};
+ghost use Rattle.sng_history.specs.Packets.{Delivers, Grants, Refuses, subscribe_answer, answer_of, misnamed};
+ghost use Rattle.sng_history.specs.Packets.{dropped};
 ghost use Rattle.sng_history.specs.Steps.{outs_by, next_by};
 ghost use Rattle.sng_sessions.specs.Standing.{client_at};
-ghost use Rattle.sng_core.specs.Refusing.{end_note, end_notes, named_outs, named_kept, packet_outs, packet_next};
+ghost use Rattle.sng_core.specs.Refusing.{end_note, end_notes, named_outs, named_kept, packet_outs};
+ghost use Rattle.sng_core.specs.Refusing.{packet_next};
 ghost use Rattle.sng_history.specs.Arriving.{sent_at};
 
 use crate::answers::only;
@@ -140,8 +143,8 @@ impl Parts {
         }
     }
 
-    /// The broker refuses the subscription whose SUBSCRIBE has this packet id: the filter stands for nobody any
-    /// more, and is wanted no more. Where none is open nothing happens.
+    /// The broker refuses the subscription whose SUBSCRIBE has this packet id: the filter stands for nobody
+    /// any more, and is wanted no more. Where none is open nothing happens.
     fn refuse(&mut self, alloc: Global, packet_id: u16) -> Result<Outs, AllocError>
         ensures outs { IfOk result (λ outs. outs ≡ packet_outs self.old (Refuses packet_id)) }
         ensures next { OnOk result (self.new ≡ packet_next self.old (Refuses packet_id)) }

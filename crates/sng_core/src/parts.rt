@@ -30,7 +30,8 @@ impl Model for Parts {
 
     ghost Value = { State };
 
-    ghost view = { λ p. record { policy = p.policy; clock = p.clock; up = p.is_up; link = p.link; clients = p.sessions } };
+    ghost view = { λ p.
+        record { policy = p.policy; clock = p.clock; up = p.is_up; link = p.link; clients = p.sessions } };
 }
 
 impl Parts {
@@ -99,7 +100,11 @@ impl Parts {
 
     /// The broker's connection is lost: of what waits the publishes stay.
     fn end_connection(&mut self)
-        ensures { self.new ≡ record self.old { up = false; link = record self.old.link { waiting = publishes self.old.link.waiting } } }
+        ensures { self.new
+            ≡ record self.old {
+              up = false;
+              link = record self.old.link { waiting = publishes self.old.link.waiting };
+            } }
     {
         self.is_up = false;
         self.link.keep_publishes();

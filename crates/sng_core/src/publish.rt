@@ -7,7 +7,9 @@ ghost use Rattle.sng_history.specs.Causes.{ToPublish};
 ghost use Rattle.sng_history.specs.Whole.{stranger_to};
 ghost use Rattle.sng_history.specs.State.{qos_of};
 ghost use Rattle.sng_history.specs.Verdicts.{name_in};
-ghost use Rattle.sng_core.specs.Forms.{place_at, client_at, at_place, found_outs, publish_judged, publish_named, publish_reply, publish_noted, publication_by, carried_outs, carried};
+ghost use Rattle.sng_core.specs.Forms.{place_at, client_at, at_place, found_outs, publish_judged};
+ghost use Rattle.sng_core.specs.Forms.{publish_named, publish_reply, publish_noted, publication_by};
+ghost use Rattle.sng_core.specs.Forms.{carried_outs, carried};
 
 use crate::answers::code_of;
 use crate::messages::no_session;

@@ -6,7 +6,9 @@ ghost use Rattle.sng_ids.specs.Ids.{is_full_for};
 ghost use Rattle.sng_history.specs.Causes.{ToRegister};
 ghost use Rattle.sng_history.specs.Whole.{stranger_to};
 ghost use Rattle.sng_history.specs.Verdicts.{name_given, id_room};
-ghost use Rattle.sng_core.specs.Forms.{place_at, client_at, at_place, moved_if, found_outs, register_judged, register_named, register_reply, register_noted, register_outs, told_at, register_next};
+ghost use Rattle.sng_core.specs.Forms.{place_at, client_at, at_place, moved_if, found_outs, register_judged};
+ghost use Rattle.sng_core.specs.Forms.{register_named, register_reply, register_noted, register_outs};
+ghost use Rattle.sng_core.specs.Forms.{told_at, register_next};
 ghost use Rattle.sng_sessions.specs.Moving.{moved_at};
 
 use crate::answers::code_of;
@@ -32,7 +34,8 @@ pub fn register(
     sessions: &mut Sessions,
 ) -> Result<Outs, AllocError>
     ensures outs { IfOk result (λ outs. outs
-        ≡ found_outs (stranger_to from (ToRegister register)) (register_outs policy.now register.msg_id register.name)
+        ≡ found_outs (stranger_to from (ToRegister register))
+        (register_outs policy.now register.msg_id register.name)
         (at_place sessions.old (place_at from sessions.old))) }
     ensures next { OnOk result (sessions.new
         ≡ moved_if (place_at from sessions.old)

@@ -6,7 +6,8 @@ ghost use Rattle.sng_history.specs.Good.{Good};
 ghost use Rattle.sng_history.specs.Steps.{outs_by, next_by};
 ghost use Rattle.sng_history.specs.Verdicts.{coverage};
 ghost use Rattle.sng_sessions.specs.Standing.{client_at};
-ghost use Rattle.sng_core.specs.Replacing.{ended_next, ended_outs, all_next, all_outs, ending_list, ending_of, endings_by, endings_from};
+ghost use Rattle.sng_core.specs.Replacing.{ended_next, ended_outs, all_next, all_outs, ending_list};
+ghost use Rattle.sng_core.specs.Replacing.{ending_of, endings_by, endings_from};
 
 use crate::parts::Parts;
 use crate::subscribe::coverage;

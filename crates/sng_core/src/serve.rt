@@ -1,5 +1,5 @@
-//! What a client is served: all that may leave of what waits for it, and PINGRESP where it is awake and nothing is
-//! left (MQTT-SN 1.2, 6.10 and 6.14).
+//! What a client is served: all that may leave of what waits for it, and PINGRESP where it is awake and
+//! nothing is left (MQTT-SN 1.2, 6.10 and 6.14).
 ghost use Rattle.std.specs.Prelude.{◌≡◌, ◌<◌, ◌≤◌, ◌++◌, length, IfOk, OnOk};
 ghost use Rattle.sng_core.specs.Forms.{client_at};
 ghost use Rattle.sng_core.specs.Serving.{told_left, over_plan, serving_outs};
@@ -12,9 +12,9 @@ use sng_sessions::{Handed, Sessions};
 use sng_states::ClientState;
 use std::alloc::{AllocError, Global};
 
-/// What is let out as what waits from this one on is handed over to the client at this place, which stands so,
-/// and knows its ids once it has confirmed one more (0 is none); no exchange is open with it then. Answers what
-/// it comes to.
+/// What is let out as what waits from this one on is handed over to the client at this place, which stands
+/// so, and knows its ids once it has confirmed one more (0 is none); no exchange is open with it then.
+/// Answers what it comes to.
 pub fn serve_plan(
     alloc: Global,
     policy: &Policy,

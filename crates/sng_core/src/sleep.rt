@@ -1,13 +1,15 @@
-//! How a client asks whether its session lives, falls asleep, and asks for what waits (MQTT-SN 1.2, 6.11 and 6.14).
-//! What is let out is planned first, and what changes cannot fail.
+//! How a client asks whether its session lives, falls asleep, and asks for what waits (MQTT-SN 1.2, 6.11 and
+//! 6.14). What is let out is planned first, and what changes cannot fail.
 ghost use Rattle.std.specs.Prelude.{◌≡◌, ◌<◌, ◌++◌, ◌∷◌, [], length, IfOk, OnOk, OnErr};
 ghost use Rattle.sng_history.specs.Answers.{dismissed};
 ghost use Rattle.sng_history.specs.Causes.{ToPing, ToSleep};
 ghost use Rattle.sng_history.specs.Whole.{stranger_to};
 ghost use Rattle.sng_sessions.specs.Moving.{moved_at};
 ghost use Rattle.sng_sessions.specs.Sleeping.{slept};
-ghost use Rattle.sng_core.specs.Forms.{place_at, client_at, at_place, moved_if, heard_at, found_outs, broken_outs};
-ghost use Rattle.sng_core.specs.Sleeping.{slept_outs, pinged, woken_outs, woken_next, own_ping_outs, own_ping_next, other_ping_outs, ping_outs, ping_next};
+ghost use Rattle.sng_core.specs.Forms.{place_at, client_at, at_place, moved_if, heard_at, found_outs};
+ghost use Rattle.sng_core.specs.Forms.{broken_outs};
+ghost use Rattle.sng_core.specs.Sleeping.{slept_outs, pinged, woken_outs, woken_next, own_ping_outs};
+ghost use Rattle.sng_core.specs.Sleeping.{own_ping_next, other_ping_outs, ping_outs, ping_next};
 
 use crate::answers::{dismissed, only, pong};
 use crate::messages::{denied_frame, no_session_frame};
@@ -20,7 +22,8 @@ use sng_states::ClientState;
 use sng_text::ClientId;
 use std::alloc::{AllocError, Global};
 
-/// A DISCONNECT with Duration, in seconds: where it has its turn the client falls asleep, and what waits stays.
+/// A DISCONNECT with Duration, in seconds: where it has its turn the client falls asleep, and what waits
+/// stays.
 pub fn sleep(
     alloc: Global,
     clock: u64,
@@ -29,7 +32,8 @@ pub fn sleep(
     sessions: &mut Sessions,
 ) -> Result<Outs, AllocError>
     ensures outs { IfOk result (λ outs. outs
-        ≡ found_outs (stranger_to from (ToSleep duration)) slept_outs (at_place sessions.old (place_at from sessions.old))) }
+        ≡ found_outs (stranger_to from (ToSleep duration)) slept_outs
+        (at_place sessions.old (place_at from sessions.old))) }
     ensures next { OnOk result (sessions.new
         ≡ moved_if (place_at from sessions.old) (slept clock duration) sessions.old) }
     ensures err { OnErr result (sessions.new ≡ sessions.old) }
@@ -109,7 +113,8 @@ fn named_ping(
     place: usize,
 ) -> Result<Outs, AllocError>
     requires { place < length sessions.old }
-    ensures outs { IfOk result (λ outs. outs ≡ ping_outs policy.now (Some id.now) (client_at sessions.old place)) }
+    ensures outs { IfOk result (λ outs. outs
+        ≡ ping_outs policy.now (Some id.now) (client_at sessions.old place)) }
     ensures next { OnOk result (sessions.new
         ≡ moved_at place (ping_next policy.now clock (Some id.now)) sessions.old) }
     ensures err { OnErr result (sessions.new ≡ sessions.old) }
@@ -199,8 +204,8 @@ fn dismiss(
     Ok(outs)
 }
 
-/// The client at this place, which sleeps, wakes up: what waits is handed over, and where nothing is left for it
-/// it sleeps again.
+/// The client at this place, which sleeps, wakes up: what waits is handed over, and where nothing is left for
+/// it it sleeps again.
 fn wake(
     alloc: Global,
     policy: &Policy,

@@ -1,13 +1,16 @@
-//! What a client states of its will: WILLTOPIC and WILLMSG in the dialogue behind its CONNECT, and the updates
-//! later (MQTT-SN 1.2, 5.4.6 to 5.4.9, 5.4.22 to 5.4.25, 6.3 and 6.4). What is let out is planned first, and what
-//! changes cannot fail.
+//! What a client states of its will: WILLTOPIC and WILLMSG in the dialogue behind its CONNECT, and the
+//! updates later (MQTT-SN 1.2, 5.4.6 to 5.4.9, 5.4.22 to 5.4.25, 6.3 and 6.4). What is let out is planned
+//! first, and what changes cannot fail.
 ghost use Rattle.std.specs.Prelude.{◌≡◌, ◌<◌, ◌∷◌, ◌++◌, [], length, IfOk, OnOk, OnErr};
 ghost use Rattle.sng_book.specs.Denials.{is_allowed};
 ghost use Rattle.sng_history.specs.Causes.{ToState};
 ghost use Rattle.sng_history.specs.Whole.{stranger_to};
 ghost use Rattle.sng_sessions.specs.Moving.{moved_at};
 ghost use Rattle.sng_core.specs.Forms.{place_at, client_at, at_place, moved_if, found_outs, heard_at};
-ghost use Rattle.sng_core.specs.Stating.{said, IsRead, is_of_dialogue, is_last, answer_of, statement_judged, kept_outs, kept_plan, kept_next, refused_outs, refused_next, noted_outs, untimely_outs, following_next, statement_outs, statement_next};
+ghost use Rattle.sng_core.specs.Stating.{said, IsRead, is_of_dialogue, is_last, answer_of, statement_judged};
+ghost use Rattle.sng_core.specs.Stating.{kept_outs, kept_plan, kept_next, refused_outs, refused_next};
+ghost use Rattle.sng_core.specs.Stating.{noted_outs, untimely_outs, following_next, statement_outs};
+ghost use Rattle.sng_core.specs.Stating.{statement_next};
 
 use crate::answers::{code_of, connack, message_request, message_response, topic_response};
 use crate::entry::nothing_handed;
@@ -31,10 +34,12 @@ pub fn state(
     sessions: &mut Sessions,
 ) -> Result<Outs, AllocError>
     ensures outs { IfOk result (λ outs. outs
-        ≡ found_outs (stranger_to from (ToState (said statement))) (statement_outs policy.now (said statement))
+        ≡ found_outs (stranger_to from (ToState (said statement)))
+        (statement_outs policy.now (said statement))
         (at_place sessions.old (place_at from sessions.old))) }
     ensures next { OnOk result (sessions.new
-        ≡ moved_if (place_at from sessions.old) (statement_next policy.now clock (said statement)) sessions.old) }
+        ≡ moved_if (place_at from sessions.old) (statement_next policy.now clock (said statement))
+        sessions.old) }
     ensures err { OnErr result (sessions.new ≡ sessions.old) }
 {
     let Some(place) = sessions.at(from) else {
@@ -180,8 +185,8 @@ fn answer(
     }
 }
 
-/// One that is allowed: a WILLTOPIC with a topic WILLMSGREQ, an update its own acknowledgement, and any other,
-/// which ends the dialogue, CONNACK.
+/// One that is allowed: a WILLTOPIC with a topic WILLMSGREQ, an update its own acknowledgement, and any
+/// other, which ends the dialogue, CONNACK.
 fn granted(alloc: Global, to: Address, statement: &Statement) -> Result<Out, AllocError>
     ensures { IfOk result (λ out. out ≡ answer_of (said statement.now) to Outcome.Allowed) }
 {

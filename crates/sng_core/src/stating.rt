@@ -1,5 +1,5 @@
-//! How what a client states of its will is judged (MQTT-SN 1.2, 5.4.7, 5.4.9, 5.4.22, 5.4.23, 6.3 and 6.4): its
-//! turn, then its scope, its topic, and the grant of that topic. To delete a will needs no grant.
+//! How what a client states of its will is judged (MQTT-SN 1.2, 5.4.7, 5.4.9, 5.4.22, 5.4.23, 6.3 and 6.4):
+//! its turn, then its scope, its topic, and the grant of that topic. To delete a will needs no grant.
 ghost use Rattle.std.specs.Prelude.{◌≡◌, ◌<◌, length, IfOk};
 ghost use Rattle.std.specs.Prelude.{true};
 ghost use Rattle.std.specs.Option.{option_copied, option_map};
@@ -8,7 +8,8 @@ ghost use Rattle.sng_wills.specs.Stated.{awaited_topic};
 ghost use Rattle.sng_history.specs.Clients.{topic_stated};
 ghost use Rattle.sng_history.specs.WillAsks.{awaits_topic};
 ghost use Rattle.sng_core.specs.Forms.{client_at};
-ghost use Rattle.sng_core.specs.Stating.{said, stating_of, IsRead, has_turn, granted_nothing, text_judged, statement_judged, topic_judged};
+ghost use Rattle.sng_core.specs.Stating.{said, stating_of, IsRead, has_turn, granted_nothing, text_judged};
+ghost use Rattle.sng_core.specs.Stating.{statement_judged, topic_judged};
 
 use crate::filters::granted;
 use crate::verdict::{Judged, is_active, unread};
@@ -36,8 +37,8 @@ pub enum Statement {
     MessageUpdate(Octets),
 }
 
-/// Whether the statement of the client at this place has its turn: a WILLTOPIC and a WILLMSG where the dialogue
-/// awaits them, and the updates where the client is active; a WILLMSGUPD needs a will besides.
+/// Whether the statement of the client at this place has its turn: a WILLTOPIC and a WILLMSG where the
+/// dialogue awaits them, and the updates where the client is active; a WILLMSGUPD needs a will besides.
 pub fn has_turn(sessions: &Sessions, place: usize, statement: &Statement) -> bool
     requires { place < length sessions.now }
     ensures { result ≡ has_turn (said statement.now) (client_at sessions.now place) }
@@ -73,8 +74,8 @@ fn awaited_topic(stage: &Stage) -> Option<&StatedTopic>
     }
 }
 
-/// How the statement of the client at this place comes out, which has its turn, and the topic that was read. An
-/// `Err` is a failed allocation.
+/// How the statement of the client at this place comes out, which has its turn, and the topic that was read.
+/// An `Err` is a failed allocation.
 pub fn judged(
     alloc: Global,
     policy: &Policy,
@@ -83,7 +84,8 @@ pub fn judged(
     statement: &Statement,
 ) -> Result<Judged, AllocError>
     requires { place < length sessions.now }
-    ensures { IfOk result (λ j. j ≡ statement_judged policy.now (said statement.now) (client_at sessions.now place)) }
+    ensures { IfOk result (λ j. j
+        ≡ statement_judged policy.now (said statement.now) (client_at sessions.now place)) }
 {
     let client = sessions.id(place);
     let wills = sessions.wills(place);
@@ -108,7 +110,8 @@ fn judged_topic(
     client: &ClientId,
     topic: &Option<WillTopic>,
 ) -> Result<Judged, AllocError>
-    ensures { IfOk result (λ j. j ≡ topic_judged policy.now client.now (option_map (λ w. w.topic) topic.now)) }
+    ensures { IfOk result (λ j. j
+        ≡ topic_judged policy.now client.now (option_map (λ w. w.topic) topic.now)) }
 {
     match topic {
         Some(will) => judged_text(alloc, policy, client, will.topic.as_slice()),
@@ -126,8 +129,8 @@ fn granted_nothing() -> Judged
     }
 }
 
-/// By the text of its topic: the policy lists the client, the text is a topic name, and the client may publish
-/// under it.
+/// By the text of its topic: the policy lists the client, the text is a topic name, and the client may
+/// publish under it.
 fn judged_text(
     alloc: Global,
     policy: &Policy,

@@ -10,7 +10,9 @@ ghost use Rattle.sng_history.specs.Requests.{gets_id};
 ghost use Rattle.sng_history.specs.Verdicts.{coverage, filter_in, subscribe_room, subscribe_room_in};
 ghost use Rattle.sng_history.specs.Whole.{stranger_to};
 ghost use Rattle.sng_core.specs.Forms.{place_at, client_at, at_place, found_outs};
-ghost use Rattle.sng_core.specs.Subscribing.{subscribe_judged, subscribe_named, subscribe_reply, subscribe_noted, subscribe_outs, stands_at, stood, is_name_full, IsAllowed, HasRoom};
+ghost use Rattle.sng_core.specs.Subscribing.{subscribe_judged, subscribe_named, subscribe_reply};
+ghost use Rattle.sng_core.specs.Subscribing.{subscribe_noted, subscribe_outs, stands_at, stood, is_name_full};
+ghost use Rattle.sng_core.specs.Subscribing.{IsAllowed, HasRoom};
 
 use crate::answers::{code_of, no_flags};
 use crate::filters::{
@@ -84,7 +86,8 @@ impl Parts {
         request: &TopicRequest,
     ) -> Result<JudgedFilter, AllocError>
         requires { place < length self.now.clients }
-        ensures { IfOk result (λ j. j ≡ subscribe_named self.now (client_at self.now.clients place) request.now
+        ensures { IfOk result (λ j. j
+            ≡ subscribe_named self.now (client_at self.now.clients place) request.now
             (filter_in self.now.policy request.now.flags.id_type request.now.topic)) }
     {
         match filter_read(alloc, &self.policy, request)? {
@@ -131,7 +134,8 @@ impl Parts {
         name: &Option<TopicName>,
     ) -> Outcome
         requires there { place < length self.now.clients }
-        requires told { name.now ≡ (if gets_id request.now.flags.id_type filter.now then Some filter.now else None) }
+        requires told { name.now
+            ≡ (if gets_id request.now.flags.id_type filter.now then Some filter.now else None) }
         ensures { result
             ≡ subscribe_room_in self.now (client_at self.now.clients place) request.now filter.now }
     {

@@ -1,8 +1,8 @@
-//! The clock goes on (MQTT-SN 1.2, 5.4.4, 6.3, 6.11 and 6.13; MQTT 3.1.1, 3.1.2.10 and 3.12): each client that was
-//! silent for too long, or did not answer as often as it was asked, is lost, and its will waits for the broker
-//! where it finds its place; what another one did not answer in time is sent again; a PINGREQ to the broker comes
-//! behind them where it is due. What is let out is planned first, and what changes cannot fail. Where nothing is
-//! due nothing takes memory.
+//! The clock goes on (MQTT-SN 1.2, 5.4.4, 6.3, 6.11 and 6.13; MQTT 3.1.1, 3.1.2.10 and 3.12): each client
+//! that was silent for too long, or did not answer as often as it was asked, is lost, and its will waits for
+//! the broker where it finds its place; what another one did not answer in time is sent again; a PINGREQ to
+//! the broker comes behind them where it is due. What is let out is planned first, and what changes cannot
+//! fail. Where nothing is due nothing takes memory.
 ghost use Rattle.std.specs.Prelude.{◌≡◌, ◌<◌, ◌++◌, length, IfOk, OnOk, OnErr};
 ghost use Rattle.sng_history.specs.Causes.{ByTick};
 ghost use Rattle.sng_history.specs.Good.{Good};
@@ -10,8 +10,11 @@ ghost use Rattle.sng_history.specs.State.{later};
 ghost use Rattle.sng_history.specs.Steps.{outs_by, next_by};
 ghost use Rattle.sng_history.specs.Ticking.{is_ping_due, is_lost_at};
 ghost use Rattle.sng_core.specs.Forms.{client_at};
-ghost use Rattle.sng_core.specs.Losing.{publication_of, will_outs, kept_will, room_behind, lost_outs, loss_of, lost_clients, lost_link};
-ghost use Rattle.sng_core.specs.Dues.{due_outs, due_at, room_after, dues_outs, dues_plan, dues_room, due_clients, due_link, dues_clients, dues_link, ping_noted, ticked_outs, ticked_next};
+ghost use Rattle.sng_core.specs.Losing.{publication_of, will_outs, kept_will, room_behind, lost_outs};
+ghost use Rattle.sng_core.specs.Losing.{loss_of, lost_clients, lost_link};
+ghost use Rattle.sng_core.specs.Dues.{due_outs, due_at, room_after, dues_outs, dues_plan, dues_room};
+ghost use Rattle.sng_core.specs.Dues.{due_clients, due_link, dues_clients, dues_link, ping_noted};
+ghost use Rattle.sng_core.specs.Dues.{ticked_outs, ticked_next};
 
 use crate::again::{Retried, again, carry_again, is_repeating};
 use crate::hand_over::all_gone;
@@ -42,8 +45,8 @@ pub enum Due {
 }
 
 impl Parts {
-    /// The clock is at this time, in ms, where that is not before its own. An `Err` is a failed allocation, and
-    /// nothing changed.
+    /// The clock is at this time, in ms, where that is not before its own. An `Err` is a failed allocation,
+    /// and nothing changed.
     pub fn tick(&mut self, alloc: Global, clock: u64) -> Result<Outs, AllocError>
         requires { Good self.old }
         ensures outs { IfOk result (λ outs. outs ≡ outs_by self.old (ByTick clock)) }
@@ -90,8 +93,8 @@ fn note_ping(is_due: bool, room: Room, outs: &mut Outs) -> Result<(), AllocError
     Ok(())
 }
 
-/// What is let out for each client with whom something is due, in order, and what comes of them. The room is what
-/// is left then.
+/// What is let out for each client with whom something is due, in order, and what comes of them. The room is
+/// what is left then.
 fn dues(
     alloc: Global,
     policy: &Policy,
@@ -169,7 +172,8 @@ fn lose(
     Ok(Loss { place, will })
 }
 
-/// A copy of the will, where there is one and it finds its place; where there is no room for it, that is noted.
+/// A copy of the will, where there is one and it finds its place; where there is no room for it, that is
+/// noted.
 fn kept_will(
     client: &ClientId,
     wills: &WillDialogue,

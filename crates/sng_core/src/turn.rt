@@ -3,10 +3,12 @@
 ghost use Rattle.std.specs.Prelude.{◌≡◌, ◌≤◌, ◌∷◌, ◌++◌, [], length, IfOk, OnOk};
 ghost use Rattle.sng_queue.specs.Messages.{message};
 ghost use Rattle.sng_queue.specs.declared.limits.TheConstants.{MAX_WAITING_NAME, MAX_WAITING_PAYLOAD};
-ghost use Rattle.sng_history.specs.Handing.{handed_again, handed_out, msg_id_of, publish_flags, frame_qos, id_type_of};
+ghost use Rattle.sng_history.specs.Handing.{handed_again, handed_out, msg_id_of, publish_flags, frame_qos};
+ghost use Rattle.sng_history.specs.Handing.{id_type_of};
 ghost use Rattle.sng_history.specs.Outgoing.{receive};
 ghost use Rattle.sng_core.specs.Again.{register_again};
-ghost use Rattle.sng_core.specs.HandingOver.{known_of, turn_outs, turn_opens, offer_outs, offer_opens, awaiting};
+ghost use Rattle.sng_core.specs.HandingOver.{known_of, turn_outs, turn_opens, offer_outs, offer_opens};
+ghost use Rattle.sng_core.specs.HandingOver.{awaiting};
 
 use crate::known::KnownId;
 use sng_book::{Address, Decision, Denial, Out, Outcome, Outs, Place};

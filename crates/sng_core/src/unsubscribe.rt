@@ -7,7 +7,9 @@ ghost use Rattle.sng_history.specs.Packets.{has_place};
 ghost use Rattle.sng_history.specs.Verdicts.{in_turn};
 ghost use Rattle.sng_history.specs.Whole.{stranger_to};
 ghost use Rattle.sng_core.specs.Forms.{place_at, client_at};
-ghost use Rattle.sng_core.specs.Subscribing.{unsubscribe_judged, unsubscribe_by, unsubscribe_noted, unsubscribe_outs, holds_alone, let_go, untold_of, ends_at, ended};
+ghost use Rattle.sng_core.specs.Subscribing.{unsubscribe_judged, unsubscribe_by, unsubscribe_noted};
+ghost use Rattle.sng_core.specs.Subscribing.{unsubscribe_outs, holds_alone, let_go, untold_of, ends_at};
+ghost use Rattle.sng_core.specs.Subscribing.{ended};
 
 use crate::filters::{JudgedFilter, copy_filter, filter_read, unread_filter};
 use crate::messages::no_session;

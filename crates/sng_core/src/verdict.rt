@@ -5,7 +5,8 @@ ghost use Rattle.sng_policy.specs.Grants.{topic};
 ghost use Rattle.sng_ids.specs.Ids.{name_of};
 ghost use Rattle.sng_history.specs.declared.limits.TheConstants.{MAX_CLIENTS};
 ghost use Rattle.sng_history.specs.State.{is_known};
-ghost use Rattle.sng_history.specs.Verdicts.{verdict, room, and_then, name_in, octets_of, predefined_name, told_name, entry_by, may_ask, is_active};
+ghost use Rattle.sng_history.specs.Verdicts.{verdict, room, and_then, name_in, octets_of, predefined_name};
+ghost use Rattle.sng_history.specs.Verdicts.{told_name, entry_by, may_ask, is_active};
 ghost use Rattle.sng_core.specs.Forms.{client_at, unread};
 
 use crate::parts::Parts;

@@ -1,10 +1,12 @@
 -- The level that no granted filter names.
-use Rattle.std.proofs.Common.{◌≡◌, ◌≤◌, ◌<◌, ◌+◌, ◌==◌, rules, ℕ, zero, suc, Bool, true, false, not, List, [], ◌∷◌, length, take, replicate, refl, ap, ◌∙◌, sym, Some, None, arith}
+use Rattle.std.proofs.Common.{◌≡◌, ◌≤◌, ◌<◌, ◌+◌, ◌==◌, rules, ℕ, zero, suc, Bool, true, false, not, List, []}
+use Rattle.std.proofs.Common.{◌∷◌, length, take, replicate, refl, ap, ◌∙◌, sym, Some, None, arith}
 use Rattle.std.specs.declared.option.Option.{Option}
 use Rattle.std.specs.Str.{bytes_eq, IsUtf8, IsAscii}
 use Rattle.std.proofs.lemmas.Str.{IsUtf8-from_ascii, IsUtf8-append, IsUtf8-nil}
 use Rattle.std.proofs.lemmas.Slice.Eq.{bytes_eq-Decides}
-use Rattle.std.proofs.lemmas.Bool.{or_from, not-true, not-false, false_from_ne_true, both_ways, eq-eqb, eqb-true}
+use Rattle.std.proofs.lemmas.Bool.{or_from, not-true, not-false, false_from_ne_true, both_ways, eq-eqb}
+use Rattle.std.proofs.lemmas.Bool.{eqb-true}
 use Rattle.sng_text.specs.declared.limits.TheConstants.{MAX_FILTER}
 use Rattle.sng_text.specs.Levels.{levels_of}
 use Rattle.sng_text.specs.Texts.{has_byte}
@@ -32,7 +34,8 @@ x_ascii = search rules
 
 pub run_utf8 : (count : ℕ) → IsUtf8 (run count)
 run_utf8 zero = IsUtf8-nil
-run_utf8 (suc count) = IsUtf8-append (120 ∷ []) (run count) (IsUtf8-from_ascii (120 ∷ []) x_ascii) (run_utf8 count)
+run_utf8 (suc count) =
+    IsUtf8-append (120 ∷ []) (run count) (IsUtf8-from_ascii (120 ∷ []) x_ascii) (run_utf8 count)
 
 -- a run that is longer than a level is another text
 longer_run : (count : ℕ) (level : List ℕ) → length level < count → bytes_eq (run count) level ≡ false
@@ -42,13 +45,16 @@ longer_run count level long =
     let counts : count ≡ length level = sym (length_run count) ∙ ap length e in
     let bad : ⊥ = omega arith in absurd bad)
 
-not_among : (most count : ℕ) (levels : List (List ℕ)) → most < count → AreShort most levels → has_level (run count) levels ≡ false
+not_among : (most count : ℕ) (levels : List (List ℕ)) → most < count → AreShort most levels
+    → has_level (run count) levels ≡ false
 not_among most count [] long short = refl
 not_among most count (level ∷ levels) long short =
     let here : length level ≤ most = short.0 in
-    or_from (bytes_eq (run count) level) (has_level (run count) levels) (longer_run count level (omega arith)) (not_among most count levels long short.1)
+    or_from (bytes_eq (run count) level) (has_level (run count) levels) (longer_run count level (omega arith))
+    (not_among most count levels long short.1)
 
-not_taken : (count : ℕ) (granted : List (List ℕ)) → MAX_FILTER < count → AreFilters granted → is_taken granted (run count) ≡ false
+not_taken : (count : ℕ) (granted : List (List ℕ)) → MAX_FILTER < count → AreFilters granted
+    → is_taken granted (run count) ≡ false
 not_taken count [] long are = refl
 not_taken count (filter ∷ granted) long are =
     or_from (has_level (run count) (levels_of filter)) (is_taken granted (run count))
@@ -57,28 +63,55 @@ not_taken count (filter ∷ granted) long are =
 
 -- the shortest run that is no level of a granted filter, as its length
 abbrev pub FreshIs : List (List ℕ) → List ℕ → Type 0
-FreshIs granted fresh = (count : ℕ) × (IsShortest granted count × (count ≤ (MAX_FILTER + 1)) × (fresh ≡ run count))
+FreshIs granted fresh =
+    (count : ℕ) × (IsShortest granted count × (count ≤ (MAX_FILTER + 1)) × (fresh ≡ run count))
 
-fresh_by : (granted : List (List ℕ)) → AreFilters granted → (found : Option ℕ) → Searched (λ count. not (is_taken granted (run count))) MAX_FILTER 1 found → FreshIs granted (run_of found)
-fresh_by granted are None none =
-    ((MAX_FILTER + 1), ((omega arith, not_taken (MAX_FILTER + 1) granted (omega arith) are, λ less from below. not-false (is_taken granted (run less)) (none less from below)), omega arith, refl))
+fresh_by : (granted : List (List ℕ)) → AreFilters granted → (found : Option ℕ)
+    → Searched (λ count. not (is_taken granted (run count))) MAX_FILTER 1 found
+    → FreshIs granted (run_of found)
+fresh_by granted are None none = (
+  (MAX_FILTER + 1),
+  (
+    (
+      omega arith,
+      not_taken (MAX_FILTER + 1) granted (omega arith) are,
+      λ less from below. not-false (is_taken granted (run less)) (none less from below),
+    ),
+    omega arith,
+    refl,
+  ),
+)
 fresh_by granted are (Some count) found =
-    let below : count < 1 + MAX_FILTER = found.1 in
-    (count, ((found.0, not-true (is_taken granted (run count)) found.2, λ less from small. not-false (is_taken granted (run less)) (found.3 less from small)), omega arith, refl))
+    let below : count < 1 + MAX_FILTER = found.1 in (
+      count,
+      (
+        (
+          found.0,
+          not-true (is_taken granted (run count)) found.2,
+          λ less from small. not-false (is_taken granted (run less)) (found.3 less from small),
+        ),
+        omega arith,
+        refl,
+      ),
+    )
 
 pub fresh_is : (granted : List (List ℕ)) → AreFilters granted → FreshIs granted (fresh_level granted)
-fresh_is granted are = fresh_by granted are _ (searched (λ (count : ℕ). not (is_taken granted (run count))) MAX_FILTER 1)
+fresh_is granted are =
+    fresh_by granted are _ (searched (λ (count : ℕ). not (is_taken granted (run count))) MAX_FILTER 1)
 
 -- a run is one level of its own length alone
-pub run_level : (count : ℕ) (level : List ℕ) → bytes_eq (run (length level)) level ≡ true → bytes_eq (run count) level ≡ (count == length level)
+pub run_level : (count : ℕ) (level : List ℕ) → bytes_eq (run (length level)) level ≡ true
+    → bytes_eq (run count) level ≡ (count == length level)
 run_level count level is =
     let e : run (length level) ≡ level = (bytes_eq-Decides (run (length level)) level).0 is in
     same_from_iff (bytes_eq (run count) level) (count == length level)
-    (λ same. eq-eqb count (length level) (sym (length_run count) ∙ ap length ((bytes_eq-Decides (run count) level).0 same)))
+    (λ same. eq-eqb count (length level)
+    (sym (length_run count) ∙ ap length ((bytes_eq-Decides (run count) level).0 same)))
     (λ same. rw (eqb-true count (length level) same) is)
 
 -- a level with another byte is no run
-pub no_run : (count : ℕ) (level : List ℕ) → bytes_eq (run (length level)) level ≡ false → bytes_eq (run count) level ≡ false
+pub no_run : (count : ℕ) (level : List ℕ) → bytes_eq (run (length level)) level ≡ false
+    → bytes_eq (run count) level ≡ false
 no_run count level is_not =
     false_from_ne_true (bytes_eq (run count) level) (λ same.
     let e : run count ≡ level = (bytes_eq-Decides (run count) level).0 same in

@@ -24,7 +24,8 @@ pub struct Reached {
 
 /// The least depth whose candidate is a name that shows a gap, where there is one.
 pub fn gap_depth(asked: &TopicFilter, reached: &Reached, profile: &Profile) -> Option<usize>
-    requires { (granted : List (List ℕ)) × (ReachedBy reached.now asked.now granted × IsProfile profile.now granted) }
+    requires { (granted : List (List ℕ))
+        × (ReachedBy reached.now asked.now granted × IsProfile profile.now granted) }
     ensures value { (granted : List (List ℕ)) → ReachedBy reached.now asked.now granted
         → IsProfile profile.now granted → result ≡ gap_depth asked.now granted }
     ensures named { (granted : List (List ℕ)) → ReachedBy reached.now asked.now granted

@@ -56,7 +56,8 @@ fn past_pluses<'a, 'b>(
 ) -> (Option<&'a [u8]>, Option<&'b [u8]>)
     ensures same { fits_levels (levels_left result.0) (levels_left result.1)
         ≡ fits_levels (levels_left own.entry) (levels_left left.entry) }
-    ensures in_place { is_in_place (levels_left left.entry) ≡ true → is_in_place (levels_left result.1) ≡ true }
+    ensures in_place { is_in_place (levels_left left.entry) ≡ true
+        → is_in_place (levels_left result.1) ≡ true }
     ensures fewer { length (levels_left result.1) ≤ length (levels_left left.entry) }
     ensures other { first_is is_plus (levels_left result.1) ≡ false }
 {

@@ -46,7 +46,8 @@ fn profile_of(granted: &[TopicFilter]) -> Profile
     profile
 }
 
-/// Says that the texts of the filters are filters. It does nothing: a slice alone does not say so, and each filter's `text` does.
+/// Says that the texts of the filters are filters. It does nothing: a slice alone does not say so, and each
+/// filter's `text` does.
 fn are_filters(filters: &[TopicFilter])
     ensures { All (λ filter. is_filter filter ≡ true) filters.now }
 {

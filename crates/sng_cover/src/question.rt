@@ -46,8 +46,8 @@ impl<'a> Question<'a> {
         }
     }
 
-    /// Whether the filters that were added match each name that the asked one matches. What else is granted changes no answer
-    /// then: it is included. Takes no memory, and no walk over a filter.
+    /// Whether the filters that were added match each name that the asked one matches. What else is granted
+    /// changes no answer then: it is included. Takes no memory, and no walk over a filter.
     pub fn is_covered(&self) -> bool
         requires { (asked : List ℕ) × ((granted : List (List ℕ)) × Gathered self.now asked granted) }
         ensures { (asked : List ℕ) (granted more : List (List ℕ)) → Gathered self.now asked granted

@@ -14,13 +14,15 @@ NoneMatches (h ∷ held) name = (matches h.filter name ≡ false) × NoneMatches
 -- none of these that match the name is greater
 abbrev pub NoneIsGreater : Qos → List Held → List ℕ → Type 0
 NoneIsGreater qos [] name = Unit {0}
-NoneIsGreater qos (h ∷ held) name = (matches h.filter name ≡ true → greater qos h.qos ≡ qos) × NoneIsGreater qos held name
+NoneIsGreater qos (h ∷ held) name =
+    (matches h.filter name ≡ true → greater qos h.qos ≡ qos) × NoneIsGreater qos held name
 
 -- there is a greatest QoS exactly where a filter matches, and it is that of one which matches
 abbrev pub IsGreatest : Option Qos → List Held → List ℕ → Type 0
 IsGreatest None held name = NoneMatches held name
 IsGreatest (Some qos) held name = NoneIsGreater qos held name
-    × ((before : List Held) × (h : Held) × (later : List Held) × (held ≡ before ++ h ∷ later) × (matches h.filter name ≡ true) × (h.qos ≡ qos))
+    × ((before : List Held) × (h : Held) × (later : List Held) × (held ≡ before ++ h ∷ later)
+    × (matches h.filter name ≡ true) × (h.qos ≡ qos))
 
 abbrev pub GreatestIsGreatest : Type 0
 GreatestIsGreatest = (held : List Held) (name : List ℕ) → IsGreatest (greatest_qos held name) held name

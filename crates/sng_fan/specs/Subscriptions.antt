@@ -1,5 +1,6 @@
 -- Which filters stand for a client at which QoS: a list, in order of first standing.
-use Rattle.std.specs.Prelude.{ℕ, ◌≤◌, Bool, ◌&&◌, not, nat_le, List, [], ◌∷◌, length, filter, count_by, if◌then◌else◌}
+use Rattle.std.specs.Prelude.{ℕ, ◌≤◌, Bool, ◌&&◌, not, nat_le, List, [], ◌∷◌, length, filter, count_by}
+use Rattle.std.specs.Prelude.{if◌then◌else◌}
 use Rattle.std.specs.List.{list_any}
 use Rattle.std.specs.Str.{bytes_eq}
 use Rattle.sng_text.specs.declared.qos.Qos.{Qos}
@@ -21,7 +22,8 @@ is_full held text = not (stands held text) && nat_le MAX_SUBSCRIPTIONS (length h
 -- the filter stands at this QoS: in its place where it stood, else behind all others
 abbrev pub with_filter : List Held → List ℕ → Qos → List Held
 with_filter [] text qos = record { filter = text; qos = qos } ∷ []
-with_filter (h ∷ held) text qos = if has_text text h then record h { qos = qos } ∷ held else h ∷ with_filter held text qos
+with_filter (h ∷ held) text qos =
+    if has_text text h then record h { qos = qos } ∷ held else h ∷ with_filter held text qos
 
 -- the filter stands no more
 abbrev pub without_filter : List Held → List ℕ → List Held

@@ -9,8 +9,8 @@ pub fn limits()
     ensures { MAX_SUBSCRIPTIONS ≡ 32 }
 {}
 
-/// Where no filter of a client matches a name there is no greatest QoS; else it is that of a filter that matches, and no other
-/// that matches has a greater one.
+/// Where no filter of a client matches a name there is no greatest QoS; else it is that of a filter that
+/// matches, and no other that matches has a greater one.
 pub fn greatest_is_greatest()
     ensures { GreatestIsGreatest }
 {}

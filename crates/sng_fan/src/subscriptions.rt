@@ -2,7 +2,8 @@
 ghost use Rattle.std.specs.Prelude.{◌≡◌, ◌≤◌, ◌⊎◌, [], true, false, length, IfOk, OnOk, OnErr};
 ghost use Rattle.std.specs.List.{position_or_len};
 ghost use Rattle.sng_fan.specs.declared.limits.TheConstants.{MAX_SUBSCRIPTIONS};
-ghost use Rattle.sng_fan.specs.Subscriptions.{has_text, stands, is_full, with_filter, without_filter, IsOneClients};
+ghost use Rattle.sng_fan.specs.Subscriptions.{has_text, stands, is_full, with_filter, without_filter};
+ghost use Rattle.sng_fan.specs.Subscriptions.{IsOneClients};
 ghost use Rattle.sng_fan.specs.Greatest.{greatest_from, greatest_qos};
 
 use crate::greatest::raised;
@@ -11,8 +12,8 @@ use sng_text::{Qos, TopicFilter, TopicName, matches};
 use std::alloc::{AllocError, Global};
 use std::marker::Model;
 
-/// The filters that stand for one client, in order of first standing, each once. Room for as many as may stand is made once, so
-/// no later call takes memory. Contracts see the list.
+/// The filters that stand for one client, in order of first standing, each once. Room for as many as may
+/// stand is made once, so no later call takes memory. Contracts see the list.
 #[derive(Debug, Drop)]
 pub struct Subscriptions {
     held: Vec<Held>,
@@ -56,10 +57,11 @@ impl Subscriptions {
         self.held.iter().any(|held| held.has_text(filter))
     }
 
-    /// Lets the filter stand at this QoS. Where it stood it keeps its place. Full exactly where `MAX_SUBSCRIPTIONS` others
-    /// stand; nothing changes then.
+    /// Lets the filter stand at this QoS. Where it stood it keeps its place. Full exactly where
+    /// `MAX_SUBSCRIPTIONS` others stand; nothing changes then.
     pub fn add(&mut self, filter: TopicFilter, qos: Qos) -> Result<(), FanFault>
-        ensures ok { OnOk result ((is_full self.old filter ≡ false) × (self.new ≡ with_filter self.old filter qos)) }
+        ensures ok { OnOk result ((is_full self.old filter ≡ false)
+            × (self.new ≡ with_filter self.old filter qos)) }
         ensures err { OnErr result ((is_full self.old filter ≡ true) × (self.new ≡ self.old)) }
     {
         let place = place_of(&self.held, &filter);

@@ -61,8 +61,7 @@ connect_of (flags ∷ protocol_id ∷ high ∷ low ∷ text) =
       flags = flags_of flags;
       protocol_id = protocol_id;
       duration = number high low;
-      client_id =
-          client_id;
+      client_id = client_id;
     }) (client_id_of text)
 connect_of _ = None
 
@@ -84,8 +83,7 @@ topic_ack_of (topic_high ∷ topic_low ∷ msg_high ∷ msg_low ∷ code ∷ [])
     (record {
       topic_id = number topic_high topic_low;
       msg_id = number msg_high msg_low;
-      code =
-          record { 0 = code };
+      code = record { 0 = code };
     })
 topic_ack_of _ = None
 
@@ -96,8 +94,7 @@ publish_of (flags ∷ topic_high ∷ topic_low ∷ msg_high ∷ msg_low ∷ payl
     (record {
       flags = flags_of flags;
       topic_id = number topic_high topic_low;
-      msg_id =
-          number msg_high msg_low;
+      msg_id = number msg_high msg_low;
       payload = payload;
     })
 publish_of _ = None
@@ -151,8 +148,7 @@ subscribe_ack_of (flags ∷ topic_high ∷ topic_low ∷ msg_high ∷ msg_low �
     (record {
       flags = flags_of flags;
       topic_id = number topic_high topic_low;
-      msg_id =
-          number msg_high msg_low;
+      msg_id = number msg_high msg_low;
       code = record { 0 = code };
     })
 subscribe_ack_of _ = None

@@ -1,22 +1,18 @@
 -- A good state leads to a good one.
-use Rattle.std.proofs.Common.{◌≡◌, ◌≤◌, ◌+◌, ℕ, Bool, true, false, List, [], ◌∷◌, ◌++◌, map, length, refl, sym, ◌∙◌, subst, arith}
+use Rattle.std.proofs.Common.{◌≡◌, ◌≤◌, ◌+◌, ℕ, Bool, true, false, List, [], ◌∷◌, ◌++◌, length, refl}
+use Rattle.std.proofs.Common.{◌∙◌, subst, arith}
 use Rattle.std.specs.Prelude.{if◌then◌else◌, ◌&&◌, ◌||◌, not, nat_lt, Option, Some, None}
 use Rattle.sng_grants.specs.declared.policy.Policy.{Policy}
 use Rattle.sng_fan.specs.declared.held.Held.{Held}
-use Rattle.sng_frames.specs.declared.messages.subscribe.TopicRequest.{TopicRequest}
 use Rattle.std.proofs.lemmas.List.{append-nil, length-append, length-map}
 use Rattle.std.proofs.lemmas.Bool.Decides.{nat_tests}
 use Rattle.mqtt_frames.specs.declared.packet.Packet.{Packet}
-use Rattle.std.specs.Str.{bytes_eq}
 use Rattle.sng_frames.specs.declared.messages.connect.Connect.{Connect}
-use Rattle.sng_frames.specs.declared.frame.SnFrame.{SnFrame}
 use Rattle.sng_book.specs.declared.address.Address.{Address}
-use Rattle.sng_book.specs.declared.decision.Decision.{Decision}
 use Rattle.sng_book.specs.declared.decision.Decision.TheVariants as note
-use Rattle.sng_book.specs.declared.decision.Who.{Who}
 use Rattle.sng_book.specs.declared.decision.Who.TheVariants as who
 use Rattle.sng_book.specs.declared.outcome.Denial.{Denial}
-use Rattle.sng_book.specs.declared.outcome.Denial.TheVariants.{NotSupported, BrokerRefused, Full}
+use Rattle.sng_book.specs.declared.outcome.Denial.TheVariants.{BrokerRefused, Full}
 use Rattle.sng_book.specs.declared.outcome.Place.TheVariants as place
 use Rattle.sng_book.specs.declared.outcome.Outcome.{Outcome}
 use Rattle.sng_book.specs.declared.outcome.Outcome.TheVariants.{Allowed, Denied}
@@ -24,188 +20,102 @@ use Rattle.sng_book.specs.Denials.{is_allowed}
 use Rattle.sng_states.specs.States.{has_session, is_due_messages}
 use Rattle.sng_history.specs.declared.limits.TheConstants.{MAX_CLIENTS}
 use Rattle.sng_history.specs.Causes.{Statement, statement_asked}
-use Rattle.sng_history.specs.Causes.{Request, ToPing, ToLeave, ToSleep, ToRegister, ToPublish, ToSubscribe, ToUnsubscribe}
+use Rattle.sng_history.specs.Causes.{Request, ToPing, ToLeave, ToSleep, ToRegister, ToPublish, ToSubscribe}
+use Rattle.sng_history.specs.Causes.{ToUnsubscribe}
 use Rattle.sng_history.specs.Causes.{ToConfirm, ToAcknowledge, ToState, Untaken, Cause}
-use Rattle.sng_history.specs.Causes.{ByConnect, ByMessage, BySource, ByBroken, ByPacket, ByUp, ByDown, ByTake, ByReplace, ByTick}
-use Rattle.sng_history.specs.Clients.{Around, Client, blank, same_address, is_here, closed, is_confirming, is_acknowledging, message_due}
-use Rattle.sng_history.specs.Clients.{start_by, announced, handed, subscribed, subscribe_of, unsubscribed, repeated, drained}
-use Rattle.sng_history.specs.Clients.{note_by, notes_by, client_by}
+use Rattle.sng_history.specs.Causes.{ByConnect, ByMessage, BySource, ByBroken, ByPacket, ByUp, ByDown, ByTake}
+use Rattle.sng_history.specs.Causes.{ByReplace, ByTick}
+use Rattle.sng_history.specs.Clients.{Around, Client, blank, same_address, is_here, closed, is_confirming}
+use Rattle.sng_history.specs.Clients.{is_acknowledging, message_due}
+use Rattle.sng_history.specs.Clients.{start_by}
+use Rattle.sng_history.specs.Clients.{repeated, drained}
+use Rattle.sng_history.specs.Clients.{notes_by, client_by}
 use Rattle.sng_history.specs.State.{State, opening, around, later, is_known}
 use Rattle.sng_history.specs.WillAsks.{statement_notes}
 use Rattle.sng_history.specs.Packets.{answer_of, refused_filter}
 use Rattle.sng_history.specs.Standing.{holds}
-use Rattle.sng_history.specs.Verdicts.{ping_verdict, coverage, entry, entry_form, client_scope, entry_room, and_then}
-use Rattle.sng_history.specs.Answers.{denied_note}
-use Rattle.sng_history.specs.Lawful.{confirmations, fixed_to, fixed_for, denial_of, woken_notes, end_of, ends_under, refused_end}
-use Rattle.sng_history.specs.Steps.{entrants, newcomers_for, client_next, clients_next, next_by}
-use Rattle.sng_history.specs.Outgoing.{handed_over, out_of_turn, delivered_notes}
-use Rattle.sng_history.specs.Entering.{entered, served, serving, welcomed, hearing}
+use Rattle.sng_history.specs.Verdicts.{ping_verdict, coverage, entry, entry_form, client_scope, entry_room}
+use Rattle.sng_history.specs.Verdicts.{and_then}
+use Rattle.sng_history.specs.Lawful.{confirmations, fixed_to, fixed_for, denial_of, woken_notes}
+use Rattle.sng_history.specs.Lawful.{ends_under, refused_end}
+use Rattle.sng_history.specs.Steps.{newcomers_for, client_next, clients_next, next_by}
+use Rattle.sng_history.specs.Outgoing.{handed_over, delivered_notes}
 use Rattle.sng_history.specs.Good.{Each, Distinct, OnePlace, AtRest, Good}
-use Rattle.sng_history.proofs.Own.{each_all}
-use Rattle.sng_history.proofs.Steady.{Steady, Lasting, steady_lasts, start_lasts, announced_steady, handed_steady, repeated_steady}
+use Rattle.sng_history.proofs.Steady.{start_lasts}
+use Rattle.sng_history.proofs.Steady.{repeated_steady}
 use Rattle.sng_history.proofs.Steady.{drained_lasts}
-use Rattle.sng_history.proofs.Hands.{Every, every_append, every_if, OfMessages, every_handed, every_gone, every_woken}
-use Rattle.sng_history.proofs.Hands.{every_delivered, every_confirmation, served_steady}
+use Rattle.sng_history.proofs.Hands.{Every, every_append, every_if, every_handed, every_gone}
+use Rattle.sng_history.proofs.Hands.{every_woken}
+use Rattle.sng_history.proofs.Hands.{every_delivered, every_confirmation}
 use Rattle.sng_history.proofs.Statements.{every_tick, statement_placid, placid_address}
-use Rattle.sng_history.proofs.Endless.{denied_stays}
 use Rattle.sng_history.proofs.Rests.{rest_next}
 use Rattle.sng_history.proofs.Asks.{of_register, of_publish, of_subscribe, of_unsubscribe}
-use Rattle.sng_history.proofs.Waiting.{allowed_second, few_next}
+use Rattle.sng_history.proofs.WaitingAcks.{allowed_second}
+use Rattle.sng_history.proofs.Waiting.{few_next}
 use Rattle.sng_history.proofs.Kept.{client_id, map_distinct, present_distinct}
-use Rattle.sng_history.proofs.Entries.{entered_next, heard_next}
 use Rattle.sng_history.proofs.Filters.{once_next, covered_next}
 use Rattle.sng_history.proofs.Wanted.{wanted_once_next}
 use Rattle.sng_history.proofs.Holding.{wanted_held_next}
-use Rattle.sng_history.proofs.Places.{Stays, and_left, and_right, places_stay, places_entered}
+use Rattle.sng_history.proofs.Places.{Stays}
+use Rattle.sng_history.proofs.AddressesKept.{steady_stays, Settled, left_settled, messages_settled}
+use Rattle.sng_history.proofs.AddressesKept.{client_stays, settled_denial, settled_end, subscribe_settled}
+use Rattle.sng_history.proofs.AddressesKept.{unsubscribe_settled, settled_message, settled_turn, settled_for}
+use Rattle.sng_history.proofs.AddressesKept.{stay_each, stay_all, entry_places}
+use Rattle.sng_history.proofs.Booleans.{left_holds, right_holds}
 
--- ---- no client comes to another's address
-
-stays_if : (b : Bool) (x y z : Client) → Stays x y → Stays x z → Stays x (if b then y else z)
-stays_if true x y z one two = one
-stays_if false x y z one two = two
-
--- who is where it was, as it stood, stays
-lasting_stays : (x y : Client) → Lasting x y → Stays x y
-lasting_stays x y lasts at here =
-    let session : has_session y.phase ≡ has_session x.phase = lasts.here in
-    let address : y.address ≡ x.address = lasts.address in
-    let same : is_here y at ≡ is_here x at = rw (session, address) refl in sym same ∙ here
-
-steady_stays : (x y : Client) → Steady x y → Stays x y
-steady_stays x y steady = lasting_stays x y (steady_lasts x y steady)
-
--- a note that lets nobody in
-abbrev pub Settled : Around → Decision → Type 0
-Settled a said = (x : Client) → Stays x (note_by a said x)
-
-left_settled : (a : Around) (id : List ℕ) → Settled a (note.Left id)
-left_settled a id x at here = absurd cc
-
-messages_settled : (a : Around) (client : List ℕ) → OfMessages (Settled a) client
-messages_settled a client = record {
-  announces = λ name x. steady_stays x (announced a.clock name x) (announced_steady a.clock name x);
-  hands = λ name outcome x. steady_stays x (handed a name outcome x) (handed_steady a name outcome x);
-}
-
-notes_stay : (a : Around) (notes : List Decision) (x : Client) → Every (Settled a) notes → Stays x (notes_by a notes x)
-notes_stay a [] x every at here = here
-notes_stay a (said ∷ notes) x every at here = every.0 x at (notes_stay a notes (note_by a said x) every.1 at here)
-
-client_stays : (a : Around) (notes : List Decision) (x : Client) → Every (Settled a) notes → Stays x (client_by a notes x)
-client_stays a notes x every at here =
-    let y = start_by a x in
-    let z = notes_by a notes y in
-    lasting_stays x y (start_lasts a x) at (notes_stay a notes y every at (lasting_stays z (drained z) (drained_lasts z) at here))
-
-settled_denial : (a : Around) (id : List ℕ) (outcome : Outcome) → Every (Settled a) (denial_of id outcome)
-settled_denial a id Allowed = tt
-settled_denial a id (Denied rule) = (λ x at here. here, tt)
-
-settled_end : (a : Around) (client filter : List ℕ) (outcome : Outcome) (notes : List Decision) → Every (Settled a) notes → Every (Settled a) (end_of client filter outcome ++ notes)
-settled_end a client filter Allowed notes all = all
-settled_end a client filter (Denied rule) notes all = (λ x at here. here, all)
-
-subscribed_stays : (r : Option TopicRequest) (filter : Option (List ℕ)) (outcome : Outcome) (x : Client) → Stays x (subscribed r filter outcome x)
-subscribed_stays None filter outcome x at here = here
-subscribed_stays (Some r) None outcome x at here = here
-subscribed_stays (Some r) (Some filter) Allowed x at here = here
-subscribed_stays (Some r) (Some filter) (Denied rule) x at here = here
-
-subscribe_settled : (a : Around) (whom : Who) (filter : Option (List ℕ)) (outcome : Outcome) → Settled a (note.Subscribe whom filter outcome)
-subscribe_settled a whom filter outcome x at here = subscribed_stays (subscribe_of a.cause) filter outcome x at here
-
-unsubscribed_stays : (filter : Option (List ℕ)) (outcome : Outcome) (x : Client) → Stays x (unsubscribed filter outcome x)
-unsubscribed_stays None outcome x at here = here
-unsubscribed_stays (Some filter) Allowed x at here = here
-unsubscribed_stays (Some filter) (Denied rule) x at here = here
-
-unsubscribe_settled : (a : Around) (whom : Who) (filter : Option (List ℕ)) (outcome : Outcome) → Settled a (note.Unsubscribe whom filter outcome)
-unsubscribe_settled a whom filter outcome x at here = unsubscribed_stays filter outcome x at here
-
-settled_message : (a : Around) (message : SnFrame) (id : List ℕ) → Settled a (denied_note message (who.Client id) NotSupported)
-settled_message a message id x at here = subst (λ y. is_here y at ≡ true) (denied_stays a x id message) here
-
-settled_turn : (a : Around) (turn : Bool) (id : List ℕ) (notes : List Decision) → Every (Settled a) notes → Every (Settled a) (if turn then notes else out_of_turn id)
-settled_turn a true id notes every = every
-settled_turn a false id notes every = (λ x at here. here, tt)
-
--- what holds of the notes of each cause but a CONNECT
-pub settled_for : (s : State) (c : Cause) (x : Client) → newcomers_for s c ≡ [] → Every (Settled (around s c)) (fixed_for s c x) → Stays x (client_next s c x)
-settled_for s c x none all = client_stays (around s c) (fixed_for s c x) x all
-
-stay_each : (s : State) (c : Cause) → newcomers_for s c ≡ [] → ((x : Client) → Stays x (client_next s c x)) → OnePlace s.clients
-    → OnePlace (map (client_next s c) (s.clients ++ newcomers_for s c))
-stay_each s c none all places =
-    subst (λ xs. OnePlace (map (client_next s c) (s.clients ++ xs))) (sym none)
-    (rw (append-nil s.clients) (places_stay (client_next s c) s.clients (each_all (λ x. Stays x (client_next s c x)) s.clients all) places))
-
-stay_all : (s : State) (c : Cause) → newcomers_for s c ≡ [] → ((x : Client) → Every (Settled (around s c)) (fixed_for s c x))
-    → OnePlace s.clients
-    → OnePlace (map (client_next s c) (s.clients ++ newcomers_for s c))
-stay_all s c none all places = stay_each s c none (λ x. settled_for s c x none (all x)) places
-
-hearing_stays : (clock : ℕ) (from : Address) (x : Client) → Stays x (hearing clock from x)
-hearing_stays clock from x = stays_if (is_here x from) x (record x { heard = clock }) x (λ at here. here) (λ at here. here)
-
--- serving the one that connects brings nobody anywhere
-serving_stays : (a : Around) (id : List ℕ) (x : Client) → Stays x (serving a id x)
-serving_stays a id x = stays_if (bytes_eq id x.id) x (served a x) x (steady_stays x (served a x) (served_steady a x)) (λ at here. here)
-
-welcomed_places : (a : Around) (from : Address) (connect : Connect) (xs : List Client) → Distinct xs → OnePlace xs → OnePlace (welcomed a from connect xs)
-welcomed_places a from connect xs apart places =
-    let entrants = entered a.clock from connect xs in
-    places_stay (serving a connect.client_id) entrants (each_all (λ x. Stays x (serving a connect.client_id x)) entrants (λ x. serving_stays a connect.client_id x))
-    (places_entered a.clock from connect xs apart places)
-
-entry_places : (s : State) (from : Address) (connect : Connect) (o : Outcome) → entry s connect ≡ o → Distinct s.clients
-    → OnePlace s.clients → Each AtRest s.clients
-    → OnePlace (map (client_next s (ByConnect from connect)) (s.clients ++ entrants s connect))
-entry_places s from connect Allowed is apart places rest =
-    subst OnePlace (sym (entered_next s from connect rest is))
-    (welcomed_places (around s (ByConnect from connect)) from connect s.clients apart places)
-entry_places s from connect (Denied rule) is apart places rest =
-    subst OnePlace (sym (heard_next s from connect rule rest is))
-    (places_stay (hearing s.clock from) s.clients (each_all (λ x. Stays x (hearing s.clock from x)) s.clients (λ x. hearing_stays s.clock from x)) places)
-
-pub settled_ends : (a : Around) (policy : Policy) (client : List ℕ) (held : List Held) → Every (Settled a) (ends_under policy client held)
+pub settled_ends : (a : Around) (policy : Policy) (client : List ℕ) (held : List Held)
+    → Every (Settled a) (ends_under policy client held)
 settled_ends a policy client [] = tt
 settled_ends a policy client (h ∷ held) =
-    settled_end a client h.filter (coverage policy client h.filter) (ends_under policy client held) (settled_ends a policy client held)
+    settled_end a client h.filter (coverage policy client h.filter) (ends_under policy client held)
+    (settled_ends a policy client held)
 
-settled_refused : (a : Around) (x : Client) (filter : Option (List ℕ)) → Every (Settled a) (refused_end x filter)
+settled_refused : (a : Around) (x : Client) (filter : Option (List ℕ))
+    → Every (Settled a) (refused_end x filter)
 settled_refused a x None = tt
-settled_refused a x (Some filter) = every_if (Settled a) (holds filter x) (note.End x.id filter (Denied BrokerRefused) ∷ []) (λ y at here. here, tt)
+settled_refused a x (Some filter) =
+    every_if (Settled a) (holds filter x) (note.End x.id filter (Denied BrokerRefused) ∷ [])
+    (λ y at here. here, tt)
 
 -- what holds of the notes of each message but a statement of a will
 settled_to : (a : Around) (s : State) (request : Request) (x : Client) → statement_asked request ≡ None
     → Every (Settled a) (fixed_to s request x)
 settled_to a s (ToPing client) x quiet =
     every_append (Settled a) (denial_of x.id (ping_verdict client x)) (woken_notes s.policy client x)
-    (settled_denial a x.id (ping_verdict client x)) (every_woken (Settled a) s.policy client x (messages_settled a x.id))
+    (settled_denial a x.id (ping_verdict client x))
+    (every_woken (Settled a) s.policy client x (messages_settled a x.id))
 settled_to a s (ToSleep duration) x quiet = settled_turn a (is_due_messages x.phase) x.id [] tt
-settled_to a s ToLeave x quiet = (left_settled a x.id, every_gone (Settled a) x.id x.buffer.waiting (messages_settled a x.id))
-settled_to a s (ToRegister r) x quiet = (of_register (Settled a) s.policy x r.name (λ name o y at here. here), tt)
+settled_to a s ToLeave x quiet =
+    (left_settled a x.id, every_gone (Settled a) x.id x.buffer.waiting (messages_settled a x.id))
+settled_to a s (ToRegister r) x quiet =
+    (of_register (Settled a) s.policy x r.name (λ name o y at here. here), tt)
 settled_to a s (ToPublish p) x quiet = (of_publish (Settled a) s x p (λ name o y at here. here), tt)
-settled_to a s (ToSubscribe r) x quiet = (of_subscribe (Settled a) s x r (λ filter o. subscribe_settled a (who.Client x.id) filter o), tt)
-settled_to a s (ToUnsubscribe r) x quiet =
-    (of_unsubscribe (Settled a) s.policy x r (λ filter o. unsubscribe_settled a (who.Client x.id) filter o), tt)
+settled_to a s (ToSubscribe r) x quiet =
+    (of_subscribe (Settled a) s x r (λ filter o. subscribe_settled a (who.Client x.id) filter o), tt)
+settled_to a s (ToUnsubscribe r) x quiet = (
+  of_unsubscribe (Settled a) s.policy x r (λ filter o. unsubscribe_settled a (who.Client x.id) filter o),
+  tt,
+)
 settled_to a s (ToConfirm r) x quiet =
     settled_turn a (is_confirming r x) x.id (confirmations s.policy r x)
     (every_confirmation (Settled a) s.policy r x (messages_settled a x.id))
 settled_to a s (ToAcknowledge r) x quiet =
-    settled_turn a (is_acknowledging r x) x.id (handed_over s.policy (closed x)) (every_handed (Settled a) s.policy (closed x) (messages_settled a x.id))
+    settled_turn a (is_acknowledging r x) x.id (handed_over s.policy (closed x))
+    (every_handed (Settled a) s.policy (closed x) (messages_settled a x.id))
 settled_to a s (ToState statement) x quiet = absurd cc
 settled_to a s (Untaken message) x quiet = (settled_message a message x.id, tt)
 
 -- a client that has a session and is at the same address stays
 there_stays : (x y : Client) → has_session x.phase ≡ true → y.address ≡ x.address → Stays x y
 there_stays x y here same at is =
-    let at_y : same_address y.address at ≡ true = and_right (has_session y.phase) (same_address y.address at) is in
+    let at_y : same_address y.address at ≡ true =
+    right_holds (has_session y.phase) (same_address y.address at) is in
     let there : same_address x.address at ≡ true = subst (λ a. same_address a at ≡ true) same at_y in
     rw (here, there) refl
 
 -- what a statement ends or begins it does where the client was
-state_stays : (s : State) (from : Address) (statement : Statement) (x : Client) (here : Bool) → is_here x from ≡ here
+state_stays : (s : State) (from : Address) (statement : Statement) (x : Client) (here : Bool)
+    → is_here x from ≡ here
     → (let a = around s (ByMessage from (ToState statement)) in
     Stays x (client_by a (if here then statement_notes s.policy statement x else []) x))
 state_stays s from statement x true is =
@@ -213,8 +123,9 @@ state_stays s from statement x true is =
     let y = start_by a x in
     let notes = statement_notes s.policy statement x in
     let z = notes_by a notes y in
-    there_stays x (drained z) (and_left (has_session x.phase) (same_address x.address from) is)
-    ((drained_lasts z).address ∙ (placid_address a notes y (statement_placid a s.policy statement x) ∙ (start_lasts a x).address))
+    there_stays x (drained z) (left_holds (has_session x.phase) (same_address x.address from) is)
+    ((drained_lasts z).address ∙ (placid_address a notes y (statement_placid a s.policy statement x)
+    ∙ (start_lasts a x).address))
 state_stays s from statement x false is = client_stays (around s (ByMessage from (ToState statement))) [] x tt
 
 other_stays : (s : State) (from : Address) (request : Request) (x : Client) → statement_asked request ≡ None
@@ -224,7 +135,8 @@ other_stays s from request x quiet =
     settled_for s (ByMessage from request) x refl
     (every_if (Settled a) (is_here x from) (fixed_to s request x) (settled_to a s request x quiet))
 
-pub message_stays : (s : State) (from : Address) (request : Request) (x : Client) → Stays x (client_next s (ByMessage from request) x)
+pub message_stays : (s : State) (from : Address) (request : Request) (x : Client)
+    → Stays x (client_next s (ByMessage from request) x)
 message_stays s from (ToState statement) x = state_stays s from statement x (is_here x from) refl
 message_stays s from (ToPing client) x = other_stays s from (ToPing client) x refl
 message_stays s from ToLeave x = other_stays s from ToLeave x refl
@@ -237,37 +149,53 @@ message_stays s from (ToConfirm r) x = other_stays s from (ToConfirm r) x refl
 message_stays s from (ToAcknowledge r) x = other_stays s from (ToAcknowledge r) x refl
 message_stays s from (Untaken message) x = other_stays s from (Untaken message) x refl
 
-pub settled_tick : (s : State) (clock : ℕ) (x : Client) → Every (Settled (around s (ByTick clock))) (fixed_for s (ByTick clock) x)
+pub settled_tick : (s : State) (clock : ℕ) (x : Client)
+    → Every (Settled (around s (ByTick clock))) (fixed_for s (ByTick clock) x)
 settled_tick s clock x =
     let a = around s (ByTick clock) in
     every_tick (Settled a) s.policy s.link (later s.clock clock) s.clients x
-    (record { loses = λ y at here. absurd cc; drops = λ name rule y at here. here; messages = messages_settled a x.id })
+    (record {
+      loses = λ y at here. absurd cc;
+      drops = λ name rule y at here. here;
+      messages = messages_settled a x.id;
+    })
     (λ name o y. steady_stays y (repeated a.clock o y) (repeated_steady a.clock o y))
 
-pub settled_packet : (a : Around) (s : State) (p : Packet) (x : Client) → Every (Settled a) (fixed_for s (ByPacket p) x)
+pub settled_packet : (a : Around) (s : State) (p : Packet) (x : Client)
+    → Every (Settled a) (fixed_for s (ByPacket p) x)
 settled_packet a s p x =
     let due = message_due (answer_of p) x in
-    every_append (Settled a) (refused_end x (refused_filter s.link (answer_of p))) (delivered_notes s.policy due x) (settled_refused a x (refused_filter s.link (answer_of p)))
+    every_append (Settled a) (refused_end x (refused_filter s.link (answer_of p)))
+    (delivered_notes s.policy due x) (settled_refused a x (refused_filter s.link (answer_of p)))
     (every_delivered (Settled a) s.policy due x (messages_settled a x.id))
 
-places_next : (s : State) (c : Cause) → Distinct s.clients → OnePlace s.clients → Each AtRest s.clients → OnePlace (clients_next s c)
-places_next s (ByConnect from connect) apart places rest = entry_places s from connect (entry s connect) refl apart places rest
+places_next : (s : State) (c : Cause) → Distinct s.clients → OnePlace s.clients → Each AtRest s.clients
+    → OnePlace (clients_next s c)
+places_next s (ByConnect from connect) apart places rest =
+    entry_places s from connect (entry s connect) refl apart places rest
 places_next s (ByMessage from request) apart places rest =
     stay_each s (ByMessage from request) refl (λ x. message_stays s from request x) places
 places_next s (BySource from p) apart places rest = stay_all s (BySource from p) refl (λ x. tt) places
 places_next s (ByBroken from rule) apart places rest =
-    stay_all s (ByBroken from rule) refl (λ x. every_if (Settled (around s (ByBroken from rule))) (is_here x from) (note.Frame (who.Client x.id) (Denied rule) ∷ []) (λ y at here. here, tt)) places
-places_next s (ByPacket p) apart places rest = stay_all s (ByPacket p) refl (λ x. settled_packet (around s (ByPacket p)) s p x) places
+    stay_all s (ByBroken from rule) refl
+    (λ x. every_if (Settled (around s (ByBroken from rule))) (is_here x from)
+    (note.Frame (who.Client x.id) (Denied rule) ∷ []) (λ y at here. here, tt)) places
+places_next s (ByPacket p) apart places rest =
+    stay_all s (ByPacket p) refl (λ x. settled_packet (around s (ByPacket p)) s p x) places
 places_next s ByUp apart places rest = stay_all s ByUp refl (λ x. tt) places
 places_next s ByDown apart places rest = stay_all s ByDown refl (λ x. tt) places
 places_next s ByTake apart places rest = stay_all s ByTake refl (λ x. tt) places
 places_next s (ByReplace policy) apart places rest =
-    stay_all s (ByReplace policy) refl (λ x. settled_ends (around s (ByReplace policy)) policy x.id x.filters) places
-places_next s (ByTick clock) apart places rest = stay_all s (ByTick clock) refl (λ x. settled_tick s clock x) places
+    stay_all s (ByReplace policy) refl
+    (λ x. settled_ends (around s (ByReplace policy)) policy x.id x.filters) places
+places_next s (ByTick clock) apart places rest =
+    stay_all s (ByTick clock) refl (λ x. settled_tick s clock x) places
 
 -- ---- there are no more than may be
 
-room_means : (known fits : Bool) (rule : Denial) → (let o : Outcome = if known || fits then Allowed else Denied rule in o) ≡ Allowed → known ≡ false → fits ≡ true
+room_means : (known fits : Bool) (rule : Denial)
+    → (let o : Outcome = if known || fits then Allowed else Denied rule in o) ≡ Allowed → known ≡ false
+    → fits ≡ true
 room_means true fits rule is unknown = absurd cc
 room_means false true rule is unknown = refl
 room_means false false rule is unknown = absurd cc
@@ -275,18 +203,27 @@ room_means false false rule is unknown = absurd cc
 fits_by : (n : ℕ) → nat_lt n MAX_CLIENTS ≡ true → n + 1 ≤ MAX_CLIENTS
 fits_by n is = grind (arith, nat_tests)
 
-entry_most : (s : State) (connect : Connect) (o : Outcome) (known : Bool) → entry s connect ≡ o → is_known connect.client_id s.clients ≡ known → length s.clients ≤ MAX_CLIENTS
-    → length (s.clients ++ (if is_allowed o && not known then blank connect.client_id ∷ [] else [])) ≤ MAX_CLIENTS
+entry_most : (s : State) (connect : Connect) (o : Outcome) (known : Bool) → entry s connect ≡ o
+    → is_known connect.client_id s.clients ≡ known → length s.clients ≤ MAX_CLIENTS
+    → length (s.clients ++ (if is_allowed o && not known then blank connect.client_id ∷ [] else []))
+    ≤ MAX_CLIENTS
 entry_most s connect (Denied rule) known is k most = rw (append-nil s.clients) most
 entry_most s connect Allowed true is k most = rw (append-nil s.clients) most
 entry_most s connect Allowed false is k most =
     let id = connect.client_id in
-    let room : entry_room s.clients id ≡ Allowed = allowed_second (client_scope s.policy id) (entry_room s.clients id) (allowed_second (entry_form connect) (and_then (client_scope s.policy id) (entry_room s.clients id)) is) in
-    let fits : nat_lt (length s.clients) MAX_CLIENTS ≡ true = room_means (is_known id s.clients) (nat_lt (length s.clients) MAX_CLIENTS) (Full place.Clients) room k in
+    let room : entry_room s.clients id ≡ Allowed =
+    allowed_second (client_scope s.policy id) (entry_room s.clients id)
+    (allowed_second (entry_form connect)
+    (and_then (client_scope s.policy id) (entry_room s.clients id)) is) in
+    let fits : nat_lt (length s.clients) MAX_CLIENTS ≡ true =
+    room_means (is_known id s.clients) (nat_lt (length s.clients) MAX_CLIENTS)
+    (Full place.Clients) room k in
     rw (length-append s.clients (blank id ∷ [])) (fits_by (length s.clients) fits)
 
-most_next : (s : State) (c : Cause) → length s.clients ≤ MAX_CLIENTS → length (s.clients ++ newcomers_for s c) ≤ MAX_CLIENTS
-most_next s (ByConnect from connect) most = entry_most s connect (entry s connect) (is_known connect.client_id s.clients) refl refl most
+most_next : (s : State) (c : Cause) → length s.clients ≤ MAX_CLIENTS
+    → length (s.clients ++ newcomers_for s c) ≤ MAX_CLIENTS
+most_next s (ByConnect from connect) most =
+    entry_most s connect (entry s connect) (is_known connect.client_id s.clients) refl refl most
 most_next s (ByMessage from request) most = rw (append-nil s.clients) most
 most_next s (BySource from p) most = rw (append-nil s.clients) most
 most_next s (ByBroken from rule) most = rw (append-nil s.clients) most
@@ -299,7 +236,9 @@ most_next s (ByTick clock) most = rw (append-nil s.clients) most
 
 pub good_next : (s : State) (c : Cause) → Good s → Good (next_by s c)
 good_next s c good = record {
-  apart = map_distinct (client_next s c) (s.clients ++ newcomers_for s c) (λ x. client_id (around s c) (fixed_for s c x) x) (present_distinct s c good.apart);
+  apart =
+      map_distinct (client_next s c) (s.clients ++ newcomers_for s c)
+      (λ x. client_id (around s c) (fixed_for s c x) x) (present_distinct s c good.apart);
   places = places_next s c good.apart good.places good.rest;
   rest = rest_next s c good.rest;
   most = rw (length-map (s.clients ++ newcomers_for s c)) (most_next s c good.most);

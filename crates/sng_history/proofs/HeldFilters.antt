@@ -1,6 +1,7 @@
 -- Each filter that stands for a client after a step is a topic filter, and so no longer than a packet can
 -- say, where each was before.
-use Rattle.std.proofs.Common.{◌≡◌, ℕ, Bool, true, false, List, [], ◌∷◌, ◌++◌, refl, ap, subst, if◌then◌else◌, sym}
+use Rattle.std.proofs.Common.{◌≡◌, ℕ, Bool, true, false, List, [], ◌∷◌, ◌++◌, refl, ap, subst, if◌then◌else◌}
+use Rattle.std.proofs.Common.{sym}
 use Rattle.std.proofs.Common.{Ok, Err, ◌≤◌, ◌==◌, length, arith}
 use Rattle.std.specs.Prelude.{not, ◌||◌, nat_lt, is_none, filter, Option, Some, None}
 use Rattle.std.specs.Str.{is_utf8}
@@ -24,7 +25,8 @@ use Rattle.sng_book.specs.declared.outcome.Denial.{Denial}
 use Rattle.sng_book.specs.declared.outcome.Denial.TheVariants.{BadFilter, BadName}
 use Rattle.sng_book.specs.declared.outcome.Outcome.{Outcome}
 use Rattle.sng_book.specs.declared.outcome.Outcome.TheVariants.{Allowed, Denied}
-use Rattle.sng_history.specs.Causes.{Request, ToPing, ToLeave, ToRegister, ToPublish, ToSubscribe, ToState, ToSleep}
+use Rattle.sng_history.specs.Causes.{Request, ToPing, ToLeave, ToRegister, ToPublish, ToSubscribe, ToState}
+use Rattle.sng_history.specs.Causes.{ToSleep}
 use Rattle.sng_history.specs.Causes.{ToUnsubscribe, ToConfirm, ToAcknowledge, Untaken, Cause}
 use Rattle.sng_history.specs.Causes.{ByConnect, ByMessage, BySource, ByBroken, ByPacket, ByUp, ByDown, ByTake}
 use Rattle.sng_history.specs.Causes.{ByReplace, ByTick}
@@ -35,7 +37,8 @@ use Rattle.sng_history.specs.Verdicts.{as_filter, predefined_filter, filter_in, 
 use Rattle.sng_history.specs.Steps.{newcomers_for, client_next, clients_next}
 use Rattle.sng_history.specs.Good.{Each}
 use Rattle.sng_history.proofs.Own.{same_means, each_map, each_append, each_mapped}
-use Rattle.sng_history.proofs.Filters.{Lasting, kept_next, subscribe_verdict, ask_cases, start_filters}
+use Rattle.sng_history.proofs.FiltersKept.{Lasting, kept_next, subscribe_verdict, ask_cases}
+use Rattle.sng_history.proofs.Steady.{start_filters}
 use Rattle.sng_history.proofs.Filters.{Unheld, newcomers_unheld}
 use Rattle.sng_history.proofs.Steady.{client_filters}
 use Rattle.sng_history.specs.Lawful.{fixed_for}
@@ -111,8 +114,7 @@ are_standing x y r text Allowed same one are = rw same (are_more x.filters text 
 
 subscribe_are : (s : State) (from : Address) (r : TopicRequest) (x : Client) (here : Bool)
     → AreFilters x.filters
-    →
-    (let a = around s (ByMessage from (ToSubscribe r)) in AreFilters
+    → (let a = around s (ByMessage from (ToSubscribe r)) in AreFilters
     (notes_by a (if here then subscribe_ask s x r ∷ [] else []) (start_by a x)).filters)
 subscribe_are s from r x true are =
     let a = around s (ByMessage from (ToSubscribe r)) in
@@ -128,7 +130,8 @@ are_request : (s : State) (from : Address) (request : Request) (x : Client) → 
     → AreFilters (client_next s (ByMessage from request) x).filters
 are_request s from (ToSubscribe r) x are =
     let c = ByMessage from (ToSubscribe r) in
-    subst AreFilters (sym (client_filters (around s c) (fixed_for s c x) x)) (subscribe_are s from r x (is_here x from) are)
+    subst AreFilters (sym (client_filters (around s c) (fixed_for s c x) x))
+    (subscribe_are s from r x (is_here x from) are)
 are_request s from (ToPing client) x are =
     kept_next AreFilters are_lasting s (ByMessage from (ToPing client)) x refl are
 are_request s from ToLeave x are = kept_next AreFilters are_lasting s (ByMessage from ToLeave) x refl are

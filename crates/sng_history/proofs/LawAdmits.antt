@@ -1,5 +1,6 @@
 -- No note but that of a CONNECT accepts anybody.
-use Rattle.std.proofs.Common.{◌≡◌, ℕ, Bool, true, false, List, [], ◌∷◌, ◌++◌, refl, ap, ◌∙◌, if◌then◌else◌, Ok, Err}
+use Rattle.std.proofs.Common.{◌≡◌, ℕ, Bool, true, false, List, [], ◌∷◌, ◌++◌, refl, ap, ◌∙◌, if◌then◌else◌}
+use Rattle.std.proofs.Common.{Ok, Err}
 use Rattle.std.specs.Prelude.{◌||◌, Option, Some, None}
 use Rattle.std.specs.List.{flat_map}
 use Rattle.std.specs.Str.{bytes_eq}
@@ -24,25 +25,31 @@ use Rattle.sng_book.specs.declared.outcome.Outcome.{Outcome}
 use Rattle.sng_book.specs.declared.outcome.Outcome.TheVariants.{Allowed, Denied}
 use Rattle.sng_book.specs.declared.out.Out.{Out}
 use Rattle.sng_book.specs.declared.out.Out.TheVariants.{Send, Wire, Note}
-use Rattle.sng_history.specs.Causes.{Request, ToPing, ToLeave, ToRegister, ToPublish, ToSubscribe, ToUnsubscribe, ToConfirm, ToAcknowledge}
+use Rattle.sng_history.specs.Causes.{Request, ToPing, ToLeave, ToRegister, ToPublish, ToSubscribe}
+use Rattle.sng_history.specs.Causes.{ToUnsubscribe, ToConfirm, ToAcknowledge}
 use Rattle.sng_history.specs.Causes.{Untaken, Cause, ToState, ToSleep}
 use Rattle.sng_history.specs.Causes.{ByMessage, BySource, ByBroken, ByPacket}
 use Rattle.sng_history.specs.Outgoing.{out_of_turn, all_gone, handed_over, delivered_notes}
-use Rattle.sng_history.specs.Clients.{Client, Around, is_here, is_confirming, is_acknowledging, closed, message_due, note_by}
+use Rattle.sng_history.specs.Clients.{Client, Around, is_here, is_confirming, is_acknowledging, closed}
+use Rattle.sng_history.specs.Clients.{message_due, note_by}
 use Rattle.sng_history.specs.Notes.{notes_of}
 use Rattle.sng_history.specs.State.{State, around}
-use Rattle.sng_history.specs.Verdicts.{ping_verdict, named_ask, name_in, register_ask, publish_ask, coverage, subscribe_ask}
+use Rattle.sng_history.specs.Verdicts.{ping_verdict, named_ask, name_in, register_ask, publish_ask, coverage}
+use Rattle.sng_history.specs.Verdicts.{subscribe_ask}
 use Rattle.sng_history.specs.Verdicts.{unsubscribe_ask}
 use Rattle.sng_history.specs.Answers.{denied_note}
-use Rattle.sng_history.specs.Whole.{frames_of, spell, part, any_from, stranger_to, drops, client_rows, frame_row}
+use Rattle.sng_history.specs.Whole.{frames_of, spell, part, any_from, stranger_to, drops, client_rows}
+use Rattle.sng_history.specs.Whole.{frame_row}
 use Rattle.sng_history.specs.Standing.{Release, holds}
-use Rattle.sng_history.specs.Lawful.{confirmations, denial_of, fixed_to, end_of, ends_under, refused_end, fixed_for, woken_notes}
+use Rattle.sng_history.specs.Lawful.{confirmations, denial_of, fixed_to, end_of, ends_under, refused_end}
+use Rattle.sng_history.specs.Lawful.{fixed_for, woken_notes}
 use Rattle.sng_history.specs.Steps.{notes_for, outs_by}
 use Rattle.sng_history.specs.ViewsClients.{admits, is_admitted}
 use Rattle.sng_history.specs.Packets.{answer_of, dropped, refused_filter}
 use Rattle.sng_history.proofs.Own.{same_means}
 use Rattle.sng_history.proofs.Asks.{of_register, of_publish, of_subscribe, of_unsubscribe}
-use Rattle.sng_history.proofs.Hands.{Every, OfMessages, every_append, every_if, every_handed, every_gone, every_confirmation}
+use Rattle.sng_history.proofs.Hands.{Every, OfMessages, every_append, every_if, every_handed, every_gone}
+use Rattle.sng_history.proofs.Hands.{every_confirmation}
 use Rattle.sng_history.proofs.Hands.{every_delivered, every_woken}
 use Rattle.sng_history.proofs.Sent.{AllSent, frames_sent}
 use Rattle.sng_history.proofs.Spelled.{part_own, part_other}
@@ -50,30 +57,30 @@ use Rattle.sng_history.proofs.Told.{tells}
 use Rattle.sng_history.proofs.SeenNotes.{admitted_notes, admitted_by_notes}
 use Rattle.sng_history.specs.WillAsks.{statement_notes}
 use Rattle.sng_history.proofs.Statements.{every_statement}
-
-pub or_false : (a b : Bool) → (a || b) ≡ false → (a ≡ false) × (b ≡ false)
-or_false true b is = absurd (let e = is in cc)
-or_false false b is = (refl, is)
+use Rattle.sng_history.proofs.Booleans.{or_neither}
 
 pub admitted_append : (id : List ℕ) (xs ys : List Out) → is_admitted id xs ≡ false → is_admitted id ys ≡ false
     → is_admitted id (xs ++ ys) ≡ false
 admitted_append id [] ys one two = two
 admitted_append id (Note said ∷ xs) ys one two =
-    let both = or_false (admits id said) (is_admitted id xs) one in
+    let both = or_neither (admits id said) (is_admitted id xs) one in
     ap (λ b. b || is_admitted id (xs ++ ys)) both.0 ∙ admitted_append id xs ys both.1 two
 admitted_append id (Send to datagram ∷ xs) ys one two = admitted_append id xs ys one two
 admitted_append id (Wire sent ∷ xs) ys one two = admitted_append id xs ys one two
 
-pub admitted_flat : (id : List ℕ) (f : Client → List Out) (xs : List Client) → ((x : Client) → is_admitted id (f x) ≡ false)
+pub admitted_flat : (id : List ℕ) (f : Client → List Out) (xs : List Client)
+    → ((x : Client) → is_admitted id (f x) ≡ false)
     → is_admitted id (flat_map f xs) ≡ false
 admitted_flat id f [] none = refl
-admitted_flat id f (x ∷ xs) none = admitted_append id (f x) (flat_map f xs) (none x) (admitted_flat id f xs none)
+admitted_flat id f (x ∷ xs) none =
+    admitted_append id (f x) (flat_map f xs) (none x) (admitted_flat id f xs none)
 
 -- notes of which none accepts anybody
 abbrev pub Modest : List ℕ → Decision → Type 0
 Modest id said = admits id said ≡ false
 
-pub modest_notes : (id : List ℕ) (notes : List Decision) → Every (Modest id) notes → admitted_notes id notes ≡ false
+pub modest_notes : (id : List ℕ) (notes : List Decision) → Every (Modest id) notes
+    → admitted_notes id notes ≡ false
 modest_notes id [] every = refl
 modest_notes id (said ∷ notes) every = rw every.0 (modest_notes id notes every.1)
 
@@ -87,7 +94,8 @@ sent_admits id (Send to datagram ∷ xs) ys sent = sent_admits id xs ys sent
 sent_admits id (Note said ∷ xs) ys sent = rw sent.0 (sent_admits id xs ys sent.1)
 sent_admits id (Wire packet ∷ xs) ys sent = absurd sent
 
-pub spell_admits : (id : List ℕ) (a : Around) (dropped : List Release) (x : Client) (notes : List Decision) → Every (Modest id) notes
+pub spell_admits : (id : List ℕ) (a : Around) (dropped : List Release) (x : Client) (notes : List Decision)
+    → Every (Modest id) notes
     → is_admitted id (spell a dropped x notes) ≡ false
 spell_admits id a dropped x [] every = refl
 spell_admits id a dropped x (said ∷ notes) every =
@@ -97,7 +105,8 @@ spell_admits id a dropped x (said ∷ notes) every =
     ∙ spell_admits id a dropped y notes every.1)
 
 -- what is let out for a client whose notes accept nobody
-pub admitted_part : (s : State) (c : Cause) (dropped : List Release) (x : Client) (id : List ℕ) (b : Bool) → bytes_eq id x.id ≡ b
+pub admitted_part : (s : State) (c : Cause) (dropped : List Release) (x : Client) (id : List ℕ) (b : Bool)
+    → bytes_eq id x.id ≡ b
     → admitted_notes id (fixed_for s c x) ≡ false
     → is_admitted id (part (around s c) dropped (fixed_for s c x) x) ≡ false
 admitted_part s c dropped x id true is none =
@@ -108,7 +117,8 @@ admitted_part s c dropped x id true is none =
     admitted_by_notes id outs ∙ (ap (admitted_notes id) own ∙ none)
 admitted_part s c dropped x id false is none =
     let outs = part (around s c) dropped (fixed_for s c x) x in
-    admitted_by_notes id outs ∙ ap (admitted_notes id) (part_other (around s c) dropped (fixed_for s c x) x id is (tells s c x))
+    admitted_by_notes id outs ∙ ap (admitted_notes id)
+    (part_other (around s c) dropped (fixed_for s c x) x id is (tells s c x))
 
 -- nor does a row accept anybody where no client's notes do
 pub admitted_rows : (s : State) (c : Cause) (dropped : List Release) (id : List ℕ)
@@ -118,19 +128,23 @@ admitted_rows s c dropped id none =
     admitted_flat id (λ x. part (around s c) dropped (fixed_for s c x) x) s.clients
     (λ x. admitted_part s c dropped x id (bytes_eq id x.id) refl (none x))
 
-admitted_either : (id : List ℕ) (outs stranger : List Out) (b : Bool) → is_admitted id outs ≡ false → is_admitted id stranger ≡ false
+admitted_either : (id : List ℕ) (outs stranger : List Out) (b : Bool) → is_admitted id outs ≡ false
+    → is_admitted id stranger ≡ false
     → is_admitted id (if b then outs else stranger) ≡ false
 admitted_either id outs stranger true one two = one
 admitted_either id outs stranger false one two = two
 
-admitted_frame : (s : State) (c : Cause) (stranger : List Out) (id : List ℕ) → ((x : Client) → admitted_notes id (fixed_for s c x) ≡ false)
+admitted_frame : (s : State) (c : Cause) (stranger : List Out) (id : List ℕ)
+    → ((x : Client) → admitted_notes id (fixed_for s c x) ≡ false)
     → is_admitted id stranger ≡ false
     → is_admitted id (frame_row s c stranger (notes_for s c)) ≡ false
 admitted_frame s c stranger id none never =
     let dropped = drops s c (notes_for s c) in
-    admitted_either id (client_rows s c dropped (notes_for s c)) stranger (any_from c s.clients) (admitted_rows s c dropped id none) never
+    admitted_either id (client_rows s c dropped (notes_for s c)) stranger (any_from c s.clients)
+    (admitted_rows s c dropped id none) never
 
-denied_admits : (id : List ℕ) (message : SnFrame) (whom : Who) (rule : Denial) → admits id (denied_note message whom rule) ≡ false
+denied_admits : (id : List ℕ) (message : SnFrame) (whom : Who) (rule : Denial)
+    → admits id (denied_note message whom rule) ≡ false
 denied_admits id (frame.Connect connect) whom rule = refl
 denied_admits id message whom rule = refl
 
@@ -152,22 +166,28 @@ answered_note id client notes true every = modest_notes id notes every
 answered_note id client notes false every = refl
 
 -- no message but a CONNECT accepts anybody
-request_note : (s : State) (request : Request) (x : Client) (id : List ℕ) → admitted_notes id (fixed_to s request x) ≡ false
+request_note : (s : State) (request : Request) (x : Client) (id : List ℕ)
+    → admitted_notes id (fixed_to s request x) ≡ false
 request_note s (ToPing client) x id =
     let woken = woken_notes s.policy client x in
     modest_notes id (denial_of x.id (ping_verdict client x) ++ woken)
-    (every_append (Modest id) (denial_of x.id (ping_verdict client x)) woken (ping_modest id x.id (ping_verdict client x))
+    (every_append (Modest id) (denial_of x.id (ping_verdict client x)) woken
+    (ping_modest id x.id (ping_verdict client x))
     (every_woken (Modest id) s.policy client x (modest_messages id x.id)))
 request_note s (ToSleep duration) x id = sleep_note id x.id (is_due_messages x.phase)
 request_note s ToLeave x id =
-    modest_notes id (all_gone x.id x.buffer.waiting) (every_gone (Modest id) x.id x.buffer.waiting (modest_messages id x.id))
+    modest_notes id (all_gone x.id x.buffer.waiting)
+    (every_gone (Modest id) x.id x.buffer.waiting (modest_messages id x.id))
 request_note s (ToRegister r) x id =
-    one_note id (register_ask s.policy x r.name) (of_register (λ said. admits id said ≡ false) s.policy x r.name (λ name o. refl))
-request_note s (ToPublish p) x id = one_note id (publish_ask s x p) (of_publish (λ said. admits id said ≡ false) s x p (λ name o. refl))
+    one_note id (register_ask s.policy x r.name)
+    (of_register (λ said. admits id said ≡ false) s.policy x r.name (λ name o. refl))
+request_note s (ToPublish p) x id =
+    one_note id (publish_ask s x p) (of_publish (λ said. admits id said ≡ false) s x p (λ name o. refl))
 request_note s (ToSubscribe r) x id =
     one_note id (subscribe_ask s x r) (of_subscribe (λ said. admits id said ≡ false) s x r (λ text o. refl))
 request_note s (ToUnsubscribe r) x id =
-    one_note id (unsubscribe_ask s.policy x r) (of_unsubscribe (λ said. admits id said ≡ false) s.policy x r (λ text o. refl))
+    one_note id (unsubscribe_ask s.policy x r)
+    (of_unsubscribe (λ said. admits id said ≡ false) s.policy x r (λ text o. refl))
 request_note s (ToConfirm r) x id =
     answered_note id x.id (confirmations s.policy r x) (is_confirming r x)
     (every_confirmation (Modest id) s.policy r x (modest_messages id x.id))
@@ -178,14 +198,16 @@ request_note s (ToState statement) x id = modest_notes id (statement_notes s.pol
     (every_statement (Modest id) s.policy statement x
     (record { states = λ name outcome. refl; leaves = refl; messages = modest_messages id x.id }))
 request_note s (Untaken message) x id =
-    one_note id (denied_note message (who.Client x.id) NotSupported) (denied_admits id message (who.Client x.id) NotSupported)
+    one_note id (denied_note message (who.Client x.id) NotSupported)
+    (denied_admits id message (who.Client x.id) NotSupported)
 
 note_if : (id : List ℕ) (notes : List Decision) (b : Bool) → admitted_notes id notes ≡ false
     → admitted_notes id (if b then notes else []) ≡ false
 note_if id notes true none = none
 note_if id notes false none = refl
 
-stranger_admits : (from : Address) (request : Request) (id : List ℕ) → is_admitted id (stranger_to from request) ≡ false
+stranger_admits : (from : Address) (request : Request) (id : List ℕ)
+    → is_admitted id (stranger_to from request) ≡ false
 stranger_admits from (ToPing client) id = refl
 stranger_admits from ToLeave id = refl
 stranger_admits from (ToRegister r) id = refl
@@ -196,15 +218,18 @@ stranger_admits from (ToConfirm r) id = refl
 stranger_admits from (ToAcknowledge r) id = refl
 stranger_admits from (ToState statement) id = refl
 stranger_admits from (ToSleep duration) id = refl
-stranger_admits from (Untaken message) id = ap (λ b. b || false) (denied_admits id message (who.Address from) NotSupported)
+stranger_admits from (Untaken message) id =
+    ap (λ b. b || false) (denied_admits id message (who.Address from) NotSupported)
 
 pub admitted_message : (s : State) (from : Address) (request : Request) (id : List ℕ)
     → is_admitted id (outs_by s (ByMessage from request)) ≡ false
 admitted_message s from request id =
     admitted_frame s (ByMessage from request) (stranger_to from request) id
-    (λ x. note_if id (fixed_to s request x) (is_here x from) (request_note s request x id)) (stranger_admits from request id)
+    (λ x. note_if id (fixed_to s request x) (is_here x from) (request_note s request x id))
+    (stranger_admits from request id)
 
-pub admitted_broken : (s : State) (from : Address) (rule : Denial) (id : List ℕ) → is_admitted id (outs_by s (ByBroken from rule)) ≡ false
+pub admitted_broken : (s : State) (from : Address) (rule : Denial) (id : List ℕ)
+    → is_admitted id (outs_by s (ByBroken from rule)) ≡ false
 admitted_broken s from rule id =
     admitted_frame s (ByBroken from rule) (Note (note.Frame (who.Address from) (Denied rule)) ∷ []) id
     (λ x. note_if id (note.Frame (who.Client x.id) (Denied rule) ∷ []) (is_here x from) refl) refl
@@ -215,17 +240,21 @@ end_note : (id own text : List ℕ) (o : Outcome) (notes : List Decision)
 end_note id own text Allowed notes = refl
 end_note id own text (Denied rule) notes = refl
 
-pub ends_note : (policy : Policy) (id own : List ℕ) (held : List Held) → admitted_notes id (ends_under policy own held) ≡ false
+pub ends_note : (policy : Policy) (id own : List ℕ) (held : List Held)
+    → admitted_notes id (ends_under policy own held) ≡ false
 ends_note policy id own [] = refl
 ends_note policy id own (h ∷ held) =
-    end_note id own h.filter (coverage policy own h.filter) (ends_under policy own held) ∙ ends_note policy id own held
+    end_note id own h.filter (coverage policy own h.filter) (ends_under policy own held)
+    ∙ ends_note policy id own held
 
 refused_modest : (x : Client) (id : List ℕ) (text : Option (List ℕ)) → Every (Modest id) (refused_end x text)
 refused_modest x id None = tt
-refused_modest x id (Some text) = every_if (Modest id) (holds text x) (note.End x.id text (Denied BrokerRefused) ∷ []) (refl, tt)
+refused_modest x id (Some text) =
+    every_if (Modest id) (holds text x) (note.End x.id text (Denied BrokerRefused) ∷ []) (refl, tt)
 
 -- a message comes to the client
-pub packet_note : (s : State) (packet : Packet) (x : Client) (id : List ℕ) → admitted_notes id (fixed_for s (ByPacket packet) x) ≡ false
+pub packet_note : (s : State) (packet : Packet) (x : Client) (id : List ℕ)
+    → admitted_notes id (fixed_for s (ByPacket packet) x) ≡ false
 packet_note s packet x id =
     let due = message_due (answer_of packet) x in
     let one = refused_end x (refused_filter s.link (answer_of packet)) in
@@ -234,16 +263,20 @@ packet_note s packet x id =
     (every_append (Modest id) one two (refused_modest x id (refused_filter s.link (answer_of packet)))
     (every_delivered (Modest id) s.policy due x (modest_messages id x.id)))
 
-named_admits : (s : State) (source id : List ℕ) (read : Result (List ℕ) Denial) → admits id (named_ask s source read) ≡ false
+named_admits : (s : State) (source id : List ℕ) (read : Result (List ℕ) Denial)
+    → admits id (named_ask s source read) ≡ false
 named_admits s source id (Ok name) = refl
 named_admits s source id (Err rule) = refl
 
 source_admits : (s : State) (source id : List ℕ) (p : Publish) (b : Bool)
     → admits id
-    (if b then named_ask s source (name_in s.policy None p.flags.id_type p.topic_id) else note.Publish (who.Source source) None
+    (if b then named_ask s source (name_in s.policy None p.flags.id_type p.topic_id)
+    else note.Publish (who.Source source) None
     (Denied UnknownSource)) ≡ false
 source_admits s source id p true = named_admits s source id (name_in s.policy None p.flags.id_type p.topic_id)
 source_admits s source id p false = refl
 
-pub admitted_source : (s : State) (from : Address) (p : Publish) (id : List ℕ) → is_admitted id (outs_by s (BySource from p)) ≡ false
-admitted_source s from p id = ap (λ b. b || false) (source_admits s from.ip id p (lists_source s.policy from.ip))
+pub admitted_source : (s : State) (from : Address) (p : Publish) (id : List ℕ)
+    → is_admitted id (outs_by s (BySource from p)) ≡ false
+admitted_source s from p id =
+    ap (λ b. b || false) (source_admits s from.ip id p (lists_source s.policy from.ip))

@@ -1,5 +1,6 @@
 -- What a new connection lets out for the broker: what is in flight, each with its note and its own packet.
-use Rattle.std.proofs.Common.{◌≡◌, ℕ, ◌≤◌, Bool, true, false, List, [], ◌∷◌, ◌++◌, refl, ap, sym, ◌∙◌, subst, if◌then◌else◌}
+use Rattle.std.proofs.Common.{◌≡◌, ℕ, ◌≤◌, Bool, true, false, List, [], ◌∷◌, ◌++◌, refl, ap, sym, ◌∙◌, subst}
+use Rattle.std.proofs.Common.{if◌then◌else◌}
 use Rattle.std.specs.Prelude.{Option, Some, None}
 use Rattle.std.proofs.lemmas.List.{append-nil, map-append}
 use Rattle.sng_text.specs.declared.qos.Qos.{Qos}
@@ -18,102 +19,23 @@ use Rattle.sng_book.specs.declared.outcome.Outcome.TheVariants.{Allowed, Denied}
 use Rattle.sng_book.specs.declared.out.Out.{Out}
 use Rattle.sng_book.specs.declared.out.Out.TheVariants.{Send, Wire, Note}
 use Rattle.sng_history.specs.Notes.{exits_in, exit_of}
-use Rattle.sng_history.specs.Links.{Link, wants, next_packet_id, packet_id_by, sent_by, exited, subscribe_sent, subscribe_left}
+use Rattle.sng_history.specs.Links.{Link, wants, next_packet_id, packet_id_by, sent_by, exited}
+use Rattle.sng_history.specs.Links.{subscribe_sent, subscribe_left}
 use Rattle.sng_history.specs.Links.{unsubscribe_left}
 use Rattle.sng_history.specs.Verdicts.{exit}
-use Rattle.sng_history.specs.Exits.{packet_of, exits_of, forwarded, subscribe_leaves, unsubscribe_leaves, subscribing, leaving, agains_of}
-use Rattle.sng_history.specs.Exits.{sent_again, resending}
-use Rattle.sng_history.specs.ViewsLink.{listed, Departure, departures, wires_in, sends_in}
+use Rattle.sng_history.specs.Exits.{packet_of, exits_of, forwarded, subscribe_leaves, unsubscribe_leaves}
+use Rattle.sng_history.specs.Exits.{subscribing, leaving}
+use Rattle.sng_history.specs.ViewsLink.{listed, Departure, departures, wires_in}
 use Rattle.sng_history.specs.ViewsFlight.{id_shown, return, agains, id_left}
-use Rattle.sng_history.specs.LawsRules.{judged, publish_rules}
-use Rattle.sng_history.specs.LawsLink.{Announced}
-use Rattle.sng_history.specs.LawsFlight.{AllReturn, Given, given_publishes, AreNext, packets_of, subscribe_with, PacketsFor}
+use Rattle.sng_history.specs.LawsFlight.{Given, given_publishes, AreNext}
+use Rattle.sng_history.specs.LawsFlight.{subscribe_with, PacketsFor}
 use Rattle.sng_history.specs.LawsFlight.{subscribes_with}
-use Rattle.sng_history.proofs.Wanted.{left_same, same_wants}
+use Rattle.sng_history.proofs.WantedKept.{left_same, same_wants}
 use Rattle.sng_history.proofs.FlightIds.{ids_of, shown}
-use Rattle.sng_history.proofs.UpstreamLeaving.{next_is, exited_last, subscribe_last, unsubscribe_last}
-use Rattle.sng_history.proofs.LawRules.{exit_ruled}
-use Rattle.sng_history.proofs.LawLink.{Wires, subscribe_wires, unsubscribe_wires, later_exits}
-
--- ---- packets without notes
-
-pub wires_again : (xs ys : List Out) → Wires xs → agains (xs ++ ys) ≡ agains ys
-wires_again [] ys are = refl
-wires_again (Wire sent ∷ xs) ys are = wires_again xs ys are.1
-wires_again (Send to datagram ∷ xs) ys are = absurd are
-wires_again (Note said ∷ xs) ys are = absurd are
-
--- ---- as a connection begins, with the packets that follow
-
-returns_first : (policy : Policy) (sent : InFlight) (flights : List InFlight) (outs more : List Out) (o : Outcome)
-    → o ≡ judged (publish_rules policy sent.publication.origin sent.publication.name) → AllReturn policy flights (agains (outs ++ more))
-    → AllReturn policy (sent ∷ flights) (agains ((sent_again sent o ++ outs) ++ more))
-returns_first policy sent flights outs more Allowed is rest =
-    (record { whom = refl; name = refl; judgement = is; packet = λ allowed. refl }, rest)
-returns_first policy sent flights outs more (Denied rule) is rest =
-    (record { whom = refl; name = refl; judgement = is; packet = λ allowed. absurd (let f : false ≡ true = allowed in cc) }, rest)
-
-none_return : (policy : Policy) (ds : List Departure) → ds ≡ [] → AllReturn policy [] ds
-none_return policy [] is = tt
-none_return policy (d ∷ ds) is = absurd (let e = is in cc)
-
-pub all_return : (policy : Policy) (flights : List InFlight) (more : List Out) → agains more ≡ []
-    → AllReturn policy flights (agains (resending flights (agains_of policy flights) ++ more))
-all_return policy [] more none = none_return policy (agains more) none
-all_return policy (sent ∷ flights) more none =
-    returns_first policy sent flights (resending flights (agains_of policy flights)) more
-    (exit policy sent.publication.origin sent.publication.name)
-    (exit_ruled policy sent.publication.origin sent.publication.name) (all_return policy flights more none)
-
-announced_first : (sent : InFlight) (o : Outcome) (outs more : List Out) → ((lets : Bool) → Announced lets (outs ++ more)) → (lets : Bool)
-    → Announced lets ((sent_again sent o ++ outs) ++ more)
-announced_first sent Allowed outs more rest lets = ((λ is. refl), rest false)
-announced_first sent (Denied rule) outs more rest lets = rest false
-
-pub again_announced : (policy : Policy) (flights : List InFlight) (more : List Out) (lets : Bool) → ((b : Bool) → Announced b more)
-    → Announced lets (resending flights (agains_of policy flights) ++ more)
-again_announced policy [] more lets rest = rest lets
-again_announced policy (sent ∷ flights) more lets rest =
-    announced_first sent (exit policy sent.publication.origin sent.publication.name) (resending flights (agains_of policy flights)) more
-    (λ b. again_announced policy flights more b rest) lets
-
-departed_first : (sent : InFlight) (o : Outcome) (outs more : List Out)
-    → departures ((sent_again sent o ++ outs) ++ more) ≡ departures (outs ++ more)
-departed_first sent Allowed outs more = refl
-departed_first sent (Denied rule) outs more = refl
-
-pub none_departed : (policy : Policy) (flights : List InFlight) (more : List Out)
-    → departures (resending flights (agains_of policy flights) ++ more) ≡ departures more
-none_departed policy [] more = refl
-none_departed policy (sent ∷ flights) more =
-    departed_first sent (exit policy sent.publication.origin sent.publication.name) (resending flights (agains_of policy flights)) more
-    ∙ none_departed policy flights more
-
-unsent_first : (sent : InFlight) (o : Outcome) (outs more : List Out)
-    → sends_in ((sent_again sent o ++ outs) ++ more) ≡ sends_in (outs ++ more)
-unsent_first sent Allowed outs more = refl
-unsent_first sent (Denied rule) outs more = refl
-
-pub again_unsent : (policy : Policy) (flights : List InFlight) (more : List Out)
-    → sends_in (resending flights (agains_of policy flights) ++ more) ≡ sends_in more
-again_unsent policy [] more = refl
-again_unsent policy (sent ∷ flights) more =
-    unsent_first sent (exit policy sent.publication.origin sent.publication.name) (resending flights (agains_of policy flights)) more
-    ∙ again_unsent policy flights more
-
-wires_first : (sent : InFlight) (o : Outcome) (outs more : List Out) (rest : List (List ℕ))
-    → wires_in (outs ++ more) ≡ packets_of (agains (outs ++ more)) ++ rest
-    → wires_in ((sent_again sent o ++ outs) ++ more) ≡ packets_of (agains ((sent_again sent o ++ outs) ++ more)) ++ rest
-wires_first sent Allowed outs more rest is = rw is refl
-wires_first sent (Denied rule) outs more rest is = is
-
--- its packets are those behind its notes, and those that follow
-pub again_wires : (policy : Policy) (flights : List InFlight) (more : List Out) → agains more ≡ []
-    → let outs = resending flights (agains_of policy flights) ++ more in wires_in outs ≡ packets_of (agains outs) ++ wires_in more
-again_wires policy [] more none = rw none refl
-again_wires policy (sent ∷ flights) more none =
-    wires_first sent (exit policy sent.publication.origin sent.publication.name) (resending flights (agains_of policy flights)) more
-    (wires_in more) (again_wires policy flights more none)
+use Rattle.sng_history.proofs.UpstreamSpeaks.{next_is, exited_last, subscribe_last, unsubscribe_last}
+use Rattle.sng_history.proofs.LawLink.{Wires, subscribe_wires, unsubscribe_wires}
+use Rattle.sng_history.proofs.LawLinkOrder.{later_exits}
+use Rattle.sng_history.proofs.LawAgainBegins.{wires_again}
 
 -- ---- at a take
 
@@ -122,7 +44,8 @@ again_first : (p : Publication) (packet_id : Option ℕ) (o : Outcome) (outs : L
 again_first p packet_id Allowed outs = refl
 again_first p packet_id (Denied rule) outs = refl
 
-pub none_again : (policy : Policy) (link : Link) (items : List Item) → agains (leaving link items (exits_of policy items)) ≡ []
+pub none_again : (policy : Policy) (link : Link) (items : List Item)
+    → agains (leaving link items (exits_of policy items)) ≡ []
 none_again policy link [] = refl
 none_again policy link (item.Publish p ∷ items) =
     let o = exit policy p.origin p.name in
@@ -130,11 +53,13 @@ none_again policy link (item.Publish p ∷ items) =
     ∙ none_again policy (exited link p o) items
 none_again policy link (item.Subscribe text ∷ items) =
     let next = subscribe_left link text in
-    wires_again (subscribe_leaves link text) (leaving next items (exits_of policy items)) (subscribe_wires link text)
+    wires_again (subscribe_leaves link text) (leaving next items (exits_of policy items))
+    (subscribe_wires link text)
     ∙ none_again policy next items
 none_again policy link (item.Unsubscribe text ∷ items) =
     let next = unsubscribe_left link text in
-    wires_again (unsubscribe_leaves link text) (leaving next items (exits_of policy items)) (unsubscribe_wires link text)
+    wires_again (unsubscribe_leaves link text) (leaving next items (exits_of policy items))
+    (unsubscribe_wires link text)
     ∙ none_again policy next items
 none_again policy link (item.Acknowledge packet_id ∷ items) = none_again policy link items
 none_again policy link (item.Ping ∷ items) = none_again policy link items
@@ -149,12 +74,16 @@ record Leaves (link after : Link) (ids : List ℕ) : Type 0 where
   given : given_publishes (given_by link) ids ≡ given_by after
 
 gives : (link : Link) (p : Publication) (n m : ℕ) → n ≡ next_packet_id link → m ≡ n
-    → Leaves link (record link { last = n; in_flight = link.in_flight ++ record { packet_id = n; publication = p } ∷ [] }) (m ∷ [])
+    → Leaves link (record link {
+      last = n;
+      in_flight = link.in_flight ++ record { packet_id = n; publication = p } ∷ [];
+    }) (m ∷ [])
 gives link p n m is same = record {
   next = same ∙ is;
   given = ap (λ k. given_publishes (given_by link) (k ∷ [])) same
       ∙ ap (λ ids. record { in_flight = ids; wanted = link.wanted; last = n })
-      (sym (map-append (λ (sent : InFlight). sent.packet_id) link.in_flight (record { packet_id = n; publication = p } ∷ [])));
+      (sym (map-append (λ (sent : InFlight). sent.packet_id) link.in_flight
+      (record { packet_id = n; publication = p } ∷ [])));
 }
 
 gives_none : (link : Link) → Leaves link link []
@@ -167,86 +96,127 @@ gives_none link =
 
 -- the packet of a publish at this QoS
 abbrev pub departed : Link → Publication → Qos → Departure
-departed link p q = record { whom = who_of p.origin; name = p.name; outcome = Allowed; packet = Some (packet_of p (packet_id_by link q)) }
+departed link p q =
+    record {
+      whom = who_of p.origin;
+      name = p.name;
+      outcome = Allowed;
+      packet = Some (packet_of p (packet_id_by link q));
+    }
 
 -- and the packet ids that it gets
 abbrev pub ids_by : Link → Publication → Qos → List ℕ
 ids_by link p q =
-    ids_of (if is_at_least_once q then record { packet_id = id_shown p (departed link p q).packet; publication = p } ∷ [] else [])
+    ids_of (if is_at_least_once q
+    then record { packet_id = id_shown p (departed link p q).packet; publication = p } ∷ [] else [])
 
-sent_leaves : (link : Link) (p : Publication) (q : Qos) → link.last ≤ 65535 → Leaves link (sent_by link p q) (ids_by link p q)
+sent_leaves : (link : Link) (p : Publication) (q : Qos) → link.last ≤ 65535
+    → Leaves link (sent_by link p q) (ids_by link p q)
 sent_leaves link p AtMostOnce small = gives_none link
 sent_leaves link p AtLeastOnce small =
     let n = next_packet_id link in
     gives link p n (id_shown p (Some (packet_of p (Some n)))) refl (shown p n (next_is link small).small)
 
-packets_then : (held : List ℕ → Bool) (link after : Link) (p : Publication) (d : Departure) (items : List Item) (outs : List Out)
+packets_then : (held : List ℕ → Bool) (link after : Link) (p : Publication) (d : Departure)
+    (items : List Item) (outs : List Out)
     → Leaves link after (id_left p d)
     → PacketsFor held (given_by after) items (departures outs) (wires_in outs)
-    → PacketsFor held (given_by link) (item.Publish p ∷ items) (d ∷ departures outs) (listed d.packet ++ wires_in outs)
+    → PacketsFor held (given_by link) (item.Publish p ∷ items) (d ∷ departures outs)
+    (listed d.packet ++ wires_in outs)
 packets_then held link after p d items outs leaves rest = (
   leaves.next,
-  (wires_in outs, (refl, subst (λ given. PacketsFor held given items (departures outs) (wires_in outs)) (sym leaves.given) rest)),
+  (
+    wires_in outs,
+    (
+      refl,
+      subst (λ given. PacketsFor held given items (departures outs) (wires_in outs))
+          (sym leaves.given) rest,
+    ),
+  ),
 )
 
-packets_first : (held : List ℕ → Bool) (link : Link) (p : Publication) (items : List Item) (o : Outcome) (outs : List Out)
+packets_first : (held : List ℕ → Bool) (link : Link) (p : Publication) (items : List Item) (o : Outcome)
+    (outs : List Out)
     → link.last ≤ 65535
     → PacketsFor held (given_by (exited link p o)) items (departures outs) (wires_in outs)
-    → PacketsFor held (given_by link) (item.Publish p ∷ items) (departures (forwarded p (packet_id_by link p.qos) o ++ outs))
+    → PacketsFor held (given_by link) (item.Publish p ∷ items)
+    (departures (forwarded p (packet_id_by link p.qos) o ++ outs))
     (wires_in (forwarded p (packet_id_by link p.qos) o ++ outs))
 packets_first held link p items Allowed outs small rest =
-    packets_then held link (exited link p Allowed) p (departed link p p.qos) items outs (sent_leaves link p p.qos small) rest
+    packets_then held link (exited link p Allowed) p (departed link p p.qos) items outs
+    (sent_leaves link p p.qos small) rest
 packets_first held link p items (Denied rule) outs small rest =
-    packets_then held link link p (record { whom = who_of p.origin; name = p.name; outcome = Denied rule; packet = None }) items outs
+    packets_then held link link p
+    (record { whom = who_of p.origin; name = p.name; outcome = Denied rule; packet = None }) items outs
     (gives_none link) rest
 
-subscribe_first : (held : List ℕ → Bool) (link : Link) (text : List ℕ) (items : List Item) (outs : List Out) (b : Bool)
+subscribe_first : (held : List ℕ → Bool) (link : Link) (text : List ℕ) (items : List Item) (outs : List Out)
+    (b : Bool)
     → wants link.wanted text ≡ b → held text ≡ b
     → PacketsFor held (given_by (subscribe_left link text)) items (departures outs) (wires_in outs)
-    → PacketsFor held (given_by link) (item.Subscribe text ∷ items) (departures (subscribe_leaves link text ++ outs))
+    → PacketsFor held (given_by link) (item.Subscribe text ∷ items)
+    (departures (subscribe_leaves link text ++ outs))
     (wires_in (subscribe_leaves link text ++ outs))
 subscribe_first held link text items outs true is same = rw (is, same) (λ rest. (wires_in outs, (refl, rest)))
-subscribe_first held link text items outs false is same = rw (is, same) (λ rest. (wires_in outs, (refl, rest)))
+subscribe_first held link text items outs false is same =
+    rw (is, same) (λ rest. (wires_in outs, (refl, rest)))
 
-unsubscribe_first : (held : List ℕ → Bool) (link : Link) (text : List ℕ) (items : List Item) (outs : List Out) (b : Bool)
+unsubscribe_first : (held : List ℕ → Bool) (link : Link) (text : List ℕ) (items : List Item) (outs : List Out)
+    (b : Bool)
     → wants link.wanted text ≡ b → held text ≡ b
     → PacketsFor held (given_by (unsubscribe_left link text)) items (departures outs) (wires_in outs)
-    → PacketsFor held (given_by link) (item.Unsubscribe text ∷ items) (departures (unsubscribe_leaves link text ++ outs))
+    → PacketsFor held (given_by link) (item.Unsubscribe text ∷ items)
+    (departures (unsubscribe_leaves link text ++ outs))
     (wires_in (unsubscribe_leaves link text ++ outs))
-unsubscribe_first held link text items outs true is same = rw (is, same) (λ rest. (wires_in outs, (refl, rest)))
-unsubscribe_first held link text items outs false is same = rw (is, same) (λ rest. (wires_in outs, (refl, rest)))
+unsubscribe_first held link text items outs true is same =
+    rw (is, same) (λ rest. (wires_in outs, (refl, rest)))
+unsubscribe_first held link text items outs false is same =
+    rw (is, same) (λ rest. (wires_in outs, (refl, rest)))
 
 -- its packets are those behind its notes, and the others in their places, each with the next packet id
-pub take_wires : (held : List ℕ → Bool) (policy : Policy) (link : Link) (items : List Item) → link.last ≤ 65535
+pub take_wires : (held : List ℕ → Bool) (policy : Policy) (link : Link) (items : List Item)
+    → link.last ≤ 65535
     → ((text : List ℕ) → wants link.wanted text ≡ held text)
-    → let outs = leaving link items (exits_of policy items) in PacketsFor held (given_by link) items (departures outs) (wires_in outs)
+    → let outs =
+    leaving link items (exits_of policy items) in
+    PacketsFor held (given_by link) items (departures outs) (wires_in outs)
 take_wires held policy link [] small same = refl
 take_wires held policy link (item.Publish p ∷ items) small same =
     let o = exit policy p.origin p.name in
     let next = exited link p o in
     packets_first held link p items o (leaving next items (exits_of policy items)) small
     (take_wires held policy next items (exited_last link p o small)
-    (λ text. same_wants next.wanted link.wanted (left_same link (item.Publish p ∷ []) (o ∷ [])) text ∙ same text))
+    (λ text. same_wants next.wanted link.wanted (left_same link (item.Publish p ∷ []) (o ∷ [])) text
+    ∙ same text))
 take_wires held policy link (item.Subscribe text ∷ items) small same =
     let next = subscribe_left link text in
-    subscribe_first held link text items (leaving next items (exits_of policy items)) (wants link.wanted text) refl (sym (same text))
+    subscribe_first held link text items (leaving next items (exits_of policy items))
+    (wants link.wanted text) refl (sym (same text))
     (take_wires held policy next items (subscribe_last link text (wants link.wanted text) refl small)
     (λ one. same_wants next.wanted link.wanted (left_same link (item.Subscribe text ∷ []) []) one ∙ same one))
 take_wires held policy link (item.Unsubscribe text ∷ items) small same =
     let next = unsubscribe_left link text in
-    unsubscribe_first held link text items (leaving next items (exits_of policy items)) (wants link.wanted text) refl (sym (same text))
+    unsubscribe_first held link text items (leaving next items (exits_of policy items))
+    (wants link.wanted text) refl (sym (same text))
     (take_wires held policy next items (unsubscribe_last link text (wants link.wanted text) refl small)
-    (λ one. same_wants next.wanted link.wanted (left_same link (item.Unsubscribe text ∷ []) []) one ∙ same one))
-take_wires held policy link (item.Acknowledge packet_id ∷ items) small same =
-    (wires_in (leaving link items (exits_of policy items)), (refl, take_wires held policy link items small same))
-take_wires held policy link (item.Ping ∷ items) small same =
-    (wires_in (leaving link items (exits_of policy items)), (refl, take_wires held policy link items small same))
+    (λ one. same_wants next.wanted link.wanted (left_same link (item.Unsubscribe text ∷ []) []) one
+    ∙ same one))
+take_wires held policy link (item.Acknowledge packet_id ∷ items) small same = (
+  wires_in (leaving link items (exits_of policy items)),
+  (refl, take_wires held policy link items small same),
+)
+take_wires held policy link (item.Ping ∷ items) small same = (
+  wires_in (leaving link items (exits_of policy items)),
+  (refl, take_wires held policy link items small same),
+)
 
 -- and those that a new connection begins with
-pub all_subscribe : (link : Link) (texts : List (List ℕ)) → wires_in (subscribing link texts) ≡ subscribes_with (given_by link) texts
+pub all_subscribe : (link : Link) (texts : List (List ℕ))
+    → wires_in (subscribing link texts) ≡ subscribes_with (given_by link) texts
 all_subscribe link [] = refl
 all_subscribe link (text ∷ texts) =
-    ap (λ more. subscribe_with (next_packet_id link) text ∷ more) (all_subscribe (subscribe_sent link text) texts)
+    ap (λ more. subscribe_with (next_packet_id link) text ∷ more)
+    (all_subscribe (subscribe_sent link text) texts)
 
 pub wires_none : (xs : List Out) → Wires xs → agains xs ≡ []
 wires_none [] are = refl
@@ -262,6 +232,7 @@ again_note _ outs none = refl
 
 pub no_agains : (outs : List Out) → exits_in outs ≡ [] → agains outs ≡ []
 no_agains [] none = refl
-no_agains (Note said ∷ outs) none = rw (again_note said outs none) (no_agains outs (later_exits said outs none))
+no_agains (Note said ∷ outs) none =
+    rw (again_note said outs none) (no_agains outs (later_exits said outs none))
 no_agains (Send to datagram ∷ outs) none = no_agains outs none
 no_agains (Wire sent ∷ outs) none = no_agains outs none

@@ -16,12 +16,15 @@ use Rattle.sng_history.proofs.LawTicks.{tick_row}
 use Rattle.sng_history.proofs.LawLost.{row_lost}
 
 -- what the step lets out with a tick
-tick_outs : (h : List Row) → Lawful opening h → (came : ℕ) → outs_of (state_of opening h) (Tick came) ≡ tick_answer h came
+tick_outs : (h : List Row) → Lawful opening h → (came : ℕ)
+    → outs_of (state_of opening h) (Tick came) ≡ tick_answer h came
 tick_outs h l came = tick_row h (state_of opening h) came (stands h l) (rest_shown h l) (front_announced h l)
 
-pub tick_law : (h : List Row) (row : Row) (came : ℕ) → Lawful opening (row ∷ h) → row.event ≡ Tick came → row.outs ≡ tick_answer h came
+pub tick_law : (h : List Row) (row : Row) (came : ℕ) → Lawful opening (row ∷ h) → row.event ≡ Tick came
+    → row.outs ≡ tick_answer h came
 tick_law h row came l is =
-    exact_by (state_of opening h) (cause_of row.event) row.outs l.1 ∙ (ap (outs_of (state_of opening h)) is ∙ tick_outs h l.0 came)
+    exact_by (state_of opening h) (cause_of row.event) row.outs l.1
+    ∙ (ap (outs_of (state_of opening h)) is ∙ tick_outs h l.0 came)
 
 pub lost_law : (h : List Row) → Lawful opening h → (id : List ℕ) → LostExactly id h
 lost_law [] l id = tt

@@ -1,5 +1,5 @@
--- What the policy says to a SUBSCRIBE that names a filter: it is denied with a name that shows the gap, or each name that the filter matches
--- may be received.
+-- What the policy says to a SUBSCRIBE that names a filter: it is denied with a name that shows the gap, or
+-- each name that the filter matches may be received.
 use Rattle.std.proofs.Common.{◌≡◌, ◌⊎◌, inl, inr, ℕ, Bool, true, false, List, ◌∷◌, ◌++◌, refl, ap, ◌∙◌}
 use Rattle.std.specs.Prelude.{◌&&◌, not, Option, Some, None}
 use Rattle.sng_text.specs.Texts.{is_filter}
@@ -24,22 +24,27 @@ use Rattle.sng_history.specs.ViewsClients.{phase_of}
 use Rattle.sng_history.specs.Verdicts.{and_then}
 use Rattle.sng_history.specs.LawsRules.{Rule, judged}
 use Rattle.sng_history.specs.LawsAnswers.{is_active, or_empty}
-use Rattle.sng_history.specs.LawsSubscriptions.{filter_meant, form_rules, gap_rule, room_rules, subscribe_rules, CoveredExactly, SubscribesExactly}
+use Rattle.sng_history.specs.LawsSubscriptions.{filter_meant, form_rules, gap_rule, room_rules}
+use Rattle.sng_history.specs.LawsSubscriptions.{subscribe_rules, CoveredExactly, SubscribesExactly}
 use Rattle.sng_history.proofs.LawForms.{judged_both, meant_form, meant_filter}
 
 -- what the grant of a client's scope is
-scope_grant : (policy : Policy) (id text : List ℕ) (scope : Option (List Pair)) → scope_of policy.clients id ≡ scope → lists policy id ≡ true
-    → ((gap : List ℕ) × (subscribe_grant policy id text ≡ grant.Uncovered gap)) ⊎ (subscribe_grant policy id text ≡ grant.Allowed)
+scope_grant : (policy : Policy) (id text : List ℕ) (scope : Option (List Pair))
+    → scope_of policy.clients id ≡ scope → lists policy id ≡ true
+    → ((gap : List ℕ) × (subscribe_grant policy id text ≡ grant.Uncovered gap))
+    ⊎ (subscribe_grant policy id text ≡ grant.Allowed)
 scope_grant policy id text None is listed = absurd (let e = rw is at listed in cc)
 scope_grant policy id text (Some pairs) is listed = by_cover (cover_of text (subscribed pairs)) (rw is refl)
   where
     by_cover : (answer : Cover) → subscribe_grant policy id text ≡ grant_of_cover answer
-        → ((gap : List ℕ) × (subscribe_grant policy id text ≡ grant.Uncovered gap)) ⊎ (subscribe_grant policy id text ≡ grant.Allowed)
+        → ((gap : List ℕ) × (subscribe_grant policy id text ≡ grant.Uncovered gap))
+        ⊎ (subscribe_grant policy id text ≡ grant.Allowed)
     by_cover cover.Included same = inr same
     by_cover (cover.Uncovered gap) same = inl (gap, same)
 
 -- the outcome of a SUBSCRIBE that may be asked and is well formed
-outcome_of : (a l : Bool) (form more : List Rule) (turn unlisted : Denial) → a ≡ true → l ≡ true → judged form ≡ Allowed
+outcome_of : (a l : Bool) (form more : List Rule) (turn unlisted : Denial) → a ≡ true → l ≡ true
+    → judged form ≡ Allowed
     → judged ((not a, turn) ∷ (not l, unlisted) ∷ (form ++ more)) ≡ judged more
 outcome_of a l form more turn unlisted active listed may =
     rw (active, listed) (judged_both form more ∙ ap (λ o. and_then o (judged more)) may)
@@ -56,17 +61,31 @@ covered_exactly h id r text may meant have =
     let more = gap_rule policy id text ∷ room_rules h id r.flags.id_type text in
     let same : or_empty (filter_meant policy r.flags.id_type r.topic) ≡ text = ap or_empty meant in
     let outcome : judged (subscribe_rules h id r) ≡ judged more =
-    ap (λ t. judged ((not (is_active (phase_of id h)), OutOfTurn) ∷ (not (lists policy id), NoScope id) ∷ (form_rules policy r ++ gap_rule policy id t ∷ room_rules h id r.flags.id_type t))) same
-    ∙ outcome_of (is_active (phase_of id h)) (lists policy id) (form_rules policy r) more OutOfTurn (NoScope id) both.0 both.1 (meant_form policy r text meant)
+    ap (λ t. judged ((not (is_active (phase_of id h)), OutOfTurn) ∷ (not (lists policy id), NoScope id)
+    ∷ (form_rules policy r ++ gap_rule policy id t ∷ room_rules h id r.flags.id_type t))) same
+    ∙ outcome_of (is_active (phase_of id h)) (lists policy id) (form_rules policy r) more OutOfTurn
+    (NoScope id) both.0 both.1 (meant_form policy r text meant)
     in
-    let joins : JoinsReceiving policy id text (subscribe_grant policy id text) = subscribing_is_receiving policy id text is have in
+    let joins : JoinsReceiving policy id text (subscribe_grant policy id text) =
+    subscribing_is_receiving policy id text is have in
     by_grant outcome joins (scope_grant policy id text (scope_of policy.clients id) refl both.1)
   where
-    by_grant : (let more : List Rule = gap_rule (policy_in_force h) id text ∷ room_rules h id r.flags.id_type text in judged (subscribe_rules h id r) ≡ judged more)
+    by_grant : (let more : List Rule =
+        gap_rule (policy_in_force h) id text ∷ room_rules h id r.flags.id_type text in
+        judged (subscribe_rules h id r) ≡ judged more)
         → JoinsReceiving (policy_in_force h) id text (subscribe_grant (policy_in_force h) id text)
-        → (((gap : List ℕ) × (subscribe_grant (policy_in_force h) id text ≡ grant.Uncovered gap)) ⊎ (subscribe_grant (policy_in_force h) id text ≡ grant.Allowed))
+        → (((gap : List ℕ) × (subscribe_grant (policy_in_force h) id text ≡ grant.Uncovered gap))
+        ⊎ (subscribe_grant (policy_in_force h) id text ≡ grant.Allowed))
         → CoveredExactly h id r text
     by_grant outcome joins (inl gap) =
         let shown = joins.uncovered gap.0 gap.1 in
-        inl (gap.0, record { denied = outcome ∙ rw gap.1 refl; name = shown.0; matched = shown.1; missing = shown.2 })
+        inl (
+          gap.0,
+          record {
+            denied = outcome ∙ rw gap.1 refl;
+            name = shown.0;
+            matched = shown.1;
+            missing = shown.2;
+          },
+        )
     by_grant outcome joins (inr allowed) = inr (joins.allowed allowed, outcome ∙ rw allowed refl)

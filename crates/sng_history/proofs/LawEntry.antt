@@ -1,251 +1,51 @@
--- The verdict on a CONNECT by the law's table, and what a row lets out with it.
-use Rattle.std.proofs.Common.{◌≡◌, ℕ, Bool, true, false, List, [], ◌∷◌, ◌++◌, map, refl, ap, sym, ◌∙◌, subst, if◌then◌else◌, length, ◌≤◌}
-use Rattle.std.specs.Prelude.{◌&&◌, ◌||◌, ◌==◌, not, nat_lt, filter, drop}
+-- What waits for the client that connects, and what a row with a CONNECT lets out.
+use Rattle.std.proofs.Common.{◌≡◌, ℕ, Bool, true, false, List, [], ◌∷◌, ◌++◌, map, refl, ap, sym, ◌∙◌, subst}
+use Rattle.std.proofs.Common.{if◌then◌else◌, ◌≤◌}
+use Rattle.std.specs.Prelude.{◌||◌, drop}
 use Rattle.std.specs.List.{flat_map}
 use Rattle.std.specs.Str.{bytes_eq}
 use Rattle.std.proofs.lemmas.List.{append-nil}
-use Rattle.sng_fan.specs.Subscriptions.{stands}
-use Rattle.sng_policy.specs.Grants.{lists}
-use Rattle.sng_states.specs.States.{has_session}
 use Rattle.sng_frames.specs.declared.messages.connect.Connect.{Connect}
 use Rattle.sng_book.specs.Denials.{is_allowed}
 use Rattle.sng_book.specs.declared.address.Address.{Address}
-use Rattle.sng_book.specs.declared.decision.Decision.{Decision}
 use Rattle.sng_book.specs.declared.decision.Decision.TheVariants as note
-use Rattle.sng_book.specs.declared.outcome.Place.TheVariants as place
-use Rattle.sng_book.specs.declared.outcome.Denial.TheVariants.{NotSupported, NoScope, Full, Gone}
+use Rattle.sng_book.specs.declared.outcome.Denial.TheVariants.{Gone}
 use Rattle.sng_book.specs.declared.outcome.Outcome.{Outcome}
 use Rattle.sng_book.specs.declared.outcome.Outcome.TheVariants.{Allowed, Denied}
 use Rattle.sng_book.specs.declared.out.Out.{Out}
 use Rattle.sng_book.specs.declared.out.Out.TheVariants.{Note}
 use Rattle.sng_book.specs.declared.row.Row.{Row}
 use Rattle.sng_history.specs.Causes.{ByConnect}
-use Rattle.sng_history.specs.Clients.{Around, Client, same_address, is_here, cleaned, opened, let_in, gone, notes_by, is_drained}
-use Rattle.sng_history.specs.State.{State, around, is_known}
-use Rattle.sng_history.specs.Verdicts.{and_then, entry}
+use Rattle.sng_history.specs.Clients.{Client, is_here, cleaned, opened, let_in}
+use Rattle.sng_history.specs.State.{State, around}
+use Rattle.sng_history.specs.Verdicts.{entry}
 use Rattle.sng_history.specs.Answers as answers
-use Rattle.sng_history.specs.Answers.{dismissed, connack}
+use Rattle.sng_history.specs.Answers.{connack}
 use Rattle.sng_history.specs.Outgoing.{handed_over, all_gone}
 use Rattle.sng_history.specs.Whole as whole
-use Rattle.sng_history.specs.Whole.{spell, drained_outs, drops, moved, beside, entering_part, entry_outs}
-use Rattle.sng_history.specs.Steps.{notes_for, client_next}
-use Rattle.sng_history.specs.Lawful.{entering_notes, fixed_for}
-use Rattle.sng_history.specs.Entering.{entering, served, serving}
-use Rattle.sng_history.specs.Standing.{drop_notes}
-use Rattle.sng_history.specs.Good.{Each, Away, Distinct, AtRest}
-use Rattle.sng_history.specs.ViewsClients.{phase_of, address_of, is_among, accepted}
+use Rattle.sng_history.specs.Whole.{spell, entering_part, entry_outs}
+use Rattle.sng_history.specs.Steps.{notes_for}
+use Rattle.sng_history.specs.Lawful.{entering_notes}
+use Rattle.sng_history.specs.Good.{Each, Away, Distinct}
+use Rattle.sng_history.specs.ViewsClients.{is_among, accepted}
 use Rattle.sng_history.specs.ViewsHanding.{waits_for, progress_of}
 use Rattle.sng_history.specs.LawsState.{ClientShown}
-use Rattle.sng_history.specs.LawsRules.{judged}
-use Rattle.sng_history.specs.LawsEnds.{stays_by, clean_answer}
 use Rattle.sng_history.specs.LawsHanding.{mailing, handed_out, gone_answer, around_welcome}
-use Rattle.sng_history.specs.LawsAnswers.{connect_rules, bye_at, old_place, others_leave, entry_answer, connect_answer}
-use Rattle.sng_history.proofs.Own.{same_means, flat_same, each_with}
-use Rattle.sng_history.proofs.Hands.{served_steady, gone_stays}
-use Rattle.sng_history.proofs.Kept.{client_id}
-use Rattle.sng_history.proofs.Entries.{entering_next}
-use Rattle.sng_history.proofs.SeenClients.{heard_if}
-use Rattle.sng_history.proofs.SeenState.{ids_of, known_among, StateShown, Stands}
-use Rattle.sng_history.proofs.LawHere.{here, those_kept, settled}
-use Rattle.sng_history.proofs.LawEnds.{Kept, drops_shown}
-use Rattle.sng_history.proofs.LawTurns.{last_within, handed_shown}
-pub use Rattle.sng_history.proofs.LawMessages.{code_same}
-use Rattle.sng_history.proofs.LawMessages.{gone_spelled}
-
--- ---- the verdict
-
-ruled : (id : List ℕ) (p l k r : Bool)
-    → and_then (if p then Allowed else Denied NotSupported) (and_then (if l then Allowed else Denied (NoScope id)) (if k || r then Allowed else Denied (Full place.Clients)))
-    ≡ judged ((not p, NotSupported) ∷ (not l, NoScope id) ∷ (not k && not r, Full place.Clients) ∷ [])
-ruled id false l k r = refl
-ruled id true false k r = refl
-ruled id true true true r = refl
-ruled id true true false true = refl
-ruled id true true false false = refl
-
-length_ids : (xs : List Client) → length (ids_of xs) ≡ length xs
-length_ids [] = refl
-length_ids (x ∷ xs) = rw (length_ids xs) refl
-
-pub entry_ruled : (h : List Row) (s : State) (c : Connect) → StateShown h s → entry s c ≡ judged (connect_rules h c)
-entry_ruled h s c shown =
-    rw (sym shown.policy, sym shown.order, known_among c.client_id s.clients, length_ids s.clients)
-    (ruled c.client_id (c.protocol_id == 1) (lists s.policy c.client_id) (is_known c.client_id s.clients) (nat_lt (length s.clients) 256))
-
--- ---- another client at the address leaves
-
--- it leaves, and what waits for it is gone
-abbrev leaves : List Row → List ℕ → List Out
-leaves h other = Note (note.Left other) ∷ gone_answer h other
-
-gone_by : (h : List Row) (s : State) (from : Address) (c : Connect) (x : Client) → ClientShown h x
-    → spell (around s (ByConnect from c)) [] (heard_if true s.clock x) (note.Left x.id ∷ all_gone x.id x.buffer.waiting) ≡ leaves h x.id
-gone_by h s from c x shown =
-    ap (λ outs. Note (note.Left x.id) ∷ outs)
-    (gone_spelled (around s (ByConnect from c)) [] x.id x.buffer.waiting (gone (heard_if true s.clock x)))
-    ∙ ap (λ waiting. Note (note.Left x.id) ∷ map (λ m. Note (note.Hand x.id m.name (Denied Gone))) waiting) shown.waiting
-
-other_by : (h : List Row) (s : State) (from : Address) (c : Connect) (x : Client) (own here : Bool) (o : Outcome) (enters : List Decision)
-    → o ≡ Allowed → ClientShown h x → is_drained x ≡ false
-    → let a = around s (ByConnect from c) in
-    let notes =
-    if own then note.Connect x.id o ∷ enters else
-    (if is_allowed o then (if here then note.Left x.id ∷ all_gone x.id x.buffer.waiting else []) else []) in
-    (if own
-    then []
-    else (if here then [] else []) ++
-    (spell a [] (heard_if here s.clock x) notes ++ drained_outs (notes_by a notes (heard_if here s.clock x))))
-    ≡ (if not own then (if here then leaves h x.id else []) else [])
-other_by h s from c x true here o enters is shown busy = refl
-other_by h s from c x false true Allowed enters is shown busy =
-    let a = around s (ByConnect from c) in
-    let y = heard_if true s.clock x in
-    let outs = spell a [] y (note.Left x.id ∷ all_gone x.id x.buffer.waiting) in
-    ap (λ z. outs ++ drained_outs z) (gone_stays a x.id x.buffer.waiting (gone y) refl)
-    ∙ (append-nil outs ∙ gone_by h s from c x shown)
-other_by h s from c x false false Allowed enters is shown busy = settled [] x busy
-other_by h s from c x false here (Denied rule) enters is shown busy = absurd (let e = is in cc)
-
-other_part : (h : List Row) (s : State) (from : Address) (c : Connect) (x : Client) → entry s c ≡ Allowed → ClientShown h x
-    → is_drained x ≡ false
-    → beside (around s (ByConnect from c)) (notes_for s (ByConnect from c)) c.client_id x
-    ≡ (if not (bytes_eq c.client_id x.id) then (if is_here x from then leaves h x.id else []) else [])
-other_part h s from c x is shown busy =
-    other_by h s from c x (bytes_eq c.client_id x.id) (is_here x from) (entry s c) (entering_notes s from c x (entry s c)) is shown busy
-
-one_of : (h : List Row) (id : List ℕ) (x : Client) (own here : Bool) (xs : List Client) → bytes_eq id x.id ≡ own
-    → (if not own then (if here then leaves h x.id else []) else []) ++ flat_map (leaves h) (filter (λ other. not (bytes_eq id other)) (ids_of xs))
-    ≡ flat_map (leaves h) (filter (λ other. not (bytes_eq id other)) (ids_of (if here then x ∷ xs else xs)))
-one_of h id x true true xs is = rw is refl
-one_of h id x true false xs is = refl
-one_of h id x false true xs is = rw is refl
-one_of h id x false false xs is = refl
-
-others_by : (h : List Row) (from : Address) (id : List ℕ) (xs : List Client)
-    → flat_map (λ x. if not (bytes_eq id x.id) then (if is_here x from then leaves h x.id else []) else []) xs
-    ≡ flat_map (leaves h) (filter (λ other. not (bytes_eq id other)) (ids_of (here from xs)))
-others_by h from id [] = refl
-others_by h from id (x ∷ xs) =
-    ap (λ outs. (if not (bytes_eq id x.id) then (if is_here x from then leaves h x.id else []) else []) ++ outs) (others_by h from id xs)
-    ∙ one_of h id x (bytes_eq id x.id) (is_here x from) (here from xs) refl
-
-others_row : (h : List Row) (s : State) (from : Address) (c : Connect) → Stands h s → entry s c ≡ Allowed
-    → flat_map (beside (around s (ByConnect from c)) (notes_for s (ByConnect from c)) c.client_id) s.clients
-    ≡ others_leave h from c.client_id
-others_row h s from c st is =
-    let id = c.client_id in
-    let f : Client → List Out = beside (around s (ByConnect from c)) (notes_for s (ByConnect from c)) id in
-    let g : Client → List Out = λ x. if not (bytes_eq id x.id) then (if is_here x from then leaves h x.id else []) else [] in
-    flat_same f g s.clients
-    (each_with (ClientShown h) AtRest (λ x. f x ≡ g x) s.clients
-    (λ x known rest. other_part h s from c x is known rest.busy) st.shown.clients st.good.rest)
-    ∙ (others_by h from id s.clients
-    ∙ ap (λ ids. flat_map (leaves h) (filter (λ other. not (bytes_eq id other)) ids)) (sym (those_kept h s from st.shown)))
-
--- ---- where the client was
-
-nowhere : (from : Address) (id : List ℕ) (xs : List Client) → Away id xs → flat_map (moved from id) xs ≡ []
-nowhere from id [] away = refl
-nowhere from id (x ∷ xs) away = rw (away.0, nowhere from id xs away.1) refl
-
-only_if : (b : Bool) (to : Address) → (if b then dismissed to ∷ [] else []) ++ [] ≡ (if b then dismissed to ∷ [] else [])
-only_if true to = refl
-only_if false to = refl
-
-own_place : (h : List Row) (from : Address) (id : List ℕ) (x : Client) → ClientShown h x → id ≡ x.id
-    → (if has_session x.phase && not (same_address x.address from) then dismissed x.address ∷ [] else [])
-    ≡ bye_at (phase_of id h) (address_of id h) from
-own_place h from id x shown is = rw (is, shown.phase, shown.address) refl
-
-abbrev place_of : List Row → Address → List ℕ → List Client → List Out
-place_of h from id xs = if is_among id (ids_of xs) then bye_at (phase_of id h) (address_of id h) from else []
-
-place_by : (h : List Row) (from : Address) (id : List ℕ) (x : Client) (xs : List Client) (own : Bool) → bytes_eq id x.id ≡ own
-    → ClientShown h x → Away x.id xs
-    → flat_map (moved from id) xs ≡ place_of h from id xs
-    → (if own then (if has_session x.phase && not (same_address x.address from) then dismissed x.address ∷ [] else []) else []) ++ flat_map (moved from id) xs
-    ≡ (if own || is_among id (ids_of xs) then bye_at (phase_of id h) (address_of id h) from else [])
-place_by h from id x xs true is shown away rest =
-    let same : id ≡ x.id = same_means id x.id is in
-    let away_from : bytes_eq id x.id ≡ true = is in
-    ap (λ outs. (if has_session x.phase && not (same_address x.address from) then dismissed x.address ∷ [] else []) ++ outs)
-    (nowhere from id xs (subst (λ i. Away i xs) (sym same) away))
-    ∙ (only_if (has_session x.phase && not (same_address x.address from)) x.address ∙ own_place h from id x shown same)
-place_by h from id x xs false is shown away rest = rest
-
-place_row : (h : List Row) (from : Address) (id : List ℕ) (xs : List Client) → Each (ClientShown h) xs → Distinct xs
-    → flat_map (moved from id) xs ≡ place_of h from id xs
-place_row h from id [] shown apart = refl
-place_row h from id (x ∷ xs) shown apart =
-    place_by h from id x xs (bytes_eq id x.id) refl shown.0 apart.0 (place_row h from id xs shown.1 apart.1)
-
-old_row : (h : List Row) (s : State) (from : Address) (id : List ℕ) → Stands h s → flat_map (moved from id) s.clients ≡ old_place h from id
-old_row h s from id st =
-    place_row h from id s.clients st.shown.clients st.good.apart
-    ∙ ap (λ ids. if is_among id ids then bye_at (phase_of id h) (address_of id h) from else []) st.shown.order
-
--- ---- what a clean one ends
-
-all_of : (b : Bool) → b ≡ (b && true)
-all_of true = refl
-all_of false = refl
-
-either : (b : Bool) → (b && false) ≡ false
-either true = refl
-either false = refl
-
--- the client where it is let in, but for what begins and ends then
-abbrev coming : ℕ → Address → Connect → Client → Client
-coming clock from c x = record x { address = from; ids = []; duration = c.duration; heard = clock }
-
-opened_filters : (will : Bool) (y : Client) → (opened will y).filters ≡ y.filters
-opened_filters true y = refl
-opened_filters false y = refl
-
-kept_by : (h : List Row) (s : State) (from : Address) (c : Connect) (x : Client) (clean own here : Bool) → c.flags.clean ≡ clean
-    → bytes_eq c.client_id x.id ≡ own → is_here x from ≡ here
-    → (text : List ℕ) → stands (entering s.clock from c x).filters text ≡ (stands x.filters text && stays_by c x.id text)
-kept_by h s from c x true true here cleans same at text =
-    rw (same, cleans, opened_filters c.flags.will (cleaned true (coming s.clock from c x))) (nothing (stands x.filters text))
-  where
-    nothing : (b : Bool) → false ≡ (b && false)
-    nothing true = refl
-    nothing false = refl
-kept_by h s from c x false true here cleans same at text =
-    rw (same, cleans, opened_filters c.flags.will (cleaned false (coming s.clock from c x))) (all_of (stands x.filters text))
-kept_by h s from c x clean false true cleans same at text = rw (same, at, either c.flags.clean) (all_of (stands x.filters text))
-kept_by h s from c x clean false false cleans same at text = rw (same, at, either c.flags.clean) (all_of (stands x.filters text))
-
--- who is served keeps the filters that stand for it
-serving_filters : (a : Around) (id : List ℕ) (y : Client) → (serving a id y).filters ≡ y.filters
-serving_filters a id y = served_if (bytes_eq id y.id)
-  where
-    served_if : (b : Bool) → (let z : Client = if b then served a y else y in z).filters ≡ y.filters
-    served_if true = (served_steady a y).filters
-    served_if false = refl
-
-kept_entry : (h : List Row) (s : State) (from : Address) (c : Connect) (x : Client) → entry s c ≡ Allowed → ClientShown h x
-    → is_drained x ≡ false → Kept h (stays_by c) x (client_next s (ByConnect from c) x)
-kept_entry h s from c x is shown busy = record {
-  id = client_id (around s (ByConnect from c)) (fixed_for s (ByConnect from c) x) x;
-  was = shown.filters;
-  now = λ text.
-      let y = entering s.clock from c x in
-      ap (λ z. stands z.filters text) (entering_next s from c x busy is)
-      ∙ (ap (λ held. stands held text) (serving_filters (around s (ByConnect from c)) c.client_id y)
-      ∙ kept_by h s from c x c.flags.clean (bytes_eq c.client_id x.id) (is_here x from) refl refl refl text);
-}
-
-clean_row : (h : List Row) (s : State) (from : Address) (c : Connect) → Stands h s → entry s c ≡ Allowed
-    → drop_notes (drops s (ByConnect from c) (notes_for s (ByConnect from c))) ≡ clean_answer h c
-clean_row h s from c st is =
-    drops_shown h s (ByConnect from c) (stays_by c) st.shown
-    (each_with (ClientShown h) AtRest (λ x. Kept h (stays_by c) x (client_next s (ByConnect from c) x)) s.clients
-    (λ x known rest. kept_entry h s from c x is known rest.busy) st.shown.clients st.good.rest)
+use Rattle.sng_history.specs.LawsAnswers.{entry_answer}
+use Rattle.sng_history.specs.LawsAnswers.{connect_answer}
+use Rattle.sng_history.proofs.Own.{same_means}
+use Rattle.sng_history.proofs.SeenOrder.{ids_of, StateShown}
+use Rattle.sng_history.proofs.SeenState.{Stands}
+use Rattle.sng_history.proofs.LawTurnFrames.{last_within}
+use Rattle.sng_history.proofs.LawTurns.{handed_shown}
+use Rattle.sng_history.proofs.LawUnsupported.{code_same}
+use Rattle.sng_history.proofs.LawDisconnects.{gone_spelled}
+use Rattle.sng_history.proofs.LawEntryEnds.{entry_ruled, others_row, old_row, coming, clean_row}
 
 -- ---- what waits for the one that connects
 
--- who is let in is told no id yet, and takes what waits where its session is not clean, and it states no will first
+-- who is let in is told no id yet, and takes what waits where its session is not clean, and it states no will
+-- first
 abbrev welcome : List Row → Address → List ℕ → List Out
 welcome h from id = handed_out (record (mailing h id from) { told = []; known = [] }) (waits_for id h)
 
@@ -254,25 +54,31 @@ own_answer h from id true will = gone_answer h id
 own_answer h from id false true = []
 own_answer h from id false false = welcome h from id
 
-served_by : (h : List Row) (s : State) (from : Address) (c : Connect) (x : Client) (clean will : Bool) → StateShown h s → ClientShown h x
+served_by : (h : List Row) (s : State) (from : Address) (c : Connect) (x : Client) (clean will : Bool)
+    → StateShown h s → ClientShown h x
     → (let y = opened will (cleaned clean (coming s.clock from c x)) in
-    spell (around s (ByConnect from c)) [] y (if clean then all_gone x.id x.buffer.waiting else handed_over s.policy y))
+    spell (around s (ByConnect from c)) [] y
+    (if clean then all_gone x.id x.buffer.waiting else handed_over s.policy y))
     ≡ own_answer h from x.id clean will
 served_by h s from c x true will state shown =
-    gone_spelled (around s (ByConnect from c)) [] x.id x.buffer.waiting (opened will (cleaned true (coming s.clock from c x)))
+    gone_spelled (around s (ByConnect from c)) [] x.id x.buffer.waiting
+    (opened will (cleaned true (coming s.clock from c x)))
     ∙ ap (λ waiting. map (λ m. Note (note.Hand x.id m.name (Denied Gone))) waiting) shown.waiting
 served_by h s from c x false true state shown = refl
 served_by h s from c x false false state shown =
     let within : x.number ≤ 65535 = (rw shown.number (last_within (progress_of x.id h).numbered)) in
-    handed_shown (around s (ByConnect from c)) [] (opened false (cleaned false (coming s.clock from c x))) [] [] refl refl within
+    handed_shown (around s (ByConnect from c)) []
+    (opened false (cleaned false (coming s.clock from c x))) [] [] refl refl within
     ∙ (rw (shown.number, shown.waiting, state.policy) refl)
 
-entering_by : (h : List Row) (s : State) (from : Address) (c : Connect) (x : Client) (own : Bool) (o : Outcome)
+entering_by : (h : List Row) (s : State) (from : Address) (c : Connect) (x : Client) (own : Bool)
+    (o : Outcome)
     → bytes_eq c.client_id x.id ≡ own → o ≡ Allowed → StateShown h s → ClientShown h x
     → (if own
     then spell (around s (ByConnect from c)) [] (let_in s.clock from c x)
     (drop 1 (if own then note.Connect x.id o ∷ entering_notes s from c x o else
-    (if is_allowed o then (if is_here x from then note.Left x.id ∷ all_gone x.id x.buffer.waiting else []) else [])))
+    (if is_allowed o then (if is_here x from then note.Left x.id ∷ all_gone x.id x.buffer.waiting else [])
+    else [])))
     else [])
     ≡ (if own then own_answer h from c.client_id c.flags.clean c.flags.will else [])
 entering_by h s from c x true Allowed is may state shown =
@@ -283,18 +89,23 @@ entering_by h s from c x false o is may state shown = refl
 
 -- it is one of the clients, or nothing waits for it
 abbrev own_of : List Row → Address → Connect → List Client → List Out
-own_of h from c xs = if is_among c.client_id (ids_of xs) then own_answer h from c.client_id c.flags.clean c.flags.will else []
+own_of h from c xs =
+    if is_among c.client_id (ids_of xs) then own_answer h from c.client_id c.flags.clean c.flags.will else []
 
 own_none : (h : List Row) (s : State) (from : Address) (c : Connect) (xs : List Client) → Away c.client_id xs
     → flat_map (entering_part (around s (ByConnect from c)) (notes_for s (ByConnect from c)) from c) xs ≡ []
 own_none h s from c [] away = refl
 own_none h s from c (x ∷ xs) away = rw (away.0, own_none h s from c xs away.1) refl
 
-own_first : (h : List Row) (s : State) (from : Address) (c : Connect) (x : Client) (xs : List Client) (own : Bool)
+own_first : (h : List Row) (s : State) (from : Address) (c : Connect) (x : Client) (xs : List Client)
+    (own : Bool)
     → bytes_eq c.client_id x.id ≡ own → Away x.id xs
-    → flat_map (entering_part (around s (ByConnect from c)) (notes_for s (ByConnect from c)) from c) xs ≡ own_of h from c xs
-    → (if own then own_answer h from c.client_id c.flags.clean c.flags.will else []) ++ flat_map (entering_part (around s (ByConnect from c)) (notes_for s (ByConnect from c)) from c) xs
-    ≡ (if own || is_among c.client_id (ids_of xs) then own_answer h from c.client_id c.flags.clean c.flags.will else [])
+    → flat_map (entering_part (around s (ByConnect from c)) (notes_for s (ByConnect from c)) from c) xs
+    ≡ own_of h from c xs
+    → (if own then own_answer h from c.client_id c.flags.clean c.flags.will else [])
+    ++ flat_map (entering_part (around s (ByConnect from c)) (notes_for s (ByConnect from c)) from c) xs
+    ≡ (if own || is_among c.client_id (ids_of xs)
+    then own_answer h from c.client_id c.flags.clean c.flags.will else [])
 own_first h s from c x xs true is away rest =
     let same : c.client_id ≡ x.id = same_means c.client_id x.id is in
     ap (λ outs. own_answer h from c.client_id c.flags.clean c.flags.will ++ outs)
@@ -302,36 +113,46 @@ own_first h s from c x xs true is away rest =
     ∙ append-nil (own_answer h from c.client_id c.flags.clean c.flags.will)
 own_first h s from c x xs false is away rest = rest
 
-own_parts : (h : List Row) (s : State) (from : Address) (c : Connect) (xs : List Client) → entry s c ≡ Allowed → StateShown h s
+own_parts : (h : List Row) (s : State) (from : Address) (c : Connect) (xs : List Client) → entry s c ≡ Allowed
+    → StateShown h s
     → Each (ClientShown h) xs → Distinct xs
-    → flat_map (entering_part (around s (ByConnect from c)) (notes_for s (ByConnect from c)) from c) xs ≡ own_of h from c xs
+    → flat_map (entering_part (around s (ByConnect from c)) (notes_for s (ByConnect from c)) from c) xs
+    ≡ own_of h from c xs
 own_parts h s from c [] may state shown apart = refl
 own_parts h s from c (x ∷ xs) may state shown apart =
-    ap (λ outs. outs ++ flat_map (entering_part (around s (ByConnect from c)) (notes_for s (ByConnect from c)) from c) xs)
+    ap (λ outs. outs ++ flat_map (entering_part (around s (ByConnect from c))
+    (notes_for s (ByConnect from c)) from c) xs)
     (entering_by h s from c x (bytes_eq c.client_id x.id) (entry s c) refl may state shown.0)
-    ∙ own_first h s from c x xs (bytes_eq c.client_id x.id) refl apart.0 (own_parts h s from c xs may state shown.1 apart.1)
+    ∙ own_first h s from c x xs (bytes_eq c.client_id x.id) refl apart.0
+    (own_parts h s from c xs may state shown.1 apart.1)
 
 -- nothing waits for who was never accepted
 abbrev pub NoneWaits : List Row → List ℕ → Type 0
 NoneWaits h id = is_among id (accepted h) ≡ false → waits_for id h ≡ []
 
-answer_none : (h : List Row) (from : Address) (id : List ℕ) (clean will : Bool) → waits_for id h ≡ [] → own_answer h from id clean will ≡ []
-answer_none h from id true will none = ap (λ waiting. map (λ m. Note (note.Hand id m.name (Denied Gone))) waiting) none
+answer_none : (h : List Row) (from : Address) (id : List ℕ) (clean will : Bool) → waits_for id h ≡ []
+    → own_answer h from id clean will ≡ []
+answer_none h from id true will none =
+    ap (λ waiting. map (λ m. Note (note.Hand id m.name (Denied Gone))) waiting) none
 answer_none h from id false true none = refl
-answer_none h from id false false none = ap (handed_out (record (mailing h id from) { told = []; known = [] })) none
+answer_none h from id false false none =
+    ap (handed_out (record (mailing h id from) { told = []; known = [] })) none
 
-own_any : (h : List Row) (from : Address) (c : Connect) (known : Bool) → (known ≡ false → waits_for c.client_id h ≡ [])
+own_any : (h : List Row) (from : Address) (c : Connect) (known : Bool)
+    → (known ≡ false → waits_for c.client_id h ≡ [])
     → (if known then own_answer h from c.client_id c.flags.clean c.flags.will else [])
     ≡ own_answer h from c.client_id c.flags.clean c.flags.will
 own_any h from c true none = refl
 own_any h from c false none = sym (answer_none h from c.client_id c.flags.clean c.flags.will (none refl))
 
-own_row : (h : List Row) (s : State) (from : Address) (c : Connect) → Stands h s → entry s c ≡ Allowed → NoneWaits h c.client_id
+own_row : (h : List Row) (s : State) (from : Address) (c : Connect) → Stands h s → entry s c ≡ Allowed
+    → NoneWaits h c.client_id
     → flat_map (entering_part (around s (ByConnect from c)) (notes_for s (ByConnect from c)) from c) s.clients
     ≡ own_answer h from c.client_id c.flags.clean c.flags.will
 own_row h s from c st may none =
     own_parts h s from c s.clients may st.shown st.shown.clients st.good.apart
-    ∙ (ap (λ ids. if is_among c.client_id ids then own_answer h from c.client_id c.flags.clean c.flags.will else []) st.shown.order
+    ∙ (ap (λ ids. if is_among c.client_id ids then own_answer h from c.client_id c.flags.clean c.flags.will
+    else []) st.shown.order
     ∙ own_any h from c (is_among c.client_id (accepted h)) none)
 
 -- its answer comes before it or behind it
@@ -343,18 +164,28 @@ answered_by h from id false true ack = refl
 answered_by h from id false false ack = refl
 
 answered : (h : List Row) (from : Address) (c : Connect) (ack : Out)
-    → whole.around_welcome c.flags.clean (own_answer h from c.client_id c.flags.clean c.flags.will) ack ≡ around_welcome h from c ack
+    → whole.around_welcome c.flags.clean (own_answer h from c.client_id c.flags.clean c.flags.will) ack
+    ≡ around_welcome h from c ack
 answered h from c ack = answered_by h from c.client_id c.flags.clean c.flags.will ack
 
 -- ---- the row
 
-entry_by : (h : List Row) (s : State) (from : Address) (c : Connect) (o : Outcome) → Stands h s → NoneWaits h c.client_id → entry s c ≡ o
+entry_by : (h : List Row) (s : State) (from : Address) (c : Connect) (o : Outcome) → Stands h s
+    → NoneWaits h c.client_id → entry s c ≡ o
     → entry_outs s from c (notes_for s (ByConnect from c)) o ≡ entry_answer h from c o
 entry_by h s from c Allowed st none is =
-    rw (old_row h s from c.client_id st, others_row h s from c st is, clean_row h s from c st is, own_row h s from c st is none, answered h from c (answers.welcome c from)) refl
+    rw (
+      old_row h s from c.client_id st,
+      others_row h s from c st is,
+      clean_row h s from c st is,
+      own_row h s from c st is none,
+      answered h from c (answers.welcome c from),
+    ) refl
 entry_by h s from c (Denied rule) st none is =
     ap (λ code. Note (note.Connect c.client_id (Denied rule)) ∷ connack from code ∷ []) (code_same rule)
 
-pub connect_row : (h : List Row) (s : State) (from : Address) (c : Connect) → Stands h s → NoneWaits h c.client_id
+pub connect_row : (h : List Row) (s : State) (from : Address) (c : Connect) → Stands h s
+    → NoneWaits h c.client_id
     → entry_outs s from c (notes_for s (ByConnect from c)) (entry s c) ≡ connect_answer h from c
-connect_row h s from c st none = entry_by h s from c (entry s c) st none refl ∙ ap (entry_answer h from c) (entry_ruled h s c st.shown)
+connect_row h s from c st none =
+    entry_by h s from c (entry s c) st none refl ∙ ap (entry_answer h from c) (entry_ruled h s c st.shown)

@@ -1,301 +1,79 @@
--- What a REGACK and a PUBACK of a client let out, in the views' words.
-use Rattle.std.proofs.Common.{◌≡◌, ℕ, ◌≤◌, Bool, true, false, List, [], ◌∷◌, ◌++◌, refl, ap, sym, ◌∙◌, if◌then◌else◌, arith}
-use Rattle.std.specs.Prelude.{◌&&◌, ◌==◌, drop, Option, Some, None}
-use Rattle.std.proofs.lemmas.Bool.Decides.{nat_tests}
-use Rattle.sng_states.specs.States.{takes_messages, is_awake}
-use Rattle.sng_ids.specs.Ids.{confirmed}
-use Rattle.sng_queue.specs.declared.exchange.Exchange.{Exchange}
-use Rattle.sng_queue.specs.declared.exchange.Exchange.TheVariants.{Announcing, Acknowledging}
-use Rattle.sng_queue.specs.Exchanges.{awaits_ack}
-use Rattle.sng_queue.specs.Messages.{Message}
-use Rattle.sng_queue.specs.Buffers.{Buffer, settle}
+-- What a PUBACK of a client lets out, in the views' words, and the laws of both answers.
+use Rattle.std.proofs.Common.{◌≡◌, Bool, true, false, List, [], ◌∷◌, ◌++◌, refl, ap, ◌∙◌}
+use Rattle.std.proofs.Common.{if◌then◌else◌}
+use Rattle.std.specs.Prelude.{◌&&◌, None}
+use Rattle.sng_states.specs.States.{takes_messages}
 use Rattle.sng_frames.specs.declared.messages.acks.TopicAck.{TopicAck}
 use Rattle.sng_frames.specs.declared.frame.SnFrame.{SnFrame}
 use Rattle.sng_frames.specs.declared.frame.SnFrame.TheVariants as frame
 use Rattle.sng_book.specs.declared.address.Address.{Address}
-use Rattle.sng_book.specs.declared.decision.Decision.{Decision}
-use Rattle.sng_book.specs.declared.decision.Decision.TheVariants as note
-use Rattle.sng_book.specs.declared.outcome.Denial.TheVariants.{ClientRefused}
-use Rattle.sng_book.specs.declared.outcome.Outcome.TheVariants.{Denied}
-use Rattle.sng_book.specs.declared.out.Out.{Out}
-use Rattle.sng_book.specs.declared.out.Out.TheVariants.{Note}
 use Rattle.sng_book.specs.declared.row.Row.{Row}
-use Rattle.sng_history.specs.Causes.{Cause, ByMessage, ToConfirm, ToAcknowledge, cause_of, datagram_cause, frame_cause}
-use Rattle.sng_history.specs.Handing.{answers_announcement, ends_exchange}
-use Rattle.sng_history.specs.Clients.{Client, is_here, closed, confirmed_with, is_confirming, is_acknowledging, notes_by, is_drained}
+use Rattle.sng_history.specs.Causes.{ByMessage, ToAcknowledge, cause_of, datagram_cause}
+use Rattle.sng_history.specs.Causes.{frame_cause}
+use Rattle.sng_history.specs.Handing.{ends_exchange}
+use Rattle.sng_history.specs.Clients.{Client, is_here, closed}
+use Rattle.sng_history.specs.Clients.{is_acknowledging, is_drained}
 use Rattle.sng_history.specs.State.{State, opening, state_of}
 use Rattle.sng_history.specs.Standing.{Release}
-use Rattle.sng_history.specs.Outgoing.{turns, handed_over, refusals, out_of_turn}
-use Rattle.sng_history.specs.Lawful.{Lawful, confirmations}
-use Rattle.sng_history.specs.Whole.{spell, drained_outs, stranger_to, drops, frame_row}
+use Rattle.sng_history.specs.Outgoing.{turns, handed_over, out_of_turn}
+use Rattle.sng_history.specs.Lawful.{Lawful}
+use Rattle.sng_history.specs.Whole.{stranger_to, drops, frame_row}
 use Rattle.sng_history.specs.Steps.{notes_for, outs_by}
-use Rattle.sng_history.specs.ViewsClients.{phase_of, with_name, names_told, id_told, those_at}
-use Rattle.sng_history.specs.ViewsHanding.{waits_for, number_of, Opening, Announced, HandedOver, progress_of, is_regack_of, is_puback_of, regack_has_turn, puback_has_turn, name_announced, names_known}
-use Rattle.sng_history.specs.LawsState.{exchange_shown, ClientShown, NoneTwice}
-use Rattle.sng_history.specs.ViewsSendings.{Last, last_of}
+use Rattle.sng_history.specs.ViewsClients.{phase_of, those_at}
+use Rattle.sng_history.specs.ViewsHanding.{waits_for}
+use Rattle.sng_history.specs.ViewsHanding.{names_known}
+use Rattle.sng_history.specs.LawsState.{ClientShown}
 use Rattle.sng_history.specs.LawsHanding as laws
-use Rattle.sng_history.specs.LawsHanding.{mailing, handed_awake, refused_by, FrontAnnounced, IsFront, regack_answer, puback_answer}
+use Rattle.sng_history.specs.LawsHanding.{mailing, handed_awake}
+use Rattle.sng_history.specs.LawsHanding.{regack_answer, puback_answer}
 use Rattle.sng_history.specs.LawsAnswers.{Brought, answer_to, no_session}
-use Rattle.sng_history.proofs.Takes.{taking_same}
 use Rattle.sng_history.proofs.Keeping.{exact_by}
-use Rattle.sng_history.proofs.Places.{here_is, and_left, and_right}
+use Rattle.sng_history.proofs.Places.{here_is}
 use Rattle.sng_history.proofs.SeenClients.{heard_if}
-use Rattle.sng_history.proofs.SeenState.{StateShown, Stands, stands}
-use Rattle.sng_history.proofs.Marked.{marked}
-use Rattle.sng_history.proofs.Confirmed.{confirmed_marked}
-use Rattle.sng_history.proofs.LawTurns.{last_within}
-use Rattle.sng_history.proofs.LawAwake.{awake_same, awake_shown}
+use Rattle.sng_history.proofs.SeenOrder.{StateShown}
+use Rattle.sng_history.proofs.SeenState.{Stands, stands}
 use Rattle.sng_history.proofs.LawSettled.{front_announced}
 use Rattle.sng_history.proofs.LawHere.{row_answer, each_part, settled}
-use Rattle.sng_history.proofs.LawMessages.{by_cause}
-use Rattle.sng_history.proofs.NamesOnce.{names_once}
-
--- ---- whose turn it is
-
-flip_eq : (n m : ℕ) → (n == m) ≡ (m == n)
-flip_eq n m = grind (arith, nat_tests)
-
-same_eq : (n m : ℕ) → (n == m) ≡ true → n ≡ m
-same_eq n m is = grind (arith, nat_tests, is)
-
--- what answers what is open, as it is kept and as it is shown
-regack_same : (o : Option Opening) (told : List (List ℕ)) (number : ℕ) (last : Last) (r : TopicAck)
-    → answers_announcement (exchange_shown o told number last) r ≡ is_regack_of o told number r
-regack_same None told number last r = refl
-regack_same (Some (Announced name)) told number last r = rw (flip_eq r.topic_id (id_told name told), flip_eq r.msg_id number) refl
-regack_same (Some (HandedOver m)) told number last r = refl
-
-puback_same : (o : Option Opening) (told : List (List ℕ)) (number : ℕ) (last : Last) (r : TopicAck)
-    → ends_exchange (exchange_shown o told number last) r ≡ is_puback_of o number r
-puback_same None told number last r = refl
-puback_same (Some (Announced name)) told number last r = rw (flip_eq r.msg_id number) refl
-puback_same (Some (HandedOver m)) told number last r = rw (flip_eq r.msg_id number) refl
-
--- the REGACK answers the announcement as it is kept
-answers_shown : (h : List Row) (x : Client) (r : TopicAck) → ClientShown h x
-    → answers_announcement x.buffer.exchange r ≡ is_regack_of (progress_of x.id h).unanswered (names_told x.id h) (number_of x.id h) r
-answers_shown h x r shown =
-    ap (λ e. answers_announcement e r) shown.exchange
-    ∙ regack_same (progress_of x.id h).unanswered (names_told x.id h) (number_of x.id h) (last_of x.id h) r
-
-confirming_shown : (h : List Row) (x : Client) (r : TopicAck) → ClientShown h x
-    → is_confirming r x ≡ regack_has_turn x.id (progress_of x.id h) h r
-confirming_shown h x r shown =
-    ap (λ b. takes_messages x.phase && b) (answers_shown h x r shown)
-    ∙ (rw (shown.phase, taking_same x.phase) refl)
-
-acknowledging_shown : (h : List Row) (x : Client) (r : TopicAck) → ClientShown h x
-    → is_acknowledging r x ≡ puback_has_turn x.id (progress_of x.id h) h r
-acknowledging_shown h x r shown =
-    let now = progress_of x.id h in
-    ap (λ e. takes_messages x.phase && ends_exchange e r) shown.exchange
-    ∙ (ap (λ b. takes_messages x.phase && b) (puback_same now.unanswered (names_told x.id h) (number_of x.id h) (last_of x.id h) r)
-    ∙ (rw (shown.phase, taking_same x.phase) refl))
-
--- ---- all that may leave then
-
-number_within : (h : List Row) (x : Client) → ClientShown h x → x.number ≤ 65535
-number_within h x shown = rw shown.number (last_within (progress_of x.id h).numbered)
-
--- the client, once nothing is open, with these that wait and knowing these names
-abbrev freed : ℕ → Client → List (List ℕ) → List (List ℕ) → List Message → Client
-freed clock x told known waiting =
-    record x { heard = clock; ids = marked told known; buffer = record { waiting = waiting; exchange = None } }
-
--- what a client in this state is let out, by these notes of it
-abbrev all_out : State → Cause → List Release → List Decision → Client → List Out
-all_out s c dropped notes y = spell (by_cause s c) dropped y notes ++ drained_outs (notes_by (by_cause s c) notes y)
-
-awake_now : (h : List Row) (x : Client) → ClientShown h x → is_awake x.phase ≡ laws.is_awake (phase_of x.id h)
-awake_now h x shown = awake_same x.phase ∙ ap laws.is_awake (sym shown.phase)
-
--- what it is handed
-handed_by : (h : List Row) (s : State) (c : Cause) (dropped : List Release) (from : Address) (x : Client) (known : List (List ℕ)) (waiting : List Message) (taking : Bool)
-    → taking ≡ true → StateShown h s → ClientShown h x → x.address ≡ from
-    → all_out s c dropped (if taking && true then turns s.policy x.id (marked (names_told x.id h) known) waiting else []) (freed s.clock x (names_told x.id h) known waiting)
-    ≡ handed_awake (laws.is_awake (phase_of x.id h)) (record (mailing h x.id from) { known = known }) waiting
-handed_by h s c dropped from x known waiting false takes state shown at = absurd (let e = takes in cc)
-handed_by h s c dropped from x known waiting true takes state shown at =
-    awake_shown (by_cause s c) dropped (freed s.clock x (names_told x.id h) known waiting) (names_told x.id h) known refl refl
-    (number_within h x shown)
-    ∙ (ap (λ up. handed_awake up
-    (record { policy = s.policy; id = x.id; address = x.address; told = names_told x.id h; known = known; number = x.number }) waiting)
-    (awake_now h x shown)
-    ∙ (rw (shown.number, state.policy, at) refl))
-
--- ---- REGACK
-
-confirmed_ids : (o : Option Opening) (told known : List (List ℕ)) (number : ℕ) (r : TopicAck) → NoneTwice told
-    → is_regack_of o told number r ≡ true
-    → confirmed r.topic_id (marked told known) ≡ marked told (with_name (name_announced o) known)
-confirmed_ids None told known number r once is = absurd (let e = is in cc)
-confirmed_ids (Some (Announced name)) told known number r once is =
-    let same : r.topic_id ≡ id_told name told =
-    same_eq r.topic_id (id_told name told) (and_left (r.topic_id == id_told name told) (r.msg_id == number) is) in
-    ap (λ id. confirmed id (marked told known)) same ∙ confirmed_marked name told known once
-confirmed_ids (Some (HandedOver m)) told known number r once is = absurd (let e = is in cc)
-
--- what the laws let out where it accepts the id, and where it refuses it
-abbrev accepted_answer : List Row → List ℕ → Address → List Out
-accepted_answer h id from =
-    handed_awake (laws.is_awake (phase_of id h))
-    (record (mailing h id from) { known = with_name (name_announced (progress_of id h).unanswered) (names_known id h) }) (waits_for id h)
-
-abbrev refused_answer : List Row → List ℕ → Address → ℕ → List Message → List Out
-refused_answer h id from code waiting =
-    refused_by id code waiting ++ handed_awake (laws.is_awake (phase_of id h)) (mailing h id from) (drop 1 waiting)
-
--- it accepts the id
-accepted_part : (h : List Row) (s : State) (from : Address) (r : TopicAck) (dropped : List Release) (x : Client) → is_confirming r x ≡ true
-    → NoneTwice (names_told x.id h) → StateShown h s → ClientShown h x → x.address ≡ from
-    → all_out s (ByMessage from (ToConfirm r)) dropped
-    (handed_over s.policy (let y : Client = record (closed x) { ids = confirmed r.topic_id x.ids } in y))
-    (let y : Client = record (closed (heard_if true s.clock x)) { ids = confirmed r.topic_id x.ids } in y)
-    ≡ accepted_answer h x.id from
-accepted_part h s from r dropped x turn once state shown at =
-    let c = ByMessage from (ToConfirm r) in
-    let o = (progress_of x.id h).unanswered in
-    let told = names_told x.id h in
-    let known = names_known x.id h in
-    let takes = and_left (takes_messages x.phase) (answers_announcement x.buffer.exchange r) turn in
-    let answers : is_regack_of o told (number_of x.id h) r ≡ true =
-    sym (answers_shown h x r shown) ∙ and_right (takes_messages x.phase) (answers_announcement x.buffer.exchange r) turn in
-    let ids : confirmed r.topic_id x.ids ≡ marked told (with_name (name_announced o) known) =
-    ap (confirmed r.topic_id) shown.ids ∙ confirmed_ids o told known (number_of x.id h) r once answers in
-    ap
-    (λ marks. all_out s c dropped (handed_over s.policy (let y : Client = record (closed x) { ids = marks } in y))
-    (let y : Client = record (closed (heard_if true s.clock x)) { ids = marks } in y))
-    ids
-    ∙ (handed_by h s c dropped from x (with_name (name_announced o) known) x.buffer.waiting (takes_messages x.phase) takes state shown at
-    ∙ ap (handed_awake (laws.is_awake (phase_of x.id h))
-    (record (mailing h x.id from) { known = with_name (name_announced o) known })) shown.waiting)
-
--- what was announced is no message that waits for its PUBACK
-announced_open : (e : Option Exchange) (r : TopicAck) → answers_announcement e r ≡ true → awaits_ack e ≡ false
-announced_open None r is = absurd (let f = is in cc)
-announced_open (Some (Announcing sent)) r is = refl
-announced_open (Some (Acknowledging sent k m)) r is = absurd (let f = is in cc)
-
--- and its message waits
-announced_waits : (o : Option Opening) (told : List (List ℕ)) (number : ℕ) (r : TopicAck) (waiting : List Message)
-    → is_regack_of o told number r ≡ true
-    → ((name : List ℕ) → o ≡ Some (Announced name) → IsFront name waiting) → waiting ≡ [] → ⊥
-announced_waits None told number r waiting is front none = absurd (let f = is in cc)
-announced_waits (Some (Announced name)) told number r [] is front none = front name refl
-announced_waits (Some (Announced name)) told number r (m ∷ more) is front none = absurd (let f = none in cc)
-announced_waits (Some (HandedOver m)) told number r waiting is front none = absurd (let f = is in cc)
-
--- it refuses the id
-refused_part : (h : List Row) (s : State) (from : Address) (r : TopicAck) (dropped : List Release) (x : Client) (waiting : List Message)
-    → takes_messages x.phase ≡ true → (waiting ≡ [] → ⊥) → settle x.buffer ≡ record { waiting = drop 1 waiting; exchange = None }
-    → StateShown h s → ClientShown h x → x.address ≡ from
-    → all_out s (ByMessage from (ToConfirm r)) dropped
-    (refusals x.id r.code.0 waiting ++ handed_over s.policy (let y : Client = record x { buffer = settle x.buffer } in y))
-    (heard_if true s.clock x)
-    ≡ refused_answer h x.id from r.code.0 waiting
-refused_part h s from r dropped x [] takes some settles state shown at = absurd (some refl)
-refused_part h s from r dropped x (m ∷ more) takes some settles state shown at =
-    let c = ByMessage from (ToConfirm r) in
-    let said : Out = Note (note.Hand x.id m.name (Denied (ClientRefused r.code.0))) in
-    ap
-    (λ b. said ∷ all_out s c dropped (handed_over s.policy (let y : Client = record x { buffer = b } in y))
-    (let z : Client = record x { heard = s.clock; buffer = b } in z))
-    settles
-    ∙ (ap
-    (λ ids. said ∷ all_out s c dropped (if takes_messages x.phase && true then turns s.policy x.id ids more else [])
-    (let z : Client = record x { heard = s.clock; ids = ids; buffer = record { waiting = more; exchange = None } } in z))
-    shown.ids
-    ∙ ap (λ outs. said ∷ outs) (handed_by h s c dropped from x (names_known x.id h) more (takes_messages x.phase) takes state shown at))
-
-confirm_by : (h : List Row) (s : State) (from : Address) (r : TopicAck) (dropped : List Release) (x : Client) (accepts : Bool)
-    → is_confirming r x ≡ true
-    → NoneTwice (names_told x.id h) → FrontAnnounced h x.id → StateShown h s → ClientShown h x → x.address ≡ from
-    → all_out s (ByMessage from (ToConfirm r)) dropped
-    (if accepts
-    then handed_over s.policy (let y : Client = if accepts then record (closed x) { ids = confirmed r.topic_id x.ids } else x in y)
-    else refusals x.id r.code.0 x.buffer.waiting ++ handed_over s.policy (let y : Client = record x { buffer = settle x.buffer } in y))
-    (let y : Client = if accepts then record
-    (closed (heard_if true s.clock x)) { ids = confirmed r.topic_id x.ids } else heard_if true s.clock x in y)
-    ≡ (if accepts then accepted_answer h x.id from else refused_answer h x.id from r.code.0 (waits_for x.id h))
-confirm_by h s from r dropped x true turn once front state shown at = accepted_part h s from r dropped x turn once state shown at
-confirm_by h s from r dropped x false turn once front state shown at =
-    let o = (progress_of x.id h).unanswered in
-    let takes = and_left (takes_messages x.phase) (answers_announcement x.buffer.exchange r) turn in
-    let answers = and_right (takes_messages x.phase) (answers_announcement x.buffer.exchange r) turn in
-    let some : x.buffer.waiting ≡ [] → ⊥ =
-    (λ none. announced_waits o (names_told x.id h) (number_of x.id h) r (waits_for x.id h) (sym (answers_shown h x r shown) ∙ answers) front
-    (sym shown.waiting ∙ none)) in
-    let settles : settle x.buffer ≡ record { waiting = drop 1 x.buffer.waiting; exchange = None } =
-    ap (λ b. let c : Buffer = if b then x.buffer else record { waiting = drop 1 x.buffer.waiting; exchange = None } in c)
-    (announced_open x.buffer.exchange r answers) in
-    refused_part h s from r dropped x x.buffer.waiting takes some settles state shown at
-    ∙ ap (refused_answer h x.id from r.code.0) shown.waiting
-
--- what the laws say of it, as its turn is
-abbrev regack_turn : List Row → Address → TopicAck → List ℕ → Bool → List Out
-regack_turn h from r id turn =
-    if turn then (if r.code.0 == 0 then accepted_answer h id from else refused_answer h id from r.code.0
-    (waits_for id h)) else laws.out_of_turn id
-
-regack_by : (h : List Row) (s : State) (from : Address) (r : TopicAck) (dropped : List Release) (x : Client) (turn : Bool)
-    → is_confirming r x ≡ turn
-    → NoneTwice (names_told x.id h) → FrontAnnounced h x.id → StateShown h s → ClientShown h x → is_drained x ≡ false → x.address ≡ from
-    → all_out s (ByMessage from (ToConfirm r)) dropped (if turn then confirmations s.policy r x else out_of_turn x.id)
-    (let y : Client = if turn then confirmed_with r (heard_if true s.clock x) else heard_if true s.clock x in y)
-    ≡ regack_turn h from r x.id turn
-regack_by h s from r dropped x true turn once front state shown busy at =
-    confirm_by h s from r dropped x (r.code.0 == 0) turn once front state shown at
-regack_by h s from r dropped x false turn once front state shown busy at = settled (laws.out_of_turn x.id) x busy
-
-regack_part : (h : List Row) (s : State) (from : Address) (r : TopicAck) (dropped : List Release) (x : Client) (b : Bool)
-    → NoneTwice (names_told x.id h) → FrontAnnounced h x.id → StateShown h s → ClientShown h x → is_drained x ≡ false
-    → (b ≡ true → x.address ≡ from)
-    → (if b then [] else [])
-    ++ all_out s (ByMessage from (ToConfirm r)) dropped
-    (if b then (if is_confirming r x then confirmations s.policy r x else out_of_turn x.id) else [])
-    (let y : Client = if b then
-    (if is_confirming r x then confirmed_with r (heard_if true s.clock x) else heard_if true s.clock x) else x in y)
-    ≡ (if b then regack_answer h from r x.id else [])
-regack_part h s from r dropped x true once front state shown busy at =
-    regack_by h s from r dropped x (is_confirming r x) refl once front state shown busy (at refl)
-    ∙ ap (regack_turn h from r x.id) (confirming_shown h x r shown)
-regack_part h s from r dropped x false once front state shown busy at = settled [] x busy
-
-regack_row : (h : List Row) (s : State) (from : Address) (r : TopicAck) → ((id : List ℕ) → FrontAnnounced h id) → Stands h s
-    → let c = ByMessage from (ToConfirm r) in
-    frame_row s c (stranger_to from (ToConfirm r)) (notes_for s c) ≡ answer_to (no_session from) (regack_answer h from r) (those_at from h)
-regack_row h s from r front st =
-    let c = ByMessage from (ToConfirm r) in
-    row_answer h s from c (stranger_to from (ToConfirm r)) (regack_answer h from r) st.shown (λ x. refl)
-    (each_part h s from c (regack_answer h from r) st
-    (λ x is rest. regack_part h s from r (drops s c (notes_for s c)) x (is_here x from) (names_once h x.id)
-    (front x.id) st.shown is rest.busy (here_is x from)))
+use Rattle.sng_history.proofs.LawHandingTurn.{acknowledging_shown, all_out, handed_by}
+use Rattle.sng_history.proofs.LawRegack.{regack_row}
+use Rattle.sng_history.proofs.Booleans.{left_holds}
 
 -- ---- PUBACK
 
-puback_by : (h : List Row) (s : State) (from : Address) (r : TopicAck) (dropped : List Release) (x : Client) (turn : Bool)
+puback_by : (h : List Row) (s : State) (from : Address) (r : TopicAck) (dropped : List Release) (x : Client)
+    (turn : Bool)
     → is_acknowledging r x ≡ turn
     → StateShown h s → ClientShown h x → is_drained x ≡ false → x.address ≡ from
-    → all_out s (ByMessage from (ToAcknowledge r)) dropped (if turn then handed_over s.policy (closed x) else out_of_turn x.id)
+    → all_out s (ByMessage from (ToAcknowledge r)) dropped
+    (if turn then handed_over s.policy (closed x) else out_of_turn x.id)
     (let y : Client = if turn then closed (heard_if true s.clock x) else heard_if true s.clock x in y)
-    ≡ (if turn then handed_awake (laws.is_awake (phase_of x.id h)) (mailing h x.id from) (waits_for x.id h) else laws.out_of_turn x.id)
+    ≡ (if turn then handed_awake (laws.is_awake (phase_of x.id h)) (mailing h x.id from) (waits_for x.id h)
+    else laws.out_of_turn x.id)
 puback_by h s from r dropped x true turn state shown busy at =
     let c = ByMessage from (ToAcknowledge r) in
-    let takes = and_left (takes_messages x.phase) (ends_exchange x.buffer.exchange r) turn in
+    let takes = left_holds (takes_messages x.phase) (ends_exchange x.buffer.exchange r) turn in
     ap
-    (λ ids. all_out s c dropped (if takes_messages x.phase && true then turns s.policy x.id ids x.buffer.waiting else [])
-    (let z : Client = record x { heard = s.clock; ids = ids; buffer = record { waiting = x.buffer.waiting; exchange = None } } in z))
+    (λ ids. all_out s c dropped (if takes_messages x.phase && true
+    then turns s.policy x.id ids x.buffer.waiting else [])
+    (let z : Client = record x {
+      heard = s.clock;
+      ids = ids;
+      buffer = record { waiting = x.buffer.waiting; exchange = None };
+    } in z))
     shown.ids
-    ∙ (handed_by h s c dropped from x (names_known x.id h) x.buffer.waiting (takes_messages x.phase) takes state shown at
+    ∙ (handed_by h s c dropped from x (names_known x.id h) x.buffer.waiting
+    (takes_messages x.phase) takes state shown at
     ∙ ap (handed_awake (laws.is_awake (phase_of x.id h)) (mailing h x.id from)) shown.waiting)
 puback_by h s from r dropped x false turn state shown busy at = settled (laws.out_of_turn x.id) x busy
 
-puback_part : (h : List Row) (s : State) (from : Address) (r : TopicAck) (dropped : List Release) (x : Client) (b : Bool)
+puback_part : (h : List Row) (s : State) (from : Address) (r : TopicAck) (dropped : List Release) (x : Client)
+    (b : Bool)
     → StateShown h s → ClientShown h x → is_drained x ≡ false → (b ≡ true → x.address ≡ from)
     → (if b then [] else [])
     ++ all_out s (ByMessage from (ToAcknowledge r)) dropped
     (if b then (if is_acknowledging r x then handed_over s.policy (closed x) else out_of_turn x.id) else [])
-    (let y : Client = if b then (if is_acknowledging r x then closed (heard_if true s.clock x) else heard_if true s.clock x) else x in y)
+    (let y : Client = if b then (if is_acknowledging r x then closed (heard_if true s.clock x)
+    else heard_if true s.clock x) else x in y)
     ≡ (if b then puback_answer h from r x.id else [])
 puback_part h s from r dropped x true state shown busy at =
     puback_by h s from r dropped x (is_acknowledging r x) refl state shown busy (at refl)
@@ -306,18 +84,21 @@ puback_part h s from r dropped x false state shown busy at = settled [] x busy
 
 puback_row : (h : List Row) (s : State) (from : Address) (r : TopicAck) → Stands h s
     → let c = ByMessage from (ToAcknowledge r) in
-    frame_row s c (stranger_to from (ToAcknowledge r)) (notes_for s c) ≡ answer_to (no_session from) (puback_answer h from r)
+    frame_row s c (stranger_to from (ToAcknowledge r)) (notes_for s c)
+    ≡ answer_to (no_session from) (puback_answer h from r)
     (those_at from h)
 puback_row h s from r st =
     let c = ByMessage from (ToAcknowledge r) in
     row_answer h s from c (stranger_to from (ToAcknowledge r)) (puback_answer h from r) st.shown (λ x. refl)
     (each_part h s from c (puback_answer h from r) st
-    (λ x is rest. puback_part h s from r (drops s c (notes_for s c)) x (is_here x from) st.shown is rest.busy (here_is x from)))
+    (λ x is rest. puback_part h s from r (drops s c (notes_for s c)) x (is_here x from) st.shown is rest.busy
+    (here_is x from)))
 
 -- ---- the laws
 
 -- a lawful row lets out what its message asks
-row_outs : (h : List Row) (row : Row) (from : Address) (message : SnFrame) → Lawful opening (row ∷ h) → Brought row from message
+row_outs : (h : List Row) (row : Row) (from : Address) (message : SnFrame) → Lawful opening (row ∷ h)
+    → Brought row from message
     → row.outs ≡ outs_by (state_of opening h) (frame_cause from message)
 row_outs h row from message l brought =
     exact_by (state_of opening h) (cause_of row.event) row.outs l.1
@@ -327,10 +108,12 @@ pub regack_law : (h : List Row) (row : Row) (from : Address) (r : TopicAck) → 
     → Brought row from (frame.RegisterAck r)
     → row.outs ≡ answer_to (no_session from) (regack_answer h from r) (those_at from h)
 regack_law h row from r l brought =
-    row_outs h row from (frame.RegisterAck r) l brought ∙ regack_row h (state_of opening h) from r (front_announced h l.0) (stands h l.0)
+    row_outs h row from (frame.RegisterAck r) l brought
+    ∙ regack_row h (state_of opening h) from r (front_announced h l.0) (stands h l.0)
 
 pub puback_law : (h : List Row) (row : Row) (from : Address) (r : TopicAck) → Lawful opening (row ∷ h)
     → Brought row from (frame.PublishAck r)
     → row.outs ≡ answer_to (no_session from) (puback_answer h from r) (those_at from h)
 puback_law h row from r l brought =
-    row_outs h row from (frame.PublishAck r) l brought ∙ puback_row h (state_of opening h) from r (stands h l.0)
+    row_outs h row from (frame.PublishAck r) l brought
+    ∙ puback_row h (state_of opening h) from r (stands h l.0)

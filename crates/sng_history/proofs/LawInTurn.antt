@@ -1,5 +1,7 @@
--- A message for a client is handed over, denied in its turn, or announced, only where the client is free, along each row.
-use Rattle.std.proofs.Common.{◌≡◌, ℕ, Bool, true, false, List, [], ◌∷◌, ◌++◌, refl, ap, sym, ◌∙◌, subst, if◌then◌else◌}
+-- A message for a client is handed over, denied in its turn, or announced, only where the client is free,
+-- along each row.
+use Rattle.std.proofs.Common.{◌≡◌, ℕ, Bool, true, false, List, [], ◌∷◌, ◌++◌, refl, ap, sym, ◌∙◌, subst}
+use Rattle.std.proofs.Common.{if◌then◌else◌}
 use Rattle.std.specs.Prelude.{Option, Some}
 use Rattle.std.specs.List.{flat_map}
 use Rattle.std.specs.Str.{bytes_eq}
@@ -7,20 +9,19 @@ use Rattle.sng_grants.specs.declared.policy.Policy.{Policy}
 use Rattle.sng_queue.specs.Messages.{Message}
 use Rattle.sng_frames.specs.declared.messages.connect.Connect.{Connect}
 use Rattle.sng_book.specs.declared.address.Address.{Address}
-use Rattle.sng_book.specs.declared.decision.Decision.{Decision}
 use Rattle.sng_book.specs.declared.decision.Decision.TheVariants as note
-use Rattle.sng_book.specs.declared.decision.Who.{Who}
 use Rattle.sng_book.specs.declared.decision.Who.TheVariants as who
 use Rattle.sng_book.specs.declared.event.Event.{Event}
 use Rattle.sng_book.specs.declared.outcome.Outcome.{Outcome}
 use Rattle.sng_book.specs.declared.outcome.Outcome.TheVariants.{Allowed, Denied}
 use Rattle.sng_book.specs.declared.out.Out.{Out}
-use Rattle.sng_book.specs.declared.out.Out.TheVariants.{Send, Wire, Note}
+use Rattle.sng_book.specs.declared.out.Out.TheVariants.{Note}
 use Rattle.sng_book.specs.declared.row.Row.{Row}
 use Rattle.sng_history.specs.Causes.{Cause, cause_of}
-use Rattle.sng_history.specs.Causes.{ByConnect, ByMessage, BySource, ByBroken, ByPacket, ByUp, ByDown, ByTake, ByReplace, ByTick}
-use Rattle.sng_history.specs.Notes.{notes_of, is_of, is_client}
-use Rattle.sng_history.specs.Clients.{Client, Around, start_by, note_by, subscribe_of}
+use Rattle.sng_history.specs.Causes.{ByConnect, ByMessage, BySource, ByBroken, ByPacket, ByUp, ByDown, ByTake}
+use Rattle.sng_history.specs.Causes.{ByReplace, ByTick}
+use Rattle.sng_history.specs.Notes.{notes_of}
+use Rattle.sng_history.specs.Clients.{Client, start_by}
 use Rattle.sng_history.specs.Packets.{answer_of, answer_outs}
 use Rattle.sng_history.specs.State.{State, opening, around, state_of, is_known, later}
 use Rattle.sng_history.specs.Ticking.{with_wills, ping_dropped}
@@ -30,116 +31,34 @@ use Rattle.sng_history.specs.Answers.{code_of, connack}
 use Rattle.sng_history.specs.Lawful.{Lawful, fixed_for}
 use Rattle.sng_history.specs.Steps.{notes_for, newcomers_for, outs_by, outs_of}
 use Rattle.sng_history.specs.Views.{policy_in_force}
-use Rattle.sng_history.specs.ViewsMessages.{Message as Spoken, message_at, subscribe_in}
-use Rattle.sng_history.specs.ViewsClients.{phase_by, phase_of, address_of, own_message, phase_spoken, is_among, accepted, speaks_of, names_by}
-use Rattle.sng_history.specs.ViewsHanding.{due_of, progress_by, knows_by}
+use Rattle.sng_history.specs.ViewsMessages.{Message as Spoken, message_at}
+use Rattle.sng_history.specs.ViewsClients.{phase_of, address_of, own_message, phase_spoken}
+use Rattle.sng_history.specs.ViewsClients.{is_among, accepted}
+use Rattle.sng_history.specs.ViewsHanding.{due_of}
 use Rattle.sng_history.specs.LawsState.{ClientShown}
-use Rattle.sng_history.specs.LawsTurns.{Moment, moment_at, moment_by, NoteInTurn, AllInTurn, EachInTurn}
+use Rattle.sng_history.specs.LawsTurns.{Moment, moment_at, AllInTurn, EachInTurn}
 use Rattle.sng_history.proofs.Own.{notes_append, absent, each_with}
 use Rattle.sng_history.proofs.Kept.{unknown_away}
-use Rattle.sng_history.proofs.Says.{says, part_for, beside_for, entering_for, only_beside, only_entering, accepted_notes, mute_stranger, drops_for}
+use Rattle.sng_history.proofs.SaysParts.{part_for, beside_for, entering_for, only_beside, only_entering}
+use Rattle.sng_history.proofs.Says.{says}
+use Rattle.sng_history.proofs.SaysParts.{drops_for}
+use Rattle.sng_history.proofs.SaysConnect.{accepted_notes}
+use Rattle.sng_history.proofs.Says.{mute_stranger}
 use Rattle.sng_history.proofs.SaysUpstream.{take_none, up_none, mute_packet, mute_ping, foreign_source}
 use Rattle.sng_history.proofs.Keeping.{each_left, exact_by}
-use Rattle.sng_history.proofs.SeenTurns.{View}
-use Rattle.sng_history.proofs.SeenHanding.{at, view_by, Fits, Step, Moved}
+use Rattle.sng_history.proofs.SeenFollows.{View}
+use Rattle.sng_history.proofs.SeenHandingNotes.{at, Moved}
 use Rattle.sng_history.proofs.SeenProgress.{start_view, row_moved}
-use Rattle.sng_history.proofs.SeenViews.{view_of, view_start, start_same, subscribe_same, event_fits}
+use Rattle.sng_history.proofs.SeenViewNotes.{view_of}
+use Rattle.sng_history.proofs.SeenViews.{view_start, start_same, subscribe_same, event_fits}
 use Rattle.sng_history.proofs.SeenDue.{due_row}
 use Rattle.sng_history.proofs.SeenStart.{phase_start}
 use Rattle.sng_history.proofs.SeenMailed.{Mailed}
 use Rattle.sng_history.proofs.SeenStrangers.{parts_none, frame_none}
-use Rattle.sng_history.proofs.SeenState.{known_among, Stands, stands}
+use Rattle.sng_history.proofs.SeenOrder.{known_among}
+use Rattle.sng_history.proofs.SeenState.{Stands, stands}
 use Rattle.sng_history.proofs.LawSettled.{of_accepted}
-
--- ---- the notes of a client, and all notes of a row
-
-abbrev InNotes : Policy → List ℕ → List Message → Option Spoken → List Decision → Moment → Type 0
-InNotes policy id due m [] now = Unit {0}
-InNotes policy id due m (said ∷ notes) now = NoteInTurn policy id said now × InNotes policy id due m notes (moment_by m id due said now)
-
--- the client moves as it is shown
-moment_moved : (a : Around) (id : List ℕ) (due : List Message) (m : Option Spoken) (said : Decision) (v : View) (x : Client)
-    → Fits a.cause m → subscribe_of a.cause ≡ subscribe_in m → Step a id said v x
-    → at (view_by a id due said v) (note_by a said x) ≡ moment_by m id due said (at v x)
-moment_moved a id due m said v x fits same step =
-    ap (λ phase. let now : Moment = record (at (view_by a id due said v) (note_by a said x)) { phase = phase } in now) (sym (step.phase m fits))
-    ∙ ap
-    (λ r. let now : Moment = record {
-      phase = phase_by m id said (Some x.phase);
-      told = names_by r id said v.told;
-      known = knows_by r id said v.known;
-      progress = progress_by id due said v.progress;
-    } in now)
-    same
-
-moved_turns : (a : Around) (id : List ℕ) (due : List Message) (m : Option Spoken) (notes : List Decision) (v : View) (x : Client)
-    → Fits a.cause m → subscribe_of a.cause ≡ subscribe_in m → Moved a id due notes v x → InNotes a.policy id due m notes (at v x)
-moved_turns a id due m [] v x fits same moved = tt
-moved_turns a id due m (said ∷ notes) v x fits same moved =
-    let w = view_by a id due said v in (
-      moved.0.turn,
-      subst (InNotes a.policy id due m notes) (moment_moved a id due m said v x fits same moved.0)
-          (moved_turns a id due m notes w (note_by a said x) fits same moved.1),
-    )
-
--- another's note needs nothing, and shows nothing of the client
-client_same : (id : List ℕ) (whom : Who) → is_client id whom ≡ speaks_of id whom
-client_same id (who.Client client) = refl
-client_same id (who.Source source) = refl
-client_same id (who.Address address) = refl
-client_same id who.Broker = refl
-
-moment_other : (m : Option Spoken) (id : List ℕ) (due : List Message) (said : Decision) (now : Moment) → is_of id said ≡ false
-    → moment_by m id due said now ≡ now
-moment_other m id due (note.Connect client outcome) now other = rw other refl
-moment_other m id due (note.Left client) now other = rw other refl
-moment_other m id due (note.Lost client) now other = rw other refl
-moment_other m id due (note.Will whom name outcome) now other = rw (sym (client_same id whom) ∙ other) refl
-moment_other m id due (note.Register whom name outcome) now other = rw (sym (client_same id whom) ∙ other) refl
-moment_other m id due (note.Subscribe whom filter outcome) now other = rw (sym (client_same id whom) ∙ other) refl
-moment_other m id due (note.Announce client name) now other = rw other refl
-moment_other m id due (note.Hand client name outcome) now other = rw other refl
-moment_other m id due (note.Retry client name outcome) now other = rw other refl
-moment_other m id due _ now other = refl
-
-not_own : (T : Type 0) (b : Bool) → b ≡ false → b ≡ true → T
-not_own T b is own = absurd (let e : false ≡ true = sym is ∙ own in cc)
-
-turn_other : (policy : Policy) (id : List ℕ) (said : Decision) (now : Moment) → is_of id said ≡ false → NoteInTurn policy id said now
-turn_other policy id (note.Hand client name Allowed) now other = λ own. not_own _ (bytes_eq id client) other own
-turn_other policy id (note.Hand client name (Denied rule)) now other = λ own. not_own _ (bytes_eq id client) other own
-turn_other policy id (note.Announce client name) now other = λ own. not_own _ (bytes_eq id client) other own
-turn_other policy id (note.Connect client outcome) now other = tt
-turn_other policy id (note.Left client) now other = tt
-turn_other policy id (note.Register whom name outcome) now other = tt
-turn_other policy id (note.Publish whom name outcome) now other = tt
-turn_other policy id (note.Subscribe whom filter outcome) now other = tt
-turn_other policy id (note.Unsubscribe whom filter outcome) now other = tt
-turn_other policy id (note.Will whom name outcome) now other = tt
-turn_other policy id (note.Retry client name outcome) now other = λ own. not_own _ (bytes_eq id client) other own
-turn_other policy id (note.Forward whom name outcome) now other = tt
-turn_other policy id (note.Again whom name outcome) now other = tt
-turn_other policy id (note.End client filter outcome) now other = tt
-turn_other policy id (note.Lost client) now other = tt
-turn_other policy id note.Outbox now other = tt
-turn_other policy id (note.Frame whom outcome) now other = tt
-
-note_turns : (policy : Policy) (id : List ℕ) (due : List Message) (m : Option Spoken) (said : Decision) (outs : List Out) (now : Moment) (b : Bool) → is_of id said ≡ b
-    → ((later : Moment) → InNotes policy id due m (notes_of id outs) later → AllInTurn policy id due m outs later)
-    → InNotes policy id due m ((if b then said ∷ [] else []) ++ notes_of id outs) now → AllInTurn policy id due m (Note said ∷ outs) now
-note_turns policy id due m said outs now true is rest own = (own.0, rest (moment_by m id due said now) own.1)
-note_turns policy id due m said outs now false is rest own = (
-  turn_other policy id said now is,
-  rest (moment_by m id due said now) (subst (InNotes policy id due m (notes_of id outs)) (sym (moment_other m id due said now is)) own),
-)
-
-outs_turns : (policy : Policy) (id : List ℕ) (due : List Message) (m : Option Spoken) (outs : List Out) (now : Moment)
-    → InNotes policy id due m (notes_of id outs) now → AllInTurn policy id due m outs now
-outs_turns policy id due m [] now turns = tt
-outs_turns policy id due m (Note said ∷ outs) now turns =
-    note_turns policy id due m said outs now (is_of id said) refl (λ later. outs_turns policy id due m outs later) turns
-outs_turns policy id due m (Send to datagram ∷ outs) now turns = outs_turns policy id due m outs now turns
-outs_turns policy id due m (Wire packet ∷ outs) now turns = outs_turns policy id due m outs now turns
+use Rattle.sng_history.proofs.LawInTurnNotes.{InNotes, moved_turns, outs_turns}
 
 -- ---- a row, and a client that was accepted before
 
@@ -147,7 +66,8 @@ abbrev RowInTurn : Policy → List Row → Event → List Message → List Out �
 RowInTurn policy h e due outs id = AllInTurn policy id due (message_at e) outs (moment_at id e h)
 
 moment_same : (h : List Row) (e : Event) (v : View) (x y : Client) → view_start x.id e h ≡ v
-    → phase_spoken x.id (own_message (phase_of x.id h) (address_of x.id h) e) (phase_of x.id h) ≡ Some y.phase → at v y ≡ moment_at x.id e h
+    → phase_spoken x.id (own_message (phase_of x.id h) (address_of x.id h) e) (phase_of x.id h) ≡ Some y.phase
+    → at v y ≡ moment_at x.id e h
 moment_same h e v x y view phase =
     ap (λ w. at w y) (sym view)
     ∙ ap (λ p. let now : Moment = record {
@@ -158,9 +78,11 @@ moment_same h e v x y view phase =
           (view_start x.id e h).progress;
     } in now) (sym phase)
 
-known_turn : (by : ℕ) (h : List Row) (s : State) (e : Event) (outs : List Out) (x : Client) → ClientShown h x → Mailed h x
+known_turn : (by : ℕ) (h : List Row) (s : State) (e : Event) (outs : List Out) (x : Client) → ClientShown h x
+    → Mailed h x
     → notes_of x.id outs ≡ fixed_for s (cause_of e) x
-    → RowInTurn (around s (cause_of e)).policy h e (due_of x.id (record { by = by; event = e; outs = outs } ∷ h)) outs x.id
+    → RowInTurn (around s (cause_of e)).policy h e
+    (due_of x.id (record { by = by; event = e; outs = outs } ∷ h)) outs x.id
 known_turn by h s e outs x shown mailed own =
     let c = cause_of e in
     let a = around s c in
@@ -172,7 +94,12 @@ known_turn by h s e outs x shown mailed own =
     subst (λ d. Moved a x.id d fixed first y) (sym (due_row by h s e outs x shown.phase shown.filters own))
     (row_moved s c x (due_of x.id h) (view_of x.id h) mailed) in
     let start : view_start x.id e h ≡ first =
-    start_same h x e (record { phase = shown.phase; address = shown.address; number = mailed.given; exchange = mailed.exchange }) in
+    start_same h x e (record {
+      phase = shown.phase;
+      address = shown.address;
+      number = mailed.given;
+      exchange = mailed.exchange;
+    }) in
     outs_turns a.policy x.id due (message_at e) outs (moment_at x.id e h)
     (subst (λ notes. InNotes a.policy x.id due (message_at e) notes (moment_at x.id e h)) (sym own)
     (subst (InNotes a.policy x.id due (message_at e) fixed)
@@ -182,51 +109,62 @@ known_turn by h s e outs x shown mailed own =
 -- ---- one that was not: its CONNECT alone is noted of it
 
 abbrev Calm : List ℕ → List Out → Type 0
-Calm id outs = (policy : Policy) (due : List Message) (m : Option Spoken) (now : Moment) → InNotes policy id due m (notes_of id outs) now
+Calm id outs =
+    (policy : Policy) (due : List Message) (m : Option Spoken) (now : Moment)
+    → InNotes policy id due m (notes_of id outs) now
 
 none_calm : (id : List ℕ) (outs : List Out) → notes_of id outs ≡ [] → Calm id outs
 none_calm id outs none policy due m now = subst (λ notes. InNotes policy id due m notes now) (sym none) tt
 
-connect_calm : (id client : List ℕ) (o : Outcome) (rest : List Out) → notes_of id rest ≡ [] → Calm id (Note (note.Connect client o) ∷ rest)
+connect_calm : (id client : List ℕ) (o : Outcome) (rest : List Out) → notes_of id rest ≡ []
+    → Calm id (Note (note.Connect client o) ∷ rest)
 connect_calm id client o rest none policy due m now =
-    subst (λ notes. InNotes policy id due m ((if bytes_eq id client then note.Connect client o ∷ [] else []) ++ notes) now) (sym none)
+    subst (λ notes. InNotes policy id due m
+    ((if bytes_eq id client then note.Connect client o ∷ [] else []) ++ notes) now) (sym none)
     (by_name (bytes_eq id client))
   where
     by_name : (b : Bool) → InNotes policy id due m ((if b then note.Connect client o ∷ [] else []) ++ []) now
     by_name true = (tt, tt)
     by_name false = tt
 
-entry_calm : (s : State) (from : Address) (connect : Connect) (id : List ℕ) (o : Outcome) → is_known id s.clients ≡ false
+entry_calm : (s : State) (from : Address) (connect : Connect) (id : List ℕ) (o : Outcome)
+    → is_known id s.clients ≡ false
     → Calm id (entry_outs s from connect (notes_for s (ByConnect from connect)) o)
 entry_calm s from connect id Allowed unknown =
     let away = unknown_away id s.clients unknown in
-    connect_calm id connect.client_id Allowed (entry_row s from connect (notes_for s (ByConnect from connect)))
+    connect_calm id connect.client_id Allowed
+    (entry_row s from connect (notes_for s (ByConnect from connect)))
     (accepted_notes s from connect id
     ∙ rw (
       absent (beside_for s from connect) id s.clients (only_beside s from connect) away,
       absent
           (entering_for s from connect) id s.clients (only_entering s from connect) away,
     ) refl)
-entry_calm s from connect id (Denied rule) unknown = connect_calm id connect.client_id (Denied rule) (connack from (code_of rule) ∷ []) refl
+entry_calm s from connect id (Denied rule) unknown =
+    connect_calm id connect.client_id (Denied rule) (connack from (code_of rule) ∷ []) refl
 
 row_calm : (s : State) (c : Cause) (id : List ℕ) → is_known id s.clients ≡ false → Calm id (outs_by s c)
 row_calm s (ByConnect from connect) id unknown = entry_calm s from connect id (entry s connect) unknown
 row_calm s (ByMessage from request) id unknown =
     let c = ByMessage from request in
     none_calm id (outs_by s c)
-    (frame_none s c (stranger_to from request) id (any_from c s.clients) refl unknown ((mute_stranger from request).notes id))
-row_calm s (BySource from p) id unknown = none_calm id (outs_by s (BySource from p)) ((foreign_source s from.ip p).notes id)
+    (frame_none s c (stranger_to from request) id (any_from c s.clients) refl unknown
+    ((mute_stranger from request).notes id))
+row_calm s (BySource from p) id unknown =
+    none_calm id (outs_by s (BySource from p)) ((foreign_source s from.ip p).notes id)
 row_calm s (ByBroken from rule) id unknown =
     let c = ByBroken from rule in
     none_calm id (outs_by s c)
-    (frame_none s c (Note (note.Frame (who.Address from) (Denied rule)) ∷ []) id (any_from c s.clients) refl unknown refl)
+    (frame_none s c (Note (note.Frame (who.Address from) (Denied rule)) ∷ []) id
+    (any_from c s.clients) refl unknown refl)
 row_calm s (ByPacket p) id unknown =
     let c = ByPacket p in
     let own = flat_map (part_for s c []) s.clients in
     let rest = answer_outs s.up s.link (answer_of p) in
     none_calm id (own ++ rest)
     (notes_append id own rest
-    ∙ (ap (λ notes. notes ++ notes_of id rest) (parts_none s c [] id unknown) ∙ (mute_packet s.up s.link (answer_of p)).notes id))
+    ∙ (ap (λ notes. notes ++ notes_of id rest) (parts_none s c [] id unknown)
+    ∙ (mute_packet s.up s.link (answer_of p)).notes id))
 row_calm s ByUp id unknown = none_calm id (outs_by s ByUp) (up_none s id)
 row_calm s ByDown id unknown = none_calm id [] refl
 row_calm s ByTake id unknown = none_calm id (outs_by s ByTake) (take_none s id s.up refl)
@@ -240,24 +178,32 @@ row_calm s (ByTick clock) id unknown =
     let rest = ping_dropped s.up link now in
     none_calm id (own ++ rest)
     (notes_append id own rest
-    ∙ (ap (λ notes. notes ++ notes_of id rest) (parts_none s c [] id unknown) ∙ (mute_ping s.up link now).notes id))
+    ∙ (ap (λ notes. notes ++ notes_of id rest) (parts_none s c [] id unknown)
+    ∙ (mute_ping s.up link now).notes id))
 
 -- ---- the law
 
 row_turns : (by : ℕ) (h : List Row) (s : State) (e : Event) → Stands h s → (id : List ℕ)
-    → let rows = record { by = by; event = e; outs = outs_of s e } ∷ h in RowInTurn (around s (cause_of e)).policy h e (due_of id rows) (outs_of s e) id
+    → let rows =
+    record { by = by; event = e; outs = outs_of s e } ∷ h in
+    RowInTurn (around s (cause_of e)).policy h e (due_of id rows) (outs_of s e) id
 row_turns by h s e st id = by_known (is_among id (accepted h)) refl
   where
     by_known : (b : Bool) → is_among id (accepted h) ≡ b
-        → let rows = record { by = by; event = e; outs = outs_of s e } ∷ h in RowInTurn (around s (cause_of e)).policy h e (due_of id rows) (outs_of s e) id
+        → let rows =
+        record { by = by; event = e; outs = outs_of s e } ∷ h in
+        RowInTurn (around s (cause_of e)).policy h e (due_of id rows) (outs_of s e) id
     by_known true is =
         let c = cause_of e in
         let outs = outs_of s e in
         let rows = record { by = by; event = e; outs = outs } ∷ h in
         let InRow : List ℕ → Type 0 = λ one. RowInTurn (around s c).policy h e (due_of one rows) outs one in
-        let own = each_left (λ x. notes_of x.id outs ≡ fixed_for s c x) s.clients (newcomers_for s c) (says s c st.good.apart).own in
+        let own =
+        each_left (λ x. notes_of x.id outs ≡ fixed_for s c x) s.clients (newcomers_for s c)
+        (says s c st.good.apart).own in
         of_accepted InRow s.clients id
-        (each_with (λ x. ClientShown h x × Mailed h x) (λ x. notes_of x.id outs ≡ fixed_for s c x) (λ x. InRow x.id) s.clients
+        (each_with (λ x. ClientShown h x × Mailed h x) (λ x. notes_of x.id outs ≡ fixed_for s c x)
+        (λ x. InRow x.id) s.clients
         (λ x both notes. known_turn by h s e outs x both.0 both.1 notes)
         (each_with (ClientShown h) (Mailed h) (λ x. ClientShown h x × Mailed h x) s.clients
         (λ x one two. (one, two)) st.shown.clients st.shown.mailed) own)
@@ -265,17 +211,23 @@ row_turns by h s e st id = by_known (is_among id (accepted h)) refl
     by_known false is =
         let outs = outs_of s e in
         let rows = record { by = by; event = e; outs = outs } ∷ h in
-        let unknown : is_known id s.clients ≡ false = sym (known_among id s.clients) ∙ (ap (is_among id) st.shown.order ∙ is) in
+        let unknown : is_known id s.clients ≡ false =
+        sym (known_among id s.clients) ∙ (ap (is_among id) st.shown.order ∙ is) in
         let policy = (around s (cause_of e)).policy in
         outs_turns policy id (due_of id rows) (message_at e) outs (moment_at id e h)
         (row_calm s (cause_of e) id unknown policy (due_of id rows) (message_at e) (moment_at id e h))
 
-turn_row : (by : ℕ) (h : List Row) (s : State) (e : Event) (outs : List Out) (id : List ℕ) → outs ≡ outs_of s e → Stands h s → (around s (cause_of e)).policy ≡ policy_in_force (record { by = by; event = e; outs = outs } ∷ h)
-    → let rows = record { by = by; event = e; outs = outs } ∷ h in RowInTurn (policy_in_force rows) h e (due_of id rows) outs id
+turn_row : (by : ℕ) (h : List Row) (s : State) (e : Event) (outs : List Out) (id : List ℕ)
+    → outs ≡ outs_of s e → Stands h s
+    → (around s (cause_of e)).policy ≡ policy_in_force (record { by = by; event = e; outs = outs } ∷ h)
+    → let rows =
+    record { by = by; event = e; outs = outs } ∷ h in
+    RowInTurn (policy_in_force rows) h e (due_of id rows) outs id
 turn_row by h s e outs id is st policy =
     let rows = record { by = by; event = e; outs = outs } ∷ h in
     subst (λ p. RowInTurn p h e (due_of id rows) outs id) policy
-    (subst (λ o. RowInTurn (around s (cause_of e)).policy h e (due_of id (record { by = by; event = e; outs = o } ∷ h)) o id) (sym is)
+    (subst (λ o. RowInTurn (around s (cause_of e)).policy h e
+    (due_of id (record { by = by; event = e; outs = o } ∷ h)) o id) (sym is)
     (row_turns by h s e st id))
 
 pub turns_law : (h : List Row) → Lawful opening h → (id : List ℕ) → EachInTurn id h
@@ -283,5 +235,6 @@ turns_law [] l id = tt
 turns_law (row ∷ h) l id =
     let s = state_of opening h in (
       turns_law h l.0 id,
-      turn_row row.by h s row.event row.outs id (exact_by s (cause_of row.event) row.outs l.1) (stands h l.0) (stands (row ∷ h) l).shown.policy,
+      turn_row row.by h s row.event row.outs id (exact_by s (cause_of row.event) row.outs l.1) (stands h l.0)
+          (stands (row ∷ h) l).shown.policy,
     )

@@ -1,5 +1,5 @@
--- Each message that is handed over or sent again, or whose name is announced, is judged by the policy in force at that row, and so is each
--- that the policy forbids: a part of what each note stands for.
+-- Each message that is handed over or sent again, or whose name is announced, is judged by the policy in
+-- force at that row, and so is each that the policy forbids: a part of what each note stands for.
 use Rattle.std.proofs.Common.{ℕ, List, [], ◌∷◌}
 use Rattle.sng_grants.specs.declared.policy.Policy.{Policy}
 use Rattle.sng_book.specs.declared.decision.Decision.{Decision}
@@ -16,7 +16,8 @@ use Rattle.sng_history.specs.LawsHanding.{IsJudged, AllJudged, EachHandJudged}
 use Rattle.sng_history.specs.LawsPromise.{MayHand, Stands, AllStand, EachStands}
 use Rattle.sng_history.proofs.LawPromise.{promise_law}
 
-hand_judged : (policy : Policy) (id name : List ℕ) (o : Outcome) → MayHand policy id name o → IsJudged policy (note.Hand id name o)
+hand_judged : (policy : Policy) (id name : List ℕ) (o : Outcome) → MayHand policy id name o
+    → IsJudged policy (note.Hand id name o)
 hand_judged policy id name Allowed may = may
 hand_judged policy id name (Denied rule) may = may
 

@@ -1,5 +1,6 @@
 -- A client is lost exactly with a tick by which it was silent for too long, or answered no try.
-use Rattle.std.proofs.Common.{◌≡◌, ℕ, Bool, true, false, List, [], ◌∷◌, ◌++◌, map, refl, ap, sym, ◌∙◌, if◌then◌else◌}
+use Rattle.std.proofs.Common.{◌≡◌, ℕ, Bool, true, false, List, [], ◌∷◌, ◌++◌, map, refl, ap, sym, ◌∙◌}
+use Rattle.std.proofs.Common.{if◌then◌else◌}
 use Rattle.std.specs.Prelude.{◌&&◌, ◌||◌, not, nat_lt, length, drop, Option, Some, None}
 use Rattle.std.specs.Str.{bytes_eq}
 use Rattle.sng_queue.specs.Messages.{Message}
@@ -22,14 +23,19 @@ use Rattle.sng_history.specs.State.{State}
 use Rattle.sng_history.specs.Steps.{outs_by}
 use Rattle.sng_history.specs.Views.{ticks, greatest}
 use Rattle.sng_history.specs.ViewsClients.{phase_of, is_among, accepted, address_of}
-use Rattle.sng_history.specs.ViewsHanding.{Opening, Announced, HandedOver, is_at_least_once, progress_of, waits_for}
+use Rattle.sng_history.specs.ViewsHanding.{Opening, Announced, HandedOver, is_at_least_once, progress_of}
+use Rattle.sng_history.specs.ViewsHanding.{waits_for}
 use Rattle.sng_history.specs.ViewsLink.{waiting, is_ping_due, pinged, published_for}
 use Rattle.sng_history.specs.ViewsWills.{will_of}
 use Rattle.sng_history.specs.LawsRules.{judged}
-use Rattle.sng_history.specs.LawsHanding.{Mailing, receive_rules, hand_rules, knows, publish_to, register_to, sent_before, handed_one, handed_out, opens, pong_to, handed_awake, mailing, is_awake, gone_answer}
-use Rattle.sng_history.specs.LawsLost.{is_unanswered, announced_again, handed_again, opening_again, again_at, again_answer}
+use Rattle.sng_history.specs.LawsHanding.{Mailing, receive_rules, hand_rules, knows, publish_to, register_to}
+use Rattle.sng_history.specs.LawsHanding.{sent_before, handed_one, handed_out, opens, pong_to, handed_awake}
+use Rattle.sng_history.specs.LawsHanding.{mailing, is_awake, gone_answer}
+use Rattle.sng_history.specs.LawsLost.{is_unanswered, announced_again, handed_again, opening_again, again_at}
+use Rattle.sng_history.specs.LawsLost.{again_answer}
 use Rattle.sng_history.specs.ViewsSendings.{Last, last_of}
-use Rattle.sng_history.specs.LawsLost.{is_due_to_be_lost, place_rules, refused_by, will_placed, will_refused, ping_noted, tick_parts, tick_answer}
+use Rattle.sng_history.specs.LawsLost.{is_due_to_be_lost, place_rules, refused_by, will_placed, will_refused}
+use Rattle.sng_history.specs.LawsLost.{ping_noted, tick_parts, tick_answer}
 use Rattle.sng_history.specs.LawsLost.{says_lost, is_lost_in, is_losing}
 use Rattle.sng_history.proofs.Own.{same_means}
 use Rattle.sng_history.proofs.LawUnlost.{none_lost, datagram_no_tick}
@@ -37,11 +43,14 @@ use Rattle.sng_history.proofs.LawUnlost.{none_lost, datagram_no_tick}
 -- ---- a tick
 
 -- outs that lose nobody
-lost_both : (id : List ℕ) (xs ys : List Out) → is_lost_in id xs ≡ false → is_lost_in id (xs ++ ys) ≡ is_lost_in id ys
+lost_both : (id : List ℕ) (xs ys : List Out) → is_lost_in id xs ≡ false
+    → is_lost_in id (xs ++ ys) ≡ is_lost_in id ys
 lost_both id [] ys none = refl
-lost_both id (Note said ∷ xs) ys none = lost_said (says_lost id said) (is_lost_in id xs) none (lost_both id xs ys)
+lost_both id (Note said ∷ xs) ys none =
+    lost_said (says_lost id said) (is_lost_in id xs) none (lost_both id xs ys)
   where
-    lost_said : (b before : Bool) → (b || before) ≡ false → (before ≡ false → is_lost_in id (xs ++ ys) ≡ is_lost_in id ys)
+    lost_said : (b before : Bool) → (b || before) ≡ false
+        → (before ≡ false → is_lost_in id (xs ++ ys) ≡ is_lost_in id ys)
         → (b || is_lost_in id (xs ++ ys)) ≡ is_lost_in id ys
     lost_said true before none rest = absurd cc
     lost_said false before none rest = rest none
@@ -53,7 +62,8 @@ gone_unlost : (id client : List ℕ) (waiting : List Message)
 gone_unlost id client [] = refl
 gone_unlost id client (m ∷ more) = gone_unlost id client more
 
-refused_unlost : (id client : List ℕ) (p : Publication) (o : Outcome) → is_lost_in id (refused_by client p o) ≡ false
+refused_unlost : (id client : List ℕ) (p : Publication) (o : Outcome)
+    → is_lost_in id (refused_by client p o) ≡ false
 refused_unlost id client p Allowed = refl
 refused_unlost id client p (Denied rule) = refl
 
@@ -62,7 +72,8 @@ will_unlost : (h : List Row) (items : List Item) (id client : List ℕ) (ps : Li
 will_unlost h items id client [] = refl
 will_unlost h items id client (p ∷ ps) = refused_unlost id client p (judged (place_rules h items p))
 
-ping_unlost : (h : List Row) (came : ℕ) (items : List Item) (id : List ℕ) → is_lost_in id (ping_noted h came items) ≡ false
+ping_unlost : (h : List Row) (came : ℕ) (items : List Item) (id : List ℕ)
+    → is_lost_in id (ping_noted h came items) ≡ false
 ping_unlost h came items id = by_due (is_ping_due (Tick came) h (pinged h) && not (nat_lt (length items) 512))
   where
     by_due : (b : Bool) → is_lost_in id (if b then Note note.Outbox ∷ [] else []) ≡ false
@@ -70,7 +81,8 @@ ping_unlost h came items id = by_due (is_ping_due (Tick came) h (pinged h) && no
     by_due false = refl
 
 -- what is sent again, or handed over then, loses nobody
-sent_unlost : (id : List ℕ) (m : Message) (rest : List Out) → is_lost_in id rest ≡ false → is_lost_in id (sent_before m rest) ≡ false
+sent_unlost : (id : List ℕ) (m : Message) (rest : List Out) → is_lost_in id rest ≡ false
+    → is_lost_in id (sent_before m rest) ≡ false
 sent_unlost id m rest none = by_qos (is_at_least_once m.qos)
   where
     by_qos : (b : Bool) → is_lost_in id (if b then [] else rest) ≡ false
@@ -89,30 +101,36 @@ handed_unlost id c (m ∷ more) = by_verdict (judged (hand_rules c m.name)) (han
     known true none = sent_unlost id m (handed_out c more) none
     known false none = refl
 
-    by_verdict : (o : Outcome) → is_lost_in id (handed_out c more) ≡ false → is_lost_in id (handed_one c m o (handed_out c more)) ≡ false
+    by_verdict : (o : Outcome) → is_lost_in id (handed_out c more) ≡ false
+        → is_lost_in id (handed_one c m o (handed_out c more)) ≡ false
     by_verdict (Denied rule) none = none
     by_verdict Allowed none = known (knows c m.name) none
 
-awake_unlost : (id : List ℕ) (awake : Bool) (c : Mailing) (ms : List Message) → is_lost_in id (handed_awake awake c ms) ≡ false
+awake_unlost : (id : List ℕ) (awake : Bool) (c : Mailing) (ms : List Message)
+    → is_lost_in id (handed_awake awake c ms) ≡ false
 awake_unlost id awake c ms =
-    lost_both id (handed_out c ms) (if awake && not (opens c ms) then pong_to c.address ∷ [] else []) (handed_unlost id c ms)
+    lost_both id (handed_out c ms) (if awake && not (opens c ms) then pong_to c.address ∷ [] else [])
+    (handed_unlost id c ms)
     ∙ by_awake (awake && not (opens c ms))
   where
     by_awake : (b : Bool) → is_lost_in id (if b then pong_to c.address ∷ [] else []) ≡ false
     by_awake true = refl
     by_awake false = refl
 
-announced_unlost : (id : List ℕ) (awake : Bool) (c : Mailing) (name : List ℕ) (waits : List Message) (o : Outcome)
+announced_unlost : (id : List ℕ) (awake : Bool) (c : Mailing) (name : List ℕ) (waits : List Message)
+    (o : Outcome)
     → is_lost_in id (announced_again awake c name waits o) ≡ false
 announced_unlost id awake c name waits Allowed = refl
 announced_unlost id awake c name waits (Denied rule) = awake_unlost id awake c (drop 1 waits)
 
-message_unlost : (id : List ℕ) (awake : Bool) (c : Mailing) (last : Last) (m : Message) (waits : List Message) (o : Outcome)
+message_unlost : (id : List ℕ) (awake : Bool) (c : Mailing) (last : Last) (m : Message) (waits : List Message)
+    (o : Outcome)
     → is_lost_in id (handed_again awake c last m waits o) ≡ false
 message_unlost id awake c last m waits Allowed = refl
 message_unlost id awake c last m waits (Denied rule) = awake_unlost id awake c waits
 
-opening_unlost : (id : List ℕ) (awake : Bool) (c : Mailing) (last : Last) (waits : List Message) (o : Option Opening)
+opening_unlost : (id : List ℕ) (awake : Bool) (c : Mailing) (last : Last) (waits : List Message)
+    (o : Option Opening)
     → is_lost_in id (opening_again awake c last waits o) ≡ false
 opening_unlost id awake c last waits None = refl
 opening_unlost id awake c last waits (Some (Announced name)) =
@@ -123,34 +141,43 @@ opening_unlost id awake c last waits (Some (HandedOver m)) =
 again_unlost : (h : List Row) (clock : ℕ) (id one : List ℕ) → is_lost_in id (again_answer h clock one) ≡ false
 again_unlost h clock id one = by_place (is_unanswered h clock one) (address_of one h)
   where
-    by_place : (b : Bool) (place : Option Address) → is_lost_in id (if b then again_at h one place else []) ≡ false
+    by_place : (b : Bool) (place : Option Address)
+        → is_lost_in id (if b then again_at h one place else []) ≡ false
     by_place false place = refl
     by_place true None = refl
     by_place true (Some place) =
-        opening_unlost id (is_awake (phase_of one h)) (mailing h one place) (last_of one h) (waits_for one h) (progress_of one h).unanswered
+        opening_unlost id (is_awake (phase_of one h)) (mailing h one place) (last_of one h) (waits_for one h)
+        (progress_of one h).unanswered
 
-same_first : (same among due : Bool) → (same ≡ true → due ≡ true) → (same || (among && due)) ≡ ((same || among) && due)
+same_first : (same among due : Bool) → (same ≡ true → due ≡ true)
+    → (same || (among && due)) ≡ ((same || among) && due)
 same_first true among true is = refl
 same_first true among false is = absurd (let e = is refl in cc)
 same_first false among due is = refl
 
-other_first : (same among due : Bool) → (same ≡ true → due ≡ false) → (among && due) ≡ ((same || among) && due)
+other_first : (same among due : Bool) → (same ≡ true → due ≡ false)
+    → (among && due) ≡ ((same || among) && due)
 other_first true true due is = refl
 other_first true false true is = absurd (let e = is refl in cc)
 other_first true false false is = refl
 other_first false among due is = refl
 
 -- of these just those are lost that are due to be
-lost_by : (h : List Row) (came clock : ℕ) (items : List Item) (id one : List ℕ) (ids : List (List ℕ)) (due : Bool)
+lost_by : (h : List Row) (came clock : ℕ) (items : List Item) (id one : List ℕ) (ids : List (List ℕ))
+    (due : Bool)
     → is_due_to_be_lost h clock one ≡ due
-    → ((more : List Item) → is_lost_in id (tick_parts h came clock more ids) ≡ (is_among id ids && is_due_to_be_lost h clock id))
-    → is_lost_in id (tick_parts h came clock items (one ∷ ids)) ≡ ((bytes_eq id one || is_among id ids) && is_due_to_be_lost h clock id)
+    → ((more : List Item) → is_lost_in id (tick_parts h came clock more ids)
+    ≡ (is_among id ids && is_due_to_be_lost h clock id))
+    → is_lost_in id (tick_parts h came clock items (one ∷ ids))
+    ≡ ((bytes_eq id one || is_among id ids) && is_due_to_be_lost h clock id)
 lost_by h came clock items id one ids true is rest =
     let will = published_for one (will_of one h) in
     let more = items ++ will_placed h items will in
     let last = tick_parts h came clock more ids in
-    let behind : is_lost_in id (gone_answer h one ++ (will_refused h items one will ++ last)) ≡ (is_among id ids && is_due_to_be_lost h clock id) =
-    lost_both id (gone_answer h one) (will_refused h items one will ++ last) (gone_unlost id one (waits_for one h))
+    let behind : is_lost_in id (gone_answer h one ++ (will_refused h items one will ++ last))
+    ≡ (is_among id ids && is_due_to_be_lost h clock id) =
+    lost_both id (gone_answer h one) (will_refused h items one will ++ last)
+    (gone_unlost id one (waits_for one h))
     ∙ (lost_both id (will_refused h items one will) last (will_unlost h items id one will) ∙ rest more) in
     rw is
     (ap (λ b. bytes_eq id one || b) behind
@@ -167,13 +194,15 @@ lost_parts : (h : List Row) (came clock : ℕ) (items : List Item) (id : List �
     → is_lost_in id (tick_parts h came clock items ids) ≡ (is_among id ids && is_due_to_be_lost h clock id)
 lost_parts h came clock items id [] = ping_unlost h came items id
 lost_parts h came clock items id (one ∷ ids) =
-    lost_by h came clock items id one ids (is_due_to_be_lost h clock one) refl (λ more. lost_parts h came clock more id ids)
+    lost_by h came clock items id one ids (is_due_to_be_lost h clock one) refl
+    (λ more. lost_parts h came clock more id ids)
 
 -- who was never accepted is not due to be lost
 abbrev pub Unknown : List Row → List ℕ → Type 0
 Unknown h id = is_among id (accepted h) ≡ false → phase_of id h ≡ None
 
-none_due : (h : List Row) (clock : ℕ) (id : List ℕ) → phase_of id h ≡ None → is_due_to_be_lost h clock id ≡ false
+none_due : (h : List Row) (clock : ℕ) (id : List ℕ) → phase_of id h ≡ None
+    → is_due_to_be_lost h clock id ≡ false
 none_due h clock id none = rw none refl
 
 among_all : (h : List Row) (clock : ℕ) (id : List ℕ) (among : Bool) → (among ≡ false → phase_of id h ≡ None)
@@ -181,17 +210,20 @@ among_all : (h : List Row) (clock : ℕ) (id : List ℕ) (among : Bool) → (amo
 among_all h clock id true unknown = refl
 among_all h clock id false unknown = sym (none_due h clock id (unknown refl))
 
-pub tick_lost : (h : List Row) (came : ℕ) (id : List ℕ) → Unknown h id → is_lost_in id (tick_answer h came) ≡ is_losing (Tick came) h id
+pub tick_lost : (h : List Row) (came : ℕ) (id : List ℕ) → Unknown h id
+    → is_lost_in id (tick_answer h came) ≡ is_losing (Tick came) h id
 tick_lost h came id unknown =
     let clock = greatest (came ∷ ticks h) in
-    lost_parts h came clock (waiting h) id (accepted h) ∙ among_all h clock id (is_among id (accepted h)) unknown
+    lost_parts h came clock (waiting h) id (accepted h)
+    ∙ among_all h clock id (is_among id (accepted h)) unknown
 
 -- ---- each row
 
 pub row_lost : (h : List Row) (s : State) (e : Event) (id : List ℕ) → Unknown h id
     → ((came : ℕ) → e ≡ Tick came → outs_by s (cause_of e) ≡ tick_answer h came)
     → is_lost_in id (outs_by s (cause_of e)) ≡ is_losing e h id
-row_lost h s (Tick came) id unknown answer = ap (is_lost_in id) (answer came refl) ∙ tick_lost h came id unknown
+row_lost h s (Tick came) id unknown answer =
+    ap (is_lost_in id) (answer came refl) ∙ tick_lost h came id unknown
 row_lost h s (Datagram from datagram) id unknown answer =
     none_lost s (cause_of (Datagram from datagram)) id (datagram_no_tick from (frame_of datagram))
 row_lost h s (Broker packet) id unknown answer = none_lost s (ByPacket packet) id refl

@@ -18,13 +18,15 @@ use Rattle.sng_book.specs.declared.decision.Decision.{Decision}
 use Rattle.sng_book.specs.declared.out.Out.{Out}
 use Rattle.sng_book.specs.declared.out.Out.TheVariants.{Send, Wire, Note}
 use Rattle.sng_book.specs.declared.row.Row.{Row}
-use Rattle.sng_history.specs.Causes.{Cause, cause_of, datagram_cause, frame_cause, publish_cause, disconnect_cause}
+use Rattle.sng_history.specs.Causes.{Cause, cause_of, datagram_cause, frame_cause, publish_cause}
+use Rattle.sng_history.specs.Causes.{disconnect_cause}
 use Rattle.sng_history.specs.State.{State, opening, state_of, policy_by}
 use Rattle.sng_history.specs.Steps.{outs_by}
 use Rattle.sng_history.specs.Good.{Each}
 use Rattle.sng_history.specs.Lawful.{Lawful, fixed_for}
 use Rattle.sng_history.specs.LawsPromise.{AllStand, EachStands, Stands}
-use Rattle.sng_history.proofs.EachNote.{EachNote, note_fixed}
+use Rattle.sng_history.proofs.EachNote.{EachNote}
+use Rattle.sng_history.proofs.EachNoteRow.{note_fixed}
 use Rattle.sng_history.proofs.Hands.{Every}
 use Rattle.sng_history.proofs.HeldFilters.{OwnFilters}
 use Rattle.sng_history.proofs.Keeping.{exact_by}
@@ -78,7 +80,8 @@ all_stand policy (Note said ∷ outs) each = (each.0, all_stand policy outs each
 all_stand policy (Send to datagram ∷ outs) each = all_stand policy outs each
 all_stand policy (Wire packet ∷ outs) each = all_stand policy outs each
 
-row_stands : (s : State) (c : Cause) → Broken c → Each OwnFilters s.clients → AllStand (policy_by c s.policy) (outs_by s c)
+row_stands : (s : State) (c : Cause) → Broken c → Each OwnFilters s.clients
+    → AllStand (policy_by c s.policy) (outs_by s c)
 row_stands s c broken filters =
     let P : Decision → Type 0 = Stands (policy_by c s.policy) in
     all_stand (policy_by c s.policy) (outs_by s c)
@@ -86,7 +89,9 @@ row_stands s c broken filters =
     (record {
       dropped = tt;
       nobody = nobody_stands s c broken;
-      own = each_map OwnFilters (λ x. Every P (fixed_for s c x)) s.clients (λ x are. every_fixed s c x broken are) filters;
+      own =
+          each_map OwnFilters (λ x. Every P (fixed_for s c x)) s.clients
+          (λ x are. every_fixed s c x broken are) filters;
     }))
 
 -- ---- the law

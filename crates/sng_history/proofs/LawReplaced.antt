@@ -1,5 +1,6 @@
 -- A replacement of the policy ends what it does not allow, and says so.
-use Rattle.std.proofs.Common.{◌≡◌, ℕ, Bool, true, false, List, [], ◌∷◌, ◌++◌, refl, ap, sym, ◌∙◌, subst, if◌then◌else◌}
+use Rattle.std.proofs.Common.{◌≡◌, ℕ, Bool, true, false, List, [], ◌∷◌, ◌++◌, refl, ap, sym, ◌∙◌, subst}
+use Rattle.std.proofs.Common.{if◌then◌else◌}
 use Rattle.std.specs.Prelude.{◌&&◌, ◌||◌, not}
 use Rattle.std.specs.List.{flat_map}
 use Rattle.std.specs.Str.{bytes_eq}
@@ -31,7 +32,8 @@ use Rattle.sng_history.specs.Good.{AtRest}
 use Rattle.sng_history.proofs.Own.{same_means, flip, each_map, each_with}
 use Rattle.sng_history.proofs.Kept.{client_id}
 use Rattle.sng_history.proofs.Steady.{client_filters}
-use Rattle.sng_history.proofs.SeenState.{StateShown, Stands}
+use Rattle.sng_history.proofs.SeenOrder.{StateShown}
+use Rattle.sng_history.proofs.SeenState.{Stands}
 use Rattle.sng_history.proofs.LawHere.{settled}
 use Rattle.sng_history.proofs.LawEnds.{Kept, drop_shown, flat_ids}
 use Rattle.sng_history.proofs.LawForms.{cover_judged}
@@ -56,11 +58,13 @@ without_if g held gone text true is rest =
     gone_first true false = refl
     gone_first false b = refl
 without_if g held gone text false is rest =
-    ap (λ b. has_text text g || b) rest ∙ kept_first (has_text text g) (stands held text) (bytes_eq gone text) away
+    ap (λ b. has_text text g || b) rest
+    ∙ kept_first (has_text text g) (stands held text) (bytes_eq gone text) away
   where
     away : has_text text g ≡ true → bytes_eq gone text ≡ false
     away here =
-        let same : g.filter ≡ text = same_means g.filter text here in subst (λ t. bytes_eq gone t ≡ false) same (flip gone g.filter is)
+        let same : g.filter ≡ text = same_means g.filter text here in
+        subst (λ t. bytes_eq gone t ≡ false) same (flip gone g.filter is)
 
     kept_first : (u b v : Bool) → (u ≡ true → v ≡ false) → (u || (b && not v)) ≡ ((u || b) && not v)
     kept_first true b v never = rw (never refl) refl
@@ -69,32 +73,43 @@ without_if g held gone text false is rest =
 pub without_stands : (held : List Held) (gone text : List ℕ)
     → stands (without_filter held gone) text ≡ (stands held text && not (bytes_eq gone text))
 without_stands [] gone text = refl
-without_stands (g ∷ held) gone text = without_if g held gone text (has_text gone g) refl (without_stands held gone text)
+without_stands (g ∷ held) gone text =
+    without_if g held gone text (has_text gone g) refl (without_stands held gone text)
 
 -- those that the policy does not allow
-end_stands : (policy : Policy) (id gone text : List ℕ) (o : Outcome) (rest b : Bool) → coverage policy id gone ≡ o
-    → ((if is_allowed o then b else (b && not (bytes_eq gone text))) && (is_allowed (coverage policy id text) || not rest))
+end_stands : (policy : Policy) (id gone text : List ℕ) (o : Outcome) (rest b : Bool)
+    → coverage policy id gone ≡ o
+    → ((if is_allowed o then b else (b && not (bytes_eq gone text)))
+    && (is_allowed (coverage policy id text) || not rest))
     ≡ (b && (is_allowed (coverage policy id text) || not (bytes_eq gone text || rest)))
 end_stands policy id gone text o rest b is = by_same (bytes_eq gone text) refl o is
   where
     by_same : (same : Bool) → bytes_eq gone text ≡ same → (o : Outcome) → coverage policy id gone ≡ o
-        → ((if is_allowed o then b else (b && not same)) && (is_allowed (coverage policy id text) || not rest))
+        → ((if is_allowed o then b else (b && not same))
+        && (is_allowed (coverage policy id text) || not rest))
         ≡ (b && (is_allowed (coverage policy id text) || not (same || rest)))
     by_same false away Allowed may = refl
-    by_same false away (Denied rule) may = ap (λ t. t && (is_allowed (coverage policy id text) || not rest)) (sym (and_true b))
+    by_same false away (Denied rule) may =
+        ap (λ t. t && (is_allowed (coverage policy id text) || not rest)) (sym (and_true b))
     by_same true same Allowed may =
-        let now : coverage policy id text ≡ Allowed = subst (λ t. coverage policy id t ≡ Allowed) (same_means gone text same) may in rw now refl
+        let now : coverage policy id text ≡ Allowed =
+        subst (λ t. coverage policy id t ≡ Allowed) (same_means gone text same) may in
+        rw now refl
     by_same true same (Denied rule) may =
-        let now : coverage policy id text ≡ Denied rule = subst (λ t. coverage policy id t ≡ Denied rule) (same_means gone text same) may in rw now (none b rest)
+        let now : coverage policy id text ≡ Denied rule =
+        subst (λ t. coverage policy id t ≡ Denied rule) (same_means gone text same) may in
+        rw now (none b rest)
       where
         none : (b r : Bool) → ((b && false) && not r) ≡ (b && false)
         none true r = refl
         none false r = refl
 
-end_by_note : (a : Around) (id gone text : List ℕ) (notes : List Decision) (x : Client) (o : Outcome) (more : Bool)
+end_by_note : (a : Around) (id gone text : List ℕ) (notes : List Decision) (x : Client) (o : Outcome)
+    (more : Bool)
     → ((y : Client) → stands (notes_by a notes y).filters text ≡ (stands y.filters text && more))
     → stands (notes_by a (end_of id gone o ++ notes) x).filters text
-    ≡ ((if is_allowed o then stands x.filters text else (stands x.filters text && not (bytes_eq gone text))) && more)
+    ≡ ((if is_allowed o then stands x.filters text else (stands x.filters text && not (bytes_eq gone text)))
+    && more)
 end_by_note a id gone text notes x Allowed more rest = rest x
 end_by_note a id gone text notes x (Denied rule) more rest =
     rest (without gone x) ∙ ap (λ b. b && more) (without_stands x.filters gone text)
@@ -103,14 +118,16 @@ ends_stand : (a : Around) (policy : Policy) (id : List ℕ) (held : List Held) (
     → stands (notes_by a (ends_under policy id held) x).filters text
     ≡ (stands x.filters text && (is_allowed (coverage policy id text) || not (stands held text)))
 ends_stand a policy id [] x text =
-    and_true (stands x.filters text) ∙ ap (λ b. stands x.filters text && b) (sym (or_true (is_allowed (coverage policy id text))))
+    and_true (stands x.filters text)
+    ∙ ap (λ b. stands x.filters text && b) (sym (or_true (is_allowed (coverage policy id text))))
   where
     or_true : (b : Bool) → (b || true) ≡ true
     or_true true = refl
     or_true false = refl
 ends_stand a policy id (g ∷ held) x text =
     let o = coverage policy id g.filter in
-    end_by_note a id g.filter text (ends_under policy id held) x o (is_allowed (coverage policy id text) || not (stands held text))
+    end_by_note a id g.filter text (ends_under policy id held) x o
+    (is_allowed (coverage policy id text) || not (stands held text))
     (λ y. ends_stand a policy id held y text)
     ∙ end_stands policy id g.filter text o (stands held text) (stands x.filters text) refl
 
@@ -126,29 +143,38 @@ replace_kept : (h : List Row) (s : State) (policy : Policy) (x : Client) → Cli
 replace_kept h s policy x shown = record {
   id = client_id (around s (ByReplace policy)) (fixed_for s (ByReplace policy) x) x;
   was = shown.filters;
-  now = λ text. ap (λ held. stands held text) (client_filters (around s (ByReplace policy)) (fixed_for s (ByReplace policy) x) x)
+  now =
+      λ text. ap (λ held. stands held text)
+      (client_filters (around s (ByReplace policy)) (fixed_for s (ByReplace policy) x) x)
       ∙ ends_stand (around s (ByReplace policy)) policy x.id x.filters x text
-      ∙ (stood_first (stands x.filters text) (is_allowed (coverage policy x.id text)) ∙ ap (λ o. stands x.filters text && is_allowed o) (cover_judged policy x.id text));
+      ∙ (stood_first (stands x.filters text) (is_allowed (coverage policy x.id text))
+      ∙ ap (λ o. stands x.filters text && is_allowed o) (cover_judged policy x.id text));
 }
 
-end_spelled : (h : List Row) (a : Around) (policy : Policy) (dropped : List Release) (id text : List ℕ) (z : Client) (notes : List Decision) (o : Outcome) (more : List Out) → z.id ≡ id
-    → drop_note dropped id text ≡ untold_note h (stays_under policy) id text → ((y : Client) → y.id ≡ id → spell a dropped y notes ≡ more)
+end_spelled : (h : List Row) (a : Around) (policy : Policy) (dropped : List Release) (id text : List ℕ)
+    (z : Client) (notes : List Decision) (o : Outcome) (more : List Out) → z.id ≡ id
+    → drop_note dropped id text ≡ untold_note h (stays_under policy) id text
+    → ((y : Client) → y.id ≡ id → spell a dropped y notes ≡ more)
     → spell a dropped z (end_of id text o ++ notes) ≡ end_by h policy id text o ++ more
 end_spelled h a policy dropped id text z notes Allowed more same noted rest = rest z same
 end_spelled h a policy dropped id text z notes (Denied rule) more same noted rest =
     ap (λ outs. Note (note.End id text (Denied rule)) ∷ outs)
-    (ap (λ first. first ++ spell a dropped (without text z) notes) (ap (λ i. drop_note dropped i text) same ∙ noted)
+    (ap (λ first. first ++ spell a dropped (without text z) notes)
+    (ap (λ i. drop_note dropped i text) same ∙ noted)
     ∙ ap (λ last. untold_note h (stays_under policy) id text ++ last) (rest (without text z) same))
 
-ends_spelled : (h : List Row) (a : Around) (policy : Policy) (dropped : List Release) (id : List ℕ) (held : List Held) (z : Client)
+ends_spelled : (h : List Row) (a : Around) (policy : Policy) (dropped : List Release) (id : List ℕ)
+    (held : List Held) (z : Client)
     → z.id ≡ id
     → ((text : List ℕ) → drop_note dropped id text ≡ untold_note h (stays_under policy) id text)
     → spell a dropped z (ends_under policy id held)
     ≡ flat_map (λ text. end_by h policy id text (judged (cover_rules policy id text))) (texts_of held)
 ends_spelled h a policy dropped id [] z same noted = refl
 ends_spelled h a policy dropped id (g ∷ held) z same noted =
-    let rest = flat_map (λ text. end_by h policy id text (judged (cover_rules policy id text))) (texts_of held) in
-    end_spelled h a policy dropped id g.filter z (ends_under policy id held) (coverage policy id g.filter) rest same (noted g.filter)
+    let rest =
+    flat_map (λ text. end_by h policy id text (judged (cover_rules policy id text))) (texts_of held) in
+    end_spelled h a policy dropped id g.filter z (ends_under policy id held)
+    (coverage policy id g.filter) rest same (noted g.filter)
     (λ y is. ends_spelled h a policy dropped id held y is noted)
     ∙ ap (λ o. end_by h policy id g.filter o ++ rest) (cover_judged policy id g.filter)
 
@@ -159,15 +185,20 @@ end_busy : (a : Around) (id text : List ℕ) (o : Outcome) (notes : List Decisio
 end_busy a id text Allowed notes x rest busy = rest x busy
 end_busy a id text (Denied rule) notes x rest busy = rest (without text x) busy
 
-ends_busy : (a : Around) (policy : Policy) (id : List ℕ) (held : List Held) (x : Client) → is_drained x ≡ false
+ends_busy : (a : Around) (policy : Policy) (id : List ℕ) (held : List Held) (x : Client)
+    → is_drained x ≡ false
     → is_drained (notes_by a (ends_under policy id held) x) ≡ false
 ends_busy a policy id [] x busy = busy
 ends_busy a policy id (g ∷ held) x busy =
-    end_busy a id g.filter (coverage policy id g.filter) (ends_under policy id held) x (λ y is. ends_busy a policy id held y is) busy
+    end_busy a id g.filter (coverage policy id g.filter) (ends_under policy id held) x
+    (λ y is. ends_busy a policy id held y is) busy
 
-replace_part : (h : List Row) (s : State) (policy : Policy) (x : Client) → StateShown h s → ClientShown h x → is_drained x ≡ false
-    → part (around s (ByReplace policy)) (drops s (ByReplace policy) (notes_for s (ByReplace policy))) (fixed_for s (ByReplace policy) x) x
-    ≡ flat_map (λ text. end_by h policy x.id text (judged (cover_rules policy x.id text))) (texts_of (standing_of x.id h))
+replace_part : (h : List Row) (s : State) (policy : Policy) (x : Client) → StateShown h s → ClientShown h x
+    → is_drained x ≡ false
+    → part (around s (ByReplace policy)) (drops s (ByReplace policy) (notes_for s (ByReplace policy)))
+    (fixed_for s (ByReplace policy) x) x
+    ≡ flat_map (λ text. end_by h policy x.id text (judged (cover_rules policy x.id text)))
+    (texts_of (standing_of x.id h))
 replace_part h s policy x shown is busy =
     let c = ByReplace policy in
     let a = around s c in
@@ -175,17 +206,22 @@ replace_part h s policy x shown is busy =
     let each =
     each_map (ClientShown h) (λ y. Kept h (stays_under policy) y (client_next s c y)) s.clients
     (λ y known. replace_kept h s policy y known) shown.clients in
-    settled (spell a dropped x (ends_under policy x.id x.filters)) (notes_by a (ends_under policy x.id x.filters) x)
+    settled (spell a dropped x (ends_under policy x.id x.filters))
+    (notes_by a (ends_under policy x.id x.filters) x)
     (ends_busy a policy x.id x.filters x busy)
-    ∙ (ends_spelled h a policy dropped x.id x.filters x refl (λ text. drop_shown h s c (stays_under policy) x.id text shown each)
-    ∙ ap (λ held. flat_map (λ text. end_by h policy x.id text (judged (cover_rules policy x.id text))) (texts_of held)) is.filters)
+    ∙ (ends_spelled h a policy dropped x.id x.filters x refl
+    (λ text. drop_shown h s c (stays_under policy) x.id text shown each)
+    ∙ ap (λ held. flat_map (λ text. end_by h policy x.id text (judged (cover_rules policy x.id text)))
+    (texts_of held)) is.filters)
 
-pub replace_row : (h : List Row) (s : State) (policy : Policy) → Stands h s → outs_by s (ByReplace policy) ≡ replace_answer h policy
+pub replace_row : (h : List Row) (s : State) (policy : Policy) → Stands h s
+    → outs_by s (ByReplace policy) ≡ replace_answer h policy
 replace_row h s policy st =
     let c = ByReplace policy in
     let g : Client → List Out = λ x. part (around s c) (drops s c (notes_for s c)) (fixed_for s c x) x in
     let f : List ℕ → List Out =
-    λ id. flat_map (λ text. end_by h policy id text (judged (cover_rules policy id text))) (texts_of (standing_of id h)) in
+    λ id. flat_map (λ text. end_by h policy id text (judged (cover_rules policy id text)))
+    (texts_of (standing_of id h)) in
     flat_ids g f s.clients
     (each_with (ClientShown h) AtRest (λ x. g x ≡ f x.id) s.clients
     (λ x is rest. replace_part h s policy x st.shown is rest.busy) st.shown.clients st.good.rest)

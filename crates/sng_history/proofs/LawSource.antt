@@ -16,14 +16,16 @@ use Rattle.sng_book.specs.declared.decision.Decision.TheVariants as note
 use Rattle.sng_book.specs.declared.decision.Who.TheVariants as who
 use Rattle.sng_book.specs.declared.outcome.IdKind.TheVariants as kind
 use Rattle.sng_book.specs.declared.outcome.Place.TheVariants as place
-use Rattle.sng_book.specs.declared.outcome.Denial.TheVariants.{UnknownSource, BadName, IdType, UnknownId, MissingPub, UpstreamDown, Full}
+use Rattle.sng_book.specs.declared.outcome.Denial.TheVariants.{UnknownSource, BadName, IdType, UnknownId}
+use Rattle.sng_book.specs.declared.outcome.Denial.TheVariants.{MissingPub, UpstreamDown, Full}
 use Rattle.sng_book.specs.declared.out.Out.TheVariants.{Note}
 use Rattle.sng_book.specs.declared.row.Row.{Row}
 use Rattle.sng_history.specs.State.{State}
 use Rattle.sng_history.specs.Verdicts.{source_ask, named_ask, name_in, verdict, octets_of}
 use Rattle.sng_history.specs.LawsRules.{Rule, judged, may_publish}
-use Rattle.sng_history.specs.LawsAnswers.{needs_session, is_bad_short, is_nameless, name_read, or_empty, source_answer}
-use Rattle.sng_history.proofs.SeenState.{StateShown}
+use Rattle.sng_history.specs.LawsAnswers.{needs_session, is_bad_short, is_nameless, name_read, or_empty}
+use Rattle.sng_history.specs.LawsAnswers.{source_answer}
+use Rattle.sng_history.proofs.SeenOrder.{StateShown}
 
 -- what forbids a publish under a name
 abbrev name_rules : State → List Pair → List ℕ → List Rule
@@ -33,7 +35,8 @@ name_rules s pairs name =
     ∷ (not (nat_lt (length s.link.waiting) 512), Full place.Outbox)
     ∷ []
 
-tail_ruled : (s : State) (source name : List ℕ) (pairs : List Pair) (g u r : Bool) → scope_of s.policy.sources source ≡ Some pairs
+tail_ruled : (s : State) (source name : List ℕ) (pairs : List Pair) (g u r : Bool)
+    → scope_of s.policy.sources source ≡ Some pairs
     → is_granted permission.Publish pairs name ≡ g → s.up ≡ u → nat_lt (length s.link.waiting) 512 ≡ r
     → verdict s (origin.Source source) name AtMostOnce ≡ judged (name_rules s pairs name)
 tail_ruled s source name pairs true true true scope granted up free = rw (scope, granted, up, free) refl
@@ -41,10 +44,12 @@ tail_ruled s source name pairs true true false scope granted up full = rw (scope
 tail_ruled s source name pairs true false r scope granted down free = rw (scope, granted, down) refl
 tail_ruled s source name pairs false u r scope missing up free = rw (scope, missing) refl
 
-name_ruled : (s : State) (source name : List ℕ) (pairs : List Pair) → scope_of s.policy.sources source ≡ Some pairs
+name_ruled : (s : State) (source name : List ℕ) (pairs : List Pair)
+    → scope_of s.policy.sources source ≡ Some pairs
     → verdict s (origin.Source source) name AtMostOnce ≡ judged (name_rules s pairs name)
 name_ruled s source name pairs scope =
-    tail_ruled s source name pairs (is_granted permission.Publish pairs name) s.up (nat_lt (length s.link.waiting) 512) scope refl refl refl
+    tail_ruled s source name pairs (is_granted permission.Publish pairs name) s.up
+    (nat_lt (length s.link.waiting) 512) scope refl refl refl
 
 -- what forbids a publish of a listed device
 abbrev type_rules : State → List Pair → TopicIdType → ℕ → List Rule
@@ -56,21 +61,29 @@ type_rules s pairs type id =
 
 abbrev TypeRuled : State → List ℕ → List Pair → TopicIdType → ℕ → Type 0
 TypeRuled s source pairs type id =
-    named_ask s source (name_in s.policy None type id) ≡ note.Publish (who.Source source) (name_read s.policy type id) (judged (type_rules s pairs type id))
+    named_ask s source (name_in s.policy None type id)
+    ≡ note.Publish (who.Source source) (name_read s.policy type id) (judged (type_rules s pairs type id))
 
-short_ruled : (s : State) (source : List ℕ) (pairs : List Pair) (id : ℕ) (b : Bool) → scope_of s.policy.sources source ≡ Some pairs → is_name (octets_of id) ≡ b
+short_ruled : (s : State) (source : List ℕ) (pairs : List Pair) (id : ℕ) (b : Bool)
+    → scope_of s.policy.sources source ≡ Some pairs → is_name (octets_of id) ≡ b
     → TypeRuled s source pairs Short id
-short_ruled s source pairs id true scope good = rw good (ap (note.Publish (who.Source source) (Some (octets_of id))) (name_ruled s source (octets_of id) pairs scope))
+short_ruled s source pairs id true scope good =
+    rw good (ap (note.Publish (who.Source source) (Some (octets_of id)))
+    (name_ruled s source (octets_of id) pairs scope))
 short_ruled s source pairs id false scope bad = rw bad refl
 
-predefined_ruled : (s : State) (source : List ℕ) (pairs : List Pair) (id : ℕ) (t : Option (List ℕ)) → scope_of s.policy.sources source ≡ Some pairs → topic s.policy id ≡ t
+predefined_ruled : (s : State) (source : List ℕ) (pairs : List Pair) (id : ℕ) (t : Option (List ℕ))
+    → scope_of s.policy.sources source ≡ Some pairs → topic s.policy id ≡ t
     → TypeRuled s source pairs Predefined id
-predefined_ruled s source pairs id (Some name) scope is = rw is (ap (note.Publish (who.Source source) (Some name)) (name_ruled s source name pairs scope))
+predefined_ruled s source pairs id (Some name) scope is =
+    rw is (ap (note.Publish (who.Source source) (Some name)) (name_ruled s source name pairs scope))
 predefined_ruled s source pairs id None scope is = rw is refl
 
-type_ruled : (s : State) (source : List ℕ) (pairs : List Pair) (type : TopicIdType) (id : ℕ) → scope_of s.policy.sources source ≡ Some pairs → TypeRuled s source pairs type id
+type_ruled : (s : State) (source : List ℕ) (pairs : List Pair) (type : TopicIdType) (id : ℕ)
+    → scope_of s.policy.sources source ≡ Some pairs → TypeRuled s source pairs type id
 type_ruled s source pairs Short id scope = short_ruled s source pairs id (is_name (octets_of id)) scope refl
-type_ruled s source pairs Predefined id scope = predefined_ruled s source pairs id (topic s.policy id) scope refl
+type_ruled s source pairs Predefined id scope =
+    predefined_ruled s source pairs id (topic s.policy id) scope refl
 type_ruled s source pairs Normal id scope = refl
 type_ruled s source pairs Reserved id scope = refl
 
@@ -90,12 +103,17 @@ state_rules s source p =
 abbrev StateRuled : State → List ℕ → Publish → Type 0
 StateRuled s source p =
     source_ask s source p
-    ≡ note.Publish (who.Source source) (if lists_source s.policy source then name_read s.policy p.flags.id_type p.topic_id else None) (judged (state_rules s source p))
+    ≡ note.Publish (who.Source source)
+    (if lists_source s.policy source then name_read s.policy p.flags.id_type p.topic_id else None)
+    (judged (state_rules s source p))
 
-source_ruled : (s : State) (source : List ℕ) (p : Publish) (scope : Option (List Pair)) → scope_of s.policy.sources source ≡ scope → StateRuled s source p
+source_ruled : (s : State) (source : List ℕ) (p : Publish) (scope : Option (List Pair))
+    → scope_of s.policy.sources source ≡ scope → StateRuled s source p
 source_ruled s source p None is = rw is refl
 source_ruled s source p (Some pairs) is = rw is (type_ruled s source pairs p.flags.id_type p.topic_id is)
 
-pub source_row : (h : List Row) (s : State) (from : Address) (p : Publish) → StateShown h s → Note (source_ask s from.ip p) ∷ [] ≡ source_answer h from p
+pub source_row : (h : List Row) (s : State) (from : Address) (p : Publish) → StateShown h s
+    → Note (source_ask s from.ip p) ∷ [] ≡ source_answer h from p
 source_row h s from p shown =
-    rw (sym shown.policy, sym shown.up, sym shown.waits) (ap (λ said. Note said ∷ []) (source_ruled s from.ip p (scope_of s.policy.sources from.ip) refl))
+    rw (sym shown.policy, sym shown.up, sym shown.waits)
+    (ap (λ said. Note said ∷ []) (source_ruled s from.ip p (scope_of s.policy.sources from.ip) refl))

@@ -1,7 +1,7 @@
 -- A client that was never accepted has no state, and nothing waits for it.
-use Rattle.std.proofs.Common.{◌≡◌, ℕ, Bool, true, false, List, [], ◌∷◌, ◌++◌, refl, ap, sym, ◌∙◌, subst, if◌then◌else◌, Ok, Err}
-use Rattle.std.specs.Prelude.{◌&&◌, ◌||◌, not, drop, Option, Some, None}
-use Rattle.std.specs.List.{flat_map}
+use Rattle.std.proofs.Common.{◌≡◌, ℕ, Bool, true, false, List, [], ◌∷◌, ◌++◌, refl, ap, sym, ◌∙◌, subst}
+use Rattle.std.proofs.Common.{if◌then◌else◌, Ok, Err}
+use Rattle.std.specs.Prelude.{◌&&◌, ◌||◌, not, Option, Some, None}
 use Rattle.std.specs.Option.{option_to_list}
 use Rattle.std.specs.Str.{bytes_eq}
 use Rattle.std.specs.declared.result.Result.{Result}
@@ -14,17 +14,14 @@ use Rattle.sng_outbox.specs.declared.in_flight.InFlight.{InFlight}
 use Rattle.sng_outbox.specs.declared.item.Item.{Item}
 use Rattle.sng_outbox.specs.declared.item.Item.TheVariants as item
 use Rattle.sng_outbox.specs.declared.item.Publication.{Publication}
-use Rattle.sng_states.specs.States.{has_session}
 use Rattle.sng_frames.specs.Reading.{frame_of}
 use Rattle.sng_frames.specs.declared.fault.FrameFault.{FrameFault}
 use Rattle.sng_frames.specs.declared.messages.connect.Connect.{Connect}
 use Rattle.sng_frames.specs.declared.messages.publish.Publish.{Publish}
 use Rattle.sng_frames.specs.declared.qos.FrameQos.{FrameQos}
 use Rattle.sng_frames.specs.declared.qos.FrameQos.TheVariants as qos
-use Rattle.sng_frames.specs.declared.return_code.TheConstants.ReturnCode.{ACCEPTED}
 use Rattle.sng_frames.specs.declared.frame.SnFrame.{SnFrame}
 use Rattle.sng_frames.specs.declared.frame.SnFrame.TheVariants as frame
-use Rattle.sng_book.specs.Denials.{is_allowed}
 use Rattle.sng_book.specs.declared.address.Address.{Address}
 use Rattle.sng_book.specs.declared.decision.Decision.TheVariants as note
 use Rattle.sng_book.specs.declared.outcome.Outcome.{Outcome}
@@ -34,120 +31,44 @@ use Rattle.sng_book.specs.declared.event.Event.TheVariants.{Datagram, Broker, Up
 use Rattle.sng_book.specs.declared.out.Out.{Out}
 use Rattle.sng_book.specs.declared.out.Out.TheVariants.{Send, Wire, Note}
 use Rattle.sng_book.specs.declared.row.Row.{Row}
-use Rattle.sng_history.specs.Causes.{ToPing, ToLeave, ToRegister, ToPublish, ToSubscribe, ToUnsubscribe, ToConfirm, ToAcknowledge, Untaken}
-use Rattle.sng_history.specs.Causes.{datagram_cause, publish_cause, rule_of, ToState, StatesTopic, StatesMessage, UpdatesTopic}
+use Rattle.sng_history.specs.Causes.{ToPing, ToLeave, ToRegister, ToPublish, ToSubscribe, ToUnsubscribe}
+use Rattle.sng_history.specs.Causes.{ToConfirm, ToAcknowledge, Untaken}
+use Rattle.sng_history.specs.Causes.{datagram_cause, publish_cause, rule_of, ToState, StatesTopic}
+use Rattle.sng_history.specs.Causes.{StatesMessage, UpdatesTopic}
 use Rattle.sng_history.specs.Causes.{UpdatesMessage, ByTick, ToSleep}
 use Rattle.sng_history.specs.Causes.{ByConnect, ByPacket, ByUp, ByReplace}
-use Rattle.sng_history.specs.Outgoing.{all_gone, handed_over}
-use Rattle.sng_history.specs.Clients.{Client, same_address, is_here, let_in}
-use Rattle.sng_history.specs.State.{State, around, later}
+use Rattle.sng_history.specs.Clients.{Client}
+use Rattle.sng_history.specs.State.{State, later}
 use Rattle.sng_history.specs.Verdicts.{exit, entry}
-use Rattle.sng_history.specs.Answers.{dismissed, connack, welcome}
-use Rattle.sng_history.specs.Whole.{spell, part, drops, client_rows, moved, beside, entering_part, entry_outs, around_welcome}
-use Rattle.sng_history.specs.Standing.{Release, drop_notes}
-use Rattle.sng_history.specs.Lawful.{entering_notes, fixed_for, exits_for}
+use Rattle.sng_history.specs.Whole.{drops, client_rows}
+use Rattle.sng_history.specs.Lawful.{exits_for}
 use Rattle.sng_history.specs.Steps.{notes_for, outs_by, outs_of}
-use Rattle.sng_history.specs.ViewsClients.{phase_of, is_admitted, is_among, accepted_by, accepted_in, is_awaiting}
-use Rattle.sng_history.specs.Links.{Link, packet_id_by, exited, resumed, filters_wanted, subscribe_left, unsubscribe_left}
-use Rattle.sng_history.specs.Exits.{exits_of, forwarded, subscribe_leaves, unsubscribe_leaves, subscribing, leaving, agains_of, sent_again}
+use Rattle.sng_history.specs.ViewsClients.{phase_of, is_admitted, is_among, accepted_by, accepted_in}
+use Rattle.sng_history.specs.ViewsClients.{is_awaiting}
+use Rattle.sng_history.specs.Links.{Link, packet_id_by, exited, resumed, filters_wanted, subscribe_left}
+use Rattle.sng_history.specs.Links.{unsubscribe_left}
+use Rattle.sng_history.specs.Exits.{exits_of, forwarded, subscribe_leaves, unsubscribe_leaves, subscribing}
+use Rattle.sng_history.specs.Exits.{leaving, agains_of, sent_again}
 use Rattle.sng_history.specs.Exits.{resending}
-use Rattle.sng_history.specs.Packets.{Answer, Delivers, Acknowledges, Grants, Refuses, Confirms, Strange, answer_of, has_place, owed}
+use Rattle.sng_history.specs.Packets.{Answer, Delivers, Acknowledges, Grants, Refuses, Confirms, Strange}
+use Rattle.sng_history.specs.Packets.{answer_of, has_place, owed}
 use Rattle.sng_history.specs.Packets.{misnamed, dropped, answer_outs}
 use Rattle.sng_history.specs.ViewsMessages.{Connects, message_in}
 use Rattle.sng_history.specs.ViewsStanding.{standing_of}
 use Rattle.sng_history.specs.ViewsHanding.{is_matched, qos_due, meant_in}
 use Rattle.sng_history.proofs.Own.{same_self, same_means}
-use Rattle.sng_history.proofs.Hands.{Every, every_handed, every_gone}
 use Rattle.sng_history.proofs.LawLink.{Wires, subscribe_wires, unsubscribe_wires, subscribing_wires}
 use Rattle.sng_history.proofs.SeenNotes.{admitted_notes}
 use Rattle.sng_history.specs.Ticking.{is_ping_due, with_wills, ping_dropped}
 use Rattle.sng_history.specs.Losing.{tick_notes}
 use Rattle.sng_history.proofs.Statements.{every_tick}
-use Rattle.sng_frames.specs.Writing.{written}
-use Rattle.sng_history.proofs.LawAdmits.{or_false, admitted_append, admitted_flat, Modest, modest_notes, modest_messages, spell_admits}
-use Rattle.sng_history.proofs.LawAdmits.{admitted_part, admitted_rows}
-use Rattle.sng_history.proofs.LawAdmits.{admitted_message, admitted_broken, ends_note, packet_note, admitted_source}
-
--- ---- a CONNECT accepts the client that it names, and no other
-
-moved_if : (id : List ℕ) (x : Client) (own away : Bool)
-    → is_admitted id (if own then (if away then dismissed x.address ∷ [] else []) else []) ≡ false
-moved_if id x true true = refl
-moved_if id x true false = refl
-moved_if id x false away = refl
-
-beside_notes : (s : State) (from : Address) (connect : Connect) (x : Client) (id : List ℕ) (here : Bool) (o : Outcome)
-    → admitted_notes id (if is_allowed o then (if here then note.Left x.id ∷ all_gone x.id x.buffer.waiting else []) else []) ≡ false
-beside_notes s from connect x id true Allowed =
-    modest_notes id (all_gone x.id x.buffer.waiting) (every_gone (Modest id) x.id x.buffer.waiting (modest_messages id x.id))
-beside_notes s from connect x id false Allowed = refl
-beside_notes s from connect x id here (Denied rule) = refl
-
-beside_if : (s : State) (from : Address) (connect : Connect) (x : Client) (id : List ℕ) (own : Bool) → bytes_eq connect.client_id x.id ≡ own
-    → is_admitted id (if own then [] else part (around s (ByConnect from connect)) [] (fixed_for s (ByConnect from connect) x) x) ≡ false
-beside_if s from connect x id true is = refl
-beside_if s from connect x id false is =
-    admitted_part s (ByConnect from connect) [] x id (bytes_eq id x.id) refl
-    (rw is (beside_notes s from connect x id (is_here x from) (entry s connect)))
-
--- what waits for the one that connects is gone, or is handed over
-entering_modest : (s : State) (from : Address) (connect : Connect) (x : Client) (id : List ℕ) (o : Outcome)
-    → Every (Modest id) (entering_notes s from connect x o)
-entering_modest s from connect x id (Denied rule) = tt
-entering_modest s from connect x id Allowed = by_clean connect.flags.clean
-  where
-    by_clean : (clean : Bool)
-        → Every (Modest id) (if clean then all_gone x.id x.buffer.waiting else handed_over s.policy (let_in s.clock from connect x))
-    by_clean true = every_gone (Modest id) x.id x.buffer.waiting (modest_messages id x.id)
-    by_clean false = let y = let_in s.clock from connect x in every_handed (Modest id) s.policy y (modest_messages id y.id)
-
-entering_if : (s : State) (from : Address) (connect : Connect) (x : Client) (id : List ℕ) (own : Bool)
-    → bytes_eq connect.client_id x.id ≡ own
-    → is_admitted id
-    (if own then spell (around s (ByConnect from connect)) [] (let_in s.clock from connect x)
-    (drop 1 (fixed_for s (ByConnect from connect) x)) else []) ≡ false
-entering_if s from connect x id true is =
-    rw is
-    (spell_admits id (around s (ByConnect from connect)) [] (let_in s.clock from connect x)
-    (entering_notes s from connect x (entry s connect)) (entering_modest s from connect x id (entry s connect)))
-entering_if s from connect x id false is = refl
-
-welcome_admits : (id : List ℕ) (connect : Connect) (from : Address) → is_admitted id (welcome connect from ∷ []) ≡ false
-welcome_admits id connect from = by_will connect.flags.will
-  where
-    by_will : (will : Bool)
-        → is_admitted id ((if will then Send from (written frame.WillTopicRequest) else connack from ACCEPTED) ∷ []) ≡ false
-    by_will true = refl
-    by_will false = refl
-
-around_admits : (id : List ℕ) (ack : Out) (clean : Bool) (own : List Out) → is_admitted id own ≡ false → is_admitted id (ack ∷ []) ≡ false
-    → is_admitted id (around_welcome clean own ack) ≡ false
-around_admits id ack true own none sent = admitted_append id own (ack ∷ []) none sent
-around_admits id ack false own none sent = admitted_append id (ack ∷ []) own sent none
-
-drops_admit : (id : List ℕ) (dropped : List Release) → is_admitted id (drop_notes dropped) ≡ false
-drops_admit id [] = refl
-drops_admit id (r ∷ dropped) = drops_admit id dropped
-
-entry_admits : (s : State) (from : Address) (connect : Connect) (id : List ℕ) (o : Outcome) → bytes_eq id connect.client_id ≡ false
-    → is_admitted id (entry_outs s from connect (notes_for s (ByConnect from connect)) o) ≡ false
-entry_admits s from connect id Allowed other =
-    let c = ByConnect from connect in
-    let f : Client → List Out = beside (around s c) (notes_for s c) connect.client_id in
-    let g : Client → List Out = entering_part (around s c) (notes_for s c) from connect in
-    let noted = drop_notes (drops s c (notes_for s c)) in
-    let last = around_welcome connect.flags.clean (flat_map g s.clients) (welcome connect from) in
-    rw other
-    (admitted_append id (flat_map (moved from connect.client_id) s.clients) (flat_map f s.clients ++ (noted ++ last))
-    (admitted_flat id (moved from connect.client_id) s.clients
-    (λ x. moved_if id x (bytes_eq connect.client_id x.id) (has_session x.phase && not (same_address x.address from))))
-    (admitted_append id (flat_map f s.clients) (noted ++ last)
-    (admitted_flat id f s.clients (λ x. beside_if s from connect x id (bytes_eq connect.client_id x.id) refl))
-    (admitted_append id noted last (drops_admit id (drops s c (notes_for s c)))
-    (around_admits id (welcome connect from) connect.flags.clean (flat_map g s.clients)
-    (admitted_flat id g s.clients (λ x. entering_if s from connect x id (bytes_eq connect.client_id x.id) refl))
-    (welcome_admits id connect from)))))
-entry_admits s from connect id (Denied rule) other = rw other refl
+use Rattle.sng_history.proofs.LawAdmits.{admitted_append, Modest, modest_notes}
+use Rattle.sng_history.proofs.LawAdmits.{modest_messages}
+use Rattle.sng_history.proofs.LawAdmits.{admitted_rows}
+use Rattle.sng_history.proofs.LawAdmits.{admitted_message, admitted_broken, ends_note, packet_note}
+use Rattle.sng_history.proofs.LawAdmits.{admitted_source}
+use Rattle.sng_history.proofs.LawStrangersConnects.{entry_admits}
+use Rattle.sng_history.proofs.Booleans.{or_neither}
 
 -- ---- no row accepts a client that it does not count
 
@@ -163,13 +84,16 @@ disconnect_admits : (s : State) (from : Address) (duration : Option ℕ) (id : L
 disconnect_admits s from None id = admitted_message s from ToLeave id
 disconnect_admits s from (Some duration) id = admitted_message s from (ToSleep duration) id
 
-own_admits : (id : List ℕ) (a known : Bool) → known ≡ false → is_among id (if a && not known then id ∷ [] else []) ≡ false → a ≡ false
+own_admits : (id : List ℕ) (a known : Bool) → known ≡ false
+    → is_among id (if a && not known then id ∷ [] else []) ≡ false → a ≡ false
 own_admits id true known unknown none =
     absurd
-    (let e : (bytes_eq id id || false) ≡ false = rw unknown at none in let f : (true || false) ≡ false = rw (same_self id) at e in cc)
+    (let e : (bytes_eq id id || false) ≡ false = rw unknown at none in
+    let f : (true || false) ≡ false = rw (same_self id) at e in cc)
 own_admits id false known unknown none = refl
 
-connect_admits : (s : State) (from : Address) (connect : Connect) (ids : List (List ℕ)) (id : List ℕ) (own : Bool)
+connect_admits : (s : State) (from : Address) (connect : Connect) (ids : List (List ℕ)) (id : List ℕ)
+    (own : Bool)
     → bytes_eq id connect.client_id ≡ own → is_among id ids ≡ false
     → is_among id (accepted_by ids (Some (Connects connect)) (outs_by s (ByConnect from connect))) ≡ false
     → is_admitted id (outs_by s (ByConnect from connect)) ≡ false
@@ -177,10 +101,13 @@ connect_admits s from connect ids id true is unknown none =
     let outs = outs_by s (ByConnect from connect) in
     let same : connect.client_id ≡ id = sym (same_means id connect.client_id is) in
     own_admits id (is_admitted id outs) (is_among id ids) unknown
-    (subst (λ i. is_among id (if is_admitted i outs && not (is_among i ids) then i ∷ [] else []) ≡ false) same none)
-connect_admits s from connect ids id false is unknown none = entry_admits s from connect id (entry s connect) is
+    (subst (λ i. is_among id (if is_admitted i outs && not (is_among i ids) then i ∷ [] else []) ≡ false) same
+    none)
+connect_admits s from connect ids id false is unknown none =
+    entry_admits s from connect id (entry s connect) is
 
-datagram_admits : (s : State) (from : Address) (read : Result SnFrame FrameFault) (ids : List (List ℕ)) (id : List ℕ)
+datagram_admits : (s : State) (from : Address) (read : Result SnFrame FrameFault) (ids : List (List ℕ))
+    (id : List ℕ)
     → is_among id ids ≡ false
     → is_among id (accepted_by ids (message_in read) (outs_by s (datagram_cause from read))) ≡ false
     → is_admitted id (outs_by s (datagram_cause from read)) ≡ false
@@ -188,21 +115,31 @@ datagram_admits s from (Ok (frame.Connect connect)) ids id unknown none =
     connect_admits s from connect ids id (bytes_eq id connect.client_id) refl unknown none
 datagram_admits s from (Ok (frame.Publish p)) ids id unknown none = publish_admits s from p p.flags.qos id
 datagram_admits s from (Ok (frame.Register r)) ids id unknown none = admitted_message s from (ToRegister r) id
-datagram_admits s from (Ok (frame.Subscribe r)) ids id unknown none = admitted_message s from (ToSubscribe r) id
-datagram_admits s from (Ok (frame.Unsubscribe r)) ids id unknown none = admitted_message s from (ToUnsubscribe r) id
-datagram_admits s from (Ok (frame.PingRequest client)) ids id unknown none = admitted_message s from (ToPing client) id
-datagram_admits s from (Ok (frame.RegisterAck r)) ids id unknown none = admitted_message s from (ToConfirm r) id
-datagram_admits s from (Ok (frame.PublishAck r)) ids id unknown none = admitted_message s from (ToAcknowledge r) id
-datagram_admits s from (Ok (frame.Disconnect duration)) ids id unknown none = disconnect_admits s from duration id
-datagram_admits s from (Ok (frame.WillTopic topic)) ids id unknown none = admitted_message s from (ToState (StatesTopic topic)) id
-datagram_admits s from (Ok (frame.WillMessage message)) ids id unknown none = admitted_message s from (ToState (StatesMessage message)) id
-datagram_admits s from (Ok (frame.WillTopicUpdate topic)) ids id unknown none = admitted_message s from (ToState (UpdatesTopic topic)) id
+datagram_admits s from (Ok (frame.Subscribe r)) ids id unknown none =
+    admitted_message s from (ToSubscribe r) id
+datagram_admits s from (Ok (frame.Unsubscribe r)) ids id unknown none =
+    admitted_message s from (ToUnsubscribe r) id
+datagram_admits s from (Ok (frame.PingRequest client)) ids id unknown none =
+    admitted_message s from (ToPing client) id
+datagram_admits s from (Ok (frame.RegisterAck r)) ids id unknown none =
+    admitted_message s from (ToConfirm r) id
+datagram_admits s from (Ok (frame.PublishAck r)) ids id unknown none =
+    admitted_message s from (ToAcknowledge r) id
+datagram_admits s from (Ok (frame.Disconnect duration)) ids id unknown none =
+    disconnect_admits s from duration id
+datagram_admits s from (Ok (frame.WillTopic topic)) ids id unknown none =
+    admitted_message s from (ToState (StatesTopic topic)) id
+datagram_admits s from (Ok (frame.WillMessage message)) ids id unknown none =
+    admitted_message s from (ToState (StatesMessage message)) id
+datagram_admits s from (Ok (frame.WillTopicUpdate topic)) ids id unknown none =
+    admitted_message s from (ToState (UpdatesTopic topic)) id
 datagram_admits s from (Ok (frame.WillMessageUpdate message)) ids id unknown none =
     admitted_message s from (ToState (UpdatesMessage message)) id
 datagram_admits s from (Ok message) ids id unknown none = admitted_message s from (Untaken message) id
 datagram_admits s from (Err broke) ids id unknown none = admitted_broken s from (rule_of broke) id
 
-forwarded_admits : (id : List ℕ) (p : Publication) (packet_id : Option ℕ) (o : Outcome) (outs : List Out) → is_admitted id outs ≡ false
+forwarded_admits : (id : List ℕ) (p : Publication) (packet_id : Option ℕ) (o : Outcome) (outs : List Out)
+    → is_admitted id outs ≡ false
     → is_admitted id (forwarded p packet_id o ++ outs) ≡ false
 forwarded_admits id p packet_id Allowed outs rest = rest
 forwarded_admits id p packet_id (Denied rule) outs rest = rest
@@ -218,15 +155,18 @@ leaving_admits : (id : List ℕ) (policy : Policy) (link : Link) (items : List I
 leaving_admits id policy link [] = refl
 leaving_admits id policy link (item.Publish p ∷ items) =
     let o = exit policy p.origin p.name in
-    forwarded_admits id p (packet_id_by link p.qos) o (leaving (exited link p o) items (exits_of policy items))
+    forwarded_admits id p (packet_id_by link p.qos) o
+    (leaving (exited link p o) items (exits_of policy items))
     (leaving_admits id policy (exited link p o) items)
 leaving_admits id policy link (item.Subscribe text ∷ items) =
     let next = subscribe_left link text in
-    wires_admit id (subscribe_leaves link text) (leaving next items (exits_of policy items)) (subscribe_wires link text)
+    wires_admit id (subscribe_leaves link text) (leaving next items (exits_of policy items))
+    (subscribe_wires link text)
     ∙ leaving_admits id policy next items
 leaving_admits id policy link (item.Unsubscribe text ∷ items) =
     let next = unsubscribe_left link text in
-    wires_admit id (unsubscribe_leaves link text) (leaving next items (exits_of policy items)) (unsubscribe_wires link text)
+    wires_admit id (unsubscribe_leaves link text) (leaving next items (exits_of policy items))
+    (unsubscribe_wires link text)
     ∙ leaving_admits id policy next items
 leaving_admits id policy link (item.Acknowledge packet_id ∷ items) = leaving_admits id policy link items
 leaving_admits id policy link (item.Ping ∷ items) = leaving_admits id policy link items
@@ -247,10 +187,12 @@ resending_admits : (id : List ℕ) (policy : Policy) (flights : List InFlight)
     → is_admitted id (resending flights (agains_of policy flights)) ≡ false
 resending_admits id policy [] = refl
 resending_admits id policy (sent ∷ flights) =
-    again_admits id sent (exit policy sent.publication.origin sent.publication.name) (resending flights (agains_of policy flights))
+    again_admits id sent (exit policy sent.publication.origin sent.publication.name)
+    (resending flights (agains_of policy flights))
     (resending_admits id policy flights)
 
-misnamed_admits : (id name : List ℕ) (outs : List Out) (b : Bool) → is_name name ≡ b → is_admitted id outs ≡ false
+misnamed_admits : (id name : List ℕ) (outs : List Out) (b : Bool) → is_name name ≡ b
+    → is_admitted id outs ≡ false
     → is_admitted id (misnamed name ++ outs) ≡ false
 misnamed_admits id name outs true is rest = rw is rest
 misnamed_admits id name outs false is rest = rw is rest
@@ -260,7 +202,8 @@ dropped_admits id place None = refl
 dropped_admits id true (Some packet_id) = refl
 dropped_admits id false (Some packet_id) = refl
 
-packet_admits : (s : State) (id : List ℕ) (brought : Answer) → is_admitted id (answer_outs s.up s.link brought) ≡ false
+packet_admits : (s : State) (id : List ℕ) (brought : Answer)
+    → is_admitted id (answer_outs s.up s.link brought) ≡ false
 packet_admits s id (Delivers p) =
     misnamed_admits id p.name (dropped (has_place s.link) (owed s.up p)) (is_name p.name) refl
     (dropped_admits id (has_place s.link) (owed s.up p))
@@ -271,33 +214,39 @@ packet_admits s id Confirms = refl
 packet_admits s id Strange = refl
 
 -- clients are lost
-tick_note : (s : State) (clock : ℕ) (x : Client) (id : List ℕ) → admitted_notes id (tick_notes s.policy s.link clock s.clients x) ≡ false
+tick_note : (s : State) (clock : ℕ) (x : Client) (id : List ℕ)
+    → admitted_notes id (tick_notes s.policy s.link clock s.clients x) ≡ false
 tick_note s clock x id = modest_notes id (tick_notes s.policy s.link clock s.clients x)
     (every_tick (Modest id) s.policy s.link clock s.clients x
     (record { loses = refl; drops = λ name rule. refl; messages = modest_messages id x.id })
     (λ name o. refl))
 
 dropped_ping : (id : List ℕ) (due place : Bool)
-    → is_admitted id (let outs : List Out = if due then (if place then [] else Note note.Outbox ∷ []) else [] in outs) ≡ false
+    → is_admitted id (let outs : List Out = if due then (if place then [] else Note note.Outbox ∷ [])
+    else [] in outs) ≡ false
 dropped_ping id true true = refl
 dropped_ping id true false = refl
 dropped_ping id false place = refl
 
 pub row_admits : (s : State) (e : Event) (ids : List (List ℕ)) (id : List ℕ) → is_among id ids ≡ false
     → is_among id (accepted_in ids e (outs_of s e)) ≡ false → is_admitted id (outs_of s e) ≡ false
-row_admits s (Datagram from datagram) ids id unknown none = datagram_admits s from (frame_of datagram) ids id unknown none
+row_admits s (Datagram from datagram) ids id unknown none =
+    datagram_admits s from (frame_of datagram) ids id unknown none
 row_admits s (Broker packet) ids id unknown none =
     let c = ByPacket packet in
     admitted_append id (client_rows s c [] (notes_for s c)) (answer_outs s.up s.link (answer_of packet))
     (admitted_rows s c [] id (λ x. packet_note s packet x id)) (packet_admits s id (answer_of packet))
 row_admits s Up ids id unknown none =
     let anew = subscribing (resumed s.link s.clock (exits_for s ByUp)) (filters_wanted s.link) in
-    admitted_append id (resending s.link.in_flight (exits_for s ByUp)) anew (resending_admits id s.policy s.link.in_flight)
-    (wires_alone id anew (subscribing_wires (resumed s.link s.clock (exits_for s ByUp)) (filters_wanted s.link)))
+    admitted_append id (resending s.link.in_flight (exits_for s ByUp)) anew
+    (resending_admits id s.policy s.link.in_flight)
+    (wires_alone id anew (subscribing_wires (resumed s.link s.clock (exits_for s ByUp))
+    (filters_wanted s.link)))
 row_admits s Down ids id unknown none = refl
 row_admits s Take ids id unknown none = take_admits s id s.up refl
 row_admits s (Replace policy) ids id unknown none =
-    let c = ByReplace policy in admitted_rows s c (drops s c (notes_for s c)) id (λ x. ends_note policy id x.id x.filters)
+    let c = ByReplace policy in
+    admitted_rows s c (drops s c (notes_for s c)) id (λ x. ends_note policy id x.id x.filters)
 row_admits s (Tick clock) ids id unknown none =
     let c = ByTick clock in
     let now = later s.clock clock in
@@ -312,23 +261,25 @@ pub among_parts : (id : List ℕ) (xs ys : List (List ℕ)) → is_among id (xs 
     → (is_among id xs ≡ false) × (is_among id ys ≡ false)
 among_parts id [] ys none = (refl, none)
 among_parts id (x ∷ xs) ys none =
-    let both = or_false (bytes_eq id x) (is_among id (xs ++ ys)) none in
+    let both = or_neither (bytes_eq id x) (is_among id (xs ++ ys)) none in
     let rest = among_parts id xs ys both.1 in
     (rw both.0 rest.0, rest.1)
 
 -- ---- nothing is due to it
 
 away_means : (id : List ℕ) (p : mqtt.Publish) (h : List Row) (b : Bool) → phase_of id h ≡ None
-    →
-    (let o : Option Message = if b && (is_awaiting (phase_of id h) && is_matched (standing_of id h) p.name) then Some
+    → (let o : Option Message = if b && (is_awaiting (phase_of id h) && is_matched (standing_of id h) p.name)
+    then Some
     (message p.name p.payload (qos_due (standing_of id h) p.packet_id p.name) p.retain) else None in o) ≡ None
 away_means id p h true away = rw away refl
 away_means id p h false away = refl
 
-pub none_meant : (id : List ℕ) (brought : Option mqtt.Publish) (h : List Row) → phase_of id h ≡ None → meant_in id brought h ≡ []
+pub none_meant : (id : List ℕ) (brought : Option mqtt.Publish) (h : List Row) → phase_of id h ≡ None
+    → meant_in id brought h ≡ []
 none_meant id None h away = refl
 none_meant id (Some p) h away = ap option_to_list (away_means id p h (is_name p.name) away)
 
-pub no_more : (b : Bool) (due more : List Message) → due ≡ [] → more ≡ [] → due ++ (if b then [] else more) ≡ []
+pub no_more : (b : Bool) (due more : List Message) → due ≡ [] → more ≡ []
+    → due ++ (if b then [] else more) ≡ []
 no_more true due more none same = rw none refl
 no_more false due more none same = rw (none, same) refl

@@ -1,23 +1,17 @@
--- What a tick of the clock lets out is what the law says: the clients that are lost, with what becomes of their wills and of what waits for
--- them, and a PINGREQ to the broker that finds no place.
-use Rattle.std.proofs.Common.{◌≡◌, ℕ, ◌+◌, Bool, true, false, List, [], ◌∷◌, ◌++◌, map, length, refl, ap, sym, ◌∙◌, subst, append_assoc, if◌then◌else◌, arith}
-use Rattle.std.specs.Prelude.{◌&&◌, ◌||◌, ◌==◌, not, nat_lt, filter, Option, Some, None}
+-- What a tick of the clock lets out is what the law says: the clients that are lost, with what becomes of
+-- their wills and of what waits for them, and a PINGREQ to the broker that finds no place.
+use Rattle.std.proofs.Common.{◌≡◌, ℕ, Bool, true, false, List, [], ◌∷◌, ◌++◌, map, refl, ap, sym}
+use Rattle.std.proofs.Common.{◌∙◌, subst, append_assoc, if◌then◌else◌}
+use Rattle.std.specs.Prelude.{◌&&◌, not, Option, Some, None}
 use Rattle.std.specs.List.{flat_map}
-use Rattle.std.proofs.lemmas.Bool.Decides.{nat_tests}
 use Rattle.std.proofs.lemmas.List.{append-nil}
-use Rattle.sng_text.specs.declared.qos.Qos.{Qos}
-use Rattle.sng_text.specs.declared.qos.Qos.TheVariants.{AtMostOnce, AtLeastOnce}
 use Rattle.sng_wills.specs.declared.will.Will.{Will}
-use Rattle.sng_outbox.specs.Sending.{load}
 use Rattle.sng_outbox.specs.declared.item.Item.{Item}
-use Rattle.sng_outbox.specs.declared.item.Item.TheVariants as item
 use Rattle.sng_outbox.specs.declared.item.Publication.{Publication}
 use Rattle.sng_outbox.specs.declared.origin.Origin.TheVariants as origin
-use Rattle.sng_book.specs.Denials.{is_allowed}
 use Rattle.sng_book.specs.declared.decision.Decision.{Decision}
 use Rattle.sng_book.specs.declared.decision.Decision.TheVariants as note
-use Rattle.sng_book.specs.declared.outcome.Place.TheVariants as place
-use Rattle.sng_book.specs.declared.outcome.Denial.TheVariants.{Full, Gone}
+use Rattle.sng_book.specs.declared.outcome.Denial.TheVariants.{Gone}
 use Rattle.sng_book.specs.declared.outcome.Outcome.{Outcome}
 use Rattle.sng_book.specs.declared.outcome.Outcome.TheVariants.{Allowed, Denied}
 use Rattle.sng_book.specs.declared.out.Out.{Out}
@@ -32,106 +26,32 @@ use Rattle.sng_history.specs.Standing.{Release}
 use Rattle.sng_history.specs.State.{State, later}
 use Rattle.sng_history.specs.Outgoing.{all_gone}
 use Rattle.sng_history.specs.Ticking as ticking
-use Rattle.sng_history.specs.Ticking.{is_overdue, is_repeating, is_tried_out, is_lost_at, testament, testaments, placed, all_placed, ping_dropped}
+use Rattle.sng_history.specs.Ticking.{is_lost_at, testament}
+use Rattle.sng_history.specs.Ticking.{testaments, all_placed, ping_dropped}
 use Rattle.sng_history.specs.Losing.{before, again_notes, unplaced, will_dropped, lost_notes, tick_notes}
 use Rattle.sng_history.specs.Whole.{frames_of, spell, part, whole_by, drained_outs}
 use Rattle.sng_history.specs.Steps.{notes_for}
 use Rattle.sng_history.specs.Good.{Each, Distinct, AtRest}
 use Rattle.sng_history.specs.Views.{ticks, greatest}
-use Rattle.sng_history.specs.ViewsClients.{phase_of, duration_of, heard_of, accepted}
-use Rattle.sng_history.specs.ViewsHanding.{is_at_least_once}
+use Rattle.sng_history.specs.ViewsClients.{accepted}
 use Rattle.sng_history.specs.ViewsFlight.{in_flight}
 use Rattle.sng_history.specs.ViewsLink as views
-use Rattle.sng_history.specs.ViewsLink.{publications, published_for, pinged}
+use Rattle.sng_history.specs.ViewsLink.{published_for, pinged}
 use Rattle.sng_history.specs.ViewsWills.{will_of}
 use Rattle.sng_history.specs.LawsState.{ClientShown, RestShown}
-use Rattle.sng_history.specs.LawsRules.{judged}
 use Rattle.sng_history.specs.LawsHanding.{gone_answer, FrontAnnounced}
-use Rattle.sng_history.specs.LawsLost.{is_silent, is_due_to_be_lost, again_answer, place_rules, placed_by, refused_by, will_placed, will_refused, ping_noted, tick_parts, tick_answer}
+use Rattle.sng_history.specs.LawsLost.{is_due_to_be_lost, again_answer}
+use Rattle.sng_history.specs.LawsLost.{refused_by, will_placed, will_refused, ping_noted, tick_parts}
+use Rattle.sng_history.specs.LawsLost.{tick_answer}
 use Rattle.sng_history.proofs.Own.{each_with}
-use Rattle.sng_history.proofs.SeenState.{ids_of, StateShown, Stands}
-use Rattle.sng_history.proofs.SeenTicks.{all_alongside, placed_append, before_is}
-use Rattle.sng_history.proofs.LawAsks.{load_shown}
+use Rattle.sng_history.proofs.SeenOrder.{ids_of, StateShown}
+use Rattle.sng_history.proofs.SeenState.{Stands}
+use Rattle.sng_history.proofs.SeenPlaced.{all_alongside, placed_append}
+use Rattle.sng_history.proofs.SeenTicks.{before_is}
 use Rattle.sng_history.proofs.TickRests.{lost_next}
-use Rattle.sng_history.proofs.LawMessages.{gone_spelled}
-use Rattle.sng_history.proofs.LawRetries.{ticking_by, let_out, given_up_shown, again_shown}
-
--- ---- who is lost
-
-stated_some : (n : ℕ) → nat_lt 0 n ≡ not (n == 0)
-stated_some n = grind (arith, nat_tests)
-
-overdue_shown : (h : List Row) (clock : ℕ) (x : Client) → ClientShown h x
-    → is_overdue clock x ≡ is_silent (phase_of x.id h) (duration_of x.id h) (heard_of x.id h) clock
-overdue_shown h clock x shown = rw (shown.phase, shown.duration, shown.heard, stated_some x.duration) refl
-
-lost_shown : (h : List Row) (clock : ℕ) (x : Client) → ClientShown h x → is_lost_at clock x ≡ is_due_to_be_lost h clock x.id
-lost_shown h clock x shown =
-    ap (λ b. b || (is_repeating clock x && is_tried_out x.buffer.exchange)) (overdue_shown h clock x shown)
-    ∙ ap (λ b. is_silent (phase_of x.id h) (duration_of x.id h) (heard_of x.id h) clock || b) (given_up_shown h clock x shown)
-
--- ---- its will
-
--- the place for a publish, where these wait and just those are in flight that the rows show
-abbrev Crowds : List Row → Link → Type 0
-Crowds h link = link.in_flight ≡ in_flight h
-
-waiting_load : (h : List Row) (link : Link) → Crowds h link
-    → load (record { waiting = link.waiting; in_flight = link.in_flight })
-    ≡ length (filter (λ one. is_at_least_once one.qos) (publications link.waiting)) + length (in_flight h)
-waiting_load h link flights =
-    ap (λ n. n + length link.in_flight) (load_shown link.waiting)
-    ∙ ap (λ sent. length (filter (λ one. is_at_least_once one.qos) (publications link.waiting)) + length sent) flights
-
-place_by : (r : Bool)
-    → (if r then Allowed else Denied (Full place.Outbox)) ≡ judged ((false, Full place.InFlight) ∷ (not r, Full place.Outbox) ∷ [])
-place_by true = refl
-place_by false = refl
-
-room_both : (f r : Bool)
-    → (if f then (if r then Allowed else Denied (Full place.Outbox)) else Denied (Full place.InFlight))
-    ≡ judged ((not f, Full place.InFlight) ∷ (not r, Full place.Outbox) ∷ [])
-room_both true true = refl
-room_both true false = refl
-room_both false r = refl
-
-room_at : (h : List Row) (link : Link) (q : Qos) → Crowds h link
-    → room_in link q
-    ≡ judged
-    ((
-      is_at_least_once q
-          && not (nat_lt (length (filter (λ one. is_at_least_once one.qos) (publications link.waiting)) + length (in_flight h)) 128),
-      Full place.InFlight,
-    )
-    ∷ (not (nat_lt (length link.waiting) 512), Full place.Outbox)
-    ∷ [])
-room_at h link AtMostOnce flights = place_by (nat_lt (length link.waiting) 512)
-room_at h link AtLeastOnce flights =
-    let free = nat_lt (length link.waiting) 512 in
-    ap (λ n. if nat_lt n 128 then (if free then Allowed else Denied (Full place.Outbox)) else Denied (Full place.InFlight))
-    (waiting_load h link flights)
-    ∙ room_both (nat_lt (length (filter (λ one. is_at_least_once one.qos) (publications link.waiting)) + length (in_flight h)) 128) free
-
-room_judged : (h : List Row) (link : Link) (p : Publication) → Crowds h link → room_in link p.qos ≡ judged (place_rules h link.waiting p)
-room_judged h link p flights = room_at h link p.qos flights
-
--- the link once it waits, or finds no place
-placed_by_verdict : (link : Link) (p : Publication) (o : Outcome)
-    → (let l : Link = if is_allowed o then ticking.with_item link (item.Publish p) else link in l.waiting) ≡ link.waiting ++ placed_by p o
-placed_by_verdict link p Allowed = refl
-placed_by_verdict link p (Denied rule) = sym (append-nil link.waiting)
-
-placed_waits : (h : List Row) (link : Link) (p : Publication) → Crowds h link
-    → (placed link p).waiting ≡ link.waiting ++ placed_by p (judged (place_rules h link.waiting p))
-placed_waits h link p flights =
-    placed_by_verdict link p (room_in link p.qos) ∙ ap (λ o. link.waiting ++ placed_by p o) (room_judged h link p flights)
-
--- what waits once the will waits, where it finds a place
-will_waits : (h : List Row) (link : Link) (id : List ℕ) (will : Option Will) → Crowds h link
-    → (all_placed link (ticking.will_of id will)).waiting ≡ link.waiting ++ will_placed h link.waiting (published_for id will)
-will_waits h link id None flights = sym (append-nil link.waiting)
-will_waits h link id (Some will) flights =
-    placed_waits h link (record { origin = origin.Client id; name = will.topic; payload = will.payload; qos = will.qos; retain = will.retain }) flights
+use Rattle.sng_history.proofs.LawDisconnects.{gone_spelled}
+use Rattle.sng_history.proofs.LawRetries.{ticking_by, let_out, again_shown}
+use Rattle.sng_history.proofs.LawTickWills.{lost_shown, Crowds, room_judged, will_waits}
 
 -- ---- the notes of a client that is lost
 
@@ -142,27 +62,37 @@ spelled_both a dropped (said ∷ one) two x =
     let y = note_by a said x in
     ap (λ outs. Note said ∷ (frames_of a dropped x said ++ outs)) (spelled_both a dropped one two y)
     ∙ ap (λ outs. Note said ∷ outs)
-    (sym (append_assoc (frames_of a dropped x said) (spell a dropped y one) (spell a dropped (notes_by a one y) two)))
+    (sym (append_assoc (frames_of a dropped x said) (spell a dropped y one)
+    (spell a dropped (notes_by a one y) two)))
 
 refused_as : (s : State) (came : ℕ) (y : Client) (id : List ℕ) (p : Publication) (o : Outcome)
     → spell (ticking_by s came) [] y (unplaced id p o) ≡ refused_by id p o
 refused_as s came y id p Allowed = refl
 refused_as s came y id p (Denied rule) = refl
 
-will_spelled : (h : List Row) (s : State) (came : ℕ) (link : Link) (y : Client) (id : List ℕ) (will : Option Will) → Crowds h link
+will_spelled : (h : List Row) (s : State) (came : ℕ) (link : Link) (y : Client) (id : List ℕ)
+    (will : Option Will) → Crowds h link
     → spell (ticking_by s came) [] y (will_dropped link id (ticking.will_of id will))
     ≡ will_refused h link.waiting id (published_for id will)
 will_spelled h s came link y id None flights = refl
 will_spelled h s came link y id (Some will) flights =
     let p : Publication =
-    record { origin = origin.Client id; name = will.topic; payload = will.payload; qos = will.qos; retain = will.retain } in
+    record {
+      origin = origin.Client id;
+      name = will.topic;
+      payload = will.payload;
+      qos = will.qos;
+      retain = will.retain;
+    } in
     refused_as s came y id p (room_in link p.qos) ∙ ap (refused_by id p) (room_judged h link p flights)
 
 -- what is let out for it, where these items wait
 abbrev lost_outs : List Row → List Item → List ℕ → List Out
-lost_outs h items id = Note (note.Lost id) ∷ (gone_answer h id ++ will_refused h items id (published_for id (will_of id h)))
+lost_outs h items id =
+    Note (note.Lost id) ∷ (gone_answer h id ++ will_refused h items id (published_for id (will_of id h)))
 
-lost_spelled : (h : List Row) (s : State) (came : ℕ) (link : Link) (x : Client) → Crowds h link → ClientShown h x
+lost_spelled : (h : List Row) (s : State) (came : ℕ) (link : Link) (x : Client) → Crowds h link
+    → ClientShown h x
     → spell (ticking_by s came) [] x (lost_notes link x) ≡ lost_outs h link.waiting x.id
 lost_spelled h s came link x flights shown =
     let a = ticking_by s came in
@@ -180,7 +110,8 @@ lost_spelled h s came link x flights shown =
 
 -- ---- each client, behind those before it
 
-testaments_with : (clock : ℕ) (xs : List Client) (x : Client) → testaments clock (xs ++ x ∷ []) ≡ testaments clock xs ++ testament clock x
+pub testaments_with : (clock : ℕ) (xs : List Client) (x : Client)
+    → testaments clock (xs ++ x ∷ []) ≡ testaments clock xs ++ testament clock x
 testaments_with clock [] x = append-nil (testament clock x)
 testaments_with clock (y ∷ xs) x =
     ap (λ ps. testament clock y ++ ps) (testaments_with clock xs x)
@@ -193,26 +124,32 @@ behind s clock xs = all_placed s.link (testaments clock xs)
 behind_with : (s : State) (clock : ℕ) (xs : List Client) (x : Client)
     → behind s clock (xs ++ x ∷ []) ≡ all_placed (behind s clock xs) (testament clock x)
 behind_with s clock xs x =
-    ap (all_placed s.link) (testaments_with clock xs x) ∙ placed_append s.link (testaments clock xs) (testament clock x)
+    ap (all_placed s.link) (testaments_with clock xs x)
+    ∙ placed_append s.link (testaments clock xs) (testament clock x)
 
 -- what a client lets out, by whether it is lost
 abbrev outs_if : List Row → ℕ → List Item → List ℕ → Bool → List Out
 outs_if h clock items id lost = if lost then lost_outs h items id else again_answer h clock id
 
-tick_spelled : (h : List Row) (s : State) (came : ℕ) (link : Link) (x : Client) (over : Bool) → Crowds h link → FrontAnnounced h x.id
+tick_spelled : (h : List Row) (s : State) (came : ℕ) (link : Link) (x : Client) (over : Bool) → Crowds h link
+    → FrontAnnounced h x.id
     → is_drained x ≡ false
     → StateShown h s → ClientShown h x
     → let clock = later s.clock came in
-    let_out s came x (if over then lost_notes link x else again_notes s.policy clock x) ≡ outs_if h clock link.waiting x.id over
+    let_out s came x (if over then lost_notes link x else again_notes s.policy clock x)
+    ≡ outs_if h clock link.waiting x.id over
 tick_spelled h s came link x true flights front busy state shown =
     ap (λ y. spell (ticking_by s came) [] x (lost_notes link x) ++ drained_outs y) (lost_next s came link x)
-    ∙ (append-nil (spell (ticking_by s came) [] x (lost_notes link x)) ∙ lost_spelled h s came link x flights shown)
-tick_spelled h s came link x false flights front busy state shown = again_shown h s came x front busy state shown
+    ∙ (append-nil (spell (ticking_by s came) [] x (lost_notes link x))
+    ∙ lost_spelled h s came link x flights shown)
+tick_spelled h s came link x false flights front busy state shown =
+    again_shown h s came x front busy state shown
 
 -- what waits behind it
 waits_if : (h : List Row) (link : Link) (x : Client) (over : Bool) → Crowds h link → ClientShown h x
     → (all_placed link (if over then ticking.will_of x.id x.wills.will else [])).waiting
-    ≡ (if over then link.waiting ++ will_placed h link.waiting (published_for x.id (will_of x.id h)) else link.waiting)
+    ≡ (if over then link.waiting ++ will_placed h link.waiting (published_for x.id (will_of x.id h))
+    else link.waiting)
 waits_if h link x true flights shown =
     will_waits h link x.id x.wills.will flights
     ∙ ap (λ will. link.waiting ++ will_placed h link.waiting (published_for x.id will)) shown.will
@@ -227,7 +164,8 @@ ping_by true true = refl
 ping_by true false = refl
 ping_by false free = refl
 
-clock_shown : (h : List Row) (s : State) (came : ℕ) → StateShown h s → later s.clock came ≡ greatest (came ∷ ticks h)
+clock_shown : (h : List Row) (s : State) (came : ℕ) → StateShown h s
+    → later s.clock came ≡ greatest (came ∷ ticks h)
 clock_shown h s came shown = ap (λ was. later was came) shown.clock
 
 ping_shown : (h : List Row) (s : State) (came : ℕ) (link : Link) → StateShown h s → link.pinged ≡ pinged h
@@ -246,7 +184,8 @@ RestOf h s came xs ys =
     ++ ping_dropped s.up (behind s clock (xs ++ ys)) clock
     ≡ tick_parts h came clock (behind s clock xs).waiting (ids_of ys)
 
-parts_if : (h : List Row) (came clock : ℕ) (items more : List Item) (id : List ℕ) (ids : List (List ℕ)) (rest : List Out) (over : Bool)
+parts_if : (h : List Row) (came clock : ℕ) (items more : List Item) (id : List ℕ) (ids : List (List ℕ))
+    (rest : List Out) (over : Bool)
     → is_due_to_be_lost h clock id ≡ over
     → more ≡ (if over then items ++ will_placed h items (published_for id (will_of id h)) else items)
     → rest ≡ tick_parts h came clock more ids
@@ -256,33 +195,40 @@ parts_if h came clock items more id ids rest true due waits is =
     rw due
     (ap (λ outs. Note (note.Lost id) ∷ outs)
     (append_assoc (gone_answer h id) refused rest
-    ∙ ap (λ outs. gone_answer h id ++ (refused ++ outs)) (is ∙ ap (λ all. tick_parts h came clock all ids) waits)))
+    ∙ ap (λ outs. gone_answer h id ++ (refused ++ outs))
+    (is ∙ ap (λ all. tick_parts h came clock all ids) waits)))
 parts_if h came clock items more id ids rest false due waits is =
-    rw due (ap (λ outs. again_answer h clock id ++ outs) (is ∙ ap (λ all. tick_parts h came clock all ids) waits))
+    rw due (ap (λ outs. again_answer h clock id ++ outs)
+    (is ∙ ap (λ all. tick_parts h came clock all ids) waits))
 
 -- what holds of each client
 record Known (h : List Row) (x : Client) : Type 0 where
   shown : ClientShown h x
   busy : is_drained x ≡ false
 
-rest_of : (h : List Row) (s : State) (came : ℕ) (xs ys : List Client) → s.clients ≡ xs ++ ys → Stands h s → RestShown h s.link
+rest_of : (h : List Row) (s : State) (came : ℕ) (xs ys : List Client) → s.clients ≡ xs ++ ys → Stands h s
+    → RestShown h s.link
     → ((id : List ℕ) → FrontAnnounced h id) → Each (Known h) ys → RestOf h s came xs ys
 rest_of h s came xs [] all st rest fronts each =
     let clock = later s.clock came in
     let link = behind s clock (xs ++ []) in
-    ping_shown h s came link st.shown ((all_alongside s.link (testaments clock (xs ++ []))).pinged ∙ rest.pinged)
+    ping_shown h s came link st.shown
+    ((all_alongside s.link (testaments clock (xs ++ []))).pinged ∙ rest.pinged)
     ∙ ap (λ zs. ping_noted h came (behind s clock zs).waiting) (append-nil xs)
 rest_of h s came xs (x ∷ ys) all st rest fronts each =
     let a = ticking_by s came in
     let clock = later s.clock came in
     let link = behind s clock xs in
     let known = each.0 in
-    let flights : link.in_flight ≡ in_flight h = (all_alongside s.link (testaments clock xs)).in_flight ∙ rest.in_flight in
+    let flights : link.in_flight ≡ in_flight h =
+    (all_alongside s.link (testaments clock xs)).in_flight ∙ rest.in_flight in
     let f : Client → List Out = λ y. part a [] (tick_notes s.policy s.link clock s.clients y) y in
-    let first : before x.id s.clients ≡ xs = ap (before x.id) all ∙ before_is xs x ys (subst Distinct all st.good.apart) in
+    let first : before x.id s.clients ≡ xs =
+    ap (before x.id) all ∙ before_is xs x ys (subst Distinct all st.good.apart) in
     let over = is_lost_at clock x in
     let own : f x ≡ outs_if h clock link.waiting x.id over =
-    ap (λ zs. let_out s came x (if over then lost_notes (behind s clock zs) x else again_notes s.policy clock x)) first
+    ap (λ zs. let_out s came x (if over then lost_notes (behind s clock zs) x
+    else again_notes s.policy clock x)) first
     ∙ tick_spelled h s came link x over flights (fronts x.id) known.busy st.shown known.shown in
     let next = xs ++ x ∷ [] in
     let moved : next ++ ys ≡ xs ++ x ∷ ys = append_assoc xs (x ∷ []) ys in
@@ -292,16 +238,19 @@ rest_of h s came xs (x ∷ ys) all st rest fronts each =
     ∙ rest_of h s came next ys (all ∙ sym moved) st rest fronts each.1 in
     ap (λ outs. (outs ++ flat_map f ys) ++ last) own
     ∙ (append_assoc (outs_if h clock link.waiting x.id over) (flat_map f ys) last
-    ∙ parts_if h came clock link.waiting (behind s clock next).waiting x.id (ids_of ys) (flat_map f ys ++ last) over
+    ∙ parts_if h came clock link.waiting (behind s clock next).waiting x.id (ids_of ys)
+    (flat_map f ys ++ last) over
     (sym (lost_shown h clock x known.shown))
     (ap (λ l. l.waiting) (behind_with s clock xs x) ∙ waits_if h link x over flights known.shown)
     others)
 
-pub tick_row : (h : List Row) (s : State) (came : ℕ) → Stands h s → RestShown h s.link → ((id : List ℕ) → FrontAnnounced h id)
+pub tick_row : (h : List Row) (s : State) (came : ℕ) → Stands h s → RestShown h s.link
+    → ((id : List ℕ) → FrontAnnounced h id)
     → whole_by s (ByTick came) (notes_for s (ByTick came)) ≡ tick_answer h came
 tick_row h s came st rest fronts =
     rest_of h s came [] s.clients refl st rest fronts
-    (each_with (ClientShown h) AtRest (Known h) s.clients (λ x is at. record { shown = is; busy = at.busy }) st.shown.clients st.good.rest)
+    (each_with (ClientShown h) AtRest (Known h) s.clients
+    (λ x is at. record { shown = is; busy = at.busy }) st.shown.clients st.good.rest)
     ∙ (ap (λ items. tick_parts h came (later s.clock came) items (ids_of s.clients)) st.shown.waits
     ∙ (ap (λ ids. tick_parts h came (later s.clock came) (views.waiting h) ids) st.shown.order
     ∙ ap (λ clock. tick_parts h came clock (views.waiting h) (accepted h)) (clock_shown h s came st.shown)))

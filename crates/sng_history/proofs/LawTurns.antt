@@ -1,19 +1,14 @@
 -- What leaves as messages may leave is what the laws' rules and frames say of it, each message in its turn.
-use Rattle.std.proofs.Common.{◌≡◌, ℕ, ◌+◌, ◌≤◌, ◌<◌, Bool, true, false, List, [], ◌∷◌, ◌++◌, length, refl, ap, sym, ◌∙◌, subst, if◌then◌else◌, arith}
-use Rattle.std.specs.Prelude.{◌||◌, ◌&&◌, ◌==◌, ◌%◌, ◌-◌, not, nat_lt, nat_le, is_some, Option, Some, None}
-use Rattle.std.proofs.Math.Nat.{mod-eq_of_lt, mod-lt}
-use Rattle.std.proofs.lemmas.Bool.Decides.{nat_tests}
+use Rattle.std.proofs.Common.{◌≡◌, ℕ, ◌≤◌, Bool, true, false, List, [], ◌∷◌, ◌++◌, length, refl, ap}
+use Rattle.std.proofs.Common.{sym, ◌∙◌, subst, if◌then◌else◌}
+use Rattle.std.specs.Prelude.{◌&&◌, not, nat_lt, is_some, Option, Some, None}
 use Rattle.sng_text.specs.declared.qos.Qos.{Qos}
 use Rattle.sng_text.specs.declared.qos.Qos.TheVariants.{AtMostOnce, AtLeastOnce}
 use Rattle.sng_grants.specs.Sources.{scope_of}
-use Rattle.sng_policy.specs.Grants.{topic_id}
 use Rattle.sng_grants.specs.declared.policy.Policy.{Policy}
 use Rattle.sng_ids.specs.Ids.{is_full_for}
 use Rattle.sng_queue.specs.Messages.{Message}
 use Rattle.sng_queue.specs.Buffers.{settle}
-use Rattle.sng_frames.specs.declared.flags.TopicIdType.{TopicIdType}
-use Rattle.sng_frames.specs.declared.flags.TopicIdType.TheVariants as type
-use Rattle.sng_queue.specs.declared.kind.TopicIdKind.TheVariants as kind
 use Rattle.sng_book.specs.declared.decision.Decision.TheVariants as note
 use Rattle.sng_book.specs.declared.outcome.Place.TheVariants as place
 use Rattle.sng_book.specs.declared.outcome.Denial.{Denial}
@@ -22,251 +17,265 @@ use Rattle.sng_book.specs.declared.outcome.Outcome.{Outcome}
 use Rattle.sng_book.specs.declared.outcome.Outcome.TheVariants.{Allowed, Denied}
 use Rattle.sng_book.specs.declared.out.Out.{Out}
 use Rattle.sng_book.specs.declared.out.Out.TheVariants.{Note}
-use Rattle.sng_history.specs.Requests.{id_in}
-use Rattle.sng_history.specs.Handing as handing
-use Rattle.sng_history.specs.Handing.{Known, known_by, given_id, known_as, number_after, id_type_of, msg_id_of, handed_outs, number_by, number_handed, buffer_by, buffer_handed}
+use Rattle.sng_history.specs.Handing.{Known, known_as}
+use Rattle.sng_history.specs.Handing.{handed_outs, number_by, number_handed, buffer_by}
+use Rattle.sng_history.specs.Handing.{buffer_handed}
 use Rattle.sng_history.specs.Clients.{Around, Client, is_turned_away, denied_hand}
 use Rattle.sng_history.specs.Standing.{Release}
 use Rattle.sng_history.specs.Verdicts.{and_then}
 use Rattle.sng_history.specs.Outgoing.{behind, offered, judged_turn, turns}
 use Rattle.sng_history.specs.Whole.{spell}
-use Rattle.sng_history.specs.ViewsClients.{is_among, id_told}
-use Rattle.sng_history.specs.ViewsFlight.{number_in}
-use Rattle.sng_history.specs.ViewsHanding.{is_at_least_once, last_number}
+use Rattle.sng_history.specs.ViewsClients.{is_among}
+use Rattle.sng_history.specs.ViewsHanding.{is_at_least_once}
 use Rattle.sng_history.specs.LawsRules.{Rule, judged}
-use Rattle.sng_history.specs.LawsHanding as laws
-use Rattle.sng_history.specs.LawsHanding.{may_receive, receive_rules, Mailing, knows, next_number, id_meant, topic_meant, publish_to, register_to, sent_before, handed_one, handed_out}
+use Rattle.sng_history.specs.LawsHanding.{may_receive, receive_rules, Mailing, knows}
+use Rattle.sng_history.specs.LawsHanding.{topic_meant, publish_to, register_to, sent_before, handed_one}
+use Rattle.sng_history.specs.LawsHanding.{handed_out}
 use Rattle.sng_history.proofs.LawRules.{receive_ruled}
-use Rattle.sng_history.proofs.Marked.{marked, id_marked, full_marked, known_marked}
-
--- ---- MsgIds
-
--- the MsgId that was given last is at most 65,535
-last_by : (b : Bool) (n : ℕ) → (if b then 0 else (n - 1) % 65535 + 1) ≤ 65535
-last_by true n = omega arith
-last_by false n = let less : (n - 1) % 65535 < 65535 = mod-lt (n - 1) (omega arith) in omega (arith, less)
-
-pub last_within : (given : ℕ) → last_number given ≤ 65535
-last_within given = last_by (given == 0) given
-
-next_by : (n : ℕ) (b : Bool) → nat_le 65535 n ≡ b → n ≤ 65535 → (if b then 1 else n + 1) ≡ next_number n
-next_by n true is within = let last : n ≡ 65535 = grind (arith, nat_tests, is, within) in rw last refl
-next_by n false is within =
-    let less : n < 65535 = grind (arith, nat_tests, is) in let same : n % 65535 ≡ n = mod-eq_of_lt less in rw same refl
-
-next_same : (n : ℕ) → n ≤ 65535 → number_after n ≡ next_number n
-next_same n within = next_by n (nat_le 65535 n) refl within
-
-msg_id_same : (q : Qos) (n : ℕ) → n ≤ 65535 → msg_id_of q n ≡ (if is_at_least_once q then next_number n else 0)
-msg_id_same AtMostOnce n within = refl
-msg_id_same AtLeastOnce n within = next_same n within
-
-pub frame_qos_same : (q : Qos) → handing.frame_qos q ≡ laws.frame_qos q
-frame_qos_same AtMostOnce = refl
-frame_qos_same AtLeastOnce = refl
-
--- ---- the topic id of a name
-
-number_same : (octets : List ℕ) → id_in octets ≡ number_in octets
-number_same [] = refl
-number_same (high ∷ []) = refl
-number_same (high ∷ low ∷ octets) = refl
-
--- the client knows the name by the type and the id, or does not know it
-abbrev pub Meant : Option Known → Bool → TopicIdType × ℕ → Type 0
-Meant None b topic = b ≡ false
-Meant (Some k) b topic = (b ≡ true) × ((id_type_of k.kind ≡ topic.0) × (k.id ≡ topic.1))
-
-meant_by : (two : Bool) (octets : List ℕ) (predefined : Option ℕ) (b : Bool) (told : ℕ)
-    → Meant (if two then Some (known_by kind.Short (id_in octets)) else given_id predefined (let o : Option ℕ = if b then Some told else None in o))
-    (two || (is_some predefined || b)) (if two then (type.Short, number_in octets) else id_meant predefined told)
-meant_by true octets predefined b told = (refl, (refl, number_same octets))
-meant_by false octets (Some id) b told = (refl, (refl, refl))
-meant_by false octets None true told = (refl, (refl, refl))
-meant_by false octets None false told = refl
-
-pub meant : (c : Mailing) (name : List ℕ) → Meant (known_as c.policy (marked c.told c.known) name) (knows c name) (topic_meant c name)
-meant c name =
-    subst (λ o. Meant (if length name == 2 then Some (known_by kind.Short (id_in name)) else given_id (topic_id c.policy name) o) (knows c name) (topic_meant c name))
-    (sym (known_marked name c.told c.known))
-    (meant_by (length name == 2) name (topic_id c.policy name) (is_among name c.told && is_among name c.known) (id_told name c.told))
-
--- ---- frames
-
-publish_same : (c : Mailing) (m : Message) (k : Known) → c.number ≤ 65535 → id_type_of k.kind ≡ (topic_meant c m.name).0 → k.id ≡ (topic_meant c m.name).1
-    → handing.handed_out c.address c.number m k ≡ publish_to c m
-publish_same c m k within type id = rw (type, id, frame_qos_same m.qos, msg_id_same m.qos c.number within) refl
-
-register_same : (c : Mailing) (name : List ℕ) → c.number ≤ 65535 → handing.announced_out c.address c.number (marked c.told c.known) name ≡ register_to c name
-register_same c name within = rw (id_marked name c.told c.known, next_same c.number within) refl
+use Rattle.sng_history.proofs.Marked.{marked, full_marked}
+use Rattle.sng_history.proofs.LawTurnFrames.{Meant, meant, publish_same, register_same}
+use Rattle.sng_history.proofs.Turns.{turned}
 
 -- ---- a message has its turn
 
 -- how messages go to the client, who was told these names and knows these
 abbrev pub mail : Around → Client → List (List ℕ) → List (List ℕ) → Mailing
-mail a x told known = record { policy = a.policy; id = x.id; address = x.address; told = told; known = known; number = x.number }
+mail a x told known =
+    record {
+      policy = a.policy;
+      id = x.id;
+      address = x.address;
+      told = told;
+      known = known;
+      number = x.number;
+    }
 
 -- the client, where these wait and no exchange is open
 abbrev pub ready : Client → List (List ℕ) → List (List ℕ) → List Message → Client
-ready x told known waiting = record x { ids = marked told known; buffer = record { waiting = waiting; exchange = None } }
+ready x told known waiting =
+    record x { ids = marked told known; buffer = record { waiting = waiting; exchange = None } }
 
 -- what holds of those that wait
 abbrev Turned : Around → List Release → List (List ℕ) → List (List ℕ) → List Message → Type 0
 Turned a dropped told known waiting =
     (x : Client) → x.number ≤ 65535
-    → spell a dropped (ready x told known waiting) (turns a.policy x.id (marked told known) waiting) ≡ handed_out (mail a x told known) waiting
+    → spell a dropped (ready x told known waiting) (turns a.policy x.id (marked told known) waiting)
+    ≡ handed_out (mail a x told known) waiting
 
 -- behind one that is handed over at this QoS
-behind_spelled : (a : Around) (dropped : List Release) (told known : List (List ℕ)) (m : Message) (more : List Message) (x : Client) (q : Qos) (k : Known) → x.number ≤ 65535 → Turned a dropped told known more
-    → spell a dropped (let y : Client = record (ready x told known (m ∷ more)) { number = number_by q x.number; buffer = buffer_by q (ready x told known (m ∷ more)).buffer k x.number a.clock } in y)
+behind_spelled : (a : Around) (dropped : List Release) (told known : List (List ℕ)) (m : Message)
+    (more : List Message) (x : Client) (q : Qos) (k : Known) → x.number ≤ 65535
+    → Turned a dropped told known more
+    → spell a dropped (let y : Client =
+    record (ready x told known (m ∷ more)) {
+      number = number_by q x.number;
+      buffer = buffer_by q (ready x told known (m ∷ more)).buffer k x.number a.clock;
+    } in y)
     (behind q (turns a.policy x.id (marked told known) more))
     ≡ (if is_at_least_once q then [] else handed_out (mail a x told known) more)
 behind_spelled a dropped told known m more x AtMostOnce k within rest = rest x within
 behind_spelled a dropped told known m more x AtLeastOnce k within rest = refl
 
-hand_spelled : (a : Around) (dropped : List Release) (told known : List (List ℕ)) (m : Message) (more : List Message) (x : Client) (k : Known) → x.number ≤ 65535 → Turned a dropped told known more
-    → known_as a.policy (marked told known) m.name ≡ Some k → Meant (Some k) (knows (mail a x told known) m.name) (topic_meant (mail a x told known) m.name)
-    → spell a dropped (ready x told known (m ∷ more)) (note.Hand x.id m.name Allowed ∷ behind m.qos (turns a.policy x.id (marked told known) more))
-    ≡ Note (note.Hand x.id m.name Allowed) ∷ publish_to (mail a x told known) m ∷ sent_before m (handed_out (mail a x told known) more)
+hand_spelled : (a : Around) (dropped : List Release) (told known : List (List ℕ)) (m : Message)
+    (more : List Message) (x : Client) (k : Known) → x.number ≤ 65535 → Turned a dropped told known more
+    → known_as a.policy (marked told known) m.name ≡ Some k
+    → Meant (Some k) (knows (mail a x told known) m.name) (topic_meant (mail a x told known) m.name)
+    → spell a dropped (ready x told known (m ∷ more))
+    (note.Hand x.id m.name Allowed ∷ behind m.qos (turns a.policy x.id (marked told known) more))
+    ≡ Note (note.Hand x.id m.name Allowed) ∷ publish_to (mail a x told known) m
+    ∷ sent_before m (handed_out (mail a x told known) more)
 hand_spelled a dropped told known m more x k within rest is means =
     let c = mail a x told known in
     let y : Client = ready x told known (m ∷ more) in
     subst
     (λ o. Note (note.Hand x.id m.name Allowed)
     ∷ (handed_outs x.address x.number (Some m) o
-    ++ spell a dropped (let z : Client = record y { number = number_handed x.number (Some m); buffer = buffer_handed y.buffer (Some m) o x.number a.clock } in z) (behind m.qos (turns a.policy x.id (marked told known) more)))
+    ++ spell a dropped (let z : Client =
+    record y {
+      number = number_handed x.number (Some m);
+      buffer = buffer_handed y.buffer (Some m) o x.number a.clock;
+    } in z) (behind m.qos (turns a.policy x.id (marked told known) more)))
     ≡ Note (note.Hand x.id m.name Allowed) ∷ publish_to c m ∷ sent_before m (handed_out c more))
     (sym is)
-    (rw (publish_same c m k within means.1.0 means.1.1, behind_spelled a dropped told known m more x m.qos k within rest) refl)
+    (rw (
+      publish_same c m k within means.1.0 means.1.1,
+      behind_spelled a dropped told known m more x m.qos k within rest,
+    ) refl)
 
 -- what comes of a message that the policy allows
-abbrev Offered : Around → List Release → List (List ℕ) → List (List ℕ) → Message → List Message → Client → Outcome → Type 0
+abbrev Offered : Around → List Release → List (List ℕ) → List (List ℕ) → Message → List Message → Client
+    → Outcome → Type 0
 Offered a dropped told known m more x o =
     spell a dropped (ready x told known (m ∷ more))
-    (offered x.id m (is_some (known_as a.policy (marked told known) m.name)) (is_full_for m.name (marked told known)) (turns a.policy x.id (marked told known) more))
+    (offered x.id m (is_some (known_as a.policy (marked told known) m.name))
+    (is_full_for m.name (marked told known)) (turns a.policy x.id (marked told known) more))
     ≡ handed_one (mail a x told known) m o (handed_out (mail a x told known) more)
 
 -- the last rule
 abbrev pub full_rule : Mailing → List ℕ → List Rule
-full_rule c name = (not (knows c name) && (not (is_among name c.told) && not (nat_lt (length c.told) 128)), Full place.Ids) ∷ []
+full_rule c name =
+    (not (knows c name) && (not (is_among name c.told) && not (nat_lt (length c.told) 128)), Full place.Ids)
+    ∷ []
 
 -- what the laws say of it, where the client knows the name, where no id is left, and where one is announced
 known_one : (c : Mailing) (m : Message) (rest : List Out) → knows c m.name ≡ true
-    → handed_one c m (judged (full_rule c m.name)) rest ≡ Note (note.Hand c.id m.name Allowed) ∷ publish_to c m ∷ sent_before m rest
+    → handed_one c m (judged (full_rule c m.name)) rest
+    ≡ Note (note.Hand c.id m.name Allowed) ∷ publish_to c m ∷ sent_before m rest
 known_one c m rest is = ap (λ o. handed_one c m o rest) (allowed c m.name is) ∙ sent c m rest is
   where
     allowed : (c : Mailing) (name : List ℕ) → knows c name ≡ true → judged (full_rule c name) ≡ Allowed
     allowed c name is = rw is refl
 
     sent : (c : Mailing) (m : Message) (rest : List Out) → knows c m.name ≡ true
-        → handed_one c m Allowed rest ≡ Note (note.Hand c.id m.name Allowed) ∷ publish_to c m ∷ sent_before m rest
+        → handed_one c m Allowed rest
+        ≡ Note (note.Hand c.id m.name Allowed) ∷ publish_to c m ∷ sent_before m rest
     sent c m rest is = rw is refl
 
 -- no id of the name was told, and none is left
 abbrev pub is_crowded : Mailing → List ℕ → Bool
 is_crowded c name = not (is_among name c.told) && not (nat_lt (length c.told) 128)
 
-crowded_one : (c : Mailing) (m : Message) (rest : List Out) → knows c m.name ≡ false → is_crowded c m.name ≡ true
-    → handed_one c m (judged (full_rule c m.name)) rest ≡ Note (note.Hand c.id m.name (Denied (Full place.Ids))) ∷ rest
+crowded_one : (c : Mailing) (m : Message) (rest : List Out) → knows c m.name ≡ false
+    → is_crowded c m.name ≡ true
+    → handed_one c m (judged (full_rule c m.name)) rest
+    ≡ Note (note.Hand c.id m.name (Denied (Full place.Ids))) ∷ rest
 crowded_one c m rest is full = ap (λ o. handed_one c m o rest) (denied c m.name is full)
   where
-    denied : (c : Mailing) (name : List ℕ) → knows c name ≡ false → is_crowded c name ≡ true → judged (full_rule c name) ≡ Denied (Full place.Ids)
+    denied : (c : Mailing) (name : List ℕ) → knows c name ≡ false → is_crowded c name ≡ true
+        → judged (full_rule c name) ≡ Denied (Full place.Ids)
     denied c name is full = rw (is, full) refl
 
-announced_one : (c : Mailing) (m : Message) (rest : List Out) → knows c m.name ≡ false → is_crowded c m.name ≡ false
-    → handed_one c m (judged (full_rule c m.name)) rest ≡ Note (note.Announce c.id m.name) ∷ register_to c m.name ∷ []
-announced_one c m rest is room = ap (λ o. handed_one c m o rest) (allowed c m.name is room) ∙ announced c m rest is
+announced_one : (c : Mailing) (m : Message) (rest : List Out) → knows c m.name ≡ false
+    → is_crowded c m.name ≡ false
+    → handed_one c m (judged (full_rule c m.name)) rest
+    ≡ Note (note.Announce c.id m.name) ∷ register_to c m.name ∷ []
+announced_one c m rest is room =
+    ap (λ o. handed_one c m o rest) (allowed c m.name is room) ∙ announced c m rest is
   where
-    allowed : (c : Mailing) (name : List ℕ) → knows c name ≡ false → is_crowded c name ≡ false → judged (full_rule c name) ≡ Allowed
+    allowed : (c : Mailing) (name : List ℕ) → knows c name ≡ false → is_crowded c name ≡ false
+        → judged (full_rule c name) ≡ Allowed
     allowed c name is room = rw (is, room) refl
 
     announced : (c : Mailing) (m : Message) (rest : List Out) → knows c m.name ≡ false
         → handed_one c m Allowed rest ≡ Note (note.Announce c.id m.name) ∷ register_to c m.name ∷ []
     announced c m rest is = rw is refl
 
-known_turn : (a : Around) (dropped : List Release) (told known : List (List ℕ)) (m : Message) (more : List Message) (x : Client) (k : Known) → x.number ≤ 65535 → Turned a dropped told known more
-    → known_as a.policy (marked told known) m.name ≡ Some k → Meant (Some k) (knows (mail a x told known) m.name) (topic_meant (mail a x told known) m.name)
+known_turn : (a : Around) (dropped : List Release) (told known : List (List ℕ)) (m : Message)
+    (more : List Message) (x : Client) (k : Known) → x.number ≤ 65535 → Turned a dropped told known more
+    → known_as a.policy (marked told known) m.name ≡ Some k
+    → Meant (Some k) (knows (mail a x told known) m.name) (topic_meant (mail a x told known) m.name)
     → Offered a dropped told known m more x (judged (full_rule (mail a x told known) m.name))
 known_turn a dropped told known m more x k within rest is means =
-    ap (λ b. spell a dropped (ready x told known (m ∷ more)) (offered x.id m b (is_full_for m.name (marked told known)) (turns a.policy x.id (marked told known) more))) (ap is_some is)
+    ap (λ b. spell a dropped (ready x told known (m ∷ more))
+    (offered x.id m b (is_full_for m.name (marked told known))
+    (turns a.policy x.id (marked told known) more))) (ap is_some is)
     ∙ (hand_spelled a dropped told known m more x k within rest is means
     ∙ sym (known_one (mail a x told known) m (handed_out (mail a x told known) more) means.0))
 
-unknown_turn : (a : Around) (dropped : List Release) (told known : List (List ℕ)) (m : Message) (more : List Message) (x : Client) (full : Bool) → x.number ≤ 65535 → Turned a dropped told known more
+unknown_turn : (a : Around) (dropped : List Release) (told known : List (List ℕ)) (m : Message)
+    (more : List Message) (x : Client) (full : Bool) → x.number ≤ 65535 → Turned a dropped told known more
     → is_full_for m.name (marked told known) ≡ full → knows (mail a x told known) m.name ≡ false
-    → spell a dropped (ready x told known (m ∷ more)) (offered x.id m false full (turns a.policy x.id (marked told known) more))
-    ≡ handed_one (mail a x told known) m (judged (full_rule (mail a x told known) m.name)) (handed_out (mail a x told known) more)
+    → spell a dropped (ready x told known (m ∷ more))
+    (offered x.id m false full (turns a.policy x.id (marked told known) more))
+    ≡ handed_one (mail a x told known) m (judged (full_rule (mail a x told known) m.name))
+    (handed_out (mail a x told known) more)
 unknown_turn a dropped told known m more x true within rest full unknown =
     ap (λ outs. Note (note.Hand x.id m.name (Denied (Full place.Ids))) ∷ outs) (rest x within)
-    ∙ sym (crowded_one (mail a x told known) m (handed_out (mail a x told known) more) unknown (sym (full_marked m.name told known) ∙ full))
+    ∙ sym (crowded_one (mail a x told known) m (handed_out (mail a x told known) more) unknown
+    (sym (full_marked m.name told known) ∙ full))
 unknown_turn a dropped told known m more x false within rest full unknown =
-    ap (λ out. Note (note.Announce x.id m.name) ∷ out ∷ []) (register_same (mail a x told known) m.name within)
-    ∙ sym (announced_one (mail a x told known) m (handed_out (mail a x told known) more) unknown (sym (full_marked m.name told known) ∙ full))
+    ap (λ out. Note (note.Announce x.id m.name) ∷ out ∷ [])
+    (register_same (mail a x told known) m.name within)
+    ∙ sym (announced_one (mail a x told known) m (handed_out (mail a x told known) more) unknown
+    (sym (full_marked m.name told known) ∙ full))
 
-offered_turn : (a : Around) (dropped : List Release) (told known : List (List ℕ)) (m : Message) (more : List Message) (x : Client) (k : Option Known) → x.number ≤ 65535 → Turned a dropped told known more
-    → known_as a.policy (marked told known) m.name ≡ k → Meant k (knows (mail a x told known) m.name) (topic_meant (mail a x told known) m.name)
+offered_turn : (a : Around) (dropped : List Release) (told known : List (List ℕ)) (m : Message)
+    (more : List Message) (x : Client) (k : Option Known) → x.number ≤ 65535
+    → Turned a dropped told known more
+    → known_as a.policy (marked told known) m.name ≡ k
+    → Meant k (knows (mail a x told known) m.name) (topic_meant (mail a x told known) m.name)
     → Offered a dropped told known m more x (judged (full_rule (mail a x told known) m.name))
-offered_turn a dropped told known m more x (Some k) within rest is means = known_turn a dropped told known m more x k within rest is means
+offered_turn a dropped told known m more x (Some k) within rest is means =
+    known_turn a dropped told known m more x k within rest is means
 offered_turn a dropped told known m more x None within rest is means =
     let full = is_full_for m.name (marked told known) in
-    ap (λ b. spell a dropped (ready x told known (m ∷ more)) (offered x.id m b full (turns a.policy x.id (marked told known) more))) (ap is_some is)
+    ap (λ b. spell a dropped (ready x told known (m ∷ more))
+    (offered x.id m b full (turns a.policy x.id (marked told known) more))) (ap is_some is)
     ∙ unknown_turn a dropped told known m more x full within rest refl means
 
 -- ---- what the policy says
 
-judged_if : (b : Bool) (rule : Denial) (o more : Outcome) → (if b then Denied rule else and_then o more) ≡ and_then (if b then Denied rule else o) more
+judged_if : (b : Bool) (rule : Denial) (o more : Outcome)
+    → (if b then Denied rule else and_then o more) ≡ and_then (if b then Denied rule else o) more
 judged_if true rule o more = refl
 judged_if false rule o more = refl
 
 pub judged_append : (rules more : List Rule) → judged (rules ++ more) ≡ and_then (judged rules) (judged more)
 judged_append [] more = refl
 judged_append (rule ∷ rules) more =
-    ap (λ o. if rule.0 then Denied rule.1 else o) (judged_append rules more) ∙ judged_if rule.0 rule.1 (judged rules) (judged more)
+    ap (λ o. if rule.0 then Denied rule.1 else o) (judged_append rules more)
+    ∙ judged_if rule.0 rule.1 (judged rules) (judged more)
 
-abbrev turned : Outcome → Bool
-turned Allowed = false
-turned (Denied rule) = is_turned_away rule
-
-unturned : (l g : Bool) (id name : List ℕ) → turned (judged ((l, NoScope id) ∷ (g, MissingSub name) ∷ [])) ≡ false
+unturned : (l g : Bool) (id name : List ℕ)
+    → turned (judged ((l, NoScope id) ∷ (g, MissingSub name) ∷ [])) ≡ false
 unturned true g id name = refl
 unturned false true id name = refl
 unturned false false id name = refl
 
-pub denied_settles : (policy : Policy) (id name : List ℕ) (rule : Denial) (x : Client) → judged (receive_rules policy id name) ≡ Denied rule
+pub denied_settles : (policy : Policy) (id name : List ℕ) (rule : Denial) (x : Client)
+    → judged (receive_rules policy id name) ≡ Denied rule
     → denied_hand rule x ≡ (let y : Client = record x { buffer = settle x.buffer } in y)
 denied_settles policy id name rule x is =
     let rules = receive_rules policy id name in
-    let away : is_turned_away rule ≡ false = sym (ap turned is) ∙ unturned (not (is_some (scope_of policy.clients id))) (not (may_receive (scope_of policy.clients id) name)) id name in
+    let away : is_turned_away rule ≡ false =
+    sym (ap turned is) ∙ unturned (not (is_some (scope_of policy.clients id)))
+    (not (may_receive (scope_of policy.clients id) name)) id name in
     rw away refl
 
 -- ---- all that may leave
 
-turn_by : (a : Around) (dropped : List Release) (told known : List (List ℕ)) (m : Message) (more : List Message) (x : Client) (o : Outcome) → x.number ≤ 65535 → Turned a dropped told known more
+turn_by : (a : Around) (dropped : List Release) (told known : List (List ℕ)) (m : Message)
+    (more : List Message) (x : Client) (o : Outcome) → x.number ≤ 65535 → Turned a dropped told known more
     → judged (receive_rules a.policy x.id m.name) ≡ o
-    → spell a dropped (ready x told known (m ∷ more)) (judged_turn a.policy x.id (marked told known) m o (turns a.policy x.id (marked told known) more))
-    ≡ handed_one (mail a x told known) m (and_then o (judged (full_rule (mail a x told known) m.name))) (handed_out (mail a x told known) more)
+    → spell a dropped (ready x told known (m ∷ more))
+    (judged_turn a.policy x.id (marked told known) m o (turns a.policy x.id (marked told known) more))
+    ≡ handed_one (mail a x told known) m (and_then o (judged (full_rule (mail a x told known) m.name)))
+    (handed_out (mail a x told known) more)
 turn_by a dropped told known m more x Allowed within rest is =
-    offered_turn a dropped told known m more x (known_as a.policy (marked told known) m.name) within rest refl (meant (mail a x told known) m.name)
+    offered_turn a dropped told known m more x (known_as a.policy (marked told known) m.name) within rest refl
+    (meant (mail a x told known) m.name)
 turn_by a dropped told known m more x (Denied rule) within rest is =
     ap (λ outs. Note (note.Hand x.id m.name (Denied rule)) ∷ outs)
-    (ap (λ y. spell a dropped y (turns a.policy x.id (marked told known) more)) (denied_settles a.policy x.id m.name rule (ready x told known (m ∷ more)) is) ∙ rest x within)
+    (ap (λ y. spell a dropped y (turns a.policy x.id (marked told known) more))
+    (denied_settles a.policy x.id m.name rule (ready x told known (m ∷ more)) is) ∙ rest x within)
 
-turn_spelled : (a : Around) (dropped : List Release) (told known : List (List ℕ)) (m : Message) (more : List Message) → Turned a dropped told known more → Turned a dropped told known (m ∷ more)
+turn_spelled : (a : Around) (dropped : List Release) (told known : List (List ℕ)) (m : Message)
+    (more : List Message) → Turned a dropped told known more → Turned a dropped told known (m ∷ more)
 turn_spelled a dropped told known m more rest x within =
     let c = mail a x told known in
     let o = judged (receive_rules a.policy x.id m.name) in
-    ap (λ said. spell a dropped (ready x told known (m ∷ more)) (judged_turn a.policy x.id (marked told known) m said (turns a.policy x.id (marked told known) more))) (receive_ruled a.policy x.id m.name)
+    ap (λ said. spell a dropped (ready x told known (m ∷ more))
+    (judged_turn a.policy x.id (marked told known) m said (turns a.policy x.id (marked told known) more)))
+    (receive_ruled a.policy x.id m.name)
     ∙ (turn_by a dropped told known m more x o within rest refl
-    ∙ ap (λ said. handed_one c m said (handed_out c more)) (sym (judged_append (receive_rules a.policy x.id m.name) (full_rule c m.name))))
+    ∙ ap (λ said. handed_one c m said (handed_out c more))
+    (sym (judged_append (receive_rules a.policy x.id m.name) (full_rule c m.name))))
 
-turns_spelled : (a : Around) (dropped : List Release) (told known : List (List ℕ)) (waiting : List Message) → Turned a dropped told known waiting
+turns_spelled : (a : Around) (dropped : List Release) (told known : List (List ℕ)) (waiting : List Message)
+    → Turned a dropped told known waiting
 turns_spelled a dropped told known [] x within = refl
-turns_spelled a dropped told known (m ∷ more) x within = turn_spelled a dropped told known m more (turns_spelled a dropped told known more) x within
+turns_spelled a dropped told known (m ∷ more) x within =
+    turn_spelled a dropped told known m more (turns_spelled a dropped told known more) x within
 
 -- as messages may leave of what waits for a client that has no exchange open
-pub handed_shown : (a : Around) (dropped : List Release) (x : Client) (told known : List (List ℕ)) → x.ids ≡ marked told known → x.buffer.exchange ≡ None → x.number ≤ 65535
-    → spell a dropped x (turns a.policy x.id x.ids x.buffer.waiting) ≡ handed_out (mail a x told known) x.buffer.waiting
+pub handed_shown : (a : Around) (dropped : List Release) (x : Client) (told known : List (List ℕ))
+    → x.ids ≡ marked told known → x.buffer.exchange ≡ None → x.number ≤ 65535
+    → spell a dropped x (turns a.policy x.id x.ids x.buffer.waiting)
+    ≡ handed_out (mail a x told known) x.buffer.waiting
 handed_shown a dropped x told known ids none within =
-    ap (λ marks. spell a dropped (let y : Client = record x { ids = marks } in y) (turns a.policy x.id marks x.buffer.waiting)) ids
-    ∙ (ap (λ e. spell a dropped (let y : Client = record x { ids = marked told known; buffer = record { waiting = x.buffer.waiting; exchange = e } } in y) (turns a.policy x.id (marked told known) x.buffer.waiting)) none
+    ap (λ marks. spell a dropped (let y : Client = record x { ids = marks } in y)
+    (turns a.policy x.id marks x.buffer.waiting)) ids
+    ∙ (ap (λ e. spell a dropped (let y : Client =
+    record x { ids = marked told known; buffer = record { waiting = x.buffer.waiting; exchange = e } } in
+    y) (turns a.policy x.id (marked told known) x.buffer.waiting)) none
     ∙ turns_spelled a dropped told known x.buffer.waiting x within)

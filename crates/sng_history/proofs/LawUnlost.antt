@@ -1,5 +1,6 @@
 -- No client is lost but with a tick of the clock.
-use Rattle.std.proofs.Common.{◌≡◌, ℕ, Bool, true, false, List, [], ◌∷◌, ◌++◌, refl, ap, ◌∙◌, if◌then◌else◌, Ok, Err}
+use Rattle.std.proofs.Common.{◌≡◌, ℕ, Bool, true, false, List, [], ◌∷◌, ◌++◌, refl, ap, ◌∙◌, if◌then◌else◌}
+use Rattle.std.proofs.Common.{Ok, Err}
 use Rattle.std.specs.Prelude.{◌||◌, Option, Some, None}
 use Rattle.std.specs.Str.{bytes_eq}
 use Rattle.std.specs.declared.result.Result.{Result}
@@ -24,24 +25,30 @@ use Rattle.sng_book.specs.declared.outcome.Outcome.TheVariants.{Allowed, Denied}
 use Rattle.sng_book.specs.declared.out.Out.{Out}
 use Rattle.sng_book.specs.declared.out.Out.TheVariants.{Send, Wire, Note}
 use Rattle.sng_states.specs.States.{is_due_messages}
-use Rattle.sng_history.specs.Causes.{Request, ToPing, ToLeave, ToSleep, ToRegister, ToPublish, ToSubscribe, ToUnsubscribe, ToConfirm, ToAcknowledge, ToState, Untaken}
-use Rattle.sng_history.specs.Causes.{Cause, ByConnect, ByMessage, BySource, ByBroken, ByPacket, ByUp, ByDown, ByTake, ByReplace, ByTick}
+use Rattle.sng_history.specs.Causes.{Request, ToPing, ToLeave, ToSleep, ToRegister, ToPublish, ToSubscribe}
+use Rattle.sng_history.specs.Causes.{ToUnsubscribe, ToConfirm, ToAcknowledge, ToState, Untaken}
+use Rattle.sng_history.specs.Causes.{Cause, ByConnect, ByMessage, BySource, ByBroken, ByPacket, ByUp, ByDown}
+use Rattle.sng_history.specs.Causes.{ByTake, ByReplace, ByTick}
 use Rattle.sng_history.specs.Causes.{datagram_cause, publish_cause, disconnect_cause}
 use Rattle.sng_history.specs.Packets.{answer_of, refused_filter}
 use Rattle.sng_history.specs.Notes.{is_of}
-use Rattle.sng_history.specs.Clients.{Client, is_here, let_in, closed, is_confirming, is_acknowledging, message_due}
+use Rattle.sng_history.specs.Clients.{Client, is_here, let_in, closed, is_confirming, is_acknowledging}
+use Rattle.sng_history.specs.Clients.{message_due}
 use Rattle.sng_history.specs.Standing.{holds}
 use Rattle.sng_history.specs.State.{State}
 use Rattle.sng_history.specs.Verdicts.{entry, ping_verdict, coverage}
 use Rattle.sng_history.specs.Answers.{denied_note}
 use Rattle.sng_history.specs.Outgoing.{handed_over, all_gone, out_of_turn, delivered_notes}
-use Rattle.sng_history.specs.Lawful.{denial_of, woken_notes, confirmations, entering_notes, fixed_to, end_of, ends_under, refused_end, fixed_for}
+use Rattle.sng_history.specs.Lawful.{denial_of, woken_notes, confirmations, entering_notes, fixed_to, end_of}
+use Rattle.sng_history.specs.Lawful.{ends_under, refused_end, fixed_for}
 use Rattle.sng_history.specs.Steps.{outs_by}
 use Rattle.sng_history.specs.LawsLost.{says_lost, is_lost_in}
 use Rattle.sng_history.proofs.Asks.{of_register, of_publish, of_subscribe, of_unsubscribe}
-use Rattle.sng_history.proofs.Hands.{Every, OfMessages, every_append, every_if, every_handed, every_gone, every_confirmation, every_delivered, every_woken}
+use Rattle.sng_history.proofs.Hands.{Every, OfMessages, every_append, every_if, every_handed, every_gone}
+use Rattle.sng_history.proofs.Hands.{every_confirmation, every_delivered, every_woken}
 use Rattle.sng_history.proofs.Statements.{OfStatement, every_statement}
-use Rattle.sng_history.proofs.EachNote.{EachNote, Beside, note_row}
+use Rattle.sng_history.proofs.EachNote.{EachNote, Beside}
+use Rattle.sng_history.proofs.EachNoteRow.{note_row}
 
 -- ---- notes that lose nobody
 
@@ -59,9 +66,11 @@ unlosing_messages : (client : List ℕ) → OfMessages Unlosing client
 unlosing_messages client = record { announces = λ name id. refl; hands = λ name o id. refl }
 
 unlosing_statement : (client : List ℕ) → OfStatement Unlosing client
-unlosing_statement client = record { states = λ name o id. refl; leaves = λ id. refl; messages = unlosing_messages client }
+unlosing_statement client =
+    record { states = λ name o id. refl; leaves = λ id. refl; messages = unlosing_messages client }
 
-every_either : (b : Bool) (xs ys : List Decision) → Every Unlosing xs → Every Unlosing ys → Every Unlosing (if b then xs else ys)
+every_either : (b : Bool) (xs ys : List Decision) → Every Unlosing xs → Every Unlosing ys
+    → Every Unlosing (if b then xs else ys)
 every_either true xs ys one two = one
 every_either false xs ys one two = two
 
@@ -85,7 +94,8 @@ every_request s (ToPing client) x =
     every_append Unlosing (denial_of x.id (ping_verdict client x)) (woken_notes s.policy client x)
     (every_denial x.id (ping_verdict client x))
     (every_woken Unlosing s.policy client x (unlosing_messages x.id))
-every_request s (ToSleep duration) x = every_either (is_due_messages x.phase) [] (out_of_turn x.id) tt (λ id. refl, tt)
+every_request s (ToSleep duration) x =
+    every_either (is_due_messages x.phase) [] (out_of_turn x.id) tt (λ id. refl, tt)
 every_request s ToLeave x = (λ id. refl, every_gone Unlosing x.id x.buffer.waiting (unlosing_messages x.id))
 every_request s (ToRegister r) x = (of_register Unlosing s.policy x r.name (λ name o id. refl), tt)
 every_request s (ToPublish p) x = (of_publish Unlosing s x p (λ name o id. refl), tt)
@@ -97,7 +107,8 @@ every_request s (ToConfirm r) x =
 every_request s (ToAcknowledge r) x =
     every_either (is_acknowledging r x) (handed_over s.policy (closed x)) (out_of_turn x.id)
     (every_handed Unlosing s.policy (closed x) (unlosing_messages x.id)) (λ id. refl, tt)
-every_request s (ToState statement) x = every_statement Unlosing s.policy statement x (unlosing_statement x.id)
+every_request s (ToState statement) x =
+    every_statement Unlosing s.policy statement x (unlosing_statement x.id)
 every_request s (Untaken message) x = (untaken_unlosing message (who.Client x.id), tt)
 
 every_entering : (s : State) (from : Address) (connect : Connect) (x : Client) (o : Outcome)
@@ -105,10 +116,12 @@ every_entering : (s : State) (from : Address) (connect : Connect) (x : Client) (
 every_entering s from connect x Allowed =
     let y = let_in s.clock from connect x in
     every_either connect.flags.clean (all_gone x.id x.buffer.waiting) (handed_over s.policy y)
-    (every_gone Unlosing x.id x.buffer.waiting (unlosing_messages x.id)) (every_handed Unlosing s.policy y (unlosing_messages y.id))
+    (every_gone Unlosing x.id x.buffer.waiting (unlosing_messages x.id))
+    (every_handed Unlosing s.policy y (unlosing_messages y.id))
 every_entering s from connect x (Denied rule) = tt
 
-every_connect : (s : State) (from : Address) (connect : Connect) (x : Client) → Every Unlosing (fixed_for s (ByConnect from connect) x)
+every_connect : (s : State) (from : Address) (connect : Connect) (x : Client)
+    → Every Unlosing (fixed_for s (ByConnect from connect) x)
 every_connect s from connect x =
     let o = entry s connect in
     let leaves : List Decision = note.Left x.id ∷ all_gone x.id x.buffer.waiting in
@@ -117,21 +130,25 @@ every_connect s from connect x =
     (if is_allowed o then other else [])
     (λ id. refl, every_entering s from connect x o)
     (every_if Unlosing (is_allowed o) other
-    (every_if Unlosing (is_here x from) leaves (λ id. refl, every_gone Unlosing x.id x.buffer.waiting (unlosing_messages x.id))))
+    (every_if Unlosing (is_here x from) leaves
+    (λ id. refl, every_gone Unlosing x.id x.buffer.waiting (unlosing_messages x.id))))
 
 every_end : (client filter : List ℕ) (o : Outcome) (notes : List Decision) → Every Unlosing notes
     → Every Unlosing (end_of client filter o ++ notes)
 every_end client filter Allowed notes every = every
 every_end client filter (Denied rule) notes every = (λ id. refl, every)
 
-every_ends : (policy : Policy) (client : List ℕ) (held : List Held) → Every Unlosing (ends_under policy client held)
+every_ends : (policy : Policy) (client : List ℕ) (held : List Held)
+    → Every Unlosing (ends_under policy client held)
 every_ends policy client [] = tt
 every_ends policy client (h ∷ held) =
-    every_end client h.filter (coverage policy client h.filter) (ends_under policy client held) (every_ends policy client held)
+    every_end client h.filter (coverage policy client h.filter) (ends_under policy client held)
+    (every_ends policy client held)
 
 every_refused : (x : Client) (filter : Option (List ℕ)) → Every Unlosing (refused_end x filter)
 every_refused x None = tt
-every_refused x (Some filter) = every_if Unlosing (holds filter x) (note.End x.id filter (Denied BrokerRefused) ∷ []) (λ id. refl, tt)
+every_refused x (Some filter) =
+    every_if Unlosing (holds filter x) (note.End x.id filter (Denied BrokerRefused) ∷ []) (λ id. refl, tt)
 
 abbrev pub is_tick : Cause → Bool
 is_tick (ByTick clock) = true
@@ -171,8 +188,10 @@ unlost id (Note said ∷ outs) each = ap (λ b. b || is_lost_in id outs) (each.0
 unlost id (Send to datagram ∷ outs) each = unlost id outs each
 unlost id (Wire packet ∷ outs) each = unlost id outs each
 
-pub none_lost : (s : State) (c : Cause) (id : List ℕ) → is_tick c ≡ false → is_lost_in id (outs_by s c) ≡ false
-none_lost s c id not_tick = unlost id (outs_by s c) (note_row Unlosing s c unlosing_beside (λ x. every_fixed s c x not_tick))
+pub none_lost : (s : State) (c : Cause) (id : List ℕ) → is_tick c ≡ false
+    → is_lost_in id (outs_by s c) ≡ false
+none_lost s c id not_tick =
+    unlost id (outs_by s c) (note_row Unlosing s c unlosing_beside (λ x. every_fixed s c x not_tick))
 
 publish_no_tick : (from : Address) (p : Publish) (q : FrameQos) → is_tick (publish_cause from p q) ≡ false
 publish_no_tick from p qos.WithoutSession = refl
@@ -184,7 +203,8 @@ disconnect_no_tick : (from : Address) (duration : Option ℕ) → is_tick (disco
 disconnect_no_tick from None = refl
 disconnect_no_tick from (Some duration) = refl
 
-pub datagram_no_tick : (from : Address) (read : Result SnFrame FrameFault) → is_tick (datagram_cause from read) ≡ false
+pub datagram_no_tick : (from : Address) (read : Result SnFrame FrameFault)
+    → is_tick (datagram_cause from read) ≡ false
 datagram_no_tick from (Ok (frame.Publish p)) = publish_no_tick from p p.flags.qos
 datagram_no_tick from (Ok (frame.Disconnect duration)) = disconnect_no_tick from duration
 datagram_no_tick from (Ok message) = refl

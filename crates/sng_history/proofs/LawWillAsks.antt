@@ -7,7 +7,8 @@ use Rattle.sng_grants.specs.Sources.{scope_of}
 use Rattle.sng_grants.specs.declared.policy.Policy.{Policy}
 use Rattle.sng_policy.specs.Grants.{lists}
 use Rattle.sng_states.specs.declared.state.ClientState.{ClientState}
-use Rattle.sng_states.specs.declared.state.ClientState.TheVariants.{Dialogue, Active, Asleep, Awake, Disconnected, Lost}
+use Rattle.sng_states.specs.declared.state.ClientState.TheVariants.{Dialogue, Active, Asleep, Awake}
+use Rattle.sng_states.specs.declared.state.ClientState.TheVariants.{Disconnected, Lost}
 use Rattle.sng_wills.specs.Stated.{awaited_topic}
 use Rattle.sng_wills.specs.declared.will.StatedTopic.{StatedTopic}
 use Rattle.sng_book.specs.Denials.{is_allowed}
@@ -24,7 +25,8 @@ use Rattle.sng_history.specs.Causes.{ByMessage, ToState}
 use Rattle.sng_history.specs.Clients.{Client}
 use Rattle.sng_history.specs.State.{State}
 use Rattle.sng_history.specs.Verdicts.{and_then, is_active}
-use Rattle.sng_history.specs.WillAsks.{awaits_topic, turn, statement_turn, topic_at, topic_read, topic_granted}
+use Rattle.sng_history.specs.WillAsks.{awaits_topic, turn, statement_turn, topic_at, topic_read}
+use Rattle.sng_history.specs.WillAsks.{topic_granted}
 use Rattle.sng_history.specs.WillAsks.{statement_read, statement_verdict, statement_ask}
 use Rattle.sng_history.specs.Answers.{dialogue_ended}
 use Rattle.sng_history.specs.Whole.{replied}
@@ -34,11 +36,13 @@ use Rattle.sng_history.specs.LawsState.{ClientShown}
 use Rattle.sng_history.specs.LawsRules.{judged, may_publish}
 use Rattle.sng_history.specs.LawsAnswers as laws
 use Rattle.sng_history.specs.LawsAnswers.{connack_to, code_for}
-use Rattle.sng_history.specs.LawsWills.{is_in_dialogue, has_turn, topic_of, topic_rules, will_rules, is_read, topic_noted}
+use Rattle.sng_history.specs.LawsWills.{is_in_dialogue, has_turn, topic_of, topic_rules, will_rules, is_read}
+use Rattle.sng_history.specs.LawsWills.{topic_noted}
 use Rattle.sng_history.specs.LawsWills.{is_out_of_turn, reply}
-use Rattle.sng_history.proofs.SeenState.{StateShown}
+use Rattle.sng_history.proofs.SeenOrder.{StateShown}
 use Rattle.sng_history.proofs.LawRules.{listed_exit}
-use Rattle.sng_history.proofs.LawMessages.{code_same, active_same}
+use Rattle.sng_history.proofs.LawUnsupported.{code_same}
+use Rattle.sng_history.proofs.LawPings.{active_same}
 
 -- ---- its turn
 
@@ -68,15 +72,18 @@ turn_both : (a b : Bool) → and_then (turn a) (turn b) ≡ turn (a && b)
 turn_both true b = refl
 turn_both false b = refl
 
-active_shown : (h : List Row) (x : Client) → ClientShown h x → is_active x.phase ≡ laws.is_active (phase_of x.id h)
+active_shown : (h : List Row) (x : Client) → ClientShown h x
+    → is_active x.phase ≡ laws.is_active (phase_of x.id h)
 active_shown h x shown = active_same x.phase ∙ ap laws.is_active (sym shown.phase)
 
 pub turn_shown : (h : List Row) (x : Client) (statement : Statement) → ClientShown h x
     → statement_turn statement x ≡ turn (has_turn h x.id statement)
 turn_shown h x (StatesTopic topic) shown =
-    ap (λ stage. turn (awaits_topic stage)) shown.stage ∙ ap turn (topic_turn (phase_of x.id h) (stating_of x.id h).awaited)
+    ap (λ stage. turn (awaits_topic stage)) shown.stage
+    ∙ ap turn (topic_turn (phase_of x.id h) (stating_of x.id h).awaited)
 turn_shown h x (StatesMessage message) shown =
-    ap (λ stage. turn (is_some (awaited_topic stage))) shown.stage ∙ ap turn (message_turn (phase_of x.id h) (stating_of x.id h).awaited)
+    ap (λ stage. turn (is_some (awaited_topic stage))) shown.stage
+    ∙ ap turn (message_turn (phase_of x.id h) (stating_of x.id h).awaited)
 turn_shown h x (UpdatesTopic topic) shown = ap turn (active_shown h x shown)
 turn_shown h x (UpdatesMessage message) shown =
     turn_both (is_active x.phase) (is_some x.wills.will)
@@ -85,8 +92,10 @@ turn_shown h x (UpdatesMessage message) shown =
 
 -- ---- its topic
 
-message_topic : (phase : Option ClientState) (awaited : Option StatedTopic) → (is_in_dialogue phase && is_some awaited) ≡ true
-    → option_map (λ w. w.topic) (awaited_topic (stage_shown phase awaited)) ≡ option_map (λ w. w.topic) awaited
+message_topic : (phase : Option ClientState) (awaited : Option StatedTopic)
+    → (is_in_dialogue phase && is_some awaited) ≡ true
+    → option_map (λ w. w.topic) (awaited_topic (stage_shown phase awaited))
+    ≡ option_map (λ w. w.topic) awaited
 message_topic (Some Dialogue) (Some topic) is = refl
 message_topic (Some Dialogue) None is = absurd cc
 message_topic (Some Active) awaited is = absurd cc
@@ -96,7 +105,8 @@ message_topic (Some Disconnected) awaited is = absurd cc
 message_topic (Some Lost) awaited is = absurd cc
 message_topic None awaited is = absurd cc
 
-topic_shown : (h : List Row) (x : Client) (statement : Statement) → ClientShown h x → has_turn h x.id statement ≡ true
+topic_shown : (h : List Row) (x : Client) (statement : Statement) → ClientShown h x
+    → has_turn h x.id statement ≡ true
     → topic_at statement x ≡ topic_of h x.id statement
 topic_shown h x (StatesTopic topic) shown has = refl
 topic_shown h x (StatesMessage message) shown has =
@@ -107,25 +117,32 @@ topic_shown h x (UpdatesMessage message) shown has = ap (option_map (λ w. w.top
 
 text_judged : (policy : Policy) (id text : List ℕ) (l n g : Bool) → lists policy id ≡ l → is_name text ≡ n
     → may_publish (scope_of policy.clients id) text ≡ g
-    → and_then (topic_read policy id (Some text)) (topic_granted policy id (Some text)) ≡ judged (topic_rules policy id (Some text))
+    → and_then (topic_read policy id (Some text)) (topic_granted policy id (Some text))
+    ≡ judged (topic_rules policy id (Some text))
 text_judged policy id text false n g listed named granted = rw listed refl
 text_judged policy id text true false g listed named granted = rw (listed, named) refl
-text_judged policy id text true true true listed named granted = rw (listed, named, listed_exit policy id text listed, granted) refl
-text_judged policy id text true true false listed named granted = rw (listed, named, listed_exit policy id text listed, granted) refl
+text_judged policy id text true true true listed named granted =
+    rw (listed, named, listed_exit policy id text listed, granted) refl
+text_judged policy id text true true false listed named granted =
+    rw (listed, named, listed_exit policy id text listed, granted) refl
 
 topic_judged : (policy : Policy) (id : List ℕ) (topic : Option (List ℕ))
-    → and_then (topic_read policy id topic) (topic_granted policy id topic) ≡ judged (topic_rules policy id topic)
+    → and_then (topic_read policy id topic) (topic_granted policy id topic)
+    ≡ judged (topic_rules policy id topic)
 topic_judged policy id None = refl
 topic_judged policy id (Some text) =
-    text_judged policy id text (lists policy id) (is_name text) (may_publish (scope_of policy.clients id) text) refl refl refl
+    text_judged policy id text (lists policy id) (is_name text)
+    (may_publish (scope_of policy.clients id) text) refl refl refl
 
 both_read : (id : List ℕ) (l n : Bool)
-    → is_allowed (and_then (if l then Allowed else Denied (NoScope id)) (if n then Allowed else Denied BadName)) ≡ (l && n)
+    → is_allowed (and_then (if l then Allowed else Denied (NoScope id))
+    (if n then Allowed else Denied BadName)) ≡ (l && n)
 both_read id true true = refl
 both_read id true false = refl
 both_read id false n = refl
 
-read_shown : (policy : Policy) (id : List ℕ) (topic : Option (List ℕ)) → is_allowed (topic_read policy id topic) ≡ is_read policy id topic
+read_shown : (policy : Policy) (id : List ℕ) (topic : Option (List ℕ))
+    → is_allowed (topic_read policy id topic) ≡ is_read policy id topic
 read_shown policy id None = refl
 read_shown policy id (Some text) = both_read id (lists policy id) (is_name text)
 
@@ -137,13 +154,16 @@ verdict_by : (policy : Policy) (x : Client) (statement : Statement) (has : Bool)
 verdict_by policy x statement false topic is same = rw is refl
 verdict_by policy x statement true topic is same = rw (is, same refl) (topic_judged policy x.id topic)
 
-pub verdict_shown : (h : List Row) (s : State) (x : Client) (statement : Statement) → StateShown h s → ClientShown h x
+pub verdict_shown : (h : List Row) (s : State) (x : Client) (statement : Statement) → StateShown h s
+    → ClientShown h x
     → statement_verdict s.policy statement x ≡ judged (will_rules h x.id statement)
 verdict_shown h s x statement state shown =
-    verdict_by s.policy x statement (has_turn h x.id statement) (topic_of h x.id statement) (turn_shown h x statement shown)
+    verdict_by s.policy x statement (has_turn h x.id statement) (topic_of h x.id statement)
+    (turn_shown h x statement shown)
     (topic_shown h x statement shown)
     ∙ ap (λ policy. judged
-    ((not (has_turn h x.id statement), OutOfTurn) ∷ topic_rules policy x.id (topic_of h x.id statement))) state.policy
+    ((not (has_turn h x.id statement), OutOfTurn) ∷ topic_rules policy x.id (topic_of h x.id statement)))
+    state.policy
 
 object_by : (policy : Policy) (x : Client) (statement : Statement) (has : Bool) (topic : Option (List ℕ))
     → statement_turn statement x ≡ turn has → (has ≡ true → topic_at statement x ≡ topic)
@@ -151,22 +171,30 @@ object_by : (policy : Policy) (x : Client) (statement : Statement) (has : Bool) 
     ≡ (if has && is_read policy x.id topic then topic else None)
 object_by policy x statement false topic is same = rw is refl
 object_by policy x statement true topic is same =
-    rw (is, same refl) (ap (λ b. let o : Option (List ℕ) = if b then topic else None in o) (read_shown policy x.id topic))
+    rw (is, same refl) (ap (λ b. let o : Option (List ℕ) = if b then topic else None in o)
+    (read_shown policy x.id topic))
 
-object_shown : (h : List Row) (s : State) (x : Client) (statement : Statement) → StateShown h s → ClientShown h x
-    → (if is_allowed (statement_read s.policy statement x) then topic_at statement x else None) ≡ topic_noted h x.id statement
+object_shown : (h : List Row) (s : State) (x : Client) (statement : Statement) → StateShown h s
+    → ClientShown h x
+    → (if is_allowed (statement_read s.policy statement x) then topic_at statement x else None)
+    ≡ topic_noted h x.id statement
 object_shown h s x statement state shown =
     let topic = topic_of h x.id statement in
-    object_by s.policy x statement (has_turn h x.id statement) topic (turn_shown h x statement shown) (topic_shown h x statement shown)
+    object_by s.policy x statement (has_turn h x.id statement) topic (turn_shown h x statement shown)
+    (topic_shown h x statement shown)
     ∙ ap (λ policy. let o : Option
-    (List ℕ) = if has_turn h x.id statement && is_read policy x.id topic then topic else None in o) state.policy
+    (List ℕ) =
+    if has_turn h x.id statement && is_read policy x.id topic then topic else None in o) state.policy
 
-pub ask_shown : (h : List Row) (s : State) (x : Client) (statement : Statement) → StateShown h s → ClientShown h x
+pub ask_shown : (h : List Row) (s : State) (x : Client) (statement : Statement) → StateShown h s
+    → ClientShown h x
     → statement_ask s.policy statement x
     ≡ note.Will (who.Client x.id) (topic_noted h x.id statement) (judged (will_rules h x.id statement))
 ask_shown h s x statement state shown =
-    ap (λ o. note.Will (who.Client x.id) o (statement_verdict s.policy statement x)) (object_shown h s x statement state shown)
-    ∙ ap (note.Will (who.Client x.id) (topic_noted h x.id statement)) (verdict_shown h s x statement state shown)
+    ap (λ o. note.Will (who.Client x.id) o (statement_verdict s.policy statement x))
+    (object_shown h s x statement state shown)
+    ∙ ap (note.Will (who.Client x.id) (topic_noted h x.id statement))
+    (verdict_shown h s x statement state shown)
 
 -- ---- its answer
 
@@ -175,7 +203,8 @@ ended_same : (to : Address) (rule : Denial)
 ended_same to OutOfTurn = refl
 ended_same to rule = refl
 
-pub replied_same : (from : Address) (statement : Statement) (y : Client) (name : Option (List ℕ)) (o : Outcome)
+pub replied_same : (from : Address) (statement : Statement) (y : Client) (name : Option (List ℕ))
+    (o : Outcome)
     → replied (ByMessage from (ToState statement)) y name o ≡ reply y.address statement o
 replied_same from (StatesTopic None) y name Allowed = refl
 replied_same from (StatesTopic (Some w)) y name Allowed = refl

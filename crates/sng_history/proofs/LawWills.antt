@@ -1,216 +1,66 @@
 -- What a statement of a will lets out is what the law says: what follows it, and the row.
-use Rattle.std.proofs.Common.{◌≡◌, ℕ, ◌≤◌, Bool, true, false, List, [], ◌∷◌, ◌++◌, map, refl, ap, sym, ◌∙◌, if◌then◌else◌}
-use Rattle.std.specs.Prelude.{◌&&◌, not, is_some, is_none, Option, Some, None, slice_get}
-use Rattle.sng_text.specs.Texts.{is_name}
-use Rattle.sng_grants.specs.Sources.{scope_of}
-use Rattle.sng_grants.specs.declared.policy.Policy.{Policy}
-use Rattle.sng_policy.specs.Grants.{lists}
-use Rattle.sng_states.specs.States.{takes_messages, is_awake}
-use Rattle.sng_states.specs.declared.state.ClientState.{ClientState}
-use Rattle.sng_states.specs.declared.state.ClientState.TheVariants.{Dialogue, Active, Asleep, Awake, Disconnected, Lost}
-use Rattle.sng_queue.specs.Messages.{Message}
+use Rattle.std.proofs.Common.{◌≡◌, ℕ, Bool, true, false, List, [], ◌∷◌, ◌++◌, refl, ap, sym, ◌∙◌}
+use Rattle.std.proofs.Common.{if◌then◌else◌}
+use Rattle.std.specs.Prelude.{not, is_some, Option, Some, None}
 use Rattle.sng_queue.specs.declared.exchange.Exchange.{Exchange}
-use Rattle.std.proofs.lemmas.List.{append-nil, append_assoc}
+use Rattle.std.proofs.lemmas.List.{append_assoc}
 use Rattle.sng_frames.specs.declared.messages.will.WillTopic.{WillTopic}
-use Rattle.sng_book.specs.Denials.{is_allowed}
 use Rattle.sng_book.specs.declared.address.Address.{Address}
-use Rattle.sng_book.specs.declared.decision.Decision.{Decision}
 use Rattle.sng_book.specs.declared.decision.Decision.TheVariants as note
 use Rattle.sng_book.specs.declared.decision.Who.TheVariants as who
-use Rattle.sng_book.specs.declared.outcome.Denial.{Denial}
-use Rattle.sng_book.specs.declared.outcome.Denial.TheVariants.{NoScope, BadName, MissingPub, OutOfTurn, Gone}
+use Rattle.sng_book.specs.declared.outcome.Denial.TheVariants.{OutOfTurn}
 use Rattle.sng_book.specs.declared.outcome.Outcome.{Outcome}
 use Rattle.sng_book.specs.declared.outcome.Outcome.TheVariants.{Allowed, Denied}
-use Rattle.sng_book.specs.declared.out.Out.{Out}
 use Rattle.sng_book.specs.declared.out.Out.TheVariants.{Note}
 use Rattle.sng_book.specs.declared.row.Row.{Row}
 use Rattle.sng_history.specs.Causes.{Statement, StatesTopic, StatesMessage, UpdatesTopic, UpdatesMessage}
 use Rattle.sng_history.specs.Causes.{ByMessage, ToState}
-use Rattle.sng_history.specs.Clients.{Around, Client, is_here, gone, stated, stated_by, notes_by, is_drained}
+use Rattle.sng_history.specs.Clients.{Client, is_here, stated, stated_by, notes_by, is_drained}
 use Rattle.sng_history.specs.State.{State}
 use Rattle.sng_history.specs.Standing.{Release}
 use Rattle.sng_history.specs.WillAsks.{turn}
-use Rattle.sng_history.specs.WillAsks.{statement_verdict, dialogue_goes_on, in_dialogue_notes, statement_follows, statement_notes}
-use Rattle.sng_history.specs.Outgoing.{turns, all_gone}
+use Rattle.sng_history.specs.WillAsks.{statement_follows, statement_notes}
 use Rattle.sng_history.specs.Whole.{spell, stranger_to, drops, frame_row, drained_outs}
 use Rattle.sng_history.specs.Steps.{notes_for}
 use Rattle.sng_history.specs.Good.{AtRest}
 use Rattle.sng_history.specs.Views.{policy_in_force}
-use Rattle.sng_history.specs.ViewsClients.{phase_of, names_told, those_at}
-use Rattle.sng_history.specs.ViewsHanding.{waits_for, progress_of, names_known}
+use Rattle.sng_history.specs.ViewsClients.{those_at}
 use Rattle.sng_history.specs.ViewsWills.{stating_of}
 use Rattle.sng_history.specs.LawsState.{ClientShown}
-use Rattle.sng_history.specs.LawsRules.{judged, may_publish}
-use Rattle.sng_history.specs.LawsHanding.{mailing, handed_out, handed_awake}
+use Rattle.sng_history.specs.LawsRules.{judged}
 use Rattle.sng_history.specs.LawsAnswers.{answer_to}
-use Rattle.sng_history.specs.LawsWills.{is_in_dialogue, has_turn, topic_of, topic_rules, will_rules, topic_noted}
-use Rattle.sng_history.specs.LawsWills.{is_out_of_turn, reply, broken_off, follows, will_answer, will_stranger}
-use Rattle.sng_history.proofs.Places.{here_is, and_left}
+use Rattle.sng_history.specs.LawsWills.{is_in_dialogue, has_turn, topic_of, topic_rules, will_rules}
+use Rattle.sng_history.specs.LawsWills.{topic_noted}
+use Rattle.sng_history.specs.LawsWills.{reply, follows, will_answer}
+use Rattle.sng_history.specs.LawsWills.{will_stranger}
+use Rattle.sng_history.proofs.Places.{here_is}
 use Rattle.sng_history.proofs.SeenClients.{heard_if}
-use Rattle.sng_history.proofs.SeenState.{StateShown, Stands}
-use Rattle.sng_history.proofs.LawTurns.{last_within, mail}
-use Rattle.sng_history.proofs.LawAwake.{awake_shown}
-use Rattle.sng_history.proofs.Hands.{gone_stays}
+use Rattle.sng_history.proofs.SeenOrder.{StateShown}
+use Rattle.sng_history.proofs.SeenState.{Stands}
 use Rattle.sng_history.proofs.LawHere.{row_answer, each_part, settled}
-use Rattle.sng_history.proofs.LawMessages.{by_cause, gone_spelled}
-use Rattle.sng_history.proofs.LawWillAsks.{turn_shown, verdict_shown, ask_shown, replied_same}
-
--- ---- what follows in the dialogue
-
--- a client that has a session in the dialogue alone takes no messages
-untaking : (phase : ClientState) → is_in_dialogue (Some phase) ≡ true → takes_messages phase ≡ false
-untaking Dialogue is = refl
-untaking Active is = absurd cc
-untaking Asleep is = absurd cc
-untaking Awake is = absurd cc
-untaking Disconnected is = absurd cc
-untaking Lost is = absurd cc
-
-sleepless : (phase : ClientState) → is_in_dialogue (Some phase) ≡ true → is_awake phase ≡ false
-sleepless Dialogue is = refl
-sleepless Active is = absurd cc
-sleepless Asleep is = absurd cc
-sleepless Awake is = absurd cc
-sleepless Disconnected is = absurd cc
-sleepless Lost is = absurd cc
-
-in_dialogue_turn : (h : List Row) (x : Client) (b : Bool) → ClientShown h x → (is_in_dialogue (phase_of x.id h) && b) ≡ true
-    → is_in_dialogue (Some x.phase) ≡ true
-in_dialogue_turn h x b shown is = ap is_in_dialogue (sym shown.phase) ∙ and_left (is_in_dialogue (phase_of x.id h)) b is
-
-abbrev gone_notes : List ℕ → List Message → List Out
-gone_notes id waiting = map (λ m. Note (note.Hand id m.name (Denied Gone))) waiting
-
--- no rule about the topic is one of turn
-rule_by : (l n g : Bool) (id text : List ℕ) (rule : Denial)
-    → judged ((not l, NoScope id) ∷ (not n, BadName) ∷ (not g, MissingPub text) ∷ []) ≡ Denied rule → is_out_of_turn rule ≡ false
-rule_by false n g id text rule is = (let e : NoScope id ≡ rule = cc in ap is_out_of_turn (sym e))
-rule_by true false g id text rule is = (let e : BadName ≡ rule = cc in ap is_out_of_turn (sym e))
-rule_by true true false id text rule is = (let e : MissingPub text ≡ rule = cc in ap is_out_of_turn (sym e))
-rule_by true true true id text rule is = absurd cc
-
-rule_in_turn : (policy : Policy) (id : List ℕ) (topic : Option (List ℕ)) (rule : Denial)
-    → judged (topic_rules policy id topic) ≡ Denied rule → is_out_of_turn rule ≡ false
-rule_in_turn policy id None rule is = absurd cc
-rule_in_turn policy id (Some text) rule is =
-    rule_by (lists policy id) (is_name text) (may_publish (scope_of policy.clients id) text) id text rule is
-
--- what is let out for a client with these notes
-abbrev let_out : Around → List Release → Client → List Decision → List Out
-let_out a dropped y notes = spell a dropped y notes ++ drained_outs (notes_by a notes y)
-
-unawake : (outs : List Out) (y : Client) → is_awake y.phase ≡ false → outs ++ drained_outs y ≡ outs
-unawake outs y is = settled outs y (ap (λ b. b && (is_none (slice_get y.buffer.waiting 0) && is_none y.buffer.exchange)) is)
-
-broken_let_out : (h : List Row) (s : State) (from : Address) (statement : Statement) (dropped : List Release) (x y : Client) (rule : Denial)
-    → y.id ≡ x.id → is_out_of_turn rule ≡ false → ClientShown h x
-    → let_out (by_cause s (ByMessage from (ToState statement))) dropped y (note.Left x.id ∷ all_gone x.id x.buffer.waiting)
-    ≡ broken_off h x.id rule
-broken_let_out h s from statement dropped x y rule same turn shown =
-    let a = by_cause s (ByMessage from (ToState statement)) in
-    let outs = spell a dropped y (note.Left x.id ∷ all_gone x.id x.buffer.waiting) in
-    ap (λ z. outs ++ drained_outs z) (gone_stays a x.id x.buffer.waiting (gone y) refl)
-    ∙ (append-nil outs
-    ∙ (ap (λ more. Note (note.Left x.id) ∷ more)
-    (gone_spelled a dropped x.id x.buffer.waiting (gone y) ∙ ap (λ waiting. gone_notes x.id waiting) shown.waiting)
-    ∙ ap (λ b. let more : List Out = if b then [] else Note (note.Left x.id) ∷ gone_notes x.id (waits_for x.id h) in more) (sym turn)))
-
--- all that waited meanwhile is handed over, once the client is active
-handed_by : (h : List Row) (s : State) (from : Address) (statement : Statement) (dropped : List Release) (x y : Client)
-    → y.id ≡ x.id → y.address ≡ x.address → y.ids ≡ x.ids → y.number ≡ x.number → y.buffer ≡ x.buffer → is_awake y.phase ≡ false
-    → x.buffer.exchange ≡ None → StateShown h s → ClientShown h x
-    → let_out (by_cause s (ByMessage from (ToState statement))) dropped y (turns s.policy x.id x.ids x.buffer.waiting)
-    ≡ handed_out (mailing h x.id x.address) (waits_for x.id h)
-handed_by h s from statement dropped x y id place ids number buffer up none state shown =
-    let a = by_cause s (ByMessage from (ToState statement)) in
-    let told = names_told x.id h in
-    let known = names_known x.id h in
-    let within : y.number ≤ 65535 = (rw (number, shown.number) (last_within (progress_of x.id h).numbered)) in
-    let own : let_out a dropped y (turns a.policy y.id y.ids y.buffer.waiting) ≡ handed_awake (is_awake y.phase) (mail a y told known) y.buffer.waiting =
-    awake_shown a dropped y told known (ids ∙ shown.ids) (ap (λ b. b.exchange) buffer ∙ none) within in
-    ap (λ i. let_out a dropped y (turns s.policy i x.ids x.buffer.waiting)) (sym id)
-    ∙ (ap (λ marks. let_out a dropped y (turns s.policy y.id marks x.buffer.waiting)) (sym ids)
-    ∙ (ap (λ b. let_out a dropped y (turns s.policy y.id y.ids b.waiting)) (sym buffer)
-    ∙ (own
-    ∙ (ap (λ awake. handed_awake awake (mail a y told known) y.buffer.waiting) up
-    ∙ (append-nil (handed_out (mail a y told known) y.buffer.waiting)
-    ∙ (rw (id, place, number, buffer, shown.number, shown.waiting, state.policy) refl))))))
-
--- the notes that follow, given that the statement has its turn, and its verdict
-abbrev goes_on : Policy → Statement → Client → Bool → Outcome → List Decision
-goes_on policy statement x has o = if is_allowed (turn has) then dialogue_goes_on policy statement x o else []
-
-end_follows : (h : List Row) (s : State) (from : Address) (message : List ℕ) (dropped : List Release) (x : Client)
-    → x.buffer.exchange ≡ None → StateShown h s → ClientShown h x
-    → let statement = StatesMessage message in
-    let_out (by_cause s (ByMessage from (ToState statement))) dropped (stated_by (Some statement) Allowed (heard_if true s.clock x))
-    (dialogue_goes_on s.policy statement x Allowed)
-    ≡ handed_out (mailing h x.id x.address) (waits_for x.id h)
-end_follows h s from message dropped x none state shown =
-    let statement = StatesMessage message in
-    let y : Client = stated statement (heard_if true s.clock x) in
-    let waiting = turns s.policy x.id x.ids x.buffer.waiting in
-    ap (λ e. let_out (by_cause s (ByMessage from (ToState statement))) dropped y (if is_none e then waiting else [])) none
-    ∙ handed_by h s from statement dropped x y refl refl refl refl refl refl none state shown
-
-delete_follows : (h : List Row) (s : State) (from : Address) (dropped : List Release) (x : Client)
-    → x.buffer.exchange ≡ None → StateShown h s → ClientShown h x
-    → let statement = StatesTopic None in
-    let_out (by_cause s (ByMessage from (ToState statement))) dropped (stated_by (Some statement) Allowed (heard_if true s.clock x))
-    (dialogue_goes_on s.policy statement x Allowed)
-    ≡ handed_out (mailing h x.id x.address) (waits_for x.id h)
-delete_follows h s from dropped x none state shown =
-    let statement = StatesTopic None in
-    let y : Client = stated statement (heard_if true s.clock x) in
-    let waiting = turns s.policy x.id x.ids x.buffer.waiting in
-    ap (λ e. let_out (by_cause s (ByMessage from (ToState statement))) dropped y (if is_none e then waiting else [])) none
-    ∙ handed_by h s from statement dropped x y refl refl refl refl refl refl none state shown
-
-topic_follows : (h : List Row) (s : State) (from : Address) (w : WillTopic) (dropped : List Release) (x y : Client)
-    → is_in_dialogue (Some x.phase) ≡ true → y.phase ≡ x.phase
-    → let_out (by_cause s (ByMessage from (ToState (StatesTopic (Some w))))) dropped y (dialogue_goes_on s.policy (StatesTopic (Some w)) x Allowed)
-    ≡ []
-topic_follows h s from w dropped x y here same =
-    let a = by_cause s (ByMessage from (ToState (StatesTopic (Some w)))) in
-    let waiting = turns s.policy x.id x.ids x.buffer.waiting in
-    ap (λ b. let_out a dropped y (if b && is_none x.buffer.exchange then waiting else [])) (untaking x.phase here)
-    ∙ unawake [] y (ap is_awake same ∙ sleepless x.phase here)
-
--- a denial by its turn ends nothing, and any other ends the dialogue
-denied_follows : (h : List Row) (s : State) (from : Address) (statement : Statement) (dropped : List Release) (x : Client) (has : Bool)
-    (policy : Policy) (topic : Option (List ℕ)) (rule : Denial)
-    → judged ((not has, OutOfTurn) ∷ topic_rules policy x.id topic) ≡ Denied rule → ClientShown h x → is_drained x ≡ false
-    → let_out (by_cause s (ByMessage from (ToState statement))) dropped (heard_if true s.clock x) (goes_on s.policy statement x has (Denied rule))
-    ≡ broken_off h x.id rule
-denied_follows h s from statement dropped x false policy topic rule is shown busy =
-    let same : OutOfTurn ≡ rule = cc in settled [] (heard_if true s.clock x) busy ∙ ap (broken_off h x.id) same
-denied_follows h s from statement dropped x true policy topic rule is shown busy =
-    broken_let_out h s from statement dropped x (heard_if true s.clock x) rule refl (rule_in_turn policy x.id topic rule is) shown
-
--- the notes that follow are those of the turn and the verdict that are shown
-goes_on_shown : (h : List Row) (s : State) (x : Client) (statement : Statement) → StateShown h s → ClientShown h x
-    → in_dialogue_notes s.policy statement x
-    ≡ goes_on s.policy statement x (has_turn h x.id statement) (judged (will_rules h x.id statement))
-goes_on_shown h s x statement state shown =
-    let o = statement_verdict s.policy statement x in
-    ap (λ t. let notes : List Decision = if is_allowed t then dialogue_goes_on s.policy statement x o else [] in notes) (turn_shown h x statement shown)
-    ∙ ap (goes_on s.policy statement x (has_turn h x.id statement)) (verdict_shown h s x statement state shown)
+use Rattle.sng_history.proofs.LawUnsupported.{by_cause}
+use Rattle.sng_history.proofs.LawWillAsks.{ask_shown, replied_same}
+use Rattle.sng_history.proofs.LawWillDialogue.{untaking, in_dialogue_turn, let_out, goes_on, end_follows}
+use Rattle.sng_history.proofs.LawWillDialogue.{delete_follows, topic_follows, denied_follows, goes_on_shown}
 
 -- what follows, by the turn and the verdict
 abbrev FollowsBy : List Row → State → Address → Statement → List Release → Client → Bool → Outcome → Type 0
 FollowsBy h s from statement dropped x has o =
     has_turn h x.id statement ≡ has
     → judged ((not has, OutOfTurn) ∷ topic_rules (policy_in_force h) x.id (topic_of h x.id statement)) ≡ o
-    → let_out (by_cause s (ByMessage from (ToState statement))) dropped (stated_by (Some statement) o (heard_if true s.clock x))
+    → let_out (by_cause s (ByMessage from (ToState statement))) dropped
+    (stated_by (Some statement) o (heard_if true s.clock x))
     (goes_on s.policy statement x has o)
     ≡ follows h x.address statement x.id o
 
 -- in the dialogue nothing is open with a client
 unopened : (x : Client) → AtRest x → is_in_dialogue (Some x.phase) ≡ true → x.buffer.exchange ≡ None
 unopened x rest here =
-    ap (λ b. let e : Option Exchange = if b then None else x.buffer.exchange in e) (sym (untaking x.phase here)) ∙ rest.quiet
+    ap (λ b. let e : Option Exchange = if b then None else x.buffer.exchange in e)
+    (sym (untaking x.phase here)) ∙ rest.quiet
 
-delete_by : (h : List Row) (s : State) (from : Address) (dropped : List Release) (x : Client) (has : Bool) (o : Outcome)
+delete_by : (h : List Row) (s : State) (from : Address) (dropped : List Release) (x : Client) (has : Bool)
+    (o : Outcome)
     → AtRest x → StateShown h s → ClientShown h x → FollowsBy h s from (StatesTopic None) dropped x has o
 delete_by h s from dropped x has (Denied rule) rest state shown turn is =
     denied_follows h s from (StatesTopic None) dropped x has (policy_in_force h) None rule is shown rest.busy
@@ -219,20 +69,24 @@ delete_by h s from dropped x true Allowed rest state shown turn is =
     let here = in_dialogue_turn h x (not (is_some (stating_of x.id h).awaited)) shown turn in
     delete_follows h s from dropped x (unopened x rest here) state shown
 
-topic_by : (h : List Row) (s : State) (from : Address) (w : WillTopic) (dropped : List Release) (x : Client) (has : Bool) (o : Outcome)
+topic_by : (h : List Row) (s : State) (from : Address) (w : WillTopic) (dropped : List Release) (x : Client)
+    (has : Bool) (o : Outcome)
     → AtRest x → StateShown h s → ClientShown h x → FollowsBy h s from (StatesTopic (Some w)) dropped x has o
 topic_by h s from w dropped x has (Denied rule) rest state shown turn is =
-    denied_follows h s from (StatesTopic (Some w)) dropped x has (policy_in_force h) (Some w.topic) rule is shown rest.busy
+    denied_follows h s from (StatesTopic (Some w)) dropped x has (policy_in_force h)
+    (Some w.topic) rule is shown rest.busy
 topic_by h s from w dropped x false Allowed rest state shown turn is = absurd cc
 topic_by h s from w dropped x true Allowed rest state shown turn is =
     topic_follows h s from w dropped x (stated (StatesTopic (Some w)) (heard_if true s.clock x))
     (in_dialogue_turn h x (not (is_some (stating_of x.id h).awaited)) shown turn) refl
 
-message_by : (h : List Row) (s : State) (from : Address) (message : List ℕ) (dropped : List Release) (x : Client) (has : Bool) (o : Outcome)
+message_by : (h : List Row) (s : State) (from : Address) (message : List ℕ) (dropped : List Release)
+    (x : Client) (has : Bool) (o : Outcome)
     → AtRest x → StateShown h s → ClientShown h x → FollowsBy h s from (StatesMessage message) dropped x has o
 message_by h s from message dropped x has (Denied rule) rest state shown turn is =
     let topic = topic_of h x.id (StatesMessage message) in
-    denied_follows h s from (StatesMessage message) dropped x has (policy_in_force h) topic rule is shown rest.busy
+    denied_follows h s from (StatesMessage message) dropped x has
+    (policy_in_force h) topic rule is shown rest.busy
 message_by h s from message dropped x false Allowed rest state shown turn is = absurd cc
 message_by h s from message dropped x true Allowed rest state shown turn is =
     let here = in_dialogue_turn h x (is_some (stating_of x.id h).awaited) shown turn in
@@ -242,7 +96,8 @@ message_by h s from message dropped x true Allowed rest state shown turn is =
 abbrev Followed : List Row → State → Address → Statement → List Release → Client → Type 0
 Followed h s from statement dropped x =
     let o = judged (will_rules h x.id statement) in
-    let_out (by_cause s (ByMessage from (ToState statement))) dropped (stated_by (Some statement) o (heard_if true s.clock x))
+    let_out (by_cause s (ByMessage from (ToState statement))) dropped
+    (stated_by (Some statement) o (heard_if true s.clock x))
     (statement_follows s.policy statement x)
     ≡ follows h x.address statement x.id o
 
@@ -257,24 +112,28 @@ changed_busy : (message : List ℕ) (o : Outcome) (x : Client) → is_drained x 
 changed_busy message Allowed x busy = busy
 changed_busy message (Denied rule) x busy = busy
 
-followed : (h : List Row) (s : State) (from : Address) (statement : Statement) (dropped : List Release) (x : Client)
+followed : (h : List Row) (s : State) (from : Address) (statement : Statement) (dropped : List Release)
+    (x : Client)
     → AtRest x → StateShown h s → ClientShown h x → Followed h s from statement dropped x
 followed h s from (StatesTopic None) dropped x rest state shown =
     let st = StatesTopic None in
     let o = judged (will_rules h x.id st) in
-    ap (let_out (by_cause s (ByMessage from (ToState st))) dropped (stated_by (Some st) o (heard_if true s.clock x)))
+    ap (let_out (by_cause s (ByMessage from (ToState st))) dropped
+    (stated_by (Some st) o (heard_if true s.clock x)))
     (goes_on_shown h s x st state shown)
     ∙ delete_by h s from dropped x (has_turn h x.id st) o rest state shown refl refl
 followed h s from (StatesTopic (Some w)) dropped x rest state shown =
     let st = StatesTopic (Some w) in
     let o = judged (will_rules h x.id st) in
-    ap (let_out (by_cause s (ByMessage from (ToState st))) dropped (stated_by (Some st) o (heard_if true s.clock x)))
+    ap (let_out (by_cause s (ByMessage from (ToState st))) dropped
+    (stated_by (Some st) o (heard_if true s.clock x)))
     (goes_on_shown h s x st state shown)
     ∙ topic_by h s from w dropped x (has_turn h x.id st) o rest state shown refl refl
 followed h s from (StatesMessage message) dropped x rest state shown =
     let st = StatesMessage message in
     let o = judged (will_rules h x.id st) in
-    ap (let_out (by_cause s (ByMessage from (ToState st))) dropped (stated_by (Some st) o (heard_if true s.clock x)))
+    ap (let_out (by_cause s (ByMessage from (ToState st))) dropped
+    (stated_by (Some st) o (heard_if true s.clock x)))
     (goes_on_shown h s x st state shown)
     ∙ message_by h s from message dropped x (has_turn h x.id st) o rest state shown refl refl
 followed h s from (UpdatesTopic topic) dropped x rest state shown =
@@ -288,9 +147,11 @@ followed h s from (UpdatesMessage message) dropped x rest state shown =
 
 -- ---- the row
 
-statement_there : (h : List Row) (s : State) (from : Address) (statement : Statement) (dropped : List Release) (x : Client)
+statement_there : (h : List Row) (s : State) (from : Address) (statement : Statement) (dropped : List Release)
+    (x : Client)
     → AtRest x → StateShown h s → ClientShown h x
-    → let_out (by_cause s (ByMessage from (ToState statement))) dropped (heard_if true s.clock x) (statement_notes s.policy statement x)
+    → let_out (by_cause s (ByMessage from (ToState statement))) dropped (heard_if true s.clock x)
+    (statement_notes s.policy statement x)
     ≡ will_answer h x.address statement x.id
 statement_there h s from statement dropped x rest state shown =
     let c = ByMessage from (ToState statement) in
@@ -303,18 +164,23 @@ statement_there h s from statement dropped x rest state shown =
     let more = statement_follows s.policy statement x in
     let last = drained_outs (notes_by a more z) in
     ap (λ ask. let_out a dropped y (ask ∷ more)) (ask_shown h s x statement state shown)
-    ∙ (ap (λ outs. Note said ∷ ((outs ++ spell a dropped z more) ++ last)) (replied_same from statement y name o)
+    ∙ (ap (λ outs. Note said ∷ ((outs ++ spell a dropped z more) ++ last))
+    (replied_same from statement y name o)
     ∙ ap (λ outs. Note said ∷ outs)
     (append_assoc (reply x.address statement o) (spell a dropped z more) last
-    ∙ ap (λ outs. reply x.address statement o ++ outs) (followed h s from statement dropped x rest state shown)))
+    ∙ ap (λ outs. reply x.address statement o ++ outs)
+    (followed h s from statement dropped x rest state shown)))
 
-statement_part : (h : List Row) (s : State) (from : Address) (statement : Statement) (dropped : List Release) (x : Client) (b : Bool)
+statement_part : (h : List Row) (s : State) (from : Address) (statement : Statement) (dropped : List Release)
+    (x : Client) (b : Bool)
     → AtRest x → StateShown h s → ClientShown h x → (b ≡ true → x.address ≡ from)
     → let notes = if b then statement_notes s.policy statement x else [] in
-    (if b then [] else []) ++ let_out (by_cause s (ByMessage from (ToState statement))) dropped (heard_if b s.clock x) notes
+    (if b then [] else []) ++ let_out (by_cause s (ByMessage from (ToState statement))) dropped
+    (heard_if b s.clock x) notes
     ≡ (if b then will_answer h from statement x.id else [])
 statement_part h s from statement dropped x true rest state shown at =
-    statement_there h s from statement dropped x rest state shown ∙ ap (λ to. will_answer h to statement x.id) (at refl)
+    statement_there h s from statement dropped x rest state shown
+    ∙ ap (λ to. will_answer h to statement x.id) (at refl)
 statement_part h s from statement dropped x false rest state shown at = settled [] x rest.busy
 
 pub statement_row : (h : List Row) (s : State) (from : Address) (statement : Statement) → Stands h s
@@ -323,6 +189,8 @@ pub statement_row : (h : List Row) (s : State) (from : Address) (statement : Sta
     ≡ answer_to (will_stranger from) (will_answer h from statement) (those_at from h)
 statement_row h s from statement st =
     let c = ByMessage from (ToState statement) in
-    row_answer h s from c (stranger_to from (ToState statement)) (will_answer h from statement) st.shown (λ x. refl)
+    row_answer h s from c (stranger_to from (ToState statement)) (will_answer h from statement) st.shown
+    (λ x. refl)
     (each_part h s from c (will_answer h from statement) st
-    (λ x is rest. statement_part h s from statement (drops s c (notes_for s c)) x (is_here x from) rest st.shown is (here_is x from)))
+    (λ x is rest. statement_part h s from statement (drops s c (notes_for s c)) x
+    (is_here x from) rest st.shown is (here_is x from)))

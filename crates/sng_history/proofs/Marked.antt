@@ -1,7 +1,10 @@
--- The topic ids of a client in the rows' words: the names that it was told, each marked where it is among those that it knows.
-use Rattle.std.proofs.Common.{◌≡◌, ℕ, suc, ◌+◌, ◌≤◌, Bool, true, false, List, [], ◌∷◌, map, length, refl, ap, sym, ◌∙◌, if◌then◌else◌}
+-- The topic ids of a client in the rows' words: the names that it was told, each marked where it is among
+-- those that it knows.
+use Rattle.std.proofs.Common.{◌≡◌, ℕ, suc, ◌+◌, ◌≤◌, Bool, true, false, List, [], ◌∷◌, map, length, refl, ap}
+use Rattle.std.proofs.Common.{sym, ◌∙◌, if◌then◌else◌}
 use Rattle.std.proofs.Common.{arith}
-use Rattle.std.specs.Prelude.{◌||◌, ◌&&◌, not, nat_lt, nat_le, position, slice_get, unwrap_or, is_none, Option, Some, None}
+use Rattle.std.specs.Prelude.{◌||◌, ◌&&◌, not, nat_lt, nat_le, position, slice_get, unwrap_or, is_none}
+use Rattle.std.specs.Prelude.{Option, Some, None}
 use Rattle.std.specs.List.{position_or_len}
 use Rattle.std.specs.Str.{bytes_eq}
 use Rattle.std.proofs.lemmas.Bool.Decides.{nat_tests}
@@ -29,13 +32,16 @@ among_by : (b c : Bool) (n : ℕ) (names : List (List ℕ)) → nat_lt n (length
 among_by true c n names is = grind (arith, nat_tests)
 among_by false c n names is = grind (arith, nat_tests, is)
 
-among_place : (name : List ℕ) (names : List (List ℕ)) → nat_lt (position_or_len (bytes_eq name) names) (length names) ≡ is_among name names
+among_place : (name : List ℕ) (names : List (List ℕ))
+    → nat_lt (position_or_len (bytes_eq name) names) (length names) ≡ is_among name names
 among_place name [] = refl
 among_place name (one ∷ names) =
-    among_by (bytes_eq name one) (is_among name names) (position_or_len (bytes_eq name) names) names (among_place name names)
+    among_by (bytes_eq name one) (is_among name names) (position_or_len (bytes_eq name) names) names
+    (among_place name names)
 
 pub place_marked : (name : List ℕ) (told known : List (List ℕ))
-    → place_of name (marked told known) ≡ (if is_among name told then Some (position_or_len (bytes_eq name) told) else None)
+    → place_of name (marked told known)
+    ≡ (if is_among name told then Some (position_or_len (bytes_eq name) told) else None)
 place_marked name told known =
     ap (λ all. position (bytes_eq name) all) (marked_names told known)
     ∙ ap (λ b. if b then Some (position_or_len (bytes_eq name) told) else None) (among_place name told)
@@ -46,16 +52,20 @@ id_step : (b : Bool) (id n : ℕ) → id ≡ n + 1 → (if b then 1 else id + 1)
 id_step true id n is = refl
 id_step false id n is = omega (arith, is)
 
-told_place : (name : List ℕ) (names : List (List ℕ)) → id_told name names ≡ position_or_len (bytes_eq name) names + 1
+told_place : (name : List ℕ) (names : List (List ℕ))
+    → id_told name names ≡ position_or_len (bytes_eq name) names + 1
 told_place name [] = refl
 told_place name (one ∷ names) =
-    id_step (bytes_eq name one) (id_told name names) (position_or_len (bytes_eq name) names) (told_place name names)
+    id_step (bytes_eq name one) (id_told name names) (position_or_len (bytes_eq name) names)
+    (told_place name names)
 
-id_by : (b : Bool) (n m : ℕ) → nat_lt n m ≡ b → n ≤ m → unwrap_or (let o : Option ℕ = if b then Some n else None in o) m + 1 ≡ n + 1
+id_by : (b : Bool) (n m : ℕ) → nat_lt n m ≡ b → n ≤ m
+    → unwrap_or (let o : Option ℕ = if b then Some n else None in o) m + 1 ≡ n + 1
 id_by true n m is within = refl
 id_by false n m is within = grind (arith, nat_tests, is, within)
 
-pub id_marked : (name : List ℕ) (told known : List (List ℕ)) → id_for name (marked told known) ≡ id_told name told
+pub id_marked : (name : List ℕ) (told known : List (List ℕ))
+    → id_for name (marked told known) ≡ id_told name told
 id_marked name told known =
     rw (place_marked name told known, marked_length told known)
     (id_by (is_among name told) (position_or_len (bytes_eq name) told) (length told) (among_place name told)
@@ -83,7 +93,8 @@ full_marked name told known =
 
 -- ---- the id by which the client knows a name
 
-entry_by : (name one : List ℕ) (told known : List (List ℕ)) (n : ℕ) (b : Bool) → bytes_eq name one ≡ b → (b || is_among name told) ≡ true
+entry_by : (name one : List ℕ) (told known : List (List ℕ)) (n : ℕ) (b : Bool) → bytes_eq name one ≡ b
+    → (b || is_among name told) ≡ true
     → (is_among name told ≡ true → slice_get (marked told known) n ≡ Some (name, is_among name known))
     → slice_get (marked (one ∷ told) known) (if not b then 1 + n else 0) ≡ Some (name, is_among name known)
 entry_by name one told known n true is among rest =
@@ -105,5 +116,6 @@ known_if name told known true is =
 known_if name told known false is = rw (place_marked name told known, is) refl
 
 pub known_marked : (name : List ℕ) (told known : List (List ℕ))
-    → id_of name (marked told known) ≡ (if is_among name told && is_among name known then Some (id_told name told) else None)
+    → id_of name (marked told known)
+    ≡ (if is_among name told && is_among name known then Some (id_told name told) else None)
 known_marked name told known = known_if name told known (is_among name told) refl

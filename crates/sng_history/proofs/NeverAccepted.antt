@@ -9,13 +9,16 @@ use Rattle.sng_history.specs.ViewsClients.{phase_of, is_among, accepted}
 use Rattle.sng_history.specs.ViewsHanding.{settled_of, waits_for}
 use Rattle.sng_history.proofs.SeenState.{stands}
 
-pub never_accepted : (h : List Row) → Lawful opening h → (id : List ℕ) → is_among id (accepted h) ≡ false → phase_of id h ≡ None
+pub never_accepted : (h : List Row) → Lawful opening h → (id : List ℕ) → is_among id (accepted h) ≡ false
+    → phase_of id h ≡ None
 never_accepted h l id none = ((stands h l).shown.unheard id none).phase
 
 drop_none : (n : ℕ) → drop n (let none : List Message = [] in none) ≡ []
 drop_none zero = refl
 drop_none (suc n) = refl
 
-pub none_waits : (h : List Row) → Lawful opening h → (id : List ℕ) → is_among id (accepted h) ≡ false → waits_for id h ≡ []
+pub none_waits : (h : List Row) → Lawful opening h → (id : List ℕ) → is_among id (accepted h) ≡ false
+    → waits_for id h ≡ []
 none_waits h l id none =
-    ap (drop (length (settled_of id h))) ((stands h l).shown.unheard id none).due ∙ drop_none (length (settled_of id h))
+    ap (drop (length (settled_of id h))) ((stands h l).shown.unheard id none).due
+    ∙ drop_none (length (settled_of id h))

@@ -5,7 +5,8 @@ use Rattle.sng_grants.specs.declared.policy.Policy.{Policy}
 use Rattle.mqtt_frames.specs.declared.packet.Publish.{Publish}
 use Rattle.sng_fan.specs.declared.held.Held.{Held}
 use Rattle.sng_states.specs.declared.state.ClientState.{ClientState}
-use Rattle.sng_states.specs.declared.state.ClientState.TheVariants.{Dialogue, Active, Asleep, Awake, Disconnected, Lost}
+use Rattle.sng_states.specs.declared.state.ClientState.TheVariants.{Dialogue, Active, Asleep, Awake}
+use Rattle.sng_states.specs.declared.state.ClientState.TheVariants.{Disconnected, Lost}
 use Rattle.sng_states.specs.States.{has_session, takes_messages, is_due_messages}
 use Rattle.sng_text.specs.Texts.{is_name}
 use Rattle.sng_fan.specs.Greatest.{greatest_qos}
@@ -48,9 +49,12 @@ takes_none Dialogue is = absurd cc
 
 -- nothing is due to a client without a session
 pub none_due : (answer : Answer) (x : Client) → has_session x.phase ≡ false → message_due answer x ≡ None
-none_due (Delivers p) x is = ap (λ b. if is_name p.name && b then granted_at p (greatest_qos x.filters p.name) else None) (undue x.phase is) ∙ none_if (is_name p.name) p x
+none_due (Delivers p) x is =
+    ap (λ b. if is_name p.name && b then granted_at p (greatest_qos x.filters p.name) else None)
+    (undue x.phase is) ∙ none_if (is_name p.name) p x
   where
-    none_if : (b : Bool) (p : Publish) (x : Client) → (if b && false then granted_at p (greatest_qos x.filters p.name) else None) ≡ None
+    none_if : (b : Bool) (p : Publish) (x : Client)
+        → (if b && false then granted_at p (greatest_qos x.filters p.name) else None) ≡ None
     none_if true p x = refl
     none_if false p x = refl
 none_due (Acknowledges packet_id) x is = refl
@@ -64,17 +68,20 @@ not_free policy x is = let off : takes_messages x.phase ≡ false = takes_none x
 
 -- what is turned away moves nothing
 arrival_stays : (a : Around) (client name : List ℕ) (sendable full : Bool) (x : Client)
-    → notes_by a (turned_away_by client name (if sendable then (if full then Denied (Full place.Queue) else Allowed) else Denied TooLong)) x ≡ x
+    → notes_by a (turned_away_by client name
+    (if sendable then (if full then Denied (Full place.Queue) else Allowed) else Denied TooLong)) x ≡ x
 arrival_stays a client name true true x = refl
 arrival_stays a client name true false x = refl
 arrival_stays a client name false full x = refl
 
-pub turned_stays : (a : Around) (client : List ℕ) (due : Option Message) (b : Buffer) (x : Client) → notes_by a (turned_away client due b) x ≡ x
+pub turned_stays : (a : Around) (client : List ℕ) (due : Option Message) (b : Buffer) (x : Client)
+    → notes_by a (turned_away client due b) x ≡ x
 turned_stays a client None b x = refl
-turned_stays a client (Some m) b x = arrival_stays a client m.name (is_sendable m.name m.payload) (nat_le MAX_QUEUED (length b.waiting)) x
+turned_stays a client (Some m) b x =
+    arrival_stays a client m.name (is_sendable m.name m.payload) (nat_le MAX_QUEUED (length b.waiting)) x
 
 -- and what joins opens nothing
-joins_open : (due : Option Message) (b : Buffer) → (joins due b).exchange ≡ b.exchange
+pub joins_open : (due : Option Message) (b : Buffer) → (joins due b).exchange ≡ b.exchange
 joins_open None b = refl
 joins_open (Some m) b = by_outcome (arrival b m)
   where
@@ -83,29 +90,38 @@ joins_open (Some m) b = by_outcome (arrival b m)
     by_outcome (Denied rule) = refl
 
 -- a message that is due joins what waits, whatever stands for the client then
-rest_due : (a : Around) (x : Client) (due : Option Message) (held : List Held) (here : Bool) → has_session x.phase ≡ here
+rest_due : (a : Around) (x : Client) (due : Option Message) (held : List Held) (here : Bool)
+    → has_session x.phase ≡ here
     → (has_session x.phase ≡ false → due ≡ None) → Rested x
-    → Rested (notes_by a (delivered_notes a.policy due x) (record x { buffer = joins due x.buffer; filters = held }))
+    → Rested (notes_by a (delivered_notes a.policy due x)
+    (record x { buffer = joins due x.buffer; filters = held }))
 rest_due a x due held true is none rest =
     let y : Client = record x { buffer = joins due x.buffer; filters = held } in
     let over = handed_over a.policy y in
     let same : notes_by a (delivered_notes a.policy due x) y ≡ served a y =
-    notes_both a (turned_away x.id due x.buffer) over y ∙ ap (notes_by a over) (turned_stays a x.id due x.buffer y) in
-    let quiet : Quiet y = ap (λ e. if takes_messages x.phase then None else e) (joins_open due x.buffer) ∙ rest.quiet in
+    notes_both a (turned_away x.id due x.buffer) over y
+    ∙ ap (notes_by a over) (turned_stays a x.id due x.buffer y) in
+    let quiet : Quiet y =
+    ap (λ e. if takes_messages x.phase then None else e) (joins_open due x.buffer) ∙ rest.quiet in
     subst Rested (sym same) (rest_served a y (record { here = is; quiet = quiet; dialogue = rest.dialogue }))
 rest_due a x due held false is none rest =
-    subst (λ d. Rested (notes_by a (delivered_notes a.policy d x) (record x { buffer = joins d x.buffer; filters = held }))) (sym (none is))
-    (subst (λ notes. Rested (notes_by a notes (record x { filters = held }))) (sym (not_free a.policy x is)) (rest_without x held rest))
+    subst (λ d. Rested (notes_by a (delivered_notes a.policy d x)
+    (record x { buffer = joins d x.buffer; filters = held }))) (sym (none is))
+    (subst (λ notes. Rested (notes_by a notes (record x { filters = held }))) (sym (not_free a.policy x is))
+    (rest_without x held rest))
 
 rest_refusal : (a : Around) (x : Client) (due : Option Message) (filter : List ℕ) (holds : Bool)
     → (has_session x.phase ≡ false → due ≡ None) → Rested x
-    → Rested (notes_by a ((if holds then note.End x.id filter (Denied BrokerRefused) ∷ [] else []) ++ delivered_notes a.policy due x)
+    → Rested (notes_by a ((if holds then note.End x.id filter (Denied BrokerRefused) ∷ [] else [])
+    ++ delivered_notes a.policy due x)
     (record x { buffer = joins due x.buffer }))
-rest_refusal a x due filter true none rest = rest_due a x due (without filter x).filters (has_session x.phase) refl none rest
+rest_refusal a x due filter true none rest =
+    rest_due a x due (without filter x).filters (has_session x.phase) refl none rest
 rest_refusal a x due filter false none rest = rest_due a x due x.filters (has_session x.phase) refl none rest
 
 pub rest_packet : (a : Around) (x : Client) (due : Option Message) (filter : Option (List ℕ))
     → (has_session x.phase ≡ false → due ≡ None) → Rested x
-    → Rested (notes_by a (refused_end x filter ++ delivered_notes a.policy due x) (record x { buffer = joins due x.buffer }))
+    → Rested (notes_by a (refused_end x filter ++ delivered_notes a.policy due x)
+    (record x { buffer = joins due x.buffer }))
 rest_packet a x due None none rest = rest_due a x due x.filters (has_session x.phase) refl none rest
 rest_packet a x due (Some filter) none rest = rest_refusal a x due filter (holds filter x) none rest

@@ -20,13 +20,15 @@ use Rattle.sng_history.proofs.Own.{same_means}
 may_connect : (policy : Policy) (id : List ℕ) (form listed roomy : Bool) → lists policy id ≡ listed
     → MayConnect policy id
     (and_then (if form then Allowed else Denied NotSupported)
-    (and_then (if listed then Allowed else Denied (NoScope id)) (if roomy then Allowed else Denied (Full place.Clients))))
+    (and_then (if listed then Allowed else Denied (NoScope id))
+    (if roomy then Allowed else Denied (Full place.Clients))))
 may_connect policy id false listed roomy is = inl refl
 may_connect policy id true false roomy is = inr (refl, is)
 may_connect policy id true true true is = is
 may_connect policy id true true false is = is
 
-pub entry_stands : (s : State) (connect : Connect) → Stands s.policy (note.Connect connect.client_id (entry s connect))
+pub entry_stands : (s : State) (connect : Connect)
+    → Stands s.policy (note.Connect connect.client_id (entry s connect))
 entry_stands s connect =
     let id = connect.client_id in
     may_connect s.policy id (connect.protocol_id == 1) (lists s.policy id)
@@ -35,4 +37,5 @@ entry_stands s connect =
 pub connect_stands : (s : State) (connect : Connect) (x : Client) → bytes_eq connect.client_id x.id ≡ true
     → Stands s.policy (note.Connect x.id (entry s connect))
 connect_stands s connect x is =
-    subst (λ id. Stands s.policy (note.Connect id (entry s connect))) (same_means connect.client_id x.id is) (entry_stands s connect)
+    subst (λ id. Stands s.policy (note.Connect id (entry s connect))) (same_means connect.client_id x.id is)
+    (entry_stands s connect)

@@ -1,5 +1,6 @@
 -- What the promise refuses, and how the bytes of a datagram tell what it speaks of.
-use Rattle.std.proofs.Common.{◌≡◌, ℕ, Bool, true, false, List, [], ◌∷◌, length, refl, ap, ◌∙◌, arith, if◌then◌else◌}
+use Rattle.std.proofs.Common.{◌≡◌, ℕ, Bool, true, false, List, [], ◌∷◌, length, refl, ap, ◌∙◌, arith}
+use Rattle.std.proofs.Common.{if◌then◌else◌}
 use Rattle.std.specs.Prelude.{◌+◌, ◌==◌, ◌||◌, nat_lt, Some}
 use Rattle.std.proofs.lemmas.Bool.Decides.{nat_tests}
 use Rattle.sng_frames.specs.Grammar.{type_of}
@@ -17,7 +18,8 @@ not_one : (n : ℕ) → (n + 2 == 1) ≡ false
 not_one n = grind (arith, nat_tests)
 
 framed_type : (kind : ℕ) (part : List ℕ) (long : Bool)
-    → type_octet (if long then 0x01 ∷ number_then (length part + 4) (kind ∷ part) else (length part + 2) ∷ kind ∷ part) ≡ Some kind
+    → type_octet (if long then 0x01 ∷ number_then (length part + 4) (kind ∷ part)
+    else (length part + 2) ∷ kind ∷ part) ≡ Some kind
 framed_type kind part true = refl
 framed_type kind part false = rw (not_one (length part)) refl
 
@@ -26,7 +28,8 @@ type_written kind part = framed_type kind part (nat_lt MAX_SHORT_LENGTH (length 
 
 -- a message carries a topic by the octet of its type
 told : (message : SnFrame)
-    → (is_type 12 (Some (octet_of (type_of message))) || is_type 10 (Some (octet_of (type_of message)))) ≡ is_topical message
+    → (is_type 12 (Some (octet_of (type_of message))) || is_type 10 (Some (octet_of (type_of message))))
+    ≡ is_topical message
 told (frame.Connect c) = refl
 told (frame.ConnectAck code) = refl
 told frame.WillTopicRequest = refl
@@ -54,7 +57,10 @@ told (frame.WillMessageResponse code) = refl
 
 pub topics_told : (message : SnFrame) → carries_topic (written message) ≡ is_topical message
 topics_told message =
-    ap (λ octet. is_type 12 octet || is_type 10 octet) (type_written (octet_of (type_of message)) (part_of message)) ∙ told message
+    ap (λ octet. is_type 12 octet || is_type 10 octet)
+    (type_written (octet_of (type_of message)) (part_of message)) ∙ told message
 
-pub unnoted_refused : (to : Address) (message : SnFrame) → is_topical message ≡ true → Reaches false (Send to (written message) ∷ []) → ⊥
-unnoted_refused to message is reaches = let e : false ≡ true = reaches.0 (topics_told message ∙ is) in absurd cc
+pub unnoted_refused : (to : Address) (message : SnFrame) → is_topical message ≡ true
+    → Reaches false (Send to (written message) ∷ []) → ⊥
+unnoted_refused to message is reaches =
+    let e : false ≡ true = reaches.0 (topics_told message ∙ is) in absurd cc

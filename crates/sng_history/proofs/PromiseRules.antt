@@ -9,7 +9,8 @@ use Rattle.sng_outbox.specs.declared.origin.Origin.{Origin}
 use Rattle.sng_outbox.specs.declared.origin.Origin.TheVariants as origin
 use Rattle.sng_book.specs.declared.outcome.Place.TheVariants as place
 use Rattle.sng_book.specs.declared.outcome.Denial.{Denial}
-use Rattle.sng_book.specs.declared.outcome.Denial.TheVariants.{NoScope, UnknownSource, MissingPub, UpstreamDown, Full}
+use Rattle.sng_book.specs.declared.outcome.Denial.TheVariants.{NoScope, UnknownSource, MissingPub}
+use Rattle.sng_book.specs.declared.outcome.Denial.TheVariants.{UpstreamDown, Full}
 use Rattle.sng_book.specs.declared.outcome.Outcome.{Outcome}
 use Rattle.sng_book.specs.declared.outcome.Outcome.TheVariants.{Allowed, Denied}
 use Rattle.sng_history.specs.Links.{Link}
@@ -33,13 +34,15 @@ abbrev pub IsRoom : Outcome → Type 0
 IsRoom Allowed = Unit {0}
 IsRoom (Denied rule) = is_of_room rule ≡ true
 
-two_own : (unlisted missing : Bool) (first second : Denial) → is_of_room first ≡ false → is_of_room second ≡ false
+two_own : (unlisted missing : Bool) (first second : Denial) → is_of_room first ≡ false
+    → is_of_room second ≡ false
     → IsOwn (judged ((unlisted, first) ∷ (missing, second) ∷ []))
 two_own true missing first second one two = one
 two_own false true first second one two = two
 two_own false false first second one two = tt
 
-pub publish_own : (policy : Policy) (asker : Origin) (name : List ℕ) → IsOwn (judged (publish_rules policy asker name))
+pub publish_own : (policy : Policy) (asker : Origin) (name : List ℕ)
+    → IsOwn (judged (publish_rules policy asker name))
 publish_own policy (origin.Client id) name =
     let scope = scope_of policy.clients id in
     two_own (not (is_some scope)) (not (may_publish scope name)) (NoScope id) (MissingPub name) refl refl
@@ -49,13 +52,15 @@ publish_own policy (origin.Source ip) name =
 
 -- ---- room
 
-room_if : (b : Bool) (o : Outcome) (rule : Denial) → IsRoom o → is_of_room rule ≡ true → IsRoom (if b then o else Denied rule)
+room_if : (b : Bool) (o : Outcome) (rule : Denial) → IsRoom o → is_of_room rule ≡ true
+    → IsRoom (if b then o else Denied rule)
 room_if true o rule one two = one
 room_if false o rule one two = two
 
 pub link_room : (link : Link) (q : Qos) → IsRoom (room_in link q)
 link_room link q =
-    room_if (has_flight link q) (if has_place link then Allowed else Denied (Full place.Outbox)) (Full place.InFlight)
+    room_if (has_flight link q) (if has_place link then Allowed else Denied (Full place.Outbox))
+    (Full place.InFlight)
     (room_if (has_place link) Allowed (Full place.Outbox) tt refl) refl
 
 pub publish_room : (s : State) (q : Qos) → IsRoom (room s q)

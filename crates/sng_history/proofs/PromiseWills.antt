@@ -1,4 +1,5 @@
--- The note of what a client states of its will stands under the policy in force, and that of a will that finds no place.
+-- The note of what a client states of its will stands under the policy in force, and that of a will that
+-- finds no place.
 use Rattle.std.proofs.Common.{◌≡◌, inl, ℕ, Bool, true, false, List, [], ◌∷◌, refl, sym, subst, if◌then◌else◌}
 use Rattle.std.specs.Prelude.{is_some, Option, Some, None}
 use Rattle.sng_text.specs.Texts.{is_name}
@@ -17,7 +18,8 @@ use Rattle.sng_history.specs.Clients.{Client}
 use Rattle.sng_history.specs.Links.{Link}
 use Rattle.sng_history.specs.Room.{room_in}
 use Rattle.sng_history.specs.Verdicts.{and_then, client_scope, in_turn, is_active}
-use Rattle.sng_history.specs.WillAsks.{awaits_topic, turn, statement_turn, topic_at, name_rule, topic_read, topic_granted, statement_read}
+use Rattle.sng_history.specs.WillAsks.{awaits_topic, turn, statement_turn, topic_at, name_rule, topic_read}
+use Rattle.sng_history.specs.WillAsks.{topic_granted, statement_read}
 use Rattle.sng_history.specs.WillAsks.{statement_ask}
 use Rattle.sng_history.specs.Losing.{unplaced, will_dropped}
 use Rattle.sng_history.specs.LawsRules.{judged, publish_rules}
@@ -29,19 +31,25 @@ use Rattle.sng_history.proofs.PromiseAsks.{IsFirst, turn_first, first_both, scop
 
 -- ---- before the grant
 
-statement_first : (policy : Policy) (statement : Statement) (x : Client) → IsFirst policy (who.Client x.id) (statement_turn statement x)
-statement_first policy (StatesTopic topic) x = turn_first policy (who.Client x.id) (awaits_topic x.wills.stage)
-statement_first policy (StatesMessage message) x = turn_first policy (who.Client x.id) (is_some (awaited_topic x.wills.stage))
+statement_first : (policy : Policy) (statement : Statement) (x : Client)
+    → IsFirst policy (who.Client x.id) (statement_turn statement x)
+statement_first policy (StatesTopic topic) x =
+    turn_first policy (who.Client x.id) (awaits_topic x.wills.stage)
+statement_first policy (StatesMessage message) x =
+    turn_first policy (who.Client x.id) (is_some (awaited_topic x.wills.stage))
 statement_first policy (UpdatesTopic topic) x = turn_first policy (who.Client x.id) (is_active x.phase)
 statement_first policy (UpdatesMessage message) x =
-    first_both policy (who.Client x.id) (in_turn x) (turn (is_some x.wills.will)) (turn_first policy (who.Client x.id) (is_active x.phase))
+    first_both policy (who.Client x.id) (in_turn x) (turn (is_some x.wills.will))
+    (turn_first policy (who.Client x.id) (is_active x.phase))
     (turn_first policy (who.Client x.id) (is_some x.wills.will))
 
-name_first : (policy : Policy) (whom : Who) (b : Bool) → IsFirst policy whom (if b then Allowed else Denied BadName)
+name_first : (policy : Policy) (whom : Who) (b : Bool)
+    → IsFirst policy whom (if b then Allowed else Denied BadName)
 name_first policy whom true = tt
 name_first policy whom false = inl refl
 
-topic_first : (policy : Policy) (id : List ℕ) (topic : Option (List ℕ)) → IsFirst policy (who.Client id) (topic_read policy id topic)
+topic_first : (policy : Policy) (id : List ℕ) (topic : Option (List ℕ))
+    → IsFirst policy (who.Client id) (topic_read policy id topic)
 topic_first policy id None = tt
 topic_first policy id (Some text) =
     first_both policy (who.Client id) (client_scope policy id) (name_rule text) (scope_first policy id)
@@ -49,7 +57,8 @@ topic_first policy id (Some text) =
 
 -- ---- the grant
 
-said_will : (policy : Policy) (id topic : List ℕ) (verdict : Outcome) → judged (publish_rules policy (origin.Client id) topic) ≡ verdict
+said_will : (policy : Policy) (id topic : List ℕ) (verdict : Outcome)
+    → judged (publish_rules policy (origin.Client id) topic) ≡ verdict
     → IsOwn verdict
     → MayState policy (who.Client id) (Some topic) verdict
 said_will policy id topic Allowed is own = is
@@ -63,24 +72,30 @@ granted_will policy id (Some name) =
     subst (MayState policy (who.Client id) (Some name)) (sym (exit_ruled policy (origin.Client id) name))
     (said_will policy id name verdict refl (publish_own policy (origin.Client id) name))
 
-read_will : (policy : Policy) (id : List ℕ) (topic : Option (List ℕ)) (read : Outcome) → IsFirst policy (who.Client id) read
-    → MayState policy (who.Client id) (if is_allowed read then topic else None) (and_then read (topic_granted policy id topic))
+read_will : (policy : Policy) (id : List ℕ) (topic : Option (List ℕ)) (read : Outcome)
+    → IsFirst policy (who.Client id) read
+    → MayState policy (who.Client id) (if is_allowed read then topic else None)
+    (and_then read (topic_granted policy id topic))
 read_will policy id topic Allowed first = granted_will policy id topic
 read_will policy id topic (Denied rule) first = first
 
-pub statement_stands : (policy : Policy) (statement : Statement) (x : Client) → Stands policy (statement_ask policy statement x)
+pub statement_stands : (policy : Policy) (statement : Statement) (x : Client)
+    → Stands policy (statement_ask policy statement x)
 statement_stands policy statement x =
     let topic = topic_at statement x in
     read_will policy x.id topic (statement_read policy statement x)
-    (first_both policy (who.Client x.id) (statement_turn statement x) (topic_read policy x.id topic) (statement_first policy statement x)
+    (first_both policy (who.Client x.id) (statement_turn statement x) (topic_read policy x.id topic)
+    (statement_first policy statement x)
     (topic_first policy x.id topic))
 
 -- ---- a will that finds no place
 
-every_unplaced : (policy : Policy) (id : List ℕ) (p : Publication) (o : Outcome) → IsRoom o → Every (Stands policy) (unplaced id p o)
+every_unplaced : (policy : Policy) (id : List ℕ) (p : Publication) (o : Outcome) → IsRoom o
+    → Every (Stands policy) (unplaced id p o)
 every_unplaced policy id p Allowed room = tt
 every_unplaced policy id p (Denied rule) room = (rw room tt, tt)
 
-pub every_will : (policy : Policy) (link : Link) (id : List ℕ) (ps : List Publication) → Every (Stands policy) (will_dropped link id ps)
+pub every_will : (policy : Policy) (link : Link) (id : List ℕ) (ps : List Publication)
+    → Every (Stands policy) (will_dropped link id ps)
 every_will policy link id [] = tt
 every_will policy link id (p ∷ ps) = every_unplaced policy id p (room_in link p.qos) (link_room link p.qos)

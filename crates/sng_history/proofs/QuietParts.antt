@@ -1,148 +1,37 @@
 -- A client that takes no messages is sent nothing but with a message of its own.
-use Rattle.std.proofs.Common.{◌≡◌, ℕ, Bool, true, false, List, [], ◌∷◌, ◌++◌, refl, ap, sym, ◌∙◌, subst, if◌then◌else◌}
-use Rattle.std.specs.Prelude.{◌&&◌, is_none, slice_get, Option, Some, None}
-use Rattle.std.specs.List.{list_any}
+use Rattle.std.proofs.Common.{◌≡◌, Bool, true, false, List, [], ◌∷◌, ◌++◌, refl, ap, sym, ◌∙◌, subst}
+use Rattle.std.proofs.Common.{if◌then◌else◌}
+use Rattle.std.specs.Prelude.{◌&&◌, is_none, slice_get}
 use Rattle.std.specs.Str.{bytes_eq}
-use Rattle.sng_grants.specs.declared.policy.Policy.{Policy}
-use Rattle.sng_fan.specs.declared.held.Held.{Held}
 use Rattle.sng_states.specs.States.{takes_messages, is_awake}
 use Rattle.sng_states.specs.declared.state.ClientState.{ClientState}
-use Rattle.sng_states.specs.declared.state.ClientState.TheVariants.{Dialogue, Active, Asleep, Awake, Disconnected, Lost}
-use Rattle.sng_queue.specs.Messages.{Message}
-use Rattle.sng_queue.specs.Buffers.{Buffer}
-use Rattle.sng_outbox.specs.declared.item.Publication.{Publication}
+use Rattle.sng_states.specs.declared.state.ClientState.TheVariants.{Dialogue, Active, Asleep, Awake}
+use Rattle.sng_states.specs.declared.state.ClientState.TheVariants.{Disconnected, Lost}
 use Rattle.sng_frames.specs.declared.messages.connect.Connect.{Connect}
 use Rattle.sng_book.specs.Denials.{is_allowed}
 use Rattle.sng_book.specs.declared.address.Address.{Address}
 use Rattle.sng_book.specs.declared.decision.Decision.{Decision}
 use Rattle.sng_book.specs.declared.decision.Decision.TheVariants as note
-use Rattle.sng_book.specs.declared.outcome.Denial.{Denial}
-use Rattle.sng_book.specs.declared.outcome.Denial.TheVariants.{BrokerRefused}
-use Rattle.sng_book.specs.declared.outcome.Outcome.{Outcome}
-use Rattle.sng_book.specs.declared.outcome.Outcome.TheVariants.{Allowed, Denied}
 use Rattle.sng_book.specs.declared.out.Out.{Out}
-use Rattle.sng_book.specs.declared.out.Out.TheVariants.{Send, Wire, Note}
 use Rattle.sng_history.specs.Causes.{Cause, request_of}
-use Rattle.sng_history.specs.Causes.{ByConnect, ByMessage, BySource, ByBroken, ByPacket, ByUp, ByDown, ByTake, ByReplace, ByTick}
+use Rattle.sng_history.specs.Causes.{ByConnect, ByMessage, BySource, ByBroken, ByPacket, ByUp, ByDown, ByTake}
+use Rattle.sng_history.specs.Causes.{ByReplace, ByTick}
 use Rattle.sng_history.specs.Packets.{answer_of, refused_filter}
-use Rattle.sng_history.specs.Arriving.{arrival, joins, turned_away_by, turned_away}
-use Rattle.sng_history.specs.Clients.{Around, Client, is_here, is_from, is_message, is_author, answered_by, message_due, delivered_by, start_by, note_by, notes_by}
-use Rattle.sng_history.specs.Links.{Link}
-use Rattle.sng_history.specs.Room.{room_in}
-use Rattle.sng_history.specs.Standing.{Release, is_release, holds}
+use Rattle.sng_history.specs.Arriving.{joins, turned_away}
+use Rattle.sng_history.specs.Clients.{Around, Client, is_here, is_from, is_message, is_author, answered_by}
+use Rattle.sng_history.specs.Clients.{message_due, delivered_by, start_by, note_by, notes_by}
+use Rattle.sng_history.specs.Standing.{Release}
 use Rattle.sng_history.specs.State.{State, around, later}
-use Rattle.sng_history.specs.Verdicts.{coverage, entry}
+use Rattle.sng_history.specs.Verdicts.{entry}
 use Rattle.sng_history.specs.Answers.{pong}
-use Rattle.sng_history.specs.Outgoing.{turns, handed_over, all_gone, delivered_notes}
-use Rattle.sng_history.specs.Ticking.{will_of, testaments, all_placed, is_unanswered, is_lost_at}
-use Rattle.sng_history.specs.Losing.{before, unplaced, will_dropped, lost_notes, exchange_again, again_notes}
-use Rattle.sng_history.specs.Lawful.{end_of, ends_under, refused_end, fixed_to, fixed_for}
+use Rattle.sng_history.specs.Outgoing.{handed_over, all_gone, delivered_notes}
+use Rattle.sng_history.specs.Ticking.{testaments, all_placed, is_lost_at}
+use Rattle.sng_history.specs.Losing.{before, lost_notes, again_notes}
+use Rattle.sng_history.specs.Lawful.{refused_end, fixed_to, fixed_for}
 use Rattle.sng_history.specs.Whole.{frames_of, spell, answer, drained_outs, part}
-use Rattle.sng_history.proofs.Hands.{Every, every_append, every_if}
-use Rattle.sng_history.proofs.Steady.{handed_steady}
-
--- nothing is sent among these
-abbrev pub NoneSent : List Out → Type 0
-NoneSent [] = Unit {0}
-NoneSent (Send to datagram ∷ outs) = ⊥
-NoneSent (Note said ∷ outs) = NoneSent outs
-NoneSent (Wire packet ∷ outs) = NoneSent outs
-
-pub none_both : (xs ys : List Out) → NoneSent xs → NoneSent ys → NoneSent (xs ++ ys)
-none_both [] ys one two = two
-none_both (Send to datagram ∷ xs) ys one two = absurd one
-none_both (Note said ∷ xs) ys one two = none_both xs ys one two
-none_both (Wire packet ∷ xs) ys one two = none_both xs ys one two
-
-none_if : (b : Bool) (outs : List Out) → NoneSent outs → NoneSent (if b then outs else [])
-none_if true outs none = none
-none_if false outs none = tt
-
--- ---- notes behind which nothing is sent
-
-record Quiet (a : Around) (said : Decision) : Type 0 where
-  sends : (dropped : List Release) (x : Client) → NoneSent (frames_of a dropped x said)
-  sleeps : (x : Client) → is_awake x.phase ≡ false → is_awake (note_by a said x).phase ≡ false
-
-quiet_end : (a : Around) (client filter : List ℕ) (o : Outcome) → Quiet a (note.End client filter o)
-quiet_end a client filter o = record {
-  sends = λ dropped x. none_if (list_any (is_release x.id filter) dropped) (Note note.Outbox ∷ []) tt;
-  sleeps = λ x is. is;
-}
-
-quiet_hand : (a : Around) (client name : List ℕ) (rule : Denial) → Quiet a (note.Hand client name (Denied rule))
-quiet_hand a client name rule = record {
-  sends = λ dropped x. tt;
-  sleeps = λ x is. ap is_awake (handed_steady a name (Denied rule) x).phase ∙ is;
-}
-
-quiet_gone : (a : Around) (client : List ℕ) (waiting : List Message) → Every (Quiet a) (all_gone client waiting)
-quiet_gone a client [] = tt
-quiet_gone a client (m ∷ more) = (quiet_hand a client m.name _, quiet_gone a client more)
-
-quiet_ended : (a : Around) (client filter : List ℕ) (o : Outcome) → Every (Quiet a) (end_of client filter o)
-quiet_ended a client filter Allowed = tt
-quiet_ended a client filter (Denied rule) = (quiet_end a client filter (Denied rule), tt)
-
-quiet_ends : (a : Around) (policy : Policy) (client : List ℕ) (held : List Held) → Every (Quiet a) (ends_under policy client held)
-quiet_ends a policy client [] = tt
-quiet_ends a policy client (h ∷ held) =
-    let o = coverage policy client h.filter in
-    every_append (Quiet a) (end_of client h.filter o) (ends_under policy client held) (quiet_ended a client h.filter o)
-    (quiet_ends a policy client held)
-
-quiet_refused : (a : Around) (x : Client) (filter : Option (List ℕ)) → Every (Quiet a) (refused_end x filter)
-quiet_refused a x None = tt
-quiet_refused a x (Some filter) =
-    every_if (Quiet a) (holds filter x) (note.End x.id filter (Denied BrokerRefused) ∷ [])
-    (quiet_end a x.id filter (Denied BrokerRefused), tt)
-
-quiet_turned : (a : Around) (client name : List ℕ) (o : Outcome) → Every (Quiet a) (turned_away_by client name o)
-quiet_turned a client name Allowed = tt
-quiet_turned a client name (Denied rule) = (quiet_hand a client name rule, tt)
-
-quiet_away : (a : Around) (client : List ℕ) (due : Option Message) (b : Buffer) → Every (Quiet a) (turned_away client due b)
-quiet_away a client None b = tt
-quiet_away a client (Some m) b = quiet_turned a client m.name (arrival b m)
-
--- what waits for it goes on waiting
-quiet_kept : (a : Around) (policy : Policy) (x : Client) → takes_messages x.phase ≡ false → Every (Quiet a) (handed_over policy x)
-quiet_kept a policy x is =
-    subst (Every (Quiet a))
-    (sym (ap (λ b. let notes : List Decision = if b && is_none x.buffer.exchange then turns policy x.id x.ids x.buffer.waiting else [] in notes) is)) tt
-
-quiet_unplaced : (s : State) (clock : ℕ) (id : List ℕ) (p : Publication) (o : Outcome)
-    → Every (Quiet (around s (ByTick clock))) (unplaced id p o)
-quiet_unplaced s clock id p Allowed = tt
-quiet_unplaced s clock id p (Denied rule) = (record { sends = λ dropped x. tt; sleeps = λ x is. is }, tt)
-
-quiet_dropped : (s : State) (clock : ℕ) (link : Link) (id : List ℕ) (ps : List Publication)
-    → Every (Quiet (around s (ByTick clock))) (will_dropped link id ps)
-quiet_dropped s clock link id [] = tt
-quiet_dropped s clock link id (p ∷ ps) = quiet_unplaced s clock id p (room_in link p.qos)
-
-quiet_lost : (s : State) (clock : ℕ) (link : Link) (x : Client) → Every (Quiet (around s (ByTick clock))) (lost_notes link x)
-quiet_lost s clock link x =
-    let a = around s (ByTick clock) in
-    let will = will_of x.id x.wills.will in (
-      record { sends = λ dropped y. tt; sleeps = λ y is. refl },
-      every_append (Quiet a) (all_gone x.id x.buffer.waiting) (will_dropped link x.id will) (quiet_gone a x.id x.buffer.waiting)
-          (quiet_dropped s clock link x.id will),
-    )
-
-quiet_again : (a : Around) (policy : Policy) (clock : ℕ) (x : Client) → takes_messages x.phase ≡ false
-    → Every (Quiet a) (again_notes policy clock x)
-quiet_again a policy clock x is =
-    subst (Every (Quiet a))
-    (sym
-    (ap
-    (λ b. let notes : List Decision = if b && is_unanswered clock x.buffer.exchange then exchange_again policy x x.buffer.exchange else [] in notes) is))
-    tt
-
-quiet_either : (a : Around) (b : Bool) (xs ys : List Decision) → Every (Quiet a) xs → Every (Quiet a) ys
-    → Every (Quiet a) (if b then xs else ys)
-quiet_either a true xs ys one two = one
-quiet_either a false xs ys one two = two
+use Rattle.sng_history.proofs.Hands.{Every, every_append}
+use Rattle.sng_history.proofs.QuietNotes.{NoneSent, none_both, Quiet, quiet_ends, quiet_refused, quiet_away}
+use Rattle.sng_history.proofs.QuietNotes.{quiet_kept, quiet_lost, quiet_again, quiet_either}
 
 -- ---- each cause but a CONNECT of its own, which came from elsewhere
 
@@ -160,12 +49,15 @@ enters_by (ByReplace policy) x = false
 enters_by (ByTick clock) x = false
 
 -- what another client than the one that connects has
-pub beside_notes : (s : State) (from : Address) (connect : Connect) (x : Client) → bytes_eq connect.client_id x.id ≡ false
+pub beside_notes : (s : State) (from : Address) (connect : Connect) (x : Client)
+    → bytes_eq connect.client_id x.id ≡ false
     → fixed_for s (ByConnect from connect) x
-    ≡ (if is_allowed (entry s connect) then (if is_here x from then note.Left x.id ∷ all_gone x.id x.buffer.waiting else []) else [])
+    ≡ (if is_allowed (entry s connect)
+    then (if is_here x from then note.Left x.id ∷ all_gone x.id x.buffer.waiting else []) else [])
 beside_notes s from connect x is = rw is refl
 
-none_from : (a : Around) (b : Bool) (notes : List Decision) → b ≡ false → Every (Quiet a) (if b then notes else [])
+none_from : (a : Around) (b : Bool) (notes : List Decision) → b ≡ false
+    → Every (Quiet a) (if b then notes else [])
 none_from a true notes is = absurd cc
 none_from a false notes is = tt
 
@@ -175,48 +67,58 @@ quiet_beside a true true notes is = absurd cc
 quiet_beside a true false notes is = tt
 quiet_beside a false here notes is = tt
 
-every_quiet : (s : State) (c : Cause) (x : Client) → enters_by c x ≡ false → is_from c x ≡ false → takes_messages x.phase ≡ false
+every_quiet : (s : State) (c : Cause) (x : Client) → enters_by c x ≡ false → is_from c x ≡ false
+    → takes_messages x.phase ≡ false
     → Every (Quiet (around s c)) (fixed_for s c x)
 every_quiet s (ByConnect from connect) x other away is =
     let a = around s (ByConnect from connect) in
     subst (Every (Quiet a)) (sym (beside_notes s from connect x other))
-    (quiet_beside a (is_allowed (entry s connect)) (is_here x from) (note.Left x.id ∷ all_gone x.id x.buffer.waiting) away)
+    (quiet_beside a (is_allowed (entry s connect)) (is_here x from)
+    (note.Left x.id ∷ all_gone x.id x.buffer.waiting) away)
 every_quiet s (ByMessage from request) x other away is =
     none_from (around s (ByMessage from request)) (is_here x from) (fixed_to s request x) away
 every_quiet s (BySource from p) x other away is = tt
-every_quiet s (ByBroken from rule) x other away is = none_from (around s (ByBroken from rule)) (is_here x from) _ away
+every_quiet s (ByBroken from rule) x other away is =
+    none_from (around s (ByBroken from rule)) (is_here x from) _ away
 every_quiet s (ByPacket p) x other away is =
     let a = around s (ByPacket p) in
     let text = refused_filter s.link (answer_of p) in
     let due = message_due (answer_of p) x in
     let y : Client = record x { buffer = joins due x.buffer } in
     every_append (Quiet a) (refused_end x text) (delivered_notes s.policy due x) (quiet_refused a x text)
-    (every_append (Quiet a) (turned_away x.id due x.buffer) (handed_over s.policy y) (quiet_away a x.id due x.buffer)
+    (every_append (Quiet a) (turned_away x.id due x.buffer) (handed_over s.policy y)
+    (quiet_away a x.id due x.buffer)
     (quiet_kept a s.policy y is))
 every_quiet s ByUp x other away is = tt
 every_quiet s ByDown x other away is = tt
 every_quiet s ByTake x other away is = tt
-every_quiet s (ByReplace policy) x other away is = quiet_ends (around s (ByReplace policy)) policy x.id x.filters
+every_quiet s (ByReplace policy) x other away is =
+    quiet_ends (around s (ByReplace policy)) policy x.id x.filters
 every_quiet s (ByTick clock) x other away is =
     let a = around s (ByTick clock) in
     let now = later s.clock clock in
     let link = all_placed s.link (testaments now (before x.id s.clients)) in
-    quiet_either a (is_lost_at now x) (lost_notes link x) (again_notes s.policy now x) (quiet_lost s clock link x)
+    quiet_either a (is_lost_at now x) (lost_notes link x) (again_notes s.policy now x)
+    (quiet_lost s clock link x)
     (quiet_again a s.policy now x is)
 
 -- ---- the part of the client
 
-quiet_spell : (a : Around) (dropped : List Release) (x : Client) (notes : List Decision) → Every (Quiet a) notes
+quiet_spell : (a : Around) (dropped : List Release) (x : Client) (notes : List Decision)
+    → Every (Quiet a) notes
     → NoneSent (spell a dropped x notes)
 quiet_spell a dropped x [] every = tt
 quiet_spell a dropped x (said ∷ notes) every =
-    none_both (frames_of a dropped x said) (spell a dropped (note_by a said x) notes) (every.0.sends dropped x)
+    none_both (frames_of a dropped x said) (spell a dropped (note_by a said x) notes)
+    (every.0.sends dropped x)
     (quiet_spell a dropped (note_by a said x) notes every.1)
 
-quiet_sleeps : (a : Around) (notes : List Decision) (x : Client) → Every (Quiet a) notes → is_awake x.phase ≡ false
+quiet_sleeps : (a : Around) (notes : List Decision) (x : Client) → Every (Quiet a) notes
+    → is_awake x.phase ≡ false
     → is_awake (notes_by a notes x).phase ≡ false
 quiet_sleeps a [] x every is = is
-quiet_sleeps a (said ∷ notes) x every is = quiet_sleeps a notes (note_by a said x) every.1 (every.0.sleeps x is)
+quiet_sleeps a (said ∷ notes) x every is =
+    quiet_sleeps a notes (note_by a said x) every.1 (every.0.sleeps x is)
 
 untaking : (phase : ClientState) → takes_messages phase ≡ false → is_awake phase ≡ false
 untaking Asleep is = refl
@@ -232,7 +134,8 @@ undrained x is =
     (sym
     (ap
     (λ b. let outs : List Out = if b &&
-    (is_none (slice_get x.buffer.waiting 0) && is_none x.buffer.exchange) then pong x.address ∷ [] else [] in outs)
+    (is_none (slice_get x.buffer.waiting 0) && is_none x.buffer.exchange) then pong x.address ∷ [] else [] in
+    outs)
     is))
     tt
 
@@ -256,7 +159,8 @@ no_author c x away = ap (λ b. is_message c && b) away ∙ neither (is_message c
     neither false = refl
 
 -- nothing is sent for it
-pub quiet_part : (s : State) (c : Cause) (dropped : List Release) (x : Client) → enters_by c x ≡ false → is_from c x ≡ false
+pub quiet_part : (s : State) (c : Cause) (dropped : List Release) (x : Client) → enters_by c x ≡ false
+    → is_from c x ≡ false
     → takes_messages x.phase ≡ false
     → NoneSent (part (around s c) dropped (fixed_for s c x) x)
 quiet_part s c dropped x other away is =
@@ -266,9 +170,14 @@ quiet_part s c dropped x other away is =
     let y = start_by a x in
     let still : is_author c x ≡ false = no_author c x away in
     let start : y ≡ delivered_by c x =
-    ap (λ b. let z : Client = if b then answered_by (request_of c) (record x { heard = a.clock }) else delivered_by c x in z) still in
-    let sleeps : is_awake y.phase ≡ false = ap (λ z. is_awake z.phase) start ∙ (ap is_awake (delivered_phase c x) ∙ untaking x.phase is) in
-    none_both (if is_author c x then answer (request_of c) x else []) (spell a dropped y notes ++ drained_outs (notes_by a notes y))
-    (subst NoneSent (sym (ap (λ b. let outs : List Out = if b then answer (request_of c) x else [] in outs) still)) tt)
-    (none_both (spell a dropped y notes) (drained_outs (notes_by a notes y)) (quiet_spell a dropped y notes quiet)
+    ap (λ b. let z : Client = if b then answered_by (request_of c) (record x { heard = a.clock })
+    else delivered_by c x in z) still in
+    let sleeps : is_awake y.phase ≡ false =
+    ap (λ z. is_awake z.phase) start ∙ (ap is_awake (delivered_phase c x) ∙ untaking x.phase is) in
+    none_both (if is_author c x then answer (request_of c) x else [])
+    (spell a dropped y notes ++ drained_outs (notes_by a notes y))
+    (subst NoneSent (sym (ap (λ b. let outs : List Out = if b then answer (request_of c) x else [] in outs)
+    still)) tt)
+    (none_both (spell a dropped y notes) (drained_outs (notes_by a notes y))
+    (quiet_spell a dropped y notes quiet)
     (undrained (notes_by a notes y) (quiet_sleeps a notes y quiet sleeps)))

@@ -11,7 +11,8 @@ use Rattle.sng_book.specs.declared.outcome.Denial.{Denial}
 use Rattle.sng_book.specs.declared.outcome.Outcome.{Outcome}
 use Rattle.sng_book.specs.declared.outcome.Outcome.TheVariants.{Allowed, Denied}
 use Rattle.sng_history.specs.Causes.{Cause}
-use Rattle.sng_history.specs.Causes.{ByConnect, ByMessage, BySource, ByBroken, ByPacket, ByUp, ByDown, ByTake, ByReplace, ByTick}
+use Rattle.sng_history.specs.Causes.{ByConnect, ByMessage, BySource, ByBroken, ByPacket, ByUp, ByDown, ByTake}
+use Rattle.sng_history.specs.Causes.{ByReplace, ByTick}
 use Rattle.sng_history.specs.Packets.{answer_of, refused_filter}
 use Rattle.sng_history.specs.Clients.{Client, blank, is_here}
 use Rattle.sng_history.specs.Clients.{message_due, cleaned, opened, let_in, start_by}
@@ -37,37 +38,51 @@ in_opened true false x = record { here = refl; quiet = refl; dialogue = refl }
 in_opened false true x = record { here = refl; quiet = refl; dialogue = refl }
 in_opened false false x = record { here = refl; quiet = refl; dialogue = refl }
 
-in_entered : (clock : ℕ) (from : Address) (connect : Connect) (x : Client) → InSession (let_in clock from connect x)
+in_entered : (clock : ℕ) (from : Address) (connect : Connect) (x : Client)
+    → InSession (let_in clock from connect x)
 in_entered clock from connect x =
-    in_opened connect.flags.will connect.flags.clean (record x { address = from; ids = []; duration = connect.duration; heard = clock })
+    in_opened connect.flags.will connect.flags.clean
+    (record x { address = from; ids = []; duration = connect.duration; heard = clock })
 
 at_rest_if : (b : Bool) (x y : Client) → AtRest x → AtRest y → AtRest (if b then x else y)
 at_rest_if true x y one two = one
 at_rest_if false x y one two = two
 
-rest_entering : (s : State) (from : Address) (connect : Connect) (x : Client) (same : Bool) → entry s connect ≡ Allowed → bytes_eq connect.client_id x.id ≡ same → AtRest x
+rest_entering : (s : State) (from : Address) (connect : Connect) (x : Client) (same : Bool)
+    → entry s connect ≡ Allowed → bytes_eq connect.client_id x.id ≡ same → AtRest x
     → AtRest (client_next s (ByConnect from connect) x)
 rest_entering s from connect x true may is rest =
     let a = around s (ByConnect from connect) in
     let y = let_in s.clock from connect x in
     subst AtRest (sym (own_next s from connect x may is))
-    (subst AtRest (own_undrained a from connect x) (rest_drained (served a y) (rest_served a y (in_entered s.clock from connect x))))
+    (subst AtRest (own_undrained a from connect x)
+    (rest_drained (served a y) (rest_served a y (in_entered s.clock from connect x))))
 rest_entering s from connect x false may is rest =
     subst AtRest (sym (other_next s from connect x rest.busy may is))
     (at_rest_if (is_here x from) (left_at s.clock x) x
     (record { handed = refl; quiet = refl; busy = refl; away = refl; dialogue = refl }) rest)
 
-rest_connect : (s : State) (from : Address) (connect : Connect) (x : Client) (o : Outcome) → entry s connect ≡ o → AtRest x → AtRest (client_next s (ByConnect from connect) x)
-rest_connect s from connect x Allowed may rest = rest_entering s from connect x (bytes_eq connect.client_id x.id) may refl rest
+rest_connect : (s : State) (from : Address) (connect : Connect) (x : Client) (o : Outcome)
+    → entry s connect ≡ o → AtRest x → AtRest (client_next s (ByConnect from connect) x)
+rest_connect s from connect x Allowed may rest =
+    rest_entering s from connect x (bytes_eq connect.client_id x.id) may refl rest
 rest_connect s from connect x (Denied rule) may rest =
     let heard : AtRest (heard_at s.clock x) =
-    record { handed = rest.handed; quiet = rest.quiet; busy = rest.busy; away = rest.away; dialogue = rest.dialogue } in
-    subst AtRest (sym (hearing_next s from connect rule x rest.busy may)) (at_rest_if (is_here x from) (heard_at s.clock x) x heard rest)
+    record {
+      handed = rest.handed;
+      quiet = rest.quiet;
+      busy = rest.busy;
+      away = rest.away;
+      dialogue = rest.dialogue;
+    } in
+    subst AtRest (sym (hearing_next s from connect rule x rest.busy may))
+    (at_rest_if (is_here x from) (heard_at s.clock x) x heard rest)
 
 -- ---- each cause
 
 -- who has nothing left after its notes is at rest
-rest_notes : (s : State) (c : Cause) (x : Client) → Rested (notes_by (around s c) (fixed_for s c x) (start_by (around s c) x))
+rest_notes : (s : State) (c : Cause) (x : Client)
+    → Rested (notes_by (around s c) (fixed_for s c x) (start_by (around s c) x))
     → AtRest (client_next s c x)
 rest_notes s c x rest = let a = around s c in rest_drained (notes_by a (fixed_for s c x) (start_by a x)) rest
 
@@ -81,11 +96,13 @@ rest_client : (s : State) (c : Cause) (x : Client) → AtRest x → AtRest (clie
 rest_client s (ByConnect from connect) x rest = rest_connect s from connect x (entry s connect) refl rest
 rest_client s (ByMessage from request) x rest = rest_message s from request x (is_here x from) refl rest
 rest_client s (BySource from p) x rest = rest_notes s (BySource from p) x (rested x rest)
-rest_client s (ByBroken from rule) x rest = rest_notes s (ByBroken from rule) x (rest_broken s from rule x (is_here x from) rest)
+rest_client s (ByBroken from rule) x rest =
+    rest_notes s (ByBroken from rule) x (rest_broken s from rule x (is_here x from) rest)
 rest_client s (ByPacket p) x rest =
     let due = message_due (answer_of p) x in
     rest_notes s (ByPacket p) x
-    (rest_packet (around s (ByPacket p)) x due (refused_filter s.link (answer_of p)) (none_due (answer_of p) x) (rested x rest))
+    (rest_packet (around s (ByPacket p)) x due (refused_filter s.link (answer_of p))
+    (none_due (answer_of p) x) (rested x rest))
 rest_client s ByUp x rest = rest_notes s ByUp x (rested x rest)
 rest_client s ByDown x rest = rest_notes s ByDown x (rested x rest)
 rest_client s ByTake x rest = rest_notes s ByTake x (rested x rest)
@@ -100,7 +117,8 @@ blank_rest true id = (record { handed = refl; quiet = refl; busy = refl; away = 
 blank_rest false id = tt
 
 newcomers_rest : (s : State) (c : Cause) → Each AtRest (newcomers_for s c)
-newcomers_rest s (ByConnect from connect) = blank_rest (is_allowed (entry s connect) && not (is_known connect.client_id s.clients)) connect.client_id
+newcomers_rest s (ByConnect from connect) =
+    blank_rest (is_allowed (entry s connect) && not (is_known connect.client_id s.clients)) connect.client_id
 newcomers_rest s (ByMessage from request) = tt
 newcomers_rest s (BySource from p) = tt
 newcomers_rest s (ByBroken from rule) = tt
@@ -111,8 +129,10 @@ newcomers_rest s ByTake = tt
 newcomers_rest s (ByReplace policy) = tt
 newcomers_rest s (ByTick clock) = tt
 
-pub rest_next : (s : State) (c : Cause) → Each AtRest s.clients → Each AtRest (map (client_next s c) (s.clients ++ newcomers_for s c))
+pub rest_next : (s : State) (c : Cause) → Each AtRest s.clients
+    → Each AtRest (map (client_next s c) (s.clients ++ newcomers_for s c))
 rest_next s c rest =
     each_mapped AtRest (client_next s c) (s.clients ++ newcomers_for s c)
-    (each_map AtRest (λ x. AtRest (client_next s c x)) (s.clients ++ newcomers_for s c) (λ x at. rest_client s c x at)
+    (each_map AtRest (λ x. AtRest (client_next s c x)) (s.clients ++ newcomers_for s c)
+    (λ x at. rest_client s c x at)
     (each_append AtRest s.clients (newcomers_for s c) rest (newcomers_rest s c)))

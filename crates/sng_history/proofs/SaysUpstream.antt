@@ -1,5 +1,5 @@
--- What leaves for the broker, and what a source or a packet of the broker brings, is no client's; and it leaves with the outcomes that the
--- step fixes.
+-- What leaves for the broker, and what a source or a packet of the broker brings, is no client's; and it
+-- leaves with the outcomes that the step fixes.
 use Rattle.std.proofs.Common.{◌≡◌, ℕ, Bool, true, false, List, [], ◌∷◌, ◌++◌, refl, ap, ◌∙◌}
 use Rattle.std.specs.Prelude.{if◌then◌else◌, Option, Some, None, Ok, Err}
 use Rattle.std.specs.declared.result.Result.{Result}
@@ -23,12 +23,16 @@ use Rattle.sng_book.specs.declared.out.Out.{Out}
 use Rattle.sng_book.specs.declared.out.Out.TheVariants.{Note}
 use Rattle.sng_history.specs.Causes.{ByUp, ByTake}
 use Rattle.sng_history.specs.Notes.{notes_of, said_of, exits_in, exits_of_out}
-use Rattle.sng_history.specs.Links.{Link, wants, next_packet_id, packet_id_by, exited, resumed, filters_wanted, subscribe_sent, subscribe_left, unsubscribe_left}
+use Rattle.sng_history.specs.Links.{Link, wants, next_packet_id, packet_id_by, exited, resumed}
+use Rattle.sng_history.specs.Links.{filters_wanted, subscribe_sent, subscribe_left, unsubscribe_left}
 use Rattle.sng_history.specs.State.{State}
 use Rattle.sng_history.specs.Ticking.{is_ping_due, ping_dropped}
 use Rattle.sng_history.specs.Verdicts.{source_ask, named_ask, name_in, exit}
-use Rattle.sng_history.specs.Exits.{exits_of, forwarded, subscribe_packet, unsubscribe_packet, subscribing, leaving, agains_of, sent_again, resending}
-use Rattle.sng_history.specs.Packets.{Answer, Delivers, Acknowledges, Grants, Refuses, Confirms, Strange as StrangePacket, owed, has_place, dropped, misnamed, answer_outs}
+use Rattle.sng_history.specs.Exits.{exits_of, forwarded, subscribe_packet, unsubscribe_packet, subscribing}
+use Rattle.sng_history.specs.Exits.{leaving, agains_of, sent_again, resending}
+use Rattle.sng_history.specs.Packets.{Answer, Delivers, Acknowledges, Grants, Refuses, Confirms}
+use Rattle.sng_history.specs.Packets.{Strange as StrangePacket, owed, has_place, dropped, misnamed}
+use Rattle.sng_history.specs.Packets.{answer_outs}
 use Rattle.sng_history.specs.Lawful.{exits_for}
 use Rattle.sng_history.specs.Steps.{outs_by}
 use Rattle.sng_history.proofs.Own.{notes_append, exits_append}
@@ -36,55 +40,69 @@ use Rattle.sng_history.proofs.Spelled.{Mute, mute_none, mute_both, mute_if}
 
 -- ---- what leaves for the broker
 
-forwarded_says : (p : Publication) (packet_id : Option ℕ) (o : Outcome) (outs : List Out) → exits_in (forwarded p packet_id o ++ outs) ≡ o ∷ exits_in outs
+forwarded_says : (p : Publication) (packet_id : Option ℕ) (o : Outcome) (outs : List Out)
+    → exits_in (forwarded p packet_id o ++ outs) ≡ o ∷ exits_in outs
 forwarded_says p packet_id Allowed outs = refl
 forwarded_says p packet_id (Denied rule) outs = refl
 
 -- an out without exits adds none, and one of nobody adds no note
-wire_exits : (b : Bool) (out : Out) (outs : List Out) → exits_of_out out ≡ [] → exits_in ((if b then out ∷ [] else []) ++ outs) ≡ exits_in outs
+wire_exits : (b : Bool) (out : Out) (outs : List Out) → exits_of_out out ≡ []
+    → exits_in ((if b then out ∷ [] else []) ++ outs) ≡ exits_in outs
 wire_exits true out outs none = ap (λ exits. exits ++ exits_in outs) none
 wire_exits false out outs none = refl
 
-no_wire_exits : (b : Bool) (out : Out) (outs : List Out) → exits_of_out out ≡ [] → exits_in ((if b then [] else out ∷ []) ++ outs) ≡ exits_in outs
+no_wire_exits : (b : Bool) (out : Out) (outs : List Out) → exits_of_out out ≡ []
+    → exits_in ((if b then [] else out ∷ []) ++ outs) ≡ exits_in outs
 no_wire_exits true out outs none = refl
 no_wire_exits false out outs none = ap (λ exits. exits ++ exits_in outs) none
 
-wire_none : (d : List ℕ) (b : Bool) (out : Out) (outs : List Out) → said_of d out ≡ [] → notes_of d ((if b then out ∷ [] else []) ++ outs) ≡ notes_of d outs
+wire_none : (d : List ℕ) (b : Bool) (out : Out) (outs : List Out) → said_of d out ≡ []
+    → notes_of d ((if b then out ∷ [] else []) ++ outs) ≡ notes_of d outs
 wire_none d true out outs none = ap (λ notes. notes ++ notes_of d outs) none
 wire_none d false out outs none = refl
 
-no_wire_none : (d : List ℕ) (b : Bool) (out : Out) (outs : List Out) → said_of d out ≡ [] → notes_of d ((if b then [] else out ∷ []) ++ outs) ≡ notes_of d outs
+no_wire_none : (d : List ℕ) (b : Bool) (out : Out) (outs : List Out) → said_of d out ≡ []
+    → notes_of d ((if b then [] else out ∷ []) ++ outs) ≡ notes_of d outs
 no_wire_none d true out outs none = refl
 no_wire_none d false out outs none = ap (λ notes. notes ++ notes_of d outs) none
 
-pub leaving_exits : (policy : Policy) (link : Link) (items : List Item) → exits_in (leaving link items (exits_of policy items)) ≡ exits_of policy items
+pub leaving_exits : (policy : Policy) (link : Link) (items : List Item)
+    → exits_in (leaving link items (exits_of policy items)) ≡ exits_of policy items
 leaving_exits policy link [] = refl
 leaving_exits policy link (item.Publish p ∷ items) =
     let o = exit policy p.origin p.name in
-    forwarded_says p (packet_id_by link p.qos) o (leaving (exited link p o) items (exits_of policy items)) ∙ ap (λ outcomes. o ∷ outcomes) (leaving_exits policy (exited link p o) items)
+    forwarded_says p (packet_id_by link p.qos) o (leaving (exited link p o) items (exits_of policy items))
+    ∙ ap (λ outcomes. o ∷ outcomes) (leaving_exits policy (exited link p o) items)
 leaving_exits policy link (item.Subscribe filter ∷ items) =
-    wire_exits (wants link.wanted filter) (subscribe_packet (next_packet_id link) filter) (leaving (subscribe_left link filter) items (exits_of policy items)) refl
+    wire_exits (wants link.wanted filter) (subscribe_packet (next_packet_id link) filter)
+    (leaving (subscribe_left link filter) items (exits_of policy items)) refl
     ∙ leaving_exits policy (subscribe_left link filter) items
 leaving_exits policy link (item.Unsubscribe filter ∷ items) =
-    no_wire_exits (wants link.wanted filter) (unsubscribe_packet (next_packet_id link) filter) (leaving (unsubscribe_left link filter) items (exits_of policy items)) refl
+    no_wire_exits (wants link.wanted filter) (unsubscribe_packet (next_packet_id link) filter)
+    (leaving (unsubscribe_left link filter) items (exits_of policy items)) refl
     ∙ leaving_exits policy (unsubscribe_left link filter) items
 leaving_exits policy link (item.Acknowledge packet_id ∷ items) = leaving_exits policy link items
 leaving_exits policy link (item.Ping ∷ items) = leaving_exits policy link items
 
-forwarded_none : (d : List ℕ) (p : Publication) (packet_id : Option ℕ) (o : Outcome) (outs : List Out) → notes_of d (forwarded p packet_id o ++ outs) ≡ notes_of d outs
+forwarded_none : (d : List ℕ) (p : Publication) (packet_id : Option ℕ) (o : Outcome) (outs : List Out)
+    → notes_of d (forwarded p packet_id o ++ outs) ≡ notes_of d outs
 forwarded_none d p packet_id Allowed outs = refl
 forwarded_none d p packet_id (Denied rule) outs = refl
 
-pub leaving_none : (d : List ℕ) (policy : Policy) (link : Link) (items : List Item) → notes_of d (leaving link items (exits_of policy items)) ≡ []
+pub leaving_none : (d : List ℕ) (policy : Policy) (link : Link) (items : List Item)
+    → notes_of d (leaving link items (exits_of policy items)) ≡ []
 leaving_none d policy link [] = refl
 leaving_none d policy link (item.Publish p ∷ items) =
     let o = exit policy p.origin p.name in
-    forwarded_none d p (packet_id_by link p.qos) o (leaving (exited link p o) items (exits_of policy items)) ∙ leaving_none d policy (exited link p o) items
+    forwarded_none d p (packet_id_by link p.qos) o (leaving (exited link p o) items (exits_of policy items))
+    ∙ leaving_none d policy (exited link p o) items
 leaving_none d policy link (item.Subscribe filter ∷ items) =
-    wire_none d (wants link.wanted filter) (subscribe_packet (next_packet_id link) filter) (leaving (subscribe_left link filter) items (exits_of policy items)) refl
+    wire_none d (wants link.wanted filter) (subscribe_packet (next_packet_id link) filter)
+    (leaving (subscribe_left link filter) items (exits_of policy items)) refl
     ∙ leaving_none d policy (subscribe_left link filter) items
 leaving_none d policy link (item.Unsubscribe filter ∷ items) =
-    no_wire_none d (wants link.wanted filter) (unsubscribe_packet (next_packet_id link) filter) (leaving (unsubscribe_left link filter) items (exits_of policy items)) refl
+    no_wire_none d (wants link.wanted filter) (unsubscribe_packet (next_packet_id link) filter)
+    (leaving (unsubscribe_left link filter) items (exits_of policy items)) refl
     ∙ leaving_none d policy (unsubscribe_left link filter) items
 leaving_none d policy link (item.Acknowledge packet_id ∷ items) = leaving_none d policy link items
 leaving_none d policy link (item.Ping ∷ items) = leaving_none d policy link items
@@ -99,30 +117,37 @@ take_none s d false is = rw is refl
 
 -- ---- what is sent again
 
-again_says : (sent : InFlight) (o : Outcome) (outs : List Out) → exits_in (sent_again sent o ++ outs) ≡ o ∷ exits_in outs
+again_says : (sent : InFlight) (o : Outcome) (outs : List Out)
+    → exits_in (sent_again sent o ++ outs) ≡ o ∷ exits_in outs
 again_says sent Allowed outs = refl
 again_says sent (Denied rule) outs = refl
 
-pub resending_exits : (policy : Policy) (flights : List InFlight) → exits_in (resending flights (agains_of policy flights)) ≡ agains_of policy flights
+pub resending_exits : (policy : Policy) (flights : List InFlight)
+    → exits_in (resending flights (agains_of policy flights)) ≡ agains_of policy flights
 resending_exits policy [] = refl
 resending_exits policy (sent ∷ flights) =
     let o = exit policy sent.publication.origin sent.publication.name in
-    again_says sent o (resending flights (agains_of policy flights)) ∙ ap (λ outcomes. o ∷ outcomes) (resending_exits policy flights)
+    again_says sent o (resending flights (agains_of policy flights))
+    ∙ ap (λ outcomes. o ∷ outcomes) (resending_exits policy flights)
 
-again_none : (d : List ℕ) (sent : InFlight) (o : Outcome) (outs : List Out) → notes_of d (sent_again sent o ++ outs) ≡ notes_of d outs
+again_none : (d : List ℕ) (sent : InFlight) (o : Outcome) (outs : List Out)
+    → notes_of d (sent_again sent o ++ outs) ≡ notes_of d outs
 again_none d sent Allowed outs = refl
 again_none d sent (Denied rule) outs = refl
 
-pub resending_none : (d : List ℕ) (policy : Policy) (flights : List InFlight) → notes_of d (resending flights (agains_of policy flights)) ≡ []
+pub resending_none : (d : List ℕ) (policy : Policy) (flights : List InFlight)
+    → notes_of d (resending flights (agains_of policy flights)) ≡ []
 resending_none d policy [] = refl
 resending_none d policy (sent ∷ flights) =
-    again_none d sent (exit policy sent.publication.origin sent.publication.name) (resending flights (agains_of policy flights)) ∙ resending_none d policy flights
+    again_none d sent (exit policy sent.publication.origin sent.publication.name)
+    (resending flights (agains_of policy flights)) ∙ resending_none d policy flights
 
 -- the SUBSCRIBEs of a new connection have no notes
 pub mute_subscribing : (link : Link) (filters : List (List ℕ)) → Mute (subscribing link filters)
 mute_subscribing link [] = mute_none
 mute_subscribing link (filter ∷ filters) =
-    mute_both (subscribe_packet (next_packet_id link) filter ∷ []) (subscribing (subscribe_sent link filter) filters)
+    mute_both (subscribe_packet (next_packet_id link) filter ∷ [])
+    (subscribing (subscribe_sent link filter) filters)
     (record { notes = λ c. refl; exits = refl; asks = λ q. refl })
     (mute_subscribing (subscribe_sent link filter) filters)
 
@@ -133,7 +158,9 @@ pub up_exits : (s : State) → exits_in (outs_by s ByUp) ≡ exits_for s ByUp
 up_exits s =
     let back = resending s.link.in_flight (agains_of s.policy s.link.in_flight) in
     exits_append back (anew s)
-    ∙ (ap (λ exits. exits_in back ++ exits) (mute_subscribing (resumed s.link s.clock (agains_of s.policy s.link.in_flight)) (filters_wanted s.link)).exits
+    ∙ (ap (λ exits. exits_in back ++ exits)
+    (mute_subscribing (resumed s.link s.clock (agains_of s.policy s.link.in_flight))
+    (filters_wanted s.link)).exits
     ∙ (append-nil (exits_in back) ∙ resending_exits s.policy s.link.in_flight))
 
 pub up_none : (s : State) (d : List ℕ) → notes_of d (outs_by s ByUp) ≡ []
@@ -141,7 +168,8 @@ up_none s d =
     let back = resending s.link.in_flight (agains_of s.policy s.link.in_flight) in
     notes_append d back (anew s)
     ∙ (ap (λ notes. notes ++ notes_of d (anew s)) (resending_none d s.policy s.link.in_flight)
-    ∙ (mute_subscribing (resumed s.link s.clock (agains_of s.policy s.link.in_flight)) (filters_wanted s.link)).notes d)
+    ∙ (mute_subscribing (resumed s.link s.clock (agains_of s.policy s.link.in_flight))
+    (filters_wanted s.link)).notes d)
 
 -- ---- a packet of the broker
 
@@ -151,12 +179,14 @@ mute_note false said m = m
 
 mute_dropped : (place : Bool) (o : Option ℕ) → Mute (dropped place o)
 mute_dropped place None = mute_none
-mute_dropped place (Some packet_id) = mute_note place note.Outbox (record { notes = λ c. refl; exits = refl; asks = λ q. refl })
+mute_dropped place (Some packet_id) =
+    mute_note place note.Outbox (record { notes = λ c. refl; exits = refl; asks = λ q. refl })
 
 pub mute_packet : (up : Bool) (link : Link) (a : Answer) → Mute (answer_outs up link a)
 mute_packet up link (Delivers p) =
     mute_both (misnamed p.name) (dropped (has_place link) (owed up p))
-    (mute_note (is_name p.name) (note.Frame who.Broker (Denied BadName)) (record { notes = λ c. refl; exits = refl; asks = λ q. refl }))
+    (mute_note (is_name p.name) (note.Frame who.Broker (Denied BadName))
+    (record { notes = λ c. refl; exits = refl; asks = λ q. refl }))
     (mute_dropped (has_place link) (owed up p))
 mute_packet up link (Acknowledges packet_id) = mute_none
 mute_packet up link (Grants packet_id) = mute_none
@@ -171,7 +201,8 @@ mute_full has = mute_note has note.Outbox (record { notes = λ c. refl; exits = 
 
 pub mute_ping : (up : Bool) (link : Link) (clock : ℕ) → Mute (ping_dropped up link clock)
 mute_ping up link clock =
-    mute_if (is_ping_due up link clock) (if has_place link then [] else Note note.Outbox ∷ []) (mute_full (has_place link))
+    mute_if (is_ping_due up link clock) (if has_place link then [] else Note note.Outbox ∷ [])
+    (mute_full (has_place link))
 
 -- ---- a publish of a source
 
@@ -180,12 +211,15 @@ pub record Foreign (outs : List Out) : Type 0 where
   pub notes : (c : List ℕ) → notes_of c outs ≡ []
   pub exits : exits_in outs ≡ []
 
-foreign_named : (s : State) (source : List ℕ) (named : Result (List ℕ) Denial) → Foreign (Note (named_ask s source named) ∷ [])
+foreign_named : (s : State) (source : List ℕ) (named : Result (List ℕ) Denial)
+    → Foreign (Note (named_ask s source named) ∷ [])
 foreign_named s source (Ok name) = record { notes = λ c. refl; exits = refl }
 foreign_named s source (Err rule) = record { notes = λ c. refl; exits = refl }
 
-foreign_ask : (s : State) (source : List ℕ) (p : Publish) (listed : Bool) → lists_source s.policy source ≡ listed → Foreign (Note (source_ask s source p) ∷ [])
-foreign_ask s source p true is = rw is (foreign_named s source (name_in s.policy None p.flags.id_type p.topic_id))
+foreign_ask : (s : State) (source : List ℕ) (p : Publish) (listed : Bool)
+    → lists_source s.policy source ≡ listed → Foreign (Note (source_ask s source p) ∷ [])
+foreign_ask s source p true is =
+    rw is (foreign_named s source (name_in s.policy None p.flags.id_type p.topic_id))
 foreign_ask s source p false is = rw is (record { notes = λ c. refl; exits = refl })
 
 pub foreign_source : (s : State) (source : List ℕ) (p : Publish) → Foreign (Note (source_ask s source p) ∷ [])

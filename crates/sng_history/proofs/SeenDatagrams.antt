@@ -12,23 +12,28 @@ use Rattle.sng_frames.specs.declared.frame.SnFrame.{SnFrame}
 use Rattle.sng_frames.specs.declared.frame.SnFrame.TheVariants as frame
 use Rattle.sng_book.specs.declared.address.Address.{Address}
 use Rattle.sng_book.specs.declared.outcome.Denial.TheVariants.{NotSupported}
-use Rattle.sng_history.specs.Causes.{Cause, StatesTopic, StatesMessage, UpdatesTopic, UpdatesMessage, ByMessage, ByBroken, datagram_cause}
+use Rattle.sng_history.specs.Causes.{Cause, StatesTopic, StatesMessage, UpdatesTopic, UpdatesMessage}
+use Rattle.sng_history.specs.Causes.{ByMessage, ByBroken, datagram_cause}
 use Rattle.sng_history.specs.Causes.{publish_cause, rule_of, ToSleep}
-use Rattle.sng_history.specs.Causes.{ToPing, ToLeave, ToRegister, ToPublish, ToSubscribe, ToUnsubscribe, ToConfirm, ToAcknowledge, Untaken}
+use Rattle.sng_history.specs.Causes.{ToPing, ToLeave, ToRegister, ToPublish, ToSubscribe, ToUnsubscribe}
+use Rattle.sng_history.specs.Causes.{ToConfirm, ToAcknowledge, Untaken}
 use Rattle.sng_history.specs.Clients.{Client, Around, is_here, awake, asleep, is_waking}
 use Rattle.sng_history.specs.State.{State}
 use Rattle.sng_history.specs.Verdicts.{entry}
 use Rattle.sng_history.specs.Lawful.{fixed_for}
-use Rattle.sng_history.specs.ViewsMessages.{Message as Spoken, Registers, Publishes, Subscribes, Unsubscribes, Confirms, Acknowledges}
+use Rattle.sng_history.specs.ViewsMessages.{Message as Spoken, Registers, Publishes, Subscribes, Unsubscribes}
+use Rattle.sng_history.specs.ViewsMessages.{Confirms, Acknowledges}
 use Rattle.sng_history.specs.ViewsMessages.{Other, message_in, is_without_session, Pings, Sleeps}
 use Rattle.sng_history.specs.ViewsClients.{duration_by, is_spoken, phase_spoken, slept_for, woken, is_asleep}
 use Rattle.sng_history.proofs.SeenClients.{Before, Shows, kept_of, denied_shows, broken_shows, moved_to}
 use Rattle.sng_history.proofs.SeenHeard.{ping_shows, woken_if, asleep_if, sleep_shows}
-use Rattle.sng_history.proofs.SeenHeard.{confirm_shows, acknowledge_shows, subscribe_shows, unsubscribe_shows, register_shows, asked_shows}
-use Rattle.sng_history.proofs.SeenHeard.{leave_shows}
+use Rattle.sng_history.proofs.SeenHeard.{confirm_shows, acknowledge_shows, subscribe_shows, unsubscribe_shows}
+use Rattle.sng_history.proofs.SeenHeard.{register_shows, asked_shows}
+use Rattle.sng_history.proofs.SeenLeft.{leave_shows}
 use Rattle.sng_states.specs.States.{is_due_messages}
 use Rattle.sng_states.specs.States as states
-use Rattle.sng_states.specs.declared.state.ClientState.TheVariants.{Active, Asleep, Awake, Dialogue, Disconnected, Lost}
+use Rattle.sng_states.specs.declared.state.ClientState.TheVariants.{Active, Asleep, Awake, Dialogue}
+use Rattle.sng_states.specs.declared.state.ClientState.TheVariants.{Disconnected, Lost}
 use Rattle.sng_history.proofs.Takes.{awaiting_same}
 use Rattle.sng_history.proofs.SeenEntered.{statement_shows, connect_shows}
 
@@ -52,43 +57,60 @@ around_by s c = record { policy = s.policy; clock = s.clock; cause = c }
 
 publish_shows : (s : State) (x : Client) (from : Address) (p : Publish) (m : Option Spoken) (q : FrameQos)
     → let c = publish_cause from p q in
-    Shows x.id (kept_of x m (Some from) None s.clock (not (is_without_session q) && is_here x from)) (fixed_for s c x) (moved_to s c x)
+    Shows x.id (kept_of x m (Some from) None s.clock (not (is_without_session q) && is_here x from))
+    (fixed_for s c x) (moved_to s c x)
 publish_shows s x from p m qos.WithoutSession = (refl, refl, refl, refl)
-publish_shows s x from p m qos.AtMostOnce = asked_shows (around_by s (ByMessage from (ToPublish p))) s x m (Some from) p (is_here x from)
-publish_shows s x from p m qos.AtLeastOnce = asked_shows (around_by s (ByMessage from (ToPublish p))) s x m (Some from) p (is_here x from)
+publish_shows s x from p m qos.AtMostOnce =
+    asked_shows (around_by s (ByMessage from (ToPublish p))) s x m (Some from) p (is_here x from)
+publish_shows s x from p m qos.AtLeastOnce =
+    asked_shows (around_by s (ByMessage from (ToPublish p))) s x m (Some from) p (is_here x from)
 publish_shows s x from p m qos.ExactlyOnce =
     let a = around_by s (ByMessage from (Untaken (frame.Publish p))) in
     denied_shows a x m (Some from) None (is_here x from) (frame.Publish p) NotSupported
 
 pub datagram_shows : (s : State) (x : Client) (from : Address) (read : Result SnFrame FrameFault)
-    → Shows x.id (before_read s x from read) (fixed_for s (datagram_cause from read) x) (moved_to s (datagram_cause from read) x)
+    → Shows x.id (before_read s x from read) (fixed_for s (datagram_cause from read) x)
+    (moved_to s (datagram_cause from read) x)
 datagram_shows s x from (Ok (frame.Connect connect)) =
     connect_shows s from connect x (bytes_eq connect.client_id x.id) (is_here x from) (entry s connect)
 datagram_shows s x from (Ok (frame.Publish p)) = publish_shows s x from p (Some (Publishes p)) p.flags.qos
 datagram_shows s x from (Ok (frame.Register r)) =
-    register_shows (around_by s (ByMessage from (ToRegister r))) s.policy x (Some (Registers r)) (Some from) r.name (is_here x from)
+    register_shows (around_by s (ByMessage from (ToRegister r))) s.policy x (Some (Registers r))
+    (Some from) r.name (is_here x from)
 datagram_shows s x from (Ok (frame.Subscribe r)) =
-    subscribe_shows (around_by s (ByMessage from (ToSubscribe r))) s x (Some (Subscribes r)) (Some from) r (is_here x from)
+    subscribe_shows (around_by s (ByMessage from (ToSubscribe r))) s x (Some (Subscribes r)) (Some from) r
+    (is_here x from)
 datagram_shows s x from (Ok (frame.Unsubscribe r)) =
-    unsubscribe_shows (around_by s (ByMessage from (ToUnsubscribe r))) s.policy x (Some (Unsubscribes r)) (Some from) r (is_here x from)
+    unsubscribe_shows (around_by s (ByMessage from (ToUnsubscribe r))) s.policy x (Some (Unsubscribes r))
+    (Some from) r (is_here x from)
 datagram_shows s x from (Ok (frame.PingRequest client)) =
-    ping_shows (around_by s (ByMessage from (ToPing client))) s.policy x (Some (Pings client)) (Some from) client (is_here x from)
+    ping_shows (around_by s (ByMessage from (ToPing client))) s.policy x (Some (Pings client))
+    (Some from) client (is_here x from)
 datagram_shows s x from (Ok (frame.Disconnect None)) =
     leave_shows (around_by s (ByMessage from ToLeave)) x (Some Other) (Some from) None (is_here x from)
 datagram_shows s x from (Ok (frame.Disconnect (Some duration))) =
-    sleep_shows (around_by s (ByMessage from (ToSleep duration))) x (Some (Sleeps duration)) (Some from) duration (is_here x from)
+    sleep_shows (around_by s (ByMessage from (ToSleep duration))) x (Some (Sleeps duration))
+    (Some from) duration (is_here x from)
 datagram_shows s x from (Ok (frame.RegisterAck r)) =
-    confirm_shows (around_by s (ByMessage from (ToConfirm r))) s.policy x (Some (Confirms r)) (Some from) r (is_here x from)
+    confirm_shows (around_by s (ByMessage from (ToConfirm r))) s.policy x (Some (Confirms r)) (Some from) r
+    (is_here x from)
 datagram_shows s x from (Ok (frame.PublishAck r)) =
-    acknowledge_shows (around_by s (ByMessage from (ToAcknowledge r))) s.policy x (Some (Acknowledges r)) (Some from) r (is_here x from)
-datagram_shows s x from (Ok (frame.WillTopic topic)) = statement_shows s from (StatesTopic topic) x (is_here x from)
-datagram_shows s x from (Ok (frame.WillMessage message)) = statement_shows s from (StatesMessage message) x (is_here x from)
-datagram_shows s x from (Ok (frame.WillTopicUpdate topic)) = statement_shows s from (UpdatesTopic topic) x (is_here x from)
-datagram_shows s x from (Ok (frame.WillMessageUpdate message)) = statement_shows s from (UpdatesMessage message) x (is_here x from)
+    acknowledge_shows (around_by s (ByMessage from (ToAcknowledge r))) s.policy x (Some (Acknowledges r))
+    (Some from) r (is_here x from)
+datagram_shows s x from (Ok (frame.WillTopic topic)) =
+    statement_shows s from (StatesTopic topic) x (is_here x from)
+datagram_shows s x from (Ok (frame.WillMessage message)) =
+    statement_shows s from (StatesMessage message) x (is_here x from)
+datagram_shows s x from (Ok (frame.WillTopicUpdate topic)) =
+    statement_shows s from (UpdatesTopic topic) x (is_here x from)
+datagram_shows s x from (Ok (frame.WillMessageUpdate message)) =
+    statement_shows s from (UpdatesMessage message) x (is_here x from)
 datagram_shows s x from (Ok message) =
-    denied_shows (around_by s (ByMessage from (Untaken message))) x (Some Other) (Some from) None (is_here x from) message NotSupported
+    denied_shows (around_by s (ByMessage from (Untaken message))) x (Some Other) (Some from) None
+    (is_here x from) message NotSupported
 datagram_shows s x from (Err broke) =
-    broken_shows (around_by s (ByBroken from (rule_of broke))) x None (Some from) (is_here x from) (rule_of broke)
+    broken_shows (around_by s (ByBroken from (rule_of broke))) x None (Some from) (is_here x from)
+    (rule_of broke)
 
 -- that is what is shown of it
 sleeping_same : (phase : ClientState) → is_asleep (Some phase) ≡ states.is_asleep phase
@@ -105,28 +127,34 @@ and_turned true false = refl
 and_turned false true = refl
 and_turned false false = refl
 
-woken_by : (x : Client) (b : Bool) → (if b then Some Awake else Some x.phase) ≡ Some (let y : Client = if b then awake x else x in y).phase
+woken_by : (x : Client) (b : Bool)
+    → (if b then Some Awake else Some x.phase) ≡ Some (let y : Client = if b then awake x else x in y).phase
 woken_by x true = refl
 woken_by x false = refl
 
-never_woken : (x : Client) (b : Bool) → Some x.phase ≡ Some (let y : Client = if b && false then awake x else x in y).phase
+never_woken : (x : Client) (b : Bool)
+    → Some x.phase ≡ Some (let y : Client = if b && false then awake x else x in y).phase
 never_woken x true = refl
 never_woken x false = refl
 
-woken_same : (x : Client) (client : Option (List ℕ)) → woken x.id client (Some x.phase) ≡ Some (woken_if client x).phase
+woken_same : (x : Client) (client : Option (List ℕ))
+    → woken x.id client (Some x.phase) ≡ Some (woken_if client x).phase
 woken_same x None = never_woken x (states.is_asleep x.phase)
 woken_same x (Some named) =
     ap (λ b. if b then Some Awake else Some x.phase)
-    (ap (λ b. bytes_eq named x.id && b) (sleeping_same x.phase) ∙ and_turned (bytes_eq named x.id) (states.is_asleep x.phase))
+    (ap (λ b. bytes_eq named x.id && b) (sleeping_same x.phase)
+    ∙ and_turned (bytes_eq named x.id) (states.is_asleep x.phase))
     ∙ woken_by x (is_waking (Some named) x)
 
 asleep_by : (x : Client) (duration : ℕ) (b : Bool)
-    → (if b then Some Asleep else Some x.phase) ≡ Some (let y : Client = if b then asleep duration x else x in y).phase
+    → (if b then Some Asleep else Some x.phase)
+    ≡ Some (let y : Client = if b then asleep duration x else x in y).phase
 asleep_by x duration true = refl
 asleep_by x duration false = refl
 
 slept_by : (x : Client) (duration : ℕ) (b : Bool)
-    → (if b then Some duration else Some x.duration) ≡ Some (let y : Client = if b then asleep duration x else x in y).duration
+    → (if b then Some duration else Some x.duration)
+    ≡ Some (let y : Client = if b then asleep duration x else x in y).duration
 slept_by x duration true = refl
 slept_by x duration false = refl
 
@@ -151,7 +179,8 @@ woken_else : (x : Client) (b : Bool) → Else x (if b then awake x else x)
 woken_else x true = record { id = refl; address = refl; heard = refl }
 woken_else x false = record { id = refl; address = refl; heard = refl }
 
-woken_duration : (x : Client) (b : Bool) → Some x.duration ≡ Some (let y : Client = if b then awake x else x in y).duration
+woken_duration : (x : Client) (b : Bool)
+    → Some x.duration ≡ Some (let y : Client = if b then awake x else x in y).duration
 woken_duration x true = refl
 woken_duration x false = refl
 
@@ -179,7 +208,9 @@ sleep_same duration x true =
     let rest = asleep_else duration x (is_due_messages x.phase) in
     record {
       id = rest.id;
-      phase = ap (λ b. if b then Some Asleep else Some x.phase) (awaiting_same x.phase) ∙ asleep_by x duration (is_due_messages x.phase);
+      phase =
+          ap (λ b. if b then Some Asleep else Some x.phase) (awaiting_same x.phase)
+          ∙ asleep_by x duration (is_due_messages x.phase);
       duration = ap (λ b. if b then Some duration else Some x.duration) (awaiting_same x.phase)
           ∙ slept_by x duration (is_due_messages x.phase);
       address = rest.address;
@@ -187,9 +218,12 @@ sleep_same duration x true =
     }
 sleep_same duration x false = same_none x
 
-still_same : (x : Client) (here : Bool) (m : Option Spoken) → phase_spoken x.id m (Some x.phase) ≡ Some x.phase
-    → slept_for m (Some x.phase) (Some x.duration) ≡ Some x.duration → SpokenSame x x (if here then m else None)
-still_same x true m phase duration = record { id = refl; phase = phase; duration = duration; address = refl; heard = refl }
+still_same : (x : Client) (here : Bool) (m : Option Spoken)
+    → phase_spoken x.id m (Some x.phase) ≡ Some x.phase
+    → slept_for m (Some x.phase) (Some x.duration) ≡ Some x.duration
+    → SpokenSame x x (if here then m else None)
+still_same x true m phase duration =
+    record { id = refl; phase = phase; duration = duration; address = refl; heard = refl }
 still_same x false m phase duration = same_none x
 
 pub spoken_same : (from : Address) (read : Result SnFrame FrameFault) (x : Client)

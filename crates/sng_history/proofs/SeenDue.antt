@@ -1,24 +1,19 @@
--- Which messages were due to a client, and which of them are refused in their own row, as the rows show it and as it is kept.
-use Rattle.std.proofs.Common.{◌≡◌, ℕ, Bool, true, false, List, [], ◌∷◌, ◌++◌, refl, ap, sym, ◌∙◌, if◌then◌else◌, Ok, Err}
-use Rattle.std.specs.Prelude.{◌||◌, ◌&&◌, is_some, Option, Some, None}
+-- Which of the messages that were due to a client are refused in their own row, as the rows show it.
+use Rattle.std.proofs.Common.{◌≡◌, ℕ, Bool, true, false, List, [], ◌∷◌, ◌++◌, refl, ap, sym, ◌∙◌}
+use Rattle.std.proofs.Common.{if◌then◌else◌, Ok, Err}
+use Rattle.std.specs.Prelude.{◌||◌, is_some, Option, Some, None}
 use Rattle.std.specs.List.{list_any}
 use Rattle.std.specs.Option.{option_to_list}
 use Rattle.std.specs.declared.result.Result.{Result}
 use Rattle.std.proofs.lemmas.List.{append-nil}
 use Rattle.std.proofs.lemmas.List.Folds.{list_any-append}
-use Rattle.sng_text.specs.Texts.{is_name}
-use Rattle.sng_text.specs.Matching.{matches}
 use Rattle.sng_text.specs.declared.qos.Qos.{Qos}
 use Rattle.sng_text.specs.declared.qos.Qos.TheVariants.{AtMostOnce, AtLeastOnce}
 use Rattle.sng_grants.specs.declared.policy.Policy.{Policy}
-use Rattle.mqtt_frames.specs.declared.packet.Publish.{Publish}
 use Rattle.mqtt_frames.specs.declared.packet.SubscribeCode.{SubscribeCode}
 use Rattle.mqtt_frames.specs.declared.packet.SubscribeCode.TheVariants as code
 use Rattle.mqtt_frames.specs.declared.packet.Packet.{Packet}
 use Rattle.mqtt_frames.specs.declared.packet.Packet.TheVariants as packet
-use Rattle.sng_states.specs.States.{is_due_messages}
-use Rattle.sng_fan.specs.declared.held.Held.{Held}
-use Rattle.sng_fan.specs.Greatest.{raised, greatest_from, greatest_qos}
 use Rattle.sng_ids.specs.Ids.{Ids, is_full_for}
 use Rattle.sng_queue.specs.Messages.{Message, message}
 use Rattle.sng_queue.specs.Buffers.{Buffer}
@@ -42,93 +37,25 @@ use Rattle.sng_book.specs.declared.out.Out.{Out}
 use Rattle.sng_book.specs.declared.out.Out.TheVariants.{Send, Wire, Note}
 use Rattle.sng_book.specs.declared.row.Row.{Row}
 use Rattle.sng_history.specs.Causes.{publish_cause, datagram_cause, cause_of}
-use Rattle.sng_history.specs.Arriving.{granted_at, due_to, arrival, joins, turned_away_by, turned_away}
+use Rattle.sng_history.specs.Arriving.{arrival, joins, turned_away_by, turned_away}
 use Rattle.sng_history.specs.Handing.{known_as}
 use Rattle.sng_history.specs.Packets.{subscribe_answer, answer_of, refused_filter}
 use Rattle.sng_history.specs.Standing.{holds}
 use Rattle.sng_history.specs.Clients.{Client, message_due}
 use Rattle.sng_history.specs.Notes.{notes_of, is_of}
 use Rattle.sng_history.specs.State.{State}
-use Rattle.sng_history.specs.Outgoing.{receive, behind, offered, judged_turn, turns, is_free, handed_over, delivered_notes}
+use Rattle.sng_history.specs.Outgoing.{receive, behind, offered, judged_turn, turns, is_free, handed_over}
+use Rattle.sng_history.specs.Outgoing.{delivered_notes}
 use Rattle.sng_history.specs.Lawful.{refused_end, fixed_for}
 use Rattle.sng_history.specs.ViewsClients.{phase_of}
 use Rattle.sng_history.specs.ViewsStanding.{standing_of}
-use Rattle.sng_history.specs.ViewsHanding.{message_sent, is_at_least_once, is_matched, is_matched_at_one, qos_due, meant_for, meant_in}
+use Rattle.sng_history.specs.ViewsHanding.{message_sent}
+use Rattle.sng_history.specs.ViewsHanding.{meant_in}
 use Rattle.sng_history.specs.ViewsHanding.{is_refused_at_once, hand_of, hands_in, is_turned_back, due_of}
-use Rattle.sng_history.proofs.Takes.{awaiting_same}
 use Rattle.sng_history.proofs.Own.{same_self}
 use Rattle.sng_history.proofs.SeenHanding.{never_refused}
 use Rattle.sng_history.proofs.SeenProgress.{refused_rule, due_by, due_with, due_after}
-
--- ---- which message is due
-
--- the greatest QoS of some filters, where there are any
-abbrev greatest_of : Bool → Bool → Option Qos
-greatest_of any at_one = if any then Some (if at_one then AtLeastOnce else AtMostOnce) else None
-
-abbrev is_one : Option Qos → Bool
-is_one None = false
-is_one (Some q) = is_at_least_once q
-
-greatest_so : (g : Option Qos) → g ≡ greatest_of (is_some g || false) (is_one g || false)
-greatest_so None = refl
-greatest_so (Some AtMostOnce) = refl
-greatest_so (Some AtLeastOnce) = refl
-
-raised_any : (g : Option Qos) (q : Qos) (b any : Bool)
-    → (is_some (let o : Option Qos = if b then Some (raised g q) else g in o) || any) ≡ (is_some g || (b || any))
-raised_any None q true any = refl
-raised_any (Some r) q true any = refl
-raised_any g q false any = refl
-
-raised_one : (g : Option Qos) (q : Qos) (b one : Bool)
-    → (is_one (let o : Option Qos = if b then Some (raised g q) else g in o) || one) ≡ (is_one g || ((b && is_at_least_once q) || one))
-raised_one None q true one = refl
-raised_one (Some AtMostOnce) q true one = refl
-raised_one (Some AtLeastOnce) q true one = refl
-raised_one g q false one = refl
-
-greatest_by : (g : Option Qos) (held : List Held) (name : List ℕ)
-    → greatest_from g held name ≡ greatest_of (is_some g || is_matched held name) (is_one g || is_matched_at_one held name)
-greatest_by g [] name = greatest_so g
-greatest_by g (h ∷ held) name =
-    let b = matches h.filter name in
-    greatest_by (if b then Some (raised g h.qos) else g) held name
-    ∙
-    (ap (λ any. greatest_of any (is_one (let o : Option Qos = if b then Some (raised g h.qos) else g in o) || is_matched_at_one held name))
-    (raised_any g h.qos b (is_matched held name))
-    ∙ ap (greatest_of (is_some g || (b || is_matched held name))) (raised_one g h.qos b (is_matched_at_one held name)))
-
--- it is due at the lesser of its QoS and the greatest that is granted
-granted_by : (p : Publish) (held : List Held) (owes : Option ℕ) (any at_one : Bool) → p.packet_id ≡ owes
-    → is_matched_at_one held p.name ≡ at_one
-    → granted_at p (greatest_of any at_one) ≡ (if any then Some (message p.name p.payload (qos_due held owes p.name) p.retain) else None)
-granted_by p held owes false at_one is one = refl
-granted_by p held None true at_one is one = rw is refl
-granted_by p held (Some packet_id) true true is one = rw (is, one) refl
-granted_by p held (Some packet_id) true false is one = rw (is, one) refl
-
-granted_same : (p : Publish) (held : List Held)
-    → granted_at p (greatest_qos held p.name)
-    ≡ (if is_matched held p.name then Some (message p.name p.payload (qos_due held p.packet_id p.name) p.retain) else None)
-granted_same p held =
-    ap (granted_at p) (greatest_by None held p.name)
-    ∙ granted_by p held p.packet_id (is_matched held p.name) (is_matched_at_one held p.name) refl refl
-
-both_if : (n d any : Bool) (m : Message)
-    → (let o : Option Message = if n && d then (if any then Some m else None) else None in o) ≡ (if n && (d && any) then Some m else None)
-both_if true true any m = refl
-both_if true false any m = refl
-both_if false d any m = refl
-
-pub due_meant : (h : List Row) (x : Client) (p : Publish) → phase_of x.id h ≡ Some x.phase → x.filters ≡ standing_of x.id h
-    → meant_for x.id p h ≡ due_to p x.phase x.filters
-due_meant h x p phase filters =
-    sym (ap (λ o. if is_name p.name && is_due_messages x.phase then o else None) (granted_same p x.filters)
-    ∙
-    (both_if (is_name p.name) (is_due_messages x.phase) (is_matched x.filters p.name)
-    (message p.name p.payload (qos_due x.filters p.packet_id p.name) p.retain)
-    ∙ (rw (phase, awaiting_same x.phase, filters) refl)))
+use Rattle.sng_history.proofs.SeenGrants.{due_meant}
 
 -- ---- which is refused in its own row
 
@@ -153,45 +80,55 @@ outs_back : (id : List ℕ) (outs : List Out) → is_turned_back id outs ≡ is_
 outs_back id [] = refl
 outs_back id (Note said ∷ outs) =
     list_any-append (λ hand. is_refused_at_once hand.1) (hand_of id said) (hands_in id outs)
-    ∙ (ap (λ b. note_back id said || b) (outs_back id outs) ∙ note_backs id said (notes_of id outs) (is_of id said) refl)
+    ∙ (ap (λ b. note_back id said || b) (outs_back id outs)
+    ∙ note_backs id said (notes_of id outs) (is_of id said) refl)
 outs_back id (Send to datagram ∷ outs) = outs_back id outs
 outs_back id (Wire packet ∷ outs) = outs_back id outs
 
 back_append : (id : List ℕ) (xs ys : List Decision) → is_back id (xs ++ ys) ≡ (is_back id xs || is_back id ys)
 back_append id [] ys = refl
 back_append id (said ∷ xs) ys =
-    ap (λ b. note_back id said || b) (back_append id xs ys) ∙ or_first (note_back id said) (is_back id xs) (is_back id ys)
+    ap (λ b. note_back id said || b) (back_append id xs ys)
+    ∙ or_first (note_back id said) (is_back id xs) (is_back id ys)
   where
     or_first : (a b c : Bool) → (a || (b || c)) ≡ ((a || b) || c)
     or_first true b c = refl
     or_first false b c = refl
 
 -- what is judged as its turn comes waited
-hand_waits : (id name : List ℕ) (o : Outcome) (notes : List Decision) → is_refused_at_once o ≡ false → is_back id notes ≡ false
+hand_waits : (id name : List ℕ) (o : Outcome) (notes : List Decision) → is_refused_at_once o ≡ false
+    → is_back id notes ≡ false
     → is_back id (note.Hand id name o ∷ notes) ≡ false
 hand_waits id name o notes waits rest = rw (same_self id, waits) rest
 
-behind_waits : (id : List ℕ) (q : Qos) (more : List Decision) → is_back id more ≡ false → is_back id (behind q more) ≡ false
+behind_waits : (id : List ℕ) (q : Qos) (more : List Decision) → is_back id more ≡ false
+    → is_back id (behind q more) ≡ false
 behind_waits id AtMostOnce more rest = rest
 behind_waits id AtLeastOnce more rest = refl
 
-offered_waits : (id : List ℕ) (m : Message) (known full : Bool) (more : List Decision) → is_back id more ≡ false
+offered_waits : (id : List ℕ) (m : Message) (known full : Bool) (more : List Decision)
+    → is_back id more ≡ false
     → is_back id (offered id m known full more) ≡ false
-offered_waits id m true full more rest = hand_waits id m.name Allowed (behind m.qos more) refl (behind_waits id m.qos more rest)
+offered_waits id m true full more rest =
+    hand_waits id m.name Allowed (behind m.qos more) refl (behind_waits id m.qos more rest)
 offered_waits id m false true more rest = hand_waits id m.name (Denied (Full place.Ids)) more refl rest
 offered_waits id m false false more rest = refl
 
-judged_waits : (policy : Policy) (id : List ℕ) (ids : Ids) (m : Message) (o : Outcome) (more : List Decision) → is_refused_at_once o ≡ false
+judged_waits : (policy : Policy) (id : List ℕ) (ids : Ids) (m : Message) (o : Outcome) (more : List Decision)
+    → is_refused_at_once o ≡ false
     → is_back id more ≡ false
     → is_back id (judged_turn policy id ids m o more) ≡ false
 judged_waits policy id ids m Allowed more waits rest =
     offered_waits id m (is_some (known_as policy ids m.name)) (is_full_for m.name ids) more rest
-judged_waits policy id ids m (Denied rule) more waits rest = hand_waits id m.name (Denied rule) more waits rest
+judged_waits policy id ids m (Denied rule) more waits rest =
+    hand_waits id m.name (Denied rule) more waits rest
 
-turns_wait : (policy : Policy) (id : List ℕ) (ids : Ids) (waiting : List Message) → is_back id (turns policy id ids waiting) ≡ false
+turns_wait : (policy : Policy) (id : List ℕ) (ids : Ids) (waiting : List Message)
+    → is_back id (turns policy id ids waiting) ≡ false
 turns_wait policy id ids [] = refl
 turns_wait policy id ids (m ∷ more) =
-    judged_waits policy id ids m (receive policy id m.name) (turns policy id ids more) (never_refused policy id m.name)
+    judged_waits policy id ids m (receive policy id m.name) (turns policy id ids more)
+    (never_refused policy id m.name)
     (turns_wait policy id ids more)
 
 handed_wait : (policy : Policy) (x : Client) → is_back x.id (handed_over policy x) ≡ false
@@ -205,7 +142,8 @@ end_back : (x : Client) (f : Option (List ℕ)) → is_back x.id (refused_end x 
 end_back x None = refl
 end_back x (Some text) = by_holding (holds text x)
   where
-    by_holding : (b : Bool) → is_back x.id (if b then note.End x.id text (Denied BrokerRefused) ∷ [] else []) ≡ false
+    by_holding : (b : Bool) → is_back x.id (if b then note.End x.id text (Denied BrokerRefused) ∷ [] else [])
+        ≡ false
     by_holding true = refl
     by_holding false = refl
 
@@ -213,7 +151,8 @@ abbrev is_denied : Outcome → Bool
 is_denied Allowed = false
 is_denied (Denied rule) = true
 
-away_back : (id : List ℕ) (b : Buffer) (m : Message) (o : Outcome) → arrival b m ≡ o → is_back id (turned_away_by id m.name o) ≡ is_denied o
+away_back : (id : List ℕ) (b : Buffer) (m : Message) (o : Outcome) → arrival b m ≡ o
+    → is_back id (turned_away_by id m.name o) ≡ is_denied o
 away_back id b m Allowed is = refl
 away_back id b m (Denied rule) is = rw (same_self id, refused_rule b m rule is) refl
 
@@ -245,11 +184,13 @@ if_none : (b : Bool) → (let all : List Message = if b then [] else [] in all) 
 if_none true = refl
 if_none false = refl
 
-due_more : (due : List Message) (m : Message) (o : Outcome) → due ++ (if is_denied o then [] else m ∷ []) ≡ due_by o m due
+due_more : (due : List Message) (m : Message) (o : Outcome)
+    → due ++ (if is_denied o then [] else m ∷ []) ≡ due_by o m due
 due_more due m Allowed = refl
 due_more due m (Denied rule) = append-nil due
 
-due_all : (due : List Message) (m : Option Message) (b : Buffer) → due ++ (if is_away m b then [] else option_to_list m) ≡ due_with m b due
+due_all : (due : List Message) (m : Option Message) (b : Buffer)
+    → due ++ (if is_away m b then [] else option_to_list m) ≡ due_with m b due
 due_all due None b = append-nil due
 due_all due (Some m) b = due_more due m (arrival b m)
 
@@ -276,16 +217,19 @@ datagram_due from (Ok (frame.Disconnect duration)) x due = disconnect_due from d
 datagram_due from (Ok message) x due = refl
 datagram_due from (Err broke) x due = refl
 
-codes_due : (packet_id : ℕ) (codes : List SubscribeCode) (x : Client) → message_due (subscribe_answer packet_id codes) x ≡ None
+codes_due : (packet_id : ℕ) (codes : List SubscribeCode) (x : Client)
+    → message_due (subscribe_answer packet_id codes) x ≡ None
 codes_due packet_id [] x = refl
 codes_due packet_id (code.Refused ∷ codes) x = refl
 codes_due packet_id (code.Granted qos ∷ codes) x = refl
 
 -- what a packet brings is the message that is due
-brought_due : (h : List Row) (x : Client) (packet : Packet) → phase_of x.id h ≡ Some x.phase → x.filters ≡ standing_of x.id h
+brought_due : (h : List Row) (x : Client) (packet : Packet) → phase_of x.id h ≡ Some x.phase
+    → x.filters ≡ standing_of x.id h
     → meant_in x.id (message_sent packet) h ≡ option_to_list (message_due (answer_of packet) x)
 brought_due h x (packet.Publish p) phase filters = ap (λ m. option_to_list m) (due_meant h x p phase filters)
-brought_due h x (packet.SubscribeAck answer) phase filters = ap (λ m. option_to_list m) (sym (codes_due answer.packet_id answer.codes x))
+brought_due h x (packet.SubscribeAck answer) phase filters =
+    ap (λ m. option_to_list m) (sym (codes_due answer.packet_id answer.codes x))
 brought_due h x (packet.PublishAck packet_id) phase filters = refl
 brought_due h x (packet.UnsubscribeAck packet_id) phase filters = refl
 brought_due h x packet.PingResponse phase filters = refl
@@ -297,22 +241,27 @@ brought_due h x packet.PingRequest phase filters = refl
 brought_due h x packet.Disconnect phase filters = refl
 
 -- a datagram brings none
-pub datagram_brings : (by : ℕ) (h : List Row) (from : Address) (datagram : List ℕ) (outs : List Out) (id : List ℕ)
+pub datagram_brings : (by : ℕ) (h : List Row) (from : Address) (datagram : List ℕ) (outs : List Out)
+    (id : List ℕ)
     → due_of id (record { by = by; event = Datagram from datagram; outs = outs } ∷ h) ≡ due_of id h
 datagram_brings by h from datagram outs id = none_due (due_of id h) (is_turned_back id outs)
 
-pub due_row : (by : ℕ) (h : List Row) (s : State) (e : Event) (outs : List Out) (x : Client) → phase_of x.id h ≡ Some x.phase
+pub due_row : (by : ℕ) (h : List Row) (s : State) (e : Event) (outs : List Out) (x : Client)
+    → phase_of x.id h ≡ Some x.phase
     → x.filters ≡ standing_of x.id h
     → notes_of x.id outs ≡ fixed_for s (cause_of e) x
     → due_of x.id (record { by = by; event = e; outs = outs } ∷ h) ≡ due_after (cause_of e) x (due_of x.id h)
 due_row by h s (Datagram from datagram) outs x phase filters own =
-    none_due (due_of x.id h) (is_turned_back x.id outs) ∙ sym (datagram_due from (frame_of datagram) x (due_of x.id h))
+    none_due (due_of x.id h) (is_turned_back x.id outs)
+    ∙ sym (datagram_due from (frame_of datagram) x (due_of x.id h))
 due_row by h s (Broker packet) outs x phase filters own =
     let m = message_due (answer_of packet) x in
     let back : is_turned_back x.id outs ≡ is_away m x.buffer =
-    outs_back x.id outs ∙ (ap (is_back x.id) own ∙ packet_back s.policy x (refused_filter s.link (answer_of packet)) m) in
+    outs_back x.id outs ∙ (ap (is_back x.id) own
+    ∙ packet_back s.policy x (refused_filter s.link (answer_of packet)) m) in
     ap (λ b. due_of x.id h ++ (if b then [] else meant_in x.id (message_sent packet) h)) back
-    ∙ (ap (λ more. due_of x.id h ++ (if is_away m x.buffer then [] else more)) (brought_due h x packet phase filters)
+    ∙ (ap (λ more. due_of x.id h ++ (if is_away m x.buffer then [] else more))
+    (brought_due h x packet phase filters)
     ∙ due_all (due_of x.id h) m x.buffer)
 due_row by h s Up outs x phase filters own = none_due (due_of x.id h) (is_turned_back x.id outs)
 due_row by h s Down outs x phase filters own = none_due (due_of x.id h) (is_turned_back x.id outs)

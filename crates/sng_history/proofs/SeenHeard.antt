@@ -1,5 +1,6 @@
--- One client that is heard, that leaves, or that is lost: what is kept of it moves as what the rows show of it.
-use Rattle.std.proofs.Common.{◌≡◌, ℕ, Bool, true, false, List, [], ◌∷◌, ◌++◌, refl, sym, ◌∙◌, if◌then◌else◌, subst}
+-- One client that is heard: what is kept of it moves as what the rows show of it.
+use Rattle.std.proofs.Common.{◌≡◌, ℕ, Bool, true, false, List, [], ◌∷◌, ◌++◌, refl, sym, ◌∙◌, if◌then◌else◌}
+use Rattle.std.proofs.Common.{subst}
 use Rattle.std.specs.Prelude.{◌==◌, Option, Some, None}
 use Rattle.sng_grants.specs.declared.policy.Policy.{Policy}
 use Rattle.sng_frames.specs.declared.messages.publish.Publish.{Publish}
@@ -9,35 +10,30 @@ use Rattle.sng_frames.specs.declared.messages.acks.TopicAck.{TopicAck}
 use Rattle.sng_book.specs.declared.address.Address.{Address}
 use Rattle.sng_book.specs.declared.decision.Decision.{Decision}
 use Rattle.sng_book.specs.declared.decision.Decision.TheVariants as note
-use Rattle.sng_book.specs.declared.decision.Who.{Who}
 use Rattle.sng_book.specs.declared.decision.Who.TheVariants as who
-use Rattle.sng_book.specs.declared.outcome.Denial.{Denial}
 use Rattle.sng_book.specs.declared.outcome.Outcome.{Outcome}
 use Rattle.sng_book.specs.declared.outcome.Outcome.TheVariants.{Allowed, Denied}
 use Rattle.sng_history.specs.Causes.{ByMessage, ToPing}
-use Rattle.sng_history.specs.Clients.{Client, Around, is_confirming, is_acknowledging, closed, confirmed_with, gone, lost, subscribed}
-use Rattle.sng_history.specs.Clients.{unsubscribed, subscribe_of, note_by, notes_by, awake, asleep, is_waking, repeated, is_here}
-use Rattle.sng_history.specs.Links.{Link}
-use Rattle.sng_history.specs.Losing.{before, unplaced, will_dropped, lost_notes, tick_notes, again_notes}
-use Rattle.sng_history.specs.Room.{room_in}
-use Rattle.sng_history.specs.Ticking.{will_of, testaments, all_placed, is_lost_at}
-use Rattle.sng_outbox.specs.declared.item.Publication.{Publication}
-use Rattle.sng_history.specs.Outgoing.{out_of_turn, all_gone, handed_over}
+use Rattle.sng_history.specs.Clients.{Client, Around, is_confirming, is_acknowledging, closed, confirmed_with}
+use Rattle.sng_history.specs.Clients.{subscribed}
+use Rattle.sng_history.specs.Clients.{unsubscribed, subscribe_of, note_by, notes_by, awake, asleep, is_waking}
+use Rattle.sng_history.specs.Clients.{is_here}
+use Rattle.sng_history.specs.Outgoing.{out_of_turn, handed_over}
 use Rattle.sng_history.specs.State.{State}
-use Rattle.sng_history.specs.Verdicts.{register_ask, publish_ask, subscribe_ask, unsubscribe_ask, ping_verdict}
+use Rattle.sng_history.specs.Verdicts.{register_ask, publish_ask, subscribe_ask, unsubscribe_ask}
+use Rattle.sng_history.specs.Verdicts.{ping_verdict}
 use Rattle.sng_history.specs.Lawful.{confirmations, denial_of, woken_notes}
 use Rattle.sng_history.specs.ViewsMessages.{Message as Spoken}
-use Rattle.sng_history.specs.ViewsClients.{phase_by}
-use Rattle.sng_history.proofs.Own.{same_self}
 use Rattle.sng_history.proofs.Asks.{of_register, of_publish, of_subscribe, of_unsubscribe}
-use Rattle.sng_history.proofs.Hands.{Every, every_append, every_handed, every_gone, every_confirmation, every_woken}
+use Rattle.sng_history.proofs.Hands.{Every, every_append, every_handed, every_confirmation}
+use Rattle.sng_history.proofs.Hands.{every_woken}
 use Rattle.sng_states.specs.States.{is_due_messages}
-use Rattle.sng_history.proofs.Statements.{every_again}
-use Rattle.sng_history.proofs.SeenClients.{Before, Shows, kept_of, moved_to, heard_if, idle_will, Alike, shows_alike, alike_self}
-use Rattle.sng_history.proofs.SeenClients.{alike_on, alike_subscribed, alike_unsubscribed, alike_if, Ends, Unseen, ends_each}
-use Rattle.sng_history.proofs.SeenClients.{unseen_messages, ends_show}
-
--- ---- it is heard, and its notes move nothing of this
+use Rattle.sng_history.proofs.SeenClients.{Shows, kept_of, moved_to, heard_if}
+use Rattle.sng_history.proofs.SeenUnmoved.{Alike}
+use Rattle.sng_history.proofs.SeenUnmoved.{shows_alike, alike_self}
+use Rattle.sng_history.proofs.SeenUnmoved.{alike_on, alike_subscribed, alike_unsubscribed, alike_if, Ends}
+use Rattle.sng_history.proofs.SeenUnmoved.{Unseen, ends_each}
+use Rattle.sng_history.proofs.SeenUnmoved.{unseen_messages}
 
 heard_shows : (a : Around) (x y : Client) (m : Option Spoken) (from : Option Address) (n : List Decision)
     → Alike (heard_if true a.clock x) y → Ends x.id a y n
@@ -53,16 +49,20 @@ alike_closed x = record { phase = refl; address = refl; duration = refl; heard =
 alike_confirmed : (r : TopicAck) (x : Client) → Alike x (confirmed_with r x)
 alike_confirmed r x =
     let y : Client = record (closed x) { ids = confirmed r.topic_id x.ids } in
-    alike_if (r.code.0 == 0) x y x (record { phase = refl; address = refl; duration = refl; heard = refl }) (alike_self x)
+    alike_if (r.code.0 == 0) x y x (record { phase = refl; address = refl; duration = refl; heard = refl })
+    (alike_self x)
 
 -- a REGACK or PUBACK that has its turn, or not
 answered_ends : (a : Around) (x y : Client) (notes : List Decision) (b : Bool) → Every (Unseen a) notes
     → Ends x.id a y (if b then notes else out_of_turn x.id)
 answered_ends a x y notes true every = ends_each x.id a notes y every
-answered_ends a x y notes false every = record { phase = λ m before. refl; admits = refl; alike = alike_self y }
+answered_ends a x y notes false every =
+    record { phase = λ m before. refl; admits = refl; alike = alike_self y }
 
-pub confirm_shows : (a : Around) (policy : Policy) (x : Client) (m : Option Spoken) (from : Option Address) (r : TopicAck) (here : Bool)
-    → let n = if here then (if is_confirming r x then confirmations policy r x else out_of_turn x.id) else [] in
+pub confirm_shows : (a : Around) (policy : Policy) (x : Client) (m : Option Spoken) (from : Option Address)
+    (r : TopicAck) (here : Bool)
+    → let n =
+    if here then (if is_confirming r x then confirmations policy r x else out_of_turn x.id) else [] in
     let y : Client = record x { heard = a.clock } in
     Shows x.id (kept_of x m from None a.clock here) n
     (notes_by a n (if here then (if is_confirming r x then confirmed_with r y else y) else x))
@@ -71,17 +71,23 @@ confirm_shows a policy x m from r true =
     let z : Client = if is_confirming r x then confirmed_with r y else y in
     heard_shows a x z m from (if is_confirming r x then confirmations policy r x else out_of_turn x.id)
     (alike_if (is_confirming r x) y (confirmed_with r y) y (alike_confirmed r y) (alike_self y))
-    (answered_ends a x z (confirmations policy r x) (is_confirming r x) (every_confirmation (Unseen a) policy r x (unseen_messages a x.id)))
+    (answered_ends a x z (confirmations policy r x) (is_confirming r x)
+    (every_confirmation (Unseen a) policy r x (unseen_messages a x.id)))
 confirm_shows a policy x m from r false = (refl, refl, refl, refl)
 
-pub acknowledge_shows : (a : Around) (policy : Policy) (x : Client) (m : Option Spoken) (from : Option Address) (r : TopicAck) (here : Bool)
-    → let n = if here then (if is_acknowledging r x then handed_over policy (closed x) else out_of_turn x.id) else [] in
+pub acknowledge_shows : (a : Around) (policy : Policy) (x : Client) (m : Option Spoken)
+    (from : Option Address) (r : TopicAck) (here : Bool)
+    → let n =
+    if here then (if is_acknowledging r x then handed_over policy (closed x) else out_of_turn x.id)
+    else [] in
     let y : Client = record x { heard = a.clock } in
-    Shows x.id (kept_of x m from None a.clock here) n (notes_by a n (if here then (if is_acknowledging r x then closed y else y) else x))
+    Shows x.id (kept_of x m from None a.clock here) n
+    (notes_by a n (if here then (if is_acknowledging r x then closed y else y) else x))
 acknowledge_shows a policy x m from r true =
     let y : Client = record x { heard = a.clock } in
     let z : Client = if is_acknowledging r x then closed y else y in
-    heard_shows a x z m from (if is_acknowledging r x then handed_over policy (closed x) else out_of_turn x.id)
+    heard_shows a x z m from (if is_acknowledging r x then handed_over policy (closed x)
+    else out_of_turn x.id)
     (alike_if (is_acknowledging r x) y (closed y) y (alike_closed y) (alike_self y))
     (answered_ends a x z (handed_over policy (closed x)) (is_acknowledging r x)
     (every_handed (Unseen a) policy (closed x) (unseen_messages a x.id)))
@@ -106,7 +112,8 @@ woken_id : (x : Client) (b : Bool) → (let y : Client = if b then awake x else 
 woken_id x true = refl
 woken_id x false = refl
 
-pub ping_shows : (a : Around) (policy : Policy) (x : Client) (m : Option Spoken) (from : Option Address) (client : Option (List ℕ))
+pub ping_shows : (a : Around) (policy : Policy) (x : Client) (m : Option Spoken) (from : Option Address)
+    (client : Option (List ℕ))
     (here : Bool)
     → let n = if here then denial_of x.id (ping_verdict client x) ++ woken_notes policy client x else [] in
     let y : Client = record x { heard = a.clock } in
@@ -114,23 +121,28 @@ pub ping_shows : (a : Around) (policy : Policy) (x : Client) (m : Option Spoken)
     (notes_by a n (if here then (if is_waking client x then awake y else y) else x))
 ping_shows a policy x m from client true =
     let z = woken_if client x in
-    let y : Client = if is_waking client x then awake (record x { heard = a.clock }) else record x { heard = a.clock } in
+    let y : Client =
+    if is_waking client x then awake (record x { heard = a.clock }) else record x { heard = a.clock } in
     let n = denial_of x.id (ping_verdict client x) ++ woken_notes policy client x in
     let ends = ends_each x.id a n y
     (every_append (Unseen a) (denial_of x.id (ping_verdict client x)) (woken_notes policy client x)
     (denial_unseen a x.id (ping_verdict client x))
     (every_woken (Unseen a) policy client x (unseen_messages a x.id))) in
-    subst (λ id. Shows id (kept_of z m from None a.clock true) n (notes_by a n y)) (woken_id x (is_waking client x))
+    subst (λ id. Shows id (kept_of z m from None a.clock true) n (notes_by a n y))
+    (woken_id x (is_waking client x))
     (heard_shows a z y m from n (woken_alike a.clock x (is_waking client x))
     (subst (λ id. Ends id a y n) (sym (woken_id x (is_waking client x))) ends))
 ping_shows a policy x m from client false = (refl, refl, refl, refl)
 
 -- nothing behind it moves its state
-pub ping_phase : (s : State) (from : Address) (client : Option (List ℕ)) (x : Client) (here : Bool) → is_here x from ≡ here
-    → (moved_to s (ByMessage from (ToPing client)) x).phase ≡ (let y : Client = if here then woken_if client x else x in y).phase
+pub ping_phase : (s : State) (from : Address) (client : Option (List ℕ)) (x : Client) (here : Bool)
+    → is_here x from ≡ here
+    → (moved_to s (ByMessage from (ToPing client)) x).phase
+    ≡ (let y : Client = if here then woken_if client x else x in y).phase
 ping_phase s from client x true is =
     let a : Around = record { policy = s.policy; clock = s.clock; cause = ByMessage from (ToPing client) } in
-    let y : Client = if is_waking client x then awake (record x { heard = s.clock }) else record x { heard = s.clock } in
+    let y : Client =
+    if is_waking client x then awake (record x { heard = s.clock }) else record x { heard = s.clock } in
     let n = denial_of x.id (ping_verdict client x) ++ woken_notes s.policy client x in
     rw is
     ((ends_each x.id a n y
@@ -140,7 +152,8 @@ ping_phase s from client x true is =
     ∙ by_waking (is_waking client x))
   where
     by_waking : (b : Bool)
-        → (let y : Client = if b then awake (record x { heard = s.clock }) else record x { heard = s.clock } in y).phase ≡
+        → (let y : Client = if b then awake (record x { heard = s.clock })
+        else record x { heard = s.clock } in y).phase ≡
         (let z : Client = if b then awake x else x in z).phase
     by_waking true = refl
     by_waking false = refl
@@ -153,11 +166,13 @@ asleep_if duration x = if is_due_messages x.phase then asleep duration x else x
 sleeps_by : (a : Around) (x : Client) (m : Option Spoken) (from : Option Address) (duration : ℕ) (b : Bool)
     → let n = if b then [] else out_of_turn x.id in
     let y : Client = record x { heard = a.clock } in
-    Shows x.id (kept_of (if b then asleep duration x else x) m from None a.clock true) n (notes_by a n (if b then asleep duration y else y))
+    Shows x.id (kept_of (if b then asleep duration x else x) m from None a.clock true) n
+    (notes_by a n (if b then asleep duration y else y))
 sleeps_by a x m from duration true = (refl, refl, refl, refl)
 sleeps_by a x m from duration false = (refl, refl, refl, refl)
 
-pub sleep_shows : (a : Around) (x : Client) (m : Option Spoken) (from : Option Address) (duration : ℕ) (here : Bool)
+pub sleep_shows : (a : Around) (x : Client) (m : Option Spoken) (from : Option Address) (duration : ℕ)
+    (here : Bool)
     → let n = if here then (if is_due_messages x.phase then [] else out_of_turn x.id) else [] in
     let y : Client = record x { heard = a.clock } in
     Shows x.id (kept_of (if here then asleep_if duration x else x) m from None a.clock here) n
@@ -166,109 +181,49 @@ sleep_shows a x m from duration true = sleeps_by a x m from duration (is_due_mes
 sleep_shows a x m from duration false = (refl, refl, refl, refl)
 
 -- what it asks for is noted, and moves nothing of this
-pub subscribe_shows : (a : Around) (s : State) (x : Client) (m : Option Spoken) (from : Option Address) (r : TopicRequest) (here : Bool)
+pub subscribe_shows : (a : Around) (s : State) (x : Client) (m : Option Spoken) (from : Option Address)
+    (r : TopicRequest) (here : Bool)
     → let n = if here then subscribe_ask s x r ∷ [] else [] in
     Shows x.id (kept_of x m from None a.clock here) n (notes_by a n (heard_if here a.clock x))
 subscribe_shows a s x m from r true =
-    of_subscribe (λ said. Shows x.id (kept_of x m from None a.clock true) (said ∷ []) (note_by a said (heard_if true a.clock x))) s x r
+    of_subscribe (λ said. Shows x.id (kept_of x m from None a.clock true) (said ∷ [])
+    (note_by a said (heard_if true a.clock x))) s x r
     (λ filter o. let y = heard_if true a.clock x in shows_alike x.id (kept_of x m from None a.clock true)
     (note.Subscribe (who.Client x.id) filter o ∷ []) y (subscribed (subscribe_of a.cause) filter o y)
     (alike_subscribed (subscribe_of a.cause) filter o y) (refl, refl, refl, refl))
 subscribe_shows a s x m from r false = (refl, refl, refl, refl)
 
-pub unsubscribe_shows : (a : Around) (policy : Policy) (x : Client) (m : Option Spoken) (from : Option Address) (r : TopicRequest)
+pub unsubscribe_shows : (a : Around) (policy : Policy) (x : Client) (m : Option Spoken)
+    (from : Option Address) (r : TopicRequest)
     (here : Bool)
     → let n = if here then unsubscribe_ask policy x r ∷ [] else [] in
     Shows x.id (kept_of x m from None a.clock here) n (notes_by a n (heard_if here a.clock x))
 unsubscribe_shows a policy x m from r true =
     of_unsubscribe
-    (λ said. Shows x.id (kept_of x m from None a.clock true) (said ∷ []) (note_by a said (heard_if true a.clock x))) policy x r
+    (λ said. Shows x.id (kept_of x m from None a.clock true) (said ∷ [])
+    (note_by a said (heard_if true a.clock x))) policy x r
     (λ filter o. let y = heard_if true a.clock x in shows_alike x.id (kept_of x m from None a.clock true)
-    (note.Unsubscribe (who.Client x.id) filter o ∷ []) y (unsubscribed filter o y) (alike_unsubscribed filter o y) (refl, refl, refl, refl))
+    (note.Unsubscribe (who.Client x.id) filter o ∷ []) y (unsubscribed filter o y)
+    (alike_unsubscribed filter o y) (refl, refl, refl, refl))
 unsubscribe_shows a policy x m from r false = (refl, refl, refl, refl)
 
-pub register_shows : (a : Around) (policy : Policy) (x : Client) (m : Option Spoken) (from : Option Address) (text : List ℕ) (here : Bool)
+pub register_shows : (a : Around) (policy : Policy) (x : Client) (m : Option Spoken) (from : Option Address)
+    (text : List ℕ) (here : Bool)
     → let n = if here then register_ask policy x text ∷ [] else [] in
     Shows x.id (kept_of x m from None a.clock here) n (notes_by a n (heard_if here a.clock x))
 register_shows a policy x m from text true =
     of_register
-    (λ said. Shows x.id (kept_of x m from None a.clock true) (said ∷ []) (note_by a said (heard_if true a.clock x))) policy x text
+    (λ said. Shows x.id (kept_of x m from None a.clock true) (said ∷ [])
+    (note_by a said (heard_if true a.clock x))) policy x text
     (λ name o. (refl, refl, refl, refl))
 register_shows a policy x m from text false = (refl, refl, refl, refl)
 
-pub asked_shows : (a : Around) (s : State) (x : Client) (m : Option Spoken) (from : Option Address) (p : Publish) (here : Bool)
+pub asked_shows : (a : Around) (s : State) (x : Client) (m : Option Spoken) (from : Option Address)
+    (p : Publish) (here : Bool)
     → let n = if here then publish_ask s x p ∷ [] else [] in
     Shows x.id (kept_of x m from None a.clock here) n (notes_by a n (heard_if here a.clock x))
 asked_shows a s x m from p true =
-    of_publish (λ said. Shows x.id (kept_of x m from None a.clock true) (said ∷ []) (note_by a said (heard_if true a.clock x))) s x p
+    of_publish (λ said. Shows x.id (kept_of x m from None a.clock true) (said ∷ [])
+    (note_by a said (heard_if true a.clock x))) s x p
     (λ name o. (refl, refl, refl, refl))
 asked_shows a s x m from p false = (refl, refl, refl, refl)
-
--- ---- it leaves, or is let in
-
--- behind a note come others that move nothing of this
-pub shows_more : (id : List ℕ) (b : Before) (a : Around) (said : Decision) (more : List Decision) (y : Client) → Shows id b (said ∷ []) y
-    → Ends id a y more
-    → Shows id b (said ∷ more) (notes_by a more y)
-shows_more id b a said more y one ends =
-    shows_alike id b (said ∷ more) y (notes_by a more y) ends.alike
-    (rw (ends.phase b.message (phase_by b.message id said b.phase), ends.admits) one)
-
--- a will finds no place
-will_unseen : (a : Around) (whom : Who) (name : Option (List ℕ)) (rule : Denial) → Unseen a (note.Will whom name (Denied rule))
-will_unseen a whom name rule =
-    let is = idle_will a whom name rule in
-    record {
-      phase = is.phase;
-      admits = is.admits;
-      alike = λ x. subst (Alike x) (sym (is.same x)) (alike_self x);
-    }
-
-unplaced_unseen : (a : Around) (id : List ℕ) (p : Publication) (o : Outcome) → Every (Unseen a) (unplaced id p o)
-unplaced_unseen a id p Allowed = tt
-unplaced_unseen a id p (Denied rule) = (will_unseen a (who.Client id) (Some p.name) rule, tt)
-
-dropped_unseen : (a : Around) (link : Link) (id : List ℕ) (ps : List Publication) → Every (Unseen a) (will_dropped link id ps)
-dropped_unseen a link id [] = tt
-dropped_unseen a link id (p ∷ ps) = unplaced_unseen a id p (room_in link p.qos)
-
--- what is open is sent again
-alike_repeated : (clock : ℕ) (o : Outcome) (x : Client) → Alike x (repeated clock o x)
-alike_repeated clock Allowed x = record { phase = refl; address = refl; duration = refl; heard = refl }
-alike_repeated clock (Denied rule) x = record { phase = refl; address = refl; duration = refl; heard = refl }
-
-again_unseen : (a : Around) (client name : List ℕ) (o : Outcome) → Unseen a (note.Retry client name o)
-again_unseen a client name o = record { phase = λ m id before. refl; admits = λ id. refl; alike = λ x. alike_repeated a.clock o x }
-
--- a client that is lost
-pub tick_shows : (a : Around) (policy : Policy) (link : Link) (clock now : ℕ) (xs : List Client) (x : Client) (m : Option Spoken)
-    → let n = tick_notes policy link clock xs x in
-    Shows x.id (kept_of x m None None now false) n (notes_by a n x)
-tick_shows a policy link clock now xs x m = by_overdue (is_lost_at clock x)
-  where
-    by_overdue : (b : Bool)
-        → let n = if b then lost_notes (all_placed link (testaments clock (before x.id xs))) x else again_notes policy clock x in
-        Shows x.id (kept_of x m None None now false) n (notes_by a n x)
-    by_overdue true =
-        let gone = all_gone x.id x.buffer.waiting in
-        let left = all_placed link (testaments clock (before x.id xs)) in
-        let dropped = will_dropped left x.id (will_of x.id x.wills.will) in
-        shows_more x.id (kept_of x m None None now false) a (note.Lost x.id) (gone ++ dropped) (lost x)
-        (rw (same_self x.id) (refl, refl, refl, refl))
-        (ends_each x.id a (gone ++ dropped) (lost x)
-        (every_append (Unseen a) gone dropped (every_gone (Unseen a) x.id x.buffer.waiting (unseen_messages a x.id))
-        (dropped_unseen a left x.id (will_of x.id x.wills.will))))
-    by_overdue false =
-        let again = again_notes policy clock x in
-        ends_show x m a now again (ends_each x.id a again x
-        (every_again (Unseen a) policy clock x (record { again = again_unseen a x.id; messages = unseen_messages a x.id })))
-
-pub leave_shows : (a : Around) (x : Client) (m : Option Spoken) (from : Option Address) (stated : Option ℕ) (here : Bool)
-    → let n = if here then note.Left x.id ∷ all_gone x.id x.buffer.waiting else [] in
-    Shows x.id (kept_of x m from stated a.clock here) n (notes_by a n (heard_if here a.clock x))
-leave_shows a x m from stated true =
-    let y = gone (heard_if true a.clock x) in
-    let more = all_gone x.id x.buffer.waiting in
-    shows_more x.id (kept_of x m from stated a.clock true) a (note.Left x.id) more y (rw (same_self x.id) (refl, refl, refl, refl))
-    (ends_each x.id a more y (every_gone (Unseen a) x.id x.buffer.waiting (unseen_messages a x.id)))
-leave_shows a x m from stated false = (refl, refl, refl, refl)

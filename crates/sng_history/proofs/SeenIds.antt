@@ -1,5 +1,7 @@
--- The topic ids of a client are those of the names that the rows show it was told, each marked where the client knows it.
-use Rattle.std.proofs.Common.{◌≡◌, ℕ, suc, ◌+◌, Bool, true, false, List, [], ◌∷◌, ◌++◌, refl, ap, sym, ◌∙◌, subst, if◌then◌else◌, arith}
+-- The topic ids of a client are those of the names that the rows show it was told, each marked where the
+-- client knows it.
+use Rattle.std.proofs.Common.{◌≡◌, ℕ, suc, ◌+◌, Bool, true, false, List, [], ◌∷◌, ◌++◌, refl, ap, sym, ◌∙◌}
+use Rattle.std.proofs.Common.{subst, if◌then◌else◌, arith}
 use Rattle.std.specs.Prelude.{◌||◌, not, Some}
 use Rattle.std.specs.List.{position_or_len}
 use Rattle.std.specs.Str.{bytes_eq}
@@ -12,6 +14,7 @@ use Rattle.sng_history.specs.ViewsClients.{is_among, with_name, tells_id, id_tol
 use Rattle.sng_history.specs.LawsState.{NoneTwice}
 use Rattle.sng_history.proofs.Own.{same_self, same_means, flip}
 use Rattle.sng_history.proofs.Marked.{marked, place_marked, id_marked}
+use Rattle.sng_history.proofs.Booleans.{or_neither, or_yes}
 
 -- the names that a client was told and those that it knows, and its ids
 pub record Telling (names known : List (List ℕ)) (ids : Ids) : Type 0 where
@@ -28,27 +31,28 @@ id_step : (b : Bool) (id n : ℕ) → id ≡ n + 1 → (if b then 1 else id + 1)
 id_step true id n is = refl
 id_step false id n is = omega (arith, is)
 
-pub id_place : (name : List ℕ) (names : List (List ℕ)) → id_told name names ≡ position_or_len (bytes_eq name) names + 1
+pub id_place : (name : List ℕ) (names : List (List ℕ))
+    → id_told name names ≡ position_or_len (bytes_eq name) names + 1
 id_place name [] = refl
-id_place name (one ∷ names) = id_step (bytes_eq name one) (id_told name names) (position_or_len (bytes_eq name) names) (id_place name names)
+id_place name (one ∷ names) =
+    id_step (bytes_eq name one) (id_told name names) (position_or_len (bytes_eq name) names)
+    (id_place name names)
 
 id_last : (name : List ℕ) (names : List (List ℕ)) → id_told name (names ++ name ∷ []) ≡ id_told name names
 id_last name [] = rw (same_self name) refl
 id_last name (one ∷ names) = ap (λ id. if bytes_eq name one then 1 else id + 1) (id_last name names)
 
-id_by : (name : List ℕ) (names : List (List ℕ)) (b : Bool) → id_told name (if b then names else names ++ name ∷ []) ≡ id_told name names
+id_by : (name : List ℕ) (names : List (List ℕ)) (b : Bool)
+    → id_told name (if b then names else names ++ name ∷ []) ≡ id_told name names
 id_by name names true = refl
 id_by name names false = id_last name names
 
 -- a name that is told keeps its id
-pub id_stays : (name : List ℕ) (names : List (List ℕ)) → id_told name (with_name (Some name) names) ≡ id_told name names
+pub id_stays : (name : List ℕ) (names : List (List ℕ))
+    → id_told name (with_name (Some name) names) ≡ id_told name names
 id_stays name names = id_by name names (is_among name names)
 
 -- ---- who is among names, with one more
-
-or_none : (a b : Bool) → (a || b) ≡ false → (a ≡ false) × (b ≡ false)
-or_none true b is = absurd cc
-or_none false b is = (refl, is)
 
 or_last : (a b c : Bool) → (a || (b || c)) ≡ ((a || b) || c)
 or_last true b c = refl
@@ -58,12 +62,15 @@ or_false : (a : Bool) → (a || false) ≡ a
 or_false true = refl
 or_false false = refl
 
-among_last : (one name : List ℕ) (names : List (List ℕ)) → is_among one (names ++ name ∷ []) ≡ (is_among one names || bytes_eq one name)
+among_last : (one name : List ℕ) (names : List (List ℕ))
+    → is_among one (names ++ name ∷ []) ≡ (is_among one names || bytes_eq one name)
 among_last one name [] = or_false (bytes_eq one name)
 among_last one name (next ∷ names) =
-    ap (λ b. bytes_eq one next || b) (among_last one name names) ∙ or_last (bytes_eq one next) (is_among one names) (bytes_eq one name)
+    ap (λ b. bytes_eq one next || b) (among_last one name names)
+    ∙ or_last (bytes_eq one next) (is_among one names) (bytes_eq one name)
 
-with_by : (one name : List ℕ) (names : List (List ℕ)) (b : Bool) → is_among name names ≡ b → bytes_eq one name ≡ false
+with_by : (one name : List ℕ) (names : List (List ℕ)) (b : Bool) → is_among name names ≡ b
+    → bytes_eq one name ≡ false
     → is_among one (if b then names else names ++ name ∷ []) ≡ is_among one names
 with_by one name names true is away = refl
 with_by one name names false is away = among_last one name names ∙ rw away (or_false (is_among one names))
@@ -73,37 +80,38 @@ pub among_other : (one name : List ℕ) (names : List (List ℕ)) → bytes_eq o
     → is_among one (with_name (Some name) names) ≡ is_among one names
 among_other one name names away = with_by one name names (is_among name names) refl away
 
-or_true : (a : Bool) → (a || true) ≡ true
-or_true true = refl
-or_true false = refl
-
 self_by : (name : List ℕ) (names : List (List ℕ)) (b : Bool) → is_among name names ≡ b
     → is_among name (if b then names else names ++ name ∷ []) ≡ true
 self_by name names true is = is
-self_by name names false is = among_last name name names ∙ rw (same_self name) (or_true (is_among name names))
+self_by name names false is = among_last name name names ∙ rw (same_self name) (or_yes (is_among name names))
 
 pub among_self : (name : List ℕ) (names : List (List ℕ)) → is_among name (with_name (Some name) names) ≡ true
 among_self name names = self_by name names (is_among name names) refl
 
-more_by : (one name : List ℕ) (names : List (List ℕ)) (b : Bool) → bytes_eq one name ≡ b → is_among one names ≡ true
+more_by : (one name : List ℕ) (names : List (List ℕ)) (b : Bool) → bytes_eq one name ≡ b
+    → is_among one names ≡ true
     → is_among one (with_name (Some name) names) ≡ true
 more_by one name names true is among =
     let same : one ≡ name =
-    same_means one name is in subst (λ n. is_among n (with_name (Some name) names) ≡ true) (sym same) (among_self name names)
+    same_means one name is in subst (λ n. is_among n (with_name (Some name) names) ≡ true) (sym same)
+    (among_self name names)
 more_by one name names false is among = among_other one name names is ∙ among
 
 -- who was among them still is
-pub among_more : (one name : List ℕ) (names : List (List ℕ)) → is_among one names ≡ true → is_among one (with_name (Some name) names) ≡ true
+pub among_more : (one name : List ℕ) (names : List (List ℕ)) → is_among one names ≡ true
+    → is_among one (with_name (Some name) names) ≡ true
 among_more one name names among = more_by one name names (bytes_eq one name) refl among
 
-none_last : (one name : List ℕ) (names : List (List ℕ)) → is_among one names ≡ false → bytes_eq one name ≡ false
+none_last : (one name : List ℕ) (names : List (List ℕ)) → is_among one names ≡ false
+    → bytes_eq one name ≡ false
     → is_among one (names ++ name ∷ []) ≡ false
 none_last one name names none away = among_last one name names ∙ rw (none, away) refl
 
-once_last : (name : List ℕ) (names : List (List ℕ)) → is_among name names ≡ false → NoneTwice names → NoneTwice (names ++ name ∷ [])
+once_last : (name : List ℕ) (names : List (List ℕ)) → is_among name names ≡ false → NoneTwice names
+    → NoneTwice (names ++ name ∷ [])
 once_last name [] none once = (refl, tt)
 once_last name (one ∷ names) none once =
-    let both = or_none (bytes_eq name one) (is_among name names) none in
+    let both = or_neither (bytes_eq name one) (is_among name names) none in
     (none_last one name names once.0 (flip one name both.0), once_last name names both.1 once.1)
 
 once_new : (name : List ℕ) (names : List (List ℕ)) (b : Bool) → is_among name names ≡ b → NoneTwice names
@@ -116,7 +124,8 @@ once_new name names false is once = once_last name names is once
 marked_last : (name : List ℕ) (names known : List (List ℕ))
     → marked (names ++ name ∷ []) known ≡ marked names known ++ (name, is_among name known) ∷ []
 marked_last name [] known = refl
-marked_last name (one ∷ names) known = ap (λ more. (one, is_among one known) ∷ more) (marked_last name names known)
+marked_last name (one ∷ names) known =
+    ap (λ more. (one, is_among one known) ∷ more) (marked_last name names known)
 
 not_known : (name : List ℕ) (b c : Bool) → (b ≡ true → c ≡ true) → c ≡ false → b ≡ false
 not_known name true c told none = absurd (let e : c ≡ true = told refl in cc)
@@ -127,7 +136,8 @@ entry_by : (name : List ℕ) (names known : List (List ℕ)) (b : Bool) → is_a
     → with_entry name (marked names known) ≡ marked (if b then names else names ++ name ∷ []) known
 entry_by name names known true is told = rw (place_marked name names known, is) refl
 entry_by name names known false is told =
-    let unknown : is_among name known ≡ false = not_known name (is_among name known) (is_among name names) told is in
+    let unknown : is_among name known ≡ false =
+    not_known name (is_among name known) (is_among name names) told is in
     rw (place_marked name names known, is)
     (ap (λ b. marked names known ++ (name, b) ∷ []) (sym unknown) ∙ sym (marked_last name names known))
 
@@ -145,14 +155,16 @@ telling_announced name names known ids t = record {
 abbrev AlikeBut : List ℕ → List (List ℕ) → List (List ℕ) → Type 0
 AlikeBut name known more = (one : List ℕ) → bytes_eq name one ≡ false → is_among one known ≡ is_among one more
 
-marks_alike : (name : List ℕ) (names known more : List (List ℕ)) → AlikeBut name known more → is_among name names ≡ false
+marks_alike : (name : List ℕ) (names known more : List (List ℕ)) → AlikeBut name known more
+    → is_among name names ≡ false
     → marked names known ≡ marked names more
 marks_alike name [] known more alike none = refl
 marks_alike name (one ∷ names) known more alike none =
-    let both = or_none (bytes_eq name one) (is_among name names) none in
+    let both = or_neither (bytes_eq name one) (is_among name names) none in
     rw (alike one both.0, marks_alike name names known more alike both.1) refl
 
-confirmed_by : (name one : List ℕ) (names known more : List (List ℕ)) (n : ℕ) (b : Bool) → bytes_eq name one ≡ b → AlikeBut name known more
+confirmed_by : (name one : List ℕ) (names known more : List (List ℕ)) (n : ℕ) (b : Bool)
+    → bytes_eq name one ≡ b → AlikeBut name known more
     → is_among name more ≡ true
     → is_among one names ≡ false → (b || is_among name names) ≡ true
     → (is_among name names ≡ true → confirmed_at n (marked names known) ≡ marked names more)
@@ -166,15 +178,18 @@ confirmed_by name one names known more n false is alike now once among rest =
     let next : 1 + n ≡ suc n = omega arith in
     rw (next, alike one is) (ap (λ later. (one, is_among one more) ∷ later) (rest among))
 
-confirmed_place : (name : List ℕ) (names known more : List (List ℕ)) → AlikeBut name known more → is_among name more ≡ true
+confirmed_place : (name : List ℕ) (names known more : List (List ℕ)) → AlikeBut name known more
+    → is_among name more ≡ true
     → NoneTwice names → is_among name names ≡ true
     → confirmed_at (position_or_len (bytes_eq name) names) (marked names known) ≡ marked names more
 confirmed_place name [] known more alike now once among = refl
 confirmed_place name (one ∷ names) known more alike now once among =
-    confirmed_by name one names known more (position_or_len (bytes_eq name) names) (bytes_eq name one) refl alike now once.0 among
+    confirmed_by name one names known more (position_or_len (bytes_eq name) names)
+    (bytes_eq name one) refl alike now once.0 among
     (confirmed_place name names known more alike now once.1)
 
-confirmed_id : (name : List ℕ) (names known more : List (List ℕ)) → AlikeBut name known more → is_among name more ≡ true → NoneTwice names
+confirmed_id : (name : List ℕ) (names known more : List (List ℕ)) → AlikeBut name known more
+    → is_among name more ≡ true → NoneTwice names
     → is_among name names ≡ true
     → confirmed (id_told name names) (marked names known) ≡ marked names more
 confirmed_id name names known more alike now once among =
@@ -189,11 +204,13 @@ known_told one name names known true is told among now =
     let same : one ≡ name = same_means one name is in subst (λ n. is_among n names ≡ true) (sym same) among
 known_told one name names known false is told among now = told (sym (among_other one name known is) ∙ now)
 
-pub telling_confirmed : (name : List ℕ) (names known : List (List ℕ)) (ids : Ids) → is_among name names ≡ true → Telling names known ids
+pub telling_confirmed : (name : List ℕ) (names known : List (List ℕ)) (ids : Ids) → is_among name names ≡ true
+    → Telling names known ids
     → Telling names (with_name (Some name) known) (confirmed (id_told name names) ids)
 telling_confirmed name names known ids among t = record {
   marks = ap (confirmed (id_told name names)) t.marks
-      ∙ confirmed_id name names known (with_name (Some name) known) (λ one away. sym (among_other one name known (flip one name away)))
+      ∙ confirmed_id name names known (with_name (Some name) known)
+      (λ one away. sym (among_other one name known (flip one name away)))
       (among_self name known) t.once among;
   once = t.once;
   told = λ one is. known_told one name names known (bytes_eq one name) refl (t.told one) among is;
@@ -206,7 +223,8 @@ pub telling_told : (name : List ℕ) (names known : List (List ℕ)) (ids : Ids)
 telling_told name names known ids t =
     let id : id_for name ids ≡ id_told name (with_name (Some name) names) =
     ap (id_for name) t.marks ∙ (id_marked name names known ∙ sym (id_stays name names)) in
-    subst (λ k. Telling (with_name (Some name) names) (with_name (Some name) known) (confirmed k (with_entry name ids))) (sym id)
+    subst (λ k. Telling (with_name (Some name) names) (with_name (Some name) known)
+    (confirmed k (with_entry name ids))) (sym id)
     (telling_confirmed name (with_name (Some name) names) known (with_entry name ids) (among_self name names)
     (telling_announced name names known ids t))
 

@@ -37,15 +37,18 @@ use Rattle.sng_history.specs.ViewsFlight.{id_read, given_in, last_among, last_id
 use Rattle.sng_history.proofs.Says.{says}
 use Rattle.sng_history.proofs.Keeping.{exact_by}
 use Rattle.sng_history.proofs.FlightIds.{shown}
-use Rattle.sng_history.proofs.LawLink.{departed_note, later_exits}
+use Rattle.sng_history.proofs.LawLinkOrder.{departed_note, later_exits}
 use Rattle.sng_history.proofs.LawAgain.{ids_by}
 use Rattle.sng_history.proofs.LawRows.{anew}
 use Rattle.sng_history.proofs.LawWires.{datagram_still, broker_wires, replace_wires, tick_wires}
 use Rattle.sng_history.proofs.SeenState.{Stands, stands}
-use Rattle.sng_history.proofs.UpstreamWords.{publish_quiet, ack_quiet, subscribe_read, unsubscribe_read, ping_quiet}
-use Rattle.sng_history.proofs.UpstreamLeaving.{Speaks, ShortTexts, ShortEnds, next_is, exited_speaks}
-use Rattle.sng_history.proofs.UpstreamLeaving.{subscribe_speaks, unsubscribe_speaks}
-use Rattle.sng_history.proofs.UpstreamWanted.{WantedShown, wanted_shown, speaks_of, texts_short}
+use Rattle.sng_history.proofs.UpstreamWords.{publish_quiet, ack_quiet, subscribe_read, unsubscribe_read}
+use Rattle.sng_history.proofs.UpstreamWords.{ping_quiet}
+use Rattle.sng_history.proofs.UpstreamSpeaks.{Speaks, ShortEnds, next_is, exited_speaks}
+use Rattle.sng_history.proofs.UpstreamLeaving.{ShortTexts}
+use Rattle.sng_history.proofs.UpstreamSpeaks.{subscribe_speaks, unsubscribe_speaks}
+use Rattle.sng_history.proofs.UpstreamOpen.{WantedShown, speaks_of, texts_short}
+use Rattle.sng_history.proofs.UpstreamWanted.{wanted_shown}
 use Rattle.sng_history.proofs.UpstreamWanted.{answered_last}
 use Rattle.sng_history.proofs.SeenRest.{flights_shown}
 use Rattle.sng_history.proofs.SeenPings.{ticked_along, datagram_unmoved}
@@ -73,7 +76,8 @@ sent_as p packet_id =
 
 sent_last : (link : Link) (p : Publication) (ps : List Publication) (outs : List Out) (q : Qos)
     → link.last ≤ 65535
-    → last_among ((ids_by link p q ++ []) ++ (id_read (decode (packet_of p (packet_id_by link q))) ++ given_in ps outs)) link.last
+    → last_among ((ids_by link p q ++ [])
+    ++ (id_read (decode (packet_of p (packet_id_by link q))) ++ given_in ps outs)) link.last
     ≡ Last ps outs (sent_by link p q).last
 sent_last link p ps outs AtMostOnce small =
     rw (publish_quiet (sent_as p None)).ids refl
@@ -125,7 +129,8 @@ leaving_last policy link (item.Unsubscribe text ∷ items) speaks short =
     ∙ leaving_last policy next items (unsubscribe_speaks link text speaks) short.1
 leaving_last policy link (item.Acknowledge packet_id ∷ items) speaks short =
     rw (ack_quiet packet_id).ids (leaving_last policy link items speaks short.1)
-leaving_last policy link (item.Ping ∷ items) speaks short = rw ping_quiet.ids (leaving_last policy link items speaks short.1)
+leaving_last policy link (item.Ping ∷ items) speaks short =
+    rw ping_quiet.ids (leaving_last policy link items speaks short.1)
 
 -- ---- a connection begins
 
@@ -169,7 +174,8 @@ up_moves : (s : State) → Speaks s.link → Moves s Up (outs_of s Up)
 up_moves s speaks =
     let ps = publications s.link.waiting in
     sym (ap (λ ids. last_among ids s.link.last) (none_again ps s.policy s.link.in_flight (anew s))
-    ∙ anew_last ps (resumed s.link s.clock (exits_for s ByUp)) (filters_wanted s.link) speaks.last (texts_short s.link.wanted speaks.short))
+    ∙ anew_last ps (resumed s.link s.clock (exits_for s ByUp)) (filters_wanted s.link) speaks.last
+    (texts_short s.link.wanted speaks.short))
 
 take_moves : (s : State) (b : Bool) → s.up ≡ b → Speaks s.link → ShortEnds s.link.waiting
     → Moves s Take (outs_of s Take)

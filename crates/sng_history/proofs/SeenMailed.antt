@@ -1,5 +1,6 @@
 -- What is kept of the messages for each client, and of its topic ids, is what the rows show.
-use Rattle.std.proofs.Common.{◌≡◌, ℕ, List, [], ◌∷◌, refl, ap, sym, ◌∙◌, subst, rules, Bool, true, false, if◌then◌else◌}
+use Rattle.std.proofs.Common.{◌≡◌, ℕ, List, [], ◌∷◌, refl, ap, sym, ◌∙◌, subst, rules, Bool, true, false}
+use Rattle.std.proofs.Common.{if◌then◌else◌}
 use Rattle.std.specs.Prelude.{drop, Some}
 use Rattle.sng_queue.specs.Buffers.{nothing}
 use Rattle.sng_book.specs.declared.event.Event.{Event}
@@ -16,10 +17,11 @@ use Rattle.sng_history.specs.ViewsStanding.{standing_of}
 use Rattle.sng_history.specs.ViewsHanding.{due_of, waits_for}
 use Rattle.sng_history.proofs.Kept.{client_id}
 use Rattle.sng_history.proofs.SeenIds.{telling_none}
-use Rattle.sng_history.proofs.SeenTurns.{Follows, View}
-use Rattle.sng_history.proofs.SeenHanding.{view_notes, moved_end, Shown}
+use Rattle.sng_history.proofs.SeenFollows.{Follows, View}
+use Rattle.sng_history.proofs.SeenHandingNotes.{view_notes, moved_end, Shown}
 use Rattle.sng_history.proofs.SeenProgress.{due_after, start_view, row_moved}
-use Rattle.sng_history.proofs.SeenViews.{view_of, view_start, row_view, settled_count, start_same, InForce}
+use Rattle.sng_history.proofs.SeenViewNotes.{view_of, settled_count}
+use Rattle.sng_history.proofs.SeenViews.{view_start, row_view, start_same, InForce}
 use Rattle.sng_history.proofs.SeenDue.{due_row}
 use Rattle.sng_history.proofs.SeenStrangers.{Unheard}
 use Rattle.sng_states.specs.declared.state.ClientState.TheVariants.{Asleep}
@@ -54,8 +56,10 @@ mailed_next by h s c e outs x force own due start mailed =
     let view : view_of x.id rows ≡ view_notes a x.id (due_after c x (due_of x.id h)) fixed first =
     row_view a x.id by h e outs force
     ∙ (ap (λ notes. view_notes a x.id (due_of x.id rows) notes (view_start x.id e h)) own
-    ∙ (ap (view_notes a x.id (due_of x.id rows) fixed) start ∙ ap (λ d. view_notes a x.id d fixed first) due)) in
-    subst (λ id. Follows (due_of id rows) (view_of id rows) (drained y).ids (drained y).number (drained y).buffer)
+    ∙ (ap (view_notes a x.id (due_of x.id rows) fixed) start
+    ∙ ap (λ d. view_notes a x.id d fixed first) due)) in
+    subst (λ id. Follows (due_of id rows) (view_of id rows) (drained y).ids (drained y).number
+    (drained y).buffer)
     (sym (client_id a fixed x))
     (drained_shown (due_of x.id rows) (view_of x.id rows) y
     (subst (λ d. Follows d (view_of x.id rows) y.ids y.number y.buffer) (sym due)
@@ -71,7 +75,12 @@ pub mailed_row : (by : ℕ) (h : List Row) (s : State) (e : Event) (outs : List 
     → Mailed (record { by = by; event = e; outs = outs } ∷ h) (client_next s (cause_of e) x)
 mailed_row by h s e outs x force phase address filters own mailed =
     mailed_next by h s (cause_of e) e outs x force own (due_row by h s e outs x phase filters own)
-    (start_same h x e (record { phase = phase; address = address; number = mailed.given; exchange = mailed.exchange })) mailed
+    (start_same h x e (record {
+      phase = phase;
+      address = address;
+      number = mailed.given;
+      exchange = mailed.exchange;
+    })) mailed
 
 -- one of whom nothing was heard
 pub mailed_blank : (h : List Row) (id : List ℕ) → Unheard id h → Mailed h (blank id)

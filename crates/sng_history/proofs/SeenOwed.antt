@@ -1,5 +1,6 @@
 -- What is owed to the broker, as a packet of it comes.
-use Rattle.std.proofs.Common.{◌≡◌, ℕ, Bool, true, false, List, [], ◌∷◌, ◌++◌, map, refl, sym, ◌∙◌, ap, if◌then◌else◌}
+use Rattle.std.proofs.Common.{◌≡◌, ℕ, Bool, true, false, List, [], ◌∷◌, ◌++◌, map, refl, sym, ◌∙◌, ap}
+use Rattle.std.proofs.Common.{if◌then◌else◌}
 use Rattle.std.specs.Prelude.{◌&&◌, ◌||◌, not, Option, Some, None, slice_get}
 use Rattle.std.specs.List.{flat_map}
 use Rattle.std.proofs.lemmas.List.{append_assoc}
@@ -29,7 +30,8 @@ use Rattle.sng_history.specs.Whole.{frames_of, spell, part, drained_outs}
 use Rattle.sng_history.specs.Lawful.{refused_end, fixed_for}
 use Rattle.sng_history.specs.Steps.{outs_by}
 use Rattle.sng_history.specs.Links.{Link}
-use Rattle.sng_history.specs.Packets.{subscribe_answer, answer_of, answer_outs, owed, has_place, acknowledgement, acknowledgements, dropped}
+use Rattle.sng_history.specs.Packets.{subscribe_answer, answer_of, answer_outs, owed, has_place}
+use Rattle.sng_history.specs.Packets.{acknowledgement, acknowledgements, dropped}
 use Rattle.sng_history.specs.Packets.{refused_filter}
 use Rattle.sng_history.specs.ViewsLink.{is_outbox, is_outbox_noted, listed, message_id}
 use Rattle.sng_history.proofs.Hands.{Every, OfMessages, every_append, every_if, every_delivered}
@@ -42,7 +44,8 @@ use Rattle.sng_queue.specs.Buffers.{Buffer}
 -- an acknowledgement that is owed waits where there is place
 owed_waits : (up place : Bool) (packet_id : Option ℕ)
     → acknowledgement place (if up then packet_id else None)
-    ≡ map item.Acknowledge (if up && not (is_outbox_noted (dropped place (if up then packet_id else None))) then listed packet_id else [])
+    ≡ map item.Acknowledge (if up && not (is_outbox_noted (dropped place (if up then packet_id else None)))
+    then listed packet_id else [])
 owed_waits true true None = refl
 owed_waits true true (Some packet_id) = refl
 owed_waits true false None = refl
@@ -51,7 +54,8 @@ owed_waits false place packet_id = refl
 
 -- whether the name is one or not
 named_waits : (good : Bool) (outs : List Out)
-    → is_outbox_noted ((if good then [] else Note (note.Frame who.Broker (Denied BadName)) ∷ []) ++ outs) ≡ is_outbox_noted outs
+    → is_outbox_noted ((if good then [] else Note (note.Frame who.Broker (Denied BadName)) ∷ []) ++ outs)
+    ≡ is_outbox_noted outs
 named_waits true outs = refl
 named_waits false outs = refl
 
@@ -62,14 +66,16 @@ nothing_owed false noted = refl
 
 answer_waits : (up : Bool) (link : Link) (packet_id : ℕ) (codes : List SubscribeCode)
     → let a = subscribe_answer packet_id codes in
-    acknowledgements up link a ≡ map item.Acknowledge (if up && not (is_outbox_noted (answer_outs up link a)) then [] else [])
+    acknowledgements up link a ≡ map item.Acknowledge
+    (if up && not (is_outbox_noted (answer_outs up link a)) then [] else [])
 answer_waits up link packet_id [] = nothing_owed up false
 answer_waits up link packet_id (code.Refused ∷ codes) = nothing_owed up false
 answer_waits up link packet_id (code.Granted qos ∷ codes) = nothing_owed up false
 
 answered_waits : (up : Bool) (link : Link) (sent : Packet)
     → acknowledgements up link (answer_of sent)
-    ≡ map item.Acknowledge (if up && not (is_outbox_noted (answer_outs up link (answer_of sent))) then message_id sent else [])
+    ≡ map item.Acknowledge (if up && not (is_outbox_noted (answer_outs up link (answer_of sent)))
+    then message_id sent else [])
 answered_waits up link (packet.Publish p) =
     owed_waits up (has_place link) p.packet_id
     ∙ ap (λ noted. map item.Acknowledge (if up && not noted then listed p.packet_id else []))
@@ -89,10 +95,12 @@ answered_waits up link packet.PingRequest = nothing_owed up false
 answered_waits up link packet.PingResponse = nothing_owed up false
 answered_waits up link packet.Disconnect = nothing_owed up false
 
--- a note of a client is none of a place in the outbox, nor is anything behind it, where no UNSUBSCRIBE is dropped
+-- a note of a client is none of a place in the outbox, nor is anything behind it, where no UNSUBSCRIBE is
+-- dropped
 pub record Unnoted (a : Around) (said : Decision) : Type 0 where
   pub itself : is_outbox said ≡ false
-  pub behind : (x : Client) (rest : List Out) → is_outbox_noted (frames_of a [] x said ++ rest) ≡ is_outbox_noted rest
+  pub behind : (x : Client) (rest : List Out)
+      → is_outbox_noted (frames_of a [] x said ++ rest) ≡ is_outbox_noted rest
 
 pub handed_unnoted : (to : Address) (number : ℕ) (m : Option Message) (known : Option Known) (rest : List Out)
     → is_outbox_noted (handed_outs to number m known ++ rest) ≡ is_outbox_noted rest
@@ -102,11 +110,19 @@ handed_unnoted to number (Some m) (Some known) rest = refl
 
 hand_unnoted : (a : Around) (client name : List ℕ) (o : Outcome) → Unnoted a (note.Hand client name o)
 hand_unnoted a client name Allowed =
-    record { itself = refl; behind = λ x rest. handed_unnoted x.address x.number (front x.buffer) (known_as a.policy x.ids name) rest }
+    record {
+      itself = refl;
+      behind =
+          λ x rest. handed_unnoted x.address x.number (front x.buffer) (known_as a.policy x.ids name) rest;
+    }
 hand_unnoted a client name (Denied rule) = record { itself = refl; behind = λ x rest. refl }
 
 pub messages_unnoted : (a : Around) (client : List ℕ) → OfMessages (Unnoted a) client
-messages_unnoted a client = record { announces = λ name. record { itself = refl; behind = λ x rest. refl }; hands = hand_unnoted a client }
+messages_unnoted a client =
+    record {
+      announces = λ name. record { itself = refl; behind = λ x rest. refl };
+      hands = hand_unnoted a client;
+    }
 
 refused_unnoted : (a : Around) (x : Client) (text : Option (List ℕ)) → Every (Unnoted a) (refused_end x text)
 refused_unnoted a x None = tt
@@ -114,7 +130,8 @@ refused_unnoted a x (Some text) =
     every_if (Unnoted a) (holds text x) (note.End x.id text (Denied BrokerRefused) ∷ [])
     (record { itself = refl; behind = λ y rest. refl }, tt)
 
-pub spell_unnoted : (a : Around) (x : Client) (notes : List Decision) (rest : List Out) → Every (Unnoted a) notes
+pub spell_unnoted : (a : Around) (x : Client) (notes : List Decision) (rest : List Out)
+    → Every (Unnoted a) notes
     → is_outbox_noted (spell a [] x notes ++ rest) ≡ is_outbox_noted rest
 spell_unnoted a x [] rest every = refl
 spell_unnoted a x (said ∷ notes) rest every =
@@ -123,14 +140,17 @@ spell_unnoted a x (said ∷ notes) rest every =
     ∙ (ap is_outbox_noted (append_assoc (frames_of a [] x said) (spell a [] y notes) rest)
     ∙ (every.0.behind x (spell a [] y notes ++ rest) ∙ spell_unnoted a y notes rest every.1))
 
-drained_unnoted : (z : Client) (rest : List Out) → is_outbox_noted (drained_outs z ++ rest) ≡ is_outbox_noted rest
+drained_unnoted : (z : Client) (rest : List Out)
+    → is_outbox_noted (drained_outs z ++ rest) ≡ is_outbox_noted rest
 drained_unnoted z rest = by_drained (is_drained z)
   where
-    by_drained : (b : Bool) → is_outbox_noted ((if b then pong z.address ∷ [] else []) ++ rest) ≡ is_outbox_noted rest
+    by_drained : (b : Bool) → is_outbox_noted ((if b then pong z.address ∷ [] else []) ++ rest)
+        ≡ is_outbox_noted rest
     by_drained true = refl
     by_drained false = refl
 
-pub part_unnoted : (a : Around) (x z : Client) (notes : List Decision) (rest : List Out) → Every (Unnoted a) notes
+pub part_unnoted : (a : Around) (x z : Client) (notes : List Decision) (rest : List Out)
+    → Every (Unnoted a) notes
     → is_outbox_noted ((spell a [] x notes ++ drained_outs z) ++ rest) ≡ is_outbox_noted rest
 part_unnoted a x z notes rest every =
     ap is_outbox_noted (append_assoc (spell a [] x notes) (drained_outs z) rest)
@@ -154,7 +174,8 @@ again_unnoted a client name Allowed =
 again_unnoted a client name (Denied rule) = record { itself = refl; behind = λ x rest. refl }
 
 rows_unnoted : (s : State) (packet : Packet) (xs : List Client) (outs : List Out)
-    → is_outbox_noted (flat_map (λ x. part (around s (ByPacket packet)) [] (fixed_for s (ByPacket packet) x) x) xs ++ outs)
+    → is_outbox_noted (flat_map (λ x. part (around s (ByPacket packet)) []
+    (fixed_for s (ByPacket packet) x) x) xs ++ outs)
     ≡ is_outbox_noted outs
 rows_unnoted s packet [] outs = refl
 rows_unnoted s packet (x ∷ xs) outs =
@@ -168,13 +189,14 @@ rows_unnoted s packet (x ∷ xs) outs =
     every_append (Unnoted a) one two (refused_unnoted a x (refused_filter s.link (answer_of packet)))
     (every_delivered (Unnoted a) s.policy due x (messages_unnoted a x.id)) in
     ap is_outbox_noted (append_assoc (f x) (flat_map f xs) outs)
-    ∙
-    (part_unnoted a (start_by a x) (notes_by a (one ++ two) (start_by a x)) (one ++ two) (flat_map f xs ++ outs) every
+    ∙ (part_unnoted a (start_by a x) (notes_by a (one ++ two) (start_by a x)) (one ++ two)
+    (flat_map f xs ++ outs) every
     ∙ rows_unnoted s packet xs outs)
 
 pub packet_waits : (s : State) (sent : Packet)
     → acknowledgements s.up s.link (answer_of sent)
-    ≡ map item.Acknowledge (if s.up && not (is_outbox_noted (outs_by s (ByPacket sent))) then message_id sent else [])
+    ≡ map item.Acknowledge (if s.up && not (is_outbox_noted (outs_by s (ByPacket sent))) then message_id sent
+    else [])
 packet_waits s sent =
     answered_waits s.up s.link sent
     ∙ ap (λ noted. map item.Acknowledge (if s.up && not noted then message_id sent else []))

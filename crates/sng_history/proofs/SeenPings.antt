@@ -1,5 +1,6 @@
 -- The PINGREQ that waits after a tick, and when the connection was kept alive last, are what the rows show.
-use Rattle.std.proofs.Common.{◌≡◌, ℕ, Bool, true, false, List, [], ◌∷◌, ◌++◌, map, refl, ap, sym, ◌∙◌, if◌then◌else◌, Ok, Err}
+use Rattle.std.proofs.Common.{◌≡◌, ℕ, Bool, true, false, List, [], ◌∷◌, ◌++◌, map, refl, ap, sym, ◌∙◌}
+use Rattle.std.proofs.Common.{if◌then◌else◌, Ok, Err}
 use Rattle.std.specs.Prelude.{◌&&◌, not, Option, Some, None}
 use Rattle.std.specs.List.{flat_map}
 use Rattle.std.specs.declared.result.Result.{Result}
@@ -33,7 +34,8 @@ use Rattle.sng_history.specs.Causes.{cause_of, datagram_cause, publish_cause, di
 use Rattle.sng_history.specs.Clients.{Client, notes_by}
 use Rattle.sng_history.specs.Good.{Each, Distinct}
 use Rattle.sng_history.specs.Lawful.{exits_for, fixed_for}
-use Rattle.sng_history.specs.Links.{Link, wants, sent_by, exited, subscribe_sent, subscribes_sent, subscribe_left, unsubscribe_left}
+use Rattle.sng_history.specs.Links.{Link, wants, sent_by, exited, subscribe_sent, subscribes_sent}
+use Rattle.sng_history.specs.Links.{subscribe_left, unsubscribe_left}
 use Rattle.sng_history.specs.Links.{unsubscribe_sent, resumed, filters_wanted, link_after}
 use Rattle.sng_history.specs.Packets.{has_place, answer_of, subscribe_answer, answered}
 use Rattle.sng_history.specs.State.{State, later, link_moved}
@@ -45,7 +47,9 @@ use Rattle.sng_history.specs.ViewsLink.{is_outbox_noted, testaments_in, asks_pin
 use Rattle.sng_history.specs.ViewsLink as views
 use Rattle.sng_history.proofs.Statements.{every_tick}
 use Rattle.sng_history.proofs.SeenOwed.{Unnoted, messages_unnoted, part_unnoted, again_unnoted}
-use Rattle.sng_history.proofs.SeenTicks.{Said, laid, tick_part, tick_around, all_wait, all_alongside, tick_laid}
+use Rattle.sng_history.proofs.SeenPlaced.{laid, all_wait, all_alongside}
+use Rattle.sng_history.proofs.SeenTicks.{Said, tick_part, tick_around}
+use Rattle.sng_history.proofs.SeenTicks.{tick_laid}
 use Rattle.sng_history.proofs.WaitingItems.{waiting_next}
 
 -- ---- a datagram leaves the link
@@ -62,7 +66,8 @@ disconnect_still : (s : State) (from : Address) (duration : Option ℕ) (outcome
 disconnect_still s from None outcomes = refl
 disconnect_still s from (Some duration) outcomes = refl
 
-pub datagram_unmoved : (s : State) (from : Address) (read : Result SnFrame FrameFault) (outcomes : List Outcome)
+pub datagram_unmoved : (s : State) (from : Address) (read : Result SnFrame FrameFault)
+    (outcomes : List Outcome)
     → link_moved s (datagram_cause from read) outcomes ≡ s.link
 datagram_unmoved s from (Ok (frame.Publish p)) outcomes = publish_still s from p p.flags.qos outcomes
 datagram_unmoved s from (Ok (frame.Disconnect duration)) outcomes = disconnect_still s from duration outcomes
@@ -82,8 +87,7 @@ rows_unnoted s clock (x ∷ xs) outs =
       messages = messages_unnoted a x.id;
     }) (again_unnoted a x.id) in
     ap is_outbox_noted (append_assoc (tick_part s clock x) (flat_map (tick_part s clock) xs) outs)
-    ∙
-    (part_unnoted a x (notes_by a (fixed_for s (ByTick clock) x) x) (fixed_for s (ByTick clock) x)
+    ∙ (part_unnoted a x (notes_by a (fixed_for s (ByTick clock) x) x) (fixed_for s (ByTick clock) x)
     (flat_map (tick_part s clock) xs ++ outs) every
     ∙ rows_unnoted s clock xs outs)
 
@@ -95,7 +99,8 @@ asks_if true true = refl
 asks_if true false = refl
 asks_if false place = refl
 
-none_asked : (h : List Row) (all : List Out) (due place : Bool) → testaments_in h all (dropped_if due place) ≡ []
+none_asked : (h : List Row) (all : List Out) (due place : Bool)
+    → testaments_in h all (dropped_if due place) ≡ []
 none_asked h all true true = refl
 none_asked h all true false = refl
 none_asked h all false place = refl
@@ -115,22 +120,28 @@ after_wills s clock = with_wills s.link (later s.clock clock) s.clients
 abbrev is_due : State → ℕ → Bool
 is_due s clock = ticking.is_ping_due s.up (after_wills s clock) (later s.clock clock)
 
-due_same : (h : List Row) (s : State) (clock : ℕ) → Connected h s → views.is_ping_due (Tick clock) h (views.pinged h) ≡ is_due s clock
+due_same : (h : List Row) (s : State) (clock : ℕ) → Connected h s
+    → views.is_ping_due (Tick clock) h (views.pinged h) ≡ is_due s clock
 due_same h s clock is =
-    rw (sym is.up, sym is.clock, sym is.pinged, (all_alongside s.link (testaments (later s.clock clock) s.clients)).pinged) refl
+    rw (
+      sym is.up,
+      sym is.clock,
+      sym is.pinged,
+      (all_alongside s.link (testaments (later s.clock clock) s.clients)).pinged,
+    ) refl
 
 asks_same : (h : List Row) (s : State) (clock : ℕ) → Connected h s
-    → asks_ping (Tick clock) h (views.pinged h) (outs_of s (Tick clock)) ≡ (is_due s clock && has_place (after_wills s clock))
+    → asks_ping (Tick clock) h (views.pinged h) (outs_of s (Tick clock))
+    ≡ (is_due s clock && has_place (after_wills s clock))
 asks_same h s clock is =
     let dropped = ping_dropped s.up (after_wills s clock) (later s.clock clock) in
     ap (λ due. due && not (is_outbox_noted (outs_of s (Tick clock)))) (due_same h s clock is)
-    ∙
-    (ap (λ noted. is_due s clock && not noted) (rows_unnoted s clock s.clients dropped)
+    ∙ (ap (λ noted. is_due s clock && not noted) (rows_unnoted s clock s.clients dropped)
     ∙ asks_if (is_due s clock) (has_place (after_wills s clock)))
 
 pinged_waits : (link : Link) (clock : ℕ) (b : Bool)
-    →
-    (let after : Link = if b then record (with_item link item.Ping) { pinged = clock } else link in after).waiting
+    → (let after : Link = if b then record (with_item link item.Ping) { pinged = clock } else link in
+    after).waiting
     ≡ link.waiting ++ (if b then item.Ping ∷ [] else [])
 pinged_waits link clock true = refl
 pinged_waits link clock false = sym (append-nil link.waiting)
@@ -139,7 +150,8 @@ pinged_waits link clock false = sym (append-nil link.waiting)
 pub tick_waits : (h : List Row) (s : State) (clock : ℕ) → Connected h s → Distinct s.clients
     → Each (Said s clock h (outs_of s (Tick clock))) s.clients
     → let outs = outs_of s (Tick clock) in
-    waiting_next s (ByTick clock) ≡ s.link.waiting ++ (map item.Publish (testaments_in h outs outs) ++ pings_with (Tick clock) h outs)
+    waiting_next s (ByTick clock)
+    ≡ s.link.waiting ++ (map item.Publish (testaments_in h outs outs) ++ pings_with (Tick clock) h outs)
 tick_waits h s clock is apart said =
     let outs = outs_of s (Tick clock) in
     let now = later s.clock clock in
@@ -154,7 +166,8 @@ tick_waits h s clock is apart said =
     ∙ (ap (λ items. items ++ pings) (all_wait s.link (testaments now s.clients))
     ∙ (append_assoc s.link.waiting (map item.Publish wills) pings
     ∙ (ap (λ ps. s.link.waiting ++ (map item.Publish ps ++ pings)) (sym noted)
-    ∙ ap (λ b. s.link.waiting ++ (map item.Publish (testaments_in h outs outs) ++ (if b then item.Ping ∷ [] else [])))
+    ∙ ap (λ b. s.link.waiting ++ (map item.Publish (testaments_in h outs outs)
+    ++ (if b then item.Ping ∷ [] else [])))
     (sym (asks_same h s clock is)))))
 
 -- ---- when the connection was kept alive last
@@ -162,7 +175,8 @@ tick_waits h s clock is apart said =
 answered_pinged : (link : Link) (sent : Packet) → (answered link (answer_of sent)).pinged ≡ link.pinged
 answered_pinged link (packet.SubscribeAck answer) = by_codes answer.codes
   where
-    by_codes : (codes : List SubscribeCode) → (answered link (subscribe_answer answer.packet_id codes)).pinged ≡ link.pinged
+    by_codes : (codes : List SubscribeCode)
+        → (answered link (subscribe_answer answer.packet_id codes)).pinged ≡ link.pinged
     by_codes [] = refl
     by_codes (code.Refused ∷ codes) = refl
     by_codes (code.Granted q ∷ codes) = refl
@@ -190,10 +204,12 @@ either_pinged : (b : Bool) (one two link : Link) → one.pinged ≡ link.pinged 
 either_pinged true one two link is are = is
 either_pinged false one two link is are = are
 
-left_pinged : (link : Link) (items : List Item) (outcomes : List Outcome) → (link_after link items outcomes).pinged ≡ link.pinged
+left_pinged : (link : Link) (items : List Item) (outcomes : List Outcome)
+    → (link_after link items outcomes).pinged ≡ link.pinged
 left_pinged link [] outcomes = refl
 left_pinged link (item.Publish p ∷ items) [] = refl
-left_pinged link (item.Publish p ∷ items) (o ∷ outcomes) = left_pinged (exited link p o) items outcomes ∙ exited_pinged link p o
+left_pinged link (item.Publish p ∷ items) (o ∷ outcomes) =
+    left_pinged (exited link p o) items outcomes ∙ exited_pinged link p o
 left_pinged link (item.Subscribe text ∷ items) outcomes =
     left_pinged (subscribe_left link text) items outcomes
     ∙ either_pinged (wants link.wanted text) (subscribe_sent link text) link link refl refl
@@ -213,7 +229,8 @@ pub record Along (link after : Link) : Type 0 where
   pub last : after.last ≡ link.last
   pub wanted : after.wanted ≡ link.wanted
 
-along_if : (link : Link) (clock : ℕ) (b : Bool) → Along link (if b then record (with_item link item.Ping) { pinged = clock } else link)
+along_if : (link : Link) (clock : ℕ) (b : Bool)
+    → Along link (if b then record (with_item link item.Ping) { pinged = clock } else link)
 along_if link clock true = record { in_flight = refl; last = refl; wanted = refl }
 along_if link clock false = record { in_flight = refl; last = refl; wanted = refl }
 
@@ -222,22 +239,29 @@ ticked_along s clock =
     let link = after_wills s clock in
     let one = all_alongside s.link (testaments (later s.clock clock) s.clients) in
     let two = along_if link (later s.clock clock) (is_due s clock && has_place link) in
-    record { in_flight = two.in_flight ∙ one.in_flight; last = two.last ∙ one.last; wanted = two.wanted ∙ one.wanted }
+    record {
+      in_flight = two.in_flight ∙ one.in_flight;
+      last = two.last ∙ one.last;
+      wanted = two.wanted ∙ one.wanted;
+    }
 
 ticked_if : (link : Link) (clock : ℕ) (b : Bool)
-    →
-    (let after : Link = if b then record (with_item link item.Ping) { pinged = clock } else link in after).pinged
+    → (let after : Link = if b then record (with_item link item.Ping) { pinged = clock } else link in
+    after).pinged
     ≡ (if b then clock else link.pinged)
 ticked_if link clock true = refl
 ticked_if link clock false = refl
 
 pub pinged_row : (h : List Row) (s : State) (e : Event) → Connected h s
-    → (link_moved s (cause_of e) (exits_for s (cause_of e))).pinged ≡ pinged_after e h (outs_of s e) (views.pinged h)
+    → (link_moved s (cause_of e) (exits_for s (cause_of e))).pinged
+    ≡ pinged_after e h (outs_of s e) (views.pinged h)
 pinged_row h s (Datagram from datagram) is =
-    ap (λ link. link.pinged) (datagram_unmoved s from (frame_of datagram) (exits_for s (datagram_cause from (frame_of datagram))))
+    ap (λ link. link.pinged) (datagram_unmoved s from (frame_of datagram)
+    (exits_for s (datagram_cause from (frame_of datagram))))
     ∙ is.pinged
 pinged_row h s (Broker sent) is = answered_pinged s.link sent ∙ is.pinged
-pinged_row h s Up is = anew_pinged (resumed s.link s.clock (exits_for s (cause_of Up))) (filters_wanted s.link) ∙ is.clock
+pinged_row h s Up is =
+    anew_pinged (resumed s.link s.clock (exits_for s (cause_of Up))) (filters_wanted s.link) ∙ is.clock
 pinged_row h s Down is = is.pinged
 pinged_row h s Take is =
     either_pinged s.up (link_after s.link s.link.waiting (exits_for s (cause_of Take))) s.link s.link

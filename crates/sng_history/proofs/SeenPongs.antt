@@ -1,11 +1,13 @@
 -- In each row an awake client is sent PINGRESP exactly where nothing is left for it.
-use Rattle.std.proofs.Common.{◌≡◌, ℕ, Bool, true, false, List, [], ◌∷◌, ◌++◌, refl, ap, sym, ◌∙◌, if◌then◌else◌}
-use Rattle.std.specs.Prelude.{◌&&◌, ◌||◌, not, Option, Some, None, drop}
+use Rattle.std.proofs.Common.{◌≡◌, ℕ, Bool, true, false, List, [], ◌∷◌, ◌++◌, refl, ap, sym, ◌∙◌}
+use Rattle.std.proofs.Common.{if◌then◌else◌}
+use Rattle.std.specs.Prelude.{◌&&◌, not, Option, Some, None, drop}
 use Rattle.std.specs.List.{flat_map}
 use Rattle.std.specs.Str.{bytes_eq}
 use Rattle.sng_states.specs.declared.state.ClientState.{ClientState}
-use Rattle.sng_states.specs.declared.state.ClientState.TheVariants.{Dialogue, Active, Asleep, Awake, Disconnected, Lost}
-use Rattle.sng_states.specs.States.{has_session, is_due_messages}
+use Rattle.sng_states.specs.declared.state.ClientState.TheVariants.{Dialogue, Active, Asleep, Awake}
+use Rattle.sng_states.specs.declared.state.ClientState.TheVariants.{Disconnected, Lost}
+use Rattle.sng_states.specs.States.{has_session}
 use Rattle.sng_frames.specs.Writing.{written}
 use Rattle.sng_frames.specs.declared.return_code.TheConstants.ReturnCode.{ACCEPTED}
 use Rattle.sng_frames.specs.declared.messages.connect.Connect.{Connect}
@@ -19,170 +21,62 @@ use Rattle.sng_book.specs.declared.out.Out.{Out}
 use Rattle.sng_book.specs.declared.out.Out.TheVariants.{Send, Note}
 use Rattle.sng_text.specs.Texts.{is_name}
 use Rattle.sng_history.specs.Answers.{connack, code_of, welcome, dismissed, pong}
-use Rattle.sng_history.specs.Causes.{Cause, Request, ByConnect, ByMessage, BySource, ByBroken, ByPacket, ByUp, ByDown, ByTake, ByReplace}
+use Rattle.sng_history.specs.Causes.{Cause, ByConnect, ByMessage, BySource, ByBroken, ByPacket, ByUp}
+use Rattle.sng_history.specs.Causes.{ByDown, ByTake, ByReplace}
 use Rattle.sng_history.specs.Causes.{ByTick}
-use Rattle.sng_history.specs.Causes.{ToPing, ToLeave, ToSleep, ToRegister, ToPublish, ToSubscribe, ToUnsubscribe, ToConfirm, ToAcknowledge}
-use Rattle.sng_history.specs.Causes.{ToState, Untaken}
-use Rattle.sng_history.specs.Clients.{Client, same_address, is_from, is_here, is_drained, let_in, start_by}
+use Rattle.sng_history.specs.Clients.{Client, same_address, is_here, is_drained, let_in, start_by}
 use Rattle.sng_history.specs.Exits.{leaving, exits_of, resending, subscribing}
-use Rattle.sng_history.specs.Good.{Each, OnePlace, AtRest, Good}
+use Rattle.sng_history.specs.Good.{Each, AtRest, Good}
 use Rattle.sng_history.specs.Lawful.{exits_for, fixed_for}
 use Rattle.sng_history.specs.Links.{resumed, filters_wanted}
-use Rattle.sng_history.specs.Packets.{Answer, Delivers, Acknowledges, Grants, Refuses, Confirms, Strange, answer_of, has_place, owed}
+use Rattle.sng_history.specs.Packets.{Answer, Delivers, Acknowledges, Grants, Refuses, Confirms, Strange}
+use Rattle.sng_history.specs.Packets.{answer_of, has_place, owed}
 use Rattle.sng_history.specs.Packets.{misnamed, dropped, answer_outs}
 use Rattle.sng_history.specs.State.{State, around, later}
 use Rattle.sng_history.specs.Steps.{notes_for, outs_by, client_next}
 use Rattle.sng_history.specs.Ticking.{is_ping_due, with_wills, ping_dropped}
-use Rattle.sng_history.specs.Verdicts.{entry, is_active, ping_verdict}
+use Rattle.sng_history.specs.Verdicts.{entry}
 use Rattle.sng_history.specs.ViewsClients.{is_ponged}
-use Rattle.sng_history.specs.Whole.{pong_by, answer_to, stranger_to, any_from, drops, client_rows, moved, beside, entering_part}
+use Rattle.sng_history.specs.Whole.{stranger_to, any_from, drops, client_rows, moved}
+use Rattle.sng_history.specs.Whole.{beside, entering_part}
 use Rattle.sng_history.specs.Whole.{around_welcome, entry_outs, drained_outs, spell, part}
-use Rattle.sng_history.proofs.GoodNext.{settled_for, settled_tick, settled_packet, settled_ends, message_stays, Settled}
+use Rattle.sng_history.proofs.AddressesKept.{settled_for}
+use Rattle.sng_history.proofs.GoodNext.{settled_tick, settled_packet, settled_ends}
+use Rattle.sng_history.proofs.AddressesKept.{Settled}
 use Rattle.sng_history.proofs.Own.{each_map}
 use Rattle.sng_history.proofs.Hands.{every_if}
-use Rattle.sng_history.proofs.LawAgain.{again_unsent}
-use Rattle.sng_history.proofs.LawLink.{all_unsent, wires_kept, subscribing_wires}
-use Rattle.sng_history.proofs.Places.{and_left, address_means, Stays}
+use Rattle.sng_history.proofs.LawAgainBegins.{again_unsent}
+use Rattle.sng_history.proofs.LawLink.{wires_kept, subscribing_wires}
+use Rattle.sng_history.proofs.LawLinkOrder.{all_unsent}
+use Rattle.sng_history.proofs.Places.{Stays}
 use Rattle.sng_history.proofs.SeenClients.{moved_to}
-use Rattle.sng_history.proofs.SeenHeard.{woken_if, ping_phase}
 use Rattle.sng_history.proofs.SeenEntered.{connect_busy}
-use Rattle.sng_history.proofs.SeenFrames.{NoPong, none_pongs, both_none, none_if, none_sends, spell_none, dismissed_none, connack_none}
-use Rattle.sng_history.proofs.SeenFrames.{drops_none, stranger_none, unlike}
-use Rattle.sng_history.proofs.SeenSleepers.{Author, Told, author_outs, same_place, rows_told, told_before}
+use Rattle.sng_history.proofs.SeenFramesAnswers.{NoPong, none_pongs, both_none, none_if, none_sends}
+use Rattle.sng_history.proofs.SeenFrames.{spell_none}
+use Rattle.sng_history.proofs.SeenFramesAnswers.{dismissed_none, connack_none}
+use Rattle.sng_history.proofs.SeenFramesAnswers.{drops_none, unlike}
+use Rattle.sng_history.proofs.SeenFrames.{stranger_none}
+use Rattle.sng_history.proofs.SeenSleepers.{Author, Told, author_outs, rows_told, told_before}
 use Rattle.sng_history.specs.Standing.{drop_notes}
-
--- ---- what answers a client's own message
-
-same_true : (b : Bool) → ((b && true) || false) ≡ b
-same_true true = refl
-same_true false = refl
-
--- PINGRESP answers an active client, where it is
-pong_here : (place to : Address) (o : Outcome) → is_ponged (Some place) (pong_by o to) ≡ true → same_address place to ≡ true
-pong_here place to Allowed is = sym (same_true (same_address place to)) ∙ is
-pong_here place to (Denied rule) is = absurd cc
-
-ping_here : (from : Address) (client : Option (List ℕ)) (y : Client) (place : Address) (here active : Bool) → is_here y from ≡ here
-    → is_ponged (Some place)
-    (let outs : List Out = if here then (if active then pong_by (ping_verdict client y) y.address else []) else [] in outs) ≡ true
-    → is_here y place ≡ true
-ping_here from client y place true true is pongs =
-    let same : place ≡ y.address = address_means place y.address (pong_here place y.address (ping_verdict client y) pongs) in
-    let lives : has_session y.phase ≡ true = and_left (has_session y.phase) (same_address y.address from) is in
-    rw (same, lives) (same_place y.address)
-ping_here from client y place true false is pongs = absurd cc
-ping_here from client y place false active is pongs = absurd cc
-
-active_awake : (phase : ClientState) → is_active phase ≡ true → phase ≡ Active
-active_awake Active is = refl
-active_awake Dialogue is = absurd cc
-active_awake Asleep is = absurd cc
-active_awake Awake is = absurd cc
-active_awake Disconnected is = absurd cc
-active_awake Lost is = absurd cc
-
-never_awake : (client : Option (List ℕ)) (x : Client) → x.phase ≡ Active → (woken_if client x).phase ≡ Active
-never_awake client x is = rw is refl
-
-ping_own : (s : State) (from : Address) (client : Option (List ℕ)) (y : Client) (place : Address) (here active : Bool)
-    → is_here y from ≡ here → is_active y.phase ≡ active
-    → (moved_to s (ByMessage from (ToPing client)) y).phase ≡ Awake
-    → is_ponged (Some place)
-    (let outs : List Out = if here then (if active then pong_by (ping_verdict client y) y.address else []) else [] in outs) ≡ false
-ping_own s from client y place true true is lives wakes =
-    let bad : Active ≡ Awake =
-    sym (ping_phase s from client y true is ∙ never_awake client y (active_awake y.phase lives)) ∙ wakes in absurd cc
-ping_own s from client y place true false is lives wakes = refl
-ping_own s from client y place false active is lives wakes = refl
-
-ping_author : (s : State) (from : Address) (client : Option (List ℕ)) (y : Client) → Author s (ByMessage from (ToPing client)) y
-ping_author s from client y = record {
-  here = λ place pongs. ping_here from client y place (is_here y from) (is_active y.phase) refl pongs;
-  own = λ wakes place. ping_own s from client y place (is_here y from) (is_active y.phase) refl refl wakes;
-  stays = message_stays s from (ToPing client) y;
-}
-
--- any other message is not
-none_if_here : (b : Bool) (outs : List Out) (place : Address) → NoPong outs
-    → is_ponged (Some place) (let all : List Out = if b then outs else [] in all) ≡ false
-none_if_here b outs place none = none_pongs place (if b then outs else []) (none_if b outs none)
-
-false_true : (b : Bool) → b ≡ false → b ≡ true → ⊥
-false_true true one two = cc
-false_true false one two = cc
-
-other_author : (s : State) (from : Address) (request : Request) (y : Client) → NoPong (answer_to request y)
-    → Author s (ByMessage from request) y
-other_author s from request y none = record {
-  here = λ place pongs. absurd
-      (false_true (is_ponged (Some place) (author_outs (ByMessage from request) y))
-      (none_if_here (is_here y from) (answer_to request y) place none) pongs);
-  own = λ wakes place. none_if_here (is_here y from) (answer_to request y) place none;
-  stays = message_stays s from request y;
-}
-
-message_author : (s : State) (from : Address) (request : Request) (y : Client) → Author s (ByMessage from request) y
-message_author s from (ToPing client) y = ping_author s from client y
-message_author s from (ToSleep duration) y =
-    other_author s from (ToSleep duration) y (none_if (is_due_messages y.phase) (dismissed y.address ∷ []) (dismissed_none y.address))
-message_author s from ToLeave y = other_author s from ToLeave y tt
-message_author s from (ToRegister r) y = other_author s from (ToRegister r) y tt
-message_author s from (ToPublish p) y = other_author s from (ToPublish p) y tt
-message_author s from (ToSubscribe r) y = other_author s from (ToSubscribe r) y tt
-message_author s from (ToUnsubscribe r) y = other_author s from (ToUnsubscribe r) y tt
-message_author s from (ToConfirm r) y = other_author s from (ToConfirm r) y tt
-message_author s from (ToAcknowledge r) y = other_author s from (ToAcknowledge r) y tt
-message_author s from (ToState statement) y = other_author s from (ToState statement) y tt
-message_author s from (Untaken message) y = other_author s from (Untaken message) y tt
-
--- ---- rows of no client
-
--- nothing is PINGRESP, and the client is as it was
-idle_told : (s : State) (c : Cause) (outs : List Out) (x : Client) → NoPong outs → is_drained (moved_to s c x) ≡ false → Told s c outs x
-idle_told s c outs x none busy is = none_pongs x.address outs none ∙ sym busy
-
-idle_rows : (s : State) (c : Cause) (outs : List Out) → NoPong outs → ((x : Client) → moved_to s c x ≡ x) → Each AtRest s.clients
-    → Each (Told s c outs) s.clients
-idle_rows s c outs none same rest =
-    each_map AtRest (Told s c outs) s.clients (λ x at. idle_told s c outs x none (ap is_drained (same x) ∙ at.busy)) rest
-
--- ---- a message
-
-or_false : (b c : Bool) → (b || c) ≡ false → (b ≡ false) × (c ≡ false)
-or_false true c is = absurd cc
-or_false false c is = (refl, is)
-
-away_rows : (s : State) (c : Cause) (outs : List Out) (xs : List Client) → NoPong outs
-    → ((x : Client) → is_from c x ≡ false → moved_to s c x ≡ x)
-    → any_from c xs ≡ false → Each AtRest xs → Each (Told s c outs) xs
-away_rows s c outs [] none same away rest = tt
-away_rows s c outs (x ∷ xs) none same away rest =
-    let both = or_false (is_from c x) (any_from c xs) away in
-    (idle_told s c outs x none (ap is_drained (same x both.0) ∙ rest.0.busy), away_rows s c outs xs none same both.1 rest.1)
-
-frame_told : (s : State) (c : Cause) (stranger : List Out) (any : Bool) → any_from c s.clients ≡ any → NoPong stranger
-    → ((x : Client) → Author s c x)
-    → ((x : Client) → is_from c x ≡ false → moved_to s c x ≡ x) → OnePlace s.clients → Each AtRest s.clients
-    → Each
-    (Told s c
-    (let outs : List Out = if any then client_rows s c (drops s c (notes_for s c)) (notes_for s c) else stranger in outs)) s.clients
-frame_told s c stranger true is none author same places rest = rows_told s c (drops s c (notes_for s c)) s.clients author places
-frame_told s c stranger false is none author same places rest = away_rows s c stranger s.clients none same is rest
+use Rattle.sng_history.proofs.SeenPongsMessages.{message_author, idle_rows, frame_told}
 
 -- ---- a CONNECT
 
 welcome_none : (connect : Connect) (from : Address) → NoPong (welcome connect from ∷ [])
 welcome_none connect from = by_will connect.flags.will
   where
-    by_will : (will : Bool) → NoPong ((if will then Send from (written frame.WillTopicRequest) else connack from ACCEPTED) ∷ [])
+    by_will : (will : Bool) → NoPong
+        ((if will then Send from (written frame.WillTopicRequest) else connack from ACCEPTED) ∷ [])
     by_will true = (unlike frame.WillTopicRequest refl, tt)
     by_will false = connack_none from ACCEPTED
 
-around_none : (ack : Out) (clean : Bool) (own : List Out) → NoPong own → NoPong (ack ∷ []) → NoPong (around_welcome clean own ack)
+around_none : (ack : Out) (clean : Bool) (own : List Out) → NoPong own → NoPong (ack ∷ [])
+    → NoPong (around_welcome clean own ack)
 around_none ack true own none sent = both_none own (ack ∷ []) none sent
 around_none ack false own none sent = both_none (ack ∷ []) own sent none
 
-flat_none : (P : Client → Type 0) (f : Client → List Out) (xs : List Client) → ((x : Client) → P x → NoPong (f x)) → Each P xs
+flat_none : (P : Client → Type 0) (f : Client → List Out) (xs : List Client)
+    → ((x : Client) → P x → NoPong (f x)) → Each P xs
     → NoPong (flat_map f xs)
 flat_none P f [] none all = tt
 flat_none P f (x ∷ xs) none all = both_none (f x) (flat_map f xs) (none x all.0) (flat_none P f xs none all.1)
@@ -212,38 +106,47 @@ drained_none z busy = by_drained (is_drained z) refl
     by_drained true is = absurd (let e : true ≡ false = sym is ∙ busy (by_phase z.phase refl is) in cc)
     by_drained false is = tt
 
-connect_still : (s : State) (from : Address) (connect : Connect) (x : Client) → AtRest x → (entry_moved s from connect x).phase ≡ Awake
+connect_still : (s : State) (from : Address) (connect : Connect) (x : Client) → AtRest x
+    → (entry_moved s from connect x).phase ≡ Awake
     → is_drained (entry_moved s from connect x) ≡ false
 connect_still s from connect x rest is =
-    connect_busy s from connect x (bytes_eq connect.client_id x.id) (is_here x from) (entry s connect) rest.busy is
+    connect_busy s from connect x (bytes_eq connect.client_id x.id) (is_here x from)
+    (entry s connect) rest.busy is
 
 none_said : (b : Bool) → NoPong (if b then [] else [])
 none_said true = tt
 none_said false = tt
 
 beside_none : (s : State) (from : Address) (connect : Connect) (x : Client) → AtRest x
-    → NoPong (beside (around s (ByConnect from connect)) (notes_for s (ByConnect from connect)) connect.client_id x)
+    → NoPong (beside (around s (ByConnect from connect))
+    (notes_for s (ByConnect from connect)) connect.client_id x)
 beside_none s from connect x rest = by_own (bytes_eq connect.client_id x.id)
   where
     c : Cause
     c = ByConnect from connect
 
-    by_own : (b : Bool) → NoPong (if b then [] else part (around s (ByConnect from connect)) [] (fixed_for s (ByConnect from connect) x) x)
+    by_own : (b : Bool) → NoPong (if b then []
+        else part (around s (ByConnect from connect)) [] (fixed_for s (ByConnect from connect) x) x)
     by_own true = tt
     by_own false =
         let a = around s (ByConnect from connect) in
         let n = fixed_for s (ByConnect from connect) x in
         let y = start_by a x in
         let z = entry_moved s from connect x in
-        both_none (if is_here x from then [] else []) (spell a [] y n ++ drained_outs z) (none_said (is_here x from))
-        (both_none (spell a [] y n) (drained_outs z) (spell_none a [] y n) (drained_none z (connect_still s from connect x rest)))
+        both_none (if is_here x from then [] else []) (spell a [] y n ++ drained_outs z)
+        (none_said (is_here x from))
+        (both_none (spell a [] y n) (drained_outs z) (spell_none a [] y n)
+        (drained_none z (connect_still s from connect x rest)))
 
 entering_none : (s : State) (from : Address) (connect : Connect) (x : Client)
-    → NoPong (entering_part (around s (ByConnect from connect)) (notes_for s (ByConnect from connect)) from connect x)
+    → NoPong (entering_part (around s (ByConnect from connect))
+    (notes_for s (ByConnect from connect)) from connect x)
 entering_none s from connect x =
     none_if (bytes_eq connect.client_id x.id)
-    (spell (around s (ByConnect from connect)) [] (let_in s.clock from connect x) (drop 1 (fixed_for s (ByConnect from connect) x)))
-    (spell_none (around s (ByConnect from connect)) [] (let_in s.clock from connect x) (drop 1 (fixed_for s (ByConnect from connect) x)))
+    (spell (around s (ByConnect from connect)) [] (let_in s.clock from connect x)
+    (drop 1 (fixed_for s (ByConnect from connect) x)))
+    (spell_none (around s (ByConnect from connect)) [] (let_in s.clock from connect x)
+    (drop 1 (fixed_for s (ByConnect from connect) x)))
 
 entry_none : (s : State) (from : Address) (connect : Connect) (o : Outcome) → Each AtRest s.clients
     → NoPong (entry_outs s from connect (notes_for s (ByConnect from connect)) o)
@@ -255,12 +158,15 @@ entry_none s from connect Allowed rest =
     let entering = flat_map (entering_part (around s c) notes from connect) s.clients in
     let last = around_welcome connect.flags.clean entering (welcome connect from) in
     both_none (flat_map (moved from connect.client_id) s.clients) (others ++ (noted ++ last))
-    (flat_none AtRest (moved from connect.client_id) s.clients (λ x at. moved_none from connect.client_id x) rest)
+    (flat_none AtRest (moved from connect.client_id) s.clients
+    (λ x at. moved_none from connect.client_id x) rest)
     (both_none others (noted ++ last)
-    (flat_none AtRest (beside (around s c) notes connect.client_id) s.clients (λ x at. beside_none s from connect x at) rest)
+    (flat_none AtRest (beside (around s c) notes connect.client_id) s.clients
+    (λ x at. beside_none s from connect x at) rest)
     (both_none noted last (drops_none (drops s c notes))
     (around_none (welcome connect from) connect.flags.clean entering
-    (flat_none AtRest (entering_part (around s c) notes from connect) s.clients (λ x at. entering_none s from connect x) rest)
+    (flat_none AtRest (entering_part (around s c) notes from connect) s.clients
+    (λ x at. entering_none s from connect x) rest)
     (welcome_none connect from))))
 entry_none s from connect (Denied rule) rest = connack_none from (code_of rule)
 
@@ -277,7 +183,8 @@ dropped_none false (Some packet_id) = tt
 
 packet_none : (s : State) (brought : Answer) → NoPong (answer_outs s.up s.link brought)
 packet_none s (Delivers p) =
-    both_none (misnamed p.name) (dropped (has_place s.link) (owed s.up p)) (misnamed_none p.name (is_name p.name) refl)
+    both_none (misnamed p.name) (dropped (has_place s.link) (owed s.up p))
+    (misnamed_none p.name (is_name p.name) refl)
     (dropped_none (has_place s.link) (owed s.up p))
 packet_none s (Acknowledges packet_id) = tt
 packet_none s (Grants packet_id) = tt
@@ -287,7 +194,8 @@ packet_none s Strange = tt
 
 -- ---- each row
 
-quiet_author : (s : State) (c : Cause) (y : Client) → author_outs c y ≡ [] → (let stays = Stays y (client_next s c y) in stays)
+quiet_author : (s : State) (c : Cause) (y : Client) → author_outs c y ≡ []
+    → (let stays = Stays y (client_next s c y) in stays)
     → Author s c y
 quiet_author s c y none stays = record {
   here = λ place pongs. absurd (let e : false ≡ true = sym (ap (is_ponged (Some place)) none) ∙ pongs in cc);
@@ -297,7 +205,8 @@ quiet_author s c y none stays = record {
 
 take_none : (s : State) (up : Bool) → s.up ≡ up → NoPong (outs_by s ByTake)
 take_none s true is =
-    rw is (none_sends (leaving s.link s.link.waiting (exits_of s.policy s.link.waiting)) (all_unsent s.policy s.link s.link.waiting))
+    rw is (none_sends (leaving s.link s.link.waiting (exits_of s.policy s.link.waiting))
+    (all_unsent s.policy s.link s.link.waiting))
 take_none s false is = rw is tt
 
 up_none : (s : State) → NoPong (outs_by s ByUp)
@@ -307,7 +216,8 @@ up_none s =
     (again_unsent s.policy s.link.in_flight anew
     ∙ wires_kept anew (subscribing_wires (resumed s.link s.clock (exits_for s ByUp)) (filters_wanted s.link)))
 
-ping_dropped_none : (due place : Bool) → NoPong (if due then (if place then [] else Note note.Outbox ∷ []) else [])
+ping_dropped_none : (due place : Bool)
+    → NoPong (if due then (if place then [] else Note note.Outbox ∷ []) else [])
 ping_dropped_none true true = tt
 ping_dropped_none true false = tt
 ping_dropped_none false place = tt
@@ -315,7 +225,8 @@ ping_dropped_none false place = tt
 after_rows : (s : State) (c : Cause) (own rest : List Out) → NoPong rest → Each (Told s c own) s.clients
     → Each (Told s c (own ++ rest)) s.clients
 after_rows s c own rest none told =
-    each_map (Told s c own) (Told s c (own ++ rest)) s.clients (λ x is. told_before s c own rest x none is) told
+    each_map (Told s c own) (Told s c (own ++ rest)) s.clients
+    (λ x is. told_before s c own rest x none is) told
 
 pub row_told : (s : State) (c : Cause) → Good s → Each (Told s c (outs_by s c)) s.clients
 row_told s (ByConnect from connect) good =
@@ -327,29 +238,35 @@ row_told s (ByMessage from request) good =
     let c = ByMessage from request in
     frame_told s c (stranger_to from request) (any_from c s.clients) refl (stranger_none from request)
     (λ x. message_author s from request x) (λ x away. rw away refl) good.places good.rest
-row_told s (BySource from p) good = idle_rows s (BySource from p) (outs_by s (BySource from p)) tt (λ x. refl) good.rest
+row_told s (BySource from p) good =
+    idle_rows s (BySource from p) (outs_by s (BySource from p)) tt (λ x. refl) good.rest
 row_told s (ByBroken from rule) good =
     let c = ByBroken from rule in
     frame_told s c (Note (note.Frame (who.Address from) (Denied rule)) ∷ []) (any_from c s.clients) refl tt
     (λ x. quiet_author s c x refl
     (settled_for s c x refl
-    (every_if (Settled (around s c)) (is_here x from) (note.Frame (who.Client x.id) (Denied rule) ∷ []) ((λ y at here. here), tt))))
+    (every_if (Settled (around s c)) (is_here x from) (note.Frame (who.Client x.id) (Denied rule) ∷ [])
+    ((λ y at here. here), tt))))
     (λ x away. rw away refl) good.places good.rest
 row_told s (ByPacket p) good =
     let c = ByPacket p in
-    after_rows s c (client_rows s c [] (notes_for s c)) (answer_outs s.up s.link (answer_of p)) (packet_none s (answer_of p))
-    (rows_told s c [] s.clients (λ x. quiet_author s c x refl (settled_for s c x refl (settled_packet (around s c) s p x))) good.places)
+    after_rows s c (client_rows s c [] (notes_for s c)) (answer_outs s.up s.link (answer_of p))
+    (packet_none s (answer_of p))
+    (rows_told s c [] s.clients (λ x. quiet_author s c x refl
+    (settled_for s c x refl (settled_packet (around s c) s p x))) good.places)
 row_told s ByUp good = idle_rows s ByUp (outs_by s ByUp) (up_none s) (λ x. refl) good.rest
 row_told s ByDown good = idle_rows s ByDown [] tt (λ x. refl) good.rest
 row_told s ByTake good = idle_rows s ByTake (outs_by s ByTake) (take_none s s.up refl) (λ x. refl) good.rest
 row_told s (ByReplace policy) good =
     let c = ByReplace policy in
     rows_told s c (drops s c (notes_for s c)) s.clients
-    (λ x. quiet_author s c x refl (settled_for s c x refl (settled_ends (around s c) policy x.id x.filters))) good.places
+    (λ x. quiet_author s c x refl (settled_for s c x refl (settled_ends (around s c) policy x.id x.filters)))
+    good.places
 row_told s (ByTick clock) good =
     let c = ByTick clock in
     let now = later s.clock clock in
     let link = with_wills s.link now s.clients in
     after_rows s c (client_rows s c [] (notes_for s c)) (ping_dropped s.up link now)
     (ping_dropped_none (is_ping_due s.up link now) (has_place link))
-    (rows_told s c [] s.clients (λ x. quiet_author s c x refl (settled_for s c x refl (settled_tick s clock x))) good.places)
+    (rows_told s c [] s.clients (λ x. quiet_author s c x refl
+    (settled_for s c x refl (settled_tick s clock x))) good.places)

@@ -1,216 +1,43 @@
 -- What is kept of the messages for a client after a row is what the rows show of them, by each cause.
-use Rattle.std.proofs.Common.{◌≡◌, ℕ, Bool, true, false, List, [], ◌∷◌, ◌++◌, refl, ap, sym, subst, if◌then◌else◌}
-use Rattle.std.specs.Prelude.{◌&&◌, ◌==◌, nat_le, length, Option, Some, None}
+use Rattle.std.proofs.Common.{◌≡◌, ℕ, Bool, true, false, List, [], ◌∷◌, ◌++◌, refl, subst}
+use Rattle.std.proofs.Common.{if◌then◌else◌}
+use Rattle.std.specs.Prelude.{nat_le, length, Option, Some, None}
 use Rattle.std.specs.Str.{bytes_eq}
 use Rattle.sng_grants.specs.declared.policy.Policy.{Policy}
 use Rattle.sng_fan.specs.declared.held.Held.{Held}
-use Rattle.sng_states.specs.declared.state.ClientState.TheVariants.{Active, Dialogue}
-use Rattle.sng_states.specs.States.{is_due_messages}
-use Rattle.sng_frames.specs.declared.messages.connect.Connect.{Connect}
 use Rattle.sng_queue.specs.declared.limits.TheConstants.{MAX_QUEUED}
 use Rattle.sng_queue.specs.Messages.{Message, is_sendable}
 use Rattle.sng_queue.specs.Buffers.{Buffer}
-use Rattle.sng_book.specs.Denials.{is_allowed}
-use Rattle.sng_book.specs.declared.address.Address.{Address}
 use Rattle.sng_book.specs.declared.decision.Decision.{Decision}
 use Rattle.sng_book.specs.declared.decision.Decision.TheVariants as note
 use Rattle.sng_book.specs.declared.decision.Who.TheVariants as who
 use Rattle.sng_book.specs.declared.outcome.Place.TheVariants as place
 use Rattle.sng_book.specs.declared.outcome.Denial.{Denial}
-use Rattle.sng_book.specs.declared.outcome.Denial.TheVariants.{NotSupported, BrokerRefused, Full, TooLong}
+use Rattle.sng_book.specs.declared.outcome.Denial.TheVariants.{BrokerRefused, Full, TooLong}
 use Rattle.sng_book.specs.declared.outcome.Outcome.{Outcome}
 use Rattle.sng_book.specs.declared.outcome.Outcome.TheVariants.{Allowed, Denied}
-use Rattle.sng_history.specs.Causes.{Request, ToPing, ToLeave, ToRegister, ToPublish, ToSubscribe, ToUnsubscribe, ToConfirm, ToAcknowledge}
-use Rattle.sng_history.specs.Causes.{Untaken, Cause, ToState, ToSleep}
-use Rattle.sng_history.specs.Causes.{ByConnect, ByMessage, BySource, ByBroken, ByPacket, ByUp, ByDown, ByTake, ByReplace, ByTick}
+use Rattle.sng_history.specs.Causes.{Cause}
+use Rattle.sng_history.specs.Causes.{ByConnect, ByMessage, BySource, ByBroken, ByPacket, ByUp, ByDown, ByTake}
+use Rattle.sng_history.specs.Causes.{ByReplace, ByTick}
 use Rattle.sng_history.specs.Arriving.{arrival, joins_by, joins, turned_away_by, turned_away}
 use Rattle.sng_history.specs.Packets.{answer_of, refused_filter}
 use Rattle.sng_history.specs.Standing.{holds}
-use Rattle.sng_history.specs.Clients.{Client, Around, is_here, is_confirming, is_acknowledging, answered_by, message_due, cleaned, without}
-use Rattle.sng_history.specs.Clients.{subscribe_of, is_turned_away, handed, start_by, note_by, opened, awake, asleep, is_waking}
+use Rattle.sng_history.specs.Clients.{Client, Around, is_here}
+use Rattle.sng_history.specs.Clients.{message_due, without}
+use Rattle.sng_history.specs.Clients.{is_turned_away, handed, start_by, note_by}
 use Rattle.sng_history.specs.State.{State, around, later}
-use Rattle.sng_history.specs.Verdicts.{entry, ping_verdict, coverage}
-use Rattle.sng_history.specs.Answers.{denied_note}
-use Rattle.sng_history.specs.Outgoing.{handed_over, all_gone, out_of_turn, delivered_notes}
-use Rattle.sng_history.specs.Lawful.{denial_of, fixed_to, end_of, ends_under, refused_end, entering_notes, fixed_for}
+use Rattle.sng_history.specs.Verdicts.{entry, coverage}
+use Rattle.sng_history.specs.Outgoing.{handed_over, delivered_notes}
+use Rattle.sng_history.specs.Lawful.{end_of, ends_under, refused_end}
+use Rattle.sng_history.specs.Lawful.{fixed_for}
 use Rattle.sng_history.specs.LawsTurns.{comes_in_turn}
 use Rattle.sng_history.proofs.Own.{same_self}
-use Rattle.sng_history.proofs.Asks.{of_register, of_publish, of_subscribe, of_unsubscribe}
-use Rattle.sng_history.proofs.SeenIds.{telling_none}
-use Rattle.sng_history.proofs.SeenTurns.{View, closed_view, closed_follows, entered_follows, joined_follows}
-use Rattle.sng_history.proofs.SeenHanding.{view_by, Shown, Step, Moved, moved_so, other_step, handed_moved, gone_moved}
-use Rattle.sng_history.proofs.SeenAsked.{quiet_shown, quiet_denied, registered_moved, subscribed_follows, subscribed_step}
-use Rattle.sng_history.proofs.SeenAsked.{unsubscribed_step, unsubscribed_follows, left_moved}
+use Rattle.sng_history.proofs.SeenFollows.{View}
+use Rattle.sng_history.proofs.SeenTurns.{joined_follows}
+use Rattle.sng_history.proofs.SeenHandingNotes.{view_by, Shown, Moved, moved_so, other_step}
+use Rattle.sng_history.proofs.SeenHanding.{handed_moved}
 use Rattle.sng_history.proofs.SeenLost.{tick_moved}
-use Rattle.sng_history.proofs.SeenAnswered.{statement_moved, confirmed_view, confirm_moved, puback_moved}
-
--- ---- a message of the client
-
--- what the message shows before any note
-abbrev pub answered_view : Request → Client → View → View
-answered_view (ToConfirm r) x v = if (r.code.0 == 0) && is_confirming r x then confirmed_view v else v
-answered_view (ToAcknowledge r) x v = if is_acknowledging r x then closed_view v else v
-answered_view (ToPing client) x v = v
-answered_view (ToSleep duration) x v = if is_due_messages x.phase then closed_view v else v
-answered_view ToLeave x v = v
-answered_view (ToRegister r) x v = v
-answered_view (ToPublish p) x v = v
-answered_view (ToSubscribe r) x v = v
-answered_view (ToUnsubscribe r) x v = v
-answered_view (ToState statement) x v = v
-answered_view (Untaken message) x v = v
-
--- a PINGREQ may wake the client
-ping_moved : (a : Around) (due : List Message) (v : View) (x : Client) (clock : ℕ) (o : Outcome) (wakes : Bool) → Shown due v x
-    → let y : Client = record x { heard = clock } in
-    Moved a x.id due (denial_of x.id o ++ (if wakes then handed_over a.policy (awake x) else [])) v (if wakes then awake y else y)
-ping_moved a due v x clock Allowed true shown = handed_moved a due v (awake (record x { heard = clock })) shown
-ping_moved a due v x clock Allowed false shown = shown
-ping_moved a due v x clock (Denied rule) true shown =
-    (record { phase = λ m fits. refl; turn = tt }, handed_moved a due v (awake (record x { heard = clock })) shown)
-ping_moved a due v x clock (Denied rule) false shown = (record { phase = λ m fits. refl; turn = tt }, shown)
-
--- by a DISCONNECT with Duration it falls asleep
-sleep_moved : (a : Around) (due : List Message) (v : View) (x : Client) (clock duration : ℕ) (due_messages : Bool) → Shown due v x
-    → let y : Client = record x { heard = clock } in
-    Moved a x.id due (if due_messages then [] else out_of_turn x.id) (if due_messages then closed_view v else v)
-    (if due_messages then asleep duration y else y)
-sleep_moved a due v x clock duration true shown = closed_follows due v x.ids x.number x.buffer shown
-sleep_moved a due v x clock duration false shown = (record { phase = λ m fits. refl; turn = tt }, shown)
-
-request_moved : (s : State) (from : Address) (request : Request) (due : List Message) (v : View) (x : Client) → Shown due v x
-    → Moved (around s (ByMessage from request)) x.id due (fixed_to s request x) (answered_view request x v)
-    (answered_by (Some request) (record x { heard = s.clock }))
-request_moved s from (ToPing client) due v x shown =
-    ping_moved (around s (ByMessage from (ToPing client))) due v x s.clock (ping_verdict client x) (is_waking client x) shown
-request_moved s from (ToSleep duration) due v x shown =
-    sleep_moved (around s (ByMessage from (ToSleep duration))) due v x s.clock duration (is_due_messages x.phase) shown
-request_moved s from ToLeave due v x shown = left_moved (around s (ByMessage from ToLeave)) x.id due v (record x { heard = s.clock }) shown
-request_moved s from (ToRegister r) due v x shown =
-    let a = around s (ByMessage from (ToRegister r)) in
-    let y : Client = record x { heard = s.clock } in
-    of_register (λ said. Moved a x.id due (said ∷ []) v y) s.policy x r.name (λ name o. registered_moved a x.id due v y name o shown)
-request_moved s from (ToPublish p) due v x shown =
-    let a = around s (ByMessage from (ToPublish p)) in
-    let y : Client = record x { heard = s.clock } in
-    of_publish (λ said. Moved a x.id due (said ∷ []) v y) s x p (λ name o. (record { phase = λ m fits. refl; turn = tt }, shown))
-request_moved s from (ToSubscribe r) due v x shown =
-    let a = around s (ByMessage from (ToSubscribe r)) in
-    let y : Client = record x { heard = s.clock } in
-    of_subscribe (λ said. Moved a x.id due (said ∷ []) v y) s x r
-    (λ filter o. (subscribed_step a v y x.id filter o, subscribed_follows due v y x.id (subscribe_of a.cause) filter o shown))
-request_moved s from (ToUnsubscribe r) due v x shown =
-    let a = around s (ByMessage from (ToUnsubscribe r)) in
-    let y : Client = record x { heard = s.clock } in
-    of_unsubscribe (λ said. Moved a x.id due (said ∷ []) v y) s.policy x r
-    (λ filter o. (unsubscribed_step a v y x.id filter o, unsubscribed_follows due v y filter o shown))
-request_moved s from (ToConfirm r) due v x shown =
-    confirm_moved (around s (ByMessage from (ToConfirm r))) due v x s.clock r (is_confirming r x) (r.code.0 == 0) refl refl shown
-request_moved s from (ToAcknowledge r) due v x shown =
-    puback_moved (around s (ByMessage from (ToAcknowledge r))) due v (record x { heard = s.clock }) (is_acknowledging r x) shown
-request_moved s from (ToState statement) due v x shown = statement_moved s from statement due v x shown
-request_moved s from (Untaken message) due v x shown =
-    let a = around s (ByMessage from (Untaken message)) in
-    quiet_shown a x.id due (denied_note message (who.Client x.id) NotSupported) v (record x { heard = s.clock })
-    (quiet_denied a x.id due message NotSupported) shown
-
-message_moved : (s : State) (from : Address) (request : Request) (due : List Message) (v : View) (x : Client) (here : Bool) → Shown due v x
-    → let y : Client = if here then answered_by (Some request) (record x { heard = s.clock }) else x in
-    Moved (around s (ByMessage from request)) x.id due (if here then fixed_to s request x else [])
-    (if here then answered_view request x v else v) y
-message_moved s from request due v x true shown = request_moved s from request due v x shown
-message_moved s from request due v x false shown = shown
-
--- ---- a CONNECT
-
-view_entered : (a : Around) (id : List ℕ) (due : List Message) (v : View)
-    → view_by a id due (note.Connect id Allowed) v ≡ record (closed_view v) { told = []; known = [] }
-view_entered a id due v = rw (same_self id) refl
-
-view_denied : (a : Around) (id : List ℕ) (due : List Message) (v : View) (rule : Denial)
-    → view_by a id due (note.Connect id (Denied rule)) v ≡ v
-view_denied a id due v rule = rw (same_self id) refl
-
-entering_moved : (a : Around) (due : List Message) (v : View) (x : Client) (from : Address) (duration : ℕ) (will clean : Bool)
-    → Shown due v x
-    → let z : Client = opened will (cleaned clean (record x { address = from; ids = []; duration = duration; heard = a.clock })) in
-    let w : View = record (closed_view v) { told = []; known = [] } in
-    Moved a x.id due (if clean then all_gone x.id x.buffer.waiting else handed_over a.policy z) w z
-entering_moved a due v x from duration true true shown =
-    let z : Client = opened true (cleaned true (record x { address = from; ids = []; duration = duration; heard = a.clock })) in
-    let w : View = record (closed_view v) { told = []; known = [] } in
-    gone_moved a x.id due x.buffer.waiting w z refl refl shown.settling telling_none shown.given
-entering_moved a due v x from duration false true shown =
-    let z : Client = opened false (cleaned true (record x { address = from; ids = []; duration = duration; heard = a.clock })) in
-    let w : View = record (closed_view v) { told = []; known = [] } in
-    gone_moved a x.id due x.buffer.waiting w z refl refl shown.settling telling_none shown.given
-entering_moved a due v x from duration true false shown =
-    let z : Client = opened true (cleaned false (record x { address = from; ids = []; duration = duration; heard = a.clock })) in
-    let w : View = record (closed_view v) { told = []; known = [] } in
-    handed_moved a due w z (entered_follows due v x.ids x.number x.buffer shown)
-entering_moved a due v x from duration false false shown =
-    let z : Client = opened false (cleaned false (record x { address = from; ids = []; duration = duration; heard = a.clock })) in
-    let w : View = record (closed_view v) { told = []; known = [] } in
-    handed_moved a due w z (entered_follows due v x.ids x.number x.buffer shown)
-
-heard_shown : (due : List Message) (v : View) (x : Client) (heard : Bool) (clock : ℕ) → Shown due v x
-    → Shown due v (if heard then record x { heard = clock } else x)
-heard_shown due v x true clock shown = shown
-heard_shown due v x false clock shown = shown
-
--- who is let in is active, or in a dialogue
-entered_phase : (will clean : Bool) (x : Client) → (opened will (cleaned clean x)).phase ≡ (if will then Dialogue else Active)
-entered_phase true clean x = refl
-entered_phase false clean x = refl
-
-entered_step : (s : State) (from : Address) (connect : Connect) (v : View) (x : Client)
-    → Step (around s (ByConnect from connect)) x.id (note.Connect x.id Allowed) v x
-entered_step s from connect v x = record {
-  phase = λ m fits. rw (same_self x.id, fits.connects)
-      (ap Some (sym (entered_phase connect.flags.will connect.flags.clean
-      (let y : Client = record x { address = from; ids = []; duration = connect.duration; heard = s.clock } in y))));
-  turn = tt;
-}
-
-own_moved : (s : State) (from : Address) (connect : Connect) (due : List Message) (v : View) (x : Client) (here : Bool) (o : Outcome)
-    → Shown due v x
-    → let y : Client = if here then record x { heard = s.clock } else x in
-    Moved (around s (ByConnect from connect)) x.id due (note.Connect x.id o ∷ entering_notes s from connect x o) v y
-own_moved s from connect due v x true Allowed shown =
-    let a = around s (ByConnect from connect) in
-    let y : Client = record x { heard = s.clock } in (
-      entered_step s from connect v y,
-      subst (λ w. Moved a x.id due (entering_notes s from connect x Allowed) w (note_by a (note.Connect x.id Allowed) y))
-          (sym (view_entered a x.id due v))
-          (entering_moved a due v y from connect.duration connect.flags.will connect.flags.clean shown),
-    )
-own_moved s from connect due v x false Allowed shown =
-    let a = around s (ByConnect from connect) in (
-      entered_step s from connect v x,
-      subst (λ w. Moved a x.id due (entering_notes s from connect x Allowed) w (note_by a (note.Connect x.id Allowed) x))
-          (sym (view_entered a x.id due v))
-          (entering_moved a due v x from connect.duration connect.flags.will connect.flags.clean shown),
-    )
-own_moved s from connect due v x here (Denied rule) shown =
-    let y : Client = if here then record x { heard = s.clock } else x in (
-      record { phase = λ m fits. rw (same_self x.id) refl; turn = tt },
-      subst (λ w. Shown due w y) (sym (view_denied (around s (ByConnect from connect)) x.id due v rule))
-          (heard_shown due v x here s.clock shown),
-    )
-
-connect_moved : (s : State) (from : Address) (connect : Connect) (due : List Message) (v : View) (x : Client) (own here : Bool)
-    (o : Outcome)
-    → Shown due v x
-    → let y : Client = if here then record x { heard = s.clock } else x in
-    let notes = if own
-    then note.Connect x.id o ∷ entering_notes s from connect x o
-    else (if is_allowed o then (if here then note.Left x.id ∷ all_gone x.id x.buffer.waiting else []) else []) in
-    Moved (around s (ByConnect from connect)) x.id due notes v y
-connect_moved s from connect due v x true here o shown = own_moved s from connect due v x here o shown
-connect_moved s from connect due v x false true Allowed shown =
-    left_moved (around s (ByConnect from connect)) x.id due v (record x { heard = s.clock }) shown
-connect_moved s from connect due v x false false Allowed shown = shown
-connect_moved s from connect due v x false here (Denied rule) shown = heard_shown due v x here s.clock shown
+use Rattle.sng_history.proofs.SeenProgressOwn.{answered_view, message_moved, connect_moved}
 
 -- ---- a packet of the broker
 
@@ -225,20 +52,26 @@ due_with (Some m) b due = due_by (arrival b m) m due
 
 -- a message that does not wait is refused in its own row
 sendable_by : (full sendable : Bool) (rule : Denial)
-    → (let o : Outcome = if sendable then (if full then Denied (Full place.Queue) else Allowed) else Denied TooLong in o) ≡ Denied rule
+    → (let o : Outcome = if sendable then (if full then Denied (Full place.Queue) else Allowed)
+    else Denied TooLong in o) ≡ Denied rule
     → is_turned_away rule ≡ true
-sendable_by true true rule is = let e : Full place.Queue ≡ rule = cc in subst (λ r. is_turned_away r ≡ true) e refl
+sendable_by true true rule is =
+    let e : Full place.Queue ≡ rule = cc in subst (λ r. is_turned_away r ≡ true) e refl
 sendable_by false true rule is = absurd cc
 sendable_by full false rule is = let e : TooLong ≡ rule = cc in subst (λ r. is_turned_away r ≡ true) e refl
 
-pub refused_rule : (b : Buffer) (m : Message) (rule : Denial) → arrival b m ≡ Denied rule → is_turned_away rule ≡ true
-refused_rule b m rule is = sendable_by (nat_le MAX_QUEUED (length b.waiting)) (is_sendable m.name m.payload) rule is
+pub refused_rule : (b : Buffer) (m : Message) (rule : Denial) → arrival b m ≡ Denied rule
+    → is_turned_away rule ≡ true
+refused_rule b m rule is =
+    sendable_by (nat_le MAX_QUEUED (length b.waiting)) (is_sendable m.name m.payload) rule is
 
-view_away : (a : Around) (id : List ℕ) (due : List Message) (name : List ℕ) (rule : Denial) (v : View) → is_turned_away rule ≡ true
+view_away : (a : Around) (id : List ℕ) (due : List Message) (name : List ℕ) (rule : Denial) (v : View)
+    → is_turned_away rule ≡ true
     → view_by a id due (note.Hand id name (Denied rule)) v ≡ v
 view_away a id due name rule v turned = rw (same_self id, turned) refl
 
-client_away : (a : Around) (name : List ℕ) (rule : Denial) (x : Client) → is_turned_away rule ≡ true → handed a name (Denied rule) x ≡ x
+client_away : (a : Around) (name : List ℕ) (rule : Denial) (x : Client) → is_turned_away rule ≡ true
+    → handed a name (Denied rule) x ≡ x
 client_away a name rule x turned = rw turned refl
 
 -- the message that is due to the client, as it comes
@@ -258,7 +91,8 @@ never_in_turn TooLong turned = refl
 never_in_turn (Full place.Queue) turned = refl
 never_in_turn rule turned = absurd cc
 
-away_by : (a : Around) (id : List ℕ) (due : List Message) (notes : List Decision) (v : View) (x : Client) (b : Buffer) (m : Message)
+away_by : (a : Around) (id : List ℕ) (due : List Message) (notes : List Decision) (v : View) (x : Client)
+    (b : Buffer) (m : Message)
     (o : Outcome)
     → arrival b m ≡ o → Moved a id due notes v x
     → Moved a id due (turned_away_by id m.name o ++ notes) v x
@@ -267,47 +101,60 @@ away_by a id due notes v x b m (Denied rule) is moved =
     let turned = refused_rule b m rule is in
     let said = note.Hand id m.name (Denied rule) in (
       other_step a id m.name rule v x (never_in_turn rule turned),
-      moved_so a id due notes (view_by a id due said v) v (note_by a said x) x (view_away a id due m.name rule v turned)
+      moved_so a id due notes (view_by a id due said v) v (note_by a said x) x
+          (view_away a id due m.name rule v turned)
           (client_away a m.name rule x turned) moved,
     )
 
-came_moved : (a : Around) (due : List Message) (v : View) (x : Client) (b : Buffer) (m : Option Message) → Shown due v x
+came_moved : (a : Around) (due : List Message) (v : View) (x : Client) (b : Buffer) (m : Option Message)
+    → Shown due v x
     → Moved a x.id due (turned_away x.id m b ++ handed_over a.policy x) v x
 came_moved a due v x b None shown = handed_moved a due v x shown
 came_moved a due v x b (Some m) shown =
     away_by a x.id due (handed_over a.policy x) v x b m (arrival b m) refl (handed_moved a due v x shown)
 
-ended_by : (a : Around) (due : List Message) (v : View) (x : Client) (b : Buffer) (m : Option Message) (text : List ℕ) (ends : Bool)
+ended_by : (a : Around) (due : List Message) (v : View) (x : Client) (b : Buffer) (m : Option Message)
+    (text : List ℕ) (ends : Bool)
     → Shown due v x
     → Moved a x.id due
-    ((if ends then note.End x.id text (Denied BrokerRefused) ∷ [] else []) ++ (turned_away x.id m b ++ handed_over a.policy x)) v x
-ended_by a due v x b m text true shown = (record { phase = λ m fits. refl; turn = tt }, came_moved a due v (without text x) b m shown)
+    ((if ends then note.End x.id text (Denied BrokerRefused) ∷ [] else [])
+    ++ (turned_away x.id m b ++ handed_over a.policy x)) v x
+ended_by a due v x b m text true shown =
+    (record { phase = λ m fits. refl; turn = tt }, came_moved a due v (without text x) b m shown)
 ended_by a due v x b m text false shown = came_moved a due v x b m shown
 
-packet_moved : (a : Around) (due : List Message) (v : View) (x : Client) (f : Option (List ℕ)) (m : Option Message) → Shown due v x
-    → Moved a x.id (due_with m x.buffer due) (refused_end x f ++ delivered_notes a.policy m x) v (record x { buffer = joins m x.buffer })
+packet_moved : (a : Around) (due : List Message) (v : View) (x : Client) (f : Option (List ℕ))
+    (m : Option Message) → Shown due v x
+    → Moved a x.id (due_with m x.buffer due) (refused_end x f ++ delivered_notes a.policy m x) v
+    (record x { buffer = joins m x.buffer })
 packet_moved a due v x None m shown =
-    came_moved a (due_with m x.buffer due) v (record x { buffer = joins m x.buffer }) x.buffer m (due_shown due v x m shown)
+    came_moved a (due_with m x.buffer due) v (record x { buffer = joins m x.buffer }) x.buffer m
+    (due_shown due v x m shown)
 packet_moved a due v x (Some text) m shown =
-    ended_by a (due_with m x.buffer due) v (record x { buffer = joins m x.buffer }) x.buffer m text (holds text x)
+    ended_by a (due_with m x.buffer due) v (record x { buffer = joins m x.buffer }) x.buffer m text
+    (holds text x)
     (due_shown due v x m shown)
 
 -- ---- any row
 
-end_moved : (a : Around) (id text : List ℕ) (due : List Message) (notes : List Decision) (v : View) (x : Client) (o : Outcome)
+end_moved : (a : Around) (id text : List ℕ) (due : List Message) (notes : List Decision) (v : View)
+    (x : Client) (o : Outcome)
     → ((y : Client) → Shown due v y → Moved a id due notes v y) → Shown due v x
     → Moved a id due (end_of id text o ++ notes) v x
 end_moved a id text due notes v x Allowed rest shown = rest x shown
-end_moved a id text due notes v x (Denied rule) rest shown = (record { phase = λ m fits. refl; turn = tt }, rest (without text x) shown)
+end_moved a id text due notes v x (Denied rule) rest shown =
+    (record { phase = λ m fits. refl; turn = tt }, rest (without text x) shown)
 
-ends_moved : (a : Around) (id : List ℕ) (due : List Message) (policy : Policy) (held : List Held) (v : View) (x : Client) → Shown due v x
+ends_moved : (a : Around) (id : List ℕ) (due : List Message) (policy : Policy) (held : List Held) (v : View)
+    (x : Client) → Shown due v x
     → Moved a id due (ends_under policy id held) v x
 ends_moved a id due policy [] v x shown = shown
 ends_moved a id due policy (h ∷ held) v x shown =
     end_moved a id h.filter due (ends_under policy id held) v x (coverage policy id h.filter)
     (λ y is. ends_moved a id due policy held v y is) shown
 
-broken_moved : (a : Around) (id : List ℕ) (due : List Message) (v : View) (x : Client) (here : Bool) (rule : Denial) → Shown due v x
+broken_moved : (a : Around) (id : List ℕ) (due : List Message) (v : View) (x : Client) (here : Bool)
+    (rule : Denial) → Shown due v x
     → Moved a id due (if here then note.Frame (who.Client id) (Denied rule) ∷ [] else []) v x
 broken_moved a id due v x true rule shown = (record { phase = λ m fits. refl; turn = tt }, shown)
 broken_moved a id due v x false rule shown = shown
@@ -338,17 +185,23 @@ start_view (ByReplace policy) x v = v
 start_view (ByTick clock) x v = v
 
 pub row_moved : (s : State) (c : Cause) (x : Client) (due : List Message) (v : View) → Shown due v x
-    → Moved (around s c) x.id (due_after c x due) (fixed_for s c x) (start_view c x v) (start_by (around s c) x)
+    → Moved (around s c) x.id (due_after c x due) (fixed_for s c x) (start_view c x v)
+    (start_by (around s c) x)
 row_moved s (ByConnect from connect) x due v shown =
-    connect_moved s from connect due v x (bytes_eq connect.client_id x.id) (is_here x from) (entry s connect) shown
-row_moved s (ByMessage from request) x due v shown = message_moved s from request due v x (is_here x from) shown
+    connect_moved s from connect due v x (bytes_eq connect.client_id x.id) (is_here x from)
+    (entry s connect) shown
+row_moved s (ByMessage from request) x due v shown =
+    message_moved s from request due v x (is_here x from) shown
 row_moved s (BySource from p) x due v shown = shown
-row_moved s (ByBroken from rule) x due v shown = broken_moved (around s (ByBroken from rule)) x.id due v x (is_here x from) rule shown
+row_moved s (ByBroken from rule) x due v shown =
+    broken_moved (around s (ByBroken from rule)) x.id due v x (is_here x from) rule shown
 row_moved s (ByPacket p) x due v shown =
-    packet_moved (around s (ByPacket p)) due v x (refused_filter s.link (answer_of p)) (message_due (answer_of p) x) shown
+    packet_moved (around s (ByPacket p)) due v x (refused_filter s.link (answer_of p))
+    (message_due (answer_of p) x) shown
 row_moved s ByUp x due v shown = shown
 row_moved s ByDown x due v shown = shown
 row_moved s ByTake x due v shown = shown
-row_moved s (ByReplace policy) x due v shown = ends_moved (around s (ByReplace policy)) x.id due policy x.filters v x shown
+row_moved s (ByReplace policy) x due v shown =
+    ends_moved (around s (ByReplace policy)) x.id due policy x.filters v x shown
 row_moved s (ByTick clock) x due v shown =
     tick_moved (around s (ByTick clock)) due s.link (later s.clock clock) s.clients v x shown

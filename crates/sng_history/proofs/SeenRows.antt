@@ -1,49 +1,43 @@
 -- One client after a row is what the rows show of it.
-use Rattle.std.proofs.Common.{◌≡◌, ℕ, Bool, true, false, List, [], ◌∷◌, refl, ap, sym, ◌∙◌, subst, if◌then◌else◌, Ok}
+use Rattle.std.proofs.Common.{◌≡◌, ℕ, Bool, true, false, List, ◌∷◌, refl, ap, sym, ◌∙◌, subst}
+use Rattle.std.proofs.Common.{if◌then◌else◌}
 use Rattle.std.specs.Prelude.{◌||◌, Some, None}
 use Rattle.sng_frames.specs.Reading.{frame_of}
-use Rattle.sng_frames.specs.declared.messages.connect.Connect.{Connect}
-use Rattle.sng_frames.specs.declared.frame.SnFrame.TheVariants as frame
 use Rattle.sng_book.specs.declared.address.Address.{Address}
 use Rattle.sng_book.specs.declared.decision.Decision.{Decision}
-use Rattle.sng_book.specs.declared.decision.Decision.TheVariants as note
-use Rattle.sng_book.specs.declared.outcome.Outcome.TheVariants.{Allowed}
 use Rattle.sng_book.specs.declared.event.Event.{Event}
 use Rattle.sng_book.specs.declared.event.Event.TheVariants.{Datagram, Broker, Up, Down, Take, Replace, Tick}
 use Rattle.sng_book.specs.declared.out.Out.{Out}
 use Rattle.sng_book.specs.declared.row.Row.{Row}
-use Rattle.sng_history.specs.Causes.{ByConnect, ByReplace, datagram_cause, cause_of, ByTick}
-use Rattle.sng_history.specs.Clients.{Client, blank, let_in, notes_by, start_by, is_drained, drained}
+use Rattle.sng_history.specs.Causes.{ByReplace, cause_of, ByTick}
+use Rattle.sng_history.specs.Clients.{Client, is_drained, drained}
 use Rattle.sng_history.specs.Notes.{notes_of}
 use Rattle.sng_history.specs.State.{State, around, later}
-use Rattle.sng_history.specs.Verdicts.{entry}
 use Rattle.sng_history.specs.Lawful.{ends_under, fixed_for}
 use Rattle.sng_history.specs.Steps.{client_next}
 use Rattle.sng_history.specs.Views.{clock_at}
-use Rattle.sng_history.specs.ViewsMessages.{message_in, message_at}
-use Rattle.sng_history.specs.ViewsClients.{phase_of, address_of, duration_of, heard_of, came_from, stated_in, speaks, is_admitted}
-use Rattle.sng_history.specs.ViewsClients.{own_message, phase_after, phase_spoken, slept_for, is_ponged, put_to_sleep, names_told}
+use Rattle.sng_history.specs.ViewsMessages.{message_at}
+use Rattle.sng_history.specs.ViewsClients.{phase_of, address_of, duration_of, heard_of, came_from, stated_in}
+use Rattle.sng_history.specs.ViewsClients.{speaks, is_admitted}
+use Rattle.sng_history.specs.ViewsClients.{own_message, phase_after, phase_spoken, slept_for, is_ponged}
+use Rattle.sng_history.specs.ViewsClients.{put_to_sleep, names_told}
 use Rattle.sng_history.specs.ViewsStanding.{standing_of}
 use Rattle.sng_history.specs.LawsState.{ClientShown, exchange_shown}
-use Rattle.sng_history.proofs.Own.{same_self}
 use Rattle.sng_history.proofs.Kept.{client_id}
-use Rattle.sng_history.proofs.Says.{blank_enters}
 use Rattle.sng_history.proofs.SeenNotes.{phase_notes, admitted_notes, phase_by_notes, admitted_by_notes}
-use Rattle.sng_history.proofs.SeenClients.{Before, Shows, kept_of, silent, ends_all, ends_show, packet_shows, moved_to}
-use Rattle.sng_history.proofs.SeenHeard.{tick_shows}
-use Rattle.sng_history.proofs.SeenEntered.{let_in_shows, let_in_awake}
+use Rattle.sng_history.proofs.SeenClients.{Before, Shows, kept_of, silent}
+use Rattle.sng_history.proofs.SeenUnmoved.{ends_all, ends_show, packet_shows}
+use Rattle.sng_history.proofs.SeenClients.{moved_to}
+use Rattle.sng_history.proofs.SeenLeft.{tick_shows}
 use Rattle.sng_history.proofs.SeenDatagrams.{datagram_shows, before_read, spoken_same}
-use Rattle.sng_history.proofs.SeenDue.{datagram_brings}
-use Rattle.sng_history.proofs.SeenStrangers.{Unheard, start_none}
-use Rattle.sng_history.proofs.SeenMailed.{Mailed, mailed_waits, mailed_next, mailed_row, mailed_blank}
+use Rattle.sng_history.proofs.SeenMailed.{Mailed, mailed_waits, mailed_row}
 use Rattle.sng_history.proofs.StandingNotes.{standing_notes, standing_by_notes, standing_next}
 use Rattle.sng_history.specs.ViewsWills.{stating_of, stage_shown}
-use Rattle.sng_history.proofs.SeenWills.{Willed, WilledAt}
+use Rattle.sng_history.proofs.SeenWillsKept.{WilledAt}
 use Rattle.sng_history.proofs.SeenStated.{willed_next}
-use Rattle.sng_history.proofs.SeenHanding.{Fits}
 use Rattle.sng_history.proofs.SeenViews.{event_fits, InForce}
-use Rattle.sng_states.specs.declared.state.ClientState.TheVariants.{Disconnected, Dialogue, Active, Asleep, Awake, Lost}
-use Rattle.sng_wills.specs.declared.will.Stage.TheVariants.{Closed}
+use Rattle.sng_states.specs.declared.state.ClientState.TheVariants.{Disconnected, Dialogue, Active, Asleep}
+use Rattle.sng_states.specs.declared.state.ClientState.TheVariants.{Awake, Lost}
 use Rattle.sng_history.proofs.SeenSleepers.{Told}
 use Rattle.sng_history.specs.ViewsHanding.{progress_of}
 use Rattle.sng_history.specs.ViewsSendings.{last_of}
@@ -56,7 +50,7 @@ WillShown h x = WilledAt x (stating_of x.id h)
 -- ---- one client
 
 -- what the rows show of a client and an event
-abbrev before_row : List ℕ → Event → List Row → Before
+abbrev pub before_row : List ℕ → Event → List Row → Before
 before_row id e h = record {
   phase = phase_spoken id (own_message (phase_of id h) (address_of id h) e) (phase_of id h);
   address = address_of id h;
@@ -71,11 +65,13 @@ before_row id e h = record {
 
 -- PINGRESP puts an awake client to sleep
 slept_by : (z : Client) (ponged b : Bool) → z.phase ≡ Awake → ponged ≡ b
-    → put_to_sleep ponged (Some z.phase) ≡ Some (let y : Client = if b then record z { phase = Asleep } else z in y).phase
+    → put_to_sleep ponged (Some z.phase)
+    ≡ Some (let y : Client = if b then record z { phase = Asleep } else z in y).phase
 slept_by z ponged true is same = rw (is, same) refl
 slept_by z ponged false is same = rw (is, same) refl
 
-slept : (z : Client) (ponged : Bool) (phase : ClientState) → z.phase ≡ phase → (z.phase ≡ Awake → ponged ≡ is_drained z)
+slept : (z : Client) (ponged : Bool) (phase : ClientState) → z.phase ≡ phase
+    → (z.phase ≡ Awake → ponged ≡ is_drained z)
     → put_to_sleep ponged (Some z.phase) ≡ Some (drained z).phase
 slept z ponged Awake is told = slept_by z ponged (is_drained z) is (told is)
 slept z ponged Active is told = rw is refl
@@ -97,7 +93,8 @@ drained_rest z = by_drained (is_drained z)
     by_drained true = record { address = refl; duration = refl; heard = refl }
     by_drained false = record { address = refl; duration = refl; heard = refl }
 
-shown_by : (by : ℕ) (h : List Row) (e : Event) (outs : List Out) (id : List ℕ) (n : List Decision) (z : Client)
+pub shown_by : (by : ℕ) (h : List Row) (e : Event) (outs : List Out) (id : List ℕ) (n : List Decision)
+    (z : Client)
     → (drained z).id ≡ id → notes_of id outs ≡ n → Shows id (before_row id e h) n z
     → (z.phase ≡ Awake → is_ponged (address_of id h) outs ≡ is_drained z)
     → Mailed (record { by = by; event = e; outs = outs } ∷ h) (drained z)
@@ -108,29 +105,34 @@ shown_by by h e outs id n z same own shows told mailed willed filters =
     let rows = record { by = by; event = e; outs = outs } ∷ h in
     let y = drained z in
     let rest = drained_rest z in
-    let admitted : is_admitted id outs ≡ admitted_notes id n = admitted_by_notes id outs ∙ ap (admitted_notes id) own in
+    let admitted : is_admitted id outs ≡ admitted_notes id n =
+    admitted_by_notes id outs ∙ ap (admitted_notes id) own in
     let m = message_at e in
     let b = before_row id e h in
     let ponged = is_ponged (address_of id h) outs in
     let phase : phase_of y.id rows ≡ Some y.phase =
     ap (λ i. phase_of i rows) same
-    ∙
-    (ap (put_to_sleep ponged) (phase_by_notes m id outs b.phase ∙ (ap (λ ns. phase_notes m id ns b.phase) own ∙ shows.0))
+    ∙ (ap (put_to_sleep ponged) (phase_by_notes m id outs b.phase
+    ∙ (ap (λ ns. phase_notes m id ns b.phase) own ∙ shows.0))
     ∙ slept z ponged z.phase refl told) in
     record {
       phase = phase;
       address = ap (λ i. address_of i rows) same
-          ∙ (ap (λ c. if c then came_from e else address_of id h) admitted ∙ (shows.1 ∙ ap Some (sym rest.address)));
+          ∙ (ap (λ c. if c then came_from e else address_of id h) admitted
+          ∙ (shows.1 ∙ ap Some (sym rest.address)));
       duration = ap (λ i. duration_of i rows) same
-          ∙ (ap (λ c. if c then stated_in e else b.duration) admitted ∙ (shows.2 ∙ ap Some (sym rest.duration)));
+          ∙ (ap (λ c. if c then stated_in e else b.duration) admitted
+          ∙ (shows.2 ∙ ap Some (sym rest.duration)));
       heard = ap (λ i. heard_of i rows) same
-          ∙ (ap (λ c. if c || speaks id e h then Some (clock_at h) else heard_of id h) admitted ∙ (shows.3 ∙ ap Some (sym rest.heard)));
+          ∙ (ap (λ c. if c || speaks id e h then Some (clock_at h) else heard_of id h) admitted
+          ∙ (shows.3 ∙ ap Some (sym rest.heard)));
       ids = mailed.telling.marks;
       filters = filters;
       waiting = mailed_waits rows y mailed;
       number = mailed.given;
       exchange = mailed.exchange
-          ∙ ap (λ n. exchange_shown (progress_of y.id rows).unanswered (names_told y.id rows) n (last_of y.id rows)) mailed.given;
+          ∙ ap (λ n. exchange_shown (progress_of y.id rows).unanswered (names_told y.id rows) n
+          (last_of y.id rows)) mailed.given;
       will = willed.will;
       stage = willed.stage ∙ ap (λ p. stage_shown p (stating_of y.id rows).awaited) (sym phase);
     }
@@ -145,7 +147,8 @@ before_by s x Take = kept_of x None None None s.clock false
 before_by s x (Replace policy) = kept_of x None None None s.clock false
 before_by s x (Tick clock) = kept_of x None None None s.clock false
 
-event_shows : (s : State) (x : Client) (e : Event) → Shows x.id (before_by s x e) (fixed_for s (cause_of e) x) (moved_to s (cause_of e) x)
+event_shows : (s : State) (x : Client) (e : Event)
+    → Shows x.id (before_by s x e) (fixed_for s (cause_of e) x) (moved_to s (cause_of e) x)
 event_shows s x (Datagram from datagram) = datagram_shows s x from (frame_of datagram)
 event_shows s x (Broker packet) = packet_shows s x None packet
 event_shows s x Up = silent x None None None s.clock false
@@ -154,39 +157,53 @@ event_shows s x Take = silent x None None None s.clock false
 event_shows s x (Replace policy) =
     ends_show x None (around s (ByReplace policy)) s.clock (ends_under policy x.id x.filters)
     (ends_all x.id x.id (around s (ByReplace policy)) policy x.filters x)
-event_shows s x (Tick clock) = tick_shows (around s (ByTick clock)) s.policy s.link (later s.clock clock) s.clock s.clients x None
+event_shows s x (Tick clock) =
+    tick_shows (around s (ByTick clock)) s.policy s.link (later s.clock clock) s.clock s.clients x None
 
-read_same : (h : List Row) (s : State) (x : Client) (from : Address) (datagram : List ℕ) → s.clock ≡ clock_at h → ClientShown h x
+read_same : (h : List Row) (s : State) (x : Client) (from : Address) (datagram : List ℕ)
+    → s.clock ≡ clock_at h → ClientShown h x
     → before_row x.id (Datagram from datagram) h ≡ before_read s x from (frame_of datagram)
 read_same h s x from datagram clock shown =
     let read = frame_of datagram in
     let same = spoken_same from read x in
-    rw (shown.phase, shown.address, shown.duration, shown.heard, sym clock) (rw (same.phase, same.duration, same.address, same.heard) refl)
+    rw (shown.phase, shown.address, shown.duration, shown.heard, sym clock)
+    (rw (same.phase, same.duration, same.address, same.heard) refl)
 
 before_same : (h : List Row) (s : State) (x : Client) (e : Event) → s.clock ≡ clock_at h → ClientShown h x
     → before_row x.id e h ≡ before_by s x e
 before_same h s x (Datagram from datagram) clock shown = read_same h s x from datagram clock shown
-before_same h s x (Broker packet) clock shown = rw (shown.phase, shown.address, shown.duration, shown.heard, sym clock) refl
-before_same h s x Up clock shown = rw (shown.phase, shown.address, shown.duration, shown.heard, sym clock) refl
-before_same h s x Down clock shown = rw (shown.phase, shown.address, shown.duration, shown.heard, sym clock) refl
-before_same h s x Take clock shown = rw (shown.phase, shown.address, shown.duration, shown.heard, sym clock) refl
-before_same h s x (Replace policy) clock shown = rw (shown.phase, shown.address, shown.duration, shown.heard, sym clock) refl
-before_same h s x (Tick clock) now shown = rw (shown.phase, shown.address, shown.duration, shown.heard, sym now) refl
+before_same h s x (Broker packet) clock shown =
+    rw (shown.phase, shown.address, shown.duration, shown.heard, sym clock) refl
+before_same h s x Up clock shown =
+    rw (shown.phase, shown.address, shown.duration, shown.heard, sym clock) refl
+before_same h s x Down clock shown =
+    rw (shown.phase, shown.address, shown.duration, shown.heard, sym clock) refl
+before_same h s x Take clock shown =
+    rw (shown.phase, shown.address, shown.duration, shown.heard, sym clock) refl
+before_same h s x (Replace policy) clock shown =
+    rw (shown.phase, shown.address, shown.duration, shown.heard, sym clock) refl
+before_same h s x (Tick clock) now shown =
+    rw (shown.phase, shown.address, shown.duration, shown.heard, sym now) refl
 
 -- its state behind its notes
-pub noted_row : (h : List Row) (s : State) (e : Event) (outs : List Out) (x : Client) → s.clock ≡ clock_at h → ClientShown h x
+pub noted_row : (h : List Row) (s : State) (e : Event) (outs : List Out) (x : Client) → s.clock ≡ clock_at h
+    → ClientShown h x
     → notes_of x.id outs ≡ fixed_for s (cause_of e) x
-    → phase_after (message_at e) x.id outs (phase_spoken x.id (own_message (phase_of x.id h) (address_of x.id h) e) (phase_of x.id h))
+    → phase_after (message_at e) x.id outs
+    (phase_spoken x.id (own_message (phase_of x.id h) (address_of x.id h) e) (phase_of x.id h))
     ≡ Some (moved_to s (cause_of e) x).phase
 noted_row h s e outs x clock shown own =
     let m = message_at e in
     let b = before_row x.id e h in
     let c = cause_of e in
-    let shows = subst (λ was. Shows x.id was (fixed_for s c x) (moved_to s c x)) (sym (before_same h s x e clock shown)) (event_shows s x e) in
+    let shows =
+    subst (λ was. Shows x.id was (fixed_for s c x) (moved_to s c x))
+    (sym (before_same h s x e clock shown)) (event_shows s x e) in
     phase_by_notes m x.id outs b.phase ∙ (ap (λ ns. phase_notes m x.id ns b.phase) own ∙ shows.0)
 
 -- the filters that stand for a client, where its notes are those that the cause fixes
-filters_row : (by : ℕ) (h : List Row) (s : State) (e : Event) (outs : List Out) (x : Client) → x.filters ≡ standing_of x.id h
+pub filters_row : (by : ℕ) (h : List Row) (s : State) (e : Event) (outs : List Out) (x : Client)
+    → x.filters ≡ standing_of x.id h
     → notes_of x.id outs ≡ fixed_for s (cause_of e) x
     → (client_next s (cause_of e) x).filters
     ≡ standing_of (client_next s (cause_of e) x).id (record { by = by; event = e; outs = outs } ∷ h)
@@ -197,8 +214,7 @@ filters_row by h s e outs x shown own =
     standing_next s e x
     ∙ (ap (standing_notes m x.id (fixed_for s c x)) shown
     ∙ (ap (λ notes. standing_notes m x.id notes (standing_of x.id h)) (sym own)
-    ∙
-    (sym (standing_by_notes m x.id outs (standing_of x.id h))
+    ∙ (sym (standing_by_notes m x.id outs (standing_of x.id h))
     ∙ ap (λ id. standing_of id rows) (sym (client_id (around s c) (fixed_for s c x) x)))))
 
 -- a client as it is shown, with what is open
@@ -208,7 +224,8 @@ pub record Seen (h : List Row) (x : Client) : Type 0 where
   pub willed : WillShown h x
 
 -- a client that was accepted before
-pub known_row : (by : ℕ) (h : List Row) (s : State) (e : Event) (outs : List Out) (x : Client) → s.clock ≡ clock_at h
+pub known_row : (by : ℕ) (h : List Row) (s : State) (e : Event) (outs : List Out) (x : Client)
+    → s.clock ≡ clock_at h
     → InForce (around s (cause_of e)) by h e outs
     → Seen h x → notes_of x.id outs ≡ fixed_for s (cause_of e) x → Told s (cause_of e) outs x
     → Seen (record { by = by; event = e; outs = outs } ∷ h) (client_next s (cause_of e) x)
@@ -218,63 +235,15 @@ known_row by h s e outs x clock force seen own told =
     let mailed = mailed_row by h s e outs x force shown.phase shown.address shown.filters own seen.mailed in
     let willed = willed_next by h s c e outs x (event_fits e) own seen.willed in
     record {
-      shown = shown_by by h e outs x.id (fixed_for s c x) (moved_to s c x) (client_id (around s c) (fixed_for s c x) x) own
-          (subst (λ b. Shows x.id b (fixed_for s c x) (moved_to s c x)) (sym (before_same h s x e clock shown)) (event_shows s x e))
+      shown =
+          shown_by by h e outs x.id (fixed_for s c x) (moved_to s c x)
+          (client_id (around s c) (fixed_for s c x) x) own
+          (subst (λ b. Shows x.id b (fixed_for s c x) (moved_to s c x))
+          (sym (before_same h s x e clock shown)) (event_shows s x e))
           (λ wakes. ap (λ place. is_ponged place outs) shown.address ∙ told wakes)
           mailed
           willed
           (filters_row by h s e outs x shown.filters own);
-      mailed = mailed;
-      willed = willed;
-    }
-
--- ---- one that is accepted for the first time
-
-new_notes : (s : State) (from : Address) (connect : Connect) → entry s connect ≡ Allowed
-    → fixed_for s (ByConnect from connect) (blank connect.client_id) ≡ note.Connect connect.client_id Allowed ∷ []
-new_notes s from connect is =
-    rw (same_self connect.client_id, is)
-    (ap (λ notes. note.Connect connect.client_id Allowed ∷ notes) (blank_enters s from connect connect.flags.clean refl))
-
-new_next : (s : State) (from : Address) (connect : Connect) → entry s connect ≡ Allowed
-    → moved_to s (ByConnect from connect) (blank connect.client_id) ≡ let_in s.clock from connect (blank connect.client_id)
-new_next s from connect is =
-    let a = around s (ByConnect from connect) in
-    ap (λ notes. notes_by a notes (start_by a (blank connect.client_id))) (new_notes s from connect is)
-
--- the client that connects, by the verdict
-pub new_row : (by : ℕ) (h : List Row) (s : State) (from : Address) (datagram : List ℕ) (connect : Connect) (outs : List Out)
-    → frame_of datagram ≡ Ok (frame.Connect connect) → InForce (around s (ByConnect from connect)) by h (Datagram from datagram) outs
-    → s.clock ≡ clock_at h → entry s connect ≡ Allowed
-    → notes_of connect.client_id outs ≡ fixed_for s (ByConnect from connect) (blank connect.client_id)
-    → standing_of connect.client_id h ≡ [] → Unheard connect.client_id h
-    → Seen (record { by = by; event = Datagram from datagram; outs = outs } ∷ h)
-    (client_next s (ByConnect from connect) (blank connect.client_id))
-new_row by h s from datagram connect outs read force clock is own none unheard =
-    let id = connect.client_id in
-    let e = Datagram from datagram in
-    let c = ByConnect from connect in
-    let cause : cause_of e ≡ c = ap (datagram_cause from) read in
-    let mailed =
-    mailed_next by h s c e outs (blank id) force own (datagram_brings by h from datagram outs id) (start_none id e h unheard.phase)
-    (mailed_blank h id unheard) in
-    let fits : Fits c (message_at e) = subst (λ d. Fits d (message_at e)) cause (event_fits e) in
-    let blank_willed : WillShown h (blank id) = subst (Willed Disconnected (record { stage = Closed; will = None })) (sym unheard.stating)
-    (record { will = refl; stage = refl; empty = refl }) in
-    let willed = willed_next by h s c e outs (blank id) fits own blank_willed in
-    record {
-      shown =
-          shown_by by h e outs id (note.Connect id Allowed ∷ []) (moved_to s c (blank id))
-          (client_id (around s c) (fixed_for s c (blank id)) (blank id)) (own ∙ new_notes s from connect is)
-          (subst (Shows id (before_row id e h) (note.Connect id Allowed ∷ [])) (sym (new_next s from connect is))
-          (let_in_shows (before_row id e h) id s.clock from connect (blank id) (ap message_in read) refl (rw read refl) (sym clock)))
-          (λ wakes. absurd (let_in_awake s.clock from connect (blank id) (sym (ap (λ z. z.phase) (new_next s from connect is)) ∙ wakes)))
-          mailed
-          willed
-          (subst
-          (λ d. (client_next s d (blank id)).filters
-          ≡ standing_of (client_next s d (blank id)).id (record { by = by; event = e; outs = outs } ∷ h)) cause
-          (filters_row by h s e outs (blank id) (sym none) (subst (λ d. notes_of id outs ≡ fixed_for s d (blank id)) (sym cause) own)));
       mailed = mailed;
       willed = willed;
     }

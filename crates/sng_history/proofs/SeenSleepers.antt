@@ -1,5 +1,7 @@
--- An awake client is sent PINGRESP exactly where nothing is left for it: so the rows show when it sleeps again (MQTT-SN 1.2, 6.14).
-use Rattle.std.proofs.Common.{◌≡◌, Bool, true, false, List, [], ◌∷◌, ◌++◌, refl, ap, sym, ◌∙◌, subst, if◌then◌else◌, arith}
+-- An awake client is sent PINGRESP exactly where nothing is left for it: so the rows show when it sleeps
+-- again (MQTT-SN 1.2, 6.14).
+use Rattle.std.proofs.Common.{◌≡◌, Bool, true, false, List, [], ◌∷◌, ◌++◌, refl, ap, sym, ◌∙◌, subst}
+use Rattle.std.proofs.Common.{if◌then◌else◌, arith}
 use Rattle.std.specs.Prelude.{◌==◌, ◌&&◌, ◌||◌, Some}
 use Rattle.std.specs.List.{flat_map}
 use Rattle.std.proofs.lemmas.List.Folds.{list_any-append}
@@ -17,9 +19,11 @@ use Rattle.sng_history.specs.Steps.{client_next}
 use Rattle.sng_history.specs.Whole.{answer, drained_outs, spell, part}
 use Rattle.sng_history.specs.ViewsClients.{is_pong_to, is_ponged}
 use Rattle.sng_history.proofs.Own.{same_self, each_with}
-use Rattle.sng_history.proofs.Places.{Stays, and_left, and_right, address_means, here_is, apart_flip}
+use Rattle.sng_history.proofs.Places.{Stays, address_means, here_is, apart_flip}
 use Rattle.sng_history.proofs.SeenClients.{moved_to}
-use Rattle.sng_history.proofs.SeenFrames.{NoPong, none_pongs, spell_none}
+use Rattle.sng_history.proofs.SeenFramesAnswers.{NoPong, none_pongs}
+use Rattle.sng_history.proofs.SeenFrames.{spell_none}
+use Rattle.sng_history.proofs.Booleans.{left_holds, right_holds}
 use Rattle.sng_history.specs.Answers.{pong}
 
 -- ---- addresses
@@ -47,7 +51,8 @@ pub pongs_append : (place : Address) (xs ys : List Out)
 pongs_append place xs ys = list_any-append (is_pong_to (Some place)) xs ys
 
 drained_by : (place to : Address) (b : Bool)
-    → is_ponged (Some place) (let outs : List Out = if b then pong to ∷ [] else [] in outs) ≡ (b && same_address place to)
+    → is_ponged (Some place) (let outs : List Out = if b then pong to ∷ [] else [] in outs)
+    ≡ (b && same_address place to)
 drained_by place to true = whole (same_address place to)
   where
     whole : (b : Bool) → ((b && true) || false) ≡ b
@@ -57,7 +62,8 @@ drained_by place to false = refl
 
 part_pongs : (s : State) (c : Cause) (dropped : List Release) (y : Client) (place : Address)
     → is_ponged (Some place) (part (around s c) dropped (fixed_for s c y) y)
-    ≡ (is_ponged (Some place) (author_outs c y) || (is_drained (moved_to s c y) && same_address place (moved_to s c y).address))
+    ≡ (is_ponged (Some place) (author_outs c y)
+    || (is_drained (moved_to s c y) && same_address place (moved_to s c y).address))
 part_pongs s c dropped y place =
     let a = around s c in
     let z = moved_to s c y in
@@ -65,14 +71,15 @@ part_pongs s c dropped y place =
     pongs_append place (author_outs c y) (said ++ drained_outs z)
     ∙ ap (λ b. is_ponged (Some place) (author_outs c y) || b)
     (pongs_append place said (drained_outs z)
-    ∙
-    (ap (λ b. b || is_ponged (Some place) (drained_outs z)) (none_pongs place said (spell_none a dropped (start_by a y) (fixed_for s c y)))
+    ∙ (ap (λ b. b || is_ponged (Some place) (drained_outs z))
+    (none_pongs place said (spell_none a dropped (start_by a y) (fixed_for s c y)))
     ∙ drained_by place z.address (is_drained z)))
 
 -- what a client's own message is answered, and what becomes of the client by it
 pub record Author (s : State) (c : Cause) (y : Client) : Type 0 where
   pub here : (place : Address) → is_ponged (Some place) (author_outs c y) ≡ true → is_here y place ≡ true
-  pub own : (moved_to s c y).phase ≡ Awake → (place : Address) → is_ponged (Some place) (author_outs c y) ≡ false
+  pub own : (moved_to s c y).phase ≡ Awake → (place : Address)
+      → is_ponged (Some place) (author_outs c y) ≡ false
   pub stays : Stays y (client_next s c y)
 
 -- ---- one client and another
@@ -91,14 +98,17 @@ drained_there z place is same =
     rw (is, at) (same_place z.address)
 
 -- the client was where it is
-awake_here : (s : State) (c : Cause) (x : Client) → Author s c x → (moved_to s c x).phase ≡ Awake → x.address ≡ (moved_to s c x).address
+awake_here : (s : State) (c : Cause) (x : Client) → Author s c x → (moved_to s c x).phase ≡ Awake
+    → x.address ≡ (moved_to s c x).address
 awake_here s c x author is =
     let z = moved_to s c x in here_is x z.address (author.stays z.address (awake_there z is))
 
-awake_own : (s : State) (c : Cause) (x : Client) → Author s c x → (moved_to s c x).phase ≡ Awake → is_here x x.address ≡ true
+awake_own : (s : State) (c : Cause) (x : Client) → Author s c x → (moved_to s c x).phase ≡ Awake
+    → is_here x x.address ≡ true
 awake_own s c x author is =
     let z = moved_to s c x in
-    subst (λ place. is_here x place ≡ true) (sym (awake_here s c x author is)) (author.stays z.address (awake_there z is))
+    subst (λ place. is_here x place ≡ true) (sym (awake_here s c x author is))
+    (author.stays z.address (awake_there z is))
 
 not_both : (b c : Bool) → (b && c) ≡ false → b ≡ true → c ≡ true → ⊥
 not_both true true apart one two = cc
@@ -106,7 +116,8 @@ not_both true false apart one two = cc
 not_both false c apart one two = cc
 
 -- nothing of that is sent to it for another client
-other_pongs : (s : State) (c : Cause) (dropped : List Release) (x y : Client) → Author s c x → Author s c y → Apart x y
+other_pongs : (s : State) (c : Cause) (dropped : List Release) (x y : Client) → Author s c x → Author s c y
+    → Apart x y
     → (moved_to s c x).phase ≡ Awake
     → is_ponged (Some x.address) (part (around s c) dropped (fixed_for s c y) y) ≡ false
 other_pongs s c dropped x y author other apart is =
@@ -115,35 +126,40 @@ other_pongs s c dropped x y author other apart is =
     let never : is_here y x.address ≡ true → ⊥ =
     λ there. not_both (is_here x x.address) (is_here y x.address) (apart x.address) own there in
     part_pongs s c dropped y x.address
-    ∙ not_true (is_ponged (Some x.address) (author_outs c y) || (is_drained z && same_address x.address z.address))
-    (λ pongs. either (is_ponged (Some x.address) (author_outs c y)) (is_drained z && same_address x.address z.address) pongs
+    ∙ not_true (is_ponged (Some x.address) (author_outs c y)
+    || (is_drained z && same_address x.address z.address))
+    (λ pongs. either (is_ponged (Some x.address) (author_outs c y))
+    (is_drained z && same_address x.address z.address) pongs
     (λ answers. never (other.here x.address answers))
     (λ sleeps. never (other.stays x.address
-    (drained_there z x.address (and_left (is_drained z) (same_address x.address z.address) sleeps)
-    (and_right (is_drained z) (same_address x.address z.address) sleeps)))))
+    (drained_there z x.address (left_holds (is_drained z) (same_address x.address z.address) sleeps)
+    (right_holds (is_drained z) (same_address x.address z.address) sleeps)))))
 
 and_whole : (b c : Bool) → c ≡ true → (b && c) ≡ b
 and_whole true c is = is
 and_whole false c is = refl
 
-own_pongs : (s : State) (c : Cause) (dropped : List Release) (x : Client) → Author s c x → (moved_to s c x).phase ≡ Awake
+own_pongs : (s : State) (c : Cause) (dropped : List Release) (x : Client) → Author s c x
+    → (moved_to s c x).phase ≡ Awake
     → is_ponged (Some x.address) (part (around s c) dropped (fixed_for s c x) x) ≡ is_drained (moved_to s c x)
 own_pongs s c dropped x author is =
     let z = moved_to s c x in
     let there : same_address x.address z.address ≡ true =
-    subst (λ place. same_address x.address place ≡ true) (awake_here s c x author is) (same_place x.address) in
+    subst (λ place. same_address x.address place ≡ true) (awake_here s c x author is)
+    (same_place x.address) in
     part_pongs s c dropped x x.address
-    ∙
-    (ap (λ b. b || (is_drained z && same_address x.address z.address)) (author.own is x.address)
+    ∙ (ap (λ b. b || (is_drained z && same_address x.address z.address)) (author.own is x.address)
     ∙ and_whole (is_drained z) (same_address x.address z.address) there)
 
 -- ---- all clients
 
 -- what is sent for these clients tells the client, where it is awake then, whether anything is left
 abbrev pub Told : State → Cause → List Out → Client → Type 0
-Told s c outs x = (moved_to s c x).phase ≡ Awake → is_ponged (Some x.address) outs ≡ is_drained (moved_to s c x)
+Told s c outs x =
+    (moved_to s c x).phase ≡ Awake → is_ponged (Some x.address) outs ≡ is_drained (moved_to s c x)
 
-rest_pongs : (s : State) (c : Cause) (dropped : List Release) (x : Client) (ys : List Client) → ((y : Client) → Author s c y)
+rest_pongs : (s : State) (c : Cause) (dropped : List Release) (x : Client) (ys : List Client)
+    → ((y : Client) → Author s c y)
     → Each (Apart x) ys
     → (moved_to s c x).phase ≡ Awake
     → is_ponged (Some x.address) (flat_map (λ y. part (around s c) dropped (fixed_for s c y) y) ys) ≡ false
@@ -151,14 +167,16 @@ rest_pongs s c dropped x [] author apart is = refl
 rest_pongs s c dropped x (y ∷ ys) author apart is =
     let f : Client → List Out = λ one. part (around s c) dropped (fixed_for s c one) one in
     pongs_append x.address (f y) (flat_map f ys)
-    ∙ (ap (λ b. b || is_ponged (Some x.address) (flat_map f ys)) (other_pongs s c dropped x y (author x) (author y) apart.0 is)
+    ∙ (ap (λ b. b || is_ponged (Some x.address) (flat_map f ys))
+    (other_pongs s c dropped x y (author x) (author y) apart.0 is)
     ∙ rest_pongs s c dropped x ys author apart.1 is)
 
 or_none : (b : Bool) → (b || false) ≡ b
 or_none true = refl
 or_none false = refl
 
-pub rows_told : (s : State) (c : Cause) (dropped : List Release) (xs : List Client) → ((y : Client) → Author s c y) → OnePlace xs
+pub rows_told : (s : State) (c : Cause) (dropped : List Release) (xs : List Client)
+    → ((y : Client) → Author s c y) → OnePlace xs
     → Each (Told s c (flat_map (λ y. part (around s c) dropped (fixed_for s c y) y) xs)) xs
 rows_told s c dropped [] author places = tt
 rows_told s c dropped (x ∷ xs) author places =
@@ -168,16 +186,16 @@ rows_told s c dropped (x ∷ xs) author places =
           ∙ (or_none (is_ponged (Some x.address) (f x)) ∙ own_pongs s c dropped x (author x) is)),
       each_with (Apart x) (Told s c (flat_map f xs)) (Told s c (f x ++ flat_map f xs)) xs
           (λ y apart told is. pongs_append y.address (f x) (flat_map f xs)
-          ∙
-          (ap (λ b. b || is_ponged (Some y.address) (flat_map f xs))
+          ∙ (ap (λ b. b || is_ponged (Some y.address) (flat_map f xs))
           (other_pongs s c dropped y x (author y) (author x) (apart_flip x y apart) is)
           ∙ told is))
           places.0 (rows_told s c dropped xs author places.1),
     )
 
 -- where nothing else of the row is PINGRESP
-pub told_before : (s : State) (c : Cause) (own rest : List Out) (x : Client) → NoPong rest → Told s c own x → Told s c (own ++ rest) x
+pub told_before : (s : State) (c : Cause) (own rest : List Out) (x : Client) → NoPong rest → Told s c own x
+    → Told s c (own ++ rest) x
 told_before s c own rest x none told is =
     pongs_append x.address own rest
-    ∙
-    (ap (λ b. is_ponged (Some x.address) own || b) (none_pongs x.address rest none) ∙ (or_none (is_ponged (Some x.address) own) ∙ told is))
+    ∙ (ap (λ b. is_ponged (Some x.address) own || b) (none_pongs x.address rest none)
+    ∙ (or_none (is_ponged (Some x.address) own) ∙ told is))

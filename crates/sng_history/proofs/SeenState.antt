@@ -1,46 +1,39 @@
 -- The state that a lawful history leads to is what its rows show.
-use Rattle.std.proofs.Common.{◌≡◌, ℕ, Bool, true, false, List, [], ◌∷◌, ◌++◌, map, refl, ap, sym, ◌∙◌, subst, if◌then◌else◌, Ok, Err}
-use Rattle.std.specs.Prelude.{◌&&◌, ◌||◌, not, Option, Some, None}
-use Rattle.std.specs.Str.{bytes_eq}
+use Rattle.std.proofs.Common.{◌≡◌, ℕ, Bool, false, List, [], ◌∷◌, ◌++◌, map, refl, ap, sym, ◌∙◌, subst}
+use Rattle.std.proofs.Common.{Ok, Err}
+use Rattle.std.specs.Prelude.{Option, Some, None}
 use Rattle.std.specs.declared.result.Result.{Result}
 use Rattle.sng_grants.specs.declared.policy.Policy.{Policy}
 use Rattle.sng_frames.specs.Reading.{frame_of}
 use Rattle.sng_frames.specs.declared.fault.FrameFault.{FrameFault}
-use Rattle.sng_frames.specs.declared.messages.connect.Connect.{Connect}
 use Rattle.sng_frames.specs.declared.messages.publish.Publish.{Publish}
 use Rattle.sng_frames.specs.declared.qos.FrameQos.{FrameQos}
 use Rattle.sng_frames.specs.declared.qos.FrameQos.TheVariants as qos
 use Rattle.sng_frames.specs.declared.frame.SnFrame.{SnFrame}
 use Rattle.sng_frames.specs.declared.frame.SnFrame.TheVariants as frame
-use Rattle.sng_book.specs.Denials.{is_allowed}
 use Rattle.sng_book.specs.declared.address.Address.{Address}
-use Rattle.sng_book.specs.declared.outcome.Outcome.{Outcome}
-use Rattle.sng_book.specs.declared.outcome.Outcome.TheVariants.{Allowed, Denied}
 use Rattle.sng_book.specs.declared.event.Event.{Event}
 use Rattle.sng_book.specs.declared.event.Event.TheVariants.{Datagram, Broker, Up, Down, Take, Replace, Tick}
 use Rattle.sng_book.specs.declared.out.Out.{Out}
 use Rattle.sng_book.specs.declared.row.Row.{Row}
-use Rattle.sng_history.specs.Causes.{Cause, ByConnect, datagram_cause, publish_cause, cause_of}
-use Rattle.sng_history.specs.Clients.{Client, blank}
+use Rattle.sng_history.specs.Causes.{Cause, datagram_cause, publish_cause, cause_of}
+use Rattle.sng_history.specs.Clients.{Client}
 use Rattle.sng_history.specs.Notes.{notes_of}
-use Rattle.sng_history.specs.State.{State, opening, around, after, state_of, later, is_known, policy_by, clock_by, up_by}
-use Rattle.sng_history.specs.Verdicts.{entry}
-use Rattle.sng_history.specs.Whole.{Notes, entry_outs}
+use Rattle.sng_history.specs.State.{State, opening, around, after, state_of, later, is_known, policy_by}
+use Rattle.sng_history.specs.State.{clock_by, up_by}
 use Rattle.sng_history.specs.Lawful.{Lawful, fixed_for}
-use Rattle.sng_history.specs.Steps.{outs_by, outs_of, notes_for, newcomers_for, client_next, next_of}
-use Rattle.sng_history.specs.Good.{Each, Good}
+use Rattle.sng_history.specs.Steps.{outs_of, newcomers_for, client_next, next_of}
+use Rattle.sng_history.specs.Good.{Good}
 use Rattle.sng_history.specs.Views.{policy_in_force, clock_at, is_up}
-use Rattle.sng_history.specs.ViewsMessages.{message_in, message_at}
-use Rattle.sng_history.specs.ViewsClients.{is_admitted, is_among, accepted, accepted_in, accepted_by}
+use Rattle.sng_history.specs.ViewsMessages.{message_at}
+use Rattle.sng_history.specs.ViewsClients.{is_among, accepted, accepted_in}
 use Rattle.sng_history.specs.ViewsStanding.{standing_of, standing_after}
-use Rattle.sng_history.specs.ViewsLink.{waiting, pinged}
 use Rattle.sng_history.specs.LawsState.{ClientShown}
-use Rattle.sng_history.proofs.Own.{same_self, each_with, each_map, each_append, each_mapped}
-use Rattle.sng_history.proofs.Kept.{client_id}
+use Rattle.sng_history.proofs.Own.{each_with, each_map}
 use Rattle.sng_history.proofs.Says.{says}
 use Rattle.sng_history.proofs.Keeping.{exact_by, next_same}
 use Rattle.sng_history.proofs.GoodNext.{good_next, good_opening}
-use Rattle.sng_history.proofs.SeenStrangers.{Unheard, unheard_first, unheard_row}
+use Rattle.sng_history.proofs.SeenStrangers.{unheard_first, unheard_row}
 use Rattle.sng_history.proofs.SeenMailed.{Mailed}
 use Rattle.sng_history.proofs.LawStrangers.{row_admits, among_parts}
 use Rattle.sng_history.proofs.SeenLink.{waits_row}
@@ -49,180 +42,10 @@ use Rattle.sng_history.proofs.StandingStrangers.{unknown_row}
 use Rattle.sng_history.specs.ViewsWills.{will_of}
 use Rattle.sng_history.proofs.SeenPings.{Connected, pinged_row}
 use Rattle.sng_history.proofs.SeenViews.{InForce}
-use Rattle.sng_history.proofs.SeenSleepers.{Told}
 use Rattle.sng_history.proofs.SeenPongs.{row_told}
-use Rattle.sng_history.proofs.SeenRows.{WillShown, Seen, known_row, new_row}
-
--- what is kept is what the rows show, with the clients in the order in which each was accepted first
-pub record StateShown (h : List Row) (s : State) : Type 0 where
-  pub policy : s.policy ≡ policy_in_force h
-  pub clock : s.clock ≡ clock_at h
-  pub up : s.up ≡ is_up h
-  pub waits : s.link.waiting ≡ waiting h
-  pub pinged : s.link.pinged ≡ pinged h
-  pub order : map (λ x. x.id) s.clients ≡ accepted h
-  pub clients : Each (ClientShown h) s.clients
-  pub mailed : Each (Mailed h) s.clients
-  pub willed : Each (WillShown h) s.clients
-  -- nothing stands for who was never accepted, and nothing is shown of it
-  pub strangers : (id : List ℕ) → is_among id (accepted h) ≡ false → standing_of id h ≡ []
-  pub unheard : (id : List ℕ) → is_among id (accepted h) ≡ false → Unheard id h
-
-abbrev NewShown : State → Cause → List Row → List Client → Type 0
-NewShown s c rows xs = Each (λ x. Seen rows (client_next s c x)) xs
-
-abbrev NewOwn : State → Cause → List Out → List Client → Type 0
-NewOwn s c outs xs = Each (λ x. notes_of x.id outs ≡ fixed_for s c x) xs
-
--- nothing stands for who is not known, and nothing is shown of it
-abbrev Unstanding : List Row → State → Type 0
-Unstanding h s = (id : List ℕ) → is_known id s.clients ≡ false → (standing_of id h ≡ []) × Unheard id h
-
-entrant_row : (by : ℕ) (h : List Row) (s : State) (from : Address) (datagram : List ℕ) (connect : Connect) (outs : List Out) (o : Outcome)
-    (known : Bool)
-    → frame_of datagram ≡ Ok (frame.Connect connect) → InForce (around s (ByConnect from connect)) by h (Datagram from datagram) outs
-    → s.clock ≡ clock_at h → entry s connect ≡ o
-    → NewOwn s (ByConnect from connect) outs (if is_allowed o && not known then blank connect.client_id ∷ [] else [])
-    → (known ≡ false → (standing_of connect.client_id h ≡ []) × Unheard connect.client_id h)
-    → NewShown s (ByConnect from connect) (record { by = by; event = Datagram from datagram; outs = outs } ∷ h)
-    (if is_allowed o && not known then blank connect.client_id ∷ [] else [])
-entrant_row by h s from datagram connect outs Allowed false read force clock is own none =
-    (let both = none refl in new_row by h s from datagram connect outs read force clock is own.0 both.0 both.1, tt)
-entrant_row by h s from datagram connect outs Allowed true read force clock is own none = tt
-entrant_row by h s from datagram connect outs (Denied rule) known read force clock is own none = tt
-
-publish_news : (s : State) (from : Address) (p : Publish) (q : FrameQos) → newcomers_for s (publish_cause from p q) ≡ []
-publish_news s from p qos.WithoutSession = refl
-publish_news s from p qos.AtMostOnce = refl
-publish_news s from p qos.AtLeastOnce = refl
-publish_news s from p qos.ExactlyOnce = refl
-
-disconnect_news : (s : State) (from : Address) (duration : Option ℕ)
-    → newcomers_for s (datagram_cause from (Ok (frame.Disconnect duration))) ≡ []
-disconnect_news s from None = refl
-disconnect_news s from (Some duration) = refl
-
-none_shown : (s : State) (c : Cause) (rows : List Row) → newcomers_for s c ≡ [] → NewShown s c rows (newcomers_for s c)
-none_shown s c rows none = subst (NewShown s c rows) (sym none) tt
-
-datagram_news : (by : ℕ) (h : List Row) (s : State) (from : Address) (datagram : List ℕ) (read : Result SnFrame FrameFault)
-    (outs : List Out)
-    → frame_of datagram ≡ read → InForce (around s (datagram_cause from read)) by h (Datagram from datagram) outs → s.clock ≡ clock_at h
-    → Unstanding h s
-    → let c = datagram_cause from read in
-    NewOwn s c outs (newcomers_for s c)
-    → NewShown s c (record { by = by; event = Datagram from datagram; outs = outs } ∷ h) (newcomers_for s c)
-datagram_news by h s from datagram (Ok (frame.Connect connect)) outs is force clock none own =
-    entrant_row by h s from datagram connect outs (entry s connect) (is_known connect.client_id s.clients) is force clock refl own
-    (none connect.client_id)
-datagram_news by h s from datagram (Ok (frame.Publish p)) outs is force clock none own =
-    none_shown s (publish_cause from p p.flags.qos) (record { by = by; event = Datagram from datagram; outs = outs } ∷ h)
-    (publish_news s from p p.flags.qos)
-datagram_news by h s from datagram (Ok (frame.Disconnect duration)) outs is force clock none own =
-    none_shown s (datagram_cause from (Ok (frame.Disconnect duration)))
-    (record { by = by; event = Datagram from datagram; outs = outs } ∷ h) (disconnect_news s from duration)
-datagram_news by h s from datagram (Ok message) outs is force clock none own = tt
-datagram_news by h s from datagram (Err broke) outs is force clock none own = tt
-
-event_news : (by : ℕ) (h : List Row) (s : State) (e : Event) (outs : List Out) → InForce (around s (cause_of e)) by h e outs
-    → s.clock ≡ clock_at h → Unstanding h s
-    → let c = cause_of e in
-    NewOwn s c outs (newcomers_for s c) → NewShown s c (record { by = by; event = e; outs = outs } ∷ h) (newcomers_for s c)
-event_news by h s (Datagram from datagram) outs force clock none own =
-    datagram_news by h s from datagram (frame_of datagram) outs refl force clock none own
-event_news by h s (Broker packet) outs force clock none own = tt
-event_news by h s Up outs force clock none own = tt
-event_news by h s Down outs force clock none own = tt
-event_news by h s Take outs force clock none own = tt
-event_news by h s (Replace policy) outs force clock none own = tt
-event_news by h s (Tick clock) outs force now none own = tt
-
--- ---- all clients
-
-each_left : (P : Client → Type 0) (xs ys : List Client) → Each P (xs ++ ys) → Each P xs
-each_left P [] ys all = tt
-each_left P (x ∷ xs) ys all = (all.0, each_left P xs ys all.1)
-
-each_right : (P : Client → Type 0) (xs ys : List Client) → Each P (xs ++ ys) → Each P ys
-each_right P [] ys all = all
-each_right P (x ∷ xs) ys all = each_right P xs ys all.1
-
-clients_row : (by : ℕ) (h : List Row) (s : State) (e : Event) (outs : List Out) → InForce (around s (cause_of e)) by h e outs
-    → s.clock ≡ clock_at h → Each (Seen h) s.clients
-    → Each (Told s (cause_of e) outs) s.clients → Unstanding h s
-    → NewOwn s (cause_of e) outs (s.clients ++ newcomers_for s (cause_of e))
-    → Each (Seen (record { by = by; event = e; outs = outs } ∷ h))
-    (map (client_next s (cause_of e)) (s.clients ++ newcomers_for s (cause_of e)))
-clients_row by h s e outs force clock seen told none own =
-    let c = cause_of e in
-    let rows = record { by = by; event = e; outs = outs } ∷ h in
-    let Own : Client → Type 0 = λ x. notes_of x.id outs ≡ fixed_for s c x in
-    let Next : Client → Type 0 = λ x. Seen rows (client_next s c x) in
-    each_mapped (Seen rows) (client_next s c) (s.clients ++ newcomers_for s c)
-    (each_append Next s.clients (newcomers_for s c)
-    (each_with (λ x. Seen h x × Told s c outs x) Own Next s.clients (λ x both is. known_row by h s e outs x clock force both.0 is both.1)
-    (each_with (Seen h) (Told s c outs) (λ x. Seen h x × Told s c outs x) s.clients (λ x one two. (one, two)) seen told)
-    (each_left Own s.clients (newcomers_for s c) own))
-    (event_news by h s e outs force clock none (each_right Own s.clients (newcomers_for s c) own)))
-
--- ---- their order
-
-abbrev pub ids_of : List Client → List (List ℕ)
-ids_of xs = map (λ x. x.id) xs
-
-ids_next : (s : State) (c : Cause) (xs : List Client) → ids_of (map (client_next s c) xs) ≡ ids_of xs
-ids_next s c [] = refl
-ids_next s c (x ∷ xs) = rw (client_id (around s c) (fixed_for s c x) x, ids_next s c xs) refl
-
-pub ids_append : (xs ys : List Client) → ids_of (xs ++ ys) ≡ ids_of xs ++ ids_of ys
-ids_append [] ys = refl
-ids_append (x ∷ xs) ys = ap (λ ids. x.id ∷ ids) (ids_append xs ys)
-
-pub known_among : (id : List ℕ) (xs : List Client) → is_among id (ids_of xs) ≡ is_known id xs
-known_among id [] = refl
-known_among id (x ∷ xs) = ap (λ b. bytes_eq id x.id || b) (known_among id xs)
-
-one_if : (b : Bool) (id : List ℕ) → ids_of (if b then blank id ∷ [] else []) ≡ (if b then id ∷ [] else [])
-one_if true id = refl
-one_if false id = refl
-
-entry_admitted : (s : State) (from : Address) (connect : Connect) (n : Notes) (o : Outcome)
-    → is_admitted connect.client_id (entry_outs s from connect n o) ≡ is_allowed o
-entry_admitted s from connect n Allowed = rw (same_self connect.client_id) refl
-entry_admitted s from connect n (Denied rule) = rw (same_self connect.client_id) refl
-
-datagram_order : (s : State) (from : Address) (read : Result SnFrame FrameFault)
-    → let c = datagram_cause from read in
-    ids_of (newcomers_for s c) ≡ accepted_by (ids_of s.clients) (message_in read) (outs_by s c)
-datagram_order s from (Ok (frame.Connect connect)) =
-    let id = connect.client_id in
-    rw (entry_admitted s from connect (notes_for s (ByConnect from connect)) (entry s connect), known_among id s.clients)
-    (one_if (is_allowed (entry s connect) && not (is_known id s.clients)) id)
-datagram_order s from (Ok (frame.Publish p)) = ap ids_of (publish_news s from p p.flags.qos)
-datagram_order s from (Ok (frame.Disconnect None)) = refl
-datagram_order s from (Ok (frame.Disconnect (Some duration))) = refl
-datagram_order s from (Ok message) = refl
-datagram_order s from (Err broke) = refl
-
-event_order : (s : State) (e : Event) → ids_of (newcomers_for s (cause_of e)) ≡ accepted_in (ids_of s.clients) e (outs_of s e)
-event_order s (Datagram from datagram) = datagram_order s from (frame_of datagram)
-event_order s (Broker packet) = refl
-event_order s Up = refl
-event_order s Down = refl
-event_order s Take = refl
-event_order s (Replace policy) = refl
-event_order s (Tick clock) = refl
-
-order_row : (s : State) (e : Event) (h : List Row) → ids_of s.clients ≡ accepted h
-    → ids_of (map (client_next s (cause_of e)) (s.clients ++ newcomers_for s (cause_of e)))
-    ≡ accepted h ++ accepted_in (accepted h) e (outs_of s e)
-order_row s e h order =
-    let c = cause_of e in
-    ids_next s c (s.clients ++ newcomers_for s c) ∙ (ids_append s.clients (newcomers_for s c)
-    ∙ subst (λ ids. ids_of s.clients ++ ids_of (newcomers_for s c) ≡ ids ++ accepted_in ids e (outs_of s e)) order
-    (ap (λ ids. ids_of s.clients ++ ids) (event_order s e)))
-
--- ---- the state
+use Rattle.sng_history.proofs.SeenRows.{WillShown, Seen}
+use Rattle.sng_history.proofs.SeenOrder.{StateShown, Unstanding, each_left, clients_row, known_among}
+use Rattle.sng_history.proofs.SeenOrder.{order_row}
 
 -- a datagram moves neither the policy nor the clock nor the connection
 record Still (c : Cause) : Type 0 where
@@ -236,7 +59,8 @@ publish_still from p qos.AtMostOnce = record { policy = λ b. refl; clock = λ b
 publish_still from p qos.AtLeastOnce = record { policy = λ b. refl; clock = λ b. refl; up = λ b. refl }
 publish_still from p qos.ExactlyOnce = record { policy = λ b. refl; clock = λ b. refl; up = λ b. refl }
 
-disconnect_still : (from : Address) (duration : Option ℕ) → Still (datagram_cause from (Ok (frame.Disconnect duration)))
+disconnect_still : (from : Address) (duration : Option ℕ)
+    → Still (datagram_cause from (Ok (frame.Disconnect duration)))
 disconnect_still from None = record { policy = λ b. refl; clock = λ b. refl; up = λ b. refl }
 disconnect_still from (Some duration) = record { policy = λ b. refl; clock = λ b. refl; up = λ b. refl }
 
@@ -255,13 +79,19 @@ moved_row : (by : ℕ) (h : List Row) (s : State) (e : Event) (outs : List Out) 
     → Moved s e (record { by = by; event = e; outs = outs } ∷ h) h
 moved_row by h s (Datagram from datagram) outs shown =
     let same = still from (frame_of datagram) in
-    record { policy = same.policy s.policy ∙ shown.policy; clock = same.clock s.clock ∙ shown.clock; up = same.up s.up ∙ shown.up }
-moved_row by h s (Broker packet) outs shown = record { policy = shown.policy; clock = shown.clock; up = shown.up }
+    record {
+      policy = same.policy s.policy ∙ shown.policy;
+      clock = same.clock s.clock ∙ shown.clock;
+      up = same.up s.up ∙ shown.up;
+    }
+moved_row by h s (Broker packet) outs shown =
+    record { policy = shown.policy; clock = shown.clock; up = shown.up }
 moved_row by h s Up outs shown = record { policy = shown.policy; clock = shown.clock; up = refl }
 moved_row by h s Down outs shown = record { policy = shown.policy; clock = shown.clock; up = refl }
 moved_row by h s Take outs shown = record { policy = shown.policy; clock = shown.clock; up = shown.up }
 moved_row by h s (Replace policy) outs shown = record { policy = refl; clock = shown.clock; up = shown.up }
-moved_row by h s (Tick clock) outs shown = record { policy = shown.policy; clock = ap (λ was. later was clock) shown.clock; up = shown.up }
+moved_row by h s (Tick clock) outs shown =
+    record { policy = shown.policy; clock = ap (λ was. later was clock) shown.clock; up = shown.up }
 
 abbrev Both : List Row → Client → Type 0
 Both h x = ClientShown h x × Mailed h x
@@ -275,11 +105,15 @@ shown_row by h s e good shown =
     let connected : Connected h s = record { up = shown.up; clock = shown.clock; pinged = shown.pinged } in
     let own = (says s c good.apart).own in
     let unstanding : Unstanding h s = λ id is.
-    let none = ap (is_among id) (sym shown.order) ∙ (known_among id s.clients ∙ is) in (shown.strangers id none, shown.unheard id none) in
-    let force : InForce (around s c) by h e outs = record { cause = refl; policy = moved.policy; clock = moved.clock } in
+    let none = ap (is_among id) (sym shown.order) ∙ (known_among id s.clients ∙ is) in
+    (shown.strangers id none, shown.unheard id none) in
+    let force : InForce (around s c) by h e outs =
+    record { cause = refl; policy = moved.policy; clock = moved.clock } in
     let seen = clients_row by h s e outs force shown.clock
-    (each_with (Both h) (WillShown h) (Seen h) s.clients (λ x both willed. record { shown = both.0; mailed = both.1; willed = willed })
-    (each_with (ClientShown h) (Mailed h) (Both h) s.clients (λ x one two. (one, two)) shown.clients shown.mailed) shown.willed)
+    (each_with (Both h) (WillShown h) (Seen h) s.clients
+    (λ x both willed. record { shown = both.0; mailed = both.1; willed = willed })
+    (each_with (ClientShown h) (Mailed h) (Both h) s.clients
+    (λ x one two. (one, two)) shown.clients shown.mailed) shown.willed)
     (row_told s c good) unstanding own in
     let rows = record { by = by; event = e; outs = outs } ∷ h in
     let after = map (client_next s c) (s.clients ++ newcomers_for s c) in
@@ -291,8 +125,10 @@ shown_row by h s e good shown =
       up = moved.up;
       waits =
           waits_row s e h connected shown.waits good.apart shown.order
-          (each_map (ClientShown h) (λ x. x.filters ≡ standing_of x.id h) s.clients (λ x is. is.filters) shown.clients)
-          (each_map (ClientShown h) (λ x. x.wills.will ≡ will_of x.id h) s.clients (λ x is. is.will) shown.clients)
+          (each_map (ClientShown h) (λ x. x.filters ≡ standing_of x.id h) s.clients
+          (λ x is. is.filters) shown.clients)
+          (each_map (ClientShown h) (λ x. x.wills.will ≡ will_of x.id h) s.clients
+          (λ x is. is.will) shown.clients)
           (each_left (λ x. notes_of x.id outs ≡ fixed_for s c x) s.clients (newcomers_for s c) own);
       pinged = pinged_row h s e connected;
       order = order_row s e h shown.order;
@@ -300,12 +136,14 @@ shown_row by h s e good shown =
       mailed = each_map (Seen rows) (Mailed rows) after (λ x is. is.mailed) seen;
       willed = each_map (Seen rows) (WillShown rows) after (λ x is. is.willed) seen;
       strangers = λ id none.
-          let before : is_among id (accepted h) ≡ false = (among_parts id (accepted h) (accepted_in (accepted h) e outs) none).0 in
+          let before : is_among id (accepted h) ≡ false =
+          (among_parts id (accepted h) (accepted_in (accepted h) e outs) none).0 in
           ap (standing_after (message_at e) id outs) (shown.strangers id before)
           ∙ (standing_by_notes (message_at e) id outs [] ∙ unknown_row s e id (away id before));
       unheard = λ id none.
           let parts = among_parts id (accepted h) (accepted_in (accepted h) e outs) none in
-          unheard_row by h s e id force (away id parts.0) (row_admits s e (accepted h) id parts.0 parts.1) (shown.unheard id parts.0);
+          unheard_row by h s e id force (away id parts.0) (row_admits s e (accepted h) id parts.0 parts.1)
+          (shown.unheard id parts.0);
     }
 
 -- a state between rows of a lawful history
@@ -314,12 +152,17 @@ pub record Stands (h : List Row) (s : State) : Type 0 where
   pub shown : StateShown h s
 
 -- after a lawful row, too
-stands_row : (by : ℕ) (h : List Row) (s : State) (e : Event) (outs : List Out) → outs ≡ outs_of s e → Stands h s
+stands_row : (by : ℕ) (h : List Row) (s : State) (e : Event) (outs : List Out) → outs ≡ outs_of s e
+    → Stands h s
     → Stands (record { by = by; event = e; outs = outs } ∷ h) (after s (cause_of e) outs)
 stands_row by h s e outs is stands =
     subst (λ o. Stands (record { by = by; event = e; outs = o } ∷ h) (after s (cause_of e) o)) (sym is)
-    (subst (Stands (record { by = by; event = e; outs = outs_of s e } ∷ h)) (sym (next_same s (cause_of e) stands.good))
-    (record { good = good_next s (cause_of e) stands.good; shown = shown_row by h s e stands.good stands.shown }))
+    (subst (Stands (record { by = by; event = e; outs = outs_of s e } ∷ h))
+    (sym (next_same s (cause_of e) stands.good))
+    (record {
+      good = good_next s (cause_of e) stands.good;
+      shown = shown_row by h s e stands.good stands.shown;
+    }))
 
 pub stands : (h : List Row) → Lawful opening h → Stands h (state_of opening h)
 stands [] l =
@@ -341,5 +184,6 @@ stands [] l =
           };
     }
 stands (row ∷ h) l =
-    stands_row row.by h (state_of opening h) row.event row.outs (exact_by (state_of opening h) (cause_of row.event) row.outs l.1)
+    stands_row row.by h (state_of opening h) row.event row.outs
+    (exact_by (state_of opening h) (cause_of row.event) row.outs l.1)
     (stands h l.0)

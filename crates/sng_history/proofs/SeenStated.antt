@@ -1,229 +1,45 @@
 -- What is kept of a client's will after a row is what the rows show of it, by each cause.
-use Rattle.std.proofs.Common.{◌≡◌, ℕ, Bool, true, false, List, [], ◌∷◌, refl, ap, sym, ◌∙◌, subst, if◌then◌else◌}
+use Rattle.std.proofs.Common.{◌≡◌, ℕ, Bool, true, false, List, [], ◌∷◌, refl, ap, sym, ◌∙◌, subst}
+use Rattle.std.proofs.Common.{if◌then◌else◌}
 use Rattle.std.specs.Prelude.{Option, Some, None}
 use Rattle.std.specs.Str.{bytes_eq}
-use Rattle.sng_frames.specs.declared.messages.connect.Connect.{Connect}
-use Rattle.sng_frames.specs.declared.frame.SnFrame.{SnFrame}
-use Rattle.sng_frames.specs.declared.frame.SnFrame.TheVariants as frame
-use Rattle.sng_grants.specs.declared.policy.Policy.{Policy}
-use Rattle.sng_fan.specs.declared.held.Held.{Held}
-use Rattle.sng_book.specs.Denials.{is_allowed}
 use Rattle.sng_book.specs.declared.address.Address.{Address}
-use Rattle.sng_book.specs.declared.decision.Decision.{Decision}
 use Rattle.sng_book.specs.declared.decision.Decision.TheVariants as note
-use Rattle.sng_book.specs.declared.decision.Who.{Who}
 use Rattle.sng_book.specs.declared.decision.Who.TheVariants as who
-use Rattle.sng_book.specs.declared.outcome.Denial.{Denial}
-use Rattle.sng_book.specs.declared.outcome.Denial.TheVariants.{NotSupported, BrokerRefused}
-use Rattle.sng_book.specs.declared.outcome.Outcome.{Outcome}
-use Rattle.sng_book.specs.declared.outcome.Outcome.TheVariants.{Allowed, Denied}
+use Rattle.sng_book.specs.declared.outcome.Outcome.TheVariants.{Denied}
 use Rattle.sng_book.specs.declared.out.Out.{Out}
-use Rattle.sng_history.specs.Causes.{Statement, StatesTopic, StatesMessage, UpdatesTopic, UpdatesMessage, statement_asked, ToSleep}
-use Rattle.sng_history.specs.Causes.{Request, ToPing, ToLeave, ToRegister, ToPublish, ToSubscribe, ToUnsubscribe, ToConfirm, ToAcknowledge}
-use Rattle.sng_history.specs.Causes.{ToState, Untaken}
-use Rattle.sng_history.specs.Causes.{Cause, ByConnect, ByMessage, BySource, ByBroken, ByPacket, ByUp, ByDown, ByTake, ByReplace, ByTick}
-use Rattle.sng_history.specs.Clients.{Around, Client, start_by, is_here, is_confirming, is_acknowledging, closed, let_in, drained}
-use Rattle.sng_history.specs.Clients.{stated, message_due, note_by, notes_by}
+use Rattle.sng_history.specs.Causes.{Statement}
+use Rattle.sng_history.specs.Causes.{statement_asked}
+use Rattle.sng_history.specs.Causes.{Request}
+use Rattle.sng_history.specs.Causes.{ToState}
+use Rattle.sng_history.specs.Causes.{Cause, ByConnect, ByMessage, BySource, ByBroken, ByPacket, ByUp, ByDown}
+use Rattle.sng_history.specs.Causes.{ByTake, ByReplace, ByTick}
+use Rattle.sng_history.specs.Clients.{Client, start_by, is_here}
+use Rattle.sng_history.specs.Clients.{drained}
+use Rattle.sng_history.specs.Clients.{message_due, notes_by}
 use Rattle.sng_history.specs.Packets.{answer_of, refused_filter}
 use Rattle.sng_history.specs.Notes.{notes_of}
-use Rattle.sng_history.specs.Answers.{denied_note}
-use Rattle.sng_history.specs.Outgoing.{out_of_turn, all_gone, handed_over, delivered_notes}
-use Rattle.sng_history.specs.Standing.{holds}
+use Rattle.sng_history.specs.Outgoing.{delivered_notes}
 use Rattle.sng_history.specs.State.{State, around, later}
-use Rattle.sng_history.specs.Verdicts.{entry, ping_verdict, coverage}
-use Rattle.sng_history.specs.WillAsks.{turn, statement_turn, statement_verdict, statement_object, dialogue_goes_on, statement_notes}
-use Rattle.sng_history.specs.WillAsks.{statement_ask, statement_read, topic_at, topic_read, topic_granted}
-use Rattle.sng_history.specs.Lawful.{confirmations, entering_notes, denial_of, end_of, ends_under, refused_end, fixed_to, fixed_for}
-use Rattle.sng_history.specs.Lawful.{woken_notes}
+use Rattle.sng_history.specs.Verdicts.{entry}
+use Rattle.sng_history.specs.WillAsks.{statement_notes}
+use Rattle.sng_history.specs.Lawful.{refused_end, fixed_to, fixed_for}
 use Rattle.sng_history.specs.Steps.{client_next}
 use Rattle.sng_history.specs.ViewsMessages.{Message as Spoken, statement_in, message_at}
-use Rattle.sng_history.specs.ViewsWills.{Stating, stating_by, stating_of}
-use Rattle.sng_history.proofs.Own.{same_self}
-use Rattle.sng_history.proofs.Asks.{of_register, of_publish, of_subscribe, of_unsubscribe}
-use Rattle.sng_history.proofs.Hands.{Every, every_append, every_if, every_handed, every_gone, every_confirmation, every_delivered}
-use Rattle.sng_history.proofs.Hands.{every_woken}
+use Rattle.sng_history.specs.ViewsWills.{Stating, stating_of}
+use Rattle.sng_history.proofs.Hands.{Every, every_append, every_if}
+use Rattle.sng_history.proofs.Hands.{every_delivered}
 use Rattle.sng_history.proofs.Statements.{every_tick}
 use Rattle.sng_history.proofs.Steady.{start_lasts, drained_lasts}
-use Rattle.sng_history.proofs.SeenHanding.{Fits}
-use Rattle.sng_history.proofs.Kept.{let_in_id, client_id}
-use Rattle.sng_history.proofs.SeenWills.{stating_notes, stating_by_notes, WilledAt, Keeps, keeps_all, keeps_subscribe, keeps_unsubscribe}
-use Rattle.sng_history.proofs.SeenWills.{keeps_end, keeps_register, keeps_messages, willed_lasts, keeps_again}
-use Rattle.sng_history.proofs.SeenWills.{keeps_denied, keeps_left, keeps_lost, keeps_connect, stated_willed, both_so}
+use Rattle.sng_history.proofs.SeenHandingNotes.{Fits}
+use Rattle.sng_history.proofs.Kept.{client_id}
+use Rattle.sng_history.proofs.SeenWillsKept.{stating_notes, stating_by_notes, WilledAt, Keeps, keeps_all}
+use Rattle.sng_history.proofs.SeenWillsKept.{keeps_messages, willed_lasts, keeps_again}
+use Rattle.sng_history.proofs.SeenWillsKept.{keeps_denied, keeps_lost}
 use Rattle.sng_book.specs.declared.event.Event.{Event}
 use Rattle.sng_book.specs.declared.row.Row.{Row}
-use Rattle.sng_states.specs.States.{is_due_messages}
-
--- ---- a statement
-
--- what comes behind a statement
-keeps_goes_on : (a : Around) (m : Option Spoken) (policy : Policy) (statement : Statement) (x : Client) (o : Outcome)
-    → Every (Keeps a m x.id) (dialogue_goes_on policy statement x o)
-keeps_goes_on a m policy statement x Allowed = every_handed (Keeps a m x.id) policy (stated statement x) (keeps_messages a m x.id x.id)
-keeps_goes_on a m policy statement x (Denied rule) =
-    (keeps_left a m x.id, every_gone (Keeps a m x.id) x.id x.buffer.waiting (keeps_messages a m x.id x.id))
-
-abbrev will_around : State → Address → Statement → Around
-will_around s from statement = record { policy = s.policy; clock = s.clock; cause = ByMessage from (ToState statement) }
-
--- the statement itself, by its verdict
-first_willed : (s : State) (from : Address) (statement : Statement) (m : Option Spoken) (x : Client) (now : Stating)
-    (name : Option (List ℕ)) (o : Outcome)
-    → (o ≡ Allowed → statement_turn statement x ≡ Allowed) → statement_in m ≡ Some statement → WilledAt x now
-    → let a = will_around s from statement in
-    let said = note.Will (who.Client x.id) name o in
-    WilledAt (note_by a said x) (stating_by m x.id said now)
-first_willed s from statement m x now name Allowed turn is willed =
-    rw (same_self x.id, is) (stated_willed statement x now (turn refl) willed)
-first_willed s from statement m x now name (Denied rule) turn is willed =
-    keeps_denied (will_around s from statement) m x.id (who.Client x.id) name rule x now willed
-
-turn_so : (policy : Policy) (statement : Statement) (x : Client) → statement_verdict policy statement x ≡ Allowed
-    → statement_turn statement x ≡ Allowed
-turn_so policy statement x is =
-    (both_so (statement_turn statement x) (topic_read policy x.id (topic_at statement x))
-    (both_so (statement_read policy statement x) (topic_granted policy x.id (topic_at statement x)) is).0).0
-
-turn_heard : (statement : Statement) (x : Client) (heard : ℕ)
-    → statement_turn statement (record x { heard = heard }) ≡ statement_turn statement x
-turn_heard (StatesTopic topic) x heard = refl
-turn_heard (StatesMessage message) x heard = refl
-turn_heard (UpdatesTopic topic) x heard = refl
-turn_heard (UpdatesMessage message) x heard = refl
-
-spoken_willed : (s : State) (from : Address) (statement : Statement) (m : Option Spoken) (x : Client) (now : Stating) (more : List Decision)
-    → statement_in m ≡ Some statement → Every (Keeps (will_around s from statement) m x.id) more → WilledAt x now
-    → let a = will_around s from statement in
-    let notes = statement_ask s.policy statement x ∷ more in
-    WilledAt (notes_by a notes (record x { heard = s.clock })) (stating_notes m x.id notes now)
-spoken_willed s from statement m x now more is every willed =
-    let a = will_around s from statement in
-    let y : Client = record x { heard = s.clock } in
-    let said = statement_ask s.policy statement x in
-    keeps_all a m x.id more (note_by a said y) (stating_by m x.id said now) every
-    (first_willed s from statement m y now (statement_object s.policy statement x) (statement_verdict s.policy statement x)
-    (λ allowed. turn_heard statement x s.clock ∙ turn_so s.policy statement x allowed) is
-    (record { will = willed.will; stage = willed.stage; empty = willed.empty }))
-
-statement_willed : (s : State) (from : Address) (statement : Statement) (m : Option Spoken) (x : Client) (now : Stating)
-    → statement_in m ≡ Some statement → WilledAt x now
-    → let a = will_around s from statement in
-    WilledAt (notes_by a (statement_notes s.policy statement x) (record x { heard = s.clock }))
-    (stating_notes m x.id (statement_notes s.policy statement x) now)
-statement_willed s from (StatesTopic topic) m x now is willed =
-    let st = StatesTopic topic in
-    let o = statement_verdict s.policy st x in
-    let a = will_around s from st in
-    spoken_willed s from st m x now (if is_allowed (statement_turn st x) then dialogue_goes_on s.policy st x o else []) is
-    (every_if (Keeps a m x.id) (is_allowed (statement_turn st x)) (dialogue_goes_on s.policy st x o)
-    (keeps_goes_on a m s.policy st x o)) willed
-statement_willed s from (StatesMessage message) m x now is willed =
-    let st = StatesMessage message in
-    let o = statement_verdict s.policy st x in
-    let a = will_around s from st in
-    spoken_willed s from st m x now (if is_allowed (statement_turn st x) then dialogue_goes_on s.policy st x o else []) is
-    (every_if (Keeps a m x.id) (is_allowed (statement_turn st x)) (dialogue_goes_on s.policy st x o)
-    (keeps_goes_on a m s.policy st x o)) willed
-statement_willed s from (UpdatesTopic topic) m x now is willed = spoken_willed s from (UpdatesTopic topic) m x now [] is tt willed
-statement_willed s from (UpdatesMessage message) m x now is willed = spoken_willed s from (UpdatesMessage message) m x now [] is tt willed
-
--- ---- any other message
-
-keeps_ends : (a : Around) (m : Option Spoken) (id own : List ℕ) (policy : Policy) (held : List Held)
-    → Every (Keeps a m id) (ends_under policy own held)
-keeps_ends a m id own policy [] = tt
-keeps_ends a m id own policy (h ∷ held) =
-    every_append (Keeps a m id) (end_of own h.filter (coverage policy own h.filter)) (ends_under policy own held)
-    (by_outcome (coverage policy own h.filter)) (keeps_ends a m id own policy held)
-  where
-    by_outcome : (o : Outcome) → Every (Keeps a m id) (end_of own h.filter o)
-    by_outcome Allowed = tt
-    by_outcome (Denied rule) = (keeps_end a m id own h.filter (Denied rule), tt)
-
-keeps_refused : (a : Around) (m : Option Spoken) (id : List ℕ) (x : Client) (text : Option (List ℕ))
-    → Every (Keeps a m id) (refused_end x text)
-keeps_refused a m id x None = tt
-keeps_refused a m id x (Some text) =
-    every_if (Keeps a m id) (holds text x) (note.End x.id text (Denied BrokerRefused) ∷ [])
-    (keeps_end a m id x.id text (Denied BrokerRefused), tt)
-
-keeps_still : (a : Around) (m : Option Spoken) (id : List ℕ) (message : SnFrame) (whom : Who) (rule : Denial)
-    → Keeps a m id (denied_note message whom rule)
-keeps_still a m id (frame.Connect connect) whom rule = λ x now willed. willed
-keeps_still a m id (frame.Register r) whom rule = keeps_register a m id whom None (Denied rule)
-keeps_still a m id (frame.Subscribe r) whom rule = keeps_subscribe a m id whom None (Denied rule)
-keeps_still a m id (frame.Unsubscribe r) whom rule = keeps_unsubscribe a m id whom None (Denied rule)
-keeps_still a m id (frame.WillTopic topic) whom rule = keeps_denied a m id whom None rule
-keeps_still a m id (frame.WillMessage message) whom rule = keeps_denied a m id whom None rule
-keeps_still a m id (frame.WillTopicUpdate topic) whom rule = keeps_denied a m id whom None rule
-keeps_still a m id (frame.WillMessageUpdate message) whom rule = keeps_denied a m id whom None rule
-keeps_still a m id _ whom rule = λ x now willed. willed
-
-keeps_denial : (a : Around) (m : Option Spoken) (id : List ℕ) (o : Outcome) → Every (Keeps a m id) (denial_of id o)
-keeps_denial a m id Allowed = tt
-keeps_denial a m id (Denied rule) = ((λ x now willed. willed), tt)
-
-keeps_answered : (a : Around) (m : Option Spoken) (id : List ℕ) (notes : List Decision) (b : Bool) → Every (Keeps a m id) notes
-    → Every (Keeps a m id) (if b then notes else out_of_turn id)
-keeps_answered a m id notes true every = every
-keeps_answered a m id notes false every = ((λ x now willed. willed), tt)
-
-keeps_asleep : (a : Around) (m : Option Spoken) (id : List ℕ) (b : Bool) → Every (Keeps a m id) (if b then [] else out_of_turn id)
-keeps_asleep a m id true = tt
-keeps_asleep a m id false = ((λ x now willed. willed), tt)
-
-keeps_to : (s : State) (a : Around) (m : Option Spoken) (request : Request) (x : Client) → statement_asked request ≡ None
-    → Every (Keeps a m x.id) (fixed_to s request x)
-keeps_to s a m (ToPing client) x none =
-    every_append (Keeps a m x.id) (denial_of x.id (ping_verdict client x)) (woken_notes s.policy client x)
-    (keeps_denial a m x.id (ping_verdict client x))
-    (every_woken (Keeps a m x.id) s.policy client x (keeps_messages a m x.id x.id))
-keeps_to s a m (ToSleep duration) x none = keeps_asleep a m x.id (is_due_messages x.phase)
-keeps_to s a m ToLeave x none = (keeps_left a m x.id, every_gone (Keeps a m x.id) x.id x.buffer.waiting (keeps_messages a m x.id x.id))
-keeps_to s a m (ToRegister r) x none =
-    (of_register (Keeps a m x.id) s.policy x r.name (λ name o. keeps_register a m x.id (who.Client x.id) name o), tt)
-keeps_to s a m (ToPublish p) x none = (of_publish (Keeps a m x.id) s x p (λ name o y now willed. willed), tt)
-keeps_to s a m (ToSubscribe r) x none =
-    (of_subscribe (Keeps a m x.id) s x r (λ text o. keeps_subscribe a m x.id (who.Client x.id) text o), tt)
-keeps_to s a m (ToUnsubscribe r) x none =
-    (of_unsubscribe (Keeps a m x.id) s.policy x r (λ text o. keeps_unsubscribe a m x.id (who.Client x.id) text o), tt)
-keeps_to s a m (ToConfirm r) x none =
-    keeps_answered a m x.id (confirmations s.policy r x) (is_confirming r x)
-    (every_confirmation (Keeps a m x.id) s.policy r x (keeps_messages a m x.id x.id))
-keeps_to s a m (ToAcknowledge r) x none =
-    keeps_answered a m x.id (handed_over s.policy (closed x)) (is_acknowledging r x)
-    (every_handed (Keeps a m x.id) s.policy (closed x) (keeps_messages a m x.id x.id))
-keeps_to s a m (ToState statement) x none = absurd cc
-keeps_to s a m (Untaken message) x none = (keeps_still a m x.id message (who.Client x.id) NotSupported, tt)
-
-keeps_entering : (s : State) (a : Around) (m : Option Spoken) (from : Address) (connect : Connect) (x : Client) (o : Outcome)
-    → Every (Keeps a m x.id) (entering_notes s from connect x o)
-keeps_entering s a m from connect x (Denied rule) = tt
-keeps_entering s a m from connect x Allowed = by_clean connect.flags.clean
-  where
-    by_clean : (clean : Bool)
-        → Every (Keeps a m x.id) (if clean then all_gone x.id x.buffer.waiting else handed_over s.policy (let_in s.clock from connect x))
-    by_clean true = every_gone (Keeps a m x.id) x.id x.buffer.waiting (keeps_messages a m x.id x.id)
-    by_clean false =
-        let y = let_in s.clock from connect x in
-        subst (λ id. Every (Keeps a m id) (handed_over s.policy y)) (let_in_id s.clock from connect x)
-        (every_handed (Keeps a m y.id) s.policy y (keeps_messages a m y.id y.id))
-
-keeps_connects : (s : State) (from : Address) (connect : Connect) (m : Option Spoken) (x : Client) (own here : Bool) (o : Outcome)
-    → Fits (ByConnect from connect) m
-    → Every (Keeps (around s (ByConnect from connect)) m x.id)
-    (if own
-    then note.Connect x.id o ∷ entering_notes s from connect x o
-    else (if is_allowed o then (if here then note.Left x.id ∷ all_gone x.id x.buffer.waiting else []) else []))
-keeps_connects s from connect m x true here o fits =
-    (keeps_connect s.policy s.clock from connect m x.id o fits, keeps_entering s (around s (ByConnect from connect)) m from connect x o)
-keeps_connects s from connect m x false here o fits =
-    let a = around s (ByConnect from connect) in
-    let leaves = note.Left x.id ∷ all_gone x.id x.buffer.waiting in
-    every_if (Keeps a m x.id) (is_allowed o) (if here then leaves else [])
-    (every_if (Keeps a m x.id) here leaves
-    (keeps_left a m x.id, every_gone (Keeps a m x.id) x.id x.buffer.waiting (keeps_messages a m x.id x.id)))
-
--- ---- a row
+use Rattle.sng_history.proofs.SeenStatements.{will_around, statement_willed, keeps_ends, keeps_refused}
+use Rattle.sng_history.proofs.SeenStatements.{keeps_to, keeps_connects}
 
 -- the client after the row, where each note keeps it so
 moved_willed : (s : State) (c : Cause) (m : Option Spoken) (x : Client) (now : Stating)
@@ -233,9 +49,11 @@ moved_willed s c m x now every willed =
     let a = around s c in
     let z = notes_by a (fixed_for s c x) (start_by a x) in
     willed_lasts z (drained z) (stating_notes m x.id (fixed_for s c x) now) (drained_lasts z)
-    (keeps_all a m x.id (fixed_for s c x) (start_by a x) now every (willed_lasts x (start_by a x) now (start_lasts a x) willed))
+    (keeps_all a m x.id (fixed_for s c x) (start_by a x) now every
+    (willed_lasts x (start_by a x) now (start_lasts a x) willed))
 
-here_willed : (s : State) (from : Address) (statement : Statement) (m : Option Spoken) (x : Client) (now : Stating) (here : Bool)
+here_willed : (s : State) (from : Address) (statement : Statement) (m : Option Spoken) (x : Client)
+    (now : Stating) (here : Bool)
     → statement_in m ≡ Some statement → WilledAt x now
     → let a = will_around s from statement in
     let notes = if here then statement_notes s.policy statement x else [] in
@@ -244,7 +62,8 @@ here_willed : (s : State) (from : Address) (statement : Statement) (m : Option S
 here_willed s from statement m x now true is willed = statement_willed s from statement m x now is willed
 here_willed s from statement m x now false is willed = willed
 
-message_willed_by : (s : State) (from : Address) (request : Request) (m : Option Spoken) (x : Client) (now : Stating)
+message_willed_by : (s : State) (from : Address) (request : Request) (m : Option Spoken) (x : Client)
+    (now : Stating)
     (asked : Option Statement)
     → statement_asked request ≡ asked
     → Fits (ByMessage from request) m → WilledAt x now
@@ -258,15 +77,18 @@ message_willed_by s from (ToState statement) m x now asked is fits willed =
 message_willed_by s from request m x now None is fits willed =
     let c = ByMessage from request in
     moved_willed s c m x now
-    (every_if (Keeps (around s c) m x.id) (is_here x from) (fixed_to s request x) (keeps_to s (around s c) m request x is)) willed
+    (every_if (Keeps (around s c) m x.id) (is_here x from) (fixed_to s request x)
+    (keeps_to s (around s c) m request x is)) willed
 message_willed_by s from request m x now (Some statement) is fits willed = absurd cc
 
 -- what is kept of the client after a row is what its notes show
-pub willed_row : (s : State) (c : Cause) (m : Option Spoken) (x : Client) (now : Stating) → Fits c m → WilledAt x now
+pub willed_row : (s : State) (c : Cause) (m : Option Spoken) (x : Client) (now : Stating) → Fits c m
+    → WilledAt x now
     → WilledAt (client_next s c x) (stating_notes m x.id (fixed_for s c x) now)
 willed_row s (ByConnect from connect) m x now fits willed =
     moved_willed s (ByConnect from connect) m x now
-    (keeps_connects s from connect m x (bytes_eq connect.client_id x.id) (is_here x from) (entry s connect) fits) willed
+    (keeps_connects s from connect m x (bytes_eq connect.client_id x.id) (is_here x from)
+    (entry s connect) fits) willed
 willed_row s (ByMessage from request) m x now fits willed =
     message_willed_by s from request m x now (statement_asked request) refl fits willed
 willed_row s (ByBroken from rule) m x now fits willed =
@@ -280,10 +102,12 @@ willed_row s (ByPacket p) m x now fits willed =
     let due = message_due (answer_of p) x in
     let refused = refused_filter s.link (answer_of p) in
     moved_willed s c m x now
-    (every_append (Keeps a m x.id) (refused_end x refused) (delivered_notes s.policy due x) (keeps_refused a m x.id x refused)
+    (every_append (Keeps a m x.id) (refused_end x refused) (delivered_notes s.policy due x)
+    (keeps_refused a m x.id x refused)
     (every_delivered (Keeps a m x.id) s.policy due x (keeps_messages a m x.id x.id))) willed
 willed_row s (ByReplace policy) m x now fits willed =
-    let c = ByReplace policy in moved_willed s c m x now (keeps_ends (around s c) m x.id x.id policy x.filters) willed
+    let c = ByReplace policy in
+    moved_willed s c m x now (keeps_ends (around s c) m x.id x.id policy x.filters) willed
 willed_row s (ByTick clock) m x now fits willed =
     let c = ByTick clock in
     let a = around s c in
@@ -299,15 +123,18 @@ willed_row s ByDown m x now fits willed = moved_willed s ByDown m x now tt wille
 willed_row s ByTake m x now fits willed = moved_willed s ByTake m x now tt willed
 
 -- the client after the row
-pub willed_next : (by : ℕ) (h : List Row) (s : State) (c : Cause) (e : Event) (outs : List Out) (x : Client) → Fits c (message_at e)
+pub willed_next : (by : ℕ) (h : List Row) (s : State) (c : Cause) (e : Event) (outs : List Out) (x : Client)
+    → Fits c (message_at e)
     → notes_of x.id outs ≡ fixed_for s c x
     → WilledAt x (stating_of x.id h)
-    → WilledAt (client_next s c x) (stating_of (client_next s c x).id (record { by = by; event = e; outs = outs } ∷ h))
+    → WilledAt (client_next s c x)
+    (stating_of (client_next s c x).id (record { by = by; event = e; outs = outs } ∷ h))
 willed_next by h s c e outs x fits own willed =
     let m = message_at e in
     let y = client_next s c x in
     let rows = record { by = by; event = e; outs = outs } ∷ h in
     let stated : stating_of x.id rows ≡ stating_notes m x.id (fixed_for s c x) (stating_of x.id h) =
-    stating_by_notes m x.id outs (stating_of x.id h) ∙ ap (λ notes. stating_notes m x.id notes (stating_of x.id h)) own in
+    stating_by_notes m x.id outs (stating_of x.id h)
+    ∙ ap (λ notes. stating_notes m x.id notes (stating_of x.id h)) own in
     subst (λ id. WilledAt y (stating_of id rows)) (sym (client_id (around s c) (fixed_for s c x) x))
     (subst (WilledAt y) (sym stated) (willed_row s c m x (stating_of x.id h) fits willed))

@@ -1,26 +1,20 @@
--- The wills that wait for the broker after a tick are those that the rows show: of each client that the row says is lost, unless it says
--- that its will found no place.
-use Rattle.std.proofs.Common.{◌≡◌, ℕ, Bool, true, false, List, [], ◌∷◌, ◌++◌, map, refl, ap, sym, ◌∙◌, subst, if◌then◌else◌}
-use Rattle.std.specs.Prelude.{◌||◌, not, Option, Some, None, slice_get}
+-- The wills that wait for the broker after a tick are those that the rows show: of each client that the row
+-- says is lost, unless it says that its will found no place.
+use Rattle.std.proofs.Common.{◌≡◌, ℕ, Bool, true, false, List, [], ◌∷◌, ◌++◌, refl, ap, sym, ◌∙◌, subst}
+use Rattle.std.proofs.Common.{if◌then◌else◌}
+use Rattle.std.specs.Prelude.{Option, Some, None, slice_get}
 use Rattle.std.specs.List.{flat_map}
 use Rattle.std.specs.Str.{bytes_eq}
 use Rattle.std.proofs.lemmas.Grind.{flat_map-append}
-use Rattle.std.proofs.lemmas.List.{append_assoc, append-nil, map-append}
-use Rattle.sng_wills.specs.declared.will.Will.{Will}
-use Rattle.sng_outbox.specs.declared.item.Item.TheVariants as item
+use Rattle.std.proofs.lemmas.List.{append_assoc, append-nil}
 use Rattle.sng_outbox.specs.declared.item.Publication.{Publication}
-use Rattle.sng_outbox.specs.declared.origin.Origin.TheVariants as origin
 use Rattle.sng_queue.specs.Messages.{Message}
-use Rattle.sng_book.specs.Denials.{is_allowed}
 use Rattle.sng_book.specs.declared.address.Address.{Address}
 use Rattle.sng_book.specs.declared.decision.Decision.{Decision}
 use Rattle.sng_book.specs.declared.decision.Decision.TheVariants as note
-use Rattle.sng_book.specs.declared.decision.Who.{Who}
-use Rattle.sng_book.specs.declared.decision.Who.TheVariants as who
 use Rattle.sng_book.specs.declared.outcome.Outcome.{Outcome}
 use Rattle.sng_book.specs.declared.outcome.Outcome.TheVariants.{Allowed, Denied}
 use Rattle.sng_book.specs.declared.out.Out.{Out}
-use Rattle.sng_book.specs.declared.out.Out.TheVariants.{Send, Wire, Note}
 use Rattle.sng_book.specs.declared.row.Row.{Row}
 use Rattle.sng_history.specs.Causes.{ByTick}
 use Rattle.sng_history.specs.Clients.{Around, Client, lost, note_by, is_drained, notes_by}
@@ -29,14 +23,15 @@ use Rattle.sng_history.specs.Good.{Each, Distinct}
 use Rattle.sng_history.specs.Lawful.{fixed_for}
 use Rattle.sng_history.specs.Links.{Link}
 use Rattle.sng_history.specs.Losing.{before, unplaced, will_dropped, lost_notes, again_notes}
-use Rattle.sng_history.specs.Notes.{notes_of, is_of, is_client}
+use Rattle.sng_history.specs.Notes.{notes_of}
 use Rattle.sng_history.specs.Outgoing.{all_gone}
 use Rattle.sng_history.specs.Room.{room_in}
 use Rattle.sng_history.specs.State.{State, around, later}
-use Rattle.sng_history.specs.Ticking.{will_of, testament, testaments, with_item, placed, all_placed, is_lost_at}
+use Rattle.sng_history.specs.Ticking.{will_of, testament, testaments, all_placed}
+use Rattle.sng_history.specs.Ticking.{is_lost_at}
 use Rattle.sng_history.specs.Whole.{frames_of, spell, part, drained_outs}
-use Rattle.sng_history.specs.ViewsClients.{speaks_of}
-use Rattle.sng_history.specs.ViewsLink.{published_for, is_will_denied, finds_no_place, testament_by, testaments_in}
+use Rattle.sng_history.specs.ViewsLink.{testament_by}
+use Rattle.sng_history.specs.ViewsLink.{testaments_in}
 use Rattle.sng_history.specs.ViewsWills as views
 use Rattle.sng_history.proofs.Own.{same_self, flip}
 use Rattle.sng_history.proofs.Hands.{Every, OfMessages, every_append, every_gone}
@@ -46,134 +41,7 @@ use Rattle.sng_queue.specs.declared.exchange.Exchange.TheVariants.{Announcing, A
 use Rattle.sng_queue.specs.declared.exchange.Sending.{Sending}
 use Rattle.sng_queue.specs.Buffers.{Buffer}
 use Rattle.sng_history.proofs.Statements.{every_again}
-
--- ---- the link, as wills are placed
-
--- of these publishes those that find a place, one after another
-abbrev pub laid : Link → List Publication → List Publication
-laid link [] = []
-laid link (p ∷ ps) = (if is_allowed (room_in link p.qos) then p ∷ [] else []) ++ laid (placed link p) ps
-
-placed_waits : (link : Link) (p : Publication) (b : Bool)
-    →
-    (let after : Link = if b then with_item link (item.Publish p) else link in after).waiting
-    ≡ link.waiting ++ map item.Publish (if b then p ∷ [] else [])
-placed_waits link p true = refl
-placed_waits link p false = sym (append-nil link.waiting)
-
-pub all_wait : (link : Link) (ps : List Publication) → (all_placed link ps).waiting ≡ link.waiting ++ map item.Publish (laid link ps)
-all_wait link [] = sym (append-nil link.waiting)
-all_wait link (p ∷ ps) =
-    let first = if is_allowed (room_in link p.qos) then p ∷ [] else [] in
-    let rest = laid (placed link p) ps in
-    all_wait (placed link p) ps
-    ∙ (ap (λ items. items ++ map item.Publish rest) (placed_waits link p (is_allowed (room_in link p.qos)))
-    ∙ (append_assoc link.waiting (map item.Publish first) (map item.Publish rest)
-    ∙ ap (λ items. link.waiting ++ items) (sym (map-append item.Publish first rest))))
-
--- nothing else of it moves
-pub record Alongside (link after : Link) : Type 0 where
-  pub in_flight : after.in_flight ≡ link.in_flight
-  pub last : after.last ≡ link.last
-  pub wanted : after.wanted ≡ link.wanted
-  pub pinged : after.pinged ≡ link.pinged
-
-placed_alongside : (link : Link) (p : Publication) (b : Bool) → Alongside link (if b then with_item link (item.Publish p) else link)
-placed_alongside link p true = record { in_flight = refl; last = refl; wanted = refl; pinged = refl }
-placed_alongside link p false = record { in_flight = refl; last = refl; wanted = refl; pinged = refl }
-
-pub all_alongside : (link : Link) (ps : List Publication) → Alongside link (all_placed link ps)
-all_alongside link [] = record { in_flight = refl; last = refl; wanted = refl; pinged = refl }
-all_alongside link (p ∷ ps) =
-    let one = placed_alongside link p (is_allowed (room_in link p.qos)) in
-    let more = all_alongside (placed link p) ps in
-    record {
-      in_flight = more.in_flight ∙ one.in_flight;
-      last = more.last ∙ one.last;
-      wanted = more.wanted ∙ one.wanted;
-      pinged = more.pinged ∙ one.pinged;
-    }
-
-pub placed_append : (link : Link) (ps qs : List Publication) → all_placed link (ps ++ qs) ≡ all_placed (all_placed link ps) qs
-placed_append link [] qs = refl
-placed_append link (p ∷ ps) qs = placed_append (placed link p) ps qs
-
-laid_append : (link : Link) (ps qs : List Publication) → laid link (ps ++ qs) ≡ laid link ps ++ laid (all_placed link ps) qs
-laid_append link [] qs = refl
-laid_append link (p ∷ ps) qs =
-    let first = if is_allowed (room_in link p.qos) then p ∷ [] else [] in
-    ap (λ more. first ++ more) (laid_append (placed link p) ps qs)
-    ∙ sym (append_assoc first (laid (placed link p) ps) (laid (all_placed (placed link p) ps) qs))
-
--- ---- what the row says of one will
-
--- of a client's notes, one says that its will found no place
-abbrev denies : List ℕ → List Decision → Bool
-denies id [] = false
-denies id (said ∷ notes) = is_will_denied id said || denies id notes
-
-client_same : (id : List ℕ) (whom : Who) → is_client id whom ≡ speaks_of id whom
-client_same id (who.Client client) = refl
-client_same id (who.Source source) = refl
-client_same id (who.Address address) = refl
-client_same id who.Broker = refl
-
-other_denies : (id : List ℕ) (said : Decision) → is_of id said ≡ false → is_will_denied id said ≡ false
-other_denies id (note.Will whom name outcome) other = rw (sym (client_same id whom) ∙ other) refl
-other_denies id _ other = refl
-
-note_denies : (id : List ℕ) (said : Decision) (notes : List Decision) (b : Bool) → is_of id said ≡ b
-    → (is_will_denied id said || denies id notes) ≡ denies id ((if b then said ∷ [] else []) ++ notes)
-note_denies id said notes true own = refl
-note_denies id said notes false other = rw (other_denies id said other) refl
-
-outs_deny : (id : List ℕ) (outs : List Out) → finds_no_place id outs ≡ denies id (notes_of id outs)
-outs_deny id [] = refl
-outs_deny id (Note said ∷ outs) =
-    ap (λ b. is_will_denied id said || b) (outs_deny id outs) ∙ note_denies id said (notes_of id outs) (is_of id said) refl
-outs_deny id (Send to datagram ∷ outs) = outs_deny id outs
-outs_deny id (Wire packet ∷ outs) = outs_deny id outs
-
-gone_denies : (id client : List ℕ) (waiting : List Message) (more : List Decision)
-    → denies id (all_gone client waiting ++ more) ≡ denies id more
-gone_denies id client [] more = refl
-gone_denies id client (m ∷ waiting) more = gone_denies id client waiting more
-
-abbrev is_left_out : Link → List Publication → Bool
-is_left_out link [] = false
-is_left_out link (p ∷ ps) = not (is_allowed (room_in link p.qos))
-
-one_denies : (id : List ℕ) (p : Publication) (o : Outcome) → denies id (unplaced id p o) ≡ not (is_allowed o)
-one_denies id p Allowed = refl
-one_denies id p (Denied rule) = rw (same_self id) refl
-
-dropped_denies : (link : Link) (id : List ℕ) (ps : List Publication) → denies id (will_dropped link id ps) ≡ is_left_out link ps
-dropped_denies link id [] = refl
-dropped_denies link id (p ∷ ps) = one_denies id p (room_in link p.qos)
-
-lost_denies : (link : Link) (x : Client) → denies x.id (lost_notes link x) ≡ is_left_out link (will_of x.id x.wills.will)
-lost_denies link x =
-    gone_denies x.id x.id x.buffer.waiting (will_dropped link x.id (will_of x.id x.wills.will))
-    ∙ dropped_denies link x.id (will_of x.id x.wills.will)
-
--- what waits of its will
-laid_if : (p : Publication) (b : Bool) → (if not b then [] else p ∷ []) ≡ (if b then p ∷ [] else []) ++ []
-laid_if p true = refl
-laid_if p false = refl
-
-will_laid : (link : Link) (id : List ℕ) (will : Option Will)
-    → (if is_left_out link (will_of id will) then [] else published_for id will) ≡ laid link (will_of id will)
-will_laid link id None = refl
-will_laid link id (Some will) =
-    let p : Publication =
-    record { origin = origin.Client id; name = will.topic; payload = will.payload; qos = will.qos; retain = will.retain } in
-    laid_if p (is_allowed (room_in link p.qos))
-
-lost_laid : (h : List Row) (all : List Out) (link : Link) (x : Client) → notes_of x.id all ≡ lost_notes link x
-    → x.wills.will ≡ views.will_of x.id h
-    → testament_by h all (note.Lost x.id) ≡ laid link (will_of x.id x.wills.will)
-lost_laid h all link x own shown =
-    rw (outs_deny x.id all ∙ (ap (denies x.id) own ∙ lost_denies link x), sym shown) (will_laid link x.id x.wills.will)
+use Rattle.sng_history.proofs.SeenPlaced.{laid, placed_append, laid_append, lost_laid}
 
 -- ---- what a row says of one client
 
@@ -181,45 +49,55 @@ lost_laid h all link x own shown =
 abbrev Bare : Around → List Row → List Out → Decision → Type 0
 Bare a h all said =
     (x : Client) (rest : List Out)
-    → testament_by h all said ++ testaments_in h all (frames_of a [] x said ++ rest) ≡ testaments_in h all rest
+    → testament_by h all said ++ testaments_in h all (frames_of a [] x said ++ rest)
+    ≡ testaments_in h all rest
 
-handed_bare : (h : List Row) (all : List Out) (to : Address) (number : ℕ) (m : Option Message) (known : Option Known) (rest : List Out)
+handed_bare : (h : List Row) (all : List Out) (to : Address) (number : ℕ) (m : Option Message)
+    (known : Option Known) (rest : List Out)
     → testaments_in h all (handed_outs to number m known ++ rest) ≡ testaments_in h all rest
 handed_bare h all to number None known rest = refl
 handed_bare h all to number (Some m) None rest = refl
 handed_bare h all to number (Some m) (Some known) rest = refl
 
-hand_bare : (a : Around) (h : List Row) (all : List Out) (client name : List ℕ) (o : Outcome) → Bare a h all (note.Hand client name o)
-hand_bare a h all client name Allowed x rest = handed_bare h all x.address x.number (front x.buffer) (known_as a.policy x.ids name) rest
+hand_bare : (a : Around) (h : List Row) (all : List Out) (client name : List ℕ) (o : Outcome)
+    → Bare a h all (note.Hand client name o)
+hand_bare a h all client name Allowed x rest =
+    handed_bare h all x.address x.number (front x.buffer) (known_as a.policy x.ids name) rest
 hand_bare a h all client name (Denied rule) x rest = refl
 
-bare_messages : (a : Around) (h : List Row) (all : List Out) (client : List ℕ) → OfMessages (Bare a h all) client
+bare_messages : (a : Around) (h : List Row) (all : List Out) (client : List ℕ)
+    → OfMessages (Bare a h all) client
 bare_messages a h all client = record { announces = λ name x rest. refl; hands = hand_bare a h all client }
 
-spell_bare : (a : Around) (h : List Row) (all : List Out) (x : Client) (notes : List Decision) (rest : List Out)
+spell_bare : (a : Around) (h : List Row) (all : List Out) (x : Client) (notes : List Decision)
+    (rest : List Out)
     → Every (Bare a h all) notes
     → testaments_in h all (spell a [] x notes ++ rest) ≡ testaments_in h all rest
 spell_bare a h all x [] rest every = refl
 spell_bare a h all x (said ∷ notes) rest every =
     let y = note_by a said x in
-    ap (λ outs. testament_by h all said ++ testaments_in h all outs) (append_assoc (frames_of a [] x said) (spell a [] y notes) rest)
+    ap (λ outs. testament_by h all said ++ testaments_in h all outs)
+    (append_assoc (frames_of a [] x said) (spell a [] y notes) rest)
     ∙ (every.0 x (spell a [] y notes ++ rest) ∙ spell_bare a h all y notes rest every.1)
 
 -- at a tick
 abbrev pub tick_around : State → ℕ → Around
 tick_around s clock = around s (ByTick clock)
 
-unplaced_bare : (s : State) (clock : ℕ) (h : List Row) (all : List Out) (id : List ℕ) (p : Publication) (o : Outcome)
+unplaced_bare : (s : State) (clock : ℕ) (h : List Row) (all : List Out) (id : List ℕ) (p : Publication)
+    (o : Outcome)
     → Every (Bare (tick_around s clock) h all) (unplaced id p o)
 unplaced_bare s clock h all id p Allowed = tt
 unplaced_bare s clock h all id p (Denied rule) = ((λ x rest. refl), tt)
 
-dropped_bare : (s : State) (clock : ℕ) (h : List Row) (all : List Out) (link : Link) (id : List ℕ) (ps : List Publication)
+dropped_bare : (s : State) (clock : ℕ) (h : List Row) (all : List Out) (link : Link) (id : List ℕ)
+    (ps : List Publication)
     → Every (Bare (tick_around s clock) h all) (will_dropped link id ps)
 dropped_bare s clock h all link id [] = tt
 dropped_bare s clock h all link id (p ∷ ps) = unplaced_bare s clock h all id p (room_in link p.qos)
 
-lost_spelled : (s : State) (clock : ℕ) (h : List Row) (all : List Out) (link : Link) (x : Client) (rest : List Out)
+lost_spelled : (s : State) (clock : ℕ) (h : List Row) (all : List Out) (link : Link) (x : Client)
+    (rest : List Out)
     → testaments_in h all (spell (tick_around s clock) [] x (lost_notes link x) ++ rest)
     ≡ testament_by h all (note.Lost x.id) ++ testaments_in h all rest
 lost_spelled s clock h all link x rest =
@@ -228,30 +106,36 @@ lost_spelled s clock h all link x rest =
     let dropped = will_dropped link x.id (will_of x.id x.wills.will) in
     ap (λ more. testament_by h all (note.Lost x.id) ++ more)
     (spell_bare a h all (lost x) (gone ++ dropped) rest
-    (every_append (Bare a h all) gone dropped (every_gone (Bare a h all) x.id x.buffer.waiting (bare_messages a h all x.id))
+    (every_append (Bare a h all) gone dropped
+    (every_gone (Bare a h all) x.id x.buffer.waiting (bare_messages a h all x.id))
     (dropped_bare s clock h all link x.id (will_of x.id x.wills.will))))
 
 abbrev pub tick_part : State → ℕ → Client → List Out
 tick_part s clock x = part (tick_around s clock) [] (fixed_for s (ByTick clock) x) x
 
 -- what is open is sent again
-announced_bare : (h : List Row) (all : List Out) (to : Address) (sent : Sending) (m : Option Message) (rest : List Out)
+announced_bare : (h : List Row) (all : List Out) (to : Address) (sent : Sending) (m : Option Message)
+    (rest : List Out)
     → testaments_in h all (announced_again to sent m ++ rest) ≡ testaments_in h all rest
 announced_bare h all to sent None rest = refl
 announced_bare h all to sent (Some m) rest = refl
 
-repeated_bare : (h : List Row) (all : List Out) (to : Address) (b : Buffer) (open_one : Option Exchange) (rest : List Out)
+repeated_bare : (h : List Row) (all : List Out) (to : Address) (b : Buffer) (open_one : Option Exchange)
+    (rest : List Out)
     → testaments_in h all (repeated_outs to b open_one ++ rest) ≡ testaments_in h all rest
 repeated_bare h all to b None rest = refl
-repeated_bare h all to b (Some (Announcing sent)) rest = announced_bare h all to sent (slice_get b.waiting 0) rest
+repeated_bare h all to b (Some (Announcing sent)) rest =
+    announced_bare h all to sent (slice_get b.waiting 0) rest
 repeated_bare h all to b (Some (Acknowledging sent k m)) rest = refl
 
-again_bare : (a : Around) (h : List Row) (all : List Out) (client name : List ℕ) (o : Outcome) → Bare a h all (note.Retry client name o)
+again_bare : (a : Around) (h : List Row) (all : List Out) (client name : List ℕ) (o : Outcome)
+    → Bare a h all (note.Retry client name o)
 again_bare a h all client name Allowed x rest = repeated_bare h all x.address x.buffer x.buffer.exchange rest
 again_bare a h all client name (Denied rule) x rest = refl
 
 again_spelled : (s : State) (clock : ℕ) (h : List Row) (all : List Out) (x : Client) (rest : List Out)
-    → testaments_in h all (spell (tick_around s clock) [] x (again_notes s.policy (later s.clock clock) x) ++ rest)
+    → testaments_in h all (spell (tick_around s clock) [] x (again_notes s.policy (later s.clock clock) x)
+    ++ rest)
     ≡ testaments_in h all rest
 again_spelled s clock h all x rest =
     let a = tick_around s clock in
@@ -263,41 +147,51 @@ drained_bare : (h : List Row) (all : List Out) (z : Client) (rest : List Out)
     → testaments_in h all (drained_outs z ++ rest) ≡ testaments_in h all rest
 drained_bare h all z rest = by_drained (is_drained z)
   where
-    by_drained : (b : Bool) → testaments_in h all ((if b then pong z.address ∷ [] else []) ++ rest) ≡ testaments_in h all rest
+    by_drained : (b : Bool) → testaments_in h all ((if b then pong z.address ∷ [] else []) ++ rest)
+        ≡ testaments_in h all rest
     by_drained true = refl
     by_drained false = refl
 
-part_laid : (s : State) (clock : ℕ) (h : List Row) (all : List Out) (link : Link) (x : Client) (rest : List Out) (b : Bool)
+part_laid : (s : State) (clock : ℕ) (h : List Row) (all : List Out) (link : Link) (x : Client)
+    (rest : List Out) (b : Bool)
     → notes_of x.id all ≡ (if b then lost_notes link x else again_notes s.policy (later s.clock clock) x)
     → x.wills.will ≡ views.will_of x.id h
     → testaments_in h all
-    (spell (tick_around s clock) [] x (if b then lost_notes link x else again_notes s.policy (later s.clock clock) x) ++ rest)
+    (spell (tick_around s clock) [] x
+    (if b then lost_notes link x else again_notes s.policy (later s.clock clock) x) ++ rest)
     ≡ laid link (if b then will_of x.id x.wills.will else []) ++ testaments_in h all rest
 part_laid s clock h all link x rest true own shown =
-    lost_spelled s clock h all link x rest ∙ ap (λ first. first ++ testaments_in h all rest) (lost_laid h all link x own shown)
+    lost_spelled s clock h all link x rest
+    ∙ ap (λ first. first ++ testaments_in h all rest) (lost_laid h all link x own shown)
 part_laid s clock h all link x rest false own shown = again_spelled s clock h all x rest
 
 -- ---- all clients
 
-middle : (P : Client → Type 0) (xs : List Client) (y : Client) (ys : List Client) → Each P (xs ++ y ∷ ys) → P y
+middle : (P : Client → Type 0) (xs : List Client) (y : Client) (ys : List Client) → Each P (xs ++ y ∷ ys)
+    → P y
 middle P [] y ys all = all.0
 middle P (x ∷ xs) y ys all = middle P xs y ys all.1
 
-before_if : (id : List ℕ) (x : Client) (xs done : List Client) (b : Bool) → b ≡ false → xs ≡ done → (if b then [] else x ∷ xs) ≡ x ∷ done
+before_if : (id : List ℕ) (x : Client) (xs done : List Client) (b : Bool) → b ≡ false → xs ≡ done
+    → (if b then [] else x ∷ xs) ≡ x ∷ done
 before_if id x xs done b is same = rw (is, same) refl
 
-pub before_is : (done : List Client) (x : Client) (rest : List Client) → Distinct (done ++ x ∷ rest) → before x.id (done ++ x ∷ rest) ≡ done
+pub before_is : (done : List Client) (x : Client) (rest : List Client) → Distinct (done ++ x ∷ rest)
+    → before x.id (done ++ x ∷ rest) ≡ done
 before_is [] x rest apart = rw (same_self x.id) refl
 before_is (d ∷ done) x rest apart =
-    let other : bytes_eq x.id d.id ≡ false = flip x.id d.id (middle (λ y. bytes_eq d.id y.id ≡ false) done x rest apart.0) in
-    before_if x.id d (before x.id (done ++ x ∷ rest)) done (bytes_eq x.id d.id) other (before_is done x rest apart.1)
+    let other : bytes_eq x.id d.id ≡ false =
+    flip x.id d.id (middle (λ y. bytes_eq d.id y.id ≡ false) done x rest apart.0) in
+    before_if x.id d (before x.id (done ++ x ∷ rest)) done (bytes_eq x.id d.id) other
+    (before_is done x rest apart.1)
 
 -- what is noted of each is what the tick fixes, and its will is shown
 pub record Said (s : State) (clock : ℕ) (h : List Row) (all : List Out) (x : Client) : Type 0 where
   pub own : notes_of x.id all ≡ fixed_for s (ByTick clock) x
   pub will : x.wills.will ≡ views.will_of x.id h
 
-rows_laid : (s : State) (clock : ℕ) (h : List Row) (all : List Out) (done rest : List Client) (more : List Out) → s.clients ≡ done ++ rest
+rows_laid : (s : State) (clock : ℕ) (h : List Row) (all : List Out) (done rest : List Client)
+    (more : List Out) → s.clients ≡ done ++ rest
     → Distinct (done ++ rest)
     → Each (Said s clock h all) rest
     → let now = later s.clock clock in
@@ -313,33 +207,38 @@ rows_laid s clock h all done (x ∷ rest) more is apart said =
     let own =
     subst
     (λ ids. notes_of x.id all
-    ≡ (if is_lost_at now x then lost_notes (all_placed s.link (testaments now ids)) x else again_notes s.policy now x)) known said.0.own in
+    ≡ (if is_lost_at now x then lost_notes (all_placed s.link (testaments now ids)) x
+    else again_notes s.policy now x)) known said.0.own in
     let next = done ++ x ∷ [] in
     let shifted : done ++ x ∷ rest ≡ next ++ rest = sym (append_assoc done (x ∷ []) rest) in
     let after : all_placed s.link (testaments now next) ≡ all_placed left (testament now x) =
     ap (all_placed s.link)
-    (flat_map-append (testament now) done (x ∷ []) ∙ ap (λ ps. testaments now done ++ ps) (append-nil (testament now x)))
+    (flat_map-append (testament now) done (x ∷ [])
+    ∙ ap (λ ps. testaments now done ++ ps) (append-nil (testament now x)))
     ∙ placed_append s.link (testaments now done) (testament now x) in
     ap (testaments_in h all) (append_assoc (tick_part s clock x) (flat_map (tick_part s clock) rest) more)
-    ∙ (ap (testaments_in h all) (append_assoc (spell (tick_around s clock) [] x (fixed_for s (ByTick clock) x)) (drained_outs z) outs)
-    ∙
-    (ap
+    ∙ (ap (testaments_in h all) (append_assoc
+    (spell (tick_around s clock) [] x (fixed_for s (ByTick clock) x)) (drained_outs z) outs)
+    ∙ (ap
     (λ ids. testaments_in h all
     (spell (tick_around s clock) [] x
-    (if is_lost_at now x then lost_notes (all_placed s.link (testaments now ids)) x else again_notes s.policy now x) ++
+    (if is_lost_at now x then lost_notes (all_placed s.link (testaments now ids)) x
+    else again_notes s.policy now x) ++
     (drained_outs z ++ outs))) known
     ∙ (part_laid s clock h all left x (drained_outs z ++ outs) (is_lost_at now x) own said.0.will
     ∙ (ap (λ wills. laid left (testament now x) ++ wills)
     (drained_bare h all z outs
     ∙ rows_laid s clock h all next rest more (is ∙ shifted) (subst Distinct shifted apart) said.1
     ∙ ap (λ link. laid link (testaments now rest) ++ testaments_in h all more) after)
-    ∙
-    (sym
-    (append_assoc (laid left (testament now x)) (laid (all_placed left (testament now x)) (testaments now rest)) (testaments_in h all more))
-    ∙ ap (λ wills. wills ++ testaments_in h all more) (sym (laid_append left (testament now x) (testaments now rest))))))))
+    ∙ (sym
+    (append_assoc (laid left (testament now x))
+    (laid (all_placed left (testament now x)) (testaments now rest)) (testaments_in h all more))
+    ∙ ap (λ wills. wills ++ testaments_in h all more)
+    (sym (laid_append left (testament now x) (testaments now rest))))))))
 
 -- the wills of a tick
-pub tick_laid : (s : State) (clock : ℕ) (h : List Row) (all more : List Out) → Distinct s.clients → Each (Said s clock h all) s.clients
+pub tick_laid : (s : State) (clock : ℕ) (h : List Row) (all more : List Out) → Distinct s.clients
+    → Each (Said s clock h all) s.clients
     → testaments_in h all (flat_map (tick_part s clock) s.clients ++ more)
     ≡ laid s.link (testaments (later s.clock clock) s.clients) ++ testaments_in h all more
 tick_laid s clock h all more apart said = rows_laid s clock h all [] s.clients more refl apart said

@@ -1,11 +1,10 @@
--- What the rows show of the messages for a client, and what waits for it and is open with it, move alike: as a message is settled, as one
--- leaves, and as an id is announced.
-use Rattle.std.proofs.Common.{◌≡◌, ℕ, zero, suc, ◌+◌, ◌≤◌, ◌<◌, Bool, true, false, List, [], ◌∷◌, ◌++◌, map, length, refl, ap, sym, ◌∙◌}
+-- What the rows show of the messages for a client, and what waits for it and is open with it, move alike: as
+-- a message is settled, as one leaves, and as an id is announced.
+use Rattle.std.proofs.Common.{◌≡◌, ℕ, ◌+◌, ◌≤◌, Bool, true, false, List, [], ◌∷◌, ◌++◌, map}
+use Rattle.std.proofs.Common.{length, refl, ap, sym, ◌∙◌}
 use Rattle.std.proofs.Common.{if◌then◌else◌, arith, length-append}
-use Rattle.std.specs.Prelude.{◌-◌, ◌%◌, ◌==◌, ◌||◌, nat_le, drop, take, slice_get, Option, Some, None}
+use Rattle.std.specs.Prelude.{◌||◌, Option, Some, None}
 use Rattle.std.specs.Str.{bytes_eq}
-use Rattle.std.proofs.Math.Nat.{suc-mod, mod-eq_of_lt}
-use Rattle.std.proofs.lemmas.Bool.Decides.{nat_tests}
 use Rattle.std.proofs.lemmas.List.{drop-append-le, take-append-le}
 use Rattle.sng_ids.specs.Ids.{Ids, id_for, with_name as with_entry, confirmed}
 use Rattle.sng_queue.specs.declared.kind.TopicIdKind.{TopicIdKind}
@@ -18,136 +17,33 @@ use Rattle.sng_book.specs.declared.outcome.Outcome.{Outcome}
 use Rattle.sng_history.specs.Clients.{told as told_id}
 use Rattle.sng_history.specs.Handing.{number_after}
 use Rattle.sng_history.specs.ViewsClients.{is_among, with_name, id_told}
-use Rattle.sng_history.specs.ViewsHanding.{Opening, Announced, HandedOver, Progress, closes, last_number}
+use Rattle.sng_history.specs.ViewsHanding.{Opening, Announced, HandedOver, closes}
 use Rattle.sng_history.specs.LawsState.{sending_shown, exchange_shown}
 use Rattle.sng_history.specs.LawsHanding.{IsFront}
 use Rattle.sng_history.proofs.Marked.{id_marked}
-use Rattle.sng_history.proofs.SeenIds.{Telling, telling_none, telling_announced, telling_confirmed, telling_told, id_stays, among_self}
+use Rattle.sng_history.proofs.SeenIds.{Telling, telling_none, telling_announced, telling_confirmed}
+use Rattle.sng_history.proofs.SeenIds.{telling_told, id_stays, among_self}
 use Rattle.sng_history.proofs.SeenIds.{among_more}
 use Rattle.sng_history.specs.ViewsSendings.{Last, sent_first}
 use Rattle.sng_book.specs.declared.outcome.Outcome.TheVariants.{Allowed}
 use Rattle.sng_queue.specs.declared.kind.TopicIdKind.TheVariants.{Normal}
-
--- ---- what is settled
-
--- so many of the messages that were due are settled, in order, and these wait
-pub record Settling (due : List Message) (count : ℕ) (settled : List (List ℕ × Outcome)) (waiting : List Message) : Type 0 where
-  pub waits : waiting ≡ drop count due
-  pub few : count ≤ length due
-  pub names : map (λ hand. hand.0) settled ≡ map (λ m. m.name) (take count due)
-
--- the message whose turn it is
-pub record Next (due : List Message) (count : ℕ) (m : Message) (more : List Message) : Type 0 where
-  pub turn : slice_get due count ≡ Some m
-  pub rest : more ≡ drop (count + 1) due
-  pub few : count + 1 ≤ length due
-  pub names : map (λ one. one.name) (take (count + 1) due) ≡ map (λ one. one.name) (take count due) ++ m.name ∷ []
-
-next_first : (d : Message) (due : List Message) (m : Message) (more : List Message) → d ≡ m → due ≡ more → Next (d ∷ due) 0 m more
-next_first d due m more one rest = record { turn = ap Some one; rest = sym rest; few = omega arith; names = ap (λ o. o.name ∷ []) one }
-
-next_later : (d : Message) (due : List Message) (n : ℕ) (m : Message) (more : List Message) → Next due n m more
-    → Next (d ∷ due) (suc n) m more
-next_later d due n m more next =
-    let one : suc n + 1 ≡ suc (n + 1) = omega arith in
-    let few : n + 1 ≤ length due = next.few in
-    record {
-      turn = next.turn;
-      rest = rw one next.rest;
-      few = omega arith;
-      names = rw one (ap (λ names. d.name ∷ names) next.names);
-    }
-
-first_of_both : (d m : Message) (due more : List Message) → d ∷ due ≡ m ∷ more → (d ≡ m) × (due ≡ more)
-first_of_both d m due more is = (cc, cc)
-
-pub next_is : (due : List Message) (n : ℕ) (m : Message) (more : List Message) → m ∷ more ≡ drop n due → Next due n m more
-next_is [] zero m more is = absurd cc
-next_is [] (suc n) m more is = absurd cc
-next_is (d ∷ due) zero m more is = let both = first_of_both d m due more (sym is) in next_first d due m more both.0 both.1
-next_is (d ∷ due) (suc n) m more is = next_later d due n m more (next_is due n m more is)
-
-names_more : (hands : List (List ℕ × Outcome)) (name : List ℕ) (o : Outcome)
-    → map (λ hand. hand.0) (hands ++ (name, o) ∷ []) ≡ map (λ hand. hand.0) hands ++ name ∷ []
-names_more [] name o = refl
-names_more (hand ∷ hands) name o = ap (λ names. hand.0 ∷ names) (names_more hands name o)
-
-pub settling_next : (due : List Message) (n : ℕ) (settled : List (List ℕ × Outcome)) (m : Message) (more : List Message) (o : Outcome)
-    → Settling due n settled (m ∷ more)
-    → Settling due (n + 1) (settled ++ (m.name, o) ∷ []) more
-settling_next due n settled m more o s =
-    let next = next_is due n m more s.waits in
-    record {
-      waits = next.rest;
-      few = next.few;
-      names = names_more settled m.name o ∙ (ap (λ names. names ++ m.name ∷ []) s.names ∙ sym next.names);
-    }
-
--- ---- the numbers that are given
-
-given_some : (k : ℕ) → last_number (suc k) ≡ k % 65535 + 1
-given_some k =
-    let some : (suc k == 0) ≡ false = grind (arith, nat_tests) in
-    let less : suc k - 1 ≡ k = omega arith in
-    rw (some, less) refl
-
-wrapped : (q : ℕ) (b : Bool) → nat_le 65535 (q + 1) ≡ b → q < 65535 → suc q % 65535 + 1 ≡ (if b then 1 else q + 1 + 1)
-wrapped q true is less =
-    let last : q ≡ 65534 = grind (arith, nat_tests, is, less) in rw last refl
-wrapped q false is less =
-    let below : suc q < 65535 = grind (arith, nat_tests, is, less) in
-    let same : suc q % 65535 ≡ suc q = mod-eq_of_lt below in
-    omega (arith, same)
-
-pub number_next : (n : ℕ) → last_number (n + 1) ≡ number_after (last_number n)
-number_next zero = refl
-number_next (suc k) =
-    let one : suc k + 1 ≡ suc (suc k) = omega arith in
-    let q = k % 65535 in
-    let less : q < 65535 = omega arith in
-    ap last_number one
-    ∙ (given_some (suc k)
-    ∙ (ap (λ n. n + 1) (suc-mod k 65535)
-    ∙ (wrapped q (nat_le 65535 (q + 1)) refl less ∙ ap number_after (sym (given_some k)))))
-
--- ---- all that is shown of one client
-
--- the front is the message of the name that is announced, which was told
-abbrev pub IsFor : Option Opening → List (List ℕ) → List Message → Type 0
-IsFor None told waiting = Unit {0}
-IsFor (Some (Announced name)) told waiting = (is_among name told ≡ true) × IsFront name waiting
-IsFor (Some (HandedOver m)) told waiting = Unit {0}
-
--- what the rows show of the names that a client was told and knows, of how its messages stand, how those came out that are settled,
-pub record View : Type 0 where
-  pub told : List (List ℕ)
-  pub known : List (List ℕ)
-  pub progress : Progress
-  pub settled : List (List ℕ × Outcome)
-  -- and of the frame that may be sent again
-  pub last : Last
-
--- what is kept of the client is what is shown
-pub record Follows (due : List Message) (v : View) (ids : Ids) (number : ℕ) (b : Buffer) : Type 0 where
-  pub telling : Telling v.told v.known ids
-  pub settling : Settling due v.progress.settled v.settled b.waiting
-  pub given : number ≡ last_number v.progress.numbered
-  pub exchange : b.exchange ≡ exchange_shown v.progress.unanswered v.told number v.last
-  pub front : IsFor v.progress.unanswered v.told b.waiting
-
--- nothing is open, and these wait
-abbrev pub idle_with : List Message → Buffer
-idle_with waiting = record { waiting = waiting; exchange = None }
+use Rattle.sng_history.proofs.SeenFollows.{Settling, settling_next, number_next, IsFor, View, Follows}
+use Rattle.sng_history.proofs.SeenFollows.{idle_with}
 
 -- ---- as a message is settled, and as it leaves
 
 abbrev pub come_out : View → List ℕ → Outcome → View
 come_out v name o =
-    record v { progress = record v.progress { settled = v.progress.settled + 1; unanswered = None }; settled = v.settled ++ (name, o) ∷ [] }
+    record v {
+      progress = record v.progress { settled = v.progress.settled + 1; unanswered = None };
+      settled = v.settled ++ (name, o) ∷ [];
+    }
 
-pub settled_follows : (due : List Message) (v : View) (ids : Ids) (number : ℕ) (e : Option Exchange) (m : Message) (more : List Message)
+pub settled_follows : (due : List Message) (v : View) (ids : Ids) (number : ℕ) (e : Option Exchange)
+    (m : Message) (more : List Message)
     (o : Outcome)
-    → Follows due v ids number (record { waiting = m ∷ more; exchange = e }) → Follows due (come_out v m.name o) ids number (idle_with more)
+    → Follows due v ids number (record { waiting = m ∷ more; exchange = e })
+    → Follows due (come_out v m.name o) ids number (idle_with more)
 settled_follows due v ids number e m more o f =
     record {
       telling = f.telling;
@@ -161,9 +57,11 @@ settled_follows due v ids number e m more o f =
 abbrev pub left_view : View → Message → Last → View
 left_view v m last = record (come_out v m.name Allowed) { last = last }
 
-pub left_follows : (due : List Message) (v : View) (ids : Ids) (number : ℕ) (e : Option Exchange) (m : Message) (more : List Message)
+pub left_follows : (due : List Message) (v : View) (ids : Ids) (number : ℕ) (e : Option Exchange)
+    (m : Message) (more : List Message)
     (last : Last)
-    → Follows due v ids number (record { waiting = m ∷ more; exchange = e }) → Follows due (left_view v m last) ids number (idle_with more)
+    → Follows due v ids number (record { waiting = m ∷ more; exchange = e })
+    → Follows due (left_view v m last) ids number (idle_with more)
 left_follows due v ids number e m more last f = record {
   telling = f.telling;
   settling = settling_next due v.progress.settled v.settled m more Allowed f.settling;
@@ -174,17 +72,27 @@ left_follows due v ids number e m more last f = record {
 
 abbrev pub sent_view : View → Message → Last → View
 sent_view v m last = record v {
-  progress = record { settled = v.progress.settled + 1; numbered = v.progress.numbered + 1; unanswered = Some (HandedOver m) };
+  progress =
+      record {
+        settled = v.progress.settled + 1;
+        numbered = v.progress.numbered + 1;
+        unanswered = Some (HandedOver m);
+      };
   settled = v.settled ++ (m.name, Allowed) ∷ [];
   last = last;
 }
 
 -- one at QoS 1 waits for its PUBACK
-pub sent_follows : (due : List Message) (v : View) (ids : Ids) (number : ℕ) (e : Option Exchange) (m : Message) (more : List Message)
+pub sent_follows : (due : List Message) (v : View) (ids : Ids) (number : ℕ) (e : Option Exchange)
+    (m : Message) (more : List Message)
     (kind : TopicIdKind) (topic_id clock : ℕ)
     → Follows due v ids number (record { waiting = m ∷ more; exchange = e })
     → Follows due (sent_view v m (sent_first clock (kind, topic_id))) ids (number_after number)
-    (record { waiting = more; exchange = Some (Acknowledging (first_sending topic_id (number_after number) clock) kind m) })
+    (record {
+      waiting = more;
+      exchange =
+          Some (Acknowledging (first_sending topic_id (number_after number) clock) kind m);
+    })
 sent_follows due v ids number e m more kind topic_id clock f = record {
   telling = f.telling;
   settling = settling_next due v.progress.settled v.settled m more Allowed f.settling;
@@ -202,10 +110,14 @@ announced_view v name clock = record v {
   last = sent_first clock (Normal, 0);
 }
 
-pub announced_follows : (due : List Message) (v : View) (ids : Ids) (number : ℕ) (m : Message) (more : List Message) (clock : ℕ)
+pub announced_follows : (due : List Message) (v : View) (ids : Ids) (number : ℕ) (m : Message)
+    (more : List Message) (clock : ℕ)
     → Follows due v ids number (idle_with (m ∷ more))
     → Follows due (announced_view v m.name clock) (with_entry m.name ids) (number_after number)
-    (record { waiting = m ∷ more; exchange = Some (Announcing (first_sending (id_for m.name ids) (number_after number) clock)) })
+    (record {
+      waiting = m ∷ more;
+      exchange = Some (Announcing (first_sending (id_for m.name ids) (number_after number) clock));
+    })
 announced_follows due v ids number m more clock f =
     let told : Telling v.told v.known ids = f.telling in
     let id : id_for m.name ids ≡ id_told m.name (with_name (Some m.name) v.told) =
@@ -223,20 +135,25 @@ announced_follows due v ids number m more clock f =
 abbrev pub closed_view : View → View
 closed_view v = record v { progress = closes v.progress }
 
-pub closed_follows : (due : List Message) (v : View) (ids : Ids) (number : ℕ) (b : Buffer) → Follows due v ids number b
+pub closed_follows : (due : List Message) (v : View) (ids : Ids) (number : ℕ) (b : Buffer)
+    → Follows due v ids number b
     → Follows due (closed_view v) ids number (record b { exchange = None })
-closed_follows due v ids number b f = record { telling = f.telling; settling = f.settling; given = f.given; exchange = refl; front = tt }
+closed_follows due v ids number b f =
+    record { telling = f.telling; settling = f.settling; given = f.given; exchange = refl; front = tt }
 
 -- a CONNECT that is accepted
-pub entered_follows : (due : List Message) (v : View) (ids : Ids) (number : ℕ) (b : Buffer) → Follows due v ids number b
+pub entered_follows : (due : List Message) (v : View) (ids : Ids) (number : ℕ) (b : Buffer)
+    → Follows due v ids number b
     → Follows due (record (closed_view v) { told = []; known = [] }) [] number (record b { exchange = None })
 entered_follows due v ids number b f =
     record { telling = telling_none; settling = f.settling; given = f.given; exchange = refl; front = tt }
 
 -- the client confirms the id that was announced
-pub confirmed_follows : (due : List Message) (v : View) (ids : Ids) (number : ℕ) (b : Buffer) (name : List ℕ) → is_among name v.told ≡ true
+pub confirmed_follows : (due : List Message) (v : View) (ids : Ids) (number : ℕ) (b : Buffer) (name : List ℕ)
+    → is_among name v.told ≡ true
     → Follows due v ids number b
-    → Follows due (record (closed_view v) { known = with_name (Some name) v.known }) (confirmed (id_told name v.told) ids) number
+    → Follows due (record (closed_view v) { known = with_name (Some name) v.known })
+    (confirmed (id_told name v.told) ids) number
     (record b { exchange = None })
 confirmed_follows due v ids number b name among f =
     record {
@@ -265,22 +182,27 @@ kept_by : (name : List ℕ) (names : List (List ℕ)) (next : List ℕ) (b : Boo
 kept_by name names next true is = refl
 kept_by name names next false is = id_before name names next is
 
-open_told : (o : Option Opening) (told : List (List ℕ)) (next : List ℕ) (number : ℕ) (last : Last) (waiting : List Message)
+open_told : (o : Option Opening) (told : List (List ℕ)) (next : List ℕ) (number : ℕ) (last : Last)
+    (waiting : List Message)
     → IsFor o told waiting
     → exchange_shown o told number last ≡ exchange_shown o (with_name (Some next) told) number last
 open_told None told next number last waiting front = refl
 open_told (Some (Announced name)) told next number last waiting front =
-    ap (λ k. Some (Announcing (sending_shown k number last))) (sym (kept_by name told next (is_among next told) front.0))
+    ap (λ k. Some (Announcing (sending_shown k number last)))
+    (sym (kept_by name told next (is_among next told) front.0))
 open_told (Some (HandedOver m)) told next number last waiting front = refl
 
-for_told : (o : Option Opening) (told : List (List ℕ)) (next : List ℕ) (waiting : List Message) → IsFor o told waiting
+for_told : (o : Option Opening) (told : List (List ℕ)) (next : List ℕ) (waiting : List Message)
+    → IsFor o told waiting
     → IsFor o (with_name (Some next) told) waiting
 for_told None told next waiting front = tt
 for_told (Some (Announced name)) told next waiting front = (among_more name next told front.0, front.1)
 for_told (Some (HandedOver m)) told next waiting front = tt
 
-pub told_follows : (due : List Message) (v : View) (ids : Ids) (number : ℕ) (b : Buffer) (name : List ℕ) → Follows due v ids number b
-    → Follows due (record v { told = with_name (Some name) v.told; known = with_name (Some name) v.known }) (told_id name ids) number b
+pub told_follows : (due : List Message) (v : View) (ids : Ids) (number : ℕ) (b : Buffer) (name : List ℕ)
+    → Follows due v ids number b
+    → Follows due (record v { told = with_name (Some name) v.told; known = with_name (Some name) v.known })
+    (told_id name ids) number b
 told_follows due v ids number b name f = record {
   telling = telling_told name v.told v.known ids f.telling;
   settling = f.settling;
@@ -291,17 +213,20 @@ told_follows due v ids number b name f = record {
 
 -- ---- as a message is due
 
-joined_front : (name : List ℕ) (waiting : List Message) (m : Message) → IsFront name waiting → IsFront name (waiting ++ m ∷ [])
+joined_front : (name : List ℕ) (waiting : List Message) (m : Message) → IsFront name waiting
+    → IsFront name (waiting ++ m ∷ [])
 joined_front name [] m front = absurd front
 joined_front name (one ∷ waiting) m front = front
 
-joined_for : (o : Option Opening) (told : List (List ℕ)) (waiting : List Message) (m : Message) → IsFor o told waiting
+joined_for : (o : Option Opening) (told : List (List ℕ)) (waiting : List Message) (m : Message)
+    → IsFor o told waiting
     → IsFor o told (waiting ++ m ∷ [])
 joined_for None told waiting m front = tt
 joined_for (Some (Announced name)) told waiting m front = (front.0, joined_front name waiting m front.1)
 joined_for (Some (HandedOver one)) told waiting m front = tt
 
-pub joined_follows : (due : List Message) (v : View) (ids : Ids) (number : ℕ) (b : Buffer) (m : Message) → Follows due v ids number b
+pub joined_follows : (due : List Message) (v : View) (ids : Ids) (number : ℕ) (b : Buffer) (m : Message)
+    → Follows due v ids number b
     → Follows (due ++ m ∷ []) v ids number (record b { waiting = b.waiting ++ m ∷ [] })
 joined_follows due v ids number b m f =
     let s : Settling due v.progress.settled v.settled b.waiting = f.settling in
@@ -309,9 +234,12 @@ joined_follows due v ids number b m f =
     record {
       telling = f.telling;
       settling = record {
-        waits = ap (λ waiting. waiting ++ m ∷ []) s.waits ∙ sym (drop-append-le v.progress.settled due (m ∷ []) few);
+        waits =
+            ap (λ waiting. waiting ++ m ∷ []) s.waits
+            ∙ sym (drop-append-le v.progress.settled due (m ∷ []) few);
         few = omega (arith, length-append due (m ∷ []));
-        names = s.names ∙ ap (map (λ one. one.name)) (sym (take-append-le v.progress.settled due (m ∷ []) few));
+        names =
+            s.names ∙ ap (map (λ one. one.name)) (sym (take-append-le v.progress.settled due (m ∷ []) few));
       };
       given = f.given;
       exchange = f.exchange;
@@ -324,17 +252,20 @@ abbrev pub repeated_view : View → ℕ → View
 repeated_view v clock = record v { last = record v.last { at = clock; tries = v.last.tries + 1 } }
 
 shown_again : (o : Option Opening) (told : List (List ℕ)) (number clock : ℕ) (last : Last)
-    → repeat (exchange_shown o told number last) clock ≡ exchange_shown o told number (record last { at = clock; tries = last.tries + 1 })
+    → repeat (exchange_shown o told number last) clock
+    ≡ exchange_shown o told number (record last { at = clock; tries = last.tries + 1 })
 shown_again None told number clock last = refl
 shown_again (Some (Announced name)) told number clock last = refl
 shown_again (Some (HandedOver m)) told number clock last = refl
 
-pub repeated_follows : (due : List Message) (v : View) (ids : Ids) (number clock : ℕ) (b : Buffer) → Follows due v ids number b
+pub repeated_follows : (due : List Message) (v : View) (ids : Ids) (number clock : ℕ) (b : Buffer)
+    → Follows due v ids number b
     → Follows due (repeated_view v clock) ids number (record b { exchange = repeat b.exchange clock })
 repeated_follows due v ids number clock b f = record {
   telling = f.telling;
   settling = f.settling;
   given = f.given;
-  exchange = ap (λ e. repeat e clock) f.exchange ∙ shown_again v.progress.unanswered v.told number clock v.last;
+  exchange =
+      ap (λ e. repeat e clock) f.exchange ∙ shown_again v.progress.unanswered v.told number clock v.last;
   front = f.front;
 }

@@ -1,11 +1,11 @@
--- What the rows show of the messages for a client is read from the client's own notes, and from what came before them.
-use Rattle.std.proofs.Common.{◌≡◌, ℕ, ◌+◌, Bool, true, false, List, [], ◌∷◌, ◌++◌, length, refl, ap, sym, ◌∙◌, if◌then◌else◌, arith}
-use Rattle.std.proofs.Common.{length-append, Ok, Err}
-use Rattle.std.specs.Prelude.{◌&&◌, ◌==◌, slice_get, Option, Some, None, not}
-use Rattle.std.specs.Str.{bytes_eq}
+-- What the rows show of the messages for a client is read from the client's own notes, and from what came
+-- before them.
+use Rattle.std.proofs.Common.{◌≡◌, ℕ, Bool, true, false, List, ◌∷◌, ◌++◌, refl, ap, sym, ◌∙◌}
+use Rattle.std.proofs.Common.{if◌then◌else◌, arith}
+use Rattle.std.proofs.Common.{Ok, Err}
+use Rattle.std.specs.Prelude.{◌&&◌, ◌==◌, Option, Some, None}
 use Rattle.std.specs.declared.result.Result.{Result}
 use Rattle.std.proofs.lemmas.Bool.Decides.{nat_tests}
-use Rattle.std.proofs.lemmas.List.{append-nil, append_assoc}
 use Rattle.sng_states.specs.States.{takes_messages, is_due_messages}
 use Rattle.sng_frames.specs.Reading.{frame_of}
 use Rattle.sng_frames.specs.declared.fault.FrameFault.{FrameFault}
@@ -15,219 +15,38 @@ use Rattle.sng_frames.specs.declared.messages.acks.TopicAck.{TopicAck}
 use Rattle.sng_frames.specs.declared.messages.publish.Publish.{Publish}
 use Rattle.sng_frames.specs.declared.frame.SnFrame.{SnFrame}
 use Rattle.sng_frames.specs.declared.frame.SnFrame.TheVariants as frame
-use Rattle.sng_queue.specs.Messages.{Message}
 use Rattle.sng_book.specs.declared.address.Address.{Address}
-use Rattle.sng_book.specs.declared.decision.Decision.{Decision}
-use Rattle.sng_book.specs.declared.decision.Decision.TheVariants as note
-use Rattle.sng_book.specs.declared.decision.Who.{Who}
-use Rattle.sng_book.specs.declared.decision.Who.TheVariants as who
-use Rattle.sng_book.specs.Denials.{is_allowed}
-use Rattle.sng_book.specs.declared.outcome.Outcome.{Outcome}
-use Rattle.sng_book.specs.declared.outcome.Outcome.TheVariants.{Allowed, Denied}
 use Rattle.sng_book.specs.declared.event.Event.{Event}
 use Rattle.sng_book.specs.declared.event.Event.TheVariants.{Datagram, Broker, Up, Down, Take, Replace, Tick}
 use Rattle.sng_book.specs.declared.out.Out.{Out}
-use Rattle.sng_book.specs.declared.out.Out.TheVariants.{Send, Wire, Note}
 use Rattle.sng_book.specs.declared.row.Row.{Row}
 use Rattle.sng_history.specs.Causes.{publish_cause, datagram_cause, cause_of}
 use Rattle.sng_history.specs.Handing.{answers_announcement, ends_exchange}
-use Rattle.sng_history.specs.Clients.{Client, Around, is_here, is_confirming, is_acknowledging, is_turned_away, subscribe_of}
-use Rattle.sng_history.specs.Notes.{notes_of, is_of, is_client}
-use Rattle.sng_history.specs.ViewsMessages.{message_in, message_at, subscribe_in, Publishes, Message as Spoken}
-use Rattle.sng_history.specs.ViewsClients.{phase_of, address_of, is_at, speaks_of, with_name, names_after, names_told, id_told, is_awaiting}
-use Rattle.sng_history.specs.ViewsClients.{names_by}
-use Rattle.sng_history.specs.ViewsHanding.{Opening, Announced, HandedOver, Progress, closes, hand_of, hands_in, is_refused_at_once}
-use Rattle.sng_history.specs.ViewsHanding.{settlements, settled_of, due_of, is_taking, progress_by, progress_after, last_number}
-use Rattle.sng_history.specs.ViewsHanding.{is_regack_of, is_puback_of, is_at_least_once, leaves_by, handed_by, regack_has_turn}
-use Rattle.sng_history.specs.ViewsHanding.{puback_has_turn, ends_by, ends_open, progress_of, knows_after, name_announced, confirmed_by}
+use Rattle.sng_history.specs.Clients.{Client, Around, is_here, is_confirming, is_acknowledging}
+use Rattle.sng_history.specs.Clients.{subscribe_of}
+use Rattle.sng_history.specs.Notes.{notes_of}
+use Rattle.sng_history.specs.ViewsMessages.{message_in, message_at, subscribe_in, Publishes}
+use Rattle.sng_history.specs.ViewsClients.{phase_of, address_of, is_at, with_name, names_after}
+use Rattle.sng_history.specs.ViewsClients.{names_told, id_told, is_awaiting}
+use Rattle.sng_history.specs.ViewsHanding.{Opening, Announced, HandedOver, closes}
+use Rattle.sng_history.specs.ViewsHanding.{hands_in}
+use Rattle.sng_history.specs.ViewsHanding.{settlements, settled_of, due_of, is_taking}
+use Rattle.sng_history.specs.ViewsHanding.{progress_after, last_number}
+use Rattle.sng_history.specs.ViewsHanding.{is_regack_of, is_puback_of}
+use Rattle.sng_history.specs.ViewsHanding.{regack_has_turn}
+use Rattle.sng_history.specs.ViewsHanding.{puback_has_turn, ends_by, ends_open, progress_of, knows_after}
+use Rattle.sng_history.specs.ViewsHanding.{name_announced, confirmed_by}
 use Rattle.sng_history.specs.ViewsHanding.{confirmed_in, names_known}
 use Rattle.sng_history.specs.LawsState.{exchange_shown}
 use Rattle.sng_history.proofs.Takes.{taking_same, awaiting_same}
-use Rattle.sng_history.proofs.SeenTurns.{View, closed_view}
-use Rattle.sng_history.proofs.SeenHanding.{with_hands, view_by, view_notes, Fits}
+use Rattle.sng_history.proofs.SeenFollows.{View}
+use Rattle.sng_history.proofs.SeenTurns.{closed_view}
+use Rattle.sng_history.proofs.SeenHandingNotes.{view_notes, Fits}
 use Rattle.sng_history.proofs.SeenAnswered.{confirmed_view}
 use Rattle.sng_history.proofs.SeenProgress.{start_view}
-use Rattle.sng_history.specs.ViewsSendings.{Last, last_by, last_after, last_of}
+use Rattle.sng_history.specs.ViewsSendings.{Last, last_after, last_of}
 use Rattle.sng_history.specs.Views.{policy_in_force, clock_at}
-use Rattle.sng_grants.specs.declared.policy.Policy.{Policy}
-use Rattle.sng_frames.specs.declared.messages.subscribe.TopicRequest.{TopicRequest}
-
--- what the rows show of a client
-abbrev pub view_of : List ℕ → List Row → View
-view_of id h =
-    record { told = names_told id h; known = names_known id h; progress = progress_of id h; settled = settled_of id h; last = last_of id h }
-
--- ---- all notes of a row, and those of the client
-
--- the frame that may be sent again, given the SUBSCRIBE that the row holds
-abbrev last_outs : Policy → ℕ → Option TopicRequest → List ℕ → List Out → List (List ℕ) → Last → Last
-last_outs policy clock r id [] told now = now
-last_outs policy clock r id (Note said ∷ outs) told now =
-    last_outs policy clock r id outs (names_by r id said told) (last_by policy clock told id said now)
-last_outs policy clock r id (Send to datagram ∷ outs) told now = last_outs policy clock r id outs told now
-last_outs policy clock r id (Wire packet ∷ outs) told now = last_outs policy clock r id outs told now
-
-last_same : (policy : Policy) (clock : ℕ) (m : Option Spoken) (id : List ℕ) (outs : List Out) (told : List (List ℕ)) (now : Last)
-    → last_after policy clock m id outs told now ≡ last_outs policy clock (subscribe_in m) id outs told now
-last_same policy clock m id [] told now = refl
-last_same policy clock m id (Note said ∷ outs) told now =
-    last_same policy clock m id outs (names_by (subscribe_in m) id said told) (last_by policy clock told id said now)
-last_same policy clock m id (Send to datagram ∷ outs) told now = last_same policy clock m id outs told now
-last_same policy clock m id (Wire packet ∷ outs) told now = last_same policy clock m id outs told now
-
-abbrev pub view_outs : Around → List ℕ → List Message → List Out → View → View
-view_outs a id due outs v = record {
-  told = names_after (subscribe_of a.cause) id outs v.told;
-  known = knows_after (subscribe_of a.cause) id outs v.known;
-  progress = progress_after id due outs v.progress;
-  settled = v.settled ++ settlements (hands_in id outs);
-  last = last_outs a.policy a.clock (subscribe_of a.cause) id outs v.told v.last;
-}
-
--- another's note shows nothing of the client
-client_same : (id : List ℕ) (whom : Who) → is_client id whom ≡ speaks_of id whom
-client_same id (who.Client client) = refl
-client_same id (who.Source source) = refl
-client_same id (who.Address address) = refl
-client_same id who.Broker = refl
-
-view_other : (a : Around) (id : List ℕ) (due : List Message) (said : Decision) (v : View) → is_of id said ≡ false
-    → view_by a id due said v ≡ v
-view_other a id due (note.Connect client outcome) v other = rw other refl
-view_other a id due (note.Left client) v other = rw other refl
-view_other a id due (note.Lost client) v other = rw other refl
-view_other a id due (note.Retry client name outcome) v other = rw other refl
-view_other a id due (note.Register whom name outcome) v other = rw (sym (client_same id whom) ∙ other) refl
-view_other a id due (note.Subscribe whom filter outcome) v other = rw (sym (client_same id whom) ∙ other) refl
-view_other a id due (note.Announce client name) v other = rw other refl
-view_other a id due (note.Hand client name outcome) v other = rw other refl
-view_other a id due _ v other = refl
-
-view_note : (a : Around) (id : List ℕ) (due : List Message) (said : Decision) (notes : List Decision) (v : View) (b : Bool)
-    → is_of id said ≡ b
-    → view_notes a id due notes (view_by a id due said v) ≡ view_notes a id due ((if b then said ∷ [] else []) ++ notes) v
-view_note a id due said notes v true own = refl
-view_note a id due said notes v false other = ap (view_notes a id due notes) (view_other a id due said v other)
-
-settlements_by : (b : Bool) (hand : List ℕ × Outcome) (xs ys : List (List ℕ × Outcome))
-    → (if b then xs ++ ys else hand ∷ (xs ++ ys)) ≡ (if b then xs else hand ∷ xs) ++ ys
-settlements_by true hand xs ys = refl
-settlements_by false hand xs ys = refl
-
-settlements_append : (xs ys : List (List ℕ × Outcome)) → settlements (xs ++ ys) ≡ settlements xs ++ settlements ys
-settlements_append [] ys = refl
-settlements_append (hand ∷ xs) ys =
-    ap (λ more. if is_refused_at_once hand.1 then more else hand ∷ more) (settlements_append xs ys)
-    ∙ settlements_by (is_refused_at_once hand.1) hand (settlements xs) (settlements ys)
-
-with_both : (hands later before : List (List ℕ × Outcome)) → before ++ (hands ++ later) ≡ with_hands hands before ++ later
-with_both [] later before = refl
-with_both (hand ∷ hands) later before = sym (append_assoc before (hand ∷ hands) later)
-
-settled_both : (hands later before : List (List ℕ × Outcome))
-    → before ++ settlements (hands ++ later) ≡ with_hands (settlements hands) before ++ settlements later
-settled_both hands later before =
-    ap (λ more. before ++ more) (settlements_append hands later) ∙ with_both (settlements hands) (settlements later) before
-
-pub outs_view : (a : Around) (id : List ℕ) (due : List Message) (outs : List Out) (v : View)
-    → view_outs a id due outs v ≡ view_notes a id due (notes_of id outs) v
-outs_view a id due [] v = ap (λ settled. let w : View = record v { settled = settled } in w) (append-nil v.settled)
-outs_view a id due (Note said ∷ outs) v =
-    ap (λ settled. let w : View = record (view_outs a id due (Note said ∷ outs) v) { settled = settled } in w)
-    (settled_both (hand_of id said) (hands_in id outs) v.settled)
-    ∙ (outs_view a id due outs (view_by a id due said v) ∙ view_note a id due said (notes_of id outs) v (is_of id said) refl)
-outs_view a id due (Send to datagram ∷ outs) v = outs_view a id due outs v
-outs_view a id due (Wire packet ∷ outs) v = outs_view a id due outs v
-
--- ---- how many are settled
-
-settled_more : (b refused : Bool) (name : List ℕ) (o : Outcome) (n : ℕ) → is_refused_at_once o ≡ refused
-    → (if b then (if refused then n else n + 1) else n)
-    ≡ n + length (settlements (let hands : List (List ℕ × Outcome) = if b then (name, o) ∷ [] else [] in hands))
-settled_more true true name o n is = rw is (omega arith)
-settled_more true false name o n is = rw is refl
-settled_more false refused name o n is = omega arith
-
-leaves_more : (m : Option Message) (p : Progress) → (leaves_by m p).settled ≡ p.settled + 1
-leaves_more None p = refl
-leaves_more (Some m) p = by_level (is_at_least_once m.qos)
-  where
-    by_level : (b : Bool)
-        →
-        (let q : Progress = if b then
-        record {
-          settled = p.settled + 1;
-          numbered = p.numbered + 1;
-          unanswered = Some
-              (HandedOver m);
-        } else record p { settled = p.settled + 1; unanswered = None } in q).settled ≡ p.settled + 1
-    by_level true = refl
-    by_level false = refl
-
-denied_more : (b : Bool) (p : Progress)
-    →
-    (let q : Progress = if b then p else record p { settled = p.settled + 1; unanswered = None } in q).settled
-    ≡ (if b then p.settled else p.settled + 1)
-denied_more true p = refl
-denied_more false p = refl
-
-handed_more : (due : List Message) (o : Outcome) (p : Progress)
-    → (handed_by due o p).settled ≡ (if is_refused_at_once o then p.settled else p.settled + 1)
-handed_more due Allowed p = leaves_more (slice_get due p.settled) p
-handed_more due (Denied rule) p = denied_more (is_turned_away rule) p
-
-if_settled : (b : Bool) (p q : Progress) (n : ℕ) → p.settled ≡ n
-    → (let r : Progress = if b then p else q in r).settled ≡ (if b then n else q.settled)
-if_settled true p q n is = is
-if_settled false p q n is = refl
-
-if_same : (b : Bool) (p q : Progress) → p.settled ≡ q.settled → (let r : Progress = if b then p else q in r).settled ≡ q.settled
-if_same true p q is = is
-if_same false p q is = refl
-
-no_more : (n : ℕ) → n ≡ n + 0
-no_more n = omega arith
-
-note_settled : (id : List ℕ) (due : List Message) (said : Decision) (p : Progress)
-    → (progress_by id due said p).settled ≡ p.settled + length (settlements (hand_of id said))
-note_settled id due (note.Connect client outcome) p =
-    if_same (bytes_eq id client && is_allowed outcome) (closes p) p refl ∙ no_more p.settled
-note_settled id due (note.Left client) p = if_same (bytes_eq id client) (closes p) p refl ∙ no_more p.settled
-note_settled id due (note.Lost client) p = if_same (bytes_eq id client) (closes p) p refl ∙ no_more p.settled
-note_settled id due (note.Retry client name outcome) p =
-    if_same (bytes_eq id client && not (is_allowed outcome)) (closes p) p refl ∙ no_more p.settled
-note_settled id due (note.Announce client name) p =
-    if_same (bytes_eq id client) (record p { numbered = p.numbered + 1; unanswered = Some (Announced name) }) p refl ∙ no_more p.settled
-note_settled id due (note.Hand client name outcome) p =
-    if_settled (bytes_eq id client) (handed_by due outcome p) p (if is_refused_at_once outcome then p.settled else p.settled + 1)
-    (handed_more due outcome p)
-    ∙ settled_more (bytes_eq id client) (is_refused_at_once outcome) name outcome p.settled refl
-note_settled id due _ p = no_more p.settled
-
-plus_both : (n : ℕ) (xs ys : List (List ℕ × Outcome)) → n + length xs + length ys ≡ n + length (xs ++ ys)
-plus_both n xs ys = omega (arith, length-append xs ys)
-
-outs_settled : (id : List ℕ) (due : List Message) (outs : List Out) (p : Progress)
-    → (progress_after id due outs p).settled ≡ p.settled + length (settlements (hands_in id outs))
-outs_settled id due [] p = no_more p.settled
-outs_settled id due (Note said ∷ outs) p =
-    outs_settled id due outs (progress_by id due said p)
-    ∙ (ap (λ n. n + length (settlements (hands_in id outs))) (note_settled id due said p)
-    ∙ (plus_both p.settled (settlements (hand_of id said)) (settlements (hands_in id outs))
-    ∙ ap (λ all. p.settled + length all) (sym (settlements_append (hand_of id said) (hands_in id outs)))))
-outs_settled id due (Send to datagram ∷ outs) p = outs_settled id due outs p
-outs_settled id due (Wire packet ∷ outs) p = outs_settled id due outs p
-
--- so many were settled as the progress says
-pub settled_count : (id : List ℕ) (h : List Row) → (progress_of id h).settled ≡ length (settled_of id h)
-settled_count id [] = refl
-settled_count id (row ∷ h) =
-    let p = progress_of id h in
-    let q : Progress = if ends_open id p h row.event then closes p else p in
-    outs_settled id (due_of id (row ∷ h)) row.outs q
-    ∙
-    (ap (λ n. n + length (settlements (hands_in id row.outs))) (if_same (ends_open id p h row.event) (closes p) p refl ∙ settled_count id h)
-    ∙ sym (length-append (settled_of id h) (settlements (hands_in id row.outs))))
+use Rattle.sng_history.proofs.SeenViewNotes.{view_of, last_outs, last_same, outs_view}
 
 -- ---- what the event shows before the notes
 
@@ -245,7 +64,8 @@ pub record Kept (h : List Row) (x : Client) : Type 0 where
   pub phase : phase_of x.id h ≡ Some x.phase
   pub address : address_of x.id h ≡ Some x.address
   pub number : x.number ≡ last_number (progress_of x.id h).numbered
-  pub exchange : x.buffer.exchange ≡ exchange_shown (progress_of x.id h).unanswered (names_told x.id h) x.number (last_of x.id h)
+  pub exchange : x.buffer.exchange
+      ≡ exchange_shown (progress_of x.id h).unanswered (names_told x.id h) x.number (last_of x.id h)
 
 equal_back : (a b : ℕ) → (a == b) ≡ (b == a)
 equal_back a b = grind (arith, nat_tests)
@@ -253,7 +73,8 @@ equal_back a b = grind (arith, nat_tests)
 regack_same : (o : Option Opening) (told : List (List ℕ)) (number : ℕ) (last : Last) (r : TopicAck)
     → is_regack_of o told number r ≡ answers_announcement (exchange_shown o told number last) r
 regack_same None told number last r = refl
-regack_same (Some (Announced name)) told number last r = rw (equal_back r.topic_id (id_told name told), equal_back r.msg_id number) refl
+regack_same (Some (Announced name)) told number last r =
+    rw (equal_back r.topic_id (id_told name told), equal_back r.msg_id number) refl
 regack_same (Some (HandedOver m)) told number last r = refl
 
 puback_same : (o : Option Opening) (told : List (List ℕ)) (number : ℕ) (last : Last) (r : TopicAck)
@@ -262,23 +83,29 @@ puback_same None told number last r = refl
 puback_same (Some (Announced name)) told number last r = equal_back r.msg_id number
 puback_same (Some (HandedOver m)) told number last r = equal_back r.msg_id number
 
-regack_turn : (h : List Row) (x : Client) (r : TopicAck) → Kept h x → regack_has_turn x.id (progress_of x.id h) h r ≡ is_confirming r x
+regack_turn : (h : List Row) (x : Client) (r : TopicAck) → Kept h x
+    → regack_has_turn x.id (progress_of x.id h) h r ≡ is_confirming r x
 regack_turn h x r kept =
     let p = progress_of x.id h in
-    ap (λ phase. is_taking phase && is_regack_of p.unanswered (names_told x.id h) (last_number p.numbered) r) kept.phase
-    ∙ (ap (λ b. b && is_regack_of p.unanswered (names_told x.id h) (last_number p.numbered) r) (taking_same x.phase)
+    ap (λ phase. is_taking phase && is_regack_of p.unanswered (names_told x.id h) (last_number p.numbered) r)
+    kept.phase
+    ∙ (ap (λ b. b && is_regack_of p.unanswered (names_told x.id h) (last_number p.numbered) r)
+    (taking_same x.phase)
     ∙ (ap (λ n. takes_messages x.phase && is_regack_of p.unanswered (names_told x.id h) n r) (sym kept.number)
     ∙ ap (λ b. takes_messages x.phase && b)
-    (regack_same p.unanswered (names_told x.id h) x.number (last_of x.id h) r ∙ ap (λ e. answers_announcement e r) (sym kept.exchange))))
+    (regack_same p.unanswered (names_told x.id h) x.number (last_of x.id h) r
+    ∙ ap (λ e. answers_announcement e r) (sym kept.exchange))))
 
-puback_turn : (h : List Row) (x : Client) (r : TopicAck) → Kept h x → puback_has_turn x.id (progress_of x.id h) h r ≡ is_acknowledging r x
+puback_turn : (h : List Row) (x : Client) (r : TopicAck) → Kept h x
+    → puback_has_turn x.id (progress_of x.id h) h r ≡ is_acknowledging r x
 puback_turn h x r kept =
     let p = progress_of x.id h in
     ap (λ phase. is_taking phase && is_puback_of p.unanswered (last_number p.numbered) r) kept.phase
     ∙ (ap (λ b. b && is_puback_of p.unanswered (last_number p.numbered) r) (taking_same x.phase)
     ∙ (ap (λ n. takes_messages x.phase && is_puback_of p.unanswered n r) (sym kept.number)
     ∙ ap (λ b. takes_messages x.phase && b)
-    (puback_same p.unanswered (names_told x.id h) x.number (last_of x.id h) r ∙ ap (λ e. ends_exchange e r) (sym kept.exchange))))
+    (puback_same p.unanswered (names_told x.id h) x.number (last_of x.id h) r
+    ∙ ap (λ e. ends_exchange e r) (sym kept.exchange))))
 
 at_same : (h : List Row) (x : Client) (from : Address) → Kept h x → is_at x.id from h ≡ is_here x from
 at_same h x from kept = rw (kept.phase, kept.address) refl
@@ -301,36 +128,42 @@ stays true v = refl
 stays false v = refl
 
 regack_view : (v : View) (here accepts turn : Bool)
-    → read_view v here (if accepts && turn then name_announced v.progress.unanswered else None) (accepts && turn)
+    → read_view v here (if accepts && turn then name_announced v.progress.unanswered else None)
+    (accepts && turn)
     ≡ (if here then (if accepts && turn then confirmed_view v else v) else v)
 regack_view v true true true = refl
 regack_view v true true false = refl
 regack_view v true false turn = refl
 regack_view v false accepts turn = refl
 
-puback_view : (v : View) (here turn : Bool) → read_view v here None turn ≡ (if here then (if turn then closed_view v else v) else v)
+puback_view : (v : View) (here turn : Bool)
+    → read_view v here None turn ≡ (if here then (if turn then closed_view v else v) else v)
 puback_view v true true = refl
 puback_view v true false = refl
 puback_view v false turn = refl
 
 -- of any other message
-publish_still : (from : Address) (p : Publish) (q : FrameQos) (x : Client) (v : View) → start_view (publish_cause from p q) x v ≡ v
+publish_still : (from : Address) (p : Publish) (q : FrameQos) (x : Client) (v : View)
+    → start_view (publish_cause from p q) x v ≡ v
 publish_still from p qos.WithoutSession x v = refl
 publish_still from p qos.AtMostOnce x v = stays (is_here x from) v
 publish_still from p qos.AtLeastOnce x v = stays (is_here x from) v
 publish_still from p qos.ExactlyOnce x v = stays (is_here x from) v
 
-sleep_view : (v : View) (here turn : Bool) → read_view v here None turn ≡ (if here then (if turn then closed_view v else v) else v)
+sleep_view : (v : View) (here turn : Bool)
+    → read_view v here None turn ≡ (if here then (if turn then closed_view v else v) else v)
 sleep_view v true true = refl
 sleep_view v true false = refl
 sleep_view v false turn = refl
 
 datagram_start : (h : List Row) (x : Client) (from : Address) (read : Result SnFrame FrameFault) → Kept h x
     → let v = view_of x.id h in
-    read_view v (is_here x from) (confirmed_by x.id h (message_in read)) (ends_by x.id (progress_of x.id h) h (message_in read))
+    read_view v (is_here x from) (confirmed_by x.id h (message_in read))
+    (ends_by x.id (progress_of x.id h) h (message_in read))
     ≡ start_view (datagram_cause from read) x v
 datagram_start h x from (Ok (frame.RegisterAck r)) kept =
-    rw (regack_turn h x r kept) (regack_view (view_of x.id h) (is_here x from) (r.code.0 == 0) (is_confirming r x))
+    rw (regack_turn h x r kept) (regack_view (view_of x.id h) (is_here x from) (r.code.0 == 0)
+    (is_confirming r x))
 datagram_start h x from (Ok (frame.PublishAck r)) kept =
     rw (puback_turn h x r kept) (puback_view (view_of x.id h) (is_here x from) (is_acknowledging r x))
 datagram_start h x from (Ok (frame.Connect connect)) kept = none_read (view_of x.id h) (is_here x from)
@@ -339,15 +172,19 @@ datagram_start h x from (Ok (frame.Publish p)) kept =
 datagram_start h x from (Ok (frame.Disconnect None)) kept =
     none_read (view_of x.id h) (is_here x from) ∙ sym (stays (is_here x from) (view_of x.id h))
 datagram_start h x from (Ok (frame.Disconnect (Some duration))) kept =
-    ap (λ b. read_view (view_of x.id h) (is_here x from) None b) (ap is_awaiting kept.phase ∙ awaiting_same x.phase)
+    ap (λ b. read_view (view_of x.id h) (is_here x from) None b)
+    (ap is_awaiting kept.phase ∙ awaiting_same x.phase)
     ∙ sleep_view (view_of x.id h) (is_here x from) (is_due_messages x.phase)
-datagram_start h x from (Ok message) kept = none_read (view_of x.id h) (is_here x from) ∙ sym (stays (is_here x from) (view_of x.id h))
+datagram_start h x from (Ok message) kept =
+    none_read (view_of x.id h) (is_here x from) ∙ sym (stays (is_here x from) (view_of x.id h))
 datagram_start h x from (Err broke) kept = none_read (view_of x.id h) (is_here x from)
 
-pub start_same : (h : List Row) (x : Client) (e : Event) → Kept h x → view_start x.id e h ≡ start_view (cause_of e) x (view_of x.id h)
+pub start_same : (h : List Row) (x : Client) (e : Event) → Kept h x
+    → view_start x.id e h ≡ start_view (cause_of e) x (view_of x.id h)
 start_same h x (Datagram from datagram) kept =
     let read = message_in (frame_of datagram) in
-    ap (λ here. read_view (view_of x.id h) here (confirmed_by x.id h read) (ends_by x.id (progress_of x.id h) h read))
+    ap (λ here. read_view (view_of x.id h) here (confirmed_by x.id h read)
+    (ends_by x.id (progress_of x.id h) h read))
     (at_same h x from kept)
     ∙ datagram_start h x from (frame_of datagram) kept
 start_same h x (Broker packet) kept = refl
@@ -384,13 +221,15 @@ subscribe_same (Tick clock) = refl
 
 -- ---- the CONNECT and the statement of a will, too
 
-publish_fits : (from : Address) (p : Publish) (q : FrameQos) → Fits (publish_cause from p q) (Some (Publishes p))
+publish_fits : (from : Address) (p : Publish) (q : FrameQos)
+    → Fits (publish_cause from p q) (Some (Publishes p))
 publish_fits from p qos.WithoutSession = record { connects = refl; states = refl }
 publish_fits from p qos.AtMostOnce = record { connects = refl; states = refl }
 publish_fits from p qos.AtLeastOnce = record { connects = refl; states = refl }
 publish_fits from p qos.ExactlyOnce = record { connects = refl; states = refl }
 
-pub datagram_fits : (from : Address) (read : Result SnFrame FrameFault) → Fits (datagram_cause from read) (message_in read)
+pub datagram_fits : (from : Address) (read : Result SnFrame FrameFault)
+    → Fits (datagram_cause from read) (message_in read)
 datagram_fits from (Ok (frame.Publish p)) = publish_fits from p p.flags.qos
 datagram_fits from (Ok (frame.Disconnect None)) = record { connects = refl; states = refl }
 datagram_fits from (Ok (frame.Disconnect (Some duration))) = record { connects = refl; states = refl }
@@ -412,7 +251,8 @@ pub record InForce (a : Around) (by : ℕ) (h : List Row) (e : Event) (outs : Li
   pub policy : a.policy ≡ policy_in_force (record { by = by; event = e; outs = outs } ∷ h)
   pub clock : a.clock ≡ clock_at (record { by = by; event = e; outs = outs } ∷ h)
 
-pub row_view : (a : Around) (id : List ℕ) (by : ℕ) (h : List Row) (e : Event) (outs : List Out) → InForce a by h e outs
+pub row_view : (a : Around) (id : List ℕ) (by : ℕ) (h : List Row) (e : Event) (outs : List Out)
+    → InForce a by h e outs
     → let rows = record { by = by; event = e; outs = outs } ∷ h in
     view_of id rows ≡ view_notes a id (due_of id rows) (notes_of id outs) (view_start id e h)
 row_view a id by h e outs is =
@@ -422,8 +262,8 @@ row_view a id by h e outs is =
     let same : subscribe_in m ≡ subscribe_of a.cause = sym (ap subscribe_of is.cause ∙ subscribe_same e) in
     let last : last_of id rows ≡ last_outs a.policy a.clock (subscribe_in m) id outs v.told v.last =
     ap (λ policy. last_after policy (clock_at rows) m id outs v.told v.last) (sym is.policy)
-    ∙
-    (ap (λ clock. last_after a.policy clock m id outs v.told v.last) (sym is.clock) ∙ last_same a.policy a.clock m id outs v.told v.last) in
+    ∙ (ap (λ clock. last_after a.policy clock m id outs v.told v.last) (sym is.clock)
+    ∙ last_same a.policy a.clock m id outs v.told v.last) in
     ap (λ l. let w : View = record (view_of id rows) { last = l } in w) last
     ∙ (ap (λ r. let w : View = record {
       told = names_after r id outs v.told;

@@ -1,6 +1,7 @@
--- What a row lets out for clients beside their notes is sent to them, so it brings no packet for the broker; only that an UNSUBSCRIBE was
--- dropped is noted among it.
-use Rattle.std.proofs.Common.{◌≡◌, ℕ, Bool, true, false, List, [], ◌∷◌, ◌++◌, refl, ap, sym, ◌∙◌, if◌then◌else◌}
+-- What a row lets out for clients beside their notes is sent to them, so it brings no packet for the broker;
+-- only that an UNSUBSCRIBE was dropped is noted among it.
+use Rattle.std.proofs.Common.{◌≡◌, ℕ, Bool, true, false, List, [], ◌∷◌, ◌++◌, refl, ap, sym, ◌∙◌}
+use Rattle.std.proofs.Common.{if◌then◌else◌}
 use Rattle.std.specs.Prelude.{slice_get, Option, Some, None}
 use Rattle.std.specs.List.{list_any}
 use Rattle.std.proofs.lemmas.List.{append-nil}
@@ -25,13 +26,17 @@ use Rattle.sng_book.specs.declared.outcome.Outcome.TheVariants.{Allowed, Denied}
 use Rattle.sng_book.specs.declared.out.Out.{Out}
 use Rattle.sng_book.specs.declared.out.Out.TheVariants.{Send, Wire, Note}
 use Rattle.sng_history.specs.Causes.{Statement, StatesTopic, StatesMessage, UpdatesTopic, UpdatesMessage}
-use Rattle.sng_history.specs.Causes.{Request, ToPing, ToLeave, ToSleep, ToRegister, ToPublish, ToSubscribe, ToUnsubscribe, ToConfirm, ToAcknowledge, ToState, Untaken, Cause, request_of}
+use Rattle.sng_history.specs.Causes.{Request, ToPing, ToLeave, ToSleep, ToRegister, ToPublish, ToSubscribe}
+use Rattle.sng_history.specs.Causes.{ToUnsubscribe, ToConfirm, ToAcknowledge, ToState, Untaken, Cause}
+use Rattle.sng_history.specs.Causes.{request_of}
 use Rattle.sng_history.specs.Handing.{Known, known_as, front, handed_outs, announced_again, repeated_outs}
 use Rattle.sng_history.specs.Clients.{Around, Client, is_author, start_by, note_by, notes_by, is_drained}
 use Rattle.sng_history.specs.Standing.{Release, is_release, drop_notes}
 use Rattle.sng_history.specs.Verdicts.{is_active, ping_verdict}
-use Rattle.sng_history.specs.Answers.{refusal, code_of, sent_to, puback, dismissed, statement_answer, dialogue_ended, statement_refused, pong}
-use Rattle.sng_history.specs.Whole.{takes_leave, farewell, denied_to, denied_by, granted_to, granted_by, replied, dropped_with, handed_frames, repeated_frames, frames_of}
+use Rattle.sng_history.specs.Answers.{refusal, code_of, sent_to, puback, dismissed, statement_answer}
+use Rattle.sng_history.specs.Answers.{dialogue_ended, statement_refused, pong}
+use Rattle.sng_history.specs.Whole.{takes_leave, farewell, denied_to, denied_by, granted_to, granted_by}
+use Rattle.sng_history.specs.Whole.{replied, dropped_with, handed_frames, repeated_frames, frames_of}
 use Rattle.sng_history.specs.Whole.{spell, pong_by, answer_to, answer, drained_outs, part}
 use Rattle.sng_history.specs.Views.{wires_in}
 
@@ -66,7 +71,8 @@ farewell_sent : (request : Option Request) (to : Address) → AllSent (farewell 
 farewell_sent None to = tt
 farewell_sent (Some request) to = leave_sent (takes_leave request) to
 
-ping_sent : (to : Address) (client : Option (List ℕ)) (rule : Denial) → AllSent (denied_to (ToPing client) to rule)
+ping_sent : (to : Address) (client : Option (List ℕ)) (rule : Denial)
+    → AllSent (denied_to (ToPing client) to rule)
 ping_sent to client NoSession = tt
 ping_sent to client _ = tt
 
@@ -74,11 +80,14 @@ ended_sent : (to : Address) (rule : Denial) → AllSent (dialogue_ended to rule)
 ended_sent to OutOfTurn = tt
 ended_sent to _ = tt
 
-statement_refused_sent : (statement : Statement) (to : Address) (rule : Denial) → AllSent (statement_refused statement to rule)
+statement_refused_sent : (statement : Statement) (to : Address) (rule : Denial)
+    → AllSent (statement_refused statement to rule)
 statement_refused_sent (StatesTopic topic) to rule = ended_sent to rule
 statement_refused_sent (StatesMessage message) to rule = ended_sent to rule
-statement_refused_sent (UpdatesTopic topic) to rule = refused_sent to (refusal (frame.WillTopicUpdate topic) (code_of rule))
-statement_refused_sent (UpdatesMessage message) to rule = refused_sent to (refusal (frame.WillMessageUpdate message) (code_of rule))
+statement_refused_sent (UpdatesTopic topic) to rule =
+    refused_sent to (refusal (frame.WillTopicUpdate topic) (code_of rule))
+statement_refused_sent (UpdatesMessage message) to rule =
+    refused_sent to (refusal (frame.WillMessageUpdate message) (code_of rule))
 
 denied_to_sent : (request : Request) (to : Address) (rule : Denial) → AllSent (denied_to request to rule)
 denied_to_sent (ToPing client) to rule = ping_sent to client rule
@@ -110,7 +119,8 @@ statement_sent (StatesMessage message) to = tt
 statement_sent (UpdatesTopic topic) to = tt
 statement_sent (UpdatesMessage message) to = tt
 
-granted_to_sent : (request : Request) (x : Client) (name : Option (List ℕ)) → AllSent (granted_to request x name)
+granted_to_sent : (request : Request) (x : Client) (name : Option (List ℕ))
+    → AllSent (granted_to request x name)
 granted_to_sent (ToPing client) x name = tt
 granted_to_sent ToLeave x name = tt
 granted_to_sent (ToSleep duration) x name = tt
@@ -125,11 +135,13 @@ granted_to_sent (ToAcknowledge r) x name = tt
 granted_to_sent (ToState statement) x name = statement_sent statement x.address
 granted_to_sent (Untaken message) x name = tt
 
-granted_sent : (request : Option Request) (x : Client) (name : Option (List ℕ)) → AllSent (granted_by request x name)
+granted_sent : (request : Option Request) (x : Client) (name : Option (List ℕ))
+    → AllSent (granted_by request x name)
 granted_sent None x name = tt
 granted_sent (Some request) x name = granted_to_sent request x name
 
-replied_sent : (c : Cause) (x : Client) (name : Option (List ℕ)) (outcome : Outcome) → AllSent (replied c x name outcome)
+replied_sent : (c : Cause) (x : Client) (name : Option (List ℕ)) (outcome : Outcome)
+    → AllSent (replied c x name outcome)
 replied_sent c x name Allowed = granted_sent (request_of c) x name
 replied_sent c x name (Denied rule) = denied_sent (request_of c) x.address rule
 
@@ -137,7 +149,8 @@ drop_sent : (b : Bool) → AllSent (if b then Note note.Outbox ∷ [] else [])
 drop_sent true = (refl, tt)
 drop_sent false = tt
 
-dropped_sent : (dropped : List Release) (client : List ℕ) (filter : Option (List ℕ)) → AllSent (dropped_with dropped client filter)
+dropped_sent : (dropped : List Release) (client : List ℕ) (filter : Option (List ℕ))
+    → AllSent (dropped_with dropped client filter)
 dropped_sent dropped client None = tt
 dropped_sent dropped client (Some filter) = drop_sent (list_any (is_release client filter) dropped)
 
@@ -145,20 +158,25 @@ pub drops_sent : (dropped : List Release) → AllSent (drop_notes dropped)
 drops_sent [] = tt
 drops_sent (r ∷ dropped) = (refl, drops_sent dropped)
 
-handed_out_sent : (to : Address) (number : ℕ) (m : Option Message) (known : Option Known) → AllSent (handed_outs to number m known)
+handed_out_sent : (to : Address) (number : ℕ) (m : Option Message) (known : Option Known)
+    → AllSent (handed_outs to number m known)
 handed_out_sent to number None known = tt
 handed_out_sent to number (Some m) None = tt
 handed_out_sent to number (Some m) (Some known) = tt
 
-handed_sent : (a : Around) (x : Client) (name : List ℕ) (outcome : Outcome) → AllSent (handed_frames a x name outcome)
-handed_sent a x name Allowed = handed_out_sent x.address x.number (front x.buffer) (known_as a.policy x.ids name)
+handed_sent : (a : Around) (x : Client) (name : List ℕ) (outcome : Outcome)
+    → AllSent (handed_frames a x name outcome)
+handed_sent a x name Allowed =
+    handed_out_sent x.address x.number (front x.buffer) (known_as a.policy x.ids name)
 handed_sent a x name (Denied rule) = tt
 
-announced_again_sent : (to : Address) (sent : Sending) (m : Option Message) → AllSent (announced_again to sent m)
+announced_again_sent : (to : Address) (sent : Sending) (m : Option Message)
+    → AllSent (announced_again to sent m)
 announced_again_sent to sent None = tt
 announced_again_sent to sent (Some m) = tt
 
-repeated_out_sent : (to : Address) (b : Buffer) (open_ones : Option Exchange) → AllSent (repeated_outs to b open_ones)
+repeated_out_sent : (to : Address) (b : Buffer) (open_ones : Option Exchange)
+    → AllSent (repeated_outs to b open_ones)
 repeated_out_sent to b None = tt
 repeated_out_sent to b (Some (Announcing sent)) = announced_again_sent to sent (slice_get b.waiting 0)
 repeated_out_sent to b (Some (Acknowledging sent k m)) = tt
@@ -167,13 +185,15 @@ repeated_sent : (x : Client) (outcome : Outcome) → AllSent (repeated_frames x 
 repeated_sent x Allowed = repeated_out_sent x.address x.buffer x.buffer.exchange
 repeated_sent x (Denied rule) = tt
 
-pub frames_sent : (a : Around) (dropped : List Release) (x : Client) (said : Decision) → AllSent (frames_of a dropped x said)
+pub frames_sent : (a : Around) (dropped : List Release) (x : Client) (said : Decision)
+    → AllSent (frames_of a dropped x said)
 frames_sent a dropped x (note.Left id) = farewell_sent (request_of a.cause) x.address
 frames_sent a dropped x (note.Register who name outcome) = replied_sent a.cause x name outcome
 frames_sent a dropped x (note.Publish who name outcome) = replied_sent a.cause x name outcome
 frames_sent a dropped x (note.Subscribe who filter outcome) = replied_sent a.cause x filter outcome
 frames_sent a dropped x (note.Unsubscribe who filter outcome) =
-    both_sent (dropped_with dropped x.id filter) (replied a.cause x filter outcome) (dropped_sent dropped x.id filter) (replied_sent a.cause x filter outcome)
+    both_sent (dropped_with dropped x.id filter) (replied a.cause x filter outcome)
+    (dropped_sent dropped x.id filter) (replied_sent a.cause x filter outcome)
 frames_sent a dropped x (note.Will who name outcome) = replied_sent a.cause x name outcome
 frames_sent a dropped x (note.Frame who outcome) = replied_sent a.cause x None outcome
 frames_sent a dropped x (note.End id filter outcome) = dropped_sent dropped x.id (Some filter)
@@ -209,7 +229,8 @@ pub answer_sent : (request : Option Request) (x : Client) → AllSent (answer re
 answer_sent None x = tt
 answer_sent (Some request) x = answer_to_sent request x
 
-author_sent : (request : Option Request) (x : Client) (b : Bool) → AllSent (if b then answer request x else [])
+author_sent : (request : Option Request) (x : Client) (b : Bool)
+    → AllSent (if b then answer request x else [])
 author_sent request x true = answer_sent request x
 author_sent request x false = tt
 
@@ -224,10 +245,12 @@ sent_wires (Send to datagram ∷ xs) ys sent = sent_wires xs ys sent
 sent_wires (Note said ∷ xs) ys sent = sent_wires xs ys sent.1
 sent_wires (Wire packet ∷ xs) ys sent = absurd sent
 
-pub spell_wires : (a : Around) (dropped : List Release) (x : Client) (notes : List Decision) → wires_in (spell a dropped x notes) ≡ []
+pub spell_wires : (a : Around) (dropped : List Release) (x : Client) (notes : List Decision)
+    → wires_in (spell a dropped x notes) ≡ []
 spell_wires a dropped x [] = refl
 spell_wires a dropped x (said ∷ notes) =
-    sent_wires (frames_of a dropped x said) (spell a dropped (note_by a said x) notes) (frames_sent a dropped x said) ∙ spell_wires a dropped (note_by a said x) notes
+    sent_wires (frames_of a dropped x said) (spell a dropped (note_by a said x) notes)
+    (frames_sent a dropped x said) ∙ spell_wires a dropped (note_by a said x) notes
 
 only_sent_wires : (xs : List Out) → AllSent xs → wires_in xs ≡ []
 only_sent_wires xs sent = ap wires_in (sym (append-nil xs)) ∙ sent_wires xs [] sent
@@ -238,10 +261,13 @@ both_wires (Send to datagram ∷ xs) ys none sent = both_wires xs ys none sent
 both_wires (Note said ∷ xs) ys none sent = both_wires xs ys none sent
 both_wires (Wire packet ∷ xs) ys none sent = absurd cc
 
-pub part_wires : (a : Around) (dropped : List Release) (notes : List Decision) (x : Client) → wires_in (part a dropped notes x) ≡ []
+pub part_wires : (a : Around) (dropped : List Release) (notes : List Decision) (x : Client)
+    → wires_in (part a dropped notes x) ≡ []
 part_wires a dropped notes x =
     let y = start_by a x in
     let last = drained_outs (notes_by a notes y) in
-    sent_wires (if is_author a.cause x then answer (request_of a.cause) x else []) (spell a dropped y notes ++ last)
+    sent_wires (if is_author a.cause x then answer (request_of a.cause) x else [])
+    (spell a dropped y notes ++ last)
     (author_sent (request_of a.cause) x (is_author a.cause x))
-    ∙ both_wires (spell a dropped y notes) last (spell_wires a dropped y notes) (drained_sent (notes_by a notes y))
+    ∙ both_wires (spell a dropped y notes) last (spell_wires a dropped y notes)
+    (drained_sent (notes_by a notes y))

@@ -1,5 +1,6 @@
 -- What is sent to another place than this, or is not sent at all.
-use Rattle.std.proofs.Common.{◌≡◌, ℕ, Bool, true, false, List, [], ◌∷◌, ◌++◌, refl, ap, sym, ◌∙◌, subst, if◌then◌else◌}
+use Rattle.std.proofs.Common.{◌≡◌, ℕ, Bool, true, false, List, [], ◌∷◌, ◌++◌, refl, ap, sym, ◌∙◌, subst}
+use Rattle.std.proofs.Common.{if◌then◌else◌}
 use Rattle.std.specs.List.{flat_map}
 use Rattle.sng_book.specs.declared.address.Address.{Address}
 use Rattle.sng_book.specs.declared.out.Out.{Out}
@@ -10,11 +11,13 @@ use Rattle.sng_history.specs.ViewsLink.{sends_in}
 use Rattle.sng_history.specs.LawsSleep.{sent_to}
 use Rattle.sng_history.proofs.Places.{address_means}
 use Rattle.sng_history.proofs.SentTo.{AllTo}
-use Rattle.sng_history.proofs.QuietParts.{NoneSent}
+use Rattle.sng_history.proofs.QuietNotes.{NoneSent}
 
-pub away_both : (place : Address) (xs ys : List Out) → sent_to place xs ≡ [] → sent_to place ys ≡ [] → sent_to place (xs ++ ys) ≡ []
+pub away_both : (place : Address) (xs ys : List Out) → sent_to place xs ≡ [] → sent_to place ys ≡ []
+    → sent_to place (xs ++ ys) ≡ []
 away_both place [] ys one two = two
-away_both place (Send to datagram ∷ xs) ys one two = by_place (same_address place to) (sent_to place xs) one (away_both place xs ys)
+away_both place (Send to datagram ∷ xs) ys one two =
+    by_place (same_address place to) (sent_to place xs) one (away_both place xs ys)
   where
     by_place : (b : Bool) (rest : List (List ℕ)) → (if b then datagram ∷ [] else []) ++ rest ≡ []
         → (rest ≡ [] → sent_to place ys ≡ [] → sent_to place (xs ++ ys) ≡ [])
@@ -24,12 +27,14 @@ away_both place (Send to datagram ∷ xs) ys one two = by_place (same_address pl
 away_both place (Note said ∷ xs) ys one two = away_both place xs ys one two
 away_both place (Wire packet ∷ xs) ys one two = away_both place xs ys one two
 
-pub away_flat : (place : Address) (f : Client → List Out) (xs : List Client) → Each (λ x. sent_to place (f x) ≡ []) xs
+pub away_flat : (place : Address) (f : Client → List Out) (xs : List Client)
+    → Each (λ x. sent_to place (f x) ≡ []) xs
     → sent_to place (flat_map f xs) ≡ []
 away_flat place f [] each = refl
 away_flat place f (x ∷ xs) each = away_both place (f x) (flat_map f xs) each.0 (away_flat place f xs each.1)
 
-pub away_either : (place : Address) (b : Bool) (xs ys : List Out) → sent_to place xs ≡ [] → sent_to place ys ≡ []
+pub away_either : (place : Address) (b : Bool) (xs ys : List Out) → sent_to place xs ≡ []
+    → sent_to place ys ≡ []
     → sent_to place (if b then xs else ys) ≡ []
 away_either place true xs ys one two = one
 away_either place false xs ys one two = two
@@ -46,7 +51,8 @@ unsent_away place (Send to datagram ∷ outs) none = absurd cc
 unsent_away place (Note said ∷ outs) none = unsent_away place outs none
 unsent_away place (Wire packet ∷ outs) none = unsent_away place outs none
 
-pub to_away : (place to : Address) (outs : List Out) → same_address place to ≡ false → AllTo to outs → sent_to place outs ≡ []
+pub to_away : (place to : Address) (outs : List Out) → same_address place to ≡ false → AllTo to outs
+    → sent_to place outs ≡ []
 to_away place to [] off all = refl
 to_away place to (Send other datagram ∷ outs) off all =
     ap (λ b. (if b then datagram ∷ [] else []) ++ sent_to place outs) (ap (same_address place) all.0 ∙ off)

@@ -23,13 +23,17 @@ use Rattle.sng_book.specs.declared.outcome.Outcome.TheVariants.{Allowed, Denied}
 use Rattle.sng_book.specs.declared.out.Out.{Out}
 use Rattle.sng_book.specs.declared.out.Out.TheVariants.{Send, Wire, Note}
 use Rattle.sng_history.specs.Causes.{Statement, StatesTopic, StatesMessage, UpdatesTopic, UpdatesMessage}
-use Rattle.sng_history.specs.Causes.{Request, ToPing, ToLeave, ToSleep, ToRegister, ToPublish, ToSubscribe, ToUnsubscribe, ToConfirm, ToAcknowledge, ToState, Untaken, Cause, request_of}
+use Rattle.sng_history.specs.Causes.{Request, ToPing, ToLeave, ToSleep, ToRegister, ToPublish, ToSubscribe}
+use Rattle.sng_history.specs.Causes.{ToUnsubscribe, ToConfirm, ToAcknowledge, ToState, Untaken, Cause}
+use Rattle.sng_history.specs.Causes.{request_of}
 use Rattle.sng_history.specs.Handing.{Known, known_as, front, handed_outs, announced_again, repeated_outs}
 use Rattle.sng_history.specs.Clients.{Around, Client, is_author, start_by, note_by, notes_by, is_drained}
 use Rattle.sng_history.specs.Standing.{Release, is_release, drop_note, drop_notes}
 use Rattle.sng_history.specs.Verdicts.{is_active, ping_verdict}
-use Rattle.sng_history.specs.Answers.{refusal, code_of, sent_to, puback, dismissed, statement_answer, dialogue_ended, statement_refused, pong}
-use Rattle.sng_history.specs.Whole.{takes_leave, farewell, denied_to, denied_by, granted_to, granted_by, replied, dropped_with, handed_frames, repeated_frames, frames_of}
+use Rattle.sng_history.specs.Answers.{refusal, code_of, sent_to, puback, dismissed, statement_answer}
+use Rattle.sng_history.specs.Answers.{dialogue_ended, statement_refused, pong}
+use Rattle.sng_history.specs.Whole.{takes_leave, farewell, denied_to, denied_by, granted_to, granted_by}
+use Rattle.sng_history.specs.Whole.{replied, dropped_with, handed_frames, repeated_frames, frames_of}
 use Rattle.sng_history.specs.Whole.{spell, pong_by, answer_to, answer, drained_outs, part}
 use Rattle.sng_history.proofs.Steady.{start_lasts}
 use Rattle.sng_history.proofs.Hands.{Every}
@@ -49,7 +53,8 @@ both_to place (Send to datagram ∷ xs) ys one two = (one.0, both_to place xs ys
 both_to place (Note said ∷ xs) ys one two = both_to place xs ys one two
 both_to place (Wire packet ∷ xs) ys one two = both_to place xs ys one two
 
-pub if_to : (place : Address) (b : Bool) (outs : List Out) → AllTo place outs → AllTo place (if b then outs else [])
+pub if_to : (place : Address) (b : Bool) (outs : List Out) → AllTo place outs
+    → AllTo place (if b then outs else [])
 if_to place true outs all = all
 if_to place false outs all = tt
 
@@ -61,7 +66,8 @@ farewell_to : (request : Option Request) (place : Address) → AllTo place (fare
 farewell_to None place = tt
 farewell_to (Some request) place = if_to place (takes_leave request) (dismissed place ∷ []) (refl, tt)
 
-ping_to : (place : Address) (client : Option (List ℕ)) (rule : Denial) → AllTo place (denied_to (ToPing client) place rule)
+ping_to : (place : Address) (client : Option (List ℕ)) (rule : Denial)
+    → AllTo place (denied_to (ToPing client) place rule)
 ping_to place client NoSession = (refl, tt)
 ping_to place client _ = tt
 
@@ -69,11 +75,14 @@ ended_to : (place : Address) (rule : Denial) → AllTo place (dialogue_ended pla
 ended_to place OutOfTurn = tt
 ended_to place _ = (refl, tt)
 
-statement_refused_to : (statement : Statement) (place : Address) (rule : Denial) → AllTo place (statement_refused statement place rule)
+statement_refused_to : (statement : Statement) (place : Address) (rule : Denial)
+    → AllTo place (statement_refused statement place rule)
 statement_refused_to (StatesTopic topic) place rule = ended_to place rule
 statement_refused_to (StatesMessage message) place rule = ended_to place rule
-statement_refused_to (UpdatesTopic topic) place rule = refused_to place (refusal (frame.WillTopicUpdate topic) (code_of rule))
-statement_refused_to (UpdatesMessage message) place rule = refused_to place (refusal (frame.WillMessageUpdate message) (code_of rule))
+statement_refused_to (UpdatesTopic topic) place rule =
+    refused_to place (refusal (frame.WillTopicUpdate topic) (code_of rule))
+statement_refused_to (UpdatesMessage message) place rule =
+    refused_to place (refusal (frame.WillMessageUpdate message) (code_of rule))
 
 denial_to : (request : Request) (place : Address) (rule : Denial) → AllTo place (denied_to request place rule)
 denial_to (ToPing client) place rule = ping_to place client rule
@@ -88,7 +97,8 @@ denial_to (ToAcknowledge r) place rule = tt
 denial_to (ToState statement) place rule = statement_refused_to statement place rule
 denial_to (Untaken message) place rule = refused_to place (refusal message (code_of rule))
 
-denied_place : (request : Option Request) (place : Address) (rule : Denial) → AllTo place (denied_by request place rule)
+denied_place : (request : Option Request) (place : Address) (rule : Denial)
+    → AllTo place (denied_by request place rule)
 denied_place None place rule = tt
 denied_place (Some request) place rule = denial_to request place rule
 
@@ -105,7 +115,8 @@ statement_to (StatesMessage message) place = (refl, tt)
 statement_to (UpdatesTopic topic) place = (refl, tt)
 statement_to (UpdatesMessage message) place = (refl, tt)
 
-grant_to : (request : Request) (x : Client) (name : Option (List ℕ)) → AllTo x.address (granted_to request x name)
+grant_to : (request : Request) (x : Client) (name : Option (List ℕ))
+    → AllTo x.address (granted_to request x name)
 grant_to (ToPing client) x name = tt
 grant_to ToLeave x name = tt
 grant_to (ToSleep duration) x name = tt
@@ -120,16 +131,20 @@ grant_to (ToAcknowledge r) x name = tt
 grant_to (ToState statement) x name = statement_to statement x.address
 grant_to (Untaken message) x name = tt
 
-granted_place : (request : Option Request) (x : Client) (name : Option (List ℕ)) → AllTo x.address (granted_by request x name)
+granted_place : (request : Option Request) (x : Client) (name : Option (List ℕ))
+    → AllTo x.address (granted_by request x name)
 granted_place None x name = tt
 granted_place (Some request) x name = grant_to request x name
 
-replied_to : (c : Cause) (x : Client) (name : Option (List ℕ)) (outcome : Outcome) → AllTo x.address (replied c x name outcome)
+replied_to : (c : Cause) (x : Client) (name : Option (List ℕ)) (outcome : Outcome)
+    → AllTo x.address (replied c x name outcome)
 replied_to c x name Allowed = granted_place (request_of c) x name
 replied_to c x name (Denied rule) = denied_place (request_of c) x.address rule
 
-drop_to : (place : Address) (dropped : List Release) (client filter : List ℕ) → AllTo place (drop_note dropped client filter)
-drop_to place dropped client filter = if_to place (list_any (is_release client filter) dropped) (Note note.Outbox ∷ []) tt
+drop_to : (place : Address) (dropped : List Release) (client filter : List ℕ)
+    → AllTo place (drop_note dropped client filter)
+drop_to place dropped client filter =
+    if_to place (list_any (is_release client filter) dropped) (Note note.Outbox ∷ []) tt
 
 dropped_to : (place : Address) (dropped : List Release) (client : List ℕ) (filter : Option (List ℕ))
     → AllTo place (dropped_with dropped client filter)
@@ -140,20 +155,24 @@ pub drops_to : (place : Address) (dropped : List Release) → AllTo place (drop_
 drops_to place [] = tt
 drops_to place (r ∷ dropped) = drops_to place dropped
 
-handed_out_to : (place : Address) (number : ℕ) (m : Option Message) (known : Option Known) → AllTo place (handed_outs place number m known)
+handed_out_to : (place : Address) (number : ℕ) (m : Option Message) (known : Option Known)
+    → AllTo place (handed_outs place number m known)
 handed_out_to place number None known = tt
 handed_out_to place number (Some m) None = tt
 handed_out_to place number (Some m) (Some known) = (refl, tt)
 
-handed_to : (a : Around) (x : Client) (name : List ℕ) (outcome : Outcome) → AllTo x.address (handed_frames a x name outcome)
+handed_to : (a : Around) (x : Client) (name : List ℕ) (outcome : Outcome)
+    → AllTo x.address (handed_frames a x name outcome)
 handed_to a x name Allowed = handed_out_to x.address x.number (front x.buffer) (known_as a.policy x.ids name)
 handed_to a x name (Denied rule) = tt
 
-announced_again_to : (place : Address) (sent : Sending) (m : Option Message) → AllTo place (announced_again place sent m)
+announced_again_to : (place : Address) (sent : Sending) (m : Option Message)
+    → AllTo place (announced_again place sent m)
 announced_again_to place sent None = tt
 announced_again_to place sent (Some m) = (refl, tt)
 
-repeated_out_to : (place : Address) (b : Buffer) (open_ones : Option Exchange) → AllTo place (repeated_outs place b open_ones)
+repeated_out_to : (place : Address) (b : Buffer) (open_ones : Option Exchange)
+    → AllTo place (repeated_outs place b open_ones)
 repeated_out_to place b None = tt
 repeated_out_to place b (Some (Announcing sent)) = announced_again_to place sent (slice_get b.waiting 0)
 repeated_out_to place b (Some (Acknowledging sent k m)) = (refl, tt)
@@ -162,13 +181,15 @@ repeated_to : (x : Client) (outcome : Outcome) → AllTo x.address (repeated_fra
 repeated_to x Allowed = repeated_out_to x.address x.buffer x.buffer.exchange
 repeated_to x (Denied rule) = tt
 
-frames_to : (a : Around) (dropped : List Release) (x : Client) (said : Decision) → AllTo x.address (frames_of a dropped x said)
+frames_to : (a : Around) (dropped : List Release) (x : Client) (said : Decision)
+    → AllTo x.address (frames_of a dropped x said)
 frames_to a dropped x (note.Left id) = farewell_to (request_of a.cause) x.address
 frames_to a dropped x (note.Register who name outcome) = replied_to a.cause x name outcome
 frames_to a dropped x (note.Publish who name outcome) = replied_to a.cause x name outcome
 frames_to a dropped x (note.Subscribe who filter outcome) = replied_to a.cause x filter outcome
 frames_to a dropped x (note.Unsubscribe who filter outcome) =
-    both_to x.address (dropped_with dropped x.id filter) (replied a.cause x filter outcome) (dropped_to x.address dropped x.id filter)
+    both_to x.address (dropped_with dropped x.id filter) (replied a.cause x filter outcome)
+    (dropped_to x.address dropped x.id filter)
     (replied_to a.cause x filter outcome)
 frames_to a dropped x (note.Will who name outcome) = replied_to a.cause x name outcome
 frames_to a dropped x (note.Frame who outcome) = replied_to a.cause x None outcome
@@ -194,9 +215,11 @@ spell_to a dropped x [] stayed = tt
 spell_to a dropped x (said ∷ notes) stayed =
     let y = note_by a said x in
     both_to x.address (frames_of a dropped x said) (spell a dropped y notes) (frames_to a dropped x said)
-    (subst (λ place. AllTo place (spell a dropped y notes)) (stayed.0 x) (spell_to a dropped y notes stayed.1))
+    (subst (λ place. AllTo place (spell a dropped y notes)) (stayed.0 x)
+    (spell_to a dropped y notes stayed.1))
 
-pub stayed_at : (a : Around) (notes : List Decision) (x : Client) → Stayed a notes → (notes_by a notes x).address ≡ x.address
+pub stayed_at : (a : Around) (notes : List Decision) (x : Client) → Stayed a notes
+    → (notes_by a notes x).address ≡ x.address
 stayed_at a [] x stayed = refl
 stayed_at a (said ∷ notes) x stayed = stayed_at a notes (note_by a said x) stayed.1 ∙ stayed.0 x
 
@@ -209,7 +232,8 @@ message_to (ToPing client) x =
     let verdict = ping_verdict client x in
     if_to x.address (is_active x.phase) (pong_by verdict x.address) (pong_to verdict x.address)
 message_to ToLeave x = tt
-message_to (ToSleep duration) x = if_to x.address (is_due_messages x.phase) (dismissed x.address ∷ []) (refl, tt)
+message_to (ToSleep duration) x =
+    if_to x.address (is_due_messages x.phase) (dismissed x.address ∷ []) (refl, tt)
 message_to (ToRegister r) x = tt
 message_to (ToPublish p) x = tt
 message_to (ToSubscribe r) x = tt

@@ -11,27 +11,34 @@ use Rattle.sng_history.specs.ViewsClients.{phase_of, address_of, is_among}
 use Rattle.sng_history.specs.LawsState.{ClientShown}
 use Rattle.sng_history.proofs.Own.{same_means}
 use Rattle.sng_history.proofs.SeenSleepers.{same_place}
-use Rattle.sng_history.proofs.SeenState.{ids_of}
+use Rattle.sng_history.proofs.SeenOrder.{ids_of}
 
 -- whoever is there is the client, and sleeps
 abbrev pub Sleeper : List ℕ → Address → Client → Type 0
 Sleeper id place x = is_here x place ≡ true → (x.phase ≡ Asleep) × (bytes_eq id x.id ≡ true)
 
-known_asleep : (h : List Row) (id : List ℕ) (place : Address) (x : Client) → bytes_eq id x.id ≡ true → ClientShown h x
+known_asleep : (h : List Row) (id : List ℕ) (place : Address) (x : Client) → bytes_eq id x.id ≡ true
+    → ClientShown h x
     → phase_of id h ≡ Some Asleep → x.phase ≡ Asleep
 known_asleep h id place x same shown asleep =
-    let e : Some x.phase ≡ Some Asleep = sym shown.phase ∙ (ap (λ i. phase_of i h) (sym (same_means id x.id same)) ∙ asleep) in cc
+    let e : Some x.phase ≡ Some Asleep =
+    sym shown.phase ∙ (ap (λ i. phase_of i h) (sym (same_means id x.id same)) ∙ asleep) in
+    cc
 
-known_here : (h : List Row) (id : List ℕ) (place : Address) (x : Client) → bytes_eq id x.id ≡ true → ClientShown h x
+known_here : (h : List Row) (id : List ℕ) (place : Address) (x : Client) → bytes_eq id x.id ≡ true
+    → ClientShown h x
     → phase_of id h ≡ Some Asleep → address_of id h ≡ Some place → is_here x place ≡ true
 known_here h id place x same shown asleep at =
-    let e : Some x.address ≡ Some place = sym shown.address ∙ (ap (λ i. address_of i h) (sym (same_means id x.id same)) ∙ at) in
+    let e : Some x.address ≡ Some place =
+    sym shown.address ∙ (ap (λ i. address_of i h) (sym (same_means id x.id same)) ∙ at) in
     let there : x.address ≡ place = cc in
     rw (known_asleep h id place x same shown asleep, there) (same_place place)
 
 -- a client beside it is not there
-beside_away : (h : List Row) (id : List ℕ) (place : Address) (y : Client) (xs : List Client) → is_among id (ids_of xs) ≡ true
-    → phase_of id h ≡ Some Asleep → address_of id h ≡ Some place → Each (ClientShown h) xs → Each (Apart y) xs → is_here y place ≡ false
+beside_away : (h : List Row) (id : List ℕ) (place : Address) (y : Client) (xs : List Client)
+    → is_among id (ids_of xs) ≡ true
+    → phase_of id h ≡ Some Asleep → address_of id h ≡ Some place → Each (ClientShown h) xs → Each (Apart y) xs
+    → is_here y place ≡ false
 beside_away h id place y [] among asleep at shown apart = absurd cc
 beside_away h id place y (x ∷ xs) among asleep at shown apart =
     by_same (bytes_eq id x.id) refl among (λ more. beside_away h id place y xs more asleep at shown.1 apart.1)
@@ -42,14 +49,18 @@ beside_away h id place y (x ∷ xs) among asleep at shown apart =
 
     by_same : (b : Bool) → bytes_eq id x.id ≡ b → (b || is_among id (ids_of xs)) ≡ true
         → (is_among id (ids_of xs) ≡ true → is_here y place ≡ false) → is_here y place ≡ false
-    by_same true is among more = left_of (is_here y place) (is_here x place) (apart.0 place) (known_here h id place x is shown.0 asleep at)
+    by_same true is among more =
+        left_of (is_here y place) (is_here x place) (apart.0 place)
+        (known_here h id place x is shown.0 asleep at)
     by_same false is among more = more among
 
-apart_away : (id : List ℕ) (place : Address) (x : Client) (xs : List Client) → is_here x place ≡ true → Each (Apart x) xs
+apart_away : (id : List ℕ) (place : Address) (x : Client) (xs : List Client) → is_here x place ≡ true
+    → Each (Apart x) xs
     → Each (Sleeper id place) xs
 apart_away id place x [] there apart = tt
 apart_away id place x (y ∷ xs) there apart = (
-  λ here. absurd (let e : (is_here x place && is_here y place) ≡ false = apart.0 place in clash (is_here x place) (is_here y place) e there here),
+  λ here. absurd (let e : (is_here x place && is_here y place) ≡ false = apart.0 place in
+      clash (is_here x place) (is_here y place) e there here),
   apart_away id place x xs there apart.1,
 )
   where
@@ -72,6 +83,7 @@ sleepers h id place (x ∷ xs) asleep at places shown among =
       apart_away id place x xs (known_here h id place x is shown.0 asleep at) places.0,
     )
     by_same false is among more = (
-      λ here. absurd (let e = sym (beside_away h id place x xs among asleep at shown.1 places.0) ∙ here in cc),
+      λ here. absurd (let e = sym (beside_away h id place x xs among asleep at shown.1 places.0) ∙ here in
+          cc),
       more among,
     )

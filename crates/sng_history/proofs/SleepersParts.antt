@@ -1,10 +1,13 @@
--- What is let out for each client while one sleeps goes to other places than where that is, but with a datagram from there or its own CONNECT.
-use Rattle.std.proofs.Common.{◌≡◌, ℕ, Bool, true, false, List, [], ◌∷◌, refl, ap, sym, ◌∙◌, subst, if◌then◌else◌}
+-- What is let out for each client while one sleeps goes to other places than where that is, but with a
+-- datagram from there or its own CONNECT.
+use Rattle.std.proofs.Common.{◌≡◌, ℕ, Bool, true, false, List, [], ◌∷◌, refl, ap, sym, ◌∙◌, subst}
+use Rattle.std.proofs.Common.{if◌then◌else◌}
 use Rattle.std.specs.Prelude.{◌&&◌, Option, Some, None}
 use Rattle.std.specs.List.{flat_map}
 use Rattle.sng_states.specs.States.{has_session, takes_messages}
 use Rattle.sng_states.specs.declared.state.ClientState.{ClientState}
-use Rattle.sng_states.specs.declared.state.ClientState.TheVariants.{Dialogue, Active, Asleep, Awake, Disconnected, Lost}
+use Rattle.sng_states.specs.declared.state.ClientState.TheVariants.{Dialogue, Active, Asleep, Awake}
+use Rattle.sng_states.specs.declared.state.ClientState.TheVariants.{Disconnected, Lost}
 use Rattle.sng_frames.specs.declared.messages.subscribe.TopicRequest.{TopicRequest}
 use Rattle.sng_book.specs.Denials.{is_allowed}
 use Rattle.sng_book.specs.declared.address.Address.{Address}
@@ -12,9 +15,11 @@ use Rattle.sng_book.specs.declared.decision.Decision.{Decision}
 use Rattle.sng_book.specs.declared.decision.Decision.TheVariants as note
 use Rattle.sng_book.specs.declared.outcome.Outcome.{Outcome}
 use Rattle.sng_book.specs.declared.outcome.Outcome.TheVariants.{Allowed, Denied}
-use Rattle.sng_history.specs.Causes.{Cause, ByConnect, ByMessage, BySource, ByBroken, ByPacket, ByUp, ByDown, ByTake, ByReplace, ByTick}
+use Rattle.sng_history.specs.Causes.{Cause, ByConnect, ByMessage, BySource, ByBroken, ByPacket, ByUp, ByDown}
+use Rattle.sng_history.specs.Causes.{ByTake, ByReplace, ByTick}
 use Rattle.sng_history.specs.Packets.{dropped}
-use Rattle.sng_history.specs.Clients.{Around, Client, same_address, is_here, is_from, entered_by, subscribed, subscribe_of, unsubscribed, statement_of, note_by}
+use Rattle.sng_history.specs.Clients.{Around, Client, same_address, is_here, is_from, entered_by, subscribed}
+use Rattle.sng_history.specs.Clients.{subscribe_of, unsubscribed, statement_of, note_by}
 use Rattle.sng_history.specs.Standing.{Release}
 use Rattle.sng_history.specs.State.{State, around}
 use Rattle.sng_history.specs.Verdicts.{entry}
@@ -32,13 +37,15 @@ use Rattle.sng_history.proofs.SentTo.{part_to, Stayed}
 use Rattle.sng_history.proofs.QuietParts.{enters_by, beside_notes, quiet_part}
 use Rattle.sng_history.proofs.SentAway.{away_flat, none_away, to_away, flip_address}
 use Rattle.sng_history.proofs.SleepersHere.{Sleeper}
+use Rattle.sng_history.proofs.Booleans.{and_no}
 
 -- no note brings the client elsewhere, but one that lets it in
 put : (a : Around) (said : Decision) (x : Client) → ((y : Client) → entered_by a.clock a.cause y ≡ y)
     → (note_by a said x).address ≡ x.address
 put a (note.Connect id o) x none = entered (is_allowed o)
   where
-    entered : (b : Bool) → (let y : Client = if b then entered_by a.clock a.cause x else x in y).address ≡ x.address
+    entered : (b : Bool) → (let y : Client = if b then entered_by a.clock a.cause x else x in y).address
+        ≡ x.address
     entered true = ap (λ y. y.address) (none x)
     entered false = refl
 put a (note.Subscribe whom filter o) x none = by_request (subscribe_of a.cause) filter o x
@@ -51,7 +58,8 @@ put a (note.Subscribe whom filter o) x none = by_request (subscribe_of a.cause) 
     by_request (Some r) (Some filter) (Denied rule) x = refl
 put a (note.Unsubscribe whom filter o) x none = by_filter filter o x
   where
-    by_filter : (filter : Option (List ℕ)) (o : Outcome) (x : Client) → (unsubscribed filter o x).address ≡ x.address
+    by_filter : (filter : Option (List ℕ)) (o : Outcome) (x : Client)
+        → (unsubscribed filter o x).address ≡ x.address
     by_filter None o x = refl
     by_filter (Some filter) Allowed x = refl
     by_filter (Some filter) (Denied rule) x = refl
@@ -69,36 +77,49 @@ put a (note.Lost id) x none = refl
 put a note.Outbox x none = refl
 put a (note.Frame whom o) x none = refl
 
-all_put : (a : Around) (notes : List Decision) → ((y : Client) → entered_by a.clock a.cause y ≡ y) → Stayed a notes
+all_put : (a : Around) (notes : List Decision) → ((y : Client) → entered_by a.clock a.cause y ≡ y)
+    → Stayed a notes
 all_put a [] none = tt
 all_put a (said ∷ notes) none = (λ x. put a said x none, all_put a notes none)
 
-pub messages_put : (a : Around) (client : List ℕ) → OfMessages (λ said. (x : Client) → (note_by a said x).address ≡ x.address) client
-messages_put a client = record { announces = λ name x. refl; hands = λ name o x. (handed_steady a name o x).address }
+pub messages_put : (a : Around) (client : List ℕ)
+    → OfMessages (λ said. (x : Client) → (note_by a said x).address ≡ x.address) client
+messages_put a client =
+    record { announces = λ name x. refl; hands = λ name o x. (handed_steady a name o x).address }
 
-left_put : (a : Around) (x : Client) (here : Bool) → Stayed a (if here then note.Left x.id ∷ all_gone x.id x.buffer.waiting else [])
+left_put : (a : Around) (x : Client) (here : Bool)
+    → Stayed a (if here then note.Left x.id ∷ all_gone x.id x.buffer.waiting else [])
 left_put a x true = (
   λ y. refl,
-  every_gone (λ said. (y : Client) → (note_by a said y).address ≡ y.address) x.id x.buffer.waiting (messages_put a x.id),
+  every_gone (λ said. (y : Client) → (note_by a said y).address ≡ y.address) x.id x.buffer.waiting
+      (messages_put a x.id),
 )
 left_put a x false = tt
 
-fixed_put : (s : State) (c : Cause) (x : Client) → enters_by c x ≡ false → Stayed (around s c) (fixed_for s c x)
+fixed_put : (s : State) (c : Cause) (x : Client) → enters_by c x ≡ false
+    → Stayed (around s c) (fixed_for s c x)
 fixed_put s (ByConnect from connect) x other =
     let a = around s (ByConnect from connect) in
-    let left : List Decision = if is_here x from then note.Left x.id ∷ all_gone x.id x.buffer.waiting else [] in
+    let left : List Decision =
+    if is_here x from then note.Left x.id ∷ all_gone x.id x.buffer.waiting else [] in
     subst (Stayed a) (sym (beside_notes s from connect x other))
-    (every_if (λ said. (y : Client) → (note_by a said y).address ≡ y.address) (is_allowed (entry s connect)) left
+    (every_if (λ said. (y : Client) → (note_by a said y).address ≡ y.address)
+    (is_allowed (entry s connect)) left
     (left_put a x (is_here x from)))
-fixed_put s (ByMessage from request) x other = let c = ByMessage from request in all_put (around s c) (fixed_for s c x) (λ y. refl)
-fixed_put s (BySource from p) x other = let c = BySource from p in all_put (around s c) (fixed_for s c x) (λ y. refl)
-fixed_put s (ByBroken from rule) x other = let c = ByBroken from rule in all_put (around s c) (fixed_for s c x) (λ y. refl)
+fixed_put s (ByMessage from request) x other =
+    let c = ByMessage from request in all_put (around s c) (fixed_for s c x) (λ y. refl)
+fixed_put s (BySource from p) x other =
+    let c = BySource from p in all_put (around s c) (fixed_for s c x) (λ y. refl)
+fixed_put s (ByBroken from rule) x other =
+    let c = ByBroken from rule in all_put (around s c) (fixed_for s c x) (λ y. refl)
 fixed_put s (ByPacket p) x other = let c = ByPacket p in all_put (around s c) (fixed_for s c x) (λ y. refl)
 fixed_put s ByUp x other = tt
 fixed_put s ByDown x other = tt
 fixed_put s ByTake x other = tt
-fixed_put s (ByReplace policy) x other = let c = ByReplace policy in all_put (around s c) (fixed_for s c x) (λ y. refl)
-fixed_put s (ByTick clock) x other = let c = ByTick clock in all_put (around s c) (fixed_for s c x) (λ y. refl)
+fixed_put s (ByReplace policy) x other =
+    let c = ByReplace policy in all_put (around s c) (fixed_for s c x) (λ y. refl)
+fixed_put s (ByTick clock) x other =
+    let c = ByTick clock in all_put (around s c) (fixed_for s c x) (λ y. refl)
 
 -- where the cause came from
 abbrev pub from_of : Cause → Option Address
@@ -113,15 +134,14 @@ from_of ByTake = None
 from_of (ByReplace policy) = None
 from_of (ByTick clock) = None
 
-neither : (b : Bool) → (b && false) ≡ false
-neither true = refl
-neither false = refl
-
-here_away : (from place : Address) (x : Client) → same_address from place ≡ false → x.address ≡ place → is_here x from ≡ false
+here_away : (from place : Address) (x : Client) → same_address from place ≡ false → x.address ≡ place
+    → is_here x from ≡ false
 here_away from place x off at =
-    ap (λ b. has_session x.phase && b) (ap (λ a. same_address a from) at ∙ flip_address from place off) ∙ neither (has_session x.phase)
+    ap (λ b. has_session x.phase && b) (ap (λ a. same_address a from) at ∙ flip_address from place off)
+    ∙ and_no (has_session x.phase)
 
-from_away : (c : Cause) (place : Address) (x : Client) → came_from_place (from_of c) place ≡ false → x.address ≡ place → is_from c x ≡ false
+from_away : (c : Cause) (place : Address) (x : Client) → came_from_place (from_of c) place ≡ false
+    → x.address ≡ place → is_from c x ≡ false
 from_away (ByConnect from connect) place x off at = here_away from place x off at
 from_away (ByMessage from request) place x off at = here_away from place x off at
 from_away (BySource from p) place x off at = refl
@@ -157,21 +177,26 @@ takes_none Awake is = absurd cc
 takes_none Dialogue is = absurd cc
 
 -- a client with a session that is not there is elsewhere
-pub elsewhere : (place : Address) (x : Client) → has_session x.phase ≡ true → is_here x place ≡ false → same_address place x.address ≡ false
+pub elsewhere : (place : Address) (x : Client) → has_session x.phase ≡ true → is_here x place ≡ false
+    → same_address place x.address ≡ false
 elsewhere place x here off =
     flip_address x.address place (sym (ap (λ b. b && same_address x.address place) here) ∙ off)
 
-pub part_away : (id : List ℕ) (s : State) (c : Cause) (dropped : List Release) (place : Address) (x : Client) → enters_by c x ≡ false
-    → came_from_place (from_of c) place ≡ false → Sleeper id place x → sent_to place (part (around s c) dropped (fixed_for s c x) x) ≡ []
+pub part_away : (id : List ℕ) (s : State) (c : Cause) (dropped : List Release) (place : Address) (x : Client)
+    → enters_by c x ≡ false
+    → came_from_place (from_of c) place ≡ false → Sleeper id place x
+    → sent_to place (part (around s c) dropped (fixed_for s c x) x) ≡ []
 part_away id s c dropped place x other off sleeps = by_here (is_here x place) (has_session x.phase) refl refl
   where
     by_here : (here session : Bool) → is_here x place ≡ here → has_session x.phase ≡ session
         → sent_to place (part (around s c) dropped (fixed_for s c x) x) ≡ []
     by_here true session is in_session =
         none_away place (part (around s c) dropped (fixed_for s c x) x)
-        (quiet_part s c dropped x other (from_away c place x off (here_is x place is)) (ap takes_messages (sleeps is).0))
+        (quiet_part s c dropped x other (from_away c place x off (here_is x place is))
+        (ap takes_messages (sleeps is).0))
     by_here false true is in_session =
-        to_away place x.address (part (around s c) dropped (fixed_for s c x) x) (elsewhere place x in_session is)
+        to_away place x.address (part (around s c) dropped (fixed_for s c x) x)
+        (elsewhere place x in_session is)
         (part_to (around s c) dropped (fixed_for s c x) x (fixed_put s c x other))
     by_here false false is in_session =
         none_away place (part (around s c) dropped (fixed_for s c x) x)
@@ -201,10 +226,12 @@ no_entry ByTake x other = refl
 no_entry (ByReplace policy) x other = refl
 no_entry (ByTick clock) x other = refl
 
-pub rows_away : (id : List ℕ) (s : State) (c : Cause) (dropped : List Release) (place : Address) → is_connect c ≡ false
+pub rows_away : (id : List ℕ) (s : State) (c : Cause) (dropped : List Release) (place : Address)
+    → is_connect c ≡ false
     → came_from_place (from_of c) place ≡ false → Each (Sleeper id place) s.clients
     → sent_to place (flat_map (λ x. part (around s c) dropped (fixed_for s c x) x) s.clients) ≡ []
 rows_away id s c dropped place other off sleep =
     away_flat place (λ x. part (around s c) dropped (fixed_for s c x) x) s.clients
-    (each_map (Sleeper id place) (λ x. sent_to place (part (around s c) dropped (fixed_for s c x) x) ≡ []) s.clients
+    (each_map (Sleeper id place) (λ x. sent_to place (part (around s c) dropped (fixed_for s c x) x) ≡ [])
+    s.clients
     (λ x sleeps. part_away id s c dropped place x (no_entry c x other) off sleeps) sleep)

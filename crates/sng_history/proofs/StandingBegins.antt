@@ -1,5 +1,6 @@
 -- A filter begins to stand for a client just by a SUBSCRIBE from where the client is.
-use Rattle.std.proofs.Common.{◌≡◌, ℕ, Bool, true, false, List, [], ◌∷◌, ◌++◌, refl, ap, sym, ◌∙◌, subst, Ok, Err}
+use Rattle.std.proofs.Common.{◌≡◌, ℕ, Bool, true, false, List, [], ◌∷◌, ◌++◌, refl, ap, sym, ◌∙◌, subst, Ok}
+use Rattle.std.proofs.Common.{Err}
 use Rattle.std.specs.Prelude.{◌||◌, Some, None}
 use Rattle.std.specs.Str.{bytes_eq}
 use Rattle.std.specs.declared.result.Result.{Result}
@@ -29,7 +30,8 @@ use Rattle.sng_history.specs.LawsStanding.{BySubscribe, BeginsBySubscribe}
 use Rattle.sng_history.proofs.Own.{same_means, each_with}
 use Rattle.sng_history.proofs.Keeping.{exact_by}
 use Rattle.sng_history.proofs.Says.{says}
-use Rattle.sng_history.proofs.SeenState.{known_among, stands as state_stands}
+use Rattle.sng_history.proofs.SeenOrder.{known_among}
+use Rattle.sng_history.proofs.SeenState.{stands as state_stands}
 use Rattle.sng_history.proofs.StandingNotes.{standing_by_notes}
 use Rattle.sng_history.proofs.StandingStrangers.{unknown_row}
 use Rattle.sng_history.proofs.StandingLaws.{ended_beside}
@@ -40,21 +42,26 @@ abbrev Unmoved : List Row → List ℕ → Event → List Out → Type 0
 Unmoved h id e outs = standing_after (message_at e) id outs (standing_of id h) ≡ standing_of id h
 
 -- none of its notes is in the row
-elsewhere_by : (s : State) (from : Address) (r : TopicRequest) (x : Client) (here : Bool) → is_here x from ≡ here → here ≡ false
+elsewhere_by : (s : State) (from : Address) (r : TopicRequest) (x : Client) (here : Bool)
+    → is_here x from ≡ here → here ≡ false
     → fixed_for s (ByMessage from (ToSubscribe r)) x ≡ []
 elsewhere_by s from r x true is away = absurd cc
 elsewhere_by s from r x false is away = rw is refl
 
-here_same : (h : List Row) (x : Client) (from : Address) → ClientShown h x → is_at x.id from h ≡ is_here x from
+here_same : (h : List Row) (x : Client) (from : Address) → ClientShown h x
+    → is_at x.id from h ≡ is_here x from
 here_same h x from shown = rw (shown.phase, shown.address) refl
 
-known_quiet : (outs : List Out) (id : List ℕ) (P : Client → Type 0) (xs : List Client) → is_known id xs ≡ true → Each P xs
+known_quiet : (outs : List Out) (id : List ℕ) (P : Client → Type 0) (xs : List Client) → is_known id xs ≡ true
+    → Each P xs
     → ((x : Client) → bytes_eq id x.id ≡ true → P x → notes_of x.id outs ≡ [])
     → notes_of id outs ≡ []
 known_quiet outs id P [] known all quiet = absurd cc
-known_quiet outs id P (x ∷ xs) known all quiet = at (bytes_eq id x.id) refl known (λ later. known_quiet outs id P xs later all.1 quiet)
+known_quiet outs id P (x ∷ xs) known all quiet =
+    at (bytes_eq id x.id) refl known (λ later. known_quiet outs id P xs later all.1 quiet)
   where
-    at : (b : Bool) → bytes_eq id x.id ≡ b → (b || is_known id xs) ≡ true → (is_known id xs ≡ true → notes_of id outs ≡ [])
+    at : (b : Bool) → bytes_eq id x.id ≡ b → (b || is_known id xs) ≡ true
+        → (is_known id xs ≡ true → notes_of id outs ≡ [])
         → notes_of id outs ≡ []
     at true is known rest = ap (λ i. notes_of i outs) (same_means id x.id is) ∙ quiet x is all.0
     at false is known rest = rest known
@@ -65,9 +72,11 @@ each_left P (x ∷ xs) ys all = (all.0, each_left P xs ys all.1)
 
 -- what the rows show of a client that is known
 abbrev Told : List Row → State → List Out → TopicRequest → Address → Client → Type 0
-Told h s outs r from x = ClientShown h x × (notes_of x.id outs ≡ fixed_for s (ByMessage from (ToSubscribe r)) x)
+Told h s outs r from x =
+    ClientShown h x × (notes_of x.id outs ≡ fixed_for s (ByMessage from (ToSubscribe r)) x)
 
-elsewhere : (h : List Row) (s : State) (from : Address) (r : TopicRequest) (id : List ℕ) → Good s → Each (ClientShown h) s.clients
+elsewhere : (h : List Row) (s : State) (from : Address) (r : TopicRequest) (id : List ℕ) → Good s
+    → Each (ClientShown h) s.clients
     → is_known id s.clients ≡ true → is_at id from h ≡ false
     → notes_of id (outs_by s (ByMessage from (ToSubscribe r))) ≡ []
 elsewhere h s from r id good shown known away =
@@ -83,14 +92,17 @@ elsewhere h s from r id good shown known away =
 
 -- ---- each row
 
-unmoved_read : (h : List Row) (s : State) (from : Address) (datagram : List ℕ) (r : TopicRequest) (id : List ℕ) (known : Bool)
+unmoved_read : (h : List Row) (s : State) (from : Address) (datagram : List ℕ) (r : TopicRequest)
+    (id : List ℕ) (known : Bool)
     → is_known id s.clients ≡ known → frame_of datagram ≡ Ok (frame.Subscribe r)
-    → Good s → Each (ClientShown h) s.clients → (is_known id s.clients ≡ false → standing_of id h ≡ []) → is_at id from h ≡ false
+    → Good s → Each (ClientShown h) s.clients → (is_known id s.clients ≡ false → standing_of id h ≡ [])
+    → is_at id from h ≡ false
     → Unmoved h id (Datagram from datagram) (outs_of s (Datagram from datagram))
 unmoved_read h s from datagram r id true is read good shown none away =
     let e = Datagram from datagram in
     let quiet : notes_of id (outs_of s e) ≡ [] =
-    ap (λ d. notes_of id (outs_by s (datagram_cause from d))) read ∙ elsewhere h s from r id good shown is away in
+    ap (λ d. notes_of id (outs_by s (datagram_cause from d))) read
+    ∙ elsewhere h s from r id good shown is away in
     standing_by_notes (message_at e) id (outs_of s e) (standing_of id h) ∙ (rw quiet refl)
 unmoved_read h s from datagram r id false is read good shown none away =
     let e = Datagram from datagram in
@@ -100,12 +112,19 @@ unmoved_read h s from datagram r id false is read good shown none away =
 never : (a : Bool) → a ≡ true → a ≡ false → ⊥
 never a is is_not = absurd (let bad : true ≡ false = sym is ∙ is_not in cc)
 
-begins_read : (h : List Row) (row : Row) (id text : List ℕ) (from : Address) (datagram : List ℕ) (read : Result SnFrame FrameFault)
+begins_read : (h : List Row) (row : Row) (id text : List ℕ) (from : Address) (datagram : List ℕ)
+    (read : Result SnFrame FrameFault)
     → row.event ≡ Datagram from datagram → frame_of datagram ≡ read
-    → Lawful opening (row ∷ h) → stands (standing_of id h) text ≡ false → stands (standing_of id (row ∷ h)) text ≡ true
+    → Lawful opening (row ∷ h) → stands (standing_of id h) text ≡ false
+    → stands (standing_of id (row ∷ h)) text ≡ true
     → BySubscribe h row id
 begins_read h row id text from datagram (Ok (frame.Subscribe r)) is read l before after =
-    record { from = from; request = r; brought = record { datagram = datagram; event = is; reads = read }; at = there (is_at id from h) refl }
+    record {
+      from = from;
+      request = r;
+      brought = record { datagram = datagram; event = is; reads = read };
+      at = there (is_at id from h) refl;
+    }
   where
     s : State
     s = state_of opening h
@@ -116,27 +135,36 @@ begins_read h row id text from datagram (Ok (frame.Subscribe r)) is read l befor
         let was = state_stands h l.0 in
         let e = Datagram from datagram in
         let known : is_known id s.clients ≡ false → standing_of id h ≡ [] =
-        λ none. was.shown.strangers id (sym (ap (is_among id) was.shown.order) ∙ (known_among id s.clients ∙ none)) in
-        let outs : row.outs ≡ outs_of s e = exact_by s (cause_of row.event) row.outs l.1 ∙ ap (outs_of s) is in
+        λ none. was.shown.strangers id
+        (sym (ap (is_among id) was.shown.order) ∙ (known_among id s.clients ∙ none)) in
+        let outs : row.outs ≡ outs_of s e =
+        exact_by s (cause_of row.event) row.outs l.1 ∙ ap (outs_of s) is in
         let same : standing_of id (row ∷ h) ≡ standing_of id h =
         ap (λ d. standing_after (message_at d) id row.outs (standing_of id h)) is
         ∙ (ap (λ o. standing_after (message_at e) id o (standing_of id h)) outs
-        ∙ unmoved_read h s from datagram r id (is_known id s.clients) refl read was.good was.shown.clients known at) in
-        absurd (never (stands (standing_of id (row ∷ h)) text) after (ap (λ held. stands held text) same ∙ before))
+        ∙ unmoved_read h s from datagram r id
+        (is_known id s.clients) refl read was.good was.shown.clients known at) in
+        absurd (never (stands (standing_of id (row ∷ h)) text) after
+        (ap (λ held. stands held text) same ∙ before))
 begins_read h row id text from datagram (Ok (frame.Disconnect None)) is read l before after =
     absurd (never (stands (standing_of id (row ∷ h)) text) after
-    (ended_beside h row id text before (ap (λ e. subscribe_in (message_at e)) is ∙ ap (λ d. subscribe_in (message_in d)) read)))
+    (ended_beside h row id text before
+    (ap (λ e. subscribe_in (message_at e)) is ∙ ap (λ d. subscribe_in (message_in d)) read)))
 begins_read h row id text from datagram (Ok (frame.Disconnect (Some duration))) is read l before after =
     absurd (never (stands (standing_of id (row ∷ h)) text) after
-    (ended_beside h row id text before (ap (λ e. subscribe_in (message_at e)) is ∙ ap (λ d. subscribe_in (message_in d)) read)))
+    (ended_beside h row id text before
+    (ap (λ e. subscribe_in (message_at e)) is ∙ ap (λ d. subscribe_in (message_in d)) read)))
 begins_read h row id text from datagram (Ok message) is read l before after =
     absurd (never (stands (standing_of id (row ∷ h)) text) after
-    (ended_beside h row id text before (ap (λ e. subscribe_in (message_at e)) is ∙ ap (λ d. subscribe_in (message_in d)) read)))
+    (ended_beside h row id text before
+    (ap (λ e. subscribe_in (message_at e)) is ∙ ap (λ d. subscribe_in (message_in d)) read)))
 begins_read h row id text from datagram (Err broke) is read l before after =
     absurd (never (stands (standing_of id (row ∷ h)) text) after
-    (ended_beside h row id text before (ap (λ e. subscribe_in (message_at e)) is ∙ ap (λ d. subscribe_in (message_in d)) read)))
+    (ended_beside h row id text before
+    (ap (λ e. subscribe_in (message_at e)) is ∙ ap (λ d. subscribe_in (message_in d)) read)))
 
-begins_at : (h : List Row) (row : Row) (id text : List ℕ) (e : Event) → row.event ≡ e → Lawful opening (row ∷ h)
+begins_at : (h : List Row) (row : Row) (id text : List ℕ) (e : Event) → row.event ≡ e
+    → Lawful opening (row ∷ h)
     → stands (standing_of id h) text ≡ false → stands (standing_of id (row ∷ h)) text ≡ true
     → BySubscribe h row id
 begins_at h row id text (Datagram from datagram) is l before after =

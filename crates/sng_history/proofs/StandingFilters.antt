@@ -18,35 +18,47 @@ use Rattle.sng_history.specs.ViewsStanding.{standing_of}
 use Rattle.sng_history.proofs.Own.{same_means}
 use Rattle.sng_history.proofs.HeldFilters.{OwnFilters, filters_next, stands_filter}
 use Rattle.sng_history.proofs.Keeping.{exact_by, next_same}
-use Rattle.sng_history.proofs.SeenState.{ids_of, stands as state_stands}
+use Rattle.sng_history.proofs.SeenOrder.{ids_of}
+use Rattle.sng_history.proofs.SeenState.{stands as state_stands}
 use Rattle.sng_history.proofs.StandingState.{FiltersShown, standing_shown}
 
-are_after : (s : State) (e : Event) (outs : List Out) → outs ≡ outs_of s e → Good s → Each OwnFilters s.clients → Each OwnFilters (after s (cause_of e) outs).clients
+are_after : (s : State) (e : Event) (outs : List Out) → outs ≡ outs_of s e → Good s
+    → Each OwnFilters s.clients → Each OwnFilters (after s (cause_of e) outs).clients
 are_after s e outs is good are =
     subst (λ o. Each OwnFilters (after s (cause_of e) o).clients) (sym is)
-    (subst (λ t. Each OwnFilters t.clients) (sym (next_same s (cause_of e) good)) (filters_next s (cause_of e) are))
+    (subst (λ t. Each OwnFilters t.clients) (sym (next_same s (cause_of e) good))
+    (filters_next s (cause_of e) are))
 
 pub are_filters : (h : List Row) → Lawful opening h → Each OwnFilters (state_of opening h).clients
 are_filters [] l = tt
 are_filters (row ∷ h) l =
-    let s = state_of opening h in are_after s row.event row.outs (exact_by s (cause_of row.event) row.outs l.1) (state_stands h l.0).good (are_filters h l.0)
+    let s = state_of opening h in
+    are_after s row.event row.outs (exact_by s (cause_of row.event) row.outs l.1)
+    (state_stands h l.0).good (are_filters h l.0)
 
-among_filters : (h : List Row) (id text : List ℕ) (xs : List Client) (b : Bool) → is_among id (ids_of xs) ≡ b → (b ≡ false → standing_of id h ≡ []) → Each OwnFilters xs → Each (FiltersShown h) xs
+among_filters : (h : List Row) (id text : List ℕ) (xs : List Client) (b : Bool) → is_among id (ids_of xs) ≡ b
+    → (b ≡ false → standing_of id h ≡ []) → Each OwnFilters xs → Each (FiltersShown h) xs
     → stands (standing_of id h) text ≡ true → is_filter text ≡ true
-among_filters h id text xs false is none are shown stood = absurd (let bad : false ≡ true = subst (λ held. stands held text ≡ true) (none refl) stood in cc)
+among_filters h id text xs false is none are shown stood =
+    absurd (let bad : false ≡ true = subst (λ held. stands held text ≡ true) (none refl) stood in cc)
 among_filters h id text [] true is none are shown stood = absurd cc
 among_filters h id text (x ∷ xs) true is none are shown stood =
-    at (bytes_eq id x.id) refl is (λ later. among_filters h id text xs true later (λ bad. absurd cc) are.1 shown.1 stood)
+    at (bytes_eq id x.id) refl is
+    (λ later. among_filters h id text xs true later (λ bad. absurd cc) are.1 shown.1 stood)
   where
-    at : (same : Bool) → bytes_eq id x.id ≡ same → (same || is_among id (ids_of xs)) ≡ true → (is_among id (ids_of xs) ≡ true → is_filter text ≡ true) → is_filter text ≡ true
+    at : (same : Bool) → bytes_eq id x.id ≡ same → (same || is_among id (ids_of xs)) ≡ true
+        → (is_among id (ids_of xs) ≡ true → is_filter text ≡ true) → is_filter text ≡ true
     at true same is rest =
         let e : id ≡ x.id = same_means id x.id same in
-        stands_filter x.filters text are.0 (subst (λ held. stands held text ≡ true) (ap (λ i. standing_of i h) e ∙ sym shown.0) stood)
+        stands_filter x.filters text are.0
+        (subst (λ held. stands held text ≡ true) (ap (λ i. standing_of i h) e ∙ sym shown.0) stood)
     at false same is rest = rest is
 
-pub standing_filter : (h : List Row) → Lawful opening h → (id text : List ℕ) → stands (standing_of id h) text ≡ true → is_filter text ≡ true
+pub standing_filter : (h : List Row) → Lawful opening h → (id text : List ℕ)
+    → stands (standing_of id h) text ≡ true → is_filter text ≡ true
 standing_filter h l id text stood =
     let s = state_of opening h in
     let shown = standing_shown h l in
     among_filters h id text s.clients (is_among id (ids_of s.clients)) refl
-    (λ none. shown.strangers id (subst (λ ids. is_among id ids ≡ false) (state_stands h l).shown.order none)) (are_filters h l) shown.filters stood
+    (λ none. shown.strangers id (subst (λ ids. is_among id ids ≡ false) (state_stands h l).shown.order none))
+    (are_filters h l) shown.filters stood

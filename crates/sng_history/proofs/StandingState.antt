@@ -10,7 +10,8 @@ use Rattle.sng_history.specs.ViewsClients.{is_among, accepted}
 use Rattle.sng_history.specs.ViewsStanding.{standing_of, held_by, held_in}
 use Rattle.sng_history.specs.LawsState.{ClientShown}
 use Rattle.sng_history.proofs.Own.{each_map}
-use Rattle.sng_history.proofs.SeenState.{ids_of, stands}
+use Rattle.sng_history.proofs.SeenOrder.{ids_of}
+use Rattle.sng_history.proofs.SeenState.{stands}
 
 -- what stands for a client is what the rows show
 abbrev pub FiltersShown : List Row → Client → Type 0
@@ -25,14 +26,20 @@ pub standing_shown : (h : List Row) → Lawful opening h → StandingShown h (st
 standing_shown h l =
     let s = state_of opening h in
     let shown = (stands h l).shown in
-    record { filters = each_map (ClientShown h) (FiltersShown h) s.clients (λ x is. is.filters) shown.clients; strangers = shown.strangers }
+    record {
+      filters = each_map (ClientShown h) (FiltersShown h) s.clients (λ x is. is.filters) shown.clients;
+      strangers = shown.strangers;
+    }
 
 -- ---- for whom a filter stands
 
-held_same : (h : List Row) (xs : List Client) (text : List ℕ) → Each (FiltersShown h) xs → held_by (ids_of xs) h text ≡ is_held xs text
+held_same : (h : List Row) (xs : List Client) (text : List ℕ) → Each (FiltersShown h) xs
+    → held_by (ids_of xs) h text ≡ is_held xs text
 held_same h [] text shown = refl
 held_same h (x ∷ xs) text shown = rw (sym shown.0, held_same h xs text shown.1) refl
 
-pub held_shown : (h : List Row) (s : State) (text : List ℕ) → ids_of s.clients ≡ accepted h → Each (FiltersShown h) s.clients
+pub held_shown : (h : List Row) (s : State) (text : List ℕ) → ids_of s.clients ≡ accepted h
+    → Each (FiltersShown h) s.clients
     → held_in h text ≡ is_held s.clients text
-held_shown h s text order shown = ap (λ ids. held_by ids h text) (sym order) ∙ held_same h s.clients text shown
+held_shown h s text order shown =
+    ap (λ ids. held_by ids h text) (sym order) ∙ held_same h s.clients text shown

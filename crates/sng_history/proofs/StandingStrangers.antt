@@ -29,7 +29,7 @@ use Rattle.sng_history.proofs.Own.{OnlyAbout, each_all, absent}
 use Rattle.sng_history.proofs.Kept.{unknown_away}
 use Rattle.sng_history.proofs.Spelled.{part_other}
 use Rattle.sng_history.proofs.Told.{tells}
-use Rattle.sng_history.proofs.Says.{part_for, drops_for}
+use Rattle.sng_history.proofs.SaysParts.{part_for, drops_for}
 use Rattle.sng_history.proofs.StandingNotes.{standing_notes}
 
 if_none : (b : Bool) → (if b then (let none : List Held = [] in none) else []) ≡ []
@@ -41,16 +41,22 @@ none_left None = refl
 none_left (Some text) = refl
 
 -- where no SUBSCRIBE is asked nothing begins to stand
-none_by : (m : Option Message) (id : List ℕ) (said : Decision) → subscribe_in m ≡ None → standing_by m id said [] ≡ []
-none_by m id (note.Connect client outcome) quiet = if_none (bytes_eq id client && (is_allowed outcome && is_clean m))
-none_by m id (note.Subscribe whom text outcome) quiet = rw quiet (if_none (speaks_of id whom && is_allowed outcome))
-none_by m id (note.Unsubscribe whom text outcome) quiet = rw (none_left text) (if_none (speaks_of id whom && is_allowed outcome))
+none_by : (m : Option Message) (id : List ℕ) (said : Decision) → subscribe_in m ≡ None
+    → standing_by m id said [] ≡ []
+none_by m id (note.Connect client outcome) quiet =
+    if_none (bytes_eq id client && (is_allowed outcome && is_clean m))
+none_by m id (note.Subscribe whom text outcome) quiet =
+    rw quiet (if_none (speaks_of id whom && is_allowed outcome))
+none_by m id (note.Unsubscribe whom text outcome) quiet =
+    rw (none_left text) (if_none (speaks_of id whom && is_allowed outcome))
 none_by m id (note.End client text outcome) quiet = if_none (bytes_eq id client)
 none_by m id _ quiet = refl
 
-none_notes : (m : Option Message) (id : List ℕ) (notes : List Decision) → subscribe_in m ≡ None → standing_notes m id notes [] ≡ []
+none_notes : (m : Option Message) (id : List ℕ) (notes : List Decision) → subscribe_in m ≡ None
+    → standing_notes m id notes [] ≡ []
 none_notes m id [] quiet = refl
-none_notes m id (said ∷ notes) quiet = ap (standing_notes m id notes) (none_by m id said quiet) ∙ none_notes m id notes quiet
+none_notes m id (said ∷ notes) quiet =
+    ap (standing_notes m id notes) (none_by m id said quiet) ∙ none_notes m id notes quiet
 
 -- a SUBSCRIBE makes no note of a client that is not known
 only_about : (s : State) (c : Cause) (x : Client) → OnlyAbout (part_for s c (drops_for s c)) x
@@ -62,22 +68,27 @@ unknown_notes : (s : State) (from : Address) (r : TopicRequest) (id : List ℕ) 
 unknown_notes s from r id true is unknown =
     let c = ByMessage from (ToSubscribe r) in
     rw is
-    (absent (part_for s c (drops_for s c)) id s.clients (each_all (OnlyAbout (part_for s c (drops_for s c))) s.clients (only_about s c))
+    (absent (part_for s c (drops_for s c)) id s.clients
+    (each_all (OnlyAbout (part_for s c (drops_for s c))) s.clients (only_about s c))
     (unknown_away id s.clients unknown))
 unknown_notes s from r id false is unknown = rw is refl
 
-unknown_datagram : (s : State) (from : Address) (read : Result SnFrame FrameFault) (id : List ℕ) → is_known id s.clients ≡ false
+unknown_datagram : (s : State) (from : Address) (read : Result SnFrame FrameFault) (id : List ℕ)
+    → is_known id s.clients ≡ false
     → standing_notes (message_in read) id (notes_of id (outs_by s (datagram_cause from read))) [] ≡ []
 unknown_datagram s from (Ok (frame.Subscribe r)) id unknown =
     rw (unknown_notes s from r id (any_from (ByMessage from (ToSubscribe r)) s.clients) refl unknown) refl
 unknown_datagram s from (Ok (frame.Disconnect None)) id unknown =
-    let c = datagram_cause from (Ok (frame.Disconnect None)) in none_notes (Some Other) id (notes_of id (outs_by s c)) refl
+    let c = datagram_cause from (Ok (frame.Disconnect None)) in
+    none_notes (Some Other) id (notes_of id (outs_by s c)) refl
 unknown_datagram s from (Ok (frame.Disconnect (Some duration))) id unknown =
     let c =
-    datagram_cause from (Ok (frame.Disconnect (Some duration))) in none_notes (Some (Sleeps duration)) id (notes_of id (outs_by s c)) refl
+    datagram_cause from (Ok (frame.Disconnect (Some duration))) in
+    none_notes (Some (Sleeps duration)) id (notes_of id (outs_by s c)) refl
 unknown_datagram s from (Ok message) id unknown =
     none_notes (message_in (Ok message)) id (notes_of id (outs_by s (datagram_cause from (Ok message)))) refl
-unknown_datagram s from (Err broke) id unknown = none_notes None id (notes_of id (outs_by s (datagram_cause from (Err broke)))) refl
+unknown_datagram s from (Err broke) id unknown =
+    none_notes None id (notes_of id (outs_by s (datagram_cause from (Err broke)))) refl
 
 pub unknown_row : (s : State) (e : Event) (id : List ℕ) → is_known id s.clients ≡ false
     → standing_notes (message_at e) id (notes_of id (outs_of s e)) [] ≡ []

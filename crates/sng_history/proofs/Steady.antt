@@ -1,10 +1,11 @@
--- What the answer of a client and a message of the broker leave of a client, before any note, and what handing over leaves: all but when
--- it was heard, its topic ids, the MsgId that was given last, and what waits for it. Sleep and wake-up leave it where it is, and what
--- stands for it.
+-- What the answer of a client and a message of the broker leave of a client, before any note, and what
+-- handing over leaves: all but when it was heard, its topic ids, the MsgId that was given last, and what
+-- waits for it. Sleep and wake-up leave it where it is, and what stands for it.
 use Rattle.std.proofs.Common.{◌≡◌, ℕ, Bool, true, false, List, refl, ap, sym, ◌∙◌}
 use Rattle.std.specs.Prelude.{◌==◌, ◌&&◌, if◌then◌else◌, is_none, slice_get, Option, Some, None}
 use Rattle.sng_states.specs.declared.state.ClientState.{ClientState}
-use Rattle.sng_states.specs.declared.state.ClientState.TheVariants.{Dialogue, Active, Asleep, Awake, Disconnected, Lost}
+use Rattle.sng_states.specs.declared.state.ClientState.TheVariants.{Dialogue, Active, Asleep, Awake}
+use Rattle.sng_states.specs.declared.state.ClientState.TheVariants.{Disconnected, Lost}
 use Rattle.sng_states.specs.States.{has_session, in_dialogue, is_due_messages, is_asleep, is_awake}
 use Rattle.sng_frames.specs.declared.messages.acks.TopicAck.{TopicAck}
 use Rattle.sng_book.specs.declared.decision.Decision.{Decision}
@@ -12,11 +13,17 @@ use Rattle.sng_book.specs.declared.outcome.Outcome.{Outcome}
 use Rattle.sng_book.specs.declared.outcome.Outcome.TheVariants.{Allowed, Denied}
 use Rattle.sng_ids.specs.Ids.{confirmed}
 use Rattle.sng_queue.specs.Buffers.{settle}
-use Rattle.sng_history.specs.Causes.{Request, ToPing, ToLeave, ToSleep, ToRegister, ToPublish, ToSubscribe, ToUnsubscribe, ToConfirm, ToAcknowledge, ToState, Untaken, Cause, request_of}
-use Rattle.sng_history.specs.Causes.{ByConnect, ByMessage, BySource, ByBroken, ByPacket, ByUp, ByDown, ByTake, ByReplace, ByTick}
-use Rattle.sng_history.specs.Clients.{Around, Client, is_author, is_confirming, is_acknowledging, is_waking, closed, confirmed_with, asleep, awake}
-use Rattle.sng_history.specs.Clients.{names_own, answered_by, delivered_by, start_by, announced, is_turned_away, handed, repeated}
+use Rattle.sng_history.specs.Causes.{Request, ToPing, ToLeave, ToSleep, ToRegister, ToPublish, ToSubscribe}
+use Rattle.sng_history.specs.Causes.{ToUnsubscribe, ToConfirm, ToAcknowledge, ToState, Untaken, Cause}
+use Rattle.sng_history.specs.Causes.{request_of}
+use Rattle.sng_history.specs.Causes.{ByConnect, ByMessage, BySource, ByBroken, ByPacket, ByUp, ByDown, ByTake}
+use Rattle.sng_history.specs.Causes.{ByReplace, ByTick}
+use Rattle.sng_history.specs.Clients.{Around, Client, is_author, is_confirming, is_acknowledging, is_waking}
+use Rattle.sng_history.specs.Clients.{closed, confirmed_with, asleep, awake}
+use Rattle.sng_history.specs.Clients.{names_own, answered_by, delivered_by, start_by, announced}
+use Rattle.sng_history.specs.Clients.{is_turned_away, handed, repeated}
 use Rattle.sng_history.specs.Clients.{notes_by, is_drained, drained, client_by}
+use Rattle.sng_history.proofs.Booleans.{left_holds}
 
 -- the client is the same, where it was and as it stood, and what stands for it stays
 pub record Steady (x y : Client) : Type 0 where
@@ -28,7 +35,8 @@ pub record Steady (x y : Client) : Type 0 where
   pub duration : y.duration ≡ x.duration
 
 pub steady_self : (x : Client) → Steady x x
-steady_self x = record { id = refl; address = refl; phase = refl; filters = refl; wills = refl; duration = refl }
+steady_self x =
+    record { id = refl; address = refl; phase = refl; filters = refl; wills = refl; duration = refl }
 
 pub steady_then : (x y z : Client) → Steady x y → Steady y z → Steady x z
 steady_then x y z one two = record {
@@ -47,22 +55,27 @@ steady_if false x y z one two = two
 -- ---- before any note
 
 pub heard_steady : (heard : ℕ) (x : Client) → Steady x (record x { heard = heard })
-heard_steady heard x = record { id = refl; address = refl; phase = refl; filters = refl; wills = refl; duration = refl }
+heard_steady heard x =
+    record { id = refl; address = refl; phase = refl; filters = refl; wills = refl; duration = refl }
 
 pub closed_steady : (x : Client) → Steady x (closed x)
-closed_steady x = record { id = refl; address = refl; phase = refl; filters = refl; wills = refl; duration = refl }
+closed_steady x =
+    record { id = refl; address = refl; phase = refl; filters = refl; wills = refl; duration = refl }
 
 pub confirmed_steady : (r : TopicAck) (x : Client) → Steady x (confirmed_with r x)
 confirmed_steady r x = by_code (r.code.0 == 0) r x
   where
-    by_code : (accepted : Bool) (r : TopicAck) (x : Client) → Steady x (if accepted then record (closed x) { ids = confirmed r.topic_id x.ids } else x)
-    by_code true r x = record { id = refl; address = refl; phase = refl; filters = refl; wills = refl; duration = refl }
+    by_code : (accepted : Bool) (r : TopicAck) (x : Client)
+        → Steady x (if accepted then record (closed x) { ids = confirmed r.topic_id x.ids } else x)
+    by_code true r x =
+        record { id = refl; address = refl; phase = refl; filters = refl; wills = refl; duration = refl }
     by_code false r x = steady_self x
 
 pub confirmed_id : (r : TopicAck) (x : Client) → (confirmed_with r x).id ≡ x.id
 confirmed_id r x = (confirmed_steady r x).id
 
--- it has a session or none, and a dialogue or none, as before; it is where it was, and what stands for it stays
+-- it has a session or none, and a dialogue or none, as before; it is where it was, and what stands for it
+-- stays
 pub record Lasting (x y : Client) : Type 0 where
   pub id : y.id ≡ x.id
   pub address : y.address ≡ x.address
@@ -127,30 +140,38 @@ awake_settled Dialogue is = absurd cc
 awake_settled Disconnected is = absurd cc
 awake_settled Lost is = absurd cc
 
-pub left_holds : (a b : Bool) → (a && b) ≡ true → a ≡ true
-left_holds true b is = refl
-left_holds false b is = absurd cc
-
-pub right_holds : (a b : Bool) → (a && b) ≡ true → b ≡ true
-right_holds true b is = is
-right_holds false b is = absurd cc
-
-pub asleep_lasts : (duration : ℕ) (x : Client) → Lasting x (if is_due_messages x.phase then asleep duration x else x)
+pub asleep_lasts : (duration : ℕ) (x : Client)
+    → Lasting x (if is_due_messages x.phase then asleep duration x else x)
 asleep_lasts duration x = by_due (is_due_messages x.phase) refl
   where
     by_due : (due : Bool) → is_due_messages x.phase ≡ due → Lasting x (if due then asleep duration x else x)
     by_due true is =
         let settled = due_settled x.phase is in
-        record { id = refl; address = refl; here = sym settled.here; talks = sym settled.talks; filters = refl; wills = refl }
+        record {
+          id = refl;
+          address = refl;
+          here = sym settled.here;
+          talks = sym settled.talks;
+          filters = refl;
+          wills = refl;
+        }
     by_due false is = lasting_self x
 
-pub awake_lasts : (client : Option (List ℕ)) (x : Client) → Lasting x (if is_waking client x then awake x else x)
+pub awake_lasts : (client : Option (List ℕ)) (x : Client)
+    → Lasting x (if is_waking client x then awake x else x)
 awake_lasts client x = by_waking (is_waking client x) refl
   where
     by_waking : (wakes : Bool) → is_waking client x ≡ wakes → Lasting x (if wakes then awake x else x)
     by_waking true is =
         let settled = asleep_settled x.phase (left_holds (is_asleep x.phase) (names_own client x.id) is) in
-        record { id = refl; address = refl; here = sym settled.here; talks = sym settled.talks; filters = refl; wills = refl }
+        record {
+          id = refl;
+          address = refl;
+          here = sym settled.here;
+          talks = sym settled.talks;
+          filters = refl;
+          wills = refl;
+        }
     by_waking false is = lasting_self x
 
 answered_lasts : (request : Option Request) (x : Client) → Lasting x (answered_by request x)
@@ -172,7 +193,8 @@ answered_lasts (Some (Untaken message)) x = lasting_self x
 answered_lasts None x = lasting_self x
 
 delivered_steady : (c : Cause) (x : Client) → Steady x (delivered_by c x)
-delivered_steady (ByPacket p) x = record { id = refl; address = refl; phase = refl; filters = refl; wills = refl; duration = refl }
+delivered_steady (ByPacket p) x =
+    record { id = refl; address = refl; phase = refl; filters = refl; wills = refl; duration = refl }
 delivered_steady (ByConnect from connect) x = steady_self x
 delivered_steady (ByMessage from request) x = steady_self x
 delivered_steady (BySource from p) x = steady_self x
@@ -197,17 +219,24 @@ start_filters a x = (start_lasts a x).filters
 -- ---- the notes of messages
 
 pub announced_steady : (clock : ℕ) (name : List ℕ) (x : Client) → Steady x (announced clock name x)
-announced_steady clock name x = record { id = refl; address = refl; phase = refl; filters = refl; wills = refl; duration = refl }
+announced_steady clock name x =
+    record { id = refl; address = refl; phase = refl; filters = refl; wills = refl; duration = refl }
 
 settled_steady : (x : Client) → Steady x (record x { buffer = settle x.buffer })
-settled_steady x = record { id = refl; address = refl; phase = refl; filters = refl; wills = refl; duration = refl }
+settled_steady x =
+    record { id = refl; address = refl; phase = refl; filters = refl; wills = refl; duration = refl }
 
-pub handed_steady : (a : Around) (name : List ℕ) (outcome : Outcome) (x : Client) → Steady x (handed a name outcome x)
-handed_steady a name Allowed x = record { id = refl; address = refl; phase = refl; filters = refl; wills = refl; duration = refl }
-handed_steady a name (Denied rule) x = steady_if (is_turned_away rule) x x (record x { buffer = settle x.buffer }) (steady_self x) (settled_steady x)
+pub handed_steady : (a : Around) (name : List ℕ) (outcome : Outcome) (x : Client)
+    → Steady x (handed a name outcome x)
+handed_steady a name Allowed x =
+    record { id = refl; address = refl; phase = refl; filters = refl; wills = refl; duration = refl }
+handed_steady a name (Denied rule) x =
+    steady_if (is_turned_away rule) x x (record x { buffer = settle x.buffer }) (steady_self x)
+    (settled_steady x)
 
 pub repeated_steady : (clock : ℕ) (outcome : Outcome) (x : Client) → Steady x (repeated clock outcome x)
-repeated_steady clock Allowed x = record { id = refl; address = refl; phase = refl; filters = refl; wills = refl; duration = refl }
+repeated_steady clock Allowed x =
+    record { id = refl; address = refl; phase = refl; filters = refl; wills = refl; duration = refl }
 repeated_steady clock (Denied rule) x = closed_steady x
 
 -- ---- behind all notes
@@ -215,11 +244,20 @@ repeated_steady clock (Denied rule) x = closed_steady x
 pub drained_lasts : (x : Client) → Lasting x (drained x)
 drained_lasts x = by_drained (is_drained x) refl
   where
-    by_drained : (is_so : Bool) → is_drained x ≡ is_so → Lasting x (if is_so then record x { phase = Asleep } else x)
+    by_drained : (is_so : Bool) → is_drained x ≡ is_so
+        → Lasting x (if is_so then record x { phase = Asleep } else x)
     by_drained true is =
         let settled = awake_settled x.phase
-        (left_holds (is_awake x.phase) (is_none (slice_get x.buffer.waiting 0) && is_none x.buffer.exchange) is) in
-        record { id = refl; address = refl; here = sym settled.here; talks = sym settled.talks; filters = refl; wills = refl }
+        (left_holds (is_awake x.phase)
+        (is_none (slice_get x.buffer.waiting 0) && is_none x.buffer.exchange) is) in
+        record {
+          id = refl;
+          address = refl;
+          here = sym settled.here;
+          talks = sym settled.talks;
+          filters = refl;
+          wills = refl;
+        }
     by_drained false is = lasting_self x
 
 pub undrained : (x : Client) → is_drained x ≡ false → drained x ≡ x

@@ -15,16 +15,18 @@ use Rattle.sng_history.specs.Links.{Link}
 use Rattle.sng_history.specs.Room.{room_in}
 use Rattle.sng_history.specs.State.{State, around, later}
 use Rattle.sng_history.specs.Outgoing.{all_gone, receive, handed_over}
-use Rattle.sng_history.specs.Ticking.{is_unanswered, is_repeating, is_lost_at, will_of, testaments, all_placed}
-use Rattle.sng_history.specs.Losing.{before, unplaced, will_dropped, lost_notes, message_open, judged_again, message_again, exchange_again}
+use Rattle.sng_history.specs.Ticking.{is_unanswered, is_repeating, is_lost_at, will_of, testaments}
+use Rattle.sng_history.specs.Ticking.{all_placed}
+use Rattle.sng_history.specs.Losing.{before, unplaced, will_dropped, lost_notes, message_open, judged_again}
+use Rattle.sng_history.specs.Losing.{message_again, exchange_again}
 use Rattle.sng_history.specs.Losing.{again_notes}
 use Rattle.sng_history.specs.Steps.{client_next}
 use Rattle.sng_history.specs.Good.{AtRest}
 use Rattle.sng_history.proofs.Hands.{gone_stays}
 use Rattle.sng_history.proofs.Statements.{notes_both}
 use Rattle.sng_history.proofs.Turns.{denied_settles}
-use Rattle.sng_history.proofs.Steady.{left_holds}
 use Rattle.sng_history.proofs.Served.{Rested, rested, rest_drained, InSession, rest_served, taking}
+use Rattle.sng_history.proofs.Booleans.{left_holds}
 
 -- ---- a client that is lost
 
@@ -40,7 +42,8 @@ dropped_stays s clock link id [] x = refl
 dropped_stays s clock link id (p ∷ ps) x = unplaced_stays s clock id p (room_in link p.qos) x
 
 -- the notes of a client that is lost make just this of it
-pub lost_next : (s : State) (clock : ℕ) (link : Link) (x : Client) → notes_by (around s (ByTick clock)) (lost_notes link x) x ≡ lost x
+pub lost_next : (s : State) (clock : ℕ) (link : Link) (x : Client)
+    → notes_by (around s (ByTick clock)) (lost_notes link x) x ≡ lost x
 lost_next s clock link x =
     let a = around s (ByTick clock) in
     let will = will_of x.id x.wills.will in
@@ -51,7 +54,8 @@ lost_next s clock link x =
 -- ---- one with whom something is open
 
 -- it is sent again
-rest_sent : (clock : ℕ) (x : Client) (e : Exchange) → x.buffer.exchange ≡ Some e → InSession x → takes_messages x.phase ≡ true
+rest_sent : (clock : ℕ) (x : Client) (e : Exchange) → x.buffer.exchange ≡ Some e → InSession x
+    → takes_messages x.phase ≡ true
     → Rested (repeated clock Allowed x)
 rest_sent clock x e at in_session takes = record {
   handed = rw (takes, at) refl;
@@ -61,25 +65,38 @@ rest_sent clock x e at in_session takes = record {
 }
 
 -- or is over, and what may leave leaves
-rest_judged : (a : Around) (x : Client) (e : Exchange) (m : Message) (o : Outcome) → x.buffer.exchange ≡ Some e
+rest_judged : (a : Around) (x : Client) (e : Exchange) (m : Message) (o : Outcome)
+    → x.buffer.exchange ≡ Some e
     → receive a.policy x.id m.name ≡ o → AtRest x → takes_messages x.phase ≡ true
     → Rested (notes_by a (judged_again a.policy x e m o) x)
 rest_judged a x e m Allowed at is rest takes = rest_sent a.clock x e at (taking x takes rest) takes
 rest_judged a x (Announcing sent) m (Denied rule) at is rest takes =
     let y : Client = record x { buffer = settle x.buffer } in
     let in_session = taking x takes rest in
-    subst (λ z. Rested (notes_by a (handed_over a.policy y) z)) (sym (denied_settles a.policy x.id m.name rule x is))
-    (rest_served a y (record { here = in_session.here; quiet = rw takes refl; dialogue = in_session.dialogue }))
+    subst (λ z. Rested (notes_by a (handed_over a.policy y) z))
+    (sym (denied_settles a.policy x.id m.name rule x is))
+    (rest_served a y (record {
+      here = in_session.here;
+      quiet = rw takes refl;
+      dialogue = in_session.dialogue;
+    }))
 rest_judged a x (Acknowledging sent k one) m (Denied rule) at is rest takes =
     let in_session = taking x takes rest in
-    rest_served a (closed x) (record { here = in_session.here; quiet = rw takes refl; dialogue = in_session.dialogue })
+    rest_served a (closed x) (record {
+      here = in_session.here;
+      quiet = rw takes refl;
+      dialogue = in_session.dialogue;
+    })
 
-rest_message : (a : Around) (x : Client) (e : Exchange) (m : Option Message) → x.buffer.exchange ≡ Some e → AtRest x
+rest_message : (a : Around) (x : Client) (e : Exchange) (m : Option Message) → x.buffer.exchange ≡ Some e
+    → AtRest x
     → takes_messages x.phase ≡ true → Rested (notes_by a (message_again a.policy x e m) x)
 rest_message a x e None at rest takes = rested x rest
-rest_message a x e (Some m) at rest takes = rest_judged a x e m (receive a.policy x.id m.name) at refl rest takes
+rest_message a x e (Some m) at rest takes =
+    rest_judged a x e m (receive a.policy x.id m.name) at refl rest takes
 
-rest_exchange : (a : Around) (x : Client) (e : Option Exchange) → x.buffer.exchange ≡ e → AtRest x → takes_messages x.phase ≡ true
+rest_exchange : (a : Around) (x : Client) (e : Option Exchange) → x.buffer.exchange ≡ e → AtRest x
+    → takes_messages x.phase ≡ true
     → Rested (notes_by a (exchange_again a.policy x e) x)
 rest_exchange a x None at rest takes = rested x rest
 rest_exchange a x (Some e) at rest takes = rest_message a x e (message_open x.buffer e) at rest takes
@@ -87,10 +104,12 @@ rest_exchange a x (Some e) at rest takes = rest_message a x e (message_open x.bu
 rest_repeating : (a : Around) (clock : ℕ) (x : Client) (b : Bool) → is_repeating clock x ≡ b → AtRest x
     → Rested (notes_by a (if b then exchange_again a.policy x x.buffer.exchange else []) x)
 rest_repeating a clock x true is rest =
-    rest_exchange a x x.buffer.exchange refl rest (left_holds (takes_messages x.phase) (is_unanswered clock x.buffer.exchange) is)
+    rest_exchange a x x.buffer.exchange refl rest
+    (left_holds (takes_messages x.phase) (is_unanswered clock x.buffer.exchange) is)
 rest_repeating a clock x false is rest = rested x rest
 
-rest_again : (a : Around) (clock : ℕ) (x : Client) → AtRest x → Rested (notes_by a (again_notes a.policy clock x) x)
+rest_again : (a : Around) (clock : ℕ) (x : Client) → AtRest x
+    → Rested (notes_by a (again_notes a.policy clock x) x)
 rest_again a clock x rest = rest_repeating a clock x (is_repeating clock x) refl rest
 
 -- ---- each client
@@ -106,7 +125,8 @@ tick_by s clock now link x false = refl
 pub tick_next : (s : State) (clock : ℕ) (x : Client)
     → (let now = later s.clock clock in
     client_next s (ByTick clock) x
-    ≡ (if is_lost_at now x then lost x else drained (notes_by (around s (ByTick clock)) (again_notes s.policy now x) x)))
+    ≡ (if is_lost_at now x then lost x
+    else drained (notes_by (around s (ByTick clock)) (again_notes s.policy now x) x)))
 tick_next s clock x =
     let now = later s.clock clock in
     tick_by s clock now (all_placed s.link (testaments now (before x.id s.clients))) x (is_lost_at now x)
@@ -120,4 +140,5 @@ rest_tick s clock x rest =
     let a = around s (ByTick clock) in
     let now = later s.clock clock in
     let y = notes_by a (again_notes s.policy now x) x in
-    subst AtRest (sym (tick_next s clock x)) (rest_over (is_lost_at now x) x (drained y) (rest_drained y (rest_again a now x rest)))
+    subst AtRest (sym (tick_next s clock x))
+    (rest_over (is_lost_at now x) x (drained y) (rest_drained y (rest_again a now x rest)))

@@ -18,23 +18,29 @@ use Rattle.sng_book.specs.declared.outcome.Denial.{Denial}
 use Rattle.sng_book.specs.declared.outcome.Denial.TheVariants.{NotSupported, BrokerRefused, OutOfTurn}
 use Rattle.sng_book.specs.declared.outcome.Outcome.{Outcome}
 use Rattle.sng_book.specs.declared.outcome.Outcome.TheVariants.{Allowed, Denied}
-use Rattle.sng_history.specs.Causes.{Request, ToPing, ToLeave, ToSleep, ToRegister, ToPublish, ToSubscribe, ToUnsubscribe, ToConfirm, ToAcknowledge, ToState, Untaken, Cause}
-use Rattle.sng_history.specs.Causes.{ByConnect, ByMessage, BySource, ByBroken, ByPacket, ByUp, ByDown, ByTake, ByReplace, ByTick}
-use Rattle.sng_history.specs.Clients.{Client, is_here, let_in, closed, is_confirming, is_acknowledging, message_due}
+use Rattle.sng_history.specs.Causes.{Request, ToPing, ToLeave, ToSleep, ToRegister, ToPublish, ToSubscribe}
+use Rattle.sng_history.specs.Causes.{ToUnsubscribe, ToConfirm, ToAcknowledge, ToState, Untaken, Cause}
+use Rattle.sng_history.specs.Causes.{ByConnect, ByMessage, BySource, ByBroken, ByPacket, ByUp, ByDown, ByTake}
+use Rattle.sng_history.specs.Causes.{ByReplace, ByTick}
+use Rattle.sng_history.specs.Clients.{Client, is_here, let_in, closed, is_confirming, is_acknowledging}
+use Rattle.sng_history.specs.Clients.{message_due}
 use Rattle.sng_history.specs.State.{State, later}
 use Rattle.sng_history.specs.Packets.{answer_of, refused_filter}
 use Rattle.sng_history.specs.Standing.{holds}
 use Rattle.sng_history.specs.Verdicts.{entry, ping_verdict, coverage}
 use Rattle.sng_history.specs.Answers.{denied_note}
 use Rattle.sng_history.specs.Outgoing.{handed_over, all_gone, out_of_turn, delivered_notes}
-use Rattle.sng_history.specs.Lawful.{denial_of, confirmations, woken_notes, entering_notes, fixed_to, end_of, ends_under, refused_end, fixed_for}
+use Rattle.sng_history.specs.Lawful.{denial_of, confirmations, woken_notes, entering_notes, fixed_to, end_of}
+use Rattle.sng_history.specs.Lawful.{ends_under, refused_end, fixed_for}
 use Rattle.sng_history.proofs.Spelled.{About, AllAbout}
-use Rattle.sng_history.proofs.Hands.{OfMessages, every_append, every_if, every_handed, every_gone, every_woken, every_delivered, every_confirmation}
+use Rattle.sng_history.proofs.Hands.{OfMessages, every_append, every_if, every_handed, every_gone}
+use Rattle.sng_history.proofs.Hands.{every_woken, every_delivered, every_confirmation}
 use Rattle.sng_history.proofs.Statements.{OfStatement, OfLost, every_statement, every_tick}
 use Rattle.sng_history.proofs.Kept.{let_in_id}
 use Rattle.sng_history.proofs.Asks.{of_register, of_publish, of_subscribe, of_unsubscribe}
 
-about_denied : (c : List ℕ) (message : SnFrame) (rule : Denial) → About c (denied_note message (who.Client c) rule)
+about_denied : (c : List ℕ) (message : SnFrame) (rule : Denial)
+    → About c (denied_note message (who.Client c) rule)
 about_denied c (frame.Connect connect) rule = record { of = λ d. refl; stays = refl }
 about_denied c (frame.ConnectAck code) rule = record { of = λ d. refl; stays = refl }
 about_denied c frame.WillTopicRequest rule = record { of = λ d. refl; stays = refl }
@@ -72,7 +78,8 @@ about_connect c outcome = record { of = λ d. refl; stays = refl }
 about_ended : (c filter : List ℕ) (rule : Denial) → About c (note.End c filter (Denied rule))
 about_ended c filter rule = record { of = λ d. refl; stays = refl }
 
-about_end : (c filter : List ℕ) (outcome : Outcome) (notes : List Decision) → AllAbout c notes → AllAbout c (end_of c filter outcome ++ notes)
+about_end : (c filter : List ℕ) (outcome : Outcome) (notes : List Decision) → AllAbout c notes
+    → AllAbout c (end_of c filter outcome ++ notes)
 about_end c filter Allowed notes about = about
 about_end c filter (Denied rule) notes about = (about_ended c filter rule, about)
 
@@ -80,21 +87,28 @@ about_denial : (c : List ℕ) (outcome : Outcome) → AllAbout c (denial_of c ou
 about_denial c Allowed = tt
 about_denial c (Denied rule) = (about_frame c (Denied rule), tt)
 
-about_if : (b : Bool) (c : List ℕ) (notes : List Decision) → AllAbout c notes → AllAbout c (if b then notes else [])
+about_if : (b : Bool) (c : List ℕ) (notes : List Decision) → AllAbout c notes
+    → AllAbout c (if b then notes else [])
 about_if b c notes about = every_if (About c) b notes about
 
-about_entry : (same : Bool) (c : List ℕ) (outcome : Outcome) (enters leaves : List Decision) (b : Bool) → AllAbout c enters → AllAbout c leaves
-    → AllAbout c (if same then note.Connect c outcome ∷ enters else (if is_allowed outcome then (if b then leaves else []) else []))
+about_entry : (same : Bool) (c : List ℕ) (outcome : Outcome) (enters leaves : List Decision) (b : Bool)
+    → AllAbout c enters → AllAbout c leaves
+    → AllAbout c (if same then note.Connect c outcome ∷ enters
+    else (if is_allowed outcome then (if b then leaves else []) else []))
 about_entry true c outcome enters leaves b own other = (about_connect c outcome, own)
-about_entry false c outcome enters leaves b own other = about_if (is_allowed outcome) c (if b then leaves else []) (about_if b c leaves other)
+about_entry false c outcome enters leaves b own other =
+    about_if (is_allowed outcome) c (if b then leaves else []) (about_if b c leaves other)
 
 about_ends : (policy : Policy) (c : List ℕ) (held : List Held) → AllAbout c (ends_under policy c held)
 about_ends policy c [] = tt
-about_ends policy c (h ∷ held) = about_end c h.filter (coverage policy c h.filter) (ends_under policy c held) (about_ends policy c held)
+about_ends policy c (h ∷ held) =
+    about_end c h.filter (coverage policy c h.filter) (ends_under policy c held) (about_ends policy c held)
 
 about_refused : (x : Client) (filter : Option (List ℕ)) → AllAbout x.id (refused_end x filter)
 about_refused x None = tt
-about_refused x (Some filter) = about_if (holds filter x) x.id (note.End x.id filter (Denied BrokerRefused) ∷ []) (about_ended x.id filter BrokerRefused, tt)
+about_refused x (Some filter) =
+    about_if (holds filter x) x.id (note.End x.id filter (Denied BrokerRefused) ∷ [])
+    (about_ended x.id filter BrokerRefused, tt)
 
 -- ---- what waits for the client
 
@@ -109,14 +123,16 @@ about_gone c waiting = every_gone (About c) c waiting (about_messages c)
 
 about_handed : (policy : Policy) (c : List ℕ) (x : Client) → x.id ≡ c → AllAbout c (handed_over policy x)
 about_handed policy c x same =
-    subst (λ id. AllAbout id (handed_over policy x)) same (every_handed (About x.id) policy x (about_messages x.id))
+    subst (λ id. AllAbout id (handed_over policy x)) same
+    (every_handed (About x.id) policy x (about_messages x.id))
 
 -- ---- a REGACK or PUBACK
 
 about_out : (c : List ℕ) → AllAbout c (out_of_turn c)
 about_out c = (about_frame c (Denied OutOfTurn), tt)
 
-about_either : (b : Bool) (c : List ℕ) (xs ys : List Decision) → AllAbout c xs → AllAbout c ys → AllAbout c (if b then xs else ys)
+about_either : (b : Bool) (c : List ℕ) (xs ys : List Decision) → AllAbout c xs → AllAbout c ys
+    → AllAbout c (if b then xs else ys)
 about_either true c xs ys one two = one
 about_either false c xs ys one two = two
 
@@ -138,7 +154,8 @@ about_lost c = record {
 
 -- ---- a CONNECT that is accepted
 
-about_entering : (s : State) (from : Address) (connect : Connect) (x : Client) (outcome : Outcome) → AllAbout x.id (entering_notes s from connect x outcome)
+about_entering : (s : State) (from : Address) (connect : Connect) (x : Client) (outcome : Outcome)
+    → AllAbout x.id (entering_notes s from connect x outcome)
 about_entering s from connect x Allowed =
     let y = let_in s.clock from connect x in
     about_either connect.flags.clean x.id (all_gone x.id x.buffer.waiting) (handed_over s.policy y)
@@ -152,26 +169,37 @@ told_to s (ToPing client) x =
     let verdict = ping_verdict client x in
     every_append (About x.id) (denial_of x.id verdict) (woken_notes s.policy client x)
     (about_denial x.id verdict) (every_woken (About x.id) s.policy client x (about_messages x.id))
-told_to s (ToSleep duration) x = about_either (is_due_messages x.phase) x.id [] (out_of_turn x.id) tt (about_out x.id)
+told_to s (ToSleep duration) x =
+    about_either (is_due_messages x.phase) x.id [] (out_of_turn x.id) tt (about_out x.id)
 told_to s ToLeave x = (about_left x.id, about_gone x.id x.buffer.waiting)
-told_to s (ToRegister r) x = (of_register (About x.id) s.policy x r.name (λ name o. record { of = λ d. refl; stays = refl }), tt)
-told_to s (ToPublish p) x = (of_publish (About x.id) s x p (λ name o. record { of = λ d. refl; stays = refl }), tt)
-told_to s (ToSubscribe r) x = (of_subscribe (About x.id) s x r (λ filter o. record { of = λ d. refl; stays = refl }), tt)
-told_to s (ToUnsubscribe r) x = (of_unsubscribe (About x.id) s.policy x r (λ filter o. record { of = λ d. refl; stays = refl }), tt)
+told_to s (ToRegister r) x =
+    (of_register (About x.id) s.policy x r.name (λ name o. record { of = λ d. refl; stays = refl }), tt)
+told_to s (ToPublish p) x =
+    (of_publish (About x.id) s x p (λ name o. record { of = λ d. refl; stays = refl }), tt)
+told_to s (ToSubscribe r) x =
+    (of_subscribe (About x.id) s x r (λ filter o. record { of = λ d. refl; stays = refl }), tt)
+told_to s (ToUnsubscribe r) x =
+    (of_unsubscribe (About x.id) s.policy x r (λ filter o. record { of = λ d. refl; stays = refl }), tt)
 told_to s (ToConfirm r) x =
-    about_either (is_confirming r x) x.id (confirmations s.policy r x) (out_of_turn x.id) (every_confirmation (About x.id) s.policy r x (about_messages x.id)) (about_out x.id)
+    about_either (is_confirming r x) x.id (confirmations s.policy r x) (out_of_turn x.id)
+    (every_confirmation (About x.id) s.policy r x (about_messages x.id)) (about_out x.id)
 told_to s (ToAcknowledge r) x =
-    about_either (is_acknowledging r x) x.id (handed_over s.policy (closed x)) (out_of_turn x.id) (about_handed s.policy x.id (closed x) refl) (about_out x.id)
+    about_either (is_acknowledging r x) x.id (handed_over s.policy (closed x)) (out_of_turn x.id)
+    (about_handed s.policy x.id (closed x) refl) (about_out x.id)
 told_to s (ToState statement) x = every_statement (About x.id) s.policy statement x (about_statement x.id)
 told_to s (Untaken message) x = (about_denied x.id message NotSupported, tt)
 
 pub tells : (s : State) (c : Cause) (x : Client) → AllAbout x.id (fixed_for s c x)
 tells s (ByConnect from connect) x =
-    about_entry (bytes_eq connect.client_id x.id) x.id (entry s connect) (entering_notes s from connect x (entry s connect))
+    about_entry (bytes_eq connect.client_id x.id) x.id (entry s connect)
+    (entering_notes s from connect x (entry s connect))
     (note.Left x.id ∷ all_gone x.id x.buffer.waiting) (is_here x from)
     (about_entering s from connect x (entry s connect)) (about_left x.id, about_gone x.id x.buffer.waiting)
-tells s (ByMessage from request) x = about_if (is_here x from) x.id (fixed_to s request x) (told_to s request x)
-tells s (ByBroken from rule) x = about_if (is_here x from) x.id (note.Frame (who.Client x.id) (Denied rule) ∷ []) (about_frame x.id (Denied rule), tt)
+tells s (ByMessage from request) x =
+    about_if (is_here x from) x.id (fixed_to s request x) (told_to s request x)
+tells s (ByBroken from rule) x =
+    about_if (is_here x from) x.id (note.Frame (who.Client x.id) (Denied rule) ∷ [])
+    (about_frame x.id (Denied rule), tt)
 tells s (ByPacket p) x =
     let due = message_due (answer_of p) x in
     let refused = refused_filter s.link (answer_of p) in

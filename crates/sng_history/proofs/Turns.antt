@@ -41,7 +41,7 @@ open_done false waiting = refl
 
 -- ---- what the policy forbids is settled
 
-abbrev turned : Outcome → Bool
+abbrev pub turned : Outcome → Bool
 turned Allowed = false
 turned (Denied rule) = is_turned_away rule
 
@@ -53,10 +53,13 @@ unturned client name grant.MissingPub = refl
 unturned client name grant.MissingSub = refl
 unturned client name (grant.Uncovered gap) = refl
 
-pub denied_settles : (policy : Policy) (client name : List ℕ) (rule : Denial) (x : Client) → receive policy client name ≡ Denied rule
+pub denied_settles : (policy : Policy) (client name : List ℕ) (rule : Denial) (x : Client)
+    → receive policy client name ≡ Denied rule
     → denied_hand rule x ≡ (let y : Client = record x { buffer = settle x.buffer } in y)
 denied_settles policy client name rule x is =
-    let away : is_turned_away rule ≡ false = sym (ap turned is) ∙ unturned client name (receive_grant policy client name) in rw away refl
+    let away : is_turned_away rule ≡ false =
+    sym (ap turned is) ∙ unturned client name (receive_grant policy client name) in
+    rw away refl
 
 -- ---- each turn
 
@@ -71,44 +74,59 @@ leaves a m more x known = record x {
   buffer = buffer_handed (waits x (m ∷ more)).buffer (Some m) known x.number a.clock;
 }
 
-handed_turn : (a : Around) (client : List ℕ) (m : Message) (more : List Message) (x : Client) (q : Qos) (known : Known) (number : ℕ) → Rest a client more
+handed_turn : (a : Around) (client : List ℕ) (m : Message) (more : List Message) (x : Client) (q : Qos)
+    (known : Known) (number : ℕ) → Rest a client more
     → Done (notes_by a (behind q (turns a.policy client x.ids more))
-    (let y : Client = record x { number = number; buffer = buffer_by q (waits x (m ∷ more)).buffer known x.number a.clock } in y))
+    (let y : Client = record x {
+      number = number;
+      buffer = buffer_by q (waits x (m ∷ more)).buffer known x.number a.clock;
+    } in y))
 handed_turn a client m more x AtMostOnce known number rest = rest (record x { number = number })
 handed_turn a client m more x AtLeastOnce known number rest = open_done (takes_messages x.phase) more
 
-offered_turn : (a : Around) (client : List ℕ) (m : Message) (more : List Message) (x : Client) (known : Option Known) (full : Bool) → known_as a.policy x.ids m.name ≡ known → Rest a client more
-    → Done (notes_by a (offered client m (is_some known) full (turns a.policy client x.ids more)) (waits x (m ∷ more)))
+offered_turn : (a : Around) (client : List ℕ) (m : Message) (more : List Message) (x : Client)
+    (known : Option Known) (full : Bool) → known_as a.policy x.ids m.name ≡ known → Rest a client more
+    → Done (notes_by a (offered client m (is_some known) full (turns a.policy client x.ids more))
+    (waits x (m ∷ more)))
 offered_turn a client m more x (Some known) full is rest =
-    subst (λ k. Done (notes_by a (behind m.qos (turns a.policy client x.ids more)) (leaves a m more x k))) (sym is) (handed_turn a client m more x m.qos known (number_handed x.number (Some m)) rest)
+    subst (λ k. Done (notes_by a (behind m.qos (turns a.policy client x.ids more)) (leaves a m more x k)))
+    (sym is) (handed_turn a client m more x m.qos known (number_handed x.number (Some m)) rest)
 offered_turn a client m more x None true is rest = rest x
 offered_turn a client m more x None false is rest = open_done (takes_messages x.phase) (m ∷ more)
 
-judged : (a : Around) (client : List ℕ) (m : Message) (more : List Message) (x : Client) (o : Outcome) → receive a.policy client m.name ≡ o → Rest a client more
-    → Done (notes_by a (judged_turn a.policy client x.ids m o (turns a.policy client x.ids more)) (waits x (m ∷ more)))
-judged a client m more x Allowed is rest = offered_turn a client m more x (known_as a.policy x.ids m.name) (is_full_for m.name x.ids) refl rest
+judged : (a : Around) (client : List ℕ) (m : Message) (more : List Message) (x : Client) (o : Outcome)
+    → receive a.policy client m.name ≡ o → Rest a client more
+    → Done (notes_by a (judged_turn a.policy client x.ids m o (turns a.policy client x.ids more))
+    (waits x (m ∷ more)))
+judged a client m more x Allowed is rest =
+    offered_turn a client m more x (known_as a.policy x.ids m.name) (is_full_for m.name x.ids) refl rest
 judged a client m more x (Denied rule) is rest =
-    subst (λ y. Done (notes_by a (turns a.policy client x.ids more) y)) (sym (denied_settles a.policy client m.name rule (waits x (m ∷ more)) is)) (rest x)
+    subst (λ y. Done (notes_by a (turns a.policy client x.ids more) y))
+    (sym (denied_settles a.policy client m.name rule (waits x (m ∷ more)) is)) (rest x)
 
 turns_done : (a : Around) (client : List ℕ) (waiting : List Message) → Rest a client waiting
 turns_done a client [] x = done_if (is_free (waits x []))
-turns_done a client (m ∷ more) x = judged a client m more x (receive a.policy client m.name) refl (turns_done a client more)
+turns_done a client (m ∷ more) x =
+    judged a client m more x (receive a.policy client m.name) refl (turns_done a client more)
 
 -- ---- all of them
 
-nothing_open : (e : Option Exchange) → is_none e ≡ true → e ≡ None
+pub nothing_open : (e : Option Exchange) → is_none e ≡ true → e ≡ None
 nothing_open None is = refl
 nothing_open (Some one) is = absurd cc
 
-none_right : (a : Bool) (e : Option Exchange) → (a && is_none e) ≡ true → e ≡ None
+pub none_right : (a : Bool) (e : Option Exchange) → (a && is_none e) ≡ true → e ≡ None
 none_right true e is = nothing_open e is
 none_right false e is = absurd cc
 
-served_by : (a : Around) (x : Client) (free : Bool) → is_free x ≡ free → Done (notes_by a (if free then turns a.policy x.id x.ids x.buffer.waiting else []) x)
+served_by : (a : Around) (x : Client) (free : Bool) → is_free x ≡ free
+    → Done (notes_by a (if free then turns a.policy x.id x.ids x.buffer.waiting else []) x)
 served_by a x true is =
     let e : x.buffer.exchange ≡ None = none_right (takes_messages x.phase) x.buffer.exchange is in
     subst (λ y. Done (notes_by a (turns a.policy x.id x.ids x.buffer.waiting) y))
-    (sym (ap (λ o. let y : Client = record x { buffer = record { waiting = x.buffer.waiting; exchange = o } } in y) e)) (turns_done a x.id x.buffer.waiting x)
+    (sym (ap (λ o. let y : Client =
+    record x { buffer = record { waiting = x.buffer.waiting; exchange = o } } in
+    y) e)) (turns_done a x.id x.buffer.waiting x)
 served_by a x false is = rw is refl
 
 pub served_done : (a : Around) (x : Client) → Done (served a x)
@@ -116,7 +134,8 @@ served_done a x = served_by a x (is_free x) refl
 
 -- and where nothing waits nothing leaves
 pub none_waits : (policy : Policy) (x : Client) → x.buffer.waiting ≡ [] → handed_over policy x ≡ []
-none_waits policy x none = ap (λ waiting. if is_free x then turns policy x.id x.ids waiting else []) none ∙ none_if (is_free x)
+none_waits policy x none =
+    ap (λ waiting. if is_free x then turns policy x.id x.ids waiting else []) none ∙ none_if (is_free x)
   where
     none_if : (b : Bool) → (let notes : List Decision = if b then [] else [] in notes) ≡ []
     none_if true = refl

@@ -13,7 +13,8 @@ use Rattle.sng_history.proofs.StandingState.{standing_shown, held_shown}
 use Rattle.sng_history.proofs.UpstreamWanted.{wanted_shown}
 
 -- just those that stand for somebody
-pub wanted_just : (h : List Row) → Lawful opening h → (text : List ℕ) → list_any (is_for text) (wanted h) ≡ held_in h text
+pub wanted_just : (h : List Row) → Lawful opening h → (text : List ℕ)
+    → list_any (is_for text) (wanted h) ≡ held_in h text
 wanted_just h l text =
     let s = state_of opening h in
     let was = stands h l in
@@ -26,4 +27,6 @@ twice (w ∷ wanted) once = (once.0, twice wanted once.1)
 
 -- each once
 pub wanted_once : (h : List Row) → Lawful opening h → EachOnce (wanted h)
-wanted_once h l = subst EachOnce (wanted_shown h l).wanted (twice (state_of opening h).link.wanted (stands h l).good.wanted_once)
+wanted_once h l =
+    subst EachOnce (wanted_shown h l).wanted
+    (twice (state_of opening h).link.wanted (stands h l).good.wanted_once)

@@ -1,5 +1,6 @@
 -- What is said to the broker, and the packet ids that were given, are read from the packets again.
-use Rattle.std.proofs.Common.{◌≡◌, ℕ, ◌+◌, ◌≤◌, ◌==◌, Bool, true, false, List, [], ◌∷◌, ◌++◌, length, refl, ap, sym, ◌∙◌, if◌then◌else◌, Ok}
+use Rattle.std.proofs.Common.{◌≡◌, ℕ, ◌+◌, ◌≤◌, ◌==◌, Bool, true, false, List, [], ◌∷◌, ◌++◌, length, refl}
+use Rattle.std.proofs.Common.{ap, sym, ◌∙◌, if◌then◌else◌, Ok}
 use Rattle.std.proofs.Common.{Err, arith, length-append}
 use Rattle.std.specs.Prelude.{nat_lt, take, drop}
 use Rattle.std.specs.declared.result.Result.{Result}
@@ -41,14 +42,16 @@ pub record Silent (read : Front) : Type 0 where
 abbrev Quiet : Result Packet PacketFault → Type 0
 Quiet read = (size : ℕ) → Silent (sized size read)
 
-quiet_then : {A : Type 0} (r : Result A PacketFault) (f : A → Result Packet PacketFault) → ((x : A) → Quiet (f x)) → Quiet (r >>= f)
+quiet_then : {A : Type 0} (r : Result A PacketFault) (f : A → Result Packet PacketFault)
+    → ((x : A) → Quiet (f x)) → Quiet (r >>= f)
 quiet_then (Ok x) f quiet size = quiet x size
 quiet_then (Err fault) f quiet size = record { words = refl; ids = refl }
 
 quiet_publish : (flags : PublishFlags) (bytes : List ℕ) → Quiet (body_of (kinds.Publish flags) bytes)
 quiet_publish flags bytes =
     quiet_then (text_at bytes) _
-    (λ name. quiet_then (optional_id_at flags.identified name.1) _ (λ id size. record { words = refl; ids = refl }))
+    (λ name. quiet_then (optional_id_at flags.identified name.1) _
+    (λ id size. record { words = refl; ids = refl }))
 
 quiet_ack : (bytes : List ℕ) → Quiet (body_of kinds.PublishAck bytes)
 quiet_ack bytes = quiet_then (whole_id bytes) _ (λ id size. record { words = refl; ids = refl })
@@ -71,13 +74,15 @@ pub publish_quiet : (p : Publish) → Silent (decode (written (packet.Publish p)
 publish_quiet p =
     let whole = packet.Publish p in
     let rest = remaining_length (length (body whole)) ++ body whole in
-    quiet_length (first_byte whole) _ (length_at 4 rest) (first_byte whole ∷ rest) (kind_of-first whole) (λ bytes. quiet_publish _ bytes)
+    quiet_length (first_byte whole) _ (length_at 4 rest) (first_byte whole ∷ rest) (kind_of-first whole)
+    (λ bytes. quiet_publish _ bytes)
 
 pub ack_quiet : (packet_id : ℕ) → Silent (decode (written (packet.PublishAck packet_id)))
 ack_quiet packet_id =
     let whole = packet.PublishAck packet_id in
     let rest = remaining_length (length (body whole)) ++ body whole in
-    quiet_length (first_byte whole) _ (length_at 4 rest) (first_byte whole ∷ rest) (kind_of-first whole) quiet_ack
+    quiet_length (first_byte whole) _ (length_at 4 rest) (first_byte whole ∷ rest)
+    (kind_of-first whole) quiet_ack
 
 -- ---- a SUBSCRIBE and an UNSUBSCRIBE by one filter
 
@@ -100,21 +105,32 @@ read_again p fits is short =
 
 -- nor does a PINGREQ say anything of filters
 pub ping_quiet : Silent (decode (written packet.PingRequest))
-ping_quiet = let reads = read_again packet.PingRequest tt refl (omega arith) in record { words = reads.words; ids = reads.ids }
+ping_quiet =
+    let reads = read_again packet.PingRequest tt refl (omega arith) in
+    record { words = reads.words; ids = reads.ids }
 
 id_fits : (n : ℕ) → 1 ≤ n → (n == 0) ≡ false
 id_fits n some = ne_eqb n 0 (λ same. omega (arith, same, some))
 
 pub subscribe_read : (n : ℕ) (text : List ℕ) → IsId n → length text ≤ 65535
-    → Reads (packet.Subscribe (record { packet_id = n; requests = record { filter = text; qos = requested.AtLeastOnce } ∷ [] }))
+    → Reads (packet.Subscribe (record {
+      packet_id = n;
+      requests = record { filter = text; qos = requested.AtLeastOnce } ∷ [];
+    }))
 subscribe_read n text is short =
-    let p = packet.Subscribe (record { packet_id = n; requests = record { filter = text; qos = requested.AtLeastOnce } ∷ [] }) in
-    read_again p (omega (arith, is.small)) (rw (id_fits n is.some, lt-ltb (length text) 65536 (omega (arith, short))) refl)
+    let p =
+    packet.Subscribe (record {
+      packet_id = n;
+      requests = record { filter = text; qos = requested.AtLeastOnce } ∷ [];
+    }) in
+    read_again p (omega (arith, is.small))
+    (rw (id_fits n is.some, lt-ltb (length text) 65536 (omega (arith, short))) refl)
     (omega (arith, short, length-append text (1 ∷ [])))
 
 pub unsubscribe_read : (n : ℕ) (text : List ℕ) → IsId n → length text ≤ 65535
     → Reads (packet.Unsubscribe (record { packet_id = n; filters = text ∷ [] }))
 unsubscribe_read n text is short =
     let p = packet.Unsubscribe (record { packet_id = n; filters = text ∷ [] }) in
-    read_again p (omega (arith, is.small)) (rw (id_fits n is.some, lt-ltb (length text) 65536 (omega (arith, short))) refl)
+    read_again p (omega (arith, is.small))
+    (rw (id_fits n is.some, lt-ltb (length text) 65536 (omega (arith, short))) refl)
     (omega (arith, short, length-append text []))

@@ -148,7 +148,8 @@ each_next P added s (ByMessage from request) ends all =
     let go = let_go s (clients_next s c) in
     let adds : Client → List Item = λ x. asked_by_all (publish_asked request) (fixed_for s c x) in
     item_append P s.link.waiting (asked_for s c ++ go) all
-    (item_append P (asked_for s c) go (item_flat P adds s.clients (λ x. item_all P added (publish_asked request) (fixed_for s c x))) ends)
+    (item_append P (asked_for s c) go
+    (item_flat P adds s.clients (λ x. item_all P added (publish_asked request) (fixed_for s c x))) ends)
 each_next P added s (BySource from p) ends all =
     item_append P s.link.waiting (asked_by (Some p) (source_ask s from.ip p)) all
     (item_said P added (Some p) (source_ask s from.ip p))
@@ -162,4 +163,5 @@ each_next P added s ByDown ends all = item_publishes P s.link.waiting all
 each_next P added s ByTake ends all = item_if P s.up [] s.link.waiting tt all
 each_next P added s (ByReplace policy) ends all =
     item_append P s.link.waiting (let_go s (clients_next s (ByReplace policy))) all ends
-each_next P added s (ByTick clock) ends all = item_ticked P added s.up s.link (later s.clock clock) s.clients all
+each_next P added s (ByTick clock) ends all =
+    item_ticked P added s.up s.link (later s.clock clock) s.clients all

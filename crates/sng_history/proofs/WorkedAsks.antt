@@ -19,7 +19,12 @@ use Rattle.sng_history.specs.Causes.{ByConnect, cause_of}
 use Rattle.sng_history.specs.State.{State, opening, after, state_of}
 use Rattle.sng_history.specs.Lawful.{LawfulRow, Lawful}
 use Rattle.sng_history.specs.Examples.{row}
-use Rattle.sng_history.specs.ExamplesClients.{one_listed, both_listed, s1, home, lets_in, welcome, s1_home, t1, t2, register_t1, register_t2, registered_t1, unregistered_t2, publish_t1, accepted_t1, refused_t1, publish_9, refused_9, registers, asks_t1, forward_t1, again_t1, packet_t1, told_t1, untold, asked_t1, flies_t1, acknowledged_t1, knows_t1, flies_and_waits, flies_ungranted}
+use Rattle.sng_history.specs.ExamplesClients.{one_listed, both_listed, s1, home, lets_in, welcome, s1_home}
+use Rattle.sng_history.specs.ExamplesClients.{t1, t2, register_t1, register_t2, registered_t1}
+use Rattle.sng_history.specs.ExamplesClients.{unregistered_t2, publish_t1, accepted_t1, refused_t1, publish_9}
+use Rattle.sng_history.specs.ExamplesClients.{refused_9, registers, asks_t1, forward_t1, again_t1, packet_t1}
+use Rattle.sng_history.specs.ExamplesClients.{told_t1, untold, asked_t1, flies_t1, acknowledged_t1, knows_t1}
+use Rattle.sng_history.specs.ExamplesClients.{flies_and_waits, flies_ungranted}
 use Rattle.sng_history.proofs.WorkedClients.{hello, cause_s1, home_one}
 
 t1_ascii : IsAscii (116 ∷ 47 ∷ 49 ∷ [])
@@ -53,7 +58,8 @@ abbrev knowing : State
 knowing = then inside (Datagram home register_t1) (registers t1 Allowed ∷ registered_t1 ∷ [])
 
 knowing_is : knows_t1 ≡ knowing
-knowing_is = ap (λ s. then s (Datagram home register_t1) (registers t1 Allowed ∷ registered_t1 ∷ [])) inside_is
+knowing_is =
+    ap (λ s. then s (Datagram home register_t1) (registers t1 Allowed ∷ registered_t1 ∷ [])) inside_is
 
 abbrev refusing : State → State
 refusing s = then s (Datagram home register_t2) (registers t2 (Denied (MissingPub t2)) ∷ unregistered_t2 ∷ [])
@@ -74,29 +80,35 @@ abbrev answered : State → State
 answered s = then s (Broker (PublishAck 1)) []
 
 -- a row may come at a state that is known
-pub came : (h : List Row) (t : State) (e : Event) (outs : List Out) → state_of opening h ≡ t → LawfulRow t e outs → LawfulRow (state_of opening h) e outs
+pub came : (h : List Row) (t : State) (e : Event) (outs : List Out) → state_of opening h ≡ t
+    → LawfulRow t e outs → LawfulRow (state_of opening h) e outs
 came h t e outs is l = subst (λ t. LawfulRow t e outs) (sym is) l
 
 told : Lawful opening told_t1
 told = (
   home_one,
-  came (s1_home one_listed) inside (Datagram home register_t1) (registers t1 Allowed ∷ registered_t1 ∷ []) inside_is
+  came (s1_home one_listed) inside (Datagram home register_t1)
+      (registers t1 Allowed ∷ registered_t1 ∷ []) inside_is
       (record { whole = refl; exits = refl; clients = (record { fixed = rw t1_utf8 refl }, tt) }),
 )
 
 -- a name that is not granted, and an id that was not told
-refused_t2 : Lawful opening (row (Datagram home register_t2) (registers t2 (Denied (MissingPub t2)) ∷ unregistered_t2 ∷ []) ∷ told_t1)
+refused_t2 : Lawful opening (row (Datagram home register_t2)
+    (registers t2 (Denied (MissingPub t2)) ∷ unregistered_t2 ∷ []) ∷ told_t1)
 refused_t2 = (
   told,
-  came told_t1 knowing (Datagram home register_t2) (registers t2 (Denied (MissingPub t2)) ∷ unregistered_t2 ∷ []) knowing_is
+  came told_t1 knowing (Datagram home register_t2)
+      (registers t2 (Denied (MissingPub t2)) ∷ unregistered_t2 ∷ []) knowing_is
       (record { whole = refl; exits = refl; clients = (record { fixed = rw t2_utf8 refl }, tt) }),
 )
 
 pub refused : Lawful opening untold
 refused = (
   refused_t2,
-  came (row (Datagram home register_t2) (registers t2 (Denied (MissingPub t2)) ∷ unregistered_t2 ∷ []) ∷ told_t1) (refusing knowing) (Datagram home publish_9)
-      (Note (Publish (who.Client s1) None (Denied (UnknownId Normal 9))) ∷ refused_9 ∷ []) (ap refusing knowing_is)
+  came (row (Datagram home register_t2) (registers t2 (Denied (MissingPub t2)) ∷ unregistered_t2 ∷ [])
+      ∷ told_t1) (refusing knowing) (Datagram home publish_9)
+      (Note (Publish (who.Client s1) None (Denied (UnknownId Normal 9))) ∷ refused_9 ∷ [])
+      (ap refusing knowing_is)
       (record { whole = refl; exits = refl; clients = (record { fixed = refl }, tt) }),
 )
 
@@ -128,15 +140,25 @@ abbrev down_t1 : List Row
 down_t1 = row Down [] ∷ flies_t1
 
 down : Lawful opening down_t1
-down = (flies, came flies_t1 flown Down [] flying_is (record { whole = refl; exits = refl; clients = (record { fixed = refl }, tt) }))
+down = (
+  flies,
+  came flies_t1 flown Down [] flying_is (record {
+    whole = refl;
+    exits = refl;
+    clients = (record { fixed = refl }, tt);
+  }),
+)
 
 abbrev again_run : List Row
 again_run = row Up (again_t1 Allowed ∷ packet_t1 1 ∷ []) ∷ down_t1
 
 again : Lawful opening again_run
 unfolding remaining_length
-again =
-    (down, came down_t1 (parted flown) Up (again_t1 Allowed ∷ packet_t1 1 ∷ []) (ap parted flying_is) (record { whole = refl; exits = refl; clients = (record { fixed = refl }, tt) }))
+again = (
+  down,
+  came down_t1 (parted flown) Up (again_t1 Allowed ∷ packet_t1 1 ∷ []) (ap parted flying_is)
+      (record { whole = refl; exits = refl; clients = (record { fixed = refl }, tt) }),
+)
 
 abbrev answered_run : List Row
 answered_run = row (Broker (PublishAck 1)) [] ∷ again_run
@@ -151,7 +173,8 @@ over = (
 pub acknowledged : Lawful opening acknowledged_t1
 acknowledged = (
   over,
-  came answered_run (answered (resumed (parted flown))) Up [] (ap (λ s. answered (resumed (parted s))) flying_is)
+  came answered_run (answered (resumed (parted flown))) Up []
+      (ap (λ s. answered (resumed (parted s))) flying_is)
       (record { whole = refl; exits = refl; clients = (record { fixed = refl }, tt) }),
 )
 
@@ -161,17 +184,25 @@ acknowledged = (
 pub not_reused : LawfulRow flies_and_waits Take (forward_t1 Allowed ∷ packet_t1 1 ∷ []) → ⊥
 unfolding remaining_length
 not_reused l =
-    let at : LawfulRow (asking (flying (asking knowing))) Take (forward_t1 Allowed ∷ packet_t1 1 ∷ []) = subst (λ s. LawfulRow s Take (forward_t1 Allowed ∷ packet_t1 1 ∷ [])) (ap asking flying_is) l in
+    let at : LawfulRow (asking (flying (asking knowing))) Take (forward_t1 Allowed ∷ packet_t1 1 ∷ []) =
+    subst (λ s. LawfulRow s Take (forward_t1 Allowed ∷ packet_t1 1 ∷ [])) (ap asking flying_is) l in
     let e = at.whole in cc
 
 -- one that is in flight is sent again, though it is not granted any more
 pub not_unjudged : LawfulRow flies_ungranted Up (again_t1 Allowed ∷ packet_t1 1 ∷ []) → ⊥
 not_unjudged l =
-    let at : LawfulRow (then (flying (asking knowing)) (Replace both_listed) []) Up (again_t1 Allowed ∷ packet_t1 1 ∷ []) = subst (λ s. LawfulRow s Up (again_t1 Allowed ∷ packet_t1 1 ∷ [])) (ap (λ s. then s (Replace both_listed) []) flying_is) l in
+    let at : LawfulRow (then (flying (asking knowing)) (Replace both_listed) []) Up
+    (again_t1 Allowed ∷ packet_t1 1 ∷ []) =
+    subst (λ s. LawfulRow s Up (again_t1 Allowed ∷ packet_t1 1 ∷ []))
+    (ap (λ s. then s (Replace both_listed) []) flying_is) l in
     let e = at.exits in cc
 
 -- a publish is refused that is granted
-pub not_refused : LawfulRow knows_t1 (Datagram home publish_t1) (asks_t1 (Denied (MissingPub t1)) ∷ refused_t1 ∷ []) → ⊥
+pub not_refused : LawfulRow knows_t1 (Datagram home publish_t1)
+    (asks_t1 (Denied (MissingPub t1)) ∷ refused_t1 ∷ []) → ⊥
 not_refused l =
-    let at : LawfulRow knowing (Datagram home publish_t1) (asks_t1 (Denied (MissingPub t1)) ∷ refused_t1 ∷ []) = subst (λ s. LawfulRow s (Datagram home publish_t1) (asks_t1 (Denied (MissingPub t1)) ∷ refused_t1 ∷ [])) knowing_is l in
+    let at : LawfulRow knowing (Datagram home publish_t1)
+    (asks_t1 (Denied (MissingPub t1)) ∷ refused_t1 ∷ []) =
+    subst (λ s. LawfulRow s (Datagram home publish_t1)
+    (asks_t1 (Denied (MissingPub t1)) ∷ refused_t1 ∷ [])) knowing_is l in
     let e = at.clients.0.fixed in cc

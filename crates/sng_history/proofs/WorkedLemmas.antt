@@ -8,7 +8,10 @@ use Rattle.sng_book.specs.declared.outcome.Denial.TheVariants.{MissingPub}
 use Rattle.sng_book.specs.declared.outcome.Outcome.TheVariants.{Allowed, Denied}
 use Rattle.sng_history.specs.State.{opening}
 use Rattle.sng_history.specs.Lawful.{LawfulRow, Lawful}
-use Rattle.sng_history.specs.Examples.{source, at, publish_ab, publish_ab_long, asked_ab, forward_ab, packet_ab, before_take, stored_run, unknown_source, without_up, strangers, replaced_while_waiting, kept_while_down, waits, waits_replaced, waits_down}
+use Rattle.sng_history.specs.Examples.{source, at, publish_ab, publish_ab_long, asked_ab, forward_ab}
+use Rattle.sng_history.specs.Examples.{packet_ab, before_take, stored_run, unknown_source, without_up}
+use Rattle.sng_history.specs.Examples.{strangers, replaced_while_waiting, kept_while_down, waits}
+use Rattle.sng_history.specs.Examples.{waits_replaced, waits_down}
 
 ab_ascii : IsAscii (97 ∷ 98 ∷ [])
 ab_ascii = search rules
@@ -17,12 +20,22 @@ ab_utf8 : is_utf8 (97 ∷ 98 ∷ []) ≡ true
 ab_utf8 = is_utf8-from_IsUtf8 (97 ∷ 98 ∷ []) (IsUtf8-from_ascii (97 ∷ 98 ∷ []) ab_ascii)
 
 before_take_short : Lawful opening (before_take publish_ab)
-before_take_short =
-    (((tt, record { whole = refl; exits = refl; clients = tt }), record { whole = refl; exits = refl; clients = tt }), record { whole = rw ab_utf8 refl; exits = refl; clients = tt })
+before_take_short = (
+  (
+    (tt, record { whole = refl; exits = refl; clients = tt }),
+    record { whole = refl; exits = refl; clients = tt },
+  ),
+  record { whole = rw ab_utf8 refl; exits = refl; clients = tt },
+)
 
 before_take_long : Lawful opening (before_take publish_ab_long)
-before_take_long =
-    (((tt, record { whole = refl; exits = refl; clients = tt }), record { whole = refl; exits = refl; clients = tt }), record { whole = rw ab_utf8 refl; exits = refl; clients = tt })
+before_take_long = (
+  (
+    (tt, record { whole = refl; exits = refl; clients = tt }),
+    record { whole = refl; exits = refl; clients = tt },
+  ),
+  record { whole = rw ab_utf8 refl; exits = refl; clients = tt },
+)
 
 pub stored_short : Lawful opening (stored_run publish_ab)
 unfolding remaining_length
@@ -33,20 +46,50 @@ unfolding remaining_length
 stored_long = (before_take_long, record { whole = refl; exits = refl; clients = tt })
 
 pub unknown : Lawful opening unknown_source
-unknown = ((((tt, record { whole = refl; exits = refl; clients = tt }), record { whole = refl; exits = refl; clients = tt }), record { whole = refl; exits = refl; clients = tt }), record { whole = refl; exits = refl; clients = tt })
+unknown = (
+  (
+    (
+      (tt, record { whole = refl; exits = refl; clients = tt }),
+      record { whole = refl; exits = refl; clients = tt },
+    ),
+    record { whole = refl; exits = refl; clients = tt },
+  ),
+  record { whole = refl; exits = refl; clients = tt },
+)
 
 pub down : Lawful opening without_up
-down = (((tt, record { whole = refl; exits = refl; clients = tt }), record { whole = rw ab_utf8 refl; exits = refl; clients = tt }), record { whole = refl; exits = refl; clients = tt })
+down = (
+  (
+    (tt, record { whole = refl; exits = refl; clients = tt }),
+    record { whole = rw ab_utf8 refl; exits = refl; clients = tt },
+  ),
+  record { whole = refl; exits = refl; clients = tt },
+)
 
 pub answered : Lawful opening strangers
-answered = ((tt, record { whole = refl; exits = refl; clients = tt }), record { whole = refl; exits = refl; clients = tt })
+answered = (
+  (tt, record { whole = refl; exits = refl; clients = tt }),
+  record { whole = refl; exits = refl; clients = tt },
+)
 
 pub replaced : Lawful opening replaced_while_waiting
-replaced = ((before_take_short, record { whole = refl; exits = refl; clients = tt }), record { whole = refl; exits = refl; clients = tt })
+replaced = (
+  (before_take_short, record { whole = refl; exits = refl; clients = tt }),
+  record { whole = refl; exits = refl; clients = tt },
+)
 
 pub kept_down : Lawful opening kept_while_down
 unfolding remaining_length
-kept_down = ((((before_take_short, record { whole = refl; exits = refl; clients = tt }), record { whole = refl; exits = refl; clients = tt }), record { whole = refl; exits = refl; clients = tt }), record { whole = refl; exits = refl; clients = tt })
+kept_down = (
+  (
+    (
+      (before_take_short, record { whole = refl; exits = refl; clients = tt }),
+      record { whole = refl; exits = refl; clients = tt },
+    ),
+    record { whole = refl; exits = refl; clients = tt },
+  ),
+  record { whole = refl; exits = refl; clients = tt },
+)
 
 -- a packet without its note
 pub not_unnoted : LawfulRow waits Take (packet_ab ∷ []) → ⊥
@@ -69,5 +112,6 @@ pub not_at_up : LawfulRow waits Up (forward_ab Allowed ∷ packet_ab ∷ []) →
 not_at_up l = let e = l.whole in cc
 
 -- a denial of what is granted
-pub not_denied : LawfulRow waits (Datagram (at source) publish_ab) (asked_ab source (Denied (MissingPub (codes "ab"))) ∷ []) → ⊥
+pub not_denied : LawfulRow waits (Datagram (at source) publish_ab)
+    (asked_ab source (Denied (MissingPub (codes "ab"))) ∷ []) → ⊥
 not_denied l = let e = rw ab_utf8 at l.whole in cc

@@ -15,7 +15,12 @@ use Rattle.sng_history.specs.Clients.{Client, announced}
 use Rattle.sng_history.specs.Links.{Wanted}
 use Rattle.sng_history.specs.State.{State, opening, state_of}
 use Rattle.sng_history.specs.Lawful.{LawfulRow, Lawful}
-use Rattle.sng_history.specs.ExamplesClients.{one_listed, both_listed, home, ab, under_a, s1_home, stands_ab, subscribe_under_a, subscribed_under_a, subscribes_under_a, message_ab, announces_ab, announcement_ab, accept_ab, hands_ab, handed_ab, stands_under_a, announced_ab, handed_over_ab, ends_under_a, ungranted_ab, denied_ab, stands_twice, once_ab, announced_ungranted, holds_both}
+use Rattle.sng_history.specs.ExamplesClients.{one_listed, both_listed, home, ab, under_a, s1_home, stands_ab}
+use Rattle.sng_history.specs.ExamplesClients.{subscribe_under_a, subscribed_under_a, subscribes_under_a}
+use Rattle.sng_history.specs.ExamplesClients.{message_ab, announces_ab, announcement_ab, accept_ab, hands_ab}
+use Rattle.sng_history.specs.ExamplesClients.{handed_ab, stands_under_a, announced_ab, handed_over_ab}
+use Rattle.sng_history.specs.ExamplesClients.{ends_under_a, ungranted_ab, denied_ab, stands_twice, once_ab}
+use Rattle.sng_history.specs.ExamplesClients.{announced_ungranted, holds_both}
 use Rattle.sng_history.proofs.WorkedClients.{home_one}
 use Rattle.sng_history.proofs.WorkedAsks.{inside, inside_is, then, came}
 use Rattle.sng_history.proofs.WorkedSubscriptions.{ab_utf8, stands, holding_is}
@@ -48,7 +53,9 @@ abbrev pub under_in : State
 under_in = standing [] (under_a ∷ [])
 
 pub under_is : state_of opening stands_under_a ≡ under_in
-under_is = ap (λ s. then s (Datagram home subscribe_under_a) (subscribes_under_a Allowed ∷ subscribed_under_a ∷ [])) inside_is ∙ rw under_utf8 refl
+under_is =
+    ap (λ s. then s (Datagram home subscribe_under_a) (subscribes_under_a Allowed ∷ subscribed_under_a ∷ []))
+    inside_is ∙ rw under_utf8 refl
 
 abbrev pub ab_in : State
 ab_in = standing ((ab, true) ∷ []) (ab ∷ [])
@@ -60,17 +67,21 @@ abbrev both_in : State
 both_in = standing ((ab, true) ∷ []) (ab ∷ under_a ∷ [])
 
 both_is : holds_both ≡ both_in
-both_is = ap (λ s. then s (Datagram home subscribe_under_a) (subscribes_under_a Allowed ∷ subscribed_under_a ∷ [])) ab_is ∙ rw under_utf8 refl
+both_is =
+    ap (λ s. then s (Datagram home subscribe_under_a) (subscribes_under_a Allowed ∷ subscribed_under_a ∷ []))
+    ab_is ∙ rw under_utf8 refl
 
 -- the message waits, and an id is announced for it
 abbrev waiting_for : Client → Client
-waiting_for x = record x { buffer = record x.buffer { waiting = message ab (0x31 ∷ []) AtMostOnce false ∷ [] } }
+waiting_for x =
+    record x { buffer = record x.buffer { waiting = message ab (0x31 ∷ []) AtMostOnce false ∷ [] } }
 
 abbrev announced_in : State
 announced_in = record under_in { clients = map (λ x. announced 0 ab (waiting_for x)) under_in.clients }
 
 announced_is : state_of opening announced_ab ≡ announced_in
-announced_is = ap (λ s. then s (Broker message_ab) (announces_ab ∷ announcement_ab ∷ [])) under_is ∙ rw ab_utf8 refl
+announced_is =
+    ap (λ s. then s (Broker message_ab) (announces_ab ∷ announcement_ab ∷ [])) under_is ∙ rw ab_utf8 refl
 
 abbrev ungranted_in : State
 ungranted_in = then announced_in (Replace both_listed) (ends_under_a ∷ [])
@@ -83,8 +94,13 @@ ungranted_is = ap (λ s. then s (Replace both_listed) (ends_under_a ∷ [])) ann
 pub stands_under : Lawful opening stands_under_a
 stands_under = (
   home_one,
-  came (s1_home one_listed) inside (Datagram home subscribe_under_a) (subscribes_under_a Allowed ∷ subscribed_under_a ∷ []) inside_is
-      (record { whole = rw under_utf8 refl; exits = refl; clients = (record { fixed = rw (under_utf8, under_utf8) refl }, tt) }),
+  came (s1_home one_listed) inside (Datagram home subscribe_under_a)
+      (subscribes_under_a Allowed ∷ subscribed_under_a ∷ []) inside_is
+      (record {
+        whole = rw under_utf8 refl;
+        exits = refl;
+        clients = (record { fixed = rw (under_utf8, under_utf8) refl }, tt);
+      }),
 )
 
 announced_first : Lawful opening announced_ab
@@ -106,13 +122,15 @@ handed = (
 ungranted : Lawful opening ungranted_ab
 ungranted = (
   announced_first,
-  came announced_ab announced_in (Replace both_listed) (ends_under_a ∷ []) announced_is (record { whole = refl; exits = refl; clients = (record { fixed = refl }, tt) }),
+  came announced_ab announced_in (Replace both_listed) (ends_under_a ∷ []) announced_is
+      (record { whole = refl; exits = refl; clients = (record { fixed = refl }, tt) }),
 )
 
 pub denied : Lawful opening denied_ab
 denied = (
   ungranted,
-  came ungranted_ab ungranted_in (Datagram home accept_ab) (hands_ab (Denied (MissingSub ab)) ∷ []) ungranted_is
+  came ungranted_ab ungranted_in (Datagram home accept_ab)
+      (hands_ab (Denied (MissingSub ab)) ∷ []) ungranted_is
       (record { whole = refl; exits = refl; clients = (record { fixed = refl }, tt) }),
 )
 
@@ -121,8 +139,13 @@ denied = (
 stand_both : Lawful opening stands_twice
 stand_both = (
   stands,
-  came stands_ab ab_in (Datagram home subscribe_under_a) (subscribes_under_a Allowed ∷ subscribed_under_a ∷ []) ab_is
-      (record { whole = rw under_utf8 refl; exits = refl; clients = (record { fixed = rw (under_utf8, under_utf8) refl }, tt) }),
+  came stands_ab ab_in (Datagram home subscribe_under_a)
+      (subscribes_under_a Allowed ∷ subscribed_under_a ∷ []) ab_is
+      (record {
+        whole = rw under_utf8 refl;
+        exits = refl;
+        clients = (record { fixed = rw (under_utf8, under_utf8) refl }, tt);
+      }),
 )
 
 pub once : Lawful opening once_ab
@@ -135,13 +158,20 @@ once = (
 -- ---- rows that may not come
 
 -- the front is handed over though the policy in force denies it
-pub not_unjudged : LawfulRow announced_ungranted (Datagram home accept_ab) (hands_ab Allowed ∷ handed_ab ∷ []) → ⊥
+pub not_unjudged : LawfulRow announced_ungranted (Datagram home accept_ab) (hands_ab Allowed ∷ handed_ab ∷ [])
+    → ⊥
 not_unjudged l =
-    let at : LawfulRow ungranted_in (Datagram home accept_ab) (hands_ab Allowed ∷ handed_ab ∷ []) = subst (λ s. LawfulRow s (Datagram home accept_ab) (hands_ab Allowed ∷ handed_ab ∷ [])) ungranted_is l in
+    let at : LawfulRow ungranted_in (Datagram home accept_ab) (hands_ab Allowed ∷ handed_ab ∷ []) =
+    subst (λ s. LawfulRow s (Datagram home accept_ab) (hands_ab Allowed ∷ handed_ab ∷ [])) ungranted_is
+    l in
     let e = at.clients.0.fixed in cc
 
 -- a message is handed over once for each filter that matches
-pub not_twice : LawfulRow holds_both (Broker message_ab) (hands_ab Allowed ∷ handed_ab ∷ hands_ab Allowed ∷ handed_ab ∷ []) → ⊥
+pub not_twice : LawfulRow holds_both (Broker message_ab)
+    (hands_ab Allowed ∷ handed_ab ∷ hands_ab Allowed ∷ handed_ab ∷ []) → ⊥
 not_twice l =
-    let at : LawfulRow both_in (Broker message_ab) (hands_ab Allowed ∷ handed_ab ∷ hands_ab Allowed ∷ handed_ab ∷ []) = subst (λ s. LawfulRow s (Broker message_ab) (hands_ab Allowed ∷ handed_ab ∷ hands_ab Allowed ∷ handed_ab ∷ [])) both_is l in
+    let at : LawfulRow both_in (Broker message_ab)
+    (hands_ab Allowed ∷ handed_ab ∷ hands_ab Allowed ∷ handed_ab ∷ []) =
+    subst (λ s. LawfulRow s (Broker message_ab)
+    (hands_ab Allowed ∷ handed_ab ∷ hands_ab Allowed ∷ handed_ab ∷ [])) both_is l in
     let e = rw ab_utf8 at at.clients.0.fixed in cc

@@ -18,10 +18,14 @@ use Rattle.sng_history.specs.State.{State, opening, after, state_of}
 use Rattle.sng_history.specs.Lawful.{LawfulRow, Lawful}
 use Rattle.sng_history.specs.Examples.{row}
 use Rattle.sng_history.specs.ExamplesClients.{home, s1, ab, ping_s1, pong, bye, stands_ab, stands_under_a}
-use Rattle.sng_history.specs.ExamplesClients.{message_ab, announces_ab, announcement_ab, accept_ab, hands_ab, handed_ab}
-use Rattle.sng_history.specs.ExamplesSleep.{sleeps_s1, asleep_s1, buffered_ab, woken_s1, drained_s1, sleeps_again, is_asleep, is_buffered, is_woken}
-use Rattle.sng_history.specs.ExamplesSleep.{message_one, handed_one, handed_again, acknowledges_one, retries_ab}
-use Rattle.sng_history.specs.ExamplesSleep.{open_one, again_one, answered_one, tried_out, given_up, is_tried_out}
+use Rattle.sng_history.specs.ExamplesClients.{message_ab, announces_ab, announcement_ab, accept_ab, hands_ab}
+use Rattle.sng_history.specs.ExamplesClients.{handed_ab}
+use Rattle.sng_history.specs.ExamplesSleep.{sleeps_s1, asleep_s1, buffered_ab, woken_s1, drained_s1}
+use Rattle.sng_history.specs.ExamplesSleep.{sleeps_again, is_asleep, is_buffered, is_woken}
+use Rattle.sng_history.specs.ExamplesSleep.{message_one, handed_one, handed_again, acknowledges_one}
+use Rattle.sng_history.specs.ExamplesSleep.{retries_ab}
+use Rattle.sng_history.specs.ExamplesSleep.{open_one, again_one, answered_one, tried_out, given_up}
+use Rattle.sng_history.specs.ExamplesSleep.{is_tried_out}
 use Rattle.sng_history.proofs.WorkedClients.{s1_utf8, s1_chars}
 use Rattle.sng_history.proofs.WorkedAsks.{then, came}
 use Rattle.sng_history.proofs.WorkedSubscriptions.{ab_utf8, stands}
@@ -43,7 +47,9 @@ abbrev waking : State → State
 waking s = then s (Datagram home ping_s1) (announces_ab ∷ announcement_ab ∷ [])
 
 abbrev draining : State → State
-draining s = then s (Datagram home accept_ab) (hands_ab Allowed ∷ handed_ab ∷ hands_ab Allowed ∷ handed_ab ∷ pong home ∷ [])
+draining s =
+    then s (Datagram home accept_ab)
+    (hands_ab Allowed ∷ handed_ab ∷ hands_ab Allowed ∷ handed_ab ∷ pong home ∷ [])
 
 abbrev asleep_in : State
 asleep_in = sleeping under_in
@@ -77,7 +83,8 @@ abbrev woken_in : State
 woken_in = after buffered_in (ByMessage home (ToPing (Some s1))) (announces_ab ∷ announcement_ab ∷ [])
 
 woken_is : is_woken ≡ woken_in
-woken_is = ap waking buffered_is ∙ ap (λ c. after buffered_in c (announces_ab ∷ announcement_ab ∷ [])) cause_ping
+woken_is =
+    ap waking buffered_is ∙ ap (λ c. after buffered_in c (announces_ab ∷ announcement_ab ∷ [])) cause_ping
 
 -- it knows the id of the name then
 abbrev told_ab : Client → Client
@@ -129,7 +136,8 @@ woken = (
 drained : Lawful opening drained_s1
 drained = (
   woken,
-  came woken_s1 woken_in (Datagram home accept_ab) (hands_ab Allowed ∷ handed_ab ∷ hands_ab Allowed ∷ handed_ab ∷ pong home ∷ []) woken_is
+  came woken_s1 woken_in (Datagram home accept_ab)
+      (hands_ab Allowed ∷ handed_ab ∷ hands_ab Allowed ∷ handed_ab ∷ pong home ∷ []) woken_is
       (record { whole = refl; exits = refl; clients = (record { fixed = refl }, tt) }),
 )
 
@@ -154,7 +162,9 @@ open_for sent tries x =
     record x {
       number = 1;
       buffer = record x.buffer {
-        exchange = Some (Acknowledging (record { topic_id = 1; msg_id = 1; sent = sent; tries = tries }) kind.Normal (message ab (0x31 ∷ []) AtLeastOnce false));
+        exchange =
+            Some (Acknowledging (record { topic_id = 1; msg_id = 1; sent = sent; tries = tries }) kind.Normal
+            (message ab (0x31 ∷ []) AtLeastOnce false));
       };
     }
 
@@ -162,7 +172,11 @@ abbrev open_at : State → ℕ → ℕ → State
 open_at s sent tries = record s { clients = map (open_for sent tries) s.clients }
 
 abbrev open_in : State
-open_in = open_at (record ab_in { link = record ab_in.link { waiting = ab_in.link.waiting ++ item.Acknowledge 5 ∷ [] } }) 0 0
+open_in =
+    open_at (record ab_in {
+      link =
+          record ab_in.link { waiting = ab_in.link.waiting ++ item.Acknowledge 5 ∷ [] };
+    }) 0 0
 
 open_is : state_of opening open_one ≡ open_in
 open_is = ap handing ab_is ∙ rw ab_utf8 refl
@@ -183,7 +197,8 @@ early_in = then open_in (Tick 9999) []
 not_yet : Lawful opening early
 not_yet = (
   opened,
-  came open_one open_in (Tick 9999) [] open_is (record { whole = refl; exits = refl; clients = (record { fixed = refl }, tt) }),
+  came open_one open_in (Tick 9999) [] open_is
+      (record { whole = refl; exits = refl; clients = (record { fixed = refl }, tt) }),
 )
 
 abbrev again_in : State
@@ -195,7 +210,8 @@ again_is = ap (λ s. retrying 10000 (then s (Tick 9999) [])) open_is
 again : Lawful opening again_one
 again = (
   not_yet,
-  came early early_in (Tick 10000) (retries_ab Allowed ∷ handed_again ∷ []) (ap (λ s. then s (Tick 9999) []) open_is)
+  came early early_in (Tick 10000) (retries_ab Allowed ∷ handed_again ∷ [])
+      (ap (λ s. then s (Tick 9999) []) open_is)
       (record { whole = refl; exits = refl; clients = (record { fixed = refl }, tt) }),
 )
 
@@ -259,17 +275,20 @@ gave_up = (
 -- ---- rows that may not come
 
 -- PINGRESP comes though something is open, and waits
-pub not_early : LawfulRow is_buffered (Datagram home ping_s1) (announces_ab ∷ announcement_ab ∷ pong home ∷ []) → ⊥
+pub not_early : LawfulRow is_buffered (Datagram home ping_s1)
+    (announces_ab ∷ announcement_ab ∷ pong home ∷ []) → ⊥
 not_early l =
     let outs : List Out = announces_ab ∷ announcement_ab ∷ pong home ∷ [] in
-    let at : LawfulRow buffered_in (Datagram home ping_s1) outs = subst (λ s. LawfulRow s (Datagram home ping_s1) outs) buffered_is l in
+    let at : LawfulRow buffered_in (Datagram home ping_s1) outs =
+    subst (λ s. LawfulRow s (Datagram home ping_s1) outs) buffered_is l in
     let e = rw (s1_utf8, s1_chars) at at.whole in cc
 
 -- a client that sleeps is sent a message
 pub not_asleep : LawfulRow is_asleep (Broker message_ab) (announces_ab ∷ announcement_ab ∷ []) → ⊥
 not_asleep l =
     let outs : List Out = announces_ab ∷ announcement_ab ∷ [] in
-    let at : LawfulRow asleep_in (Broker message_ab) outs = subst (λ s. LawfulRow s (Broker message_ab) outs) asleep_is l in
+    let at : LawfulRow asleep_in (Broker message_ab) outs =
+    subst (λ s. LawfulRow s (Broker message_ab) outs) asleep_is l in
     let e = rw ab_utf8 at at.clients.0.fixed in cc
 
 -- it is sent again a fourth time

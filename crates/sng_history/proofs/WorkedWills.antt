@@ -15,8 +15,10 @@ use Rattle.sng_history.specs.Lawful.{LawfulRow, Lawful}
 use Rattle.sng_history.specs.Examples.{row}
 use Rattle.sng_history.specs.ExamplesClients.{home, s1, t1, t2, lets_in, welcome, refusal, disconnect, bye}
 use Rattle.sng_history.specs.ExamplesClients.{forward_t1, packet_t1}
-use Rattle.sng_history.specs.ExamplesWills.{connect_will, topic_t1, topic_t2, message_31, asks_topic, asks_message, states}
-use Rattle.sng_history.specs.ExamplesWills.{ping_broker, packet_twice, will_asked, will_refused, topic_stated, will_stated}
+use Rattle.sng_history.specs.ExamplesWills.{connect_will, topic_t1, topic_t2, message_31, asks_topic}
+use Rattle.sng_history.specs.ExamplesWills.{asks_message, states}
+use Rattle.sng_history.specs.ExamplesWills.{ping_broker, packet_twice, will_asked, will_refused, topic_stated}
+use Rattle.sng_history.specs.ExamplesWills.{will_stated}
 use Rattle.sng_history.specs.ExamplesWills.{minute_half, lost_s1, will_published, left_s1, will_unpublished}
 use Rattle.sng_history.specs.ExamplesWills.{awaits_topic, is_silent, is_lost}
 use Rattle.sng_history.proofs.WorkedClients.{hello, s1_utf8, s1_chars}
@@ -55,7 +57,10 @@ stated_is = ap (λ s. messages (topics s)) asked_is
 
 asked : Lawful opening will_asked
 asked = (
-  ((tt, record { whole = refl; exits = refl; clients = tt }), record { whole = refl; exits = refl; clients = tt }),
+  (
+    (tt, record { whole = refl; exits = refl; clients = tt }),
+    record { whole = refl; exits = refl; clients = tt },
+  ),
   record {
     whole = rw (s1_utf8, s1_chars) refl;
     exits = rw (s1_utf8, s1_chars) refl;
@@ -66,7 +71,8 @@ asked = (
 pub refused : Lawful opening will_refused
 refused = (
   asked,
-  came will_asked asked_in (Datagram home topic_t2) (states t2 (Denied (MissingPub t2)) ∷ refusal home ∷ Note (Left s1) ∷ []) asked_is
+  came will_asked asked_in (Datagram home topic_t2)
+      (states t2 (Denied (MissingPub t2)) ∷ refusal home ∷ Note (Left s1) ∷ []) asked_is
       (record { whole = refl; exits = refl; clients = (record { fixed = rw t2_utf8 refl }, tt) }),
 )
 
@@ -80,7 +86,8 @@ topic = (
 stated : Lawful opening will_stated
 stated = (
   topic,
-  came topic_stated topic_in (Datagram home message_31) (states t1 Allowed ∷ welcome home ∷ []) (ap topics asked_is)
+  came topic_stated topic_in (Datagram home message_31) (states t1 Allowed ∷ welcome home ∷ [])
+      (ap topics asked_is)
       (record { whole = refl; exits = refl; clients = (record { fixed = rw t1_utf8 refl }, tt) }),
 )
 
@@ -101,7 +108,8 @@ ping_waits = row (Tick 30000) [] ∷ will_stated
 waits : Lawful opening ping_waits
 waits = (
   stated,
-  came will_stated stated_in (Tick 30000) [] stated_is (record { whole = refl; exits = refl; clients = (record { fixed = refl }, tt) }),
+  came will_stated stated_in (Tick 30000) [] stated_is
+      (record { whole = refl; exits = refl; clients = (record { fixed = refl }, tt) }),
 )
 
 half : Lawful opening minute_half
@@ -156,7 +164,8 @@ quiet = row (Tick 90000) [] ∷ left_s1
 stays : Lawful opening quiet
 stays = (
   left,
-  came left_s1 left_in (Tick 90000) [] left_is (record { whole = refl; exits = refl; clients = (record { fixed = refl }, tt) }),
+  came left_s1 left_in (Tick 90000) [] left_is
+      (record { whole = refl; exits = refl; clients = (record { fixed = refl }, tt) }),
 )
 
 pub unpublished : Lawful opening will_unpublished
@@ -170,10 +179,12 @@ unpublished = (
 -- ---- rows that may not come
 
 -- the dialogue goes on with a topic that is not granted
-pub not_ungranted : LawfulRow awaits_topic (Datagram home topic_t2) (states t2 Allowed ∷ asks_message ∷ []) → ⊥
+pub not_ungranted : LawfulRow awaits_topic (Datagram home topic_t2) (states t2 Allowed ∷ asks_message ∷ [])
+    → ⊥
 not_ungranted l =
     let outs : List Out = states t2 Allowed ∷ asks_message ∷ [] in
-    let at : LawfulRow asked_in (Datagram home topic_t2) outs = subst (λ s. LawfulRow s (Datagram home topic_t2) outs) asked_is l in
+    let at : LawfulRow asked_in (Datagram home topic_t2) outs =
+    subst (λ s. LawfulRow s (Datagram home topic_t2) outs) asked_is l in
     let e = rw t2_utf8 at at.clients.0.fixed in cc
 
 -- the client is kept one tick more

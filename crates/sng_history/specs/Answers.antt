@@ -15,20 +15,26 @@ use Rattle.sng_frames.specs.declared.messages.subscribe.TopicRequest.{TopicReque
 use Rattle.sng_frames.specs.declared.frame.SnFrame.{SnFrame}
 use Rattle.sng_frames.specs.declared.frame.SnFrame.TheVariants as frame
 use Rattle.sng_frames.specs.declared.return_code.ReturnCode.{ReturnCode}
-use Rattle.sng_frames.specs.declared.return_code.TheConstants.ReturnCode.{ACCEPTED, CONGESTION, INVALID_TOPIC_ID, NOT_SUPPORTED}
+use Rattle.sng_frames.specs.declared.return_code.TheConstants.ReturnCode.{ACCEPTED, CONGESTION}
+use Rattle.sng_frames.specs.declared.return_code.TheConstants.ReturnCode.{INVALID_TOPIC_ID, NOT_SUPPORTED}
 use Rattle.sng_book.specs.declared.address.Address.{Address}
 use Rattle.sng_book.specs.declared.decision.Decision.{Decision}
 use Rattle.sng_book.specs.declared.decision.Decision.TheVariants as note
 use Rattle.sng_book.specs.declared.decision.Who.{Who}
 use Rattle.sng_book.specs.declared.outcome.Denial.{Denial}
-use Rattle.sng_book.specs.declared.outcome.Denial.TheVariants.{Malformed, NotSupported, NoScope, NoSession, UnknownSource, BadName, BadFilter, IdType, UnknownId, MissingPub, MissingSub, Uncovered, ClientRefused, BrokerRefused, OutOfTurn, UpstreamDown, Full, TooLong, Gone}
+use Rattle.sng_book.specs.declared.outcome.Denial.TheVariants.{Malformed, NotSupported, NoScope, NoSession}
+use Rattle.sng_book.specs.declared.outcome.Denial.TheVariants.{UnknownSource, BadName, BadFilter, IdType}
+use Rattle.sng_book.specs.declared.outcome.Denial.TheVariants.{UnknownId, MissingPub, MissingSub, Uncovered}
+use Rattle.sng_book.specs.declared.outcome.Denial.TheVariants.{ClientRefused, BrokerRefused, OutOfTurn}
+use Rattle.sng_book.specs.declared.outcome.Denial.TheVariants.{UpstreamDown, Full, TooLong, Gone}
 use Rattle.sng_book.specs.declared.outcome.Outcome.TheVariants.{Denied}
 use Rattle.sng_book.specs.declared.out.Out.{Out}
 use Rattle.sng_book.specs.declared.out.Out.TheVariants.{Send}
 use Rattle.sng_history.specs.Causes.{Statement, StatesTopic, StatesMessage, UpdatesTopic, UpdatesMessage}
 use Rattle.sng_history.specs.Requests.{granted, gets_id, id_in}
 
--- a message that is denied before a name was read: an ask under its own kind, any other as a frame. A CONNECT has a row of its own
+-- a message that is denied before a name was read: an ask under its own kind, any other as a frame. A CONNECT
+-- has a row of its own
 abbrev pub denied_note : SnFrame → Who → Denial → Decision
 denied_note (frame.Connect connect) who rule = note.Frame who (Denied rule)
 denied_note (frame.Register register) who rule = note.Register who None (Denied rule)
@@ -79,13 +85,29 @@ code_of Gone = NOT_SUPPORTED
 
 -- no flag of a refused SUBACK is set
 abbrev pub no_flags : Flags
-no_flags = record { dup = false; qos = qos.AtMostOnce; retain = false; will = false; clean = false; id_type = Normal }
+no_flags =
+    record {
+      dup = false;
+      qos = qos.AtMostOnce;
+      retain = false;
+      will = false;
+      clean = false;
+      id_type = Normal;
+    }
 
 -- the acknowledgement of a client's message that is refused; what is not an ask has none
 abbrev pub refusal : SnFrame → ReturnCode → Option SnFrame
-refusal (frame.Register register) code = Some (frame.RegisterAck (record { topic_id = 0; msg_id = register.msg_id; code = code }))
-refusal (frame.Publish p) code = Some (frame.PublishAck (record { topic_id = p.topic_id; msg_id = p.msg_id; code = code }))
-refusal (frame.Subscribe request) code = Some (frame.SubscribeAck (record { flags = no_flags; topic_id = 0; msg_id = request.msg_id; code = code }))
+refusal (frame.Register register) code =
+    Some (frame.RegisterAck (record { topic_id = 0; msg_id = register.msg_id; code = code }))
+refusal (frame.Publish p) code =
+    Some (frame.PublishAck (record { topic_id = p.topic_id; msg_id = p.msg_id; code = code }))
+refusal (frame.Subscribe request) code =
+    Some (frame.SubscribeAck (record {
+      flags = no_flags;
+      topic_id = 0;
+      msg_id = request.msg_id;
+      code = code;
+    }))
 refusal (frame.Unsubscribe request) code = Some (frame.UnsubscribeAck request.msg_id)
 refusal (frame.WillTopicUpdate topic) code = Some (frame.WillTopicResponse code)
 refusal (frame.WillMessageUpdate message) code = Some (frame.WillMessageResponse code)
@@ -115,18 +137,23 @@ sent_to to (Some message) = Send to (written message) ∷ []
 abbrev pub refused : Address → SnFrame → Denial → List Out
 refused to message rule = sent_to to (refusal message (code_of rule))
 
--- the acknowledgement of a REGISTER that is allowed tells the id; that of a PUBLISH is sent at QoS 1 (MQTT-SN 1.2, 5.4.11 and 5.4.13)
+-- the acknowledgement of a REGISTER that is allowed tells the id; that of a PUBLISH is sent at QoS 1 (MQTT-SN
+-- 1.2, 5.4.11 and 5.4.13)
 abbrev pub regack : Address → ℕ → ℕ → Out
-regack to topic_id msg_id = Send to (written (frame.RegisterAck (record { topic_id = topic_id; msg_id = msg_id; code = ACCEPTED })))
+regack to topic_id msg_id =
+    Send to (written (frame.RegisterAck (record { topic_id = topic_id; msg_id = msg_id; code = ACCEPTED })))
 
 abbrev pub puback : Address → Publish → FrameQos → List Out
-puback to p qos.AtLeastOnce = Send to (written (frame.PublishAck (record { topic_id = p.topic_id; msg_id = p.msg_id; code = ACCEPTED }))) ∷ []
+puback to p qos.AtLeastOnce =
+    Send to (written (frame.PublishAck
+    (record { topic_id = p.topic_id; msg_id = p.msg_id; code = ACCEPTED }))) ∷ []
 puback to p qos.AtMostOnce = []
 puback to p qos.ExactlyOnce = []
 puback to p qos.WithoutSession = []
 
--- the SUBACK of a SUBSCRIBE that is allowed says the QoS that is granted, and the topic id: the predefined one that came, or the one that a
--- name gets; a filter with wildcards and a name of two octets have none (MQTT-SN 1.2, 5.4.16)
+-- the SUBACK of a SUBSCRIBE that is allowed says the QoS that is granted, and the topic id: the predefined
+-- one that came, or the one that a name gets; a filter with wildcards and a name of two octets have none
+-- (MQTT-SN 1.2, 5.4.16)
 abbrev pub flags_of : Qos → Flags
 flags_of AtMostOnce = no_flags
 flags_of AtLeastOnce = record no_flags { qos = qos.AtLeastOnce }
@@ -161,12 +188,14 @@ pong to = Send to (written frame.PingResponse)
 abbrev pub dismissed : Address → Out
 dismissed to = Send to (written (frame.Disconnect None))
 
--- what a CONNECT that is accepted is answered: one with Will by WILLTOPICREQ, any other by CONNACK (MQTT-SN 1.2, 6.2 and 6.3)
+-- what a CONNECT that is accepted is answered: one with Will by WILLTOPICREQ, any other by CONNACK (MQTT-SN
+-- 1.2, 6.2 and 6.3)
 abbrev pub welcome : Connect → Address → Out
-welcome connect to = if connect.flags.will then Send to (written frame.WillTopicRequest) else connack to ACCEPTED
+welcome connect to =
+    if connect.flags.will then Send to (written frame.WillTopicRequest) else connack to ACCEPTED
 
--- the answer to a statement of a will that is allowed: a WILLTOPIC with a topic lets its message be asked for, the end of the dialogue is
--- answered by CONNACK, and an update by its own acknowledgement
+-- the answer to a statement of a will that is allowed: a WILLTOPIC with a topic lets its message be asked
+-- for, the end of the dialogue is answered by CONNACK, and an update by its own acknowledgement
 abbrev pub statement_answer : Statement → Address → Out
 statement_answer (StatesTopic None) to = connack to ACCEPTED
 statement_answer (StatesTopic (Some topic)) to = Send to (written frame.WillMessageRequest)

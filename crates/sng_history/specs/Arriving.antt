@@ -1,5 +1,5 @@
--- What a message of the broker is to a client: whether it is due to it, and whether it comes to wait (MQTT 3.1.1, 3.3.1 and 3.3.5; MQTT-SN
--- 1.2, 6.10 and 6.14).
+-- What a message of the broker is to a client: whether it is due to it, and whether it comes to wait (MQTT
+-- 3.1.1, 3.3.1 and 3.3.5; MQTT-SN 1.2, 6.10 and 6.14).
 use Rattle.std.specs.Prelude.{ℕ, ◌&&◌, nat_le, List, [], ◌∷◌, ◌++◌, length, if◌then◌else◌, Option, Some, None}
 use Rattle.sng_text.specs.Texts.{is_name}
 use Rattle.sng_text.specs.declared.qos.Qos.{Qos}
@@ -34,10 +34,11 @@ abbrev pub granted_at : Publish → Option Qos → Option Message
 granted_at p None = None
 granted_at p (Some granted) = Some (message p.name p.payload (lesser (sent_at p.packet_id) granted) p.retain)
 
--- the message as it is due to a client in this state, for whom these filters stand: once, at the lesser of its QoS and the greatest that
--- is granted among the filters that match
+-- the message as it is due to a client in this state, for whom these filters stand: once, at the lesser of
+-- its QoS and the greatest that is granted among the filters that match
 abbrev pub due_to : Publish → ClientState → List Held → Option Message
-due_to p phase filters = if is_name p.name && is_due_messages phase then granted_at p (greatest_qos filters p.name) else None
+due_to p phase filters =
+    if is_name p.name && is_due_messages phase then granted_at p (greatest_qos filters p.name) else None
 
 -- what becomes of a message that is due: it waits, but where no datagram can carry it, or as many wait as may
 abbrev pub arrival : Buffer → Message → Outcome

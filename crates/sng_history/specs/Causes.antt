@@ -1,5 +1,5 @@
--- What an event asks of the gateway: a datagram as the message that it holds (MQTT-SN 1.2, 5.4), anything else as it is. A message that
--- is taken one day is one more case of a request.
+-- What an event asks of the gateway: a datagram as the message that it holds (MQTT-SN 1.2, 5.4), anything
+-- else as it is. A message that is taken one day is one more case of a request.
 use Rattle.std.specs.Prelude.{ℕ, List, Option, Some, None, Ok, Err}
 use Rattle.std.specs.declared.result.Result.{Result}
 use Rattle.sng_grants.specs.declared.policy.Policy.{Policy}

@@ -1,10 +1,13 @@
--- One client of the gateway (MQTT-SN 1.2, 6.2 to 6.14): what is kept of it, and how an event and the notes of a row move it.
-use Rattle.std.specs.Prelude.{ℕ, ◌==◌, ◌&&◌, Bool, true, false, List, [], ◌∷◌, is_none, slice_get, if◌then◌else◌, Option, Some, None, unwrap_or}
+-- One client of the gateway (MQTT-SN 1.2, 6.2 to 6.14): what is kept of it, and how an event and the notes of
+-- a row move it.
+use Rattle.std.specs.Prelude.{ℕ, ◌==◌, ◌&&◌, Bool, true, false, List, [], ◌∷◌, is_none, slice_get}
+use Rattle.std.specs.Prelude.{if◌then◌else◌, Option, Some, None, unwrap_or}
 use Rattle.std.specs.Option.{option_and_then}
 use Rattle.std.specs.Str.{bytes_eq}
 use Rattle.sng_grants.specs.declared.policy.Policy.{Policy}
 use Rattle.sng_states.specs.declared.state.ClientState.{ClientState}
-use Rattle.sng_states.specs.declared.state.ClientState.TheVariants.{Dialogue, Active, Asleep, Awake, Disconnected, Lost}
+use Rattle.sng_states.specs.declared.state.ClientState.TheVariants.{Dialogue, Active, Asleep, Awake}
+use Rattle.sng_states.specs.declared.state.ClientState.TheVariants.{Disconnected, Lost}
 use Rattle.sng_states.specs.States.{has_session, takes_messages, is_due_messages, is_asleep, is_awake}
 use Rattle.sng_ids.specs.Ids.{Ids, id_for, with_name, confirmed}
 use Rattle.sng_queue.specs.Messages.{Message}
@@ -12,7 +15,8 @@ use Rattle.sng_queue.specs.Exchanges.{repeat}
 use Rattle.sng_queue.specs.Buffers.{Buffer, nothing, settle, announce}
 use Rattle.sng_fan.specs.declared.held.Held.{Held}
 use Rattle.sng_fan.specs.Subscriptions.{with_filter, without_filter}
-use Rattle.sng_wills.specs.Wills.{Wills, stated_topic, after_topic, after_message, after_topic_update, after_message_update}
+use Rattle.sng_wills.specs.Wills.{Wills, stated_topic, after_topic, after_message, after_topic_update}
+use Rattle.sng_wills.specs.Wills.{after_message_update}
 use Rattle.sng_wills.specs.declared.will.Stage.TheVariants.{Closed, TopicAwaited}
 use Rattle.sng_wills.specs.declared.will.StatedTopic.{StatedTopic}
 use Rattle.sng_frames.specs.declared.messages.connect.Connect.{Connect}
@@ -24,18 +28,26 @@ use Rattle.sng_book.specs.declared.decision.Decision.{Decision}
 use Rattle.sng_book.specs.declared.decision.Decision.TheVariants as note
 use Rattle.sng_book.specs.declared.outcome.Place.TheVariants as place
 use Rattle.sng_book.specs.declared.outcome.Denial.{Denial}
-use Rattle.sng_book.specs.declared.outcome.Denial.TheVariants.{Malformed, NotSupported, NoScope, NoSession, UnknownSource, BadName, BadFilter, IdType, UnknownId, MissingPub, MissingSub, Uncovered, ClientRefused, BrokerRefused, OutOfTurn, UpstreamDown, Full, TooLong, Gone}
+use Rattle.sng_book.specs.declared.outcome.Denial.TheVariants.{Malformed, NotSupported, NoScope, NoSession}
+use Rattle.sng_book.specs.declared.outcome.Denial.TheVariants.{UnknownSource, BadName, BadFilter, IdType}
+use Rattle.sng_book.specs.declared.outcome.Denial.TheVariants.{UnknownId, MissingPub, MissingSub, Uncovered}
+use Rattle.sng_book.specs.declared.outcome.Denial.TheVariants.{ClientRefused, BrokerRefused, OutOfTurn}
+use Rattle.sng_book.specs.declared.outcome.Denial.TheVariants.{UpstreamDown, Full, TooLong, Gone}
 use Rattle.sng_book.specs.declared.outcome.Outcome.{Outcome}
 use Rattle.sng_book.specs.declared.outcome.Outcome.TheVariants.{Allowed, Denied}
 use Rattle.sng_book.specs.Denials.{is_allowed}
 use Rattle.sng_history.specs.Causes.{Cause, request_of, subscribe_asked, statement_asked}
 use Rattle.sng_history.specs.Causes.{Statement, StatesTopic, StatesMessage, UpdatesTopic, UpdatesMessage}
-use Rattle.sng_history.specs.Causes.{Request, ToPing, ToLeave, ToSleep, ToRegister, ToPublish, ToSubscribe, ToUnsubscribe, ToConfirm, ToAcknowledge, ToState, Untaken}
-use Rattle.sng_history.specs.Causes.{ByConnect, ByMessage, BySource, ByBroken, ByPacket, ByUp, ByDown, ByTake, ByReplace, ByTick}
+use Rattle.sng_history.specs.Causes.{Request, ToPing, ToLeave, ToSleep, ToRegister, ToPublish, ToSubscribe}
+use Rattle.sng_history.specs.Causes.{ToUnsubscribe, ToConfirm, ToAcknowledge, ToState, Untaken}
+use Rattle.sng_history.specs.Causes.{ByConnect, ByMessage, BySource, ByBroken, ByPacket, ByUp, ByDown, ByTake}
+use Rattle.sng_history.specs.Causes.{ByReplace, ByTick}
 use Rattle.sng_history.specs.Requests.{granted, gets_id}
-use Rattle.sng_history.specs.Packets.{Answer, Delivers, Acknowledges, Grants, Refuses, Confirms, Strange, answer_of}
+use Rattle.sng_history.specs.Packets.{Answer, Delivers, Acknowledges, Grants, Refuses, Confirms, Strange}
+use Rattle.sng_history.specs.Packets.{answer_of}
 use Rattle.sng_history.specs.Arriving.{due_to, joins}
-use Rattle.sng_history.specs.Handing.{number_after, known_as, front, number_handed, buffer_handed, answers_announcement, ends_exchange}
+use Rattle.sng_history.specs.Handing.{number_after, known_as, front, number_handed, buffer_handed}
+use Rattle.sng_history.specs.Handing.{answers_announcement, ends_exchange}
 
 -- all that is kept of a client
 pub record Client : Type 0 where
@@ -56,7 +68,8 @@ pub record Client : Type 0 where
   pub duration : ℕ
   pub heard : ℕ
 
--- what the notes of a row are read by: the policy and the clock in force at its judgements, and what brought it
+-- what the notes of a row are read by: the policy and the clock in force at its judgements, and what brought
+-- it
 pub record Around : Type 0 where
   pub policy : Policy
   pub clock : ℕ
@@ -130,7 +143,8 @@ abbrev pub confirmed_with : TopicAck → Client → Client
 confirmed_with r x =
     if r.code.0 == 0 then record (closed x) { ids = confirmed r.topic_id x.ids } else x
 
--- a client falls asleep: nothing is open with it, what waits stays, and from then on its Duration counts (MQTT-SN 1.2, 6.14)
+-- a client falls asleep: nothing is open with it, what waits stays, and from then on its Duration counts
+-- (MQTT-SN 1.2, 6.14)
 abbrev pub asleep : ℕ → Client → Client
 asleep duration x = record (closed x) { phase = Asleep; duration = duration }
 
@@ -184,10 +198,11 @@ delivered_by (ByTick clock) x = x
 -- the client as the notes of the row begin: by a message of its own it is heard
 abbrev pub start_by : Around → Client → Client
 start_by a x =
-    if is_author a.cause x then answered_by (request_of a.cause) (record x { heard = a.clock }) else delivered_by a.cause x
+    if is_author a.cause x then answered_by (request_of a.cause) (record x { heard = a.clock })
+    else delivered_by a.cause x
 
--- no exchange and no dialogue is open any more; a clean CONNECT ends also what stands and waits for the client, and its will (MQTT-SN
--- 1.2, 6.2 and 6.3)
+-- no exchange and no dialogue is open any more; a clean CONNECT ends also what stands and waits for the
+-- client, and its will (MQTT-SN 1.2, 6.2 and 6.3)
 abbrev pub cleaned : Bool → Client → Client
 cleaned clean x =
     if clean
@@ -197,13 +212,15 @@ cleaned clean x =
 -- a CONNECT with Will opens a dialogue, in which a WILLTOPIC is awaited; after any other the client is active
 abbrev pub opened : Bool → Client → Client
 opened will x =
-    if will then record x { phase = Dialogue; wills = record x.wills { stage = TopicAwaited } } else record x { phase = Active }
+    if will then record x { phase = Dialogue; wills = record x.wills { stage = TopicAwaited } }
+    else record x { phase = Active }
 
 -- a CONNECT is accepted: the client is where it came from, and knows no topic id
 abbrev pub let_in : ℕ → Address → Connect → Client → Client
 let_in clock from connect x =
     opened connect.flags.will
-    (cleaned connect.flags.clean (record x { address = from; ids = []; duration = connect.duration; heard = clock }))
+    (cleaned connect.flags.clean (record x
+    { address = from; ids = []; duration = connect.duration; heard = clock }))
 
 abbrev pub entered_by : ℕ → Cause → Client → Client
 entered_by clock (ByConnect from connect) x = let_in clock from connect x
@@ -217,12 +234,13 @@ entered_by clock ByTake x = x
 entered_by clock (ByReplace policy) x = x
 entered_by now (ByTick clock) x = x
 
--- a client leaves: nothing is open with it, and what waits for it is gone; its subscriptions, its will and its ids stay
+-- a client leaves: nothing is open with it, and what waits for it is gone; its subscriptions, its will and
+-- its ids stay
 abbrev pub gone : Client → Client
 gone x = record x { phase = Disconnected; wills = record x.wills { stage = Closed }; buffer = nothing }
 
--- a client is lost as it was silent for too long: nothing is open with it, and what waits for it is gone; its subscriptions, its will and
--- its ids stay
+-- a client is lost as it was silent for too long: nothing is open with it, and what waits for it is gone; its
+-- subscriptions, its will and its ids stay
 abbrev pub lost : Client → Client
 lost x = record x { phase = Lost; wills = record x.wills { stage = Closed }; buffer = nothing }
 
@@ -234,8 +252,8 @@ topic_stated w = stated_topic w.topic (granted w.flags.qos) w.flags.retain
 abbrev pub no_will : Wills
 no_will = record { stage = Closed; will = None }
 
--- a statement that is allowed moves the will: a WILLTOPIC lets its message be awaited, an empty one deletes the will, and so does an empty
--- WILLTOPICUPD; else the will is of what is stated
+-- a statement that is allowed moves the will: a WILLTOPIC lets its message be awaited, an empty one deletes
+-- the will, and so does an empty WILLTOPICUPD; else the will is of what is stated
 abbrev pub wills_stated : Statement → Wills → Wills
 wills_stated (StatesTopic None) wills = no_will
 wills_stated (StatesTopic (Some w)) wills = unwrap_or (after_topic (topic_stated w) wills) wills
@@ -253,7 +271,8 @@ phase_stated (UpdatesTopic topic) phase = phase
 phase_stated (UpdatesMessage message) phase = phase
 
 abbrev pub stated : Statement → Client → Client
-stated statement x = record x { phase = phase_stated statement x.phase; wills = wills_stated statement x.wills }
+stated statement x =
+    record x { phase = phase_stated statement x.phase; wills = wills_stated statement x.wills }
 
 -- where a statement is not allowed, and where there is none, as for the will of a lost client, nothing moves
 abbrev pub stated_by : Option Statement → Outcome → Client → Client
@@ -271,7 +290,8 @@ registered (Some name) Allowed ids = told name ids
 registered (Some name) (Denied rule) ids = ids
 registered None outcome ids = ids
 
--- a SUBSCRIBE that is allowed lets its filter stand, and tells the client an id where the filter is a name that gets one
+-- a SUBSCRIBE that is allowed lets its filter stand, and tells the client an id where the filter is a name
+-- that gets one
 abbrev pub standing : TopicRequest → List ℕ → Client → Client
 standing r filter x = record x {
   filters = with_filter x.filters filter (granted r.flags.qos);

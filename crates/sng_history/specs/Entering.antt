@@ -1,5 +1,5 @@
--- The clients as a CONNECT is accepted or denied, said of each by its id and where it is, with no notes; and how what waits for the one
--- that connects is handed over then.
+-- The clients as a CONNECT is accepted or denied, said of each by its id and where it is, with no notes; and
+-- how what waits for the one that connects is handed over then.
 use Rattle.std.specs.Prelude.{ℕ, List, [], ◌∷◌, ◌++◌, map, if◌then◌else◌}
 use Rattle.std.specs.Str.{bytes_eq}
 use Rattle.sng_frames.specs.declared.messages.connect.Connect.{Connect}
@@ -16,10 +16,12 @@ heard_at clock x = record x { heard = clock }
 abbrev pub left_at : ℕ → Client → Client
 left_at clock x = gone (heard_at clock x)
 
--- one of the clients, as a CONNECT is accepted: it is the one that connects, or another one at the address, or neither
+-- one of the clients, as a CONNECT is accepted: it is the one that connects, or another one at the address,
+-- or neither
 abbrev pub entering : ℕ → Address → Connect → Client → Client
 entering clock from connect x =
-    if bytes_eq connect.client_id x.id then let_in clock from connect x else (if is_here x from then left_at clock x else x)
+    if bytes_eq connect.client_id x.id then let_in clock from connect x
+    else (if is_here x from then left_at clock x else x)
 
 -- who comes last among the clients then, where the one that connects was not known
 abbrev pub entering_first : ℕ → Address → Connect → List Client → List Client

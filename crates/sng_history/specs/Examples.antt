@@ -4,7 +4,8 @@ use Rattle.sng_grants.specs.declared.policy.Policy.{Policy}
 use Rattle.sng_book.specs.declared.address.Address.{Address}
 use Rattle.sng_book.specs.declared.decision.Decision.TheVariants.{Publish, Forward, Frame}
 use Rattle.sng_book.specs.declared.decision.Who.TheVariants as who
-use Rattle.sng_book.specs.declared.outcome.Denial.TheVariants.{Malformed, NoSession, UnknownSource, UpstreamDown}
+use Rattle.sng_book.specs.declared.outcome.Denial.TheVariants.{Malformed, NoSession, UnknownSource}
+use Rattle.sng_book.specs.declared.outcome.Denial.TheVariants.{UpstreamDown}
 use Rattle.sng_book.specs.declared.outcome.Outcome.{Outcome}
 use Rattle.sng_book.specs.declared.outcome.Outcome.TheVariants.{Allowed, Denied}
 use Rattle.sng_book.specs.declared.event.Event.{Event}
@@ -26,13 +27,22 @@ at ip = record { ip = ip; port = 4000 }
 
 -- the source may publish under `ab`
 abbrev pub grants_ab : Policy
-grants_ab = record { clients = []; sources = (source, record { filter = codes "ab"; publishes = true; subscribes = false } ∷ []) ∷ []; topics = [] }
+grants_ab =
+    record {
+      clients = [];
+      sources = (
+        source,
+        record { filter = codes "ab"; publishes = true; subscribes = false } ∷ [],
+      ) ∷ [];
+      topics = [];
+    }
 
 -- nothing is granted
 abbrev pub grants_nothing : Policy
 grants_nothing = record { clients = []; sources = []; topics = [] }
 
--- a PUBLISH at QoS -1 under the short name `ab` with the payload `21`, with a Length of one octet and of three
+-- a PUBLISH at QoS -1 under the short name `ab` with the payload `21`, with a Length of one octet and of
+-- three
 abbrev pub publish_ab : List ℕ
 publish_ab = 0x09 ∷ 0x0c ∷ 0x62 ∷ 0x61 ∷ 0x62 ∷ 0x00 ∷ 0x00 ∷ 0x32 ∷ 0x31 ∷ []
 
@@ -59,7 +69,8 @@ packet_ab = Wire (0x30 ∷ 0x06 ∷ 0x00 ∷ 0x02 ∷ 0x61 ∷ 0x62 ∷ 0x32 ∷
 -- policy, up, datagram, take
 abbrev pub before_take : List ℕ → List Row
 before_take datagram =
-    row (Datagram (at source) datagram) (asked_ab source Allowed ∷ []) ∷ row Up [] ∷ row (Replace grants_ab) [] ∷ []
+    row (Datagram (at source) datagram) (asked_ab source Allowed ∷ []) ∷ row Up []
+    ∷ row (Replace grants_ab) [] ∷ []
 
 abbrev pub stored_run : List ℕ → List Row
 stored_run datagram = row Take (forward_ab Allowed ∷ packet_ab ∷ []) ∷ before_take datagram
@@ -67,23 +78,34 @@ stored_run datagram = row Take (forward_ab Allowed ∷ packet_ab ∷ []) ∷ bef
 -- a source that the policy does not list
 abbrev pub unknown_source : List Row
 unknown_source =
-    row Take [] ∷ row (Datagram (at stranger) publish_ab) (Note (Publish (who.Source stranger) None (Denied UnknownSource)) ∷ []) ∷ row Up [] ∷ row (Replace grants_ab) [] ∷ []
+    row Take [] ∷ row (Datagram (at stranger) publish_ab)
+    (Note (Publish (who.Source stranger) None (Denied UnknownSource)) ∷ []) ∷ row Up []
+    ∷ row (Replace grants_ab) [] ∷ []
 
 -- the broker's connection is down
 abbrev pub without_up : List Row
-without_up = row Take [] ∷ row (Datagram (at source) publish_ab) (asked_ab source (Denied UpstreamDown) ∷ []) ∷ row (Replace grants_ab) [] ∷ []
+without_up =
+    row Take [] ∷ row (Datagram (at source) publish_ab) (asked_ab source (Denied UpstreamDown) ∷ [])
+    ∷ row (Replace grants_ab) [] ∷ []
 
--- a publish of a session from an address that has none is answered by DISCONNECT, and what is not a frame by nothing
+-- a publish of a session from an address that has none is answered by DISCONNECT, and what is not a frame by
+-- nothing
 abbrev pub strangers : List Row
 strangers =
-    row (Datagram (at stranger) (0x03 ∷ 0x18 ∷ [])) (Note (Frame (who.Address (at stranger)) (Denied Malformed)) ∷ [])
-    ∷ row (Datagram (at stranger) publish_ab_session) (Note (Publish (who.Address (at stranger)) None (Denied NoSession)) ∷ Send (at stranger) (0x02 ∷ 0x18 ∷ []) ∷ []) ∷ []
+    row (Datagram (at stranger) (0x03 ∷ 0x18 ∷ []))
+    (Note (Frame (who.Address (at stranger)) (Denied Malformed)) ∷ [])
+    ∷ row (Datagram (at stranger) publish_ab_session)
+    (Note (Publish (who.Address (at stranger)) None (Denied NoSession))
+    ∷ Send (at stranger) (0x02 ∷ 0x18 ∷ []) ∷ []) ∷ []
 
 -- the grant is replaced while the publish waits: it is denied as it leaves
 abbrev pub replaced_while_waiting : List Row
-replaced_while_waiting = row Take (forward_ab (Denied UnknownSource) ∷ []) ∷ row (Replace grants_nothing) [] ∷ before_take publish_ab
+replaced_while_waiting =
+    row Take (forward_ab (Denied UnknownSource) ∷ []) ∷ row (Replace grants_nothing) []
+    ∷ before_take publish_ab
 
--- the state in which the publish waits, with the grant in force, with it replaced, and with the connection down
+-- the state in which the publish waits, with the grant in force, with it replaced, and with the connection
+-- down
 abbrev pub waits : State
 waits = state_of opening (before_take publish_ab)
 
@@ -95,4 +117,6 @@ waits_down = record waits { up = false }
 
 -- the publish stays while the connection is down, and leaves over the next one
 abbrev pub kept_while_down : List Row
-kept_while_down = row Take (forward_ab Allowed ∷ packet_ab ∷ []) ∷ row Up [] ∷ row Take [] ∷ row Down [] ∷ before_take publish_ab
+kept_while_down =
+    row Take (forward_ab Allowed ∷ packet_ab ∷ []) ∷ row Up [] ∷ row Take [] ∷ row Down []
+    ∷ before_take publish_ab

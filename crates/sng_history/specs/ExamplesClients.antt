@@ -5,9 +5,12 @@ use Rattle.mqtt_frames.specs.declared.packet.Packet.{Packet}
 use Rattle.mqtt_frames.specs.declared.packet.Packet.TheVariants.{PublishAck}
 use Rattle.mqtt_frames.specs.declared.packet.Packet.TheVariants as packet
 use Rattle.sng_book.specs.declared.address.Address.{Address}
-use Rattle.sng_book.specs.declared.decision.Decision.TheVariants.{Connect, Left, Frame, Register, Publish, Subscribe, Announce, Hand, Forward, Again, End}
+use Rattle.sng_book.specs.declared.decision.Decision.TheVariants.{Connect, Left, Frame, Register, Publish}
+use Rattle.sng_book.specs.declared.decision.Decision.TheVariants.{Subscribe, Announce, Hand, Forward, Again}
+use Rattle.sng_book.specs.declared.decision.Decision.TheVariants.{End}
 use Rattle.sng_book.specs.declared.decision.Who.TheVariants as who
-use Rattle.sng_book.specs.declared.outcome.Denial.TheVariants.{NoScope, NoSession, UnknownId, MissingPub, MissingSub, Uncovered}
+use Rattle.sng_book.specs.declared.outcome.Denial.TheVariants.{NoScope, NoSession, UnknownId, MissingPub}
+use Rattle.sng_book.specs.declared.outcome.Denial.TheVariants.{MissingSub, Uncovered}
 use Rattle.sng_book.specs.declared.outcome.IdKind.TheVariants.{Normal}
 use Rattle.sng_book.specs.declared.outcome.Outcome.{Outcome}
 use Rattle.sng_book.specs.declared.outcome.Outcome.TheVariants.{Allowed, Denied}
@@ -34,7 +37,14 @@ s2 = codes "s2"
 -- `s1` alone has a scope, and both have an empty one
 abbrev pub one_listed : Policy
 one_listed = record {
-  clients = (s1, record { filter = codes "t/1"; publishes = true; subscribes = false } ∷ record { filter = codes "a/#"; publishes = false; subscribes = true } ∷ []) ∷ [];
+  clients = (
+    s1,
+    record {
+      filter = codes "t/1";
+      publishes = true;
+      subscribes = false;
+    } ∷ record { filter = codes "a/#"; publishes = false; subscribes = true } ∷ [],
+  ) ∷ [];
   sources = [];
   topics = [];
 }
@@ -80,11 +90,14 @@ lets_in id = Note (Connect id Allowed)
 
 -- `s1` is let in at home
 abbrev pub s1_home : Policy → List Row
-s1_home policy = row (Datagram home connect_s1) (lets_in s1 ∷ welcome home ∷ []) ∷ row Up [] ∷ row (Replace policy) [] ∷ []
+s1_home policy =
+    row (Datagram home connect_s1) (lets_in s1 ∷ welcome home ∷ []) ∷ row Up [] ∷ row (Replace policy) [] ∷ []
 
 -- a client that is not listed is refused
 abbrev pub not_listed : List Row
-not_listed = row (Datagram away connect_s2) (Note (Connect s2 (Denied (NoScope s2))) ∷ refusal away ∷ []) ∷ s1_home one_listed
+not_listed =
+    row (Datagram away connect_s2) (Note (Connect s2 (Denied (NoScope s2))) ∷ refusal away ∷ [])
+    ∷ s1_home one_listed
 
 -- a client comes from another address: it is dismissed where it was, and there is no session there any more
 abbrev pub moves : List Row
@@ -106,7 +119,8 @@ goes = row (Datagram home disconnect) (Note (Left s1) ∷ bye home ∷ []) ∷ s
 abbrev pub pings : List Row
 pings =
     row (Datagram home ping) (pong home ∷ [])
-    ∷ row (Datagram home ping_s2) (Note (Frame (who.Client s1) (Denied NoSession)) ∷ bye home ∷ []) ∷ s1_home one_listed
+    ∷ row (Datagram home ping_s2) (Note (Frame (who.Client s1) (Denied NoSession)) ∷ bye home ∷ [])
+    ∷ s1_home one_listed
 
 -- the state in which `s1` is at home
 abbrev pub at_home : State
@@ -134,7 +148,8 @@ registered_t1 = Send home (0x07 ∷ 0x0b ∷ 0x00 ∷ 0x01 ∷ 0x00 ∷ 0x01 ∷
 abbrev pub unregistered_t2 : Out
 unregistered_t2 = Send home (0x07 ∷ 0x0b ∷ 0x00 ∷ 0x00 ∷ 0x00 ∷ 0x02 ∷ 0x03 ∷ [])
 
--- PUBLISH at QoS 1 under the id 1 with the payload `31` and the MsgId 5, and PUBACK that accepts it, and that refuses it
+-- PUBLISH at QoS 1 under the id 1 with the payload `31` and the MsgId 5, and PUBACK that accepts it, and that
+-- refuses it
 abbrev pub publish_t1 : List ℕ
 publish_t1 = 0x08 ∷ 0x0c ∷ 0x20 ∷ 0x00 ∷ 0x01 ∷ 0x00 ∷ 0x05 ∷ 0x31 ∷ []
 
@@ -174,7 +189,8 @@ told_t1 = row (Datagram home register_t1) (registers t1 Allowed ∷ registered_t
 -- a name that is not granted gets no id, and an id that was not told has no name
 abbrev pub untold : List Row
 untold =
-    row (Datagram home publish_9) (Note (Publish (who.Client s1) None (Denied (UnknownId Normal 9))) ∷ refused_9 ∷ [])
+    row (Datagram home publish_9)
+    (Note (Publish (who.Client s1) None (Denied (UnknownId Normal 9))) ∷ refused_9 ∷ [])
     ∷ row (Datagram home register_t2) (registers t2 (Denied (MissingPub t2)) ∷ unregistered_t2 ∷ []) ∷ told_t1
 
 -- it publishes, and the publish leaves and is in flight
@@ -186,15 +202,18 @@ flies_t1 = row Take (forward_t1 Allowed ∷ packet_t1 1 ∷ []) ∷ asked_t1
 
 -- over a new connection it is sent again, until the broker acknowledges it
 abbrev pub acknowledged_t1 : List Row
-acknowledged_t1 = row Up [] ∷ row (Broker (PublishAck 1)) [] ∷ row Up (again_t1 Allowed ∷ packet_t1 1 ∷ []) ∷ row Down [] ∷ flies_t1
+acknowledged_t1 =
+    row Up [] ∷ row (Broker (PublishAck 1)) [] ∷ row Up (again_t1 Allowed ∷ packet_t1 1 ∷ []) ∷ row Down []
+    ∷ flies_t1
 
--- the state in which `s1` knows the id 1; in which one publish is in flight and another one waits; and in which one is in flight, and
--- nothing is granted any more
+-- the state in which `s1` knows the id 1; in which one publish is in flight and another one waits; and in
+-- which one is in flight, and nothing is granted any more
 abbrev pub knows_t1 : State
 knows_t1 = state_of opening told_t1
 
 abbrev pub flies_and_waits : State
-flies_and_waits = state_of opening (row (Datagram home publish_t1) (asks_t1 Allowed ∷ accepted_t1 ∷ []) ∷ flies_t1)
+flies_and_waits =
+    state_of opening (row (Datagram home publish_t1) (asks_t1 Allowed ∷ accepted_t1 ∷ []) ∷ flies_t1)
 
 abbrev pub flies_ungranted : State
 flies_ungranted = state_of opening (row (Replace both_listed) [] ∷ flies_t1)
@@ -248,7 +267,8 @@ subscribes_under_a outcome = Note (Subscribe (who.Client s1) (Some under_a) outc
 
 -- the broker's PUBLISH of `a/b` at QoS 0 with the payload `31`
 abbrev pub message_ab : Packet
-message_ab = packet.Publish (record { name = ab; payload = 0x31 ∷ []; packet_id = None; retain = false; dup = false })
+message_ab =
+    packet.Publish (record { name = ab; payload = 0x31 ∷ []; packet_id = None; retain = false; dup = false })
 
 -- REGISTER that announces the id 1 of `a/b` with the MsgId 1, and the REGACK that accepts it
 abbrev pub announces_ab : Out
@@ -269,7 +289,9 @@ handed_ab = Send home (0x08 ∷ 0x0c ∷ 0x00 ∷ 0x00 ∷ 0x01 ∷ 0x00 ∷ 0x0
 
 -- `s1` subscribes by `a/#`, which tells no id
 abbrev pub stands_under_a : List Row
-stands_under_a = row (Datagram home subscribe_under_a) (subscribes_under_a Allowed ∷ subscribed_under_a ∷ []) ∷ s1_home one_listed
+stands_under_a =
+    row (Datagram home subscribe_under_a) (subscribes_under_a Allowed ∷ subscribed_under_a ∷ [])
+    ∷ s1_home one_listed
 
 -- a message under a name that it does not know is announced,
 abbrev pub announced_ab : List Row
@@ -279,7 +301,8 @@ announced_ab = row (Broker message_ab) (announces_ab ∷ announcement_ab ∷ [])
 abbrev pub handed_over_ab : List Row
 handed_over_ab = row (Datagram home accept_ab) (hands_ab Allowed ∷ handed_ab ∷ []) ∷ announced_ab
 
--- a replacement that grants nothing comes before the REGACK: the filter ends, and the message is denied as its turn comes
+-- a replacement that grants nothing comes before the REGACK: the filter ends, and the message is denied as
+-- its turn comes
 abbrev pub ends_under_a : Out
 ends_under_a = Note (End s1 under_a (Denied (Uncovered under_a (codes "a"))))
 
@@ -291,12 +314,14 @@ denied_ab = row (Datagram home accept_ab) (hands_ab (Denied (MissingSub ab)) ∷
 
 -- two filters match the name, which SUBACK told; the message is handed over once
 abbrev pub stands_twice : List Row
-stands_twice = row (Datagram home subscribe_under_a) (subscribes_under_a Allowed ∷ subscribed_under_a ∷ []) ∷ stands_ab
+stands_twice =
+    row (Datagram home subscribe_under_a) (subscribes_under_a Allowed ∷ subscribed_under_a ∷ []) ∷ stands_ab
 
 abbrev pub once_ab : List Row
 once_ab = row (Broker message_ab) (hands_ab Allowed ∷ handed_ab ∷ []) ∷ stands_twice
 
--- the state in which an id is announced and nothing is granted any more, and the one in which both filters stand
+-- the state in which an id is announced and nothing is granted any more, and the one in which both filters
+-- stand
 abbrev pub announced_ungranted : State
 announced_ungranted = state_of opening ungranted_ab
 

@@ -1,4 +1,5 @@
--- Worked rows of clients that sleep, and of what is sent again: histories that are lawful, and rows that are not.
+-- Worked rows of clients that sleep, and of what is sent again: histories that are lawful, and rows that are
+-- not.
 use Rattle.std.specs.Prelude.{ℕ, false, List, [], ◌∷◌, Some}
 use Rattle.mqtt_frames.specs.declared.packet.Packet.{Packet}
 use Rattle.mqtt_frames.specs.declared.packet.Packet.TheVariants as packet
@@ -12,7 +13,8 @@ use Rattle.sng_book.specs.declared.row.Row.{Row}
 use Rattle.sng_history.specs.State.{State, opening, state_of}
 use Rattle.sng_history.specs.Examples.{row}
 use Rattle.sng_history.specs.ExamplesClients.{home, s1, ab, ping_s1, pong, bye, stands_ab, stands_under_a}
-use Rattle.sng_history.specs.ExamplesClients.{message_ab, announces_ab, announcement_ab, accept_ab, hands_ab, handed_ab}
+use Rattle.sng_history.specs.ExamplesClients.{message_ab, announces_ab, announcement_ab, accept_ab, hands_ab}
+use Rattle.sng_history.specs.ExamplesClients.{handed_ab}
 
 -- ---- a client sleeps, wakes, and sleeps again
 
@@ -34,7 +36,8 @@ woken_s1 = row (Datagram home ping_s1) (announces_ab ∷ announcement_ab ∷ [])
 -- and once it accepts that both are handed over, and PINGRESP says that nothing is left
 abbrev pub drained_s1 : List Row
 drained_s1 =
-    row (Datagram home accept_ab) (hands_ab Allowed ∷ handed_ab ∷ hands_ab Allowed ∷ handed_ab ∷ pong home ∷ []) ∷ woken_s1
+    row (Datagram home accept_ab)
+    (hands_ab Allowed ∷ handed_ab ∷ hands_ab Allowed ∷ handed_ab ∷ pong home ∷ []) ∷ woken_s1
 
 -- it sleeps again: the next message waits
 abbrev pub sleeps_again : List Row
@@ -54,7 +57,14 @@ is_woken = state_of opening woken_s1
 
 -- the broker's PUBLISH of `a/b` at QoS 1 with the payload `31` and the packet id 5
 abbrev pub message_one : Packet
-message_one = packet.Publish (record { name = ab; payload = 0x31 ∷ []; packet_id = Some 5; retain = false; dup = false })
+message_one =
+    packet.Publish (record {
+      name = ab;
+      payload = 0x31 ∷ [];
+      packet_id = Some 5;
+      retain = false;
+      dup = false;
+    })
 
 -- PUBLISH at QoS 1 under the id 1 with the MsgId 1; the same with DUP; and the PUBACK of it
 abbrev pub handed_one : Out

@@ -11,7 +11,8 @@ use Rattle.sng_book.specs.declared.out.Out.TheVariants.{Send, Wire, Note}
 use Rattle.sng_book.specs.declared.row.Row.{Row}
 use Rattle.sng_history.specs.State.{State, opening, state_of}
 use Rattle.sng_history.specs.Examples.{row}
-use Rattle.sng_history.specs.ExamplesClients.{one_listed, home, s1, t1, t2, lets_in, welcome, refusal, disconnect, bye}
+use Rattle.sng_history.specs.ExamplesClients.{one_listed, home, s1, t1, t2, lets_in, welcome, refusal}
+use Rattle.sng_history.specs.ExamplesClients.{disconnect, bye}
 use Rattle.sng_history.specs.ExamplesClients.{forward_t1, packet_t1}
 
 -- CONNECT with Will and CleanSession and a Duration of 60 s
@@ -48,12 +49,15 @@ packet_twice = Wire (0x34 ∷ 0x08 ∷ 0x00 ∷ 0x03 ∷ 0x74 ∷ 0x2f ∷ 0x31 
 
 -- `s1` connects with a will, and is asked for its topic
 abbrev pub will_asked : List Row
-will_asked = row (Datagram home connect_will) (lets_in s1 ∷ asks_topic ∷ []) ∷ row Up [] ∷ row (Replace one_listed) [] ∷ []
+will_asked =
+    row (Datagram home connect_will) (lets_in s1 ∷ asks_topic ∷ []) ∷ row Up [] ∷ row (Replace one_listed) []
+    ∷ []
 
 -- a topic that is not granted ends the dialogue, and the client leaves
 abbrev pub will_refused : List Row
 will_refused =
-    row (Datagram home topic_t2) (states t2 (Denied (MissingPub t2)) ∷ refusal home ∷ Note (Left s1) ∷ []) ∷ will_asked
+    row (Datagram home topic_t2) (states t2 (Denied (MissingPub t2)) ∷ refusal home ∷ Note (Left s1) ∷ [])
+    ∷ will_asked
 
 -- one that is granted lets the message be asked for, and with that the client is let in
 abbrev pub topic_stated : List Row

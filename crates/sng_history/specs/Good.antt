@@ -1,5 +1,6 @@
--- What holds of every state between rows that the gateway comes to: its clients are apart, in their ids and where they are, each is at
--- rest, and there are no more than may be. A history may begin at any state, so no law of rows asks for it.
+-- What holds of every state between rows that the gateway comes to: its clients are apart, in their ids and
+-- where they are, each is at rest, and there are no more than may be. A history may begin at any state, so no
+-- law of rows asks for it.
 use Rattle.std.specs.Prelude.{ℕ, ◌≡◌, ◌≤◌, false, not, ◌&&◌, List, [], ◌∷◌, length, if◌then◌else◌, None}
 use Rattle.std.specs.Str.{bytes_eq}
 use Rattle.sng_grants.specs.declared.policy.Policy.{Policy}
@@ -43,8 +44,9 @@ abbrev pub OnePlace : List Client → Type 0
 OnePlace [] = Unit {0}
 OnePlace (x ∷ xs) = Each (Apart x) xs × OnePlace xs
 
--- all that may be handed over was: what waits for a client that takes messages waits behind an open exchange; one is open only with such a
--- client, and with each that is awake; nothing is kept for one that has no session; and a dialogue is open exactly in its phase
+-- all that may be handed over was: what waits for a client that takes messages waits behind an open exchange;
+-- one is open only with such a client, and with each that is awake; nothing is kept for one that has no
+-- session; and a dialogue is open exactly in its phase
 pub record AtRest (x : Client) : Type 0 where
   pub handed : (if is_free x then x.buffer.waiting else []) ≡ []
   pub quiet : (if takes_messages x.phase then None else x.buffer.exchange) ≡ None
@@ -55,7 +57,8 @@ pub record AtRest (x : Client) : Type 0 where
 -- each of these filters is allowed to the client by the policy
 abbrev pub AllCovered : Policy → List ℕ → List Held → Type 0
 AllCovered policy client [] = Unit {0}
-AllCovered policy client (h ∷ held) = (coverage policy client h.filter ≡ Allowed) × AllCovered policy client held
+AllCovered policy client (h ∷ held) =
+    (coverage policy client h.filter ≡ Allowed) × AllCovered policy client held
 
 -- no filter is wanted twice
 abbrev pub WantedOnce : List Wanted → Type 0
@@ -73,7 +76,8 @@ pub record Good (s : State) : Type 0 where
   pub most : length s.clients ≤ MAX_CLIENTS
   -- no more publishes at QoS 1 wait or are in flight than may
   pub few : load (record { waiting = s.link.waiting; in_flight = s.link.in_flight }) ≤ MAX_IN_FLIGHT
-  -- each client's filters stand once, there are no more of them than may be, and the policy in force allows each
+  -- each client's filters stand once, there are no more of them than may be, and the policy in force allows
+  -- each
   pub once : Each (λ x. IsOneClients x.filters) s.clients
   pub covered : Each (λ x. AllCovered s.policy x.id x.filters) s.clients
   -- just the filters that stand for somebody are wanted, each once

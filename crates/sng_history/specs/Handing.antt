@@ -1,6 +1,7 @@
--- How messages are handed over to a client: by which topic id, in which frame, and how the client is moved by it (MQTT-SN 1.2, 5.3.11,
--- 5.4.10, 5.4.12, 6.5, 6.6 and 6.10).
-use Rattle.std.specs.Prelude.{ℕ, ◌+◌, ◌==◌, ◌&&◌, nat_le, Bool, true, false, List, [], ◌∷◌, length, slice_get, if◌then◌else◌, Option, Some, None}
+-- How messages are handed over to a client: by which topic id, in which frame, and how the client is moved by
+-- it (MQTT-SN 1.2, 5.3.11, 5.4.10, 5.4.12, 6.5, 6.6 and 6.10).
+use Rattle.std.specs.Prelude.{ℕ, ◌+◌, ◌==◌, ◌&&◌, nat_le, Bool, true, false, List, [], ◌∷◌, length, slice_get}
+use Rattle.std.specs.Prelude.{if◌then◌else◌, Option, Some, None}
 use Rattle.std.specs.Option.{option_map}
 use Rattle.sng_text.specs.declared.qos.Qos.{Qos}
 use Rattle.sng_text.specs.declared.qos.Qos.TheVariants.{AtMostOnce, AtLeastOnce}
@@ -42,11 +43,12 @@ abbrev pub given_id : Option ℕ → Option ℕ → Option Known
 given_id (Some id) told = Some (known_by kind.Predefined id)
 given_id None told = option_map (known_by kind.Normal) told
 
--- the topic id by which a client knows the name: a name of two octets is its own short name; else the least predefined id that the policy
--- in force gives it; else the id that the client was told, and knows
+-- the topic id by which a client knows the name: a name of two octets is its own short name; else the least
+-- predefined id that the policy in force gives it; else the id that the client was told, and knows
 abbrev pub known_as : Policy → Ids → List ℕ → Option Known
 known_as policy ids name =
-    if length name == 2 then Some (known_by kind.Short (id_in name)) else given_id (topic_id policy name) (id_of name ids)
+    if length name == 2 then Some (known_by kind.Short (id_in name))
+    else given_id (topic_id policy name) (id_of name ids)
 
 -- MsgIds count from 1 to 65,535 and begin again
 abbrev pub number_after : ℕ → ℕ
@@ -70,7 +72,14 @@ msg_id_of AtLeastOnce number = number_after number
 
 abbrev pub publish_flags : Message → TopicIdKind → Flags
 publish_flags m k =
-    record { dup = false; qos = frame_qos m.qos; retain = m.retain; will = false; clean = false; id_type = id_type_of k }
+    record {
+      dup = false;
+      qos = frame_qos m.qos;
+      retain = m.retain;
+      will = false;
+      clean = false;
+      id_type = id_type_of k;
+    }
 
 -- the PUBLISH of the message under the id, where the MsgId before was this one
 abbrev pub handed_out : Address → ℕ → Message → Known → Out
@@ -90,14 +99,16 @@ handed_outs to number (Some m) (Some known) = handed_out to number m known ∷ [
 -- the REGISTER that announces an id of the name
 abbrev pub announced_out : Address → ℕ → Ids → List ℕ → Out
 announced_out to number ids name =
-    Send to (written (frame.Register (record { topic_id = id_for name ids; msg_id = number_after number; name = name })))
+    Send to (written (frame.Register
+    (record { topic_id = id_for name ids; msg_id = number_after number; name = name })))
 
--- what is open, sent again: the REGISTER unchanged, and the PUBLISH with DUP, with the ids of the first sending (MQTT-SN 1.2, 5.3.1, 6.12 and
--- 6.13)
+-- what is open, sent again: the REGISTER unchanged, and the PUBLISH with DUP, with the ids of the first
+-- sending (MQTT-SN 1.2, 5.3.1, 6.12 and 6.13)
 abbrev pub announced_again : Address → Sending → Option Message → List Out
 announced_again to sent None = []
 announced_again to sent (Some m) =
-    Send to (written (frame.Register (record { topic_id = sent.topic_id; msg_id = sent.msg_id; name = m.name }))) ∷ []
+    Send to (written (frame.Register
+    (record { topic_id = sent.topic_id; msg_id = sent.msg_id; name = m.name }))) ∷ []
 
 abbrev pub handed_again : Address → Sending → TopicIdKind → Message → Out
 handed_again to sent k m =

@@ -1,5 +1,6 @@
 -- How each datagram is judged, noted and answered in a lawful history, in the views' words.
-use Rattle.std.specs.Prelude.{ℕ, ◌/◌, ◌%◌, ◌≡◌, ◌==◌, nat_lt, Bool, true, false, ◌&&◌, ◌||◌, not, List, [], ◌∷◌, ◌++◌, filter, length, if◌then◌else◌, Option, Some, None, is_some, Ok, Err}
+use Rattle.std.specs.Prelude.{ℕ, ◌/◌, ◌%◌, ◌≡◌, ◌==◌, nat_lt, Bool, true, false, ◌&&◌, ◌||◌, not, List, []}
+use Rattle.std.specs.Prelude.{◌∷◌, ◌++◌, filter, length, if◌then◌else◌, Option, Some, None, is_some, Ok, Err}
 use Rattle.std.specs.List.{flat_map}
 use Rattle.std.specs.Str.{bytes_eq}
 use Rattle.sng_text.specs.Texts.{is_name}
@@ -7,7 +8,8 @@ use Rattle.sng_grants.specs.Sources.{scope_of}
 use Rattle.sng_grants.specs.declared.policy.Policy.{Policy}
 use Rattle.sng_policy.specs.Grants.{lists, lists_source, topic}
 use Rattle.sng_states.specs.declared.state.ClientState.{ClientState}
-use Rattle.sng_states.specs.declared.state.ClientState.TheVariants.{Dialogue, Active, Asleep, Awake, Disconnected, Lost}
+use Rattle.sng_states.specs.declared.state.ClientState.TheVariants.{Dialogue, Active, Asleep, Awake}
+use Rattle.sng_states.specs.declared.state.ClientState.TheVariants.{Disconnected, Lost}
 use Rattle.sng_states.specs.States.{has_session}
 use Rattle.sng_frames.specs.Reading.{frame_of}
 use Rattle.sng_frames.specs.Writing.{written}
@@ -18,7 +20,8 @@ use Rattle.sng_frames.specs.declared.flags.TopicIdType.TheVariants.{Normal, Pred
 use Rattle.sng_frames.specs.declared.messages.connect.Connect.{Connect}
 use Rattle.sng_frames.specs.declared.messages.publish.Publish.{Publish}
 use Rattle.sng_frames.specs.declared.return_code.ReturnCode.{ReturnCode}
-use Rattle.sng_frames.specs.declared.return_code.TheConstants.ReturnCode.{ACCEPTED, CONGESTION, INVALID_TOPIC_ID, NOT_SUPPORTED}
+use Rattle.sng_frames.specs.declared.return_code.TheConstants.ReturnCode.{ACCEPTED, CONGESTION}
+use Rattle.sng_frames.specs.declared.return_code.TheConstants.ReturnCode.{INVALID_TOPIC_ID, NOT_SUPPORTED}
 use Rattle.sng_frames.specs.declared.frame.SnFrame.{SnFrame}
 use Rattle.sng_frames.specs.declared.frame.SnFrame.TheVariants as frame
 use Rattle.sng_book.specs.Denials.{number_of}
@@ -28,7 +31,9 @@ use Rattle.sng_book.specs.declared.decision.Who.TheVariants as who
 use Rattle.sng_book.specs.declared.outcome.IdKind.TheVariants as kind
 use Rattle.sng_book.specs.declared.outcome.Place.TheVariants as place
 use Rattle.sng_book.specs.declared.outcome.Denial.{Denial}
-use Rattle.sng_book.specs.declared.outcome.Denial.TheVariants.{Malformed, NotSupported, NoScope, NoSession, UnknownSource, BadName, IdType, UnknownId, MissingPub, UpstreamDown, Full}
+use Rattle.sng_book.specs.declared.outcome.Denial.TheVariants.{Malformed, NotSupported, NoScope, NoSession}
+use Rattle.sng_book.specs.declared.outcome.Denial.TheVariants.{UnknownSource, BadName, IdType, UnknownId}
+use Rattle.sng_book.specs.declared.outcome.Denial.TheVariants.{MissingPub, UpstreamDown, Full}
 use Rattle.sng_book.specs.declared.outcome.Outcome.{Outcome}
 use Rattle.sng_book.specs.declared.outcome.Outcome.TheVariants.{Allowed, Denied}
 use Rattle.sng_book.specs.declared.event.Event.TheVariants.{Datagram}
@@ -37,12 +42,14 @@ use Rattle.sng_book.specs.declared.out.Out.TheVariants.{Send, Note}
 use Rattle.sng_book.specs.declared.row.Row.{Row}
 use Rattle.sng_history.specs.Clients.{same_address}
 use Rattle.sng_history.specs.Views.{policy_in_force, is_up}
-use Rattle.sng_history.specs.ViewsClients.{is_awaiting, is_asleep, phase_of, address_of, accepted, is_among, those_at}
+use Rattle.sng_history.specs.ViewsClients.{is_awaiting, is_asleep, phase_of, address_of, accepted, is_among}
+use Rattle.sng_history.specs.ViewsClients.{those_at}
 use Rattle.sng_history.specs.ViewsLink.{waiting}
 use Rattle.sng_history.specs.LawsRules.{Rule, judged, may_publish}
 use Rattle.sng_history.specs.LawsEnds.{clean_answer}
 use Rattle.sng_history.specs.ViewsHanding.{waits_for}
-use Rattle.sng_history.specs.LawsHanding.{gone_answer, around_welcome, mailing, handed_awake, out_of_turn, is_awake}
+use Rattle.sng_history.specs.LawsHanding.{gone_answer, around_welcome, mailing, handed_awake, out_of_turn}
+use Rattle.sng_history.specs.LawsHanding.{is_awake}
 
 -- the row is of a datagram from the address, which holds the message
 pub record Brought (row : Row) (from : Address) (message : SnFrame) : Type 0 where
@@ -58,7 +65,8 @@ pub record Broken (row : Row) (from : Address) (broke : FrameFault) : Type 0 whe
 
 -- ---- CONNECT (MQTT-SN 1.2, 5.4.4 and 6.2)
 
--- what forbids a CONNECT, in order: another ProtocolId than 1, no scope, and no place for a client that was never accepted
+-- what forbids a CONNECT, in order: another ProtocolId than 1, no scope, and no place for a client that was
+-- never accepted
 abbrev pub connect_rules : List Row → Connect → List Rule
 connect_rules h c =
     (not (c.protocol_id == 1), NotSupported)
@@ -77,16 +85,18 @@ welcome_to c to = if c.flags.will then Send to (written frame.WillTopicRequest) 
 abbrev pub bye : Address → Out
 bye to = Send to (written (frame.Disconnect None))
 
--- the ReturnCode of a rule, by its number: an id without a name is invalid, a connection that is down or a full place is congestion, and
--- any other rule is not supported (5.3.10)
+-- the ReturnCode of a rule, by its number: an id without a name is invalid, a connection that is down or a
+-- full place is congestion, and any other rule is not supported (5.3.10)
 abbrev pub code_for : Denial → ReturnCode
 code_for rule =
-    if number_of rule == 9 then INVALID_TOPIC_ID else (if (number_of rule == 21) || (number_of rule == 22) then CONGESTION else NOT_SUPPORTED)
+    if number_of rule == 9 then INVALID_TOPIC_ID
+    else (if (number_of rule == 21) || (number_of rule == 22) then CONGESTION else NOT_SUPPORTED)
 
 abbrev pub bye_at : Option ClientState → Option Address → Address → List Out
 bye_at None place from = []
 bye_at (Some phase) None from = []
-bye_at (Some phase) (Some place) from = if has_session phase && not (same_address place from) then bye place ∷ [] else []
+bye_at (Some phase) (Some place) from =
+    if has_session phase && not (same_address place from) then bye place ∷ [] else []
 
 -- the client's DISCONNECT where it was, if that is elsewhere
 abbrev pub old_place : List Row → Address → List ℕ → List Out
@@ -95,14 +105,17 @@ old_place h from id = if is_among id (accepted h) then bye_at (phase_of id h) (a
 -- another client at the address leaves, and what waits for it is gone
 abbrev pub others_leave : List Row → Address → List ℕ → List Out
 others_leave h from id =
-    flat_map (λ other. Note (note.Left other) ∷ gone_answer h other) (filter (λ other. not (bytes_eq id other)) (those_at from h))
+    flat_map (λ other. Note (note.Left other) ∷ gone_answer h other)
+    (filter (λ other. not (bytes_eq id other)) (those_at from h))
 
--- the row begins with the note of the CONNECT; one that is denied is answered by its code. As one is accepted, the client is dismissed
--- where it was before, another client at the address leaves, of the subscriptions that a clean one ends it is noted where the broker is not
--- told, and its answer comes last, but for what waits for the client: a clean one drops it before, and else it is handed over behind
--- CONNACK, while one with Will keeps it until its dialogue is over
+-- the row begins with the note of the CONNECT; one that is denied is answered by its code. As one is
+-- accepted, the client is dismissed where it was before, another client at the address leaves, of the
+-- subscriptions that a clean one ends it is noted where the broker is not told, and its answer comes last,
+-- but for what waits for the client: a clean one drops it before, and else it is handed over behind CONNACK,
+-- while one with Will keeps it until its dialogue is over
 abbrev pub entry_answer : List Row → Address → Connect → Outcome → List Out
-entry_answer h from c (Denied rule) = Note (note.Connect c.client_id (Denied rule)) ∷ connack_to from (code_for rule) ∷ []
+entry_answer h from c (Denied rule) =
+    Note (note.Connect c.client_id (Denied rule)) ∷ connack_to from (code_for rule) ∷ []
 entry_answer h from c Allowed =
     Note (note.Connect c.client_id Allowed)
     ∷ (old_place h from c.client_id
@@ -192,9 +205,9 @@ abbrev pub names_another : Option (List ℕ) → List ℕ → Bool
 names_another None id = false
 names_another (Some named) id = not (bytes_eq named id)
 
--- PINGREQ (5.4.19 and 6.14): one that names another client has no session. Of an active client PINGRESP answers it, without a note. One
--- that names its client wakes it where it sleeps: what waited is handed over, and PINGRESP says that nothing is left; an awake client goes on.
--- Else it is out of turn and noted alone
+-- PINGREQ (5.4.19 and 6.14): one that names another client has no session. Of an active client PINGRESP
+-- answers it, without a note. One that names its client wakes it where it sleeps: what waited is handed over,
+-- and PINGRESP says that nothing is left; an awake client goes on. Else it is out of turn and noted alone
 abbrev pub ping_awake : List Row → Address → List ℕ → List Out
 ping_awake h from id =
     if is_asleep (phase_of id h)
@@ -208,11 +221,13 @@ ping_answer h from named id =
     else (if is_active (phase_of id h) then Send from (written frame.PingResponse) ∷ []
     else (if is_some named then ping_awake h from id else out_of_turn id))
 
--- DISCONNECT with Duration (5.4.21 and 6.14): the client falls asleep, which DISCONNECT answers; while its dialogue is open that is out of turn
+-- DISCONNECT with Duration (5.4.21 and 6.14): the client falls asleep, which DISCONNECT answers; while its
+-- dialogue is open that is out of turn
 abbrev pub sleep_answer : List Row → Address → List ℕ → List Out
 sleep_answer h from id = if is_awaiting (phase_of id h) then bye from ∷ [] else out_of_turn id
 
--- DISCONNECT without Duration (5.4.21): the client leaves, is answered by DISCONNECT, and what waits for it is gone
+-- DISCONNECT without Duration (5.4.21): the client leaves, is answered by DISCONNECT, and what waits for it
+-- is gone
 abbrev pub leave_answer : List Row → Address → List ℕ → List Out
 leave_answer h from id = Note (note.Left id) ∷ bye from ∷ gone_answer h id
 

@@ -1,5 +1,7 @@
--- How the asks of a client are judged, noted and answered in a lawful history, and the packets of the broker, in the views' words.
-use Rattle.std.specs.Prelude.{ℕ, zero, suc, ◌+◌, Bool, true, false, ◌&&◌, not, nat_lt, List, [], ◌∷◌, ◌++◌, filter, length, slice_get, if◌then◌else◌, Option, Some, None, is_some}
+-- How the asks of a client are judged, noted and answered in a lawful history, and the packets of the broker,
+-- in the views' words.
+use Rattle.std.specs.Prelude.{ℕ, zero, suc, ◌+◌, Bool, true, false, ◌&&◌, not, nat_lt, List, [], ◌∷◌, ◌++◌}
+use Rattle.std.specs.Prelude.{filter, length, slice_get, if◌then◌else◌, Option, Some, None, is_some}
 use Rattle.std.specs.List.{flat_map}
 use Rattle.sng_text.specs.Texts.{is_name}
 use Rattle.sng_grants.specs.Sources.{scope_of}
@@ -24,7 +26,9 @@ use Rattle.sng_book.specs.declared.decision.Decision.TheVariants as note
 use Rattle.sng_book.specs.declared.decision.Who.TheVariants as who
 use Rattle.sng_book.specs.declared.outcome.IdKind.TheVariants as kind
 use Rattle.sng_book.specs.declared.outcome.Place.TheVariants as place
-use Rattle.sng_book.specs.declared.outcome.Denial.TheVariants.{NotSupported, NoScope, NoSession, BadName, IdType, UnknownId, MissingPub, OutOfTurn, UpstreamDown, Full}
+use Rattle.sng_book.specs.declared.outcome.Denial.TheVariants.{NotSupported, NoScope, NoSession, BadName}
+use Rattle.sng_book.specs.declared.outcome.Denial.TheVariants.{IdType, UnknownId, MissingPub, OutOfTurn}
+use Rattle.sng_book.specs.declared.outcome.Denial.TheVariants.{UpstreamDown, Full}
 use Rattle.sng_book.specs.declared.outcome.Outcome.{Outcome}
 use Rattle.sng_book.specs.declared.outcome.Outcome.TheVariants.{Allowed, Denied}
 use Rattle.sng_book.specs.declared.out.Out.{Out}
@@ -39,7 +43,8 @@ use Rattle.sng_history.specs.ViewsFlight.{in_flight}
 use Rattle.sng_history.specs.ViewsStanding.{is_refusal, filter_with, wanted}
 use Rattle.sng_history.specs.LawsRules.{Rule, judged, may_publish}
 use Rattle.sng_history.specs.LawsEnds.{refused_answer}
-use Rattle.sng_history.specs.LawsAnswers.{bye, code_for, is_active, is_bad_short, is_nameless, name_read, or_empty}
+use Rattle.sng_history.specs.LawsAnswers.{bye, code_for, is_active, is_bad_short, is_nameless, name_read}
+use Rattle.sng_history.specs.LawsAnswers.{or_empty}
 
 -- a client may ask while it is active and the policy in force lists it
 abbrev pub may_ask : List Row → List ℕ → Bool
@@ -61,7 +66,8 @@ register_rules h id name =
 
 -- REGACK with an id, the MsgId that came, and a code
 abbrev pub regack_to : Address → ℕ → Register → ReturnCode → Out
-regack_to to id r code = Send to (written (frame.RegisterAck (record { topic_id = id; msg_id = r.msg_id; code = code })))
+regack_to to id r code =
+    Send to (written (frame.RegisterAck (record { topic_id = id; msg_id = r.msg_id; code = code })))
 
 -- where the REGISTER is allowed it tells the id, and else the rule's code with no id
 abbrev pub regack : Address → ℕ → Register → Outcome → Out
@@ -76,7 +82,8 @@ register_stranger from = Note (note.Register (who.Address from) None (Denied NoS
 abbrev pub register_answer : List Row → Address → Register → List ℕ → List Out
 register_answer h from r id =
     let outcome = judged (register_rules h id r.name) in
-    Note (note.Register (who.Client id) (if may_ask h id && is_name r.name then Some r.name else None) outcome)
+    Note (note.Register (who.Client id)
+    (if may_ask h id && is_name r.name then Some r.name else None) outcome)
     ∷ regack from (id_told r.name (names_told id h)) r outcome
     ∷ []
 
@@ -124,7 +131,8 @@ name_meant policy told Reserved id = None
 
 -- how many publishes of QoS 1 wait or are in flight
 abbrev pub unacknowledged : List Row → ℕ
-unacknowledged h = length (filter (λ p. is_at_least_once p.qos) (publications (waiting h))) + length (in_flight h)
+unacknowledged h =
+    length (filter (λ p. is_at_least_once p.qos) (publications (waiting h))) + length (in_flight h)
 
 -- what forbids a publish of a client, in order
 abbrev pub session_rules : List Row → List ℕ → Publish → List Rule
@@ -147,7 +155,8 @@ session_rules h id p =
 
 -- PUBACK names the TopicId and the MsgId that came
 abbrev pub puback_to : Address → Publish → ReturnCode → Out
-puback_to to p code = Send to (written (frame.PublishAck (record { topic_id = p.topic_id; msg_id = p.msg_id; code = code })))
+puback_to to p code =
+    Send to (written (frame.PublishAck (record { topic_id = p.topic_id; msg_id = p.msg_id; code = code })))
 
 -- a publish that is denied is always answered, and one that is allowed at QoS 1
 abbrev pub puback : Address → Publish → Outcome → List Out
@@ -167,15 +176,17 @@ publish_answer h from p id =
 
 -- ---- packets of the broker (MQTT 3.1.1, 3.3)
 
--- a message comes to each client that it concerns, in order; one under a text that is no topic name is noted; and where an acknowledgement
--- is owed, for which there is no place, that, too
+-- a message comes to each client that it concerns, in order; one under a text that is no topic name is noted;
+-- and where an acknowledgement is owed, for which there is no place, that, too
 abbrev pub message_answer : List Row → mqtt.Publish → List Out
 message_answer h p =
     flat_map (λ id. arrivals h id (address_of id h) (meant_for id p h)) (accepted h)
     ++ (if is_name p.name then [] else Note (note.Frame who.Broker (Denied BadName)) ∷ [])
-    ++ (if is_some p.packet_id && (is_up h && not (nat_lt (length (waiting h)) 512)) then Note note.Outbox ∷ [] else [])
+    ++ (if is_some p.packet_id && (is_up h && not (nat_lt (length (waiting h)) 512))
+    then Note note.Outbox ∷ [] else [])
 
--- a SUBACK whose first code refuses ends the filter of the SUBSCRIBE that it answers, for each client for whom it stands
+-- a SUBACK whose first code refuses ends the filter of the SUBSCRIBE that it answers, for each client for
+-- whom it stands
 abbrev pub suback_answer : List Row → Option (List ℕ) → List Out
 suback_answer h None = []
 suback_answer h (Some text) = refused_answer h text
@@ -184,7 +195,8 @@ suback_answer h (Some text) = refused_answer h text
 abbrev pub packet_answer : List Row → Packet → List Out
 packet_answer h (packet.Publish p) = message_answer h p
 packet_answer h (packet.PublishAck packet_id) = []
-packet_answer h (packet.SubscribeAck answer) = if is_refusal answer.codes then suback_answer h (filter_with answer.packet_id (wanted h)) else []
+packet_answer h (packet.SubscribeAck answer) =
+    if is_refusal answer.codes then suback_answer h (filter_with answer.packet_id (wanted h)) else []
 packet_answer h (packet.UnsubscribeAck packet_id) = []
 packet_answer h packet.PingResponse = []
 packet_answer h (packet.Connect connect) = Note (note.Frame who.Broker (Denied NotSupported)) ∷ []

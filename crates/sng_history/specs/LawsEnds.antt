@@ -1,6 +1,7 @@
--- Which ends of subscriptions leave a filter that stands for nobody, and what is noted where the broker cannot be told; and what a clean
--- CONNECT ends, and the broker, in the views' words.
-use Rattle.std.specs.Prelude.{ℕ, ◌-◌, Bool, ◌&&◌, ◌||◌, not, List, [], ◌∷◌, ◌++◌, map, filter, drop, length, if◌then◌else◌}
+-- Which ends of subscriptions leave a filter that stands for nobody, and what is noted where the broker
+-- cannot be told; and what a clean CONNECT ends, and the broker, in the views' words.
+use Rattle.std.specs.Prelude.{ℕ, ◌-◌, Bool, ◌&&◌, ◌||◌, not, List, [], ◌∷◌, ◌++◌, map, filter, drop, length}
+use Rattle.std.specs.Prelude.{if◌then◌else◌}
 use Rattle.std.specs.List.{list_any, flat_map}
 use Rattle.std.specs.Str.{bytes_eq}
 use Rattle.sng_fan.specs.Subscriptions.{stands}
@@ -41,7 +42,8 @@ ending h stays id = filter (λ text. not (stays id text)) (texts_of (standing_of
 abbrev pub last_ends_from : List Row → Stays → List (List ℕ) → List (List ℕ) → List (List ℕ × List ℕ)
 last_ends_from h stays earlier [] = []
 last_ends_from h stays earlier (id ∷ ids) =
-    map (λ text. (id, text)) (filter (λ text. not (stays_for h stays earlier text || stands_for h ids text)) (ending h stays id))
+    map (λ text. (id, text)) (filter (λ text. not (stays_for h stays earlier text || stands_for h ids text))
+    (ending h stays id))
     ++ last_ends_from h stays (earlier ++ id ∷ []) ids
 
 -- in the order of the clients and of their filters
@@ -78,4 +80,5 @@ clean_answer h c = map (λ end. Note note.Outbox) (untold h (stays_by c))
 -- the filter that it refuses ends for each client for whom it stands, in order
 abbrev pub refused_answer : List Row → List ℕ → List Out
 refused_answer h text =
-    flat_map (λ id. if stands (standing_of id h) text then Note (note.End id text (Denied BrokerRefused)) ∷ [] else []) (accepted h)
+    flat_map (λ id. if stands (standing_of id h) text then Note (note.End id text (Denied BrokerRefused)) ∷ []
+    else []) (accepted h)

@@ -1,5 +1,8 @@
--- How what comes from the broker is handed over to a client in a lawful history, in the views' words: the rules, the frames, and the rows.
-use Rattle.std.specs.Prelude.{ℕ, ◌≡◌, ◌≤◌, ◌+◌, ◌==◌, ◌%◌, ◌&&◌, ◌||◌, not, nat_lt, Bool, true, false, List, [], ◌∷◌, ◌++◌, map, length, filter, take, drop, is_some, if◌then◌else◌, Option, Some, None}
+-- How what comes from the broker is handed over to a client in a lawful history, in the views' words: the
+-- rules, the frames, and the rows.
+use Rattle.std.specs.Prelude.{ℕ, ◌≡◌, ◌≤◌, ◌+◌, ◌==◌, ◌%◌, ◌&&◌, ◌||◌, not, nat_lt, Bool, true, false, List}
+use Rattle.std.specs.Prelude.{[], ◌∷◌, ◌++◌, map, length, filter, take, drop, is_some, if◌then◌else◌, Option}
+use Rattle.std.specs.Prelude.{Some, None}
 use Rattle.sng_text.specs.declared.qos.Qos.{Qos}
 use Rattle.sng_text.specs.declared.qos.Qos.TheVariants.{AtMostOnce, AtLeastOnce}
 use Rattle.std.specs.Option.{option_to_list}
@@ -20,7 +23,8 @@ use Rattle.sng_frames.specs.declared.messages.acks.TopicAck.{TopicAck}
 use Rattle.sng_frames.specs.declared.messages.connect.Connect.{Connect}
 use Rattle.sng_frames.specs.declared.frame.SnFrame.TheVariants as frame
 use Rattle.sng_states.specs.declared.state.ClientState.{ClientState}
-use Rattle.sng_states.specs.declared.state.ClientState.TheVariants.{Dialogue, Active, Asleep, Awake, Disconnected, Lost}
+use Rattle.sng_states.specs.declared.state.ClientState.TheVariants.{Dialogue, Active, Asleep, Awake}
+use Rattle.sng_states.specs.declared.state.ClientState.TheVariants.{Disconnected, Lost}
 use Rattle.sng_book.specs.Denials.{is_allowed}
 use Rattle.sng_book.specs.declared.address.Address.{Address}
 use Rattle.sng_book.specs.declared.decision.Decision.{Decision}
@@ -28,7 +32,11 @@ use Rattle.sng_book.specs.declared.decision.Decision.TheVariants as note
 use Rattle.sng_book.specs.declared.decision.Who.TheVariants as who
 use Rattle.sng_book.specs.declared.outcome.Place.TheVariants as place
 use Rattle.sng_book.specs.declared.outcome.Denial.{Denial}
-use Rattle.sng_book.specs.declared.outcome.Denial.TheVariants.{Malformed, NotSupported, NoScope, NoSession, UnknownSource, BadName, BadFilter, IdType, UnknownId, MissingPub, MissingSub, Uncovered, ClientRefused, BrokerRefused, OutOfTurn, UpstreamDown, Full, TooLong, Gone}
+use Rattle.sng_book.specs.declared.outcome.Denial.TheVariants.{Malformed, NotSupported, NoScope, NoSession}
+use Rattle.sng_book.specs.declared.outcome.Denial.TheVariants.{UnknownSource, BadName, BadFilter, IdType}
+use Rattle.sng_book.specs.declared.outcome.Denial.TheVariants.{UnknownId, MissingPub, MissingSub, Uncovered}
+use Rattle.sng_book.specs.declared.outcome.Denial.TheVariants.{ClientRefused, BrokerRefused, OutOfTurn}
+use Rattle.sng_book.specs.declared.outcome.Denial.TheVariants.{UpstreamDown, Full, TooLong, Gone}
 use Rattle.sng_book.specs.declared.outcome.Outcome.{Outcome}
 use Rattle.sng_book.specs.declared.outcome.Outcome.TheVariants.{Allowed, Denied}
 use Rattle.sng_book.specs.declared.out.Out.{Out}
@@ -39,7 +47,9 @@ use Rattle.sng_history.specs.LawsUnsupported.{unset}
 use Rattle.sng_history.specs.Views.{policy_in_force}
 use Rattle.sng_history.specs.ViewsClients.{phase_of, is_among, with_name, names_told, id_told}
 use Rattle.sng_history.specs.ViewsFlight.{number_in}
-use Rattle.sng_history.specs.ViewsHanding.{is_at_least_once, is_taking, is_away, brought_in, due_of, settled_of, waits_for, Announced, progress_of, number_of, is_idle, name_announced, regack_has_turn, puback_has_turn, names_known}
+use Rattle.sng_history.specs.ViewsHanding.{is_at_least_once, is_taking, is_away, brought_in, due_of}
+use Rattle.sng_history.specs.ViewsHanding.{settled_of, waits_for, Announced, progress_of, number_of, is_idle}
+use Rattle.sng_history.specs.ViewsHanding.{name_announced, regack_has_turn, puback_has_turn, names_known}
 
 -- ---- what forbids a message to a client (RFC 9431, 2.3)
 
@@ -55,8 +65,8 @@ receive_rules policy id name =
     ∷ (not (may_receive (scope_of policy.clients id) name), MissingSub name)
     ∷ []
 
--- what decides how messages go to a client: the policy in force, who and where it is, the names that it was told ids of and those that it
--- knows, and the MsgId that it was given last
+-- what decides how messages go to a client: the policy in force, who and where it is, the names that it was
+-- told ids of and those that it knows, and the MsgId that it was given last
 pub record Mailing : Type 0 where
   pub policy : Policy
   pub id : List ℕ
@@ -65,19 +75,24 @@ pub record Mailing : Type 0 where
   pub known : List (List ℕ)
   pub number : ℕ
 
--- a name is known to a client that was told ids of some names and knows some: it has two octets, or a predefined id, or an id that the
--- client was told and knows
+-- a name is known to a client that was told ids of some names and knows some: it has two octets, or a
+-- predefined id, or an id that the client was told and knows
 abbrev pub is_known : Policy → List (List ℕ) → List (List ℕ) → List ℕ → Bool
-is_known policy told known name = (length name == 2) || (is_some (id_of policy.topics name) || (is_among name told && is_among name known))
+is_known policy told known name =
+    (length name == 2) || (is_some (id_of policy.topics name) || (is_among name told && is_among name known))
 
 abbrev pub knows : Mailing → List ℕ → Bool
 knows c name = is_known c.policy c.told c.known name
 
--- what forbids it as its turn comes, in order: the policy, and a name that would need an id where 128 were told
+-- what forbids it as its turn comes, in order: the policy, and a name that would need an id where 128 were
+-- told
 abbrev pub hand_rules : Mailing → List ℕ → List Rule
 hand_rules c name =
     receive_rules c.policy c.id name
-    ++ (not (knows c name) && (not (is_among name c.told) && not (nat_lt (length c.told) 128)), Full place.Ids) ∷ []
+    ++ (
+      not (knows c name) && (not (is_among name c.told) && not (nat_lt (length c.told) 128)),
+      Full place.Ids,
+    ) ∷ []
 
 -- ---- its frames (MQTT-SN 1.2, 5.3.11, 5.4.10, 5.4.12, 6.5 and 6.10)
 
@@ -96,7 +111,9 @@ id_meant None told = (Normal, told)
 
 -- the type and the id by which it is sent: a name of two octets is its own short name
 abbrev pub topic_meant : Mailing → List ℕ → TopicIdType × ℕ
-topic_meant c name = if length name == 2 then (Short, number_in name) else id_meant (id_of c.policy.topics name) (id_told name c.told)
+topic_meant c name =
+    if length name == 2 then (Short, number_in name)
+    else id_meant (id_of c.policy.topics name) (id_told name c.told)
 
 -- the PUBLISH has the payload, the Retain and the QoS of the message, and at QoS 1 the next MsgId
 abbrev pub publish_to : Mailing → Message → Out
@@ -112,7 +129,8 @@ publish_to c m =
 -- the REGISTER tells the id of the name, or the next
 abbrev pub register_to : Mailing → List ℕ → Out
 register_to c name =
-    Send c.address (written (frame.Register (record { topic_id = id_told name c.told; msg_id = next_number c.number; name = name })))
+    Send c.address (written (frame.Register
+    (record { topic_id = id_told name c.told; msg_id = next_number c.number; name = name })))
 
 -- ---- what leaves as messages may leave, the oldest first
 
@@ -127,7 +145,8 @@ handed_one c m Allowed rest =
     then Note (note.Hand c.id m.name Allowed) ∷ publish_to c m ∷ sent_before m rest
     else Note (note.Announce c.id m.name) ∷ register_to c m.name ∷ []
 
--- each message is judged: denied it is noted, and the next one has its turn; a known one is sent; for one that is not, an id is announced
+-- each message is judged: denied it is noted, and the next one has its turn; a known one is sent; for one
+-- that is not, an id is announced
 abbrev pub handed_out : Mailing → List Message → List Out
 handed_out c [] = []
 handed_out c (m ∷ more) = handed_one c m (judged (hand_rules c m.name)) (handed_out c more)
@@ -141,12 +160,14 @@ abbrev pub opens : Mailing → List Message → Bool
 opens c [] = false
 opens c (m ∷ more) = opens_by c m (judged (hand_rules c m.name)) (opens c more)
 
--- an awake client for which nothing is open then, so that nothing waits either, is told so by PINGRESP, and sleeps again (6.14)
+-- an awake client for which nothing is open then, so that nothing waits either, is told so by PINGRESP, and
+-- sleeps again (6.14)
 abbrev pub pong_to : Address → Out
 pong_to to = Send to (written frame.PingResponse)
 
 abbrev pub handed_awake : Bool → Mailing → List Message → List Out
-handed_awake awake c ms = handed_out c ms ++ (if awake && not (opens c ms) then pong_to c.address ∷ [] else [])
+handed_awake awake c ms =
+    handed_out c ms ++ (if awake && not (opens c ms) then pong_to c.address ∷ [] else [])
 
 -- as the rows show it
 abbrev pub mailing : List Row → List ℕ → Address → Mailing
@@ -165,15 +186,16 @@ mailing h id to = record {
 abbrev pub gone_answer : List Row → List ℕ → List Out
 gone_answer h id = map (λ m. Note (note.Hand id m.name (Denied Gone))) (waits_for id h)
 
--- what waits for one that connects: a clean CONNECT drops it before its answer; else it is handed over behind CONNACK, and no topic id is
--- known, but with Will it goes on waiting
+-- what waits for one that connects: a clean CONNECT drops it before its answer; else it is handed over behind
+-- CONNACK, and no topic id is known, but with Will it goes on waiting
 abbrev pub around_welcome : List Row → Address → Connect → Out → List Out
 around_welcome h from c ack =
     if c.flags.clean
     then gone_answer h c.client_id ++ ack ∷ []
     else (if c.flags.will
     then ack ∷ []
-    else ack ∷ handed_out (record (mailing h c.client_id from) { told = []; known = [] }) (waits_for c.client_id h))
+    else ack ∷ handed_out (record (mailing h c.client_id from) { told = []; known = [] })
+    (waits_for c.client_id h))
 
 -- ---- REGACK and PUBACK of a client (5.4.11, 5.4.13, 6.5 and 6.6)
 
@@ -194,15 +216,18 @@ abbrev pub refused_by : List ℕ → ℕ → List Message → List Out
 refused_by id code [] = []
 refused_by id code (m ∷ more) = Note (note.Hand id m.name (Denied (ClientRefused code))) ∷ []
 
--- in turn a REGACK that accepts the id confirms it, any other refuses the front; and what may leave then leaves
+-- in turn a REGACK that accepts the id confirms it, any other refuses the front; and what may leave then
+-- leaves
 abbrev pub regack_answer : List Row → Address → TopicAck → List ℕ → List Out
 regack_answer h from r id =
     let now = progress_of id h in
     let c = mailing h id from in
     if regack_has_turn id now h r
     then (if r.code.0 == 0
-    then handed_awake (is_awake (phase_of id h)) (record c { known = with_name (name_announced now.unanswered) c.known }) (waits_for id h)
-    else refused_by id r.code.0 (waits_for id h) ++ handed_awake (is_awake (phase_of id h)) c (drop 1 (waits_for id h)))
+    then handed_awake (is_awake (phase_of id h))
+    (record c { known = with_name (name_announced now.unanswered) c.known }) (waits_for id h)
+    else refused_by id r.code.0 (waits_for id h)
+    ++ handed_awake (is_awake (phase_of id h)) c (drop 1 (waits_for id h)))
     else out_of_turn id
 
 abbrev pub puback_answer : List Row → Address → TopicAck → List ℕ → List Out
@@ -237,10 +262,12 @@ arrivals h id (Some to) (Some m) = arrival_answer h id to m
 
 -- ---- what holds at every row
 
--- the k-th settlement of the client is for its k-th message that was due, and no message comes out before it was due
+-- the k-th settlement of the client is for its k-th message that was due, and no message comes out before it
+-- was due
 pub record SettledInOrder (h : List Row) (id : List ℕ) : Type 0 where
   pub few : length (settled_of id h) ≤ length (due_of id h)
-  pub names : map (λ hand. hand.0) (settled_of id h) ≡ map (λ m. m.name) (take (length (settled_of id h)) (due_of id h))
+  pub names : map (λ hand. hand.0) (settled_of id h)
+      ≡ map (λ m. m.name) (take (length (settled_of id h)) (due_of id h))
 
 -- the messages that the broker sent, and how often one was handed over to the client
 abbrev pub sent_of : List Row → List Publish
@@ -261,7 +288,8 @@ IsFront name (m ∷ more) = m.name ≡ name
 
 -- while the announcement of a name is open, the oldest that waits for the client is of that name
 abbrev pub FrontAnnounced : List Row → List ℕ → Type 0
-FrontAnnounced h id = (name : List ℕ) → (progress_of id h).unanswered ≡ Some (Announced name) → IsFront name (waits_for id h)
+FrontAnnounced h id =
+    (name : List ℕ) → (progress_of id h).unanswered ≡ Some (Announced name) → IsFront name (waits_for id h)
 
 -- a client that takes messages has nothing waiting, or something is open with it
 abbrev pub NothingIdles : List Row → List ℕ → Type 0
@@ -271,8 +299,9 @@ NothingIdles h id = is_ready h id ≡ true → waits_for id h ≡ []
 abbrev pub NoneKept : List Row → List ℕ → Type 0
 NoneKept h id = is_away (phase_of id h) ≡ true → waits_for id h ≡ []
 
--- a message may be denied so: for want of a scope, or of a pair that matches, it is the judgement by this policy; for want of an id only where
--- this policy allows it; by the client, as it came, or as it is gone, which is no policy's; and for no other reason
+-- a message may be denied so: for want of a scope, or of a pair that matches, it is the judgement by this
+-- policy; for want of an id only where this policy allows it; by the client, as it came, or as it is gone,
+-- which is no policy's; and for no other reason
 abbrev pub IsDenial : Policy → List ℕ → List ℕ → Denial → Type 0
 IsDenial policy id name (NoScope client) = judged (receive_rules policy id name) ≡ Denied (NoScope client)
 IsDenial policy id name (MissingSub text) = judged (receive_rules policy id name) ≡ Denied (MissingSub text)
@@ -299,7 +328,8 @@ IsDenial policy id name (Full place.Subscriptions) = ⊥
 IsDenial policy id name (Full place.InFlight) = ⊥
 IsDenial policy id name (Full place.Outbox) = ⊥
 
--- and so is a note that a message was handed over, an id of its name announced, or what is open sent again or not
+-- and so is a note that a message was handed over, an id of its name announced, or what is open sent again or
+-- not
 abbrev pub IsJudged : Policy → Decision → Type 0
 IsJudged policy (note.Hand id name Allowed) = judged (receive_rules policy id name) ≡ Allowed
 IsJudged policy (note.Hand id name (Denied rule)) = IsDenial policy id name rule

@@ -1,5 +1,6 @@
 -- What leaves for the broker in a lawful history, in the views' words.
-use Rattle.std.specs.Prelude.{ℕ, ◌/◌, ◌≡◌, ◌==◌, Bool, true, false, List, [], ◌∷◌, ◌++◌, map, MatchBool, Option, Some, is_some}
+use Rattle.std.specs.Prelude.{ℕ, ◌/◌, ◌≡◌, ◌==◌, Bool, true, false, List, [], ◌∷◌, ◌++◌, map, MatchBool}
+use Rattle.std.specs.Prelude.{Option, Some, is_some}
 use Rattle.sng_grants.specs.declared.policy.Policy.{Policy}
 use Rattle.mqtt_frames.specs.Packets.{written}
 use Rattle.mqtt_frames.specs.declared.packet.Packet.TheVariants as packet
@@ -16,7 +17,8 @@ use Rattle.sng_book.specs.declared.out.Out.{Out}
 use Rattle.sng_book.specs.declared.out.Out.TheVariants.{Send, Wire, Note}
 use Rattle.sng_book.specs.declared.row.Row.{Row}
 use Rattle.sng_history.specs.Views.{policy_in_force}
-use Rattle.sng_history.specs.ViewsLink.{Departure, publications, asked, waiting, left, lets_out, departures, wires_in, sends_in}
+use Rattle.sng_history.specs.ViewsLink.{Departure, publications, asked, waiting, left, lets_out, departures}
+use Rattle.sng_history.specs.ViewsLink.{wires_in, sends_in}
 use Rattle.sng_history.specs.LawsRules.{judged, publish_rules}
 
 -- ---- in order
@@ -27,20 +29,30 @@ about_asked p = (who_of p.origin, p.name)
 abbrev pub about_left : Departure → Who × List ℕ
 about_left d = (d.whom, d.name)
 
--- the publishes that left are a beginning of those that were asked for, in order, and those that wait are the rest
+-- the publishes that left are a beginning of those that were asked for, in order, and those that wait are the
+-- rest
 abbrev pub LeavesInOrder : List Row → Type 0
-LeavesInOrder h = map about_asked (asked h) ≡ map about_left (left h) ++ map about_asked (publications (waiting h))
+LeavesInOrder h =
+    map about_asked (asked h) ≡ map about_left (left h) ++ map about_asked (publications (waiting h))
 
 -- ---- judged, and with its own bytes
 
--- the packet is the MQTT PUBLISH of the publish (MQTT 3.1.1, 3.3): its own name, payload and Retain, without DUP, and a packet id just at
--- QoS 1
+-- the packet is the MQTT PUBLISH of the publish (MQTT 3.1.1, 3.3): its own name, payload and Retain, without
+-- DUP, and a packet id just at QoS 1
 pub record Carries (p : Publication) (sent : Option (List ℕ)) : Type 0 where
   pub packet_id : Option ℕ
-  pub own : sent ≡ Some (written (packet.Publish (record { dup = false; retain = p.retain; packet_id = packet_id; name = p.name; payload = p.payload })))
+  pub own : sent ≡ Some (written
+      (packet.Publish (record {
+        dup = false;
+        retain = p.retain;
+        packet_id = packet_id;
+        name = p.name;
+        payload = p.payload;
+      })))
   pub numbered : is_some packet_id ≡ is_at_least_once p.qos
 
--- the publish leaves so under the policy: it is judged for its own origin and name, and where that allows it, its own packet follows
+-- the publish leaves so under the policy: it is judged for its own origin and name, and where that allows it,
+-- its own packet follows
 pub record Departs (policy : Policy) (p : Publication) (d : Departure) : Type 0 where
   pub whom : d.whom ≡ who_of p.origin
   pub name : d.name ≡ p.name
@@ -54,12 +66,15 @@ AllDepart policy (p ∷ ps) (d ∷ ds) = Departs policy p d × AllDepart policy 
 AllDepart policy [] (d ∷ ds) = ⊥
 AllDepart policy (p ∷ ps) [] = ⊥
 
--- a take while up lets out each publish that waits, under the policy in force at that row; at no other row a `forward` is noted
+-- a take while up lets out each publish that waits, under the policy in force at that row; at no other row a
+-- `forward` is noted
 abbrev pub EachDeparts : List Row → Type 0
 EachDeparts [] = Unit {0}
 EachDeparts (row ∷ earlier) =
     EachDeparts earlier
-    × MatchBool (lets_out row.event earlier) (AllDepart (policy_in_force earlier) (publications (waiting earlier)) (departures row.outs)) (departures row.outs ≡ [])
+    × MatchBool (lets_out row.event earlier)
+    (AllDepart (policy_in_force earlier) (publications (waiting earlier)) (departures row.outs))
+    (departures row.outs ≡ [])
 
 -- ---- nothing else
 
@@ -87,7 +102,8 @@ lets_go (note.Left client) = false
 lets_go note.Outbox = false
 lets_go (note.Frame who outcome) = false
 
--- a PUBLISH goes to the broker only at once behind a note that lets it go; `lets` is whether the out before is such a note
+-- a PUBLISH goes to the broker only at once behind a note that lets it go; `lets` is whether the out before
+-- is such a note
 abbrev pub Announced : Bool → List Out → Type 0
 Announced lets [] = Unit {0}
 Announced lets (Note said ∷ outs) = Announced (lets_go said) outs
@@ -110,7 +126,8 @@ may_send (Tick clock) earlier = false
 
 abbrev pub EachTimely : List Row → Type 0
 EachTimely [] = Unit {0}
-EachTimely (row ∷ earlier) = EachTimely earlier × (may_send row.event earlier ≡ false → wires_in row.outs ≡ [])
+EachTimely (row ∷ earlier) =
+    EachTimely earlier × (may_send row.event earlier ≡ false → wires_in row.outs ≡ [])
 
 -- the event is of the connection to the broker alone
 abbrev pub is_upstream : Event → Bool

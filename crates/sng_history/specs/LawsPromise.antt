@@ -1,5 +1,6 @@
--- The promise of the gateway, said of each note of each row by the policy in force at that row (RFC 9431, 2.3; RFC 9237): what is allowed
--- is what that policy allows, and each denial names its rule or the missing grant.
+-- The promise of the gateway, said of each note of each row by the policy in force at that row (RFC 9431,
+-- 2.3; RFC 9237): what is allowed is what that policy allows, and each denial names its rule or the missing
+-- grant.
 use Rattle.std.specs.Prelude.{ℕ, ◌≡◌, ◌⊎◌, Bool, true, false, List, [], ◌∷◌, MatchBool, Option}
 use Rattle.std.specs.Prelude.{Some, None}
 use Rattle.sng_text.specs.Texts.{is_name}
@@ -15,9 +16,12 @@ use Rattle.sng_book.specs.declared.decision.Decision.TheVariants as note
 use Rattle.sng_book.specs.declared.decision.Who.{Who}
 use Rattle.sng_book.specs.declared.decision.Who.TheVariants as who
 use Rattle.sng_book.specs.declared.outcome.Denial.{Denial}
-use Rattle.sng_book.specs.declared.outcome.Denial.TheVariants.{Malformed, NotSupported, NoScope, NoSession, UnknownSource, BadName}
-use Rattle.sng_book.specs.declared.outcome.Denial.TheVariants.{BadFilter, IdType, UnknownId, MissingPub, MissingSub, Uncovered}
-use Rattle.sng_book.specs.declared.outcome.Denial.TheVariants.{ClientRefused, BrokerRefused, OutOfTurn, UpstreamDown, Full, TooLong, Gone}
+use Rattle.sng_book.specs.declared.outcome.Denial.TheVariants.{Malformed, NotSupported, NoScope, NoSession}
+use Rattle.sng_book.specs.declared.outcome.Denial.TheVariants.{UnknownSource, BadName}
+use Rattle.sng_book.specs.declared.outcome.Denial.TheVariants.{BadFilter, IdType, UnknownId, MissingPub}
+use Rattle.sng_book.specs.declared.outcome.Denial.TheVariants.{MissingSub, Uncovered}
+use Rattle.sng_book.specs.declared.outcome.Denial.TheVariants.{ClientRefused, BrokerRefused, OutOfTurn}
+use Rattle.sng_book.specs.declared.outcome.Denial.TheVariants.{UpstreamDown, Full, TooLong, Gone}
 use Rattle.sng_book.specs.declared.outcome.Outcome.{Outcome}
 use Rattle.sng_book.specs.declared.outcome.Outcome.TheVariants.{Allowed, Denied}
 use Rattle.sng_book.specs.declared.out.Out.{Out}
@@ -96,8 +100,10 @@ IsUnread policy whom (Denied rule) = (is_of_form rule ≡ true) ⊎ IsUnlisted p
 
 -- an ask to publish under a name, or for an id of it
 abbrev pub MayPublish : Policy → Who → Option (List ℕ) → Outcome → Type 0
-MayPublish policy (who.Client id) (Some name) outcome = IsSaid (judged (publish_rules policy (origin.Client id) name)) outcome
-MayPublish policy (who.Source ip) (Some name) outcome = IsSaid (judged (publish_rules policy (origin.Source ip) name)) outcome
+MayPublish policy (who.Client id) (Some name) outcome =
+    IsSaid (judged (publish_rules policy (origin.Client id) name)) outcome
+MayPublish policy (who.Source ip) (Some name) outcome =
+    IsSaid (judged (publish_rules policy (origin.Source ip) name)) outcome
 MayPublish policy (who.Address from) (Some name) outcome = ⊥
 MayPublish policy who.Broker (Some name) outcome = ⊥
 MayPublish policy whom None outcome = IsUnread policy whom outcome
@@ -109,7 +115,8 @@ IsClient (who.Source ip) = ⊥
 IsClient (who.Address from) = ⊥
 IsClient who.Broker = ⊥
 
--- a will is set as one publishes; to delete it needs no grant, and that the will of a lost client finds no place is no policy's
+-- a will is set as one publishes; to delete it needs no grant, and that the will of a lost client finds no
+-- place is no policy's
 abbrev pub MayState : Policy → Who → Option (List ℕ) → Outcome → Type 0
 MayState policy whom None Allowed = IsClient whom
 MayState policy whom None (Denied rule) = IsUnread policy whom (Denied rule)
@@ -117,11 +124,13 @@ MayState policy whom (Some topic) Allowed = MayPublish policy whom (Some topic) 
 MayState policy whom (Some topic) (Denied rule) =
     MatchBool (is_of_room rule) (IsClient whom) (MayPublish policy whom (Some topic) (Denied rule))
 
--- the policy lists the client, and each topic name that the filter matches may be received; where the scope holds filters
+-- the policy lists the client, and each topic name that the filter matches may be received; where the scope
+-- holds filters
 pub record IsIncluded (policy : Policy) (id text : List ℕ) : Type 0 where
   pub listed : lists policy id ≡ true
   pub received : HasFilters (scope_of policy.clients id)
-      → (name : List ℕ) → is_name name ≡ true → matches text name ≡ true → may_receive (scope_of policy.clients id) name ≡ true
+      → (name : List ℕ) → is_name name ≡ true → matches text name ≡ true
+      → may_receive (scope_of policy.clients id) name ≡ true
 
 -- the gap is a topic name that the filter matches, and that may not be received
 pub record IsGap (policy : Policy) (id text gap : List ℕ) : Type 0 where
@@ -129,7 +138,8 @@ pub record IsGap (policy : Policy) (id text gap : List ℕ) : Type 0 where
   pub matched : matches text gap ≡ true
   pub missing : may_receive (scope_of policy.clients id) gap ≡ false
 
--- a subscription is denied for want of a scope, or with a gap; want of the connection or of room comes behind the policy
+-- a subscription is denied for want of a scope, or with a gap; want of the connection or of room comes behind
+-- the policy
 abbrev pub SubscriptionDenied : Policy → List ℕ → List ℕ → Denial → Type 0
 SubscriptionDenied policy id filter (NoScope client) = (client ≡ id) × (lists policy id ≡ false)
 SubscriptionDenied policy id filter (Uncovered text gap) =
@@ -165,7 +175,8 @@ abbrev pub MayEnd : Policy → List ℕ → List ℕ → Outcome → Type 0
 MayEnd policy id filter Allowed = ⊥
 MayEnd policy id filter (Denied BrokerRefused) = Unit {0}
 MayEnd policy id filter (Denied (NoScope client)) = SubscriptionDenied policy id filter (NoScope client)
-MayEnd policy id filter (Denied (Uncovered text gap)) = SubscriptionDenied policy id filter (Uncovered text gap)
+MayEnd policy id filter (Denied (Uncovered text gap)) =
+    SubscriptionDenied policy id filter (Uncovered text gap)
 MayEnd policy id filter (Denied UpstreamDown) = ⊥
 MayEnd policy id filter (Denied (Full place)) = ⊥
 MayEnd policy id filter (Denied Malformed) = ⊥
@@ -192,10 +203,11 @@ NeedsNoGrant whom (Denied rule) = is_of_form rule ≡ true
 abbrev pub MayConnect : Policy → List ℕ → Outcome → Type 0
 MayConnect policy id Allowed = lists policy id ≡ true
 MayConnect policy id (Denied rule) =
-    MatchBool (is_of_room rule) (lists policy id ≡ true) ((is_of_form rule ≡ true) ⊎ IsUnlisted policy (who.Client id) rule)
+    MatchBool (is_of_room rule) (lists policy id ≡ true)
+    ((is_of_form rule ≡ true) ⊎ IsUnlisted policy (who.Client id) rule)
 
--- a message leaves for a client as the policy says. That it was too long, that its queue was full, that the client refused it or is gone is
--- no policy's
+-- a message leaves for a client as the policy says. That it was too long, that its queue was full, that the
+-- client refused it or is gone is no policy's
 abbrev pub MayHand : Policy → List ℕ → List ℕ → Outcome → Type 0
 MayHand policy id name Allowed = judged (receive_rules policy id name) ≡ Allowed
 MayHand policy id name (Denied rule) = IsDenial policy id name rule

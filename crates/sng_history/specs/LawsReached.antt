@@ -1,6 +1,7 @@
--- The promise of what goes to clients, by the octets of each datagram (MQTT-SN 1.2, 5.2): nothing that carries a topic goes to a client but
--- behind a note that lets it go.
-use Rattle.std.specs.Prelude.{ℕ, ◌≡◌, ◌==◌, Bool, true, false, ◌||◌, List, [], ◌∷◌, slice_get, if◌then◌else◌, Option, Some, None}
+-- The promise of what goes to clients, by the octets of each datagram (MQTT-SN 1.2, 5.2): nothing that
+-- carries a topic goes to a client but behind a note that lets it go.
+use Rattle.std.specs.Prelude.{ℕ, ◌≡◌, ◌==◌, Bool, true, false, ◌||◌, List, [], ◌∷◌, slice_get, if◌then◌else◌}
+use Rattle.std.specs.Prelude.{Option, Some, None}
 use Rattle.sng_frames.specs.declared.frame.SnFrame.{SnFrame}
 use Rattle.sng_frames.specs.declared.frame.SnFrame.TheVariants as frame
 use Rattle.sng_book.specs.Denials.{is_allowed}
@@ -10,7 +11,8 @@ use Rattle.sng_book.specs.declared.out.Out.{Out}
 use Rattle.sng_book.specs.declared.out.Out.TheVariants.{Send, Wire, Note}
 use Rattle.sng_book.specs.declared.row.Row.{Row}
 
--- the type of a datagram (MQTT-SN 1.2, 5.2.1 and 5.2.2): its second octet, or the fourth where its length has three
+-- the type of a datagram (MQTT-SN 1.2, 5.2.1 and 5.2.2): its second octet, or the fourth where its length has
+-- three
 abbrev pub type_octet : List ℕ → Option ℕ
 type_octet [] = None
 type_octet (size ∷ octets) = if size == 1 then slice_get octets 2 else slice_get octets 0
@@ -69,7 +71,8 @@ lets_reach (note.Left client) = false
 lets_reach note.Outbox = false
 lets_reach (note.Frame whom outcome) = false
 
--- a PUBLISH or a REGISTER goes to a client only at once behind a note that lets it go; `lets` is whether the out before is such a note
+-- a PUBLISH or a REGISTER goes to a client only at once behind a note that lets it go; `lets` is whether the
+-- out before is such a note
 abbrev pub Reaches : Bool → List Out → Type 0
 Reaches lets [] = Unit {0}
 Reaches lets (Note said ∷ outs) = Reaches (lets_reach said) outs

@@ -1,4 +1,5 @@
--- How laws say a verdict: a table of rules, each with the condition under which it forbids, of which the first that holds is the verdict.
+-- How laws say a verdict: a table of rules, each with the condition under which it forbids, of which the
+-- first that holds is the verdict.
 use Rattle.std.specs.Prelude.{ℕ, Bool, false, not, List, [], ◌∷◌, if◌then◌else◌, Option, Some, None, is_some}
 use Rattle.sng_grants.specs.Sources.{scope_of}
 use Rattle.sng_grants.specs.declared.scope.Pair.{Pair}
@@ -38,4 +39,5 @@ may_publish (Some pairs) name = is_granted Publish pairs name
 -- what the policy says to a publish under the name: not listed, or no pair with `pub` that matches
 abbrev pub publish_rules : Policy → Origin → List ℕ → List Rule
 publish_rules policy asker name =
-    (not (is_some (scope_for policy asker)), unlisted_rule asker) ∷ (not (may_publish (scope_for policy asker) name), MissingPub name) ∷ []
+    (not (is_some (scope_for policy asker)), unlisted_rule asker)
+    ∷ (not (may_publish (scope_for policy asker) name), MissingPub name) ∷ []

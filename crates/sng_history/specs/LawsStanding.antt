@@ -29,7 +29,9 @@ use Rattle.sng_history.specs.LawsAnswers.{Brought}
 
 -- each filter that stands for a client is allowed to it by the policy in force
 abbrev pub StandingIsAllowed : List Row → Type 0
-StandingIsAllowed h = (id text : List ℕ) → stands (standing_of id h) text ≡ true → subscribe_grant (policy_in_force h) id text ≡ grant.Allowed
+StandingIsAllowed h =
+    (id text : List ℕ) → stands (standing_of id h) text ≡ true
+    → subscribe_grant (policy_in_force h) id text ≡ grant.Allowed
 
 -- it is a topic filter
 abbrev pub StandingIsFilter : List Row → Type 0
@@ -38,8 +40,10 @@ StandingIsFilter h = (id text : List ℕ) → stands (standing_of id h) text ≡
 -- and each name that it matches may be received by the client, where the policy's scope holds filters
 abbrev pub StandingIsReceived : List Row → Type 0
 StandingIsReceived h =
-    (id text name : List ℕ) → stands (standing_of id h) text ≡ true → HasFilters (scope_of (policy_in_force h).clients id)
-    → is_name name ≡ true → matches text name ≡ true → receive_grant (policy_in_force h) id name ≡ grant.Allowed
+    (id text name : List ℕ) → stands (standing_of id h) text ≡ true
+    → HasFilters (scope_of (policy_in_force h).clients id)
+    → is_name name ≡ true → matches text name ≡ true
+    → receive_grant (policy_in_force h) id name ≡ grant.Allowed
 
 -- ---- what goes upstream
 
@@ -56,7 +60,8 @@ is_text text None = false
 is_text text (Some filter) = bytes_eq filter text
 
 abbrev pub begins_by : List ℕ → List ℕ → Decision → Bool
-begins_by id text (note.Subscribe whom filter outcome) = (speaks_of id whom && is_allowed outcome) && is_text text filter
+begins_by id text (note.Subscribe whom filter outcome) =
+    (speaks_of id whom && is_allowed outcome) && is_text text filter
 begins_by id text (note.Connect client outcome) = false
 begins_by id text (note.Unsubscribe whom filter outcome) = false
 begins_by id text (note.End client filter outcome) = false
@@ -80,7 +85,8 @@ begins_in id text (Note said ∷ outs) = begins_by id text said || begins_in id 
 begins_in id text (Send to datagram ∷ outs) = begins_in id text outs
 begins_in id text (Wire packet ∷ outs) = begins_in id text outs
 
--- a filter that does not stand for a client, whether or not it did once, does not stand after a row without such a note
+-- a filter that does not stand for a client, whether or not it did once, does not stand after a row without
+-- such a note
 abbrev pub StaysEndedBy : List Row → Row → Type 0
 StaysEndedBy h row =
     (id text : List ℕ) → stands (standing_of id h) text ≡ false → begins_in id text row.outs ≡ false
@@ -102,4 +108,5 @@ pub record BySubscribe (h : List Row) (row : Row) (id : List ℕ) : Type 0 where
 -- by no other row a filter begins to stand for the client
 abbrev pub BeginsBySubscribe : List Row → Row → Type 0
 BeginsBySubscribe h row =
-    (id text : List ℕ) → stands (standing_of id h) text ≡ false → stands (standing_of id (row ∷ h)) text ≡ true → BySubscribe h row id
+    (id text : List ℕ) → stands (standing_of id h) text ≡ false
+    → stands (standing_of id (row ∷ h)) text ≡ true → BySubscribe h row id

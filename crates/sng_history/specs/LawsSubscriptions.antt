@@ -1,6 +1,7 @@
--- How a SUBSCRIBE and an UNSUBSCRIBE are judged, noted and answered in a lawful history, and which subscriptions a replacement of the
--- policy ends, in the views' words.
-use Rattle.std.specs.Prelude.{ℕ, ◌≡◌, ◌⊎◌, Bool, true, false, ◌&&◌, not, nat_lt, List, [], ◌∷◌, ◌++◌, length, if◌then◌else◌, Option, Some, None, is_some}
+-- How a SUBSCRIBE and an UNSUBSCRIBE are judged, noted and answered in a lawful history, and which
+-- subscriptions a replacement of the policy ends, in the views' words.
+use Rattle.std.specs.Prelude.{ℕ, ◌≡◌, ◌⊎◌, Bool, true, false, ◌&&◌, not, nat_lt, List, [], ◌∷◌, ◌++◌, length}
+use Rattle.std.specs.Prelude.{if◌then◌else◌, Option, Some, None, is_some}
 use Rattle.std.specs.List.{flat_map}
 use Rattle.std.specs.Str.{bytes_eq}
 use Rattle.sng_text.specs.Texts.{is_name, is_filter}
@@ -26,7 +27,9 @@ use Rattle.sng_book.specs.declared.decision.Decision.TheVariants as note
 use Rattle.sng_book.specs.declared.decision.Who.TheVariants as who
 use Rattle.sng_book.specs.declared.outcome.IdKind.TheVariants as kind
 use Rattle.sng_book.specs.declared.outcome.Place.TheVariants as place
-use Rattle.sng_book.specs.declared.outcome.Denial.TheVariants.{NoScope, NoSession, BadName, BadFilter, IdType, UnknownId, Uncovered, OutOfTurn, UpstreamDown, Full}
+use Rattle.sng_book.specs.declared.outcome.Denial.TheVariants.{NoScope, NoSession, BadName, BadFilter, IdType}
+use Rattle.sng_book.specs.declared.outcome.Denial.TheVariants.{UnknownId, Uncovered, OutOfTurn, UpstreamDown}
+use Rattle.sng_book.specs.declared.outcome.Denial.TheVariants.{Full}
 use Rattle.sng_book.specs.declared.outcome.Outcome.{Outcome}
 use Rattle.sng_book.specs.declared.outcome.Outcome.TheVariants.{Allowed, Denied}
 use Rattle.sng_book.specs.declared.out.Out.{Out}
@@ -107,8 +110,8 @@ gap_rule policy id text =
     let gap = gap_in (subscribe_grant policy id text) in
     (is_some gap, Uncovered text (or_empty gap))
 
--- what forbids a subscription that is covered, in order: a connection that is down, a name without an id where 128 were told, a filter that
--- does not stand for the client where 32 do, and 512 items that wait
+-- what forbids a subscription that is covered, in order: a connection that is down, a name without an id
+-- where 128 were told, a filter that does not stand for the client where 32 do, and 512 items that wait
 abbrev pub room_rules : List Row → List ℕ → TopicIdType → List ℕ → List Rule
 room_rules h id type text =
     let told = names_told id h in
@@ -145,8 +148,16 @@ id_granted told Reserved octets = 0
 -- SUBACK names the QoS that is granted and the topic id, or else the rule's code with neither
 abbrev pub suback : Address → ℕ → TopicRequest → Outcome → Out
 suback to topic_id r Allowed =
-    Send to (written (frame.SubscribeAck (record { flags = record unset { qos = qos_granted r.flags.qos }; topic_id = topic_id; msg_id = r.msg_id; code = ACCEPTED })))
-suback to topic_id r (Denied rule) = Send to (written (frame.SubscribeAck (record { flags = unset; topic_id = 0; msg_id = r.msg_id; code = code_for rule })))
+    Send to (written (frame.SubscribeAck
+    (record {
+      flags = record unset { qos = qos_granted r.flags.qos };
+      topic_id = topic_id;
+      msg_id = r.msg_id;
+      code = ACCEPTED;
+    })))
+suback to topic_id r (Denied rule) =
+    Send to (written (frame.SubscribeAck
+    (record { flags = unset; topic_id = 0; msg_id = r.msg_id; code = code_for rule })))
 
 -- by nobody it has no session
 abbrev pub subscribe_stranger : Address → List Out
@@ -169,7 +180,8 @@ unsubscribe_rules h id r = (not (is_active (phase_of id h)), OutOfTurn) ∷ form
 
 -- the filter ends for the active client at the address
 abbrev pub stays_without : List Row → Address → List ℕ → Stays
-stays_without h from text other one = not (is_at other from h && (is_active (phase_of other h) && bytes_eq text one))
+stays_without h from text other one =
+    not (is_at other from h && (is_active (phase_of other h) && bytes_eq text one))
 
 abbrev pub unsubscribed_note : List Row → Address → List ℕ → Option (List ℕ) → Outcome → List Out
 unsubscribed_note h from id (Some text) Allowed = untold_note h (stays_without h from text) id text
@@ -179,7 +191,8 @@ unsubscribed_note h from id None outcome = []
 abbrev pub unsubscribe_stranger : Address → List Out
 unsubscribe_stranger from = Note (note.Unsubscribe (who.Address from) None (Denied NoSession)) ∷ bye from ∷ []
 
--- it is noted, and behind it where the broker is not told that its filter stands for nobody any more; and UNSUBACK answers
+-- it is noted, and behind it where the broker is not told that its filter stands for nobody any more; and
+-- UNSUBACK answers
 abbrev pub unsubscribe_answer : List Row → Address → TopicRequest → List ℕ → List Out
 unsubscribe_answer h from r id =
     let outcome = judged (unsubscribe_rules h id r) in
@@ -191,7 +204,9 @@ unsubscribe_answer h from r id =
 
 -- each name that the filter matches may be received
 abbrev pub EachReceived : Policy → List ℕ → List ℕ → Type 0
-EachReceived policy id text = (name : List ℕ) → is_name name ≡ true → matches text name ≡ true → receive_grant policy id name ≡ grant.Allowed
+EachReceived policy id text =
+    (name : List ℕ) → is_name name ≡ true → matches text name ≡ true
+    → receive_grant policy id name ≡ grant.Allowed
 
 -- the name shows that the filter is not covered: the filter matches it, and it may not be received
 pub record ShowsGap (policy : Policy) (id text gap : List ℕ) (outcome : Outcome) : Type 0 where
@@ -200,8 +215,8 @@ pub record ShowsGap (policy : Policy) (id text gap : List ℕ) (outcome : Outcom
   pub matched : matches text gap ≡ true
   pub missing : receive_grant policy id gap ≡ grant.MissingSub
 
--- a SUBSCRIBE that is well formed is denied as uncovered, with a gap, or else each name that its filter matches may be received, and it is
--- allowed where there is room
+-- a SUBSCRIBE that is well formed is denied as uncovered, with a gap, or else each name that its filter
+-- matches may be received, and it is allowed where there is room
 abbrev pub CoveredExactly : List Row → List ℕ → TopicRequest → List ℕ → Type 0
 CoveredExactly h id r text =
     let policy = policy_in_force h in
@@ -209,10 +224,12 @@ CoveredExactly h id r text =
     ((gap : List ℕ) × ShowsGap policy id text gap outcome)
     ⊎ (EachReceived policy id text × (outcome ≡ judged (room_rules h id r.flags.id_type text)))
 
--- this holds of each client that may ask and each SUBSCRIBE that names a filter, where the policy's scopes hold filters
+-- this holds of each client that may ask and each SUBSCRIBE that names a filter, where the policy's scopes
+-- hold filters
 abbrev pub SubscribesExactly : List Row → List ℕ → TopicRequest → Type 0
 SubscribesExactly h id r =
-    (text : List ℕ) → may_ask h id ≡ true → filter_meant (policy_in_force h) r.flags.id_type r.topic ≡ Some text
+    (text : List ℕ) → may_ask h id ≡ true
+    → filter_meant (policy_in_force h) r.flags.id_type r.topic ≡ Some text
     → HasFilters (scope_of (policy_in_force h).clients id) → CoveredExactly h id r text
 
 -- ---- what a replacement ends
@@ -227,9 +244,12 @@ stays_under policy id text = is_allowed (judged (cover_rules policy id text))
 -- an end is noted, and behind it where the broker is not told that the filter stands for nobody any more
 abbrev pub end_by : List Row → Policy → List ℕ → List ℕ → Outcome → List Out
 end_by h policy id text Allowed = []
-end_by h policy id text (Denied rule) = Note (note.End id text (Denied rule)) ∷ untold_note h (stays_under policy) id text
+end_by h policy id text (Denied rule) =
+    Note (note.End id text (Denied rule)) ∷ untold_note h (stays_under policy) id text
 
--- of each client, in order, each filter that the policy does not allow ends, in the order in which each stood first
+-- of each client, in order, each filter that the policy does not allow ends, in the order in which each stood
+-- first
 abbrev pub replace_answer : List Row → Policy → List Out
 replace_answer h policy =
-    flat_map (λ id. flat_map (λ text. end_by h policy id text (judged (cover_rules policy id text))) (texts_of (standing_of id h))) (accepted h)
+    flat_map (λ id. flat_map (λ text. end_by h policy id text (judged (cover_rules policy id text)))
+    (texts_of (standing_of id h))) (accepted h)

@@ -1,6 +1,7 @@
--- When a message for a client has its turn: what the rows show of the client just before each note, along the row (MQTT-SN 1.2, 6.5, 6.6 and
--- 6.14).
-use Rattle.std.specs.Prelude.{ℕ, ◌≡◌, ◌&&◌, ◌||◌, Bool, true, false, List, [], ◌∷◌, Option, Some, None, if◌then◌else◌}
+-- When a message for a client has its turn: what the rows show of the client just before each note, along the
+-- row (MQTT-SN 1.2, 6.5, 6.6 and 6.14).
+use Rattle.std.specs.Prelude.{ℕ, ◌≡◌, ◌&&◌, ◌||◌, Bool, true, false, List, [], ◌∷◌, Option, Some, None}
+use Rattle.std.specs.Prelude.{if◌then◌else◌}
 use Rattle.std.specs.Str.{bytes_eq}
 use Rattle.sng_grants.specs.declared.policy.Policy.{Policy}
 use Rattle.sng_states.specs.declared.state.ClientState.{ClientState}
@@ -9,7 +10,11 @@ use Rattle.sng_book.specs.declared.decision.Decision.{Decision}
 use Rattle.sng_book.specs.declared.decision.Decision.TheVariants as note
 use Rattle.sng_book.specs.declared.outcome.Place.TheVariants as place
 use Rattle.sng_book.specs.declared.outcome.Denial.{Denial}
-use Rattle.sng_book.specs.declared.outcome.Denial.TheVariants.{Malformed, NotSupported, NoScope, NoSession, UnknownSource, BadName, BadFilter, IdType, UnknownId, MissingPub, MissingSub, Uncovered, ClientRefused, BrokerRefused, OutOfTurn, UpstreamDown, Full, TooLong, Gone}
+use Rattle.sng_book.specs.declared.outcome.Denial.TheVariants.{Malformed, NotSupported, NoScope, NoSession}
+use Rattle.sng_book.specs.declared.outcome.Denial.TheVariants.{UnknownSource, BadName, BadFilter, IdType}
+use Rattle.sng_book.specs.declared.outcome.Denial.TheVariants.{UnknownId, MissingPub, MissingSub, Uncovered}
+use Rattle.sng_book.specs.declared.outcome.Denial.TheVariants.{ClientRefused, BrokerRefused, OutOfTurn}
+use Rattle.sng_book.specs.declared.outcome.Denial.TheVariants.{UpstreamDown, Full, TooLong, Gone}
 use Rattle.sng_book.specs.declared.outcome.Outcome.TheVariants.{Allowed, Denied}
 use Rattle.sng_book.specs.declared.event.Event.{Event}
 use Rattle.sng_book.specs.declared.out.Out.{Out}
@@ -17,8 +22,11 @@ use Rattle.sng_book.specs.declared.out.Out.TheVariants.{Send, Wire, Note}
 use Rattle.sng_book.specs.declared.row.Row.{Row}
 use Rattle.sng_history.specs.Views.{policy_in_force}
 use Rattle.sng_history.specs.ViewsMessages.{Message as Spoken, message_at, subscribe_in}
-use Rattle.sng_history.specs.ViewsClients.{address_of, phase_spoken, own_message, phase_by, phase_of, with_name, names_by, names_told}
-use Rattle.sng_history.specs.ViewsHanding.{Opening, Announced, HandedOver, is_taking, due_of, Progress, closes, progress_by, ends_open, progress_of, is_idle, knows_by, confirmed_in, names_known}
+use Rattle.sng_history.specs.ViewsClients.{address_of, phase_spoken, own_message, phase_by, phase_of}
+use Rattle.sng_history.specs.ViewsClients.{with_name, names_by, names_told}
+use Rattle.sng_history.specs.ViewsHanding.{Opening, Announced, HandedOver, is_taking, due_of, Progress}
+use Rattle.sng_history.specs.ViewsHanding.{closes, progress_by, ends_open, progress_of, is_idle, knows_by}
+use Rattle.sng_history.specs.ViewsHanding.{confirmed_in, names_known}
 use Rattle.sng_history.specs.LawsHanding.{is_known}
 
 -- ---- the client at a place in a row
@@ -30,13 +38,17 @@ pub record Moment : Type 0 where
   pub known : List (List ℕ)
   pub progress : Progress
 
--- before any note: a message of the client may wake it or let it fall asleep, closes what was open, and confirms an id
+-- before any note: a message of the client may wake it or let it fall asleep, closes what was open, and
+-- confirms an id
 abbrev pub moment_at : List ℕ → Event → List Row → Moment
 moment_at id event earlier = record {
-  phase = phase_spoken id (own_message (phase_of id earlier) (address_of id earlier) event) (phase_of id earlier);
+  phase =
+      phase_spoken id (own_message (phase_of id earlier) (address_of id earlier) event) (phase_of id earlier);
   told = names_told id earlier;
   known = with_name (confirmed_in id earlier event) (names_known id earlier);
-  progress = if ends_open id (progress_of id earlier) earlier event then closes (progress_of id earlier) else progress_of id earlier;
+  progress =
+      if ends_open id (progress_of id earlier) earlier event then closes (progress_of id earlier)
+      else progress_of id earlier;
 }
 
 -- behind a note, where these messages were due and the row holds this message of a client
@@ -97,9 +109,9 @@ comes_in_turn (Full place.Subscriptions) = false
 comes_in_turn (Full place.InFlight) = false
 comes_in_turn (Full place.Outbox) = false
 
--- a message is handed over, denied in its turn, or an id of its name announced, only where the client is free, but for an announced front that
--- is denied; it is handed over where the client knows the name, and an id is announced where it does not. Only what is open with a client that
--- takes messages is sent again
+-- a message is handed over, denied in its turn, or an id of its name announced, only where the client is
+-- free, but for an announced front that is denied; it is handed over where the client knows the name, and an
+-- id is announced where it does not. Only what is open with a client that takes messages is sent again
 abbrev pub NoteInTurn : Policy → List ℕ → Decision → Moment → Type 0
 NoteInTurn policy id (note.Hand client name Allowed) now =
     bytes_eq id client ≡ true → (is_free_at now ≡ true) × (is_known policy now.told now.known name ≡ true)
@@ -125,7 +137,8 @@ NoteInTurn policy id (note.Frame whom outcome) now = Unit {0}
 
 abbrev pub AllInTurn : Policy → List ℕ → List Message → Option Spoken → List Out → Moment → Type 0
 AllInTurn policy id due m [] now = Unit {0}
-AllInTurn policy id due m (Note said ∷ outs) now = NoteInTurn policy id said now × AllInTurn policy id due m outs (moment_by m id due said now)
+AllInTurn policy id due m (Note said ∷ outs) now =
+    NoteInTurn policy id said now × AllInTurn policy id due m outs (moment_by m id due said now)
 AllInTurn policy id due m (Send to datagram ∷ outs) now = AllInTurn policy id due m outs now
 AllInTurn policy id due m (Wire packet ∷ outs) now = AllInTurn policy id due m outs now
 
@@ -135,4 +148,5 @@ EachInTurn id [] = Unit {0}
 EachInTurn id (row ∷ earlier) =
     let rows = row ∷ earlier in
     EachInTurn id earlier
-    × AllInTurn (policy_in_force rows) id (due_of id rows) (message_at row.event) row.outs (moment_at id row.event earlier)
+    × AllInTurn (policy_in_force rows) id (due_of id rows) (message_at row.event) row.outs
+    (moment_at id row.event earlier)

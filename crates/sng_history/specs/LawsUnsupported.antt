@@ -25,8 +25,8 @@ is_exactly_once qos.AtMostOnce = false
 is_exactly_once qos.AtLeastOnce = false
 is_exactly_once qos.WithoutSession = false
 
--- all but CONNECT, REGISTER, SUBSCRIBE, UNSUBSCRIBE, REGACK, PUBACK, PINGREQ, DISCONNECT, PUBLISH of another QoS than 2,
--- and what a client states of its will
+-- all but CONNECT, REGISTER, SUBSCRIBE, UNSUBSCRIBE, REGACK, PUBACK, PINGREQ, DISCONNECT, PUBLISH of another
+-- QoS than 2, and what a client states of its will
 abbrev pub is_unsupported : SnFrame → Bool
 is_unsupported (frame.Connect connect) = false
 is_unsupported (frame.Register register) = false
@@ -81,13 +81,25 @@ noted_as whom (frame.WillTopicResponse code) = note.Frame whom (Denied NotSuppor
 noted_as whom (frame.WillMessageResponse code) = note.Frame whom (Denied NotSupported)
 
 abbrev pub unset : Flags
-unset = record { dup = false; qos = qos.AtMostOnce; retain = false; will = false; clean = false; id_type = Normal }
+unset =
+    record {
+      dup = false;
+      qos = qos.AtMostOnce;
+      retain = false;
+      will = false;
+      clean = false;
+      id_type = Normal;
+    }
 
 -- what acknowledges an ask of a client that is refused so (5.4.11, 5.4.13, 5.4.16, 5.4.18, 5.4.23 and 5.4.25)
 abbrev pub acknowledged : SnFrame → List SnFrame
-acknowledged (frame.Register register) = frame.RegisterAck (record { topic_id = 0; msg_id = register.msg_id; code = NOT_SUPPORTED }) ∷ []
-acknowledged (frame.Publish p) = frame.PublishAck (record { topic_id = p.topic_id; msg_id = p.msg_id; code = NOT_SUPPORTED }) ∷ []
-acknowledged (frame.Subscribe request) = frame.SubscribeAck (record { flags = unset; topic_id = 0; msg_id = request.msg_id; code = NOT_SUPPORTED }) ∷ []
+acknowledged (frame.Register register) =
+    frame.RegisterAck (record { topic_id = 0; msg_id = register.msg_id; code = NOT_SUPPORTED }) ∷ []
+acknowledged (frame.Publish p) =
+    frame.PublishAck (record { topic_id = p.topic_id; msg_id = p.msg_id; code = NOT_SUPPORTED }) ∷ []
+acknowledged (frame.Subscribe request) =
+    frame.SubscribeAck (record { flags = unset; topic_id = 0; msg_id = request.msg_id; code = NOT_SUPPORTED })
+    ∷ []
 acknowledged (frame.Unsubscribe request) = frame.UnsubscribeAck request.msg_id ∷ []
 acknowledged (frame.WillTopicUpdate topic) = frame.WillTopicResponse NOT_SUPPORTED ∷ []
 acknowledged (frame.WillMessageUpdate message) = frame.WillMessageResponse NOT_SUPPORTED ∷ []
@@ -115,4 +127,5 @@ abbrev pub unsupported_stranger : Address → SnFrame → List Out
 unsupported_stranger from message = Note (noted_as (who.Address from) message) ∷ []
 
 abbrev pub unsupported_answer : Address → SnFrame → List ℕ → List Out
-unsupported_answer from message id = Note (noted_as (who.Client id) message) ∷ map (λ ack. Send from (written ack)) (acknowledged message)
+unsupported_answer from message id =
+    Note (noted_as (who.Client id) message) ∷ map (λ ack. Send from (written ack)) (acknowledged message)

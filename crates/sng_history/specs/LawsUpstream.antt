@@ -19,7 +19,8 @@ subscribe_waits (item.Ping ∷ items) text = subscribe_waits items text
 -- an UNSUBSCRIBE of it is
 abbrev pub unsubscribe_waits : List Item → List ℕ → Bool
 unsubscribe_waits [] text = false
-unsubscribe_waits (item.Unsubscribe filter ∷ items) text = bytes_eq text filter || unsubscribe_waits items text
+unsubscribe_waits (item.Unsubscribe filter ∷ items) text =
+    bytes_eq text filter || unsubscribe_waits items text
 unsubscribe_waits (item.Subscribe filter ∷ items) text = unsubscribe_waits items text
 unsubscribe_waits (item.Publish p ∷ items) text = unsubscribe_waits items text
 unsubscribe_waits (item.Acknowledge packet_id ∷ items) text = unsubscribe_waits items text
@@ -30,8 +31,8 @@ abbrev pub AllPlaced : List Row → Type 0
 AllPlaced [] = Unit {0}
 AllPlaced (row ∷ earlier) = AllPlaced earlier × (is_outbox_noted row.outs ≡ false)
 
--- of a filter that stands for somebody the broker keeps a subscription, or a SUBSCRIBE waits; of one that stands for nobody it keeps none,
--- or an UNSUBSCRIBE waits
+-- of a filter that stands for somebody the broker keeps a subscription, or a SUBSCRIBE waits; of one that
+-- stands for nobody it keeps none, or an UNSUBSCRIBE waits
 pub record IsOwed (h : List Row) (text : List ℕ) : Type 0 where
   pub begins : held_in h text ≡ true → is_upstream h text ≡ false → subscribe_waits (waiting h) text ≡ true
   pub ends : held_in h text ≡ false → is_upstream h text ≡ true → unsubscribe_waits (waiting h) text ≡ true

@@ -1,13 +1,15 @@
--- What a client states of its will, as it is judged and answered, in the views' words (MQTT-SN 1.2, 5.4.6 to 5.4.9, 5.4.22 to 5.4.25, 6.3
--- and 6.4).
-use Rattle.std.specs.Prelude.{ℕ, ◌==◌, Bool, true, false, ◌&&◌, not, List, [], ◌∷◌, ◌++◌, is_some, if◌then◌else◌, Option, Some, None}
+-- What a client states of its will, as it is judged and answered, in the views' words (MQTT-SN 1.2, 5.4.6 to
+-- 5.4.9, 5.4.22 to 5.4.25, 6.3 and 6.4).
+use Rattle.std.specs.Prelude.{ℕ, ◌==◌, Bool, true, false, ◌&&◌, not, List, [], ◌∷◌, ◌++◌, is_some}
+use Rattle.std.specs.Prelude.{if◌then◌else◌, Option, Some, None}
 use Rattle.std.specs.Option.{option_map}
 use Rattle.sng_text.specs.Texts.{is_name}
 use Rattle.sng_grants.specs.Sources.{scope_of}
 use Rattle.sng_grants.specs.declared.policy.Policy.{Policy}
 use Rattle.sng_policy.specs.Grants.{lists}
 use Rattle.sng_states.specs.declared.state.ClientState.{ClientState}
-use Rattle.sng_states.specs.declared.state.ClientState.TheVariants.{Dialogue, Active, Asleep, Awake, Disconnected, Lost}
+use Rattle.sng_states.specs.declared.state.ClientState.TheVariants.{Dialogue, Active, Asleep, Awake}
+use Rattle.sng_states.specs.declared.state.ClientState.TheVariants.{Disconnected, Lost}
 use Rattle.sng_frames.specs.Writing.{written}
 use Rattle.sng_frames.specs.declared.return_code.TheConstants.ReturnCode.{ACCEPTED}
 use Rattle.sng_frames.specs.declared.frame.SnFrame.{SnFrame}
@@ -17,7 +19,8 @@ use Rattle.sng_book.specs.declared.address.Address.{Address}
 use Rattle.sng_book.specs.declared.decision.Decision.TheVariants as note
 use Rattle.sng_book.specs.declared.decision.Who.TheVariants as who
 use Rattle.sng_book.specs.declared.outcome.Denial.{Denial}
-use Rattle.sng_book.specs.declared.outcome.Denial.TheVariants.{NoScope, NoSession, BadName, MissingPub, OutOfTurn}
+use Rattle.sng_book.specs.declared.outcome.Denial.TheVariants.{NoScope, NoSession, BadName, MissingPub}
+use Rattle.sng_book.specs.declared.outcome.Denial.TheVariants.{OutOfTurn}
 use Rattle.sng_book.specs.declared.outcome.Outcome.{Outcome}
 use Rattle.sng_book.specs.declared.outcome.Outcome.TheVariants.{Allowed, Denied}
 use Rattle.sng_book.specs.declared.out.Out.{Out}
@@ -50,15 +53,16 @@ is_in_dialogue (Some Awake) = false
 is_in_dialogue (Some Disconnected) = false
 is_in_dialogue (Some Lost) = false
 
--- in the dialogue a WILLTOPIC has its turn first, and a WILLMSG once a topic awaits it; an update where the client is active, and a
--- WILLMSGUPD where it has a will besides
+-- in the dialogue a WILLTOPIC has its turn first, and a WILLMSG once a topic awaits it; an update where the
+-- client is active, and a WILLMSGUPD where it has a will besides
 abbrev pub has_turn : List Row → List ℕ → Statement → Bool
 has_turn h id (StatesTopic topic) = is_in_dialogue (phase_of id h) && not (is_some (stating_of id h).awaited)
 has_turn h id (StatesMessage message) = is_in_dialogue (phase_of id h) && is_some (stating_of id h).awaited
 has_turn h id (UpdatesTopic topic) = is_active (phase_of id h)
 has_turn h id (UpdatesMessage message) = is_active (phase_of id h) && is_some (will_of id h)
 
--- the topic that it is about: its own, the one that awaits the message, or that of the will; none where it deletes the will
+-- the topic that it is about: its own, the one that awaits the message, or that of the will; none where it
+-- deletes the will
 abbrev pub topic_of : List Row → List ℕ → Statement → Option (List ℕ)
 topic_of h id (StatesTopic topic) = option_map (λ w. w.topic) topic
 topic_of h id (StatesMessage message) = option_map (λ stated. stated.topic) (stating_of id h).awaited
@@ -87,25 +91,31 @@ is_read policy id (Some text) = lists policy id && is_name text
 
 abbrev pub topic_noted : List Row → List ℕ → Statement → Option (List ℕ)
 topic_noted h id statement =
-    if has_turn h id statement && is_read (policy_in_force h) id (topic_of h id statement) then topic_of h id statement else None
+    if has_turn h id statement && is_read (policy_in_force h) id (topic_of h id statement)
+    then topic_of h id statement else None
 
 -- ---- the row
 
 abbrev pub is_out_of_turn : Denial → Bool
 is_out_of_turn rule = number_of rule == 15
 
--- in the dialogue a topic is answered by WILLMSGREQ and its end by CONNACK, with the code of the rule where one forbids it; what is out of
--- turn is not answered. An update is answered by its own acknowledgement, also out of turn
+-- in the dialogue a topic is answered by WILLMSGREQ and its end by CONNACK, with the code of the rule where
+-- one forbids it; what is out of turn is not answered. An update is answered by its own acknowledgement, also
+-- out of turn
 abbrev pub reply : Address → Statement → Outcome → List Out
 reply from (StatesTopic None) Allowed = connack_to from ACCEPTED ∷ []
 reply from (StatesTopic (Some w)) Allowed = Send from (written frame.WillMessageRequest) ∷ []
-reply from (StatesTopic topic) (Denied rule) = if is_out_of_turn rule then [] else connack_to from (code_for rule) ∷ []
+reply from (StatesTopic topic) (Denied rule) =
+    if is_out_of_turn rule then [] else connack_to from (code_for rule) ∷ []
 reply from (StatesMessage message) Allowed = connack_to from ACCEPTED ∷ []
-reply from (StatesMessage message) (Denied rule) = if is_out_of_turn rule then [] else connack_to from (code_for rule) ∷ []
+reply from (StatesMessage message) (Denied rule) =
+    if is_out_of_turn rule then [] else connack_to from (code_for rule) ∷ []
 reply from (UpdatesTopic topic) Allowed = Send from (written (frame.WillTopicResponse ACCEPTED)) ∷ []
-reply from (UpdatesTopic topic) (Denied rule) = Send from (written (frame.WillTopicResponse (code_for rule))) ∷ []
+reply from (UpdatesTopic topic) (Denied rule) =
+    Send from (written (frame.WillTopicResponse (code_for rule))) ∷ []
 reply from (UpdatesMessage message) Allowed = Send from (written (frame.WillMessageResponse ACCEPTED)) ∷ []
-reply from (UpdatesMessage message) (Denied rule) = Send from (written (frame.WillMessageResponse (code_for rule))) ∷ []
+reply from (UpdatesMessage message) (Denied rule) =
+    Send from (written (frame.WillMessageResponse (code_for rule))) ∷ []
 
 -- what was denied in the dialogue ends it: the client leaves, and what waits for it is gone
 abbrev pub broken_off : List Row → List ℕ → Denial → List Out

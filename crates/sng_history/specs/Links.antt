@@ -1,5 +1,6 @@
 -- The link to the broker, and how what leaves on it moves it (MQTT 3.1.1, 2.3.1 and 4.4).
-use Rattle.std.specs.Prelude.{ℕ, Bool, ◌==◌, false, List, [], ◌∷◌, ◌++◌, map, if◌then◌else◌, Option, Some, None}
+use Rattle.std.specs.Prelude.{ℕ, Bool, ◌==◌, false, List, [], ◌∷◌, ◌++◌, map, if◌then◌else◌, Option, Some}
+use Rattle.std.specs.Prelude.{None}
 use Rattle.std.specs.List.{list_any}
 use Rattle.std.specs.Str.{bytes_eq}
 use Rattle.sng_text.specs.declared.qos.Qos.{Qos}
@@ -12,8 +13,8 @@ use Rattle.sng_outbox.specs.declared.item.Publication.{Publication}
 use Rattle.sng_book.specs.declared.outcome.Outcome.{Outcome}
 use Rattle.sng_book.specs.declared.outcome.Outcome.TheVariants.{Allowed, Denied}
 
--- a filter that stands for somebody, and the packet id of its open SUBSCRIBE, where it has one: its last one, which the broker did not
--- answer yet
+-- a filter that stands for somebody, and the packet id of its open SUBSCRIBE, where it has one: its last one,
+-- which the broker did not answer yet
 pub record Wanted : Type 0 where
   pub filter : List ℕ
   pub open_id : Option ℕ
@@ -81,14 +82,18 @@ packet_id_by link AtLeastOnce = Some (next_packet_id link)
 abbrev pub sent_by : Link → Publication → Qos → Link
 sent_by link p AtMostOnce = link
 sent_by link p AtLeastOnce =
-    record link { last = next_packet_id link; in_flight = link.in_flight ++ record { packet_id = next_packet_id link; publication = p } ∷ [] }
+    record link {
+      last = next_packet_id link;
+      in_flight = link.in_flight ++ record { packet_id = next_packet_id link; publication = p } ∷ [];
+    }
 
 -- the link once the publish left with this outcome
 abbrev pub exited : Link → Publication → Outcome → Link
 exited link p Allowed = sent_by link p p.qos
 exited link p (Denied rule) = link
 
--- the link once a SUBSCRIBE of the filter was sent, and once an UNSUBSCRIBE was, whose packet id nothing waits for
+-- the link once a SUBSCRIBE of the filter was sent, and once an UNSUBSCRIBE was, whose packet id nothing
+-- waits for
 abbrev pub subscribe_sent : Link → List ℕ → Link
 subscribe_sent link filter =
     record link { last = next_packet_id link; wanted = opened link.wanted filter (next_packet_id link) }
@@ -117,7 +122,8 @@ still_in_flight (sent ∷ flights) (Denied rule ∷ outcomes) = still_in_flight 
 
 -- the link as a connection begins at this clock, once what is in flight was judged again with these outcomes
 abbrev pub resumed : Link → ℕ → List Outcome → Link
-resumed link clock outcomes = record link { in_flight = still_in_flight link.in_flight outcomes; pinged = clock }
+resumed link clock outcomes =
+    record link { in_flight = still_in_flight link.in_flight outcomes; pinged = clock }
 
 -- the filters that are wanted
 abbrev pub filters_wanted : Link → List (List ℕ)
@@ -127,8 +133,11 @@ filters_wanted link = map (λ w. w.filter) link.wanted
 abbrev pub link_after : Link → List Item → List Outcome → Link
 link_after link [] outcomes = link
 link_after link (item.Publish p ∷ items) [] = link
-link_after link (item.Publish p ∷ items) (outcome ∷ outcomes) = link_after (exited link p outcome) items outcomes
-link_after link (item.Subscribe filter ∷ items) outcomes = link_after (subscribe_left link filter) items outcomes
-link_after link (item.Unsubscribe filter ∷ items) outcomes = link_after (unsubscribe_left link filter) items outcomes
+link_after link (item.Publish p ∷ items) (outcome ∷ outcomes) =
+    link_after (exited link p outcome) items outcomes
+link_after link (item.Subscribe filter ∷ items) outcomes =
+    link_after (subscribe_left link filter) items outcomes
+link_after link (item.Unsubscribe filter ∷ items) outcomes =
+    link_after (unsubscribe_left link filter) items outcomes
 link_after link (item.Acknowledge packet_id ∷ items) outcomes = link_after link items outcomes
 link_after link (item.Ping ∷ items) outcomes = link_after link items outcomes

@@ -1,4 +1,5 @@
--- The notes of a client at a tick: that it is lost, or that what is open with it is sent again (MQTT-SN 1.2, 5.4.4, 6.3 and 6.13).
+-- The notes of a client at a tick: that it is lost, or that what is open with it is sent again (MQTT-SN 1.2,
+-- 5.4.4, 6.3 and 6.13).
 use Rattle.std.specs.Prelude.{ℕ, List, [], ◌∷◌, ◌++◌, if◌then◌else◌, Option, Some, None}
 use Rattle.std.specs.Str.{bytes_eq}
 use Rattle.sng_grants.specs.declared.policy.Policy.{Policy}
@@ -33,23 +34,25 @@ abbrev pub will_dropped : Link → List ℕ → List Publication → List Decisi
 will_dropped link id [] = []
 will_dropped link id (p ∷ ps) = unplaced id p (room_in link p.qos)
 
--- the notes of a client that is lost: so, what waited for it, and that its will found no place in the link as those of the clients before
--- it left it
+-- the notes of a client that is lost: so, what waited for it, and that its will found no place in the link as
+-- those of the clients before it left it
 abbrev pub lost_notes : Link → Client → List Decision
-lost_notes link x = note.Lost x.id ∷ (all_gone x.id x.buffer.waiting ++ will_dropped link x.id (will_of x.id x.wills.will))
+lost_notes link x =
+    note.Lost x.id ∷ (all_gone x.id x.buffer.waiting ++ will_dropped link x.id (will_of x.id x.wills.will))
 
 -- the message that an exchange is about: it announced the front, or handed another one over
 abbrev pub message_open : Buffer → Exchange → Option Message
 message_open b (Announcing sent) = front b
 message_open b (Acknowledging sent k m) = Some m
 
--- it is judged again. Allowed, it is sent again; denied, the exchange is over, with which an announced front is settled, and what may leave
--- then leaves
+-- it is judged again. Allowed, it is sent again; denied, the exchange is over, with which an announced front
+-- is settled, and what may leave then leaves
 abbrev pub judged_again : Policy → Client → Exchange → Message → Outcome → List Decision
 judged_again policy x open_one m Allowed = note.Retry x.id m.name Allowed ∷ []
 judged_again policy x (Announcing sent) m (Denied rule) =
     note.Hand x.id m.name (Denied rule) ∷ handed_over policy (record x { buffer = settle x.buffer })
-judged_again policy x (Acknowledging sent k one) m (Denied rule) = note.Retry x.id m.name (Denied rule) ∷ handed_over policy (closed x)
+judged_again policy x (Acknowledging sent k one) m (Denied rule) =
+    note.Retry x.id m.name (Denied rule) ∷ handed_over policy (closed x)
 
 abbrev pub message_again : Policy → Client → Exchange → Option Message → List Decision
 message_again policy x open_one None = []
@@ -66,4 +69,5 @@ again_notes policy clock x = if is_repeating clock x then exchange_again policy 
 -- the notes that a tick makes of a client of these
 abbrev pub tick_notes : Policy → Link → ℕ → List Client → Client → List Decision
 tick_notes policy link clock xs x =
-    if is_lost_at clock x then lost_notes (all_placed link (testaments clock (before x.id xs))) x else again_notes policy clock x
+    if is_lost_at clock x then lost_notes (all_placed link (testaments clock (before x.id xs))) x
+    else again_notes policy clock x

@@ -1,6 +1,7 @@
--- How what waits for a client comes out: the notes of a hand-over, each message judged by the policy in force as its turn comes (RFC 9431,
--- 2.3; MQTT-SN 1.2, 6.10 and 6.14).
-use Rattle.std.specs.Prelude.{ℕ, ◌&&◌, Bool, true, false, List, [], ◌∷◌, ◌++◌, map, is_some, is_none, if◌then◌else◌, Option}
+-- How what waits for a client comes out: the notes of a hand-over, each message judged by the policy in force
+-- as its turn comes (RFC 9431, 2.3; MQTT-SN 1.2, 6.10 and 6.14).
+use Rattle.std.specs.Prelude.{ℕ, ◌&&◌, Bool, true, false, List, [], ◌∷◌, ◌++◌, map, is_some, is_none}
+use Rattle.std.specs.Prelude.{if◌then◌else◌, Option}
 use Rattle.sng_text.specs.declared.qos.Qos.{Qos}
 use Rattle.sng_text.specs.declared.qos.Qos.TheVariants.{AtMostOnce, AtLeastOnce}
 use Rattle.sng_grants.specs.declared.policy.Policy.{Policy}
@@ -30,8 +31,8 @@ abbrev pub behind : Qos → List Decision → List Decision
 behind AtMostOnce more = more
 behind AtLeastOnce more = []
 
--- a message that the client may receive: it is handed over where the client knows its name, else an id is announced while there is one, and
--- nothing more leaves until that is answered
+-- a message that the client may receive: it is handed over where the client knows its name, else an id is
+-- announced while there is one, and nothing more leaves until that is answered
 abbrev pub offered : List ℕ → Message → Bool → Bool → List Decision → List Decision
 offered client m true full more = note.Hand client m.name Allowed ∷ behind m.qos more
 offered client m false true more = note.Hand client m.name (Denied (Full place.Ids)) ∷ more
@@ -69,7 +70,8 @@ refusals client code (m ∷ more) = note.Hand client m.name (Denied (ClientRefus
 abbrev pub out_of_turn : List ℕ → List Decision
 out_of_turn client = note.Frame (who.Client client) (Denied OutOfTurn) ∷ []
 
--- a message of the broker that is due to the client: it is turned away, or joins what waits; and what may leave then leaves
+-- a message of the broker that is due to the client: it is turned away, or joins what waits; and what may
+-- leave then leaves
 abbrev pub delivered_notes : Policy → Option Message → Client → List Decision
 delivered_notes policy due x =
     turned_away x.id due x.buffer ++ handed_over policy (record x { buffer = joins due x.buffer })

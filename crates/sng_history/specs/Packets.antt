@@ -77,7 +77,8 @@ acknowledgements up link (Refuses packet_id) = []
 acknowledgements up link Confirms = []
 acknowledgements up link Strange = []
 
--- a PUBACK ends the publish in flight with its packet id, and after a SUBACK no SUBSCRIBE is open with its own
+-- a PUBACK ends the publish in flight with its packet id, and after a SUBACK no SUBSCRIBE is open with its
+-- own
 abbrev pub answered : Link → Answer → Link
 answered link (Acknowledges packet_id) = record link { in_flight = without_first link.in_flight packet_id }
 answered link (Grants packet_id) = record link { wanted = closed link.wanted packet_id }

@@ -1,4 +1,5 @@
--- What a SUBSCRIBE or an UNSUBSCRIBE names, and what a SUBSCRIBE is granted (MQTT-SN 1.2, 5.4.15 to 5.4.18 and 6.9).
+-- What a SUBSCRIBE or an UNSUBSCRIBE names, and what a SUBSCRIBE is granted (MQTT-SN 1.2, 5.4.15 to 5.4.18
+-- and 6.9).
 use Rattle.std.specs.Prelude.{ℕ, ◌+◌, ◌*◌, ◌==◌, Bool, false, ◌&&◌, not, List, [], ◌∷◌, length}
 use Rattle.sng_text.specs.Texts.{is_name}
 use Rattle.sng_text.specs.declared.qos.Qos.{Qos}

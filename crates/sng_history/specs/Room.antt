@@ -14,8 +14,11 @@ use Rattle.sng_history.specs.Packets.{has_place}
 -- one more publish at this QoS may wait or be in flight
 abbrev pub has_flight : Link → Qos → Bool
 has_flight link AtMostOnce = true
-has_flight link AtLeastOnce = nat_lt (load (record { waiting = link.waiting; in_flight = link.in_flight })) MAX_IN_FLIGHT
+has_flight link AtLeastOnce =
+    nat_lt (load (record { waiting = link.waiting; in_flight = link.in_flight })) MAX_IN_FLIGHT
 
 -- whether there is room for one more publish at this QoS: among those in flight, then in the outbox
 abbrev pub room_in : Link → Qos → Outcome
-room_in link q = if has_flight link q then (if has_place link then Allowed else Denied (Full place.Outbox)) else Denied (Full place.InFlight)
+room_in link q =
+    if has_flight link q then (if has_place link then Allowed else Denied (Full place.Outbox))
+    else Denied (Full place.InFlight)

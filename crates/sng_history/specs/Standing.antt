@@ -1,6 +1,7 @@
--- For whom a filter stands, and what follows upstream as subscriptions end: a filter that stands for nobody any more is not wanted, and
--- the broker is told so where there is place for that.
-use Rattle.std.specs.Prelude.{ℕ, ◌-◌, Bool, ◌&&◌, ◌||◌, not, List, [], ◌∷◌, ◌++◌, length, map, filter, take, drop, if◌then◌else◌}
+-- For whom a filter stands, and what follows upstream as subscriptions end: a filter that stands for nobody
+-- any more is not wanted, and the broker is told so where there is place for that.
+use Rattle.std.specs.Prelude.{ℕ, ◌-◌, Bool, ◌&&◌, ◌||◌, not, List, [], ◌∷◌, ◌++◌, length, map, filter, take}
+use Rattle.std.specs.Prelude.{drop, if◌then◌else◌}
 use Rattle.std.specs.List.{list_any}
 use Rattle.std.specs.Str.{bytes_eq}
 use Rattle.sng_fan.specs.Subscriptions.{stands}
@@ -38,13 +39,14 @@ releases_of client others (text ∷ texts) =
     then releases_of client others texts
     else record { client = client; filter = text } ∷ releases_of client others texts
 
--- in the order of the clients and of their filters, each filter as the last client ceases to hold it: the clients before have what stands
--- for them afterwards, and those behind what stood before
+-- in the order of the clients and of their filters, each filter as the last client ceases to hold it: the
+-- clients before have what stands for them afterwards, and those behind what stood before
 abbrev pub released_from : List Client → List Client → List Client → List Release
 released_from earlier [] after = []
 released_from earlier (x ∷ xs) [] = []
 released_from earlier (x ∷ xs) (y ∷ ys) =
-    releases_of x.id (λ text. is_held earlier text || is_held xs text) (ended x y) ++ released_from (earlier ++ y ∷ []) xs ys
+    releases_of x.id (λ text. is_held earlier text || is_held xs text) (ended x y)
+    ++ released_from (earlier ++ y ∷ []) xs ys
 
 abbrev pub released : List Client → List Client → List Release
 released before after = released_from [] before after
@@ -70,7 +72,8 @@ drop_notes dropped = map (λ r. Note note.Outbox) dropped
 
 -- the one that the client's end of this filter asked for, where it was dropped
 abbrev pub drop_note : List Release → List ℕ → List ℕ → List Out
-drop_note dropped client text = if list_any (is_release client text) dropped then Note note.Outbox ∷ [] else []
+drop_note dropped client text =
+    if list_any (is_release client text) dropped then Note note.Outbox ∷ [] else []
 
 -- of the wanted filters those that stand for somebody among these clients
 abbrev pub still_wanted : List Client → List Wanted → List Wanted

@@ -1,6 +1,7 @@
--- The state that a history leads to. Each field is moved by a function of the state before, the cause and the outs of the row.
--- More of the link to the broker is a further field of its record.
-use Rattle.std.specs.Prelude.{ℕ, ◌≡◌, nat_le, Bool, true, false, ◌||◌, ◌&&◌, not, List, [], ◌∷◌, ◌++◌, map, if◌then◌else◌, Option, Some, None}
+-- The state that a history leads to. Each field is moved by a function of the state before, the cause and the
+-- outs of the row. More of the link to the broker is a further field of its record.
+use Rattle.std.specs.Prelude.{ℕ, ◌≡◌, nat_le, Bool, true, false, ◌||◌, ◌&&◌, not, List, [], ◌∷◌, ◌++◌, map}
+use Rattle.std.specs.Prelude.{if◌then◌else◌, Option, Some, None}
 use Rattle.std.specs.List.{flat_map}
 use Rattle.std.specs.Str.{bytes_eq}
 use Rattle.sng_text.specs.declared.qos.Qos.{Qos}
@@ -26,16 +27,18 @@ use Rattle.sng_book.specs.declared.out.Out.{Out}
 use Rattle.sng_book.specs.declared.out.Out.TheVariants.{Send, Wire, Note}
 use Rattle.sng_book.specs.declared.row.Row.{Row}
 use Rattle.sng_history.specs.Causes.{Cause, cause_of, publish_asked}
-use Rattle.sng_history.specs.Causes.{ByConnect, ByMessage, BySource, ByBroken, ByPacket, ByUp, ByDown, ByTake, ByReplace, ByTick}
+use Rattle.sng_history.specs.Causes.{ByConnect, ByMessage, BySource, ByBroken, ByPacket, ByUp, ByDown, ByTake}
+use Rattle.sng_history.specs.Causes.{ByReplace, ByTick}
 use Rattle.sng_history.specs.Clients.{Client, Around, blank, client_by}
 use Rattle.sng_history.specs.Notes.{notes_of, exits_in}
-use Rattle.sng_history.specs.Links.{Link, Wanted, idle, wants, link_after, resumed, filters_wanted, subscribes_sent}
+use Rattle.sng_history.specs.Links.{Link, Wanted, idle, wants, link_after, resumed, filters_wanted}
+use Rattle.sng_history.specs.Links.{subscribes_sent}
 use Rattle.sng_history.specs.Packets.{answer_of, acknowledgements, answered}
 use Rattle.sng_history.specs.Standing.{released, unsubscribes, still_wanted}
 use Rattle.sng_history.specs.Ticking.{ticked}
 
--- the policy in force, the clock in ms, whether the broker's connection is up, the link, and the clients, in the order in which each was
--- accepted first
+-- the policy in force, the clock in ms, whether the broker's connection is up, the link, and the clients, in
+-- the order in which each was accepted first
 pub record State : Type 0 where
   pub policy : Policy
   pub clock : ℕ
@@ -43,9 +46,17 @@ pub record State : Type 0 where
   pub link : Link
   pub clients : List Client
 
--- before any row nothing is granted, the clock is at 0, the connection is down, nothing waits, and no client was accepted
+-- before any row nothing is granted, the clock is at 0, the connection is down, nothing waits, and no client
+-- was accepted
 abbrev pub opening : State
-opening = record { policy = record { clients = []; sources = []; topics = [] }; clock = 0; up = false; link = idle; clients = [] }
+opening =
+    record {
+      policy = record { clients = []; sources = []; topics = [] };
+      clock = 0;
+      up = false;
+      link = idle;
+      clients = [];
+    }
 
 -- a replacement puts its policy in force
 abbrev pub policy_by : Cause → Policy → Policy
@@ -99,7 +110,8 @@ is_known id (x ∷ xs) = bytes_eq id x.id || is_known id xs
 
 -- who is accepted for the first time: the row begins with the note that says so
 abbrev pub newcomer : List Client → Decision → List Client
-newcomer xs (note.Connect id outcome) = if is_allowed outcome && not (is_known id xs) then blank id ∷ [] else []
+newcomer xs (note.Connect id outcome) =
+    if is_allowed outcome && not (is_known id xs) then blank id ∷ [] else []
 newcomer xs (note.Left id) = []
 newcomer xs (note.Register who name outcome) = []
 newcomer xs (note.Publish who name outcome) = []
@@ -143,7 +155,14 @@ clients_by s c outs = map (λ x. client_by (around s c) (notes_of x.id outs) x) 
 
 -- the item of a publish that was asked for under this name, at this QoS
 abbrev pub item_for : Origin → List ℕ → Qos → Publish → Item
-item_for asker name q p = item.Publish (record { origin = asker; name = name; payload = p.payload; qos = q; retain = p.flags.retain })
+item_for asker name q p =
+    item.Publish (record {
+      origin = asker;
+      name = name;
+      payload = p.payload;
+      qos = q;
+      retain = p.flags.retain;
+    })
 
 -- the QoS at which a publish of a client goes on to the broker
 abbrev pub qos_of : FrameQos → Qos
@@ -154,9 +173,11 @@ qos_of qos.WithoutSession = AtMostOnce
 
 -- the item of a publish that was asked for, where it was allowed. Without a session it has QoS 0 upstream
 abbrev pub item_asked : Who → Option (List ℕ) → Outcome → Publish → List Item
-item_asked (who.Source source) (Some name) outcome p = if is_allowed outcome then item_for (origin.Source source) name AtMostOnce p ∷ [] else []
+item_asked (who.Source source) (Some name) outcome p =
+    if is_allowed outcome then item_for (origin.Source source) name AtMostOnce p ∷ [] else []
 item_asked (who.Source source) None outcome p = []
-item_asked (who.Client client) (Some name) outcome p = if is_allowed outcome then item_for (origin.Client client) name (qos_of p.flags.qos) p ∷ [] else []
+item_asked (who.Client client) (Some name) outcome p =
+    if is_allowed outcome then item_for (origin.Client client) name (qos_of p.flags.qos) p ∷ [] else []
 item_asked (who.Client client) None outcome p = []
 item_asked (who.Address address) name outcome p = []
 item_asked who.Broker name outcome p = []
@@ -212,12 +233,16 @@ asked_in ByTake outs = []
 asked_in (ByReplace policy) outs = []
 asked_in (ByTick clock) outs = []
 
--- a take while up leaves nothing, and a tick lets the wills of lost clients and a PINGREQ wait; a lost connection, and a new one, leave the publishes alone; else what was asked for joins what waits,
--- and behind it the broker is told of filters that stand for nobody any more. The last list are the clients after the row
+-- a take while up leaves nothing, and a tick lets the wills of lost clients and a PINGREQ wait; a lost
+-- connection, and a new one, leave the publishes alone; else what was asked for joins what waits, and behind
+-- it the broker is told of filters that stand for nobody any more. The last list are the clients after the
+-- row
 abbrev pub waiting_by : State → Cause → List Item → List Client → List Item
-waiting_by s (ByMessage from request) asked after = s.link.waiting ++ (asked ++ unsubscribes s.link (released s.clients after))
+waiting_by s (ByMessage from request) asked after =
+    s.link.waiting ++ (asked ++ unsubscribes s.link (released s.clients after))
 waiting_by s (BySource from p) asked after = s.link.waiting ++ asked
-waiting_by s (ByConnect from connect) asked after = s.link.waiting ++ unsubscribes s.link (released s.clients after)
+waiting_by s (ByConnect from connect) asked after =
+    s.link.waiting ++ unsubscribes s.link (released s.clients after)
 waiting_by s (ByReplace policy) asked after = s.link.waiting ++ unsubscribes s.link (released s.clients after)
 waiting_by s (ByBroken from rule) asked after = s.link.waiting
 waiting_by s (ByPacket p) asked after = s.link.waiting ++ acknowledgements s.up s.link (answer_of p)
@@ -226,8 +251,9 @@ waiting_by s ByDown asked after = publishes s.link.waiting
 waiting_by s ByTake asked after = if s.up then [] else s.link.waiting
 waiting_by s (ByTick clock) asked after = (ticked s.up s.link (later s.clock clock) s.clients).waiting
 
--- what leaves at a take while up moves the link, and a packet of the broker may answer what was sent. As a connection begins, what is in
--- flight and denied now is forgotten, and each filter that is wanted is subscribed anew
+-- what leaves at a take while up moves the link, and a packet of the broker may answer what was sent. As a
+-- connection begins, what is in flight and denied now is forgotten, and each filter that is wanted is
+-- subscribed anew
 abbrev pub link_moved : State → Cause → List Outcome → Link
 link_moved s (ByConnect from connect) outcomes = s.link
 link_moved s (ByMessage from request) outcomes = s.link
@@ -242,7 +268,8 @@ link_moved s (ByTick clock) outcomes = ticked s.up s.link (later s.clock clock) 
 
 -- a filter that is not wanted yet comes last
 abbrev pub with_wanted : List Wanted → List ℕ → List Wanted
-with_wanted wanted filter = if wants wanted filter then wanted else wanted ++ record { filter = filter; open_id = None } ∷ []
+with_wanted wanted filter =
+    if wants wanted filter then wanted else wanted ++ record { filter = filter; open_id = None } ∷ []
 
 -- the filters of the subscriptions among these items are wanted, too
 abbrev pub joined : List Wanted → List Item → List Wanted
@@ -253,7 +280,8 @@ joined wanted (item.Unsubscribe filter ∷ items) = joined wanted items
 joined wanted (item.Acknowledge packet_id ∷ items) = joined wanted items
 joined wanted (item.Ping ∷ items) = joined wanted items
 
--- the filters that are wanted: what a SUBSCRIBE asks for joins them, and one that stands for nobody any more is wanted no more
+-- the filters that are wanted: what a SUBSCRIBE asks for joins them, and one that stands for nobody any more
+-- is wanted no more
 abbrev pub wanted_by : State → Cause → List Wanted → List Item → List Client → List Wanted
 wanted_by s (ByMessage from request) wanted asked after = joined (still_wanted after wanted) asked
 wanted_by s (ByConnect from connect) wanted asked after = still_wanted after wanted
@@ -285,7 +313,8 @@ after s c outs = record {
 abbrev pub state_by : State → Event → List Out → State
 state_by s e outs = after s (cause_of e) outs
 
--- what a history leads to from the state that it begins with; a history is the list of its rows, the newest first
+-- what a history leads to from the state that it begins with; a history is the list of its rows, the newest
+-- first
 abbrev pub state_of : State → List Row → State
 state_of first [] = first
 state_of first (row ∷ earlier) = state_by (state_of first earlier) row.event row.outs

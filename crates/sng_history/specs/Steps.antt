@@ -1,5 +1,5 @@
--- One step of the state: what it lets out, and the state after it. The program is proved to do just this, and this to keep a history
--- lawful.
+-- One step of the state: what it lets out, and the state after it. The program is proved to do just this, and
+-- this to keep a history lawful.
 use Rattle.std.specs.Prelude.{◌&&◌, not, List, [], ◌∷◌, ◌++◌, map, if◌then◌else◌, Option, Some}
 use Rattle.std.specs.List.{flat_map}
 use Rattle.sng_frames.specs.declared.messages.connect.Connect.{Connect}
@@ -10,7 +10,8 @@ use Rattle.sng_book.specs.declared.decision.Decision.{Decision}
 use Rattle.sng_book.specs.declared.event.Event.{Event}
 use Rattle.sng_book.specs.declared.out.Out.{Out}
 use Rattle.sng_history.specs.Causes.{Cause, cause_of, publish_asked}
-use Rattle.sng_history.specs.Causes.{ByConnect, ByMessage, BySource, ByBroken, ByPacket, ByUp, ByDown, ByTake, ByReplace, ByTick}
+use Rattle.sng_history.specs.Causes.{ByConnect, ByMessage, BySource, ByBroken, ByPacket, ByUp, ByDown, ByTake}
+use Rattle.sng_history.specs.Causes.{ByReplace, ByTick}
 use Rattle.sng_history.specs.Clients.{Client, blank, client_by}
 use Rattle.sng_history.specs.State.{State, policy_by, clock_by, up_by, around, is_known, asked_by, link_by}
 use Rattle.sng_history.specs.Verdicts.{entry, source_ask}
@@ -31,7 +32,8 @@ outs_of s e = outs_by s (cause_of e)
 -- who is accepted for the first time
 abbrev pub entrants : State → Connect → List Client
 entrants s connect =
-    if is_allowed (entry s connect) && not (is_known connect.client_id s.clients) then blank connect.client_id ∷ [] else []
+    if is_allowed (entry s connect) && not (is_known connect.client_id s.clients)
+    then blank connect.client_id ∷ [] else []
 
 abbrev pub newcomers_for : State → Cause → List Client
 newcomers_for s (ByConnect from connect) = entrants s connect

@@ -1,6 +1,8 @@
--- What a tick of the clock makes wait for the broker: the wills of clients that were silent for too long, or did not answer (MQTT-SN 1.2,
--- 5.4.4, 6.3 and 6.13), and the PINGREQ that keeps the connection alive (MQTT 3.1.1, 3.1.2.10 and 3.12).
-use Rattle.std.specs.Prelude.{ℕ, ◌-◌, Bool, false, ◌&&◌, ◌||◌, nat_le, List, [], ◌∷◌, ◌++◌, if◌then◌else◌, Option, Some, None}
+-- What a tick of the clock makes wait for the broker: the wills of clients that were silent for too long, or
+-- did not answer (MQTT-SN 1.2, 5.4.4, 6.3 and 6.13), and the PINGREQ that keeps the connection alive (MQTT
+-- 3.1.1, 3.1.2.10 and 3.12).
+use Rattle.std.specs.Prelude.{ℕ, ◌-◌, Bool, false, ◌&&◌, ◌||◌, nat_le, List, [], ◌∷◌, ◌++◌, if◌then◌else◌}
+use Rattle.std.specs.Prelude.{Option, Some, None}
 use Rattle.std.specs.List.{flat_map}
 use Rattle.sng_queue.specs.Exchanges.{sending_of}
 use Rattle.sng_queue.specs.declared.exchange.Exchange.{Exchange}
@@ -49,7 +51,13 @@ is_lost_at clock x = is_overdue clock x || (is_repeating clock x && is_tried_out
 abbrev pub will_of : List ℕ → Option Will → List Publication
 will_of id None = []
 will_of id (Some will) =
-    record { origin = origin.Client id; name = will.topic; payload = will.payload; qos = will.qos; retain = will.retain } ∷ []
+    record {
+      origin = origin.Client id;
+      name = will.topic;
+      payload = will.payload;
+      qos = will.qos;
+      retain = will.retain;
+    } ∷ []
 
 -- what is published for a client that is lost as the clock is at this
 abbrev pub testament : ℕ → Client → List Publication
@@ -76,14 +84,16 @@ all_placed link (p ∷ ps) = all_placed (placed link p) ps
 abbrev pub with_wills : Link → ℕ → List Client → Link
 with_wills link clock xs = all_placed link (testaments clock xs)
 
--- a PINGREQ is due as long after the connection began, or the last one, as the keep alive of the connection allows
+-- a PINGREQ is due as long after the connection began, or the last one, as the keep alive of the connection
+-- allows
 abbrev pub is_ping_due : Bool → Link → ℕ → Bool
 is_ping_due up link clock = up && nat_le PING_MS (clock - link.pinged)
 
 -- it waits where there is place, and else it is dropped and noted
 abbrev pub pinged : Bool → Link → ℕ → Link
 pinged up link clock =
-    if is_ping_due up link clock && has_place link then record (with_item link item.Ping) { pinged = clock } else link
+    if is_ping_due up link clock && has_place link then record (with_item link item.Ping) { pinged = clock }
+    else link
 
 abbrev pub ping_dropped : Bool → Link → ℕ → List Out
 ping_dropped up link clock =

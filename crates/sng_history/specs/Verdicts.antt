@@ -1,7 +1,9 @@
--- How an ask is judged as it comes, and a publish as it leaves. The first rule in this order that forbids an ask is its verdict:
--- not a frame, not supported, out of turn, no session or no scope or an unknown source, the type of the topic id, not a topic name or not a
--- topic filter, an id without a name, the missing grant, the broker's connection, the room.
-use Rattle.std.specs.Prelude.{ℕ, ◌/◌, ◌%◌, ◌==◌, ◌&&◌, ◌||◌, not, nat_lt, Bool, true, false, List, [], ◌∷◌, length, if◌then◌else◌, Option, Some, None, Ok, Err}
+-- How an ask is judged as it comes, and a publish as it leaves. The first rule in this order that forbids an
+-- ask is its verdict: not a frame, not supported, out of turn, no session or no scope or an unknown source,
+-- the type of the topic id, not a topic name or not a topic filter, an id without a name, the missing grant,
+-- the broker's connection, the room.
+use Rattle.std.specs.Prelude.{ℕ, ◌/◌, ◌%◌, ◌==◌, ◌&&◌, ◌||◌, not, nat_lt, Bool, true, false, List, [], ◌∷◌}
+use Rattle.std.specs.Prelude.{length, if◌then◌else◌, Option, Some, None, Ok, Err}
 use Rattle.std.specs.Str.{bytes_eq}
 use Rattle.std.specs.declared.result.Result.{Result}
 use Rattle.sng_text.specs.Texts.{is_name, is_filter}
@@ -24,14 +26,18 @@ use Rattle.sng_book.specs.declared.decision.Who.TheVariants as who
 use Rattle.sng_book.specs.declared.outcome.IdKind.TheVariants as kind
 use Rattle.sng_book.specs.declared.outcome.Place.TheVariants as place
 use Rattle.sng_book.specs.declared.outcome.Denial.{Denial}
-use Rattle.sng_book.specs.declared.outcome.Denial.TheVariants.{NotSupported, NoScope, NoSession, UnknownSource, BadName, BadFilter, IdType, UnknownId, MissingPub, MissingSub, Uncovered, OutOfTurn, UpstreamDown, Full}
+use Rattle.sng_book.specs.declared.outcome.Denial.TheVariants.{NotSupported, NoScope, NoSession}
+use Rattle.sng_book.specs.declared.outcome.Denial.TheVariants.{UnknownSource, BadName, BadFilter, IdType}
+use Rattle.sng_book.specs.declared.outcome.Denial.TheVariants.{UnknownId, MissingPub, MissingSub, Uncovered}
+use Rattle.sng_book.specs.declared.outcome.Denial.TheVariants.{OutOfTurn, UpstreamDown, Full}
 use Rattle.sng_book.specs.declared.outcome.Outcome.{Outcome}
 use Rattle.sng_book.specs.declared.outcome.Outcome.TheVariants.{Allowed, Denied}
 use Rattle.sng_fan.specs.Subscriptions.{is_full}
 use Rattle.sng_ids.specs.Ids.{Ids, name_of, is_full_for}
 use Rattle.sng_states.specs.States.{is_due_messages}
 use Rattle.sng_states.specs.declared.state.ClientState.{ClientState}
-use Rattle.sng_states.specs.declared.state.ClientState.TheVariants.{Dialogue, Active, Asleep, Awake, Disconnected, Lost}
+use Rattle.sng_states.specs.declared.state.ClientState.TheVariants.{Dialogue, Active, Asleep, Awake}
+use Rattle.sng_states.specs.declared.state.ClientState.TheVariants.{Disconnected, Lost}
 use Rattle.sng_history.specs.declared.limits.TheConstants.{MAX_CLIENTS}
 use Rattle.sng_history.specs.Clients.{Client}
 use Rattle.sng_history.specs.Packets.{has_place}
@@ -55,8 +61,10 @@ outcome_of asker name (grant.Uncovered gap) = Denied (MissingSub gap)
 
 -- what the policy says to a publish under the name, as it is asked for and again as it leaves
 abbrev pub exit : Policy → Origin → List ℕ → Outcome
-exit policy (origin.Client client) name = outcome_of (origin.Client client) name (publish_grant policy client name)
-exit policy (origin.Source source) name = outcome_of (origin.Source source) name (source_grant policy source name)
+exit policy (origin.Client client) name =
+    outcome_of (origin.Client client) name (publish_grant policy client name)
+exit policy (origin.Source source) name =
+    outcome_of (origin.Source source) name (source_grant policy source name)
 
 -- the first of two rules that forbids
 abbrev pub and_then : Outcome → Outcome → Outcome
@@ -89,8 +97,9 @@ abbrev pub normal_name : Option Ids → ℕ → Result (List ℕ) Denial
 normal_name None id = Err IdType
 normal_name (Some ids) id = told_name id (name_of id ids)
 
--- the name that a topic id stands for in a PUBLISH, or the rule that it breaks (MQTT-SN 1.2, 5.3.11, 6.7 and 6.8), by the ids of the
--- client where there is a session. A short name is the id's two octets, and a predefined id has the name that the policy in force gives it
+-- the name that a topic id stands for in a PUBLISH, or the rule that it breaks (MQTT-SN 1.2, 5.3.11, 6.7 and
+-- 6.8), by the ids of the client where there is a session. A short name is the id's two octets, and a
+-- predefined id has the name that the policy in force gives it
 abbrev pub name_in : Policy → Option Ids → TopicIdType → ℕ → Result (List ℕ) Denial
 name_in policy ids Short id = if is_name (octets_of id) then Ok (octets_of id) else Err BadName
 name_in policy ids Predefined id = predefined_name id (topic policy id)
@@ -99,7 +108,8 @@ name_in policy ids Reserved id = Err IdType
 
 -- the note of an ask by a listed source, given the name that was read
 abbrev pub named_ask : State → List ℕ → Result (List ℕ) Denial → Decision
-named_ask s source (Ok name) = note.Publish (who.Source source) (Some name) (verdict s (origin.Source source) name AtMostOnce)
+named_ask s source (Ok name) =
+    note.Publish (who.Source source) (Some name) (verdict s (origin.Source source) name AtMostOnce)
 named_ask s source (Err rule) = note.Publish (who.Source source) None (Denied rule)
 
 -- the note of a PUBLISH without a session, of which only the sender's IPv4 address counts
@@ -119,11 +129,13 @@ client_scope policy id = if lists policy id then Allowed else Denied (NoScope id
 
 -- a client that was accepted once has its place
 abbrev pub entry_room : List Client → List ℕ → Outcome
-entry_room xs id = if is_known id xs || nat_lt (length xs) MAX_CLIENTS then Allowed else Denied (Full place.Clients)
+entry_room xs id =
+    if is_known id xs || nat_lt (length xs) MAX_CLIENTS then Allowed else Denied (Full place.Clients)
 
 -- the verdict on a CONNECT (MQTT-SN 1.2, 5.4.4)
 abbrev pub entry_by : Policy → List Client → Connect → Outcome
-entry_by policy xs c = and_then (entry_form c) (and_then (client_scope policy c.client_id) (entry_room xs c.client_id))
+entry_by policy xs c =
+    and_then (entry_form c) (and_then (client_scope policy c.client_id) (entry_room xs c.client_id))
 
 abbrev pub entry : State → Connect → Outcome
 entry s c = entry_by s.policy s.clients c
@@ -168,7 +180,8 @@ id_room name ids = if is_full_for name ids then Denied (Full place.Ids) else All
 
 abbrev pub register_named : Policy → Client → Result (List ℕ) Denial → Decision
 register_named policy x (Ok name) =
-    note.Register (who.Client x.id) (Some name) (and_then (exit policy (origin.Client x.id) name) (id_room name x.ids))
+    note.Register (who.Client x.id) (Some name)
+    (and_then (exit policy (origin.Client x.id) name) (id_room name x.ids))
 register_named policy x (Err rule) = note.Register (who.Client x.id) None (Denied rule)
 
 abbrev pub register_by : Policy → Client → List ℕ → Outcome → Decision
@@ -180,11 +193,13 @@ abbrev pub register_ask : Policy → Client → List ℕ → Decision
 register_ask policy x text = register_by policy x text (may_ask policy x)
 
 abbrev pub publish_named : State → Client → Qos → Result (List ℕ) Denial → Decision
-publish_named s x q (Ok name) = note.Publish (who.Client x.id) (Some name) (verdict s (origin.Client x.id) name q)
+publish_named s x q (Ok name) =
+    note.Publish (who.Client x.id) (Some name) (verdict s (origin.Client x.id) name q)
 publish_named s x q (Err rule) = note.Publish (who.Client x.id) None (Denied rule)
 
 abbrev pub publish_by : State → Client → Publish → Outcome → Decision
-publish_by s x p Allowed = publish_named s x (qos_of p.flags.qos) (name_in s.policy (Some x.ids) p.flags.id_type p.topic_id)
+publish_by s x p Allowed =
+    publish_named s x (qos_of p.flags.qos) (name_in s.policy (Some x.ids) p.flags.id_type p.topic_id)
 publish_by s x p (Denied rule) = note.Publish (who.Client x.id) None (Denied rule)
 
 -- the note of a PUBLISH of a client (MQTT-SN 1.2, 5.4.12 and 6.6)
@@ -193,7 +208,8 @@ publish_ask s x p = publish_by s x p (may_ask s.policy x)
 
 -- ---- subscriptions
 
--- what a policy answers about a filter, as an outcome; a gap is a name that the filter matches and that may not be received
+-- what a policy answers about a filter, as an outcome; a gap is a name that the filter matches and that may
+-- not be received
 abbrev pub filter_outcome : List ℕ → List ℕ → Grant → Outcome
 filter_outcome client filter grant.Allowed = Allowed
 filter_outcome client filter grant.NoScope = Denied (NoScope client)
@@ -202,7 +218,8 @@ filter_outcome client filter grant.MissingPub = Denied (MissingPub filter)
 filter_outcome client filter grant.MissingSub = Denied (MissingSub filter)
 filter_outcome client filter (grant.Uncovered gap) = Denied (Uncovered filter gap)
 
--- what the policy says to a subscription of the client by the filter, as it is asked for and at each replacement
+-- what the policy says to a subscription of the client by the filter, as it is asked for and at each
+-- replacement
 abbrev pub coverage : Policy → List ℕ → List ℕ → Outcome
 coverage policy client filter = filter_outcome client filter (subscribe_grant policy client filter)
 
@@ -215,15 +232,17 @@ abbrev pub predefined_filter : ℕ → Option (List ℕ) → Result (List ℕ) D
 predefined_filter id None = Err (UnknownId kind.Predefined id)
 predefined_filter id (Some name) = as_filter name
 
--- the filter that a SUBSCRIBE or an UNSUBSCRIBE names, or the rule that it breaks (MQTT-SN 1.2, 5.4.15 and 5.4.17): a text, the name of a
--- predefined id, or a short name
+-- the filter that a SUBSCRIBE or an UNSUBSCRIBE names, or the rule that it breaks (MQTT-SN 1.2, 5.4.15 and
+-- 5.4.17): a text, the name of a predefined id, or a short name
 abbrev pub filter_in : Policy → TopicIdType → List ℕ → Result (List ℕ) Denial
 filter_in policy Normal topic_given = as_filter topic_given
 filter_in policy Short topic_given = if is_name topic_given then as_filter topic_given else Err BadName
-filter_in policy Predefined topic_given = predefined_filter (id_in topic_given) (topic policy (id_in topic_given))
+filter_in policy Predefined topic_given =
+    predefined_filter (id_in topic_given) (topic policy (id_in topic_given))
 filter_in policy Reserved topic_given = Err IdType
 
--- whether there is room for the subscription: for an id of its name, for one more filter of the client, in the outbox
+-- whether there is room for the subscription: for an id of its name, for one more filter of the client, in
+-- the outbox
 abbrev pub subscribe_room_in : State → Client → TopicRequest → List ℕ → Outcome
 subscribe_room_in s x r filter =
     if gets_id r.flags.id_type filter && is_full_for filter x.ids
@@ -238,7 +257,8 @@ subscribe_room s x r filter = if s.up then subscribe_room_in s x r filter else D
 
 abbrev pub subscribe_named : State → Client → TopicRequest → Result (List ℕ) Denial → Decision
 subscribe_named s x r (Ok filter) =
-    note.Subscribe (who.Client x.id) (Some filter) (and_then (coverage s.policy x.id filter) (subscribe_room s x r filter))
+    note.Subscribe (who.Client x.id) (Some filter)
+    (and_then (coverage s.policy x.id filter) (subscribe_room s x r filter))
 subscribe_named s x r (Err rule) = note.Subscribe (who.Client x.id) None (Denied rule)
 
 abbrev pub subscribe_by : State → Client → TopicRequest → Outcome → Decision

@@ -1,5 +1,5 @@
--- What a reader of the book sees who looks back through its rows: the policy in force, the clock, and the broker's connection. A history
--- is the list of its rows, the newest first.
+-- What a reader of the book sees who looks back through its rows: the policy in force, the clock, and the
+-- broker's connection. A history is the list of its rows, the newest first.
 use Rattle.std.specs.Prelude.{ℕ, nat_le, Bool, true, false, List, [], ◌∷◌, ◌++◌, if◌then◌else◌}
 use Rattle.sng_grants.specs.declared.policy.Policy.{Policy}
 use Rattle.sng_book.specs.declared.event.Event.{Event}

@@ -1,11 +1,13 @@
--- What the rows show of each client: its state, where it is, when it was heard last, who was accepted so far, and the names that a client
--- was told topic ids of.
-use Rattle.std.specs.Prelude.{ℕ, ◌+◌, ◌==◌, Bool, true, false, ◌&&◌, ◌||◌, not, List, [], ◌∷◌, ◌++◌, filter, length, if◌then◌else◌, Option, Some, None}
+-- What the rows show of each client: its state, where it is, when it was heard last, who was accepted so far,
+-- and the names that a client was told topic ids of.
+use Rattle.std.specs.Prelude.{ℕ, ◌+◌, ◌==◌, Bool, true, false, ◌&&◌, ◌||◌, not, List, [], ◌∷◌, ◌++◌, filter}
+use Rattle.std.specs.Prelude.{length, if◌then◌else◌, Option, Some, None}
 use Rattle.std.specs.List.{list_any}
 use Rattle.std.specs.Str.{bytes_eq}
 use Rattle.sng_text.specs.Texts.{is_name}
 use Rattle.sng_states.specs.declared.state.ClientState.{ClientState}
-use Rattle.sng_states.specs.declared.state.ClientState.TheVariants.{Dialogue, Active, Asleep, Awake, Disconnected, Lost}
+use Rattle.sng_states.specs.declared.state.ClientState.TheVariants.{Dialogue, Active, Asleep, Awake}
+use Rattle.sng_states.specs.declared.state.ClientState.TheVariants.{Disconnected, Lost}
 use Rattle.sng_states.specs.States.{has_session}
 use Rattle.sng_frames.specs.Reading.{frame_of}
 use Rattle.sng_frames.specs.Writing.{written}
@@ -27,7 +29,10 @@ use Rattle.sng_book.specs.declared.out.Out.TheVariants.{Send, Wire, Note}
 use Rattle.sng_book.specs.declared.row.Row.{Row}
 use Rattle.sng_history.specs.Clients.{same_address}
 use Rattle.sng_history.specs.Views.{clock_at}
-use Rattle.sng_history.specs.ViewsMessages.{Message, Connects, Registers, Publishes, Subscribes, Unsubscribes, Confirms, Acknowledges, States, Pings, Sleeps, Other, message_in, message_at, subscribe_in, statement_in, connect_in, is_without_session}
+use Rattle.sng_history.specs.ViewsMessages.{Message, Connects, Registers, Publishes, Subscribes, Unsubscribes}
+use Rattle.sng_history.specs.ViewsMessages.{Confirms, Acknowledges, States, Pings, Sleeps, Other, message_in}
+use Rattle.sng_history.specs.ViewsMessages.{message_at, subscribe_in, statement_in, connect_in}
+use Rattle.sng_history.specs.ViewsMessages.{is_without_session}
 use Rattle.sng_history.specs.Causes.{Statement, StatesTopic, StatesMessage, UpdatesTopic, UpdatesMessage}
 
 -- ---- where it is
@@ -87,7 +92,8 @@ speaks_of id (who.Source source) = false
 speaks_of id (who.Address address) = false
 speaks_of id who.Broker = false
 
--- a client that leaves is disconnected, and one that is lost is lost; one that was never accepted has no state
+-- a client that leaves is disconnected, and one that is lost is lost; one that was never accepted has no
+-- state
 abbrev pub left_from : Option ClientState → Option ClientState
 left_from None = None
 left_from (Some before) = Some Disconnected
@@ -110,13 +116,14 @@ ends_dialogue (Some (StatesMessage message)) = true
 ends_dialogue (Some (UpdatesTopic topic)) = false
 ends_dialogue (Some (UpdatesMessage message)) = false
 
--- a note sets the state of a client where it lets that client in, allows what ends the dialogue about its will, or says that it left or is
--- lost
+-- a note sets the state of a client where it lets that client in, allows what ends the dialogue about its
+-- will, or says that it left or is lost
 abbrev pub phase_by : Option Message → List ℕ → Decision → Option ClientState → Option ClientState
 phase_by m id (note.Connect client outcome) before =
     if bytes_eq id client && is_allowed outcome then Some (phase_entered (connect_in m)) else before
 phase_by m id (note.Will whom name outcome) before =
-    if speaks_of id whom && (is_allowed outcome && ends_dialogue (statement_in m)) then Some Active else before
+    if speaks_of id whom && (is_allowed outcome && ends_dialogue (statement_in m)) then Some Active
+    else before
 phase_by m id (note.Left client) before = if bytes_eq id client then left_from before else before
 phase_by m id (note.Lost client) before = if bytes_eq id client then lost_from before else before
 phase_by m id (note.Register whom name outcome) before = before
@@ -148,8 +155,8 @@ is_awaiting (Some Dialogue) = false
 is_awaiting (Some Disconnected) = false
 is_awaiting (Some Lost) = false
 
--- an own message before any note: a PINGREQ that names it wakes a client that sleeps, and by a DISCONNECT with Duration it falls asleep, where
--- messages wait for it
+-- an own message before any note: a PINGREQ that names it wakes a client that sleeps, and by a DISCONNECT
+-- with Duration it falls asleep, where messages wait for it
 abbrev pub is_asleep : Option ClientState → Bool
 is_asleep None = false
 is_asleep (Some Asleep) = true
@@ -179,7 +186,8 @@ phase_spoken id None before = before
 
 -- the message that the event is, where it comes from where the client is
 abbrev pub own_message : Option ClientState → Option Address → Event → Option Message
-own_message phase place (Datagram from datagram) = if is_there phase place from then message_in (frame_of datagram) else None
+own_message phase place (Datagram from datagram) =
+    if is_there phase place from then message_in (frame_of datagram) else None
 own_message phase place (Broker packet) = None
 own_message phase place Up = None
 own_message phase place Down = None
@@ -190,7 +198,8 @@ own_message phase place (Tick clock) = None
 -- PINGRESP goes to the place
 abbrev pub is_pong_to : Option Address → Out → Bool
 is_pong_to None out = false
-is_pong_to (Some place) (Send to datagram) = same_address place to && bytes_eq datagram (written frame.PingResponse)
+is_pong_to (Some place) (Send to datagram) =
+    same_address place to && bytes_eq datagram (written frame.PingResponse)
 is_pong_to (Some place) (Wire packet) = false
 is_pong_to (Some place) (Note said) = false
 
@@ -207,13 +216,15 @@ put_to_sleep ponged (Some Asleep) = Some Asleep
 put_to_sleep ponged (Some Disconnected) = Some Disconnected
 put_to_sleep ponged (Some Lost) = Some Lost
 
--- the state of a client: none before it was accepted first, then what its own message, the notes, and PINGRESP make of it
+-- the state of a client: none before it was accepted first, then what its own message, the notes, and
+-- PINGRESP make of it
 abbrev pub phase_of : List ℕ → List Row → Option ClientState
 phase_of id [] = None
 phase_of id (row ∷ earlier) =
     put_to_sleep (is_ponged (address_of id earlier) row.outs)
     (phase_after (message_at row.event) id row.outs
-    (phase_spoken id (own_message (phase_of id earlier) (address_of id earlier) row.event) (phase_of id earlier)))
+    (phase_spoken id (own_message (phase_of id earlier) (address_of id earlier) row.event)
+    (phase_of id earlier)))
 
 -- the client has a session, and the address is where it is
 abbrev pub is_at : List ℕ → Address → List Row → Bool
@@ -266,7 +277,8 @@ duration_of id [] = None
 duration_of id (row ∷ earlier) =
     if is_admitted id row.outs
     then stated_in row.event
-    else slept_for (own_message (phase_of id earlier) (address_of id earlier) row.event) (phase_of id earlier) (duration_of id earlier)
+    else slept_for (own_message (phase_of id earlier) (address_of id earlier) row.event) (phase_of id earlier)
+    (duration_of id earlier)
 
 -- a session's message: any but a PUBLISH without a session
 abbrev pub is_spoken : Option Message → Bool
@@ -285,7 +297,8 @@ is_spoken None = false
 
 -- the event is a message from where the client is
 abbrev pub speaks : List ℕ → Event → List Row → Bool
-speaks id (Datagram from datagram) earlier = is_spoken (message_in (frame_of datagram)) && is_at id from earlier
+speaks id (Datagram from datagram) earlier =
+    is_spoken (message_in (frame_of datagram)) && is_at id from earlier
 speaks id (Broker packet) earlier = false
 speaks id Up earlier = false
 speaks id Down earlier = false
@@ -296,7 +309,9 @@ speaks id (Tick clock) earlier = false
 -- the clock as the client was heard last: by its last accepted CONNECT or message
 abbrev pub heard_of : List ℕ → List Row → Option ℕ
 heard_of id [] = None
-heard_of id (row ∷ earlier) = if is_admitted id row.outs || speaks id row.event earlier then Some (clock_at earlier) else heard_of id earlier
+heard_of id (row ∷ earlier) =
+    if is_admitted id row.outs || speaks id row.event earlier then Some (clock_at earlier)
+    else heard_of id earlier
 
 -- ---- who was accepted
 
@@ -307,7 +322,8 @@ is_among id (one ∷ ids) = bytes_eq id one || is_among id ids
 -- who is accepted for the first time as the message comes
 abbrev pub accepted_by : List (List ℕ) → Option Message → List Out → List (List ℕ)
 accepted_by ids (Some (Connects connect)) outs =
-    if is_admitted connect.client_id outs && not (is_among connect.client_id ids) then connect.client_id ∷ [] else []
+    if is_admitted connect.client_id outs && not (is_among connect.client_id ids) then connect.client_id ∷ []
+    else []
 accepted_by ids (Some (Registers r)) outs = []
 accepted_by ids (Some (Publishes p)) outs = []
 accepted_by ids (Some (Subscribes r)) outs = []
@@ -358,18 +374,21 @@ name_subscribed None filter = None
 name_subscribed (Some r) None = None
 name_subscribed (Some r) (Some filter) = if tells_id r.flags.id_type filter then Some filter else None
 
--- a REGISTER that is allowed tells the client an id of its name, as may a SUBSCRIBE, and so does an announcement; a CONNECT that is
--- accepted begins anew
+-- a REGISTER that is allowed tells the client an id of its name, as may a SUBSCRIBE, and so does an
+-- announcement; a CONNECT that is accepted begins anew
 abbrev pub names_by : Option TopicRequest → List ℕ → Decision → List (List ℕ) → List (List ℕ)
-names_by r id (note.Connect client outcome) before = if bytes_eq id client && is_allowed outcome then [] else before
-names_by r id (note.Register whom name outcome) before = if speaks_of id whom && is_allowed outcome then with_name name before else before
+names_by r id (note.Connect client outcome) before =
+    if bytes_eq id client && is_allowed outcome then [] else before
+names_by r id (note.Register whom name outcome) before =
+    if speaks_of id whom && is_allowed outcome then with_name name before else before
 names_by r id (note.Left client) before = before
 names_by r id (note.Publish whom name outcome) before = before
 names_by r id (note.Subscribe whom filter outcome) before =
     if speaks_of id whom && is_allowed outcome then with_name (name_subscribed r filter) before else before
 names_by r id (note.Unsubscribe whom filter outcome) before = before
 names_by r id (note.Will whom name outcome) before = before
-names_by r id (note.Announce client name) before = if bytes_eq id client then with_name (Some name) before else before
+names_by r id (note.Announce client name) before =
+    if bytes_eq id client then with_name (Some name) before else before
 names_by r id (note.Hand client name outcome) before = before
 names_by r id (note.Retry client name outcome) before = before
 names_by r id (note.Forward whom name outcome) before = before
@@ -385,11 +404,12 @@ names_after r id (Note said ∷ outs) before = names_after r id outs (names_by r
 names_after r id (Send to datagram ∷ outs) before = names_after r id outs before
 names_after r id (Wire packet ∷ outs) before = names_after r id outs before
 
--- the names that the client was told ids of since its last accepted CONNECT, in the order in which each was told first: the first has id
--- 1, and the k-th has id k
+-- the names that the client was told ids of since its last accepted CONNECT, in the order in which each was
+-- told first: the first has id 1, and the k-th has id k
 abbrev pub names_told : List ℕ → List Row → List (List ℕ)
 names_told id [] = []
-names_told id (row ∷ earlier) = names_after (subscribe_in (message_at row.event)) id row.outs (names_told id earlier)
+names_told id (row ∷ earlier) =
+    names_after (subscribe_in (message_at row.event)) id row.outs (names_told id earlier)
 
 -- the id of a name: its place among those told, counting from 1, or the next
 abbrev pub id_told : List ℕ → List (List ℕ) → ℕ

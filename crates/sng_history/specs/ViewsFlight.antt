@@ -1,6 +1,7 @@
--- What the rows show of the publishes that were sent to the broker at QoS 1: which of them are in flight, and under which packet id; and
--- of the packet ids that were given.
-use Rattle.std.specs.Prelude.{ℕ, ◌+◌, ◌-◌, ◌*◌, ◌==◌, not, List, [], ◌∷◌, ◌++◌, map, length, drop, filter, if◌then◌else◌, Option, Some, None}
+-- What the rows show of the publishes that were sent to the broker at QoS 1: which of them are in flight, and
+-- under which packet id; and of the packet ids that were given.
+use Rattle.std.specs.Prelude.{ℕ, ◌+◌, ◌-◌, ◌*◌, ◌==◌, not, List, [], ◌∷◌, ◌++◌, map, length, drop, filter}
+use Rattle.std.specs.Prelude.{if◌then◌else◌, Option, Some, None}
 use Rattle.mqtt_frames.specs.Fronts.{decode}
 use Rattle.mqtt_frames.specs.declared.packet.Packet.{Packet}
 use Rattle.mqtt_frames.specs.declared.packet.Packet.TheVariants as packet
@@ -18,14 +19,17 @@ use Rattle.sng_book.specs.declared.event.Event.TheVariants.{Datagram, Broker, Up
 use Rattle.sng_book.specs.declared.out.Out.{Out}
 use Rattle.sng_book.specs.declared.out.Out.TheVariants.{Send, Wire, Note}
 use Rattle.sng_book.specs.declared.row.Row.{Row}
-use Rattle.sng_history.specs.ViewsLink.{Departure, packet_next, departure, departures, lets_out, publications, waiting}
+use Rattle.sng_history.specs.ViewsLink.{Departure, packet_next, departure, departures, lets_out, publications}
+use Rattle.sng_history.specs.ViewsLink.{waiting}
 
 -- ---- what was judged again
 
 -- a publish in flight that is judged again, seen as one that leaves
 abbrev pub return : Decision → List Out → List Departure
-return (note.Again who name Allowed) outs = record { whom = who; name = name; outcome = Allowed; packet = packet_next outs } ∷ []
-return (note.Again who name (Denied rule)) outs = record { whom = who; name = name; outcome = Denied rule; packet = None } ∷ []
+return (note.Again who name Allowed) outs =
+    record { whom = who; name = name; outcome = Allowed; packet = packet_next outs } ∷ []
+return (note.Again who name (Denied rule)) outs =
+    record { whom = who; name = name; outcome = Denied rule; packet = None } ∷ []
 return (note.Connect client outcome) outs = []
 return (note.Register who name outcome) outs = []
 return (note.Publish who name outcome) outs = []
@@ -70,7 +74,8 @@ id_shown p (Some sent) = id_before p.payload sent
 abbrev pub flight_of : Publication → Departure → List InFlight
 flight_of p d =
     if is_allowed d.outcome
-    then (if is_at_least_once p.qos then record { packet_id = id_shown p d.packet; publication = p } ∷ [] else [])
+    then (if is_at_least_once p.qos then record { packet_id = id_shown p d.packet; publication = p } ∷ []
+    else [])
     else []
 
 -- those of publishes and of how they left, one for each and in order
@@ -81,7 +86,8 @@ flights_of (p ∷ ps) (d ∷ ds) = flight_of p d ++ flights_of ps ds
 
 -- of what leaves in the row, what is in flight from then on
 abbrev pub launched : Event → List Row → List Out → List InFlight
-launched e earlier outs = if lets_out e earlier then flights_of (publications (waiting earlier)) (departures outs) else []
+launched e earlier outs =
+    if lets_out e earlier then flights_of (publications (waiting earlier)) (departures outs) else []
 
 -- all but those with this packet id
 abbrev pub others : ℕ → List InFlight → List InFlight
@@ -105,7 +111,8 @@ unanswered packet.Disconnect flights = flights
 abbrev pub allowed_again : List InFlight → List Departure → List InFlight
 allowed_again [] ds = []
 allowed_again (sent ∷ flights) [] = sent ∷ flights
-allowed_again (sent ∷ flights) (d ∷ ds) = if is_allowed d.outcome then sent ∷ allowed_again flights ds else allowed_again flights ds
+allowed_again (sent ∷ flights) (d ∷ ds) =
+    if is_allowed d.outcome then sent ∷ allowed_again flights ds else allowed_again flights ds
 
 -- of those in flight, those that stay so
 abbrev pub staying : Event → List Out → List InFlight → List InFlight
@@ -117,14 +124,17 @@ staying Take outs flights = flights
 staying (Replace policy) outs flights = flights
 staying (Tick clock) outs flights = flights
 
--- the publishes in flight, in the order of their sending: they left allowed at QoS 1, had no PUBACK since, and were not denied again
+-- the publishes in flight, in the order of their sending: they left allowed at QoS 1, had no PUBACK since,
+-- and were not denied again
 abbrev pub in_flight : List Row → List InFlight
 in_flight [] = []
-in_flight (row ∷ earlier) = staying row.event row.outs (in_flight earlier) ++ launched row.event earlier row.outs
+in_flight (row ∷ earlier) =
+    staying row.event row.outs (in_flight earlier) ++ launched row.event earlier row.outs
 
 -- ---- packet ids
 
--- a SUBSCRIBE and an UNSUBSCRIBE have a packet id that the gateway gave; that of a PUBACK is the broker's own (MQTT 3.1.1, 2.3.1)
+-- a SUBSCRIBE and an UNSUBSCRIBE have a packet id that the gateway gave; that of a PUBACK is the broker's own
+-- (MQTT 3.1.1, 2.3.1)
 abbrev pub id_in : Packet → List ℕ
 id_in (packet.Subscribe sent) = sent.packet_id ∷ []
 id_in (packet.Unsubscribe sent) = sent.packet_id ∷ []
@@ -159,11 +169,13 @@ behind ps [] = ps
 behind [] (d ∷ ds) = []
 behind (p ∷ ps) (d ∷ ds) = behind ps ds
 
--- the packet ids that are given in a row, in order, where these publishes wait: with the note of each that leaves its own, and with any
--- other packet but a PUBLISH that of the packet. A publish that is sent again keeps the one that it has
+-- the packet ids that are given in a row, in order, where these publishes wait: with the note of each that
+-- leaves its own, and with any other packet but a PUBLISH that of the packet. A publish that is sent again
+-- keeps the one that it has
 abbrev pub given_in : List Publication → List Out → List ℕ
 given_in ps [] = []
-given_in ps (Note said ∷ outs) = ids_left ps (departure said outs) ++ given_in (behind ps (departure said outs)) outs
+given_in ps (Note said ∷ outs) =
+    ids_left ps (departure said outs) ++ given_in (behind ps (departure said outs)) outs
 given_in ps (Wire sent ∷ outs) = id_read (decode sent) ++ given_in ps outs
 given_in ps (Send to datagram ∷ outs) = given_in ps outs
 

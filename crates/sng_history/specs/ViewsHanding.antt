@@ -1,6 +1,7 @@
--- What the rows show of the messages of the broker for a client: which were due to it, how many were settled and how, what waits, and what is
--- open with it.
-use Rattle.std.specs.Prelude.{ℕ, ◌+◌, ◌-◌, ◌==◌, ◌%◌, ◌&&◌, not, Bool, true, false, List, [], ◌∷◌, ◌++◌, length, drop, slice_get, if◌then◌else◌, Option, Some, None}
+-- What the rows show of the messages of the broker for a client: which were due to it, how many were settled
+-- and how, what waits, and what is open with it.
+use Rattle.std.specs.Prelude.{ℕ, ◌+◌, ◌-◌, ◌==◌, ◌%◌, ◌&&◌, not, Bool, true, false, List, [], ◌∷◌, ◌++◌}
+use Rattle.std.specs.Prelude.{length, drop, slice_get, if◌then◌else◌, Option, Some, None}
 use Rattle.std.specs.List.{list_any}
 use Rattle.std.specs.Option.{option_to_list}
 use Rattle.std.specs.Str.{bytes_eq}
@@ -12,7 +13,8 @@ use Rattle.mqtt_frames.specs.declared.packet.Publish.{Publish}
 use Rattle.mqtt_frames.specs.declared.packet.Packet.{Packet}
 use Rattle.mqtt_frames.specs.declared.packet.Packet.TheVariants as packet
 use Rattle.sng_states.specs.declared.state.ClientState.{ClientState}
-use Rattle.sng_states.specs.declared.state.ClientState.TheVariants.{Dialogue, Active, Asleep, Awake, Disconnected, Lost}
+use Rattle.sng_states.specs.declared.state.ClientState.TheVariants.{Dialogue, Active, Asleep, Awake}
+use Rattle.sng_states.specs.declared.state.ClientState.TheVariants.{Disconnected, Lost}
 use Rattle.sng_fan.specs.declared.held.Held.{Held}
 use Rattle.sng_queue.specs.Messages.{Message, message}
 use Rattle.sng_frames.specs.Reading.{frame_of}
@@ -29,8 +31,11 @@ use Rattle.sng_book.specs.declared.out.Out.{Out}
 use Rattle.sng_book.specs.declared.out.Out.TheVariants.{Send, Wire, Note}
 use Rattle.sng_book.specs.declared.row.Row.{Row}
 use Rattle.sng_history.specs.Clients.{is_turned_away}
-use Rattle.sng_history.specs.ViewsMessages.{Message as Spoken, Connects, Registers, Publishes, Subscribes, Unsubscribes, Confirms, Acknowledges, States, Pings, Sleeps, Other, message_in, message_at, subscribe_in}
-use Rattle.sng_history.specs.ViewsClients.{is_awaiting, phase_of, is_at, speaks_of, with_name, name_subscribed, names_told, id_told}
+use Rattle.sng_history.specs.ViewsMessages.{Message as Spoken, Connects, Registers, Publishes, Subscribes}
+use Rattle.sng_history.specs.ViewsMessages.{Unsubscribes, Confirms, Acknowledges, States, Pings, Sleeps}
+use Rattle.sng_history.specs.ViewsMessages.{Other, message_in, message_at, subscribe_in}
+use Rattle.sng_history.specs.ViewsClients.{is_awaiting, phase_of, is_at, speaks_of, with_name}
+use Rattle.sng_history.specs.ViewsClients.{name_subscribed, names_told, id_told}
 use Rattle.sng_history.specs.ViewsStanding.{standing_of}
 
 -- ---- which messages were due to a client
@@ -94,7 +99,8 @@ is_away (Some Asleep) = false
 is_away (Some Awake) = false
 is_away (Some Dialogue) = false
 
--- the message as it concerns the client: its name is one, the client awaits messages, and a filter that stands for it matches
+-- the message as it concerns the client: its name is one, the client awaits messages, and a filter that
+-- stands for it matches
 abbrev pub meant_for : List ℕ → Publish → List Row → Option Message
 meant_for id p h =
     let held = standing_of id h in
@@ -165,7 +171,8 @@ waits_for id h = drop (length (settled_of id h)) (due_of id h)
 
 -- ---- what is open with a client
 
--- what was sent to it and waits for its answer: an id was announced for a name, or a message was handed over at QoS 1
+-- what was sent to it and waits for its answer: an id was announced for a name, or a message was handed over
+-- at QoS 1
 pub data Opening : Type 0 where
   Announced : List ℕ → Opening
   HandedOver : Message → Opening
@@ -187,26 +194,35 @@ abbrev pub leaves_by : Option Message → Progress → Progress
 leaves_by None before = record before { settled = before.settled + 1; unanswered = None }
 leaves_by (Some m) before =
     if is_at_least_once m.qos
-    then record { settled = before.settled + 1; numbered = before.numbered + 1; unanswered = Some (HandedOver m) }
+    then record {
+      settled = before.settled + 1;
+      numbered = before.numbered + 1;
+      unanswered = Some (HandedOver m);
+    }
     else record before { settled = before.settled + 1; unanswered = None }
 
 -- by its outcome; the message is the one among those that were due whose turn it is
 abbrev pub handed_by : List Message → Outcome → Progress → Progress
 handed_by due Allowed before = leaves_by (slice_get due before.settled) before
-handed_by due (Denied rule) before = if is_turned_away rule then before else record before { settled = before.settled + 1; unanswered = None }
+handed_by due (Denied rule) before =
+    if is_turned_away rule then before else record before { settled = before.settled + 1; unanswered = None }
 
 abbrev pub progress_by : List ℕ → List Message → Decision → Progress → Progress
-progress_by id due (note.Connect client outcome) before = if bytes_eq id client && is_allowed outcome then closes before else before
+progress_by id due (note.Connect client outcome) before =
+    if bytes_eq id client && is_allowed outcome then closes before else before
 progress_by id due (note.Left client) before = if bytes_eq id client then closes before else before
 progress_by id due (note.Announce client name) before =
-    if bytes_eq id client then record before { numbered = before.numbered + 1; unanswered = Some (Announced name) } else before
-progress_by id due (note.Hand client name outcome) before = if bytes_eq id client then handed_by due outcome before else before
+    if bytes_eq id client then record before
+    { numbered = before.numbered + 1; unanswered = Some (Announced name) } else before
+progress_by id due (note.Hand client name outcome) before =
+    if bytes_eq id client then handed_by due outcome before else before
 progress_by id due (note.Register whom name outcome) before = before
 progress_by id due (note.Publish whom name outcome) before = before
 progress_by id due (note.Subscribe whom filter outcome) before = before
 progress_by id due (note.Unsubscribe whom filter outcome) before = before
 progress_by id due (note.Will whom name outcome) before = before
-progress_by id due (note.Retry client name outcome) before = if bytes_eq id client && not (is_allowed outcome) then closes before else before
+progress_by id due (note.Retry client name outcome) before =
+    if bytes_eq id client && not (is_allowed outcome) then closes before else before
 progress_by id due (note.Forward whom name outcome) before = before
 progress_by id due (note.Again whom name outcome) before = before
 progress_by id due (note.End client filter outcome) before = before
@@ -241,9 +257,11 @@ regack_has_turn id now h r =
     is_taking (phase_of id h) && is_regack_of now.unanswered (names_told id h) (last_number now.numbered) r
 
 abbrev pub puback_has_turn : List ℕ → Progress → List Row → TopicAck → Bool
-puback_has_turn id now h r = is_taking (phase_of id h) && is_puback_of now.unanswered (last_number now.numbered) r
+puback_has_turn id now h r =
+    is_taking (phase_of id h) && is_puback_of now.unanswered (last_number now.numbered) r
 
--- the message ends what is open: a REGACK that accepts the id, a PUBACK, or a DISCONNECT by which the client falls asleep
+-- the message ends what is open: a REGACK that accepts the id, a PUBACK, or a DISCONNECT by which the client
+-- falls asleep
 abbrev pub ends_by : List ℕ → Progress → List Row → Option Spoken → Bool
 ends_by id now h (Some (Confirms r)) = (r.code.0 == 0) && regack_has_turn id now h r
 ends_by id now h (Some (Acknowledges r)) = puback_has_turn id now h r
@@ -259,7 +277,8 @@ ends_by id now h (Some Other) = false
 ends_by id now h None = false
 
 abbrev pub ends_open : List ℕ → Progress → List Row → Event → Bool
-ends_open id now h (Datagram from datagram) = is_at id from h && ends_by id now h (message_in (frame_of datagram))
+ends_open id now h (Datagram from datagram) =
+    is_at id from h && ends_by id now h (message_in (frame_of datagram))
 ends_open id now h (Broker packet) = false
 ends_open id now h Up = false
 ends_open id now h Down = false
@@ -272,7 +291,8 @@ abbrev pub progress_of : List ℕ → List Row → Progress
 progress_of id [] = no_progress
 progress_of id (row ∷ earlier) =
     let before = progress_of id earlier in
-    progress_after id (due_of id (row ∷ earlier)) row.outs (if ends_open id before earlier row.event then closes before else before)
+    progress_after id (due_of id (row ∷ earlier)) row.outs
+    (if ends_open id before earlier row.event then closes before else before)
 
 -- the MsgId that was given last to the client
 abbrev pub number_of : List ℕ → List Row → ℕ
@@ -286,8 +306,10 @@ is_idle (Some opening) = false
 
 -- a REGACK or a SUBACK of the gateway tells an id that the client knows from then on
 abbrev pub knows_by : Option TopicRequest → List ℕ → Decision → List (List ℕ) → List (List ℕ)
-knows_by r id (note.Connect client outcome) before = if bytes_eq id client && is_allowed outcome then [] else before
-knows_by r id (note.Register whom name outcome) before = if speaks_of id whom && is_allowed outcome then with_name name before else before
+knows_by r id (note.Connect client outcome) before =
+    if bytes_eq id client && is_allowed outcome then [] else before
+knows_by r id (note.Register whom name outcome) before =
+    if speaks_of id whom && is_allowed outcome then with_name name before else before
 knows_by r id (note.Subscribe whom filter outcome) before =
     if speaks_of id whom && is_allowed outcome then with_name (name_subscribed r filter) before else before
 knows_by r id (note.Left client) before = before
@@ -319,7 +341,8 @@ name_announced (Some (HandedOver m)) = None
 -- the name whose id the message confirms: the client accepts it by its REGACK
 abbrev pub confirmed_by : List ℕ → List Row → Option Spoken → Option (List ℕ)
 confirmed_by id h (Some (Confirms r)) =
-    if (r.code.0 == 0) && regack_has_turn id (progress_of id h) h r then name_announced (progress_of id h).unanswered else None
+    if (r.code.0 == 0) && regack_has_turn id (progress_of id h) h r
+    then name_announced (progress_of id h).unanswered else None
 confirmed_by id h (Some (Acknowledges r)) = None
 confirmed_by id h (Some (Connects connect)) = None
 confirmed_by id h (Some (Registers r)) = None
@@ -333,7 +356,8 @@ confirmed_by id h (Some Other) = None
 confirmed_by id h None = None
 
 abbrev pub confirmed_in : List ℕ → List Row → Event → Option (List ℕ)
-confirmed_in id h (Datagram from datagram) = if is_at id from h then confirmed_by id h (message_in (frame_of datagram)) else None
+confirmed_in id h (Datagram from datagram) =
+    if is_at id from h then confirmed_by id h (message_in (frame_of datagram)) else None
 confirmed_in id h (Broker packet) = None
 confirmed_in id h Up = None
 confirmed_in id h Down = None
@@ -345,4 +369,5 @@ confirmed_in id h (Tick clock) = None
 abbrev pub names_known : List ℕ → List Row → List (List ℕ)
 names_known id [] = []
 names_known id (row ∷ earlier) =
-    knows_after (subscribe_in (message_at row.event)) id row.outs (with_name (confirmed_in id earlier row.event) (names_known id earlier))
+    knows_after (subscribe_in (message_at row.event)) id row.outs
+    (with_name (confirmed_in id earlier row.event) (names_known id earlier))

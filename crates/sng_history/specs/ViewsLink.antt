@@ -1,5 +1,6 @@
 -- What the rows show of the way to the broker: what was asked for, what waits, and what left.
-use Rattle.std.specs.Prelude.{ℕ, ◌-◌, nat_le, Bool, true, false, ◌&&◌, ◌||◌, not, List, [], ◌∷◌, ◌++◌, map, filter, take, length, if◌then◌else◌, Option, Some, None}
+use Rattle.std.specs.Prelude.{ℕ, ◌-◌, nat_le, Bool, true, false, ◌&&◌, ◌||◌, not, List, [], ◌∷◌, ◌++◌, map}
+use Rattle.std.specs.Prelude.{filter, take, length, if◌then◌else◌, Option, Some, None}
 use Rattle.std.specs.List.{list_any}
 use Rattle.sng_text.specs.declared.qos.Qos.{Qos}
 use Rattle.sng_text.specs.declared.qos.Qos.TheVariants.{AtMostOnce, AtLeastOnce}
@@ -33,7 +34,9 @@ use Rattle.sng_book.specs.declared.out.Out.TheVariants.{Send, Wire, Note}
 use Rattle.sng_book.specs.declared.row.Row.{Row}
 use Rattle.sng_history.specs.Views.{is_up, ticks, greatest, clock_at}
 pub use Rattle.sng_history.specs.Views.{wires_in}
-use Rattle.sng_history.specs.ViewsMessages.{Message, Connects, Registers, Publishes, Subscribes, Unsubscribes, Confirms, Acknowledges, States, Pings, Sleeps, Other, message_in, message_at}
+use Rattle.sng_history.specs.ViewsMessages.{Message, Connects, Registers, Publishes, Subscribes, Unsubscribes}
+use Rattle.sng_history.specs.ViewsMessages.{Confirms, Acknowledges, States, Pings, Sleeps, Other, message_in}
+use Rattle.sng_history.specs.ViewsMessages.{message_at}
 use Rattle.sng_history.specs.ViewsClients.{is_spoken, accepted, speaks_of}
 use Rattle.sng_history.specs.ViewsWills.{will_of}
 use Rattle.sng_history.specs.ViewsStanding.{begun_by, standing_after, standing_of}
@@ -47,13 +50,17 @@ qos_upstream qos.AtMostOnce = AtMostOnce
 qos_upstream qos.ExactlyOnce = AtMostOnce
 qos_upstream qos.WithoutSession = AtMostOnce
 
--- the publish of who asked for it, under the name of its note, with the payload and the Retain of its datagram
+-- the publish of who asked for it, under the name of its note, with the payload and the Retain of its
+-- datagram
 abbrev pub publication : Origin → List ℕ → Qos → Publish → Publication
-publication asker name q p = record { origin = asker; name = name; payload = p.payload; qos = q; retain = p.flags.retain }
+publication asker name q p =
+    record { origin = asker; name = name; payload = p.payload; qos = q; retain = p.flags.retain }
 
--- a client publishes at the QoS of its datagram, and a device without a session at QoS 0; nobody else publishes
+-- a client publishes at the QoS of its datagram, and a device without a session at QoS 0; nobody else
+-- publishes
 abbrev pub publication_by : Who → Option (List ℕ) → Publish → List Publication
-publication_by (who.Client client) (Some name) p = publication (origin.Client client) name (qos_upstream p.flags.qos) p ∷ []
+publication_by (who.Client client) (Some name) p =
+    publication (origin.Client client) name (qos_upstream p.flags.qos) p ∷ []
 publication_by (who.Source source) (Some name) p = publication (origin.Source source) name AtMostOnce p ∷ []
 publication_by (who.Client client) None p = []
 publication_by (who.Source source) None p = []
@@ -120,7 +127,13 @@ asks_for (Some p) outs = allowed_in p outs
 abbrev pub published_for : List ℕ → Option Will → List Publication
 published_for id None = []
 published_for id (Some will) =
-    record { origin = origin.Client id; name = will.topic; payload = will.payload; qos = will.qos; retain = will.retain } ∷ []
+    record {
+      origin = origin.Client id;
+      name = will.topic;
+      payload = will.payload;
+      qos = will.qos;
+      retain = will.retain;
+    } ∷ []
 
 -- the note says that the will of the client found no place
 abbrev pub is_will_denied : List ℕ → Decision → Bool
@@ -149,7 +162,8 @@ finds_no_place id (Wire packet ∷ outs) = finds_no_place id outs
 
 -- a client that is lost asks for its will, unless the row notes that it found no place
 abbrev pub testament_by : List Row → List Out → Decision → List Publication
-testament_by earlier all (note.Lost client) = if finds_no_place client all then [] else published_for client (will_of client earlier)
+testament_by earlier all (note.Lost client) =
+    if finds_no_place client all then [] else published_for client (will_of client earlier)
 testament_by earlier all (note.Connect client outcome) = []
 testament_by earlier all (note.Register whom name outcome) = []
 testament_by earlier all (note.Publish whom name outcome) = []
@@ -182,7 +196,8 @@ testaments_with Down earlier outs = []
 testaments_with Take earlier outs = []
 testaments_with (Replace policy) earlier outs = []
 
--- the publishes that were asked for and allowed with this event and these outs, and the wills of clients that are lost
+-- the publishes that were asked for and allowed with this event and these outs, and the wills of clients that
+-- are lost
 abbrev pub asked_with : Event → List Row → List Out → List Publication
 asked_with e earlier outs = asks_for (publish_in (message_at e)) outs ++ testaments_with e earlier outs
 
@@ -238,7 +253,8 @@ message_id packet.Disconnect = []
 
 -- a message that comes while up is acknowledged, unless the row notes that no more could wait
 abbrev pub owed_with : Event → List Row → List Out → List ℕ
-owed_with (Broker sent) earlier outs = if is_up earlier && not (is_outbox_noted outs) then message_id sent else []
+owed_with (Broker sent) earlier outs =
+    if is_up earlier && not (is_outbox_noted outs) then message_id sent else []
 owed_with (Datagram from datagram) earlier outs = []
 owed_with Up earlier outs = []
 owed_with Down earlier outs = []
@@ -248,10 +264,11 @@ owed_with (Tick clock) earlier outs = []
 
 -- ---- the connection is kept alive
 
--- a PINGREQ is due to the broker at a tick while up, 30,000 ms or more after the connection began or the last was asked for, whose clock is
--- this one
+-- a PINGREQ is due to the broker at a tick while up, 30,000 ms or more after the connection began or the last
+-- was asked for, whose clock is this one
 abbrev pub is_ping_due : Event → List Row → ℕ → Bool
-is_ping_due (Tick clock) earlier last = is_up earlier && nat_le 30000 (greatest (clock ∷ ticks earlier) - last)
+is_ping_due (Tick clock) earlier last =
+    is_up earlier && nat_le 30000 (greatest (clock ∷ ticks earlier) - last)
 is_ping_due (Datagram from datagram) earlier last = false
 is_ping_due (Broker packet) earlier last = false
 is_ping_due Up earlier last = false
@@ -341,13 +358,17 @@ standing_then e earlier outs id = standing_after (message_at e) id outs (standin
 
 -- of the filters that stood for the client those that do not any more, in the order in which each stood first
 abbrev pub ceased : Event → List Row → List Out → List ℕ → List (List ℕ)
-ceased e earlier outs id = filter (λ text. not (stands (standing_then e earlier outs id) text)) (map (λ h. h.filter) (standing_of id earlier))
+ceased e earlier outs id =
+    filter (λ text. not (stands (standing_then e earlier outs id) text))
+    (map (λ h. h.filter) (standing_of id earlier))
 
--- each filter as the last client ceases to hold it: the clients before have what stands for them afterwards, and those behind what stood
+-- each filter as the last client ceases to hold it: the clients before have what stands for them afterwards,
+-- and those behind what stood
 abbrev pub released_among : Event → List Row → List Out → List (List ℕ) → List (List ℕ) → List (List ℕ)
 released_among e earlier outs done [] = []
 released_among e earlier outs done (id ∷ ids) =
-    filter (λ text. not (list_any (λ one. stands (standing_then e earlier outs one) text) done || list_any (λ one. stands (standing_of one earlier) text) ids)) (ceased e earlier outs id)
+    filter (λ text. not (list_any (λ one. stands (standing_then e earlier outs one) text) done
+    || list_any (λ one. stands (standing_of one earlier) text) ids)) (ceased e earlier outs id)
     ++ released_among e earlier outs (done ++ id ∷ []) ids
 
 -- the broker is told with a message of a session, and with a replacement
@@ -362,10 +383,12 @@ is_told (Tick clock) = false
 
 -- the filters of which it is told that they stand for nobody any more, where so many items more may wait
 abbrev pub told_with : Event → List Row → List Out → ℕ → List (List ℕ)
-told_with e earlier outs places = if is_told e then take places (released_among e earlier outs [] (accepted earlier)) else []
+told_with e earlier outs places =
+    if is_told e then take places (released_among e earlier outs [] (accepted earlier)) else []
 
--- what a row adds to what waits: what is asked for and allowed, an UNSUBSCRIBE of each filter that stands for nobody any more while there is
--- place, the acknowledgement that is owed, the wills of clients that are lost, and the PINGREQ that is due
+-- what a row adds to what waits: what is asked for and allowed, an UNSUBSCRIBE of each filter that stands for
+-- nobody any more while there is place, the acknowledgement that is owed, the wills of clients that are lost,
+-- and the PINGREQ that is due
 abbrev pub added : Event → List Row → List Item → List Out → List Item
 added e earlier items outs =
     items_for (message_at e) outs
@@ -376,7 +399,8 @@ added e earlier items outs =
 -- what was added since the last take while up, without what was dropped
 abbrev pub waiting : List Row → List Item
 waiting [] = []
-waiting (row ∷ earlier) = kept row.event earlier (waiting earlier) ++ added row.event earlier (waiting earlier) row.outs
+waiting (row ∷ earlier) =
+    kept row.event earlier (waiting earlier) ++ added row.event earlier (waiting earlier) row.outs
 
 -- the publishes among the items, in order
 abbrev pub publications : List Item → List Publication
@@ -389,7 +413,8 @@ publications (item.Ping ∷ items) = publications items
 
 -- ---- what left
 
--- a publish as it left: whose it was, its name, how it was judged, and the packet that follows its note at once, where it is allowed
+-- a publish as it left: whose it was, its name, how it was judged, and the packet that follows its note at
+-- once, where it is allowed
 pub record Departure : Type 0 where
   pub whom : Who
   pub name : List ℕ
@@ -403,8 +428,10 @@ packet_next (Send to datagram ∷ outs) = None
 packet_next (Note said ∷ outs) = None
 
 abbrev pub departure : Decision → List Out → List Departure
-departure (note.Forward who name Allowed) outs = record { whom = who; name = name; outcome = Allowed; packet = packet_next outs } ∷ []
-departure (note.Forward who name (Denied rule)) outs = record { whom = who; name = name; outcome = Denied rule; packet = None } ∷ []
+departure (note.Forward who name Allowed) outs =
+    record { whom = who; name = name; outcome = Allowed; packet = packet_next outs } ∷ []
+departure (note.Forward who name (Denied rule)) outs =
+    record { whom = who; name = name; outcome = Denied rule; packet = None } ∷ []
 departure (note.Connect client outcome) outs = []
 departure (note.Register who name outcome) outs = []
 departure (note.Publish who name outcome) outs = []

@@ -1,5 +1,5 @@
--- What message a datagram holds, as far as the views ask: a CONNECT, a REGISTER, a PUBLISH, a SUBSCRIBE, an UNSUBSCRIBE, a
--- REGACK, a PUBACK, one about a will, a PINGREQ, a DISCONNECT with Duration, or another one.
+-- What message a datagram holds, as far as the views ask: a CONNECT, a REGISTER, a PUBLISH, a SUBSCRIBE, an
+-- UNSUBSCRIBE, a REGACK, a PUBACK, one about a will, a PINGREQ, a DISCONNECT with Duration, or another one.
 use Rattle.std.specs.Prelude.{ℕ, Bool, true, false, List, Option, Some, None, Ok, Err}
 use Rattle.std.specs.declared.result.Result.{Result}
 use Rattle.sng_frames.specs.Reading.{frame_of}

@@ -1,6 +1,7 @@
--- What the rows show of subscriptions: which filters stand for a client, at which QoS, and which filters stand for anybody, each with the
--- SUBSCRIBE to the broker that is open.
-use Rattle.std.specs.Prelude.{ℕ, ◌==◌, Bool, true, false, ◌&&◌, ◌||◌, not, List, [], ◌∷◌, ◌++◌, map, filter, if◌then◌else◌, Option, Some, None}
+-- What the rows show of subscriptions: which filters stand for a client, at which QoS, and which filters
+-- stand for anybody, each with the SUBSCRIBE to the broker that is open.
+use Rattle.std.specs.Prelude.{ℕ, ◌==◌, Bool, true, false, ◌&&◌, ◌||◌, not, List, [], ◌∷◌, ◌++◌, map, filter}
+use Rattle.std.specs.Prelude.{if◌then◌else◌, Option, Some, None}
 use Rattle.std.specs.List.{list_any, find}
 use Rattle.std.specs.Option.{option_map}
 use Rattle.std.specs.Str.{bytes_eq}
@@ -29,7 +30,9 @@ use Rattle.sng_book.specs.declared.out.Out.TheVariants.{Send, Wire, Note}
 use Rattle.sng_book.specs.declared.row.Row.{Row}
 use Rattle.sng_history.specs.Links.{Wanted}
 use Rattle.sng_history.specs.Views.{wires_in}
-use Rattle.sng_history.specs.ViewsMessages.{Message, Connects, Registers, Publishes, Subscribes, Unsubscribes, Confirms, Acknowledges, States, Pings, Sleeps, Other, message_at, subscribe_in}
+use Rattle.sng_history.specs.ViewsMessages.{Message, Connects, Registers, Publishes, Subscribes, Unsubscribes}
+use Rattle.sng_history.specs.ViewsMessages.{Confirms, Acknowledges, States, Pings, Sleeps, Other, message_at}
+use Rattle.sng_history.specs.ViewsMessages.{subscribe_in}
 use Rattle.sng_history.specs.ViewsClients.{speaks_of, accepted}
 
 -- ---- the filters that stand for a client
@@ -56,7 +59,8 @@ qos_downstream qos.AtLeastOnce = AtLeastOnce
 qos_downstream qos.ExactlyOnce = AtLeastOnce
 qos_downstream qos.WithoutSession = AtMostOnce
 
--- the filter of the note stands at the QoS that the SUBSCRIBE asks for: in its place where it stood, else behind all others
+-- the filter of the note stands at the QoS that the SUBSCRIBE asks for: in its place where it stood, else
+-- behind all others
 abbrev pub joined_by : Option TopicRequest → Option (List ℕ) → List Held → List Held
 joined_by None text before = before
 joined_by (Some r) None before = before
@@ -67,13 +71,17 @@ abbrev pub left_by : Option (List ℕ) → List Held → List Held
 left_by None before = before
 left_by (Some text) before = without_filter before text
 
--- a SUBSCRIBE that is allowed lets its filter stand; an UNSUBSCRIBE that is allowed ends it, an `end` note does, and a clean CONNECT that is
--- accepted ends all
+-- a SUBSCRIBE that is allowed lets its filter stand; an UNSUBSCRIBE that is allowed ends it, an `end` note
+-- does, and a clean CONNECT that is accepted ends all
 abbrev pub standing_by : Option Message → List ℕ → Decision → List Held → List Held
-standing_by m id (note.Connect client outcome) before = if bytes_eq id client && (is_allowed outcome && is_clean m) then [] else before
-standing_by m id (note.Subscribe whom text outcome) before = if speaks_of id whom && is_allowed outcome then joined_by (subscribe_in m) text before else before
-standing_by m id (note.Unsubscribe whom text outcome) before = if speaks_of id whom && is_allowed outcome then left_by text before else before
-standing_by m id (note.End client text outcome) before = if bytes_eq id client then without_filter before text else before
+standing_by m id (note.Connect client outcome) before =
+    if bytes_eq id client && (is_allowed outcome && is_clean m) then [] else before
+standing_by m id (note.Subscribe whom text outcome) before =
+    if speaks_of id whom && is_allowed outcome then joined_by (subscribe_in m) text before else before
+standing_by m id (note.Unsubscribe whom text outcome) before =
+    if speaks_of id whom && is_allowed outcome then left_by text before else before
+standing_by m id (note.End client text outcome) before =
+    if bytes_eq id client then without_filter before text else before
 standing_by m id (note.Register whom name outcome) before = before
 standing_by m id (note.Left client) before = before
 standing_by m id (note.Publish whom name outcome) before = before
@@ -149,7 +157,9 @@ is_for text w = bytes_eq text w.filter
 -- a filter that is not among these comes last
 abbrev pub joining : List Wanted → List (List ℕ) → List Wanted
 joining wanted [] = wanted
-joining wanted (text ∷ texts) = joining (if list_any (is_for text) wanted then wanted else wanted ++ record { filter = text; open_id = None } ∷ []) texts
+joining wanted (text ∷ texts) =
+    joining (if list_any (is_for text) wanted then wanted
+    else wanted ++ record { filter = text; open_id = None } ∷ []) texts
 
 -- ---- what is said to the broker
 
@@ -194,7 +204,8 @@ words_sent outs = words_of (wires_in outs)
 
 -- the last SUBSCRIBE of a filter is open
 abbrev pub with_open : List Wanted → List ℕ → ℕ → List Wanted
-with_open wanted text packet_id = map (λ w. if is_for text w then record w { open_id = Some packet_id } else w) wanted
+with_open wanted text packet_id =
+    map (λ w. if is_for text w then record w { open_id = Some packet_id } else w) wanted
 
 abbrev pub with_words : List Wanted → List Word → List Wanted
 with_words wanted [] = wanted
@@ -211,7 +222,8 @@ is_answered packet_id w = is_its packet_id w.open_id
 
 -- the SUBSCRIBE with this packet id is open no more
 abbrev pub without_open : ℕ → List Wanted → List Wanted
-without_open packet_id wanted = map (λ w. if is_answered packet_id w then record w { open_id = None } else w) wanted
+without_open packet_id wanted =
+    map (λ w. if is_answered packet_id w then record w { open_id = None } else w) wanted
 
 abbrev pub with_answer : Packet → List Wanted → List Wanted
 with_answer (packet.SubscribeAck answer) wanted = without_open answer.packet_id wanted
@@ -240,8 +252,8 @@ answered_by (Tick clock) wanted = wanted
 abbrev pub wanted_then : List Row → List (List ℕ) → List Wanted → List Wanted
 wanted_then h texts before = joining (filter (λ w. held_in h w.filter) before) texts
 
--- the filters that stand for anybody, in the order in which each stood first without a break, and of each the packet id of its last
--- SUBSCRIBE to the broker since then, unless a SUBACK with that packet id came since
+-- the filters that stand for anybody, in the order in which each stood first without a break, and of each the
+-- packet id of its last SUBSCRIBE to the broker since then, unless a SUBACK with that packet id came since
 abbrev pub wanted : List Row → List Wanted
 wanted [] = []
 wanted (row ∷ earlier) =
@@ -266,7 +278,8 @@ is_refusal (code.Granted qos ∷ codes) = false
 
 -- the packet refuses the subscription by the filter
 abbrev pub refuses : Packet → List Wanted → List ℕ → Bool
-refuses (packet.SubscribeAck answer) wanted text = is_refusal answer.codes && is_same text (filter_with answer.packet_id wanted)
+refuses (packet.SubscribeAck answer) wanted text =
+    is_refusal answer.codes && is_same text (filter_with answer.packet_id wanted)
 refuses (packet.Subscribe sent) wanted text = false
 refuses (packet.Publish p) wanted text = false
 refuses (packet.PublishAck packet_id) wanted text = false
@@ -290,11 +303,15 @@ kept_upstream (Tick clock) wanted text before = before
 
 abbrev pub said_upstream : List Word → List ℕ → Bool → Bool
 said_upstream [] text before = before
-said_upstream (Begins filter packet_id ∷ words) text before = said_upstream words text (bytes_eq text filter || before)
-said_upstream (Ends filter ∷ words) text before = said_upstream words text (not (bytes_eq text filter) && before)
+said_upstream (Begins filter packet_id ∷ words) text before =
+    said_upstream words text (bytes_eq text filter || before)
+said_upstream (Ends filter ∷ words) text before =
+    said_upstream words text (not (bytes_eq text filter) && before)
 
--- the last word on the filter to the broker, since the connection began, is a SUBSCRIBE, and it was not refused since
+-- the last word on the filter to the broker, since the connection began, is a SUBSCRIBE, and it was not
+-- refused since
 abbrev pub is_upstream : List Row → List ℕ → Bool
 is_upstream [] text = false
 is_upstream (row ∷ earlier) text =
-    said_upstream (words_sent row.outs) text (kept_upstream row.event (wanted earlier) text (is_upstream earlier text))
+    said_upstream (words_sent row.outs) text
+    (kept_upstream row.event (wanted earlier) text (is_upstream earlier text))

@@ -1,12 +1,13 @@
--- What the rows show of a client's will: the topic and the message that it stated last, and how far the dialogue about it has come (MQTT-SN
--- 1.2, 6.3 and 6.4).
+-- What the rows show of a client's will: the topic and the message that it stated last, and how far the
+-- dialogue about it has come (MQTT-SN 1.2, 6.3 and 6.4).
 use Rattle.std.specs.Prelude.{ℕ, ◌&&◌, List, [], ◌∷◌, if◌then◌else◌, Option, Some, None}
 use Rattle.std.specs.Option.{option_map}
 use Rattle.std.specs.Str.{bytes_eq}
 use Rattle.sng_text.specs.declared.qos.Qos.{Qos}
 use Rattle.sng_text.specs.declared.qos.Qos.TheVariants.{AtMostOnce, AtLeastOnce}
 use Rattle.sng_states.specs.declared.state.ClientState.{ClientState}
-use Rattle.sng_states.specs.declared.state.ClientState.TheVariants.{Dialogue, Active, Asleep, Awake, Disconnected, Lost}
+use Rattle.sng_states.specs.declared.state.ClientState.TheVariants.{Dialogue, Active, Asleep, Awake}
+use Rattle.sng_states.specs.declared.state.ClientState.TheVariants.{Disconnected, Lost}
 use Rattle.sng_wills.specs.declared.will.Stage.{Stage}
 use Rattle.sng_wills.specs.declared.will.Stage.TheVariants.{Closed, TopicAwaited, MessageAwaited}
 use Rattle.sng_wills.specs.declared.will.StatedTopic.{StatedTopic}
@@ -25,8 +26,8 @@ use Rattle.sng_history.specs.Causes.{Statement, StatesTopic, StatesMessage, Upda
 use Rattle.sng_history.specs.ViewsMessages.{Message, message_at, statement_in, connect_in}
 use Rattle.sng_history.specs.ViewsClients.{speaks_of}
 
--- what a client stated of its will: the topic whose message is awaited in the dialogue; and since the will was deleted last, the last topic,
--- where there is one, and the last message, else the empty one
+-- what a client stated of its will: the topic whose message is awaited in the dialogue; and since the will
+-- was deleted last, the last topic, where there is one, and the last message, else the empty one
 pub record Stating : Type 0 where
   pub awaited : Option StatedTopic
   pub topic : Option StatedTopic
@@ -50,13 +51,14 @@ abbrev pub or_else : Option StatedTopic → Option StatedTopic → Option Stated
 or_else None before = before
 or_else (Some topic) before = Some topic
 
--- a statement that is allowed: a WILLTOPIC counts once its message comes, and one without a topic deletes the will, as does such a
--- WILLTOPICUPD
+-- a statement that is allowed: a WILLTOPIC counts once its message comes, and one without a topic deletes the
+-- will, as does such a WILLTOPICUPD
 abbrev pub stating_with : Option Statement → Stating → Stating
 stating_with None now = now
 stating_with (Some (StatesTopic None)) now = nothing_stated
 stating_with (Some (StatesTopic (Some w))) now = record now { awaited = Some (topic_kept w) }
-stating_with (Some (StatesMessage message)) now = record { awaited = None; topic = or_else now.awaited now.topic; message = message }
+stating_with (Some (StatesMessage message)) now =
+    record { awaited = None; topic = or_else now.awaited now.topic; message = message }
 stating_with (Some (UpdatesTopic None)) now = nothing_stated
 stating_with (Some (UpdatesTopic (Some w))) now = record now { topic = Some (topic_kept w) }
 stating_with (Some (UpdatesMessage message)) now = record now { message = message }
@@ -71,8 +73,10 @@ stating_anew (Some connect) now = if connect.flags.clean then nothing_stated els
 
 -- as a client leaves or is lost the dialogue breaks off
 abbrev pub stating_by : Option Message → List ℕ → Decision → Stating → Stating
-stating_by m id (note.Connect client outcome) now = if bytes_eq id client && is_allowed outcome then stating_anew (connect_in m) now else now
-stating_by m id (note.Will whom name outcome) now = if speaks_of id whom && is_allowed outcome then stating_with (statement_in m) now else now
+stating_by m id (note.Connect client outcome) now =
+    if bytes_eq id client && is_allowed outcome then stating_anew (connect_in m) now else now
+stating_by m id (note.Will whom name outcome) now =
+    if speaks_of id whom && is_allowed outcome then stating_with (statement_in m) now else now
 stating_by m id (note.Left client) now = if bytes_eq id client then breaks_off now else now
 stating_by m id (note.Lost client) now = if bytes_eq id client then breaks_off now else now
 stating_by m id (note.Register whom name outcome) now = now
@@ -100,7 +104,8 @@ stating_of id (row ∷ earlier) = stating_after (message_at row.event) id row.ou
 
 -- the will of a topic and a message
 abbrev pub will_with : List ℕ → StatedTopic → Will
-will_with message stated = record { topic = stated.topic; payload = message; qos = stated.qos; retain = stated.retain }
+will_with message stated =
+    record { topic = stated.topic; payload = message; qos = stated.qos; retain = stated.retain }
 
 -- a client's will is the last topic that it stated, with the last message
 abbrev pub will_of : List ℕ → List Row → Option Will

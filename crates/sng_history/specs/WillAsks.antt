@@ -1,5 +1,5 @@
--- How what a client states of its will is judged (MQTT-SN 1.2, 5.4.7, 5.4.9, 5.4.22, 5.4.23, 6.3 and 6.4): its turn, then its scope, its
--- topic, and the grant of that topic. To delete a will needs no grant.
+-- How what a client states of its will is judged (MQTT-SN 1.2, 5.4.7, 5.4.9, 5.4.22, 5.4.23, 6.3 and 6.4):
+-- its turn, then its scope, its topic, and the grant of that topic. To delete a will needs no grant.
 use Rattle.std.specs.Prelude.{ℕ, Bool, true, false, List, [], ◌∷◌, is_some, if◌then◌else◌, Option, Some, None}
 use Rattle.std.specs.Option.{option_map}
 use Rattle.sng_text.specs.Texts.{is_name}
@@ -31,8 +31,8 @@ awaits_topic (MessageAwaited topic) = false
 abbrev pub turn : Bool → Outcome
 turn has = if has then Allowed else Denied OutOfTurn
 
--- a WILLTOPIC and a WILLMSG have their turn where the dialogue awaits them, and the updates where the client is active; a WILLMSGUPD
--- needs a will besides
+-- a WILLTOPIC and a WILLMSG have their turn where the dialogue awaits them, and the updates where the client
+-- is active; a WILLMSGUPD needs a will besides
 abbrev pub statement_turn : Statement → Client → Outcome
 statement_turn (StatesTopic topic) x = turn (awaits_topic x.wills.stage)
 statement_turn (StatesMessage message) x = turn (is_some (awaited_topic x.wills.stage))
@@ -64,7 +64,8 @@ topic_granted policy id (Some name) = exit policy (origin.Client id) name
 
 -- what comes before the grant
 abbrev pub statement_read : Policy → Statement → Client → Outcome
-statement_read policy statement x = and_then (statement_turn statement x) (topic_read policy x.id (topic_at statement x))
+statement_read policy statement x =
+    and_then (statement_turn statement x) (topic_read policy x.id (topic_at statement x))
 
 abbrev pub statement_verdict : Policy → Statement → Client → Outcome
 statement_verdict policy statement x =
@@ -72,7 +73,8 @@ statement_verdict policy statement x =
 
 -- the note names the topic that was read
 abbrev pub statement_object : Policy → Statement → Client → Option (List ℕ)
-statement_object policy statement x = if is_allowed (statement_read policy statement x) then topic_at statement x else None
+statement_object policy statement x =
+    if is_allowed (statement_read policy statement x) then topic_at statement x else None
 
 abbrev pub statement_ask : Policy → Statement → Client → Decision
 statement_ask policy statement x =
@@ -89,7 +91,8 @@ dialogue_goes_on policy statement x (Denied rule) = note.Left x.id ∷ all_gone 
 -- what follows a WILLTOPIC or a WILLMSG; one out of turn ends nothing
 abbrev pub in_dialogue_notes : Policy → Statement → Client → List Decision
 in_dialogue_notes policy statement x =
-    if is_allowed (statement_turn statement x) then dialogue_goes_on policy statement x (statement_verdict policy statement x) else []
+    if is_allowed (statement_turn statement x)
+    then dialogue_goes_on policy statement x (statement_verdict policy statement x) else []
 
 abbrev pub statement_follows : Policy → Statement → Client → List Decision
 statement_follows policy (StatesTopic topic) x = in_dialogue_notes policy (StatesTopic topic) x

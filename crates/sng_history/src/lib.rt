@@ -261,10 +261,10 @@ pub fn messages_are_settled_in_order()
 /// that is judged again and denied; it is handed over only where the client knows its name then, and an id is
 /// announced only where it does not; and only what is open with a client that takes messages is judged again.
 /// `regacks`, `pubacks`: a REGACK has its turn where the client takes messages and its TopicId and MsgId are
-/// those of the announcement that is open, a PUBACK where its MsgId is that of what is open; else they are out
-/// of turn. A REGACK with another code than 0 refuses the front. Then all leaves that may, the oldest first,
-/// each judged, with its own payload, QoS and Retain, until something is open again; an awake client with whom
-/// nothing is then is sent PINGRESP.
+/// those of the announcement that is open, a PUBACK where its MsgId is that of what is open; else they are
+/// out of turn. A REGACK with another code than 0 refuses the front. Then all leaves that may, the oldest
+/// first, each judged, with its own payload, QoS and Retain, until something is open again; an awake client
+/// with whom nothing is then is sent PINGRESP.
 pub fn messages_are_handed_over()
     ensures judged { (h : List Row) → Lawful opening h → EachHandJudged h }
     ensures turns { (h : List Row) → Lawful opening h → (id : List ℕ) → EachInTurn id h }
@@ -282,17 +282,16 @@ pub fn messages_are_handed_over()
 /// `pings`: a PINGREQ that names another client has no session and is answered by DISCONNECT; of an active
 /// client PINGRESP answers it without a note; one that names its client wakes it where it sleeps: what waited
 /// is handed over, the oldest first, and PINGRESP says that nothing is left; an awake client goes on; else it
-/// is out of turn. `sleeps`: by DISCONNECT with Duration a client falls asleep, which DISCONNECT answers; while
-/// a dialogue is open that is out of turn. `leaves`: by
-/// DISCONNECT without Duration the client leaves, DISCONNECT answers, and what waits for it is gone. A
-/// PINGREQ and a DISCONNECT from an address at which no client is have no session, and are answered by
-/// DISCONNECT. `unsupported`: other messages are not supported, which an acknowledgement says to a client
-/// where the message asks for one. `broken`: what is no message is noted alone. `packets`: of a packet of the
-/// broker a message comes to each client that it concerns, in the order of first acceptance; one under a text
-/// that is no topic name is noted, and an acknowledgement that is owed while 512 items wait; a SUBACK that
-/// refuses ends the filter whose open SUBSCRIBE has its packet id, for each client for whom it stands, in the
-/// order of first acceptance; what else acknowledges or answers the gateway lets nothing out; and any other
-/// is not supported.
+/// is out of turn. `sleeps`: by DISCONNECT with Duration a client falls asleep, which DISCONNECT answers;
+/// while a dialogue is open that is out of turn. `leaves`: by DISCONNECT without Duration the client leaves,
+/// DISCONNECT answers, and what waits for it is gone. A PINGREQ and a DISCONNECT from an address at which no
+/// client is have no session, and are answered by DISCONNECT. `unsupported`: other messages are not
+/// supported, which an acknowledgement says to a client where the message asks for one. `broken`: what is no
+/// message is noted alone. `packets`: of a packet of the broker a message comes to each client that it
+/// concerns, in the order of first acceptance; one under a text that is no topic name is noted, and an
+/// acknowledgement that is owed while 512 items wait; a SUBACK that refuses ends the filter whose open
+/// SUBSCRIBE has its packet id, for each client for whom it stands, in the order of first acceptance; what
+/// else acknowledges or answers the gateway lets nothing out; and any other is not supported.
 pub fn messages_are_answered()
     ensures pings { (h : List Row) → (row : Row) → (from : Address) → (named : Option (List ℕ))
         → Lawful opening (row ∷ h)

@@ -5,19 +5,26 @@ ghost use Rattle.sng_book.specs.declared.outcome.Denial.TheVariants.{MissingPub}
 ghost use Rattle.sng_book.specs.declared.outcome.Outcome.TheVariants.{Allowed, Denied};
 ghost use Rattle.sng_history.specs.State.{opening};
 ghost use Rattle.sng_history.specs.Lawful.{LawfulRow, Lawful};
-ghost use Rattle.sng_history.specs.Examples.{source, at, publish_ab, publish_ab_long, asked_ab, forward_ab, packet_ab, stored_run};
-ghost use Rattle.sng_history.specs.Examples.{unknown_source, without_up, strangers, replaced_while_waiting, kept_while_down};
+ghost use Rattle.sng_history.specs.Examples.{source, at, publish_ab, publish_ab_long, asked_ab, forward_ab};
+ghost use Rattle.sng_history.specs.Examples.{packet_ab, stored_run};
+ghost use Rattle.sng_history.specs.Examples.{unknown_source, without_up, strangers, replaced_while_waiting};
+ghost use Rattle.sng_history.specs.Examples.{kept_while_down};
 ghost use Rattle.sng_history.specs.Examples.{waits, waits_replaced, waits_down};
-ghost use Rattle.sng_history.specs.ExamplesClients.{home, away, s1, s2, connect_s1, connect_s2, disconnect, lets_in, welcome, bye};
+ghost use Rattle.sng_history.specs.ExamplesClients.{home, away, s1, s2, connect_s1, connect_s2, disconnect};
+ghost use Rattle.sng_history.specs.ExamplesClients.{lets_in, welcome, bye};
 ghost use Rattle.sng_history.specs.ExamplesClients.{not_listed, moves, takes_over, goes, pings, at_home};
-ghost use Rattle.sng_history.specs.ExamplesClients.{t1, t2, publish_t1, asks_t1, forward_t1, again_t1, packet_t1, refused_t1};
+ghost use Rattle.sng_history.specs.ExamplesClients.{t1, t2, publish_t1, asks_t1, forward_t1, again_t1};
+ghost use Rattle.sng_history.specs.ExamplesClients.{packet_t1, refused_t1};
 ghost use Rattle.sng_history.specs.ExamplesClients.{both_listed, ended_ab, holds_ab};
-ghost use Rattle.sng_history.specs.ExamplesClients.{untold, acknowledged_t1, knows_t1, flies_and_waits, flies_ungranted};
+ghost use Rattle.sng_history.specs.ExamplesClients.{untold, acknowledged_t1, knows_t1, flies_and_waits};
+ghost use Rattle.sng_history.specs.ExamplesClients.{flies_ungranted};
 ghost use Rattle.sng_history.specs.ExamplesClients.{message_ab, accept_ab, hands_ab, handed_ab};
 ghost use Rattle.sng_history.specs.ExamplesClients.{ping_s1, pong, announces_ab, announcement_ab};
 ghost use Rattle.sng_history.specs.ExamplesSleep.{sleeps_again, is_asleep, is_buffered};
-ghost use Rattle.sng_history.specs.ExamplesSleep.{answered_one, given_up, is_tried_out, retries_ab, handed_again};
-ghost use Rattle.sng_history.specs.ExamplesClients.{handed_over_ab, denied_ab, once_ab, announced_ungranted, holds_both};
+ghost use Rattle.sng_history.specs.ExamplesSleep.{answered_one, given_up, is_tried_out, retries_ab};
+ghost use Rattle.sng_history.specs.ExamplesSleep.{handed_again};
+ghost use Rattle.sng_history.specs.ExamplesClients.{handed_over_ab, denied_ab, once_ab, announced_ungranted};
+ghost use Rattle.sng_history.specs.ExamplesClients.{holds_both};
 ghost use Rattle.sng_history.specs.ExamplesWills.{topic_t2, asks_message, states, ping_broker, packet_twice};
 ghost use Rattle.sng_history.specs.ExamplesWills.{will_refused, will_published, will_unpublished};
 ghost use Rattle.sng_history.specs.ExamplesWills.{awaits_topic, is_silent, is_lost};
@@ -99,8 +106,8 @@ pub fn unlawful_subscriptions()
 {}
 
 /// Lawful histories of messages of the broker: one under a name that the client does not know is announced,
-/// and handed over once a REGACK accepts the id; one whose grant is replaced before the REGACK comes is denied
-/// as its turn comes; and one whose name two filters match is handed over once.
+/// and handed over once a REGACK accepts the id; one whose grant is replaced before the REGACK comes is
+/// denied as its turn comes; and one whose name two filters match is handed over once.
 pub fn lawful_messages()
     ensures announced { Lawful opening handed_over_ab }
     ensures ungranted { Lawful opening denied_ab }
@@ -128,16 +135,17 @@ pub fn lawful_wills()
 /// Rows that may not come: the dialogue goes on with a topic that is not granted; a client is kept one tick
 /// more than its Duration allows; and a will leaves at QoS 2, at which it was stated, where it is kept at 1.
 pub fn unlawful_wills()
-    ensures ungranted { LawfulRow awaits_topic (Datagram home topic_t2) (states t2 Allowed ∷ asks_message ∷ []) → ⊥ }
+    ensures ungranted { LawfulRow awaits_topic (Datagram home topic_t2)
+        (states t2 Allowed ∷ asks_message ∷ []) → ⊥ }
     ensures kept { LawfulRow is_silent (Tick 90000) [] → ⊥ }
     ensures exactly_once { LawfulRow is_lost Take (forward_t1 Allowed ∷ packet_twice ∷ ping_broker ∷ []) → ⊥ }
 {}
 
 /// Lawful histories of a client that sleeps, and of what is sent again. `asleep`: messages that come while it
 /// sleeps wait; its PINGREQ wakes it, the id of their name is announced, and with the REGACK both are handed
-/// over, behind which PINGRESP says that nothing is left; it sleeps again, and the next one waits. `answered`:
-/// a message at QoS 1 that is not acknowledged in ten seconds is sent again with DUP, until a PUBACK comes.
-/// `given_up`: after three tries without an answer the client is lost.
+/// over, behind which PINGRESP says that nothing is left; it sleeps again, and the next one waits.
+/// `answered`: a message at QoS 1 that is not acknowledged in ten seconds is sent again with DUP, until a
+/// PUBACK comes. `given_up`: after three tries without an answer the client is lost.
 pub fn lawful_sleep()
     ensures asleep { Lawful opening sleeps_again }
     ensures answered { Lawful opening answered_one }

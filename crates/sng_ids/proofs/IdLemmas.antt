@@ -1,5 +1,7 @@
 -- Places in the list of ids: what confirming and taking back do to it.
-use Rattle.std.proofs.Common.{◌≡◌, ℕ, zero, suc, ◌+◌, ◌-◌, ◌<◌, Bool, true, false, List, [], ◌∷◌, ◌++◌, length, Option, Some, None, is_some, true≢false, slice_get, refl, ap, arith, length-append}
+use Rattle.std.proofs.Common.{◌≡◌, ℕ, zero, suc, ◌+◌, ◌-◌, ◌<◌, Bool, true, false, List, [], ◌∷◌, ◌++◌}
+use Rattle.std.proofs.Common.{length, Option, Some, None, is_some, true≢false, slice_get, refl, ap, arith}
+use Rattle.std.proofs.Common.{length-append}
 use Rattle.std.proofs.Math.Seq.{take-append_seam}
 use Rattle.indexmap.specs.Layout.{set_value_at}
 use Rattle.sng_ids.specs.Ids.{Ids, place_of, id_for, with_name, confirmed_at, confirmed, taken_back}

@@ -1,6 +1,8 @@
 -- The topic ids of one client: a list of names, of which the first has id 1 and the k-th id k (MQTT-SN 1.2,
 -- 6.5).
-use Rattle.std.specs.Prelude.{ℕ, zero, suc, ◌+◌, ◌-◌, Bool, true, false, not, ◌&&◌, nat_le, List, [], ◌∷◌, ◌++◌, length, map, take, slice_get, position, Some, None, unwrap_or, is_some, is_none, if◌then◌else◌}
+use Rattle.std.specs.Prelude.{ℕ, zero, suc, ◌+◌, ◌-◌, Bool, true, false, not, ◌&&◌, nat_le, List, [], ◌∷◌}
+use Rattle.std.specs.Prelude.{◌++◌, length, map, take, slice_get, position, Some, None, unwrap_or, is_some}
+use Rattle.std.specs.Prelude.{is_none, if◌then◌else◌}
 use Rattle.std.specs.declared.option.Option.{Option}
 use Rattle.std.specs.Option.{option_map, option_and_then}
 use Rattle.std.specs.Str.{bytes_eq}

@@ -1,9 +1,11 @@
 //! The table of a client's topic ids: an id for each name that was registered or announced (MQTT-SN 1.2,
 //! 6.5).
-ghost use Rattle.std.specs.Prelude.{◌≡◌, ◌↔◌, ◌≤◌, ◌+◌, ◌==◌, [], length, true, None, unwrap_or, IfOk, IsOk, OnOk, OnErr, IsErrOf};
+ghost use Rattle.std.specs.Prelude.{◌≡◌, ◌↔◌, ◌≤◌, ◌+◌, ◌==◌, [], length, true, None, unwrap_or, IfOk, IsOk};
+ghost use Rattle.std.specs.Prelude.{OnOk, OnErr, IsErrOf};
 ghost use Rattle.std.specs.Option.{option_copied};
 ghost use Rattle.sng_ids.specs.declared.limits.TheConstants.{MAX_TOPIC_IDS};
-ghost use Rattle.sng_ids.specs.Ids.{id_for, place_of, is_full_for, with_name, confirmed, id_of, name_of, taken_back};
+ghost use Rattle.sng_ids.specs.Ids.{id_for, place_of, is_full_for, with_name, confirmed, id_of, name_of};
+ghost use Rattle.sng_ids.specs.Ids.{taken_back};
 
 use crate::{IdFault, MAX_TOPIC_IDS};
 use indexmap::IndexMap;

@@ -1,8 +1,10 @@
 -- How one more item leaves by a plan.
-use Rattle.std.proofs.Common.{◌≡◌, ℕ, ◌+◌, ◌≤◌, Bool, true, false, List, [], ◌∷◌, ◌++◌, length, set, cond, if◌then◌else◌, refl, sym, ◌∙◌, ap, subst, arith}
+use Rattle.std.proofs.Common.{◌≡◌, ℕ, ◌+◌, ◌≤◌, Bool, true, false, List, [], ◌∷◌, ◌++◌, length, set, cond}
+use Rattle.std.proofs.Common.{if◌then◌else◌, refl, sym, ◌∙◌, ap, subst, arith}
 use Rattle.std.specs.Prelude.{Option, Some, None, reverse}
 use Rattle.std.specs.List.{count_by, list_any}
-use Rattle.std.proofs.lemmas.List.{append_assoc, map-append, length-map, length-append, reverse-append, set-get_or}
+use Rattle.std.proofs.lemmas.List.{append_assoc, map-append, length-map, length-append, reverse-append}
+use Rattle.std.proofs.lemmas.List.{set-get_or}
 use Rattle.sng_text.specs.declared.qos.Qos.{Qos}
 use Rattle.sng_text.specs.declared.qos.Qos.TheVariants.{AtMostOnce, AtLeastOnce}
 use Rattle.sng_grants.specs.declared.policy.Policy.{Policy}
@@ -19,58 +21,81 @@ use Rattle.sng_book.specs.declared.outcome.Outcome.{Outcome}
 use Rattle.sng_book.specs.declared.outcome.Outcome.TheVariants.{Allowed, Denied}
 use Rattle.sng_book.specs.declared.out.Out.{Out}
 use Rattle.sng_history.specs.Good.{WantedOnce}
-use Rattle.sng_history.specs.Links.{Link, Wanted, wants, opened, open_ids, next_packet_id, packet_id_by, sent_by, exited, subscribe_sent, unsubscribe_sent, is_open, link_after}
+use Rattle.sng_history.specs.Links.{Link, Wanted, wants, opened, open_ids, next_packet_id, packet_id_by}
+use Rattle.sng_history.specs.Links.{sent_by, exited, subscribe_sent, unsubscribe_sent, is_open, link_after}
 use Rattle.sng_history.specs.Exits.{exits_of, forwarded, leaving}
 use Rattle.sng_history.specs.Verdicts.{exit}
 use Rattle.sng_wanted.specs.declared.limits.TheConstants.{MAX_WANTED}
 use Rattle.sng_wanted.specs.Filters.{id_for, IsFree}
 use Rattle.sng_link.specs.Flights.{link_of, ids_of, ids_in_use, AreMarked}
-use Rattle.sng_link.specs.Steps.{forth_marks, back_marks, back_wanted, undone_marks, undone_wanted, IsBack, CanUndo, Logged}
-use Rattle.sng_link.specs.Taking.{IsNext, id_at, flight_id, no_step, step_under, item_outs, item_step, numbered, wanted_after, item_left, plan_of, IsStep, Stands, Planned}
+use Rattle.sng_link.specs.Steps.{forth_marks, back_marks, back_wanted, undone_marks, undone_wanted, IsBack}
+use Rattle.sng_link.specs.Steps.{CanUndo, Logged}
+use Rattle.sng_link.specs.Taking.{IsNext, id_at, flight_id, no_step, step_under, item_outs, item_step}
+use Rattle.sng_link.specs.Taking.{numbered, wanted_after, item_left, plan_of, IsStep, Stands, Planned}
 use Rattle.sng_link.specs.declared.step.Step.{Step}
 use Rattle.sng_link.proofs.Marks.{one_between, back_forth, unused_both, used_right, AmongThem}
-use Rattle.sng_link.proofs.Wanting.{back_same, back_opened, opened_marked, opened_once, opened_length, free_former, fresh_open, few_open, id_among}
+use Rattle.sng_link.proofs.Wanting.{back_same, back_opened, opened_marked, opened_once, opened_length}
+use Rattle.sng_link.proofs.Wanting.{free_former, fresh_open, few_open, id_among}
 
 -- one step more, which can be taken back
-pub logged_more : (from : List Bool) (first : List Wanted) (log : List Step) (marks now : List Bool) (wanted later : List Wanted) (step : Step) → Logged from first log marks wanted
-    → IsBack later step.packet_id step.former → back_marks now step ≡ marks → back_wanted later step ≡ wanted → Logged from first (log ++ step ∷ []) now later
+pub logged_more : (from : List Bool) (first : List Wanted) (log : List Step) (marks now : List Bool)
+    (wanted later : List Wanted) (step : Step) → Logged from first log marks wanted
+    → IsBack later step.packet_id step.former → back_marks now step ≡ marks → back_wanted later step ≡ wanted
+    → Logged from first (log ++ step ∷ []) now later
 logged_more from first log marks now wanted later step before back marks_are wanted_is =
     let newest : reverse (log ++ step ∷ []) ≡ step ∷ reverse log = reverse-append log (step ∷ []) in
     record {
-      can = subst (λ l. CanUndo later l) (sym newest) (back, subst (λ w. CanUndo w (reverse log)) (sym wanted_is) before.can);
-      marks_back = ap (λ l. undone_marks now l) newest ∙ ap (λ m. undone_marks m (reverse log)) marks_are ∙ before.marks_back;
-      wanted_back = ap (λ l. undone_wanted later l) newest ∙ ap (λ w. undone_wanted w (reverse log)) wanted_is ∙ before.wanted_back;
+      can =
+          subst (λ l. CanUndo later l) (sym newest)
+          (back, subst (λ w. CanUndo w (reverse log)) (sym wanted_is) before.can);
+      marks_back =
+          ap (λ l. undone_marks now l) newest ∙ ap (λ m. undone_marks m (reverse log)) marks_are
+          ∙ before.marks_back;
+      wanted_back =
+          ap (λ l. undone_wanted later l) newest ∙ ap (λ w. undone_wanted w (reverse log)) wanted_is
+          ∙ before.wanted_back;
     }
 
 -- so few ids are in use that one is free
-few_ids : (m : Link) → length m.in_flight ≤ MAX_IN_FLIGHT → length m.wanted ≤ MAX_WANTED → length (ids_in_use m.in_flight m.wanted) ≤ 65534
+few_ids : (m : Link) → length m.in_flight ≤ MAX_IN_FLIGHT → length m.wanted ≤ MAX_WANTED
+    → length (ids_in_use m.in_flight m.wanted) ≤ 65534
 few_ids m few most =
     let counted = length-map m.in_flight (λ (sent : InFlight). sent.packet_id) in
     let longer = length-append (ids_of m.in_flight) (open_ids m.wanted) in
     let fewer = few_open m.wanted in
     omega (arith, counted, longer, fewer, few, most)
 
-pub next_is : (m : Link) (n : Numbering) (next : ℕ) → IsNext n next → AreMarked (ids_in_use m.in_flight m.wanted) n.marks → n.last ≡ m.last → length m.in_flight ≤ MAX_IN_FLIGHT → length m.wanted ≤ MAX_WANTED
+pub next_is : (m : Link) (n : Numbering) (next : ℕ) → IsNext n next
+    → AreMarked (ids_in_use m.in_flight m.wanted) n.marks → n.last ≡ m.last
+    → length m.in_flight ≤ MAX_IN_FLIGHT → length m.wanted ≤ MAX_WANTED
     → next ≡ next_packet_id m
 next_is m n next follows marked last few most =
-    follows (ids_in_use m.in_flight m.wanted) (few_ids m few most) marked.marked ∙ ap (λ l. next_id (ids_in_use m.in_flight m.wanted) l) last
+    follows (ids_in_use m.in_flight m.wanted) (few_ids m few most) marked.marked
+    ∙ ap (λ l. next_id (ids_in_use m.in_flight m.wanted) l) last
 
-pub next_fresh : (m : Link) (n : Numbering) (next : ℕ) → IsNext n next → AreMarked (ids_in_use m.in_flight m.wanted) n.marks → n.last ≤ 65535 → length m.in_flight ≤ MAX_IN_FLIGHT → length m.wanted ≤ MAX_WANTED
+pub next_fresh : (m : Link) (n : Numbering) (next : ℕ) → IsNext n next
+    → AreMarked (ids_in_use m.in_flight m.wanted) n.marks → n.last ≤ 65535
+    → length m.in_flight ≤ MAX_IN_FLIGHT → length m.wanted ≤ MAX_WANTED
     → is_used (ids_in_use m.in_flight m.wanted) next ≡ false
 next_fresh m n next follows marked small few most =
     let free = next_free (ids_in_use m.in_flight m.wanted) n.last (few_ids m few most) small in
     rw (follows (ids_in_use m.in_flight m.wanted) (few_ids m few most) marked.marked) free.2
 
-module _ (from : List Bool) (start : List Wanted) (m : Link) (others : List Item) (log : List Step) (n : Numbering) where
+module _ (from : List Bool) (start : List Wanted) (m : Link) (others : List Item) (log : List Step)
+    (n : Numbering) where
   -- where fewer publishes are left
-  room_left : (first : Item) → Stands from start (first ∷ others) log n m.wanted m → count_by asks_for_ack others + length m.in_flight ≤ MAX_IN_FLIGHT
-  room_left first stands = let fewer = counted-front first others in let room = stands.room in omega (arith, fewer, room)
+  room_left : (first : Item) → Stands from start (first ∷ others) log n m.wanted m
+      → count_by asks_for_ack others + length m.in_flight ≤ MAX_IN_FLIGHT
+  room_left first stands =
+      let fewer = counted-front first others in let room = stands.room in omega (arith, fewer, room)
 
-  in_flight_few : (first : Item) → Stands from start (first ∷ others) log n m.wanted m → length m.in_flight ≤ MAX_IN_FLIGHT
+  in_flight_few : (first : Item) → Stands from start (first ∷ others) log n m.wanted m
+      → length m.in_flight ≤ MAX_IN_FLIGHT
   in_flight_few first stands = let room = stands.room in omega (arith, room)
 
   -- nothing is taken into use
-  pub stands_still : (first : Item) → Stands from start (first ∷ others) log n m.wanted m → Stands from start others (log ++ no_step ∷ []) n m.wanted m
+  pub stands_still : (first : Item) → Stands from start (first ∷ others) log n m.wanted m
+      → Stands from start others (log ++ no_step ∷ []) n m.wanted m
   stands_still first stands = record {
     wanted_is = refl;
     once = stands.once;
@@ -83,19 +108,24 @@ module _ (from : List Bool) (start : List Wanted) (m : Link) (others : List Item
   }
 
   -- a publish is in flight
-  pub stands_sent : (p : Publication) (next : ℕ) → asks_for_ack (item.Publish p) ≡ true → IsNext n next → next ≤ 65535 → Stands from start (item.Publish p ∷ others) log n m.wanted m
-      → Stands from start others (log ++ step_under (Some next) ∷ []) (record { marks = set n.marks next true; last = next }) m.wanted (sent_by m p AtLeastOnce)
+  pub stands_sent : (p : Publication) (next : ℕ) → asks_for_ack (item.Publish p) ≡ true → IsNext n next
+      → next ≤ 65535 → Stands from start (item.Publish p ∷ others) log n m.wanted m
+      → Stands from start others (log ++ step_under (Some next) ∷ [])
+      (record { marks = set n.marks next true; last = next }) m.wanted (sent_by m p AtLeastOnce)
   stands_sent p next asks follows small stands =
       let room = stands.room in
       let few = in_flight_few (item.Publish p) stands in
       let fewer = counted-front (item.Publish p) others in
-      let one : count_by asks_for_ack (item.Publish p ∷ others) ≡ 1 + count_by asks_for_ack others = fewer ∙ ap (λ b. cond b 1 0 + count_by asks_for_ack others) asks in
+      let one : count_by asks_for_ack (item.Publish p ∷ others) ≡ 1 + count_by asks_for_ack others =
+      fewer ∙ ap (λ b. cond b 1 0 + count_by asks_for_ack others) asks in
       let same = next_is m n next follows stands.marked stands.last few stands.few in
       let free = next_fresh m n next follows stands.marked stands.small few stands.few in
       let sent : List InFlight = record { packet_id = next_packet_id m; publication = p } ∷ [] in
       let longer = length-append m.in_flight sent in
       let ids : ids_in_use (m.in_flight ++ sent) m.wanted ≡ ids_of m.in_flight ++ next ∷ open_ids m.wanted =
-      ap (λ l. l ++ open_ids m.wanted) (map-append (λ (s : InFlight). s.packet_id) m.in_flight sent ∙ ap (λ id. ids_of m.in_flight ++ id ∷ []) (sym same))
+      ap (λ l. l ++ open_ids m.wanted)
+      (map-append (λ (s : InFlight). s.packet_id) m.in_flight sent
+      ∙ ap (λ id. ids_of m.in_flight ++ id ∷ []) (sym same))
       ∙ append_assoc (ids_of m.in_flight) (next ∷ []) (open_ids m.wanted) in
       record {
         wanted_is = refl;
@@ -103,17 +133,30 @@ module _ (from : List Bool) (start : List Wanted) (m : Link) (others : List Item
         few = stands.few;
         last = same;
         small = small;
-        marked = rw ids (one_between (ids_of m.in_flight) (open_ids m.wanted) n.marks next small stands.marked free);
+        marked =
+            rw ids (one_between (ids_of m.in_flight)
+            (open_ids m.wanted) n.marks next small stands.marked free);
         room = omega (arith, room, one, longer);
-        logged = logged_more from start log n.marks (set n.marks next true) m.wanted m.wanted (step_under (Some next)) stands.logged tt
-            (back_forth (ids_in_use m.in_flight m.wanted) n.marks next None small stands.marked.marked free tt)
+        logged =
+            logged_more from start log n.marks (set n.marks next true) m.wanted m.wanted
+            (step_under (Some next)) stands.logged tt
+            (back_forth (ids_in_use m.in_flight m.wanted) n.marks next None small stands.marked.marked free
+            tt)
             (back_same m.wanted next (unused_both (ids_of m.in_flight) (open_ids m.wanted) next free).1);
       }
 
   -- a SUBSCRIBE is open
-  pub stands_opened : (filter : List ℕ) (next : ℕ) → wants m.wanted filter ≡ true → IsNext n next → next ≤ 65535 → Stands from start (item.Subscribe filter ∷ others) log n m.wanted m
-      → Stands from start others (log ++ record { packet_id = Some next; former = id_for m.wanted filter } ∷ [])
-      (record { marks = forth_marks n.marks (record { packet_id = Some next; former = id_for m.wanted filter }); last = next }) (opened m.wanted filter next) (subscribe_sent m filter)
+  pub stands_opened : (filter : List ℕ) (next : ℕ) → wants m.wanted filter ≡ true → IsNext n next
+      → next ≤ 65535 → Stands from start (item.Subscribe filter ∷ others) log n m.wanted m
+      → Stands from start others (log ++ record { packet_id = Some next; former = id_for m.wanted filter }
+      ∷ [])
+      (record {
+        marks = forth_marks n.marks (record {
+          packet_id = Some next;
+          former = id_for m.wanted filter;
+        });
+        last = next;
+      }) (opened m.wanted filter next) (subscribe_sent m filter)
   stands_opened filter next wanted follows small stands =
       let few = in_flight_few (item.Subscribe filter) stands in
       let same = next_is m n next follows stands.marked stands.last few stands.few in
@@ -121,11 +164,20 @@ module _ (from : List Bool) (start : List Wanted) (m : Link) (others : List Item
       let unopened = (unused_both (ids_of m.in_flight) (open_ids m.wanted) next free).1 in
       let former = id_for m.wanted filter in
       let step : Step = record { packet_id = Some next; former = id_for m.wanted filter } in
-      let now = opened_marked (ids_of m.in_flight) m.wanted filter next n.marks small wanted stands.once stands.marked free in
+      let now =
+      opened_marked (ids_of m.in_flight) m.wanted filter next n.marks small wanted stands.once
+      stands.marked free in
       let length_is = opened_length m.wanted filter next in
       let most = stands.few in
-      subst (λ k. Stands from start others (log ++ record { packet_id = Some next; former = id_for m.wanted filter } ∷ [])
-      (record { marks = forth_marks n.marks (record { packet_id = Some next; former = id_for m.wanted filter }); last = next }) (opened m.wanted filter next)
+      subst (λ k. Stands from start others
+      (log ++ record { packet_id = Some next; former = id_for m.wanted filter } ∷ [])
+      (record {
+        marks = forth_marks n.marks (record {
+          packet_id = Some next;
+          former = id_for m.wanted filter;
+        });
+        last = next;
+      }) (opened m.wanted filter next)
       (record m { last = k; wanted = opened m.wanted filter k })) same
       (record {
         wanted_is = refl;
@@ -135,20 +187,28 @@ module _ (from : List Bool) (start : List Wanted) (m : Link) (others : List Item
         small = small;
         marked = now;
         room = room_left (item.Subscribe filter) stands;
-        logged = logged_more from start log n.marks (forth_marks n.marks step) m.wanted (opened m.wanted filter next) step stands.logged
-            (free_former (ids_of m.in_flight) (opened m.wanted filter next) (set n.marks next true) (id_for m.wanted filter) now)
-            (back_forth (ids_in_use m.in_flight m.wanted) n.marks next (id_for m.wanted filter) small stands.marked.marked free
-            (among_all (ids_of m.in_flight) (open_ids m.wanted) (id_for m.wanted filter) (id_among m.wanted filter)))
+        logged =
+            logged_more from start log n.marks (forth_marks n.marks step) m.wanted
+            (opened m.wanted filter next) step stands.logged
+            (free_former (ids_of m.in_flight) (opened m.wanted filter next) (set n.marks next true)
+            (id_for m.wanted filter) now)
+            (back_forth (ids_in_use m.in_flight m.wanted) n.marks next
+            (id_for m.wanted filter) small stands.marked.marked free
+            (among_all (ids_of m.in_flight) (open_ids m.wanted) (id_for m.wanted filter)
+            (id_among m.wanted filter)))
             (back_opened m.wanted filter next stands.once unopened);
       })
     where
-      among_all : (before ids : List ℕ) (former : Option ℕ) → AmongThem ids former → AmongThem (before ++ ids) former
+      among_all : (before ids : List ℕ) (former : Option ℕ) → AmongThem ids former
+          → AmongThem (before ++ ids) former
       among_all before ids None there = tt
       among_all before ids (Some former) there = used_right before ids former there
 
   -- an UNSUBSCRIBE uses its packet id up
-  pub stands_passed : (filter : List ℕ) (next : ℕ) → IsNext n next → next ≤ 65535 → Stands from start (item.Unsubscribe filter ∷ others) log n m.wanted m
-      → Stands from start others (log ++ step_under (Some next) ∷ []) (record { marks = n.marks; last = next }) m.wanted (unsubscribe_sent m)
+  pub stands_passed : (filter : List ℕ) (next : ℕ) → IsNext n next → next ≤ 65535
+      → Stands from start (item.Unsubscribe filter ∷ others) log n m.wanted m
+      → Stands from start others (log ++ step_under (Some next) ∷ [])
+      (record { marks = n.marks; last = next }) m.wanted (unsubscribe_sent m)
   stands_passed filter next follows small stands =
       let few = in_flight_few (item.Unsubscribe filter) stands in
       let same = next_is m n next follows stands.marked stands.last few stands.few in
@@ -162,41 +222,58 @@ module _ (from : List Bool) (start : List Wanted) (m : Link) (others : List Item
         small = small;
         marked = stands.marked;
         room = room_left (item.Unsubscribe filter) stands;
-        logged = logged_more from start log n.marks n.marks m.wanted m.wanted (step_under (Some next)) stands.logged tt
+        logged =
+            logged_more from start log n.marks n.marks m.wanted m.wanted
+            (step_under (Some next)) stands.logged tt
             (ap (λ b. set n.marks next b) (sym off) ∙ set-get_or n.marks next false)
             (back_same m.wanted next (unused_both (ids_of m.in_flight) (open_ids m.wanted) next free).1);
       }
 
   -- the link once an item left, whatever it is
   abbrev pub StandsBy : Item → Step → Link → Type 0
-  StandsBy first step now = Stands from start others (log ++ step ∷ []) (numbered n first step) (wanted_after m.wanted first step) now
+  StandsBy first step now =
+      Stands from start others (log ++ step ∷ []) (numbered n first step)
+      (wanted_after m.wanted first step) now
 
-  publish_at : (p : Publication) (q : Qos) (next : ℕ) → p.qos ≡ q → IsNext n next → next ≤ 65535 → Stands from start (item.Publish p ∷ others) log n m.wanted m
+  publish_at : (p : Publication) (q : Qos) (next : ℕ) → p.qos ≡ q → IsNext n next → next ≤ 65535
+      → Stands from start (item.Publish p ∷ others) log n m.wanted m
       → StandsBy (item.Publish p) (step_under (id_at q next)) (sent_by m p q)
   publish_at p AtMostOnce next is follows small stands = stands_still (item.Publish p) stands
-  publish_at p AtLeastOnce next is follows small stands = stands_sent p next (ap is_at_least_once is) follows small stands
+  publish_at p AtLeastOnce next is follows small stands =
+      stands_sent p next (ap is_at_least_once is) follows small stands
 
-  publish_by : (p : Publication) (o : Outcome) (next : ℕ) → IsNext n next → next ≤ 65535 → Stands from start (item.Publish p ∷ others) log n m.wanted m
+  publish_by : (p : Publication) (o : Outcome) (next : ℕ) → IsNext n next → next ≤ 65535
+      → Stands from start (item.Publish p ∷ others) log n m.wanted m
       → StandsBy (item.Publish p) (step_under (flight_id p.qos next o)) (exited m p o)
   publish_by p Allowed next follows small stands = publish_at p p.qos next refl follows small stands
   publish_by p (Denied denial) next follows small stands = stands_still (item.Publish p) stands
 
-  subscribe_by : (filter : List ℕ) (next : ℕ) (here : Bool) → wants m.wanted filter ≡ here → IsNext n next → next ≤ 65535 → Stands from start (item.Subscribe filter ∷ others) log n m.wanted m
-      → StandsBy (item.Subscribe filter) (if here then record { packet_id = Some next; former = id_for m.wanted filter } else no_step) (if here then subscribe_sent m filter else m)
+  subscribe_by : (filter : List ℕ) (next : ℕ) (here : Bool) → wants m.wanted filter ≡ here → IsNext n next
+      → next ≤ 65535 → Stands from start (item.Subscribe filter ∷ others) log n m.wanted m
+      → StandsBy (item.Subscribe filter)
+      (if here then record { packet_id = Some next; former = id_for m.wanted filter } else no_step)
+      (if here then subscribe_sent m filter else m)
   subscribe_by filter next true is follows small stands = stands_opened filter next is follows small stands
   subscribe_by filter next false is follows small stands = stands_still (item.Subscribe filter) stands
 
-  unsubscribe_by : (filter : List ℕ) (next : ℕ) (here : Bool) → IsNext n next → next ≤ 65535 → Stands from start (item.Unsubscribe filter ∷ others) log n m.wanted m
-      → StandsBy (item.Unsubscribe filter) (if here then no_step else step_under (Some next)) (if here then m else unsubscribe_sent m)
+  unsubscribe_by : (filter : List ℕ) (next : ℕ) (here : Bool) → IsNext n next → next ≤ 65535
+      → Stands from start (item.Unsubscribe filter ∷ others) log n m.wanted m
+      → StandsBy (item.Unsubscribe filter) (if here then no_step else step_under (Some next))
+      (if here then m else unsubscribe_sent m)
   unsubscribe_by filter next true follows small stands = stands_still (item.Unsubscribe filter) stands
   unsubscribe_by filter next false follows small stands = stands_passed filter next follows small stands
 
-  pub stands_more : (policy : Policy) (first : Item) (next : ℕ) → IsNext n next → next ≤ 65535 → Stands from start (first ∷ others) log n m.wanted m
+  pub stands_more : (policy : Policy) (first : Item) (next : ℕ) → IsNext n next → next ≤ 65535
+      → Stands from start (first ∷ others) log n m.wanted m
       → StandsBy first (item_step policy m.wanted next first) (item_left policy m first)
-  stands_more policy (item.Publish p) next follows small stands = publish_by p (exit policy p.origin p.name) next follows small stands
-  stands_more policy (item.Subscribe filter) next follows small stands = subscribe_by filter next (wants m.wanted filter) refl follows small stands
-  stands_more policy (item.Unsubscribe filter) next follows small stands = unsubscribe_by filter next (wants m.wanted filter) follows small stands
-  stands_more policy (item.Acknowledge packet_id) next follows small stands = stands_still (item.Acknowledge packet_id) stands
+  stands_more policy (item.Publish p) next follows small stands =
+      publish_by p (exit policy p.origin p.name) next follows small stands
+  stands_more policy (item.Subscribe filter) next follows small stands =
+      subscribe_by filter next (wants m.wanted filter) refl follows small stands
+  stands_more policy (item.Unsubscribe filter) next follows small stands =
+      unsubscribe_by filter next (wants m.wanted filter) follows small stands
+  stands_more policy (item.Acknowledge packet_id) next follows small stands =
+      stands_still (item.Acknowledge packet_id) stands
   stands_more policy item.Ping next follows small stands = stands_still item.Ping stands
 
 ids_alike : (m : Link) (q : Qos) → packet_id_by m q ≡ id_at q (next_packet_id m)
@@ -205,7 +282,9 @@ ids_alike m AtLeastOnce = refl
 
 -- what the first of the items lets out
 leaving_first : (policy : Policy) (m : Link) (first : Item) (others : List Item)
-    → leaving m (first ∷ others) (exits_of policy (first ∷ others)) ≡ item_outs policy m.wanted (next_packet_id m) first ++ leaving (item_left policy m first) others (exits_of policy others)
+    → leaving m (first ∷ others) (exits_of policy (first ∷ others))
+    ≡ item_outs policy m.wanted (next_packet_id m) first
+    ++ leaving (item_left policy m first) others (exits_of policy others)
 leaving_first policy m (item.Publish p) others =
     let o = exit policy p.origin p.name in
     ap (λ k. forwarded p k o ++ leaving (exited m p o) others (exits_of policy others)) (ids_alike m p.qos)
@@ -214,7 +293,9 @@ leaving_first policy m (item.Unsubscribe filter) others = refl
 leaving_first policy m (item.Acknowledge packet_id) others = refl
 leaving_first policy m item.Ping others = refl
 
-link_first : (policy : Policy) (m : Link) (first : Item) (others : List Item) → link_after m (first ∷ others) (exits_of policy (first ∷ others)) ≡ link_after (item_left policy m first) others (exits_of policy others)
+link_first : (policy : Policy) (m : Link) (first : Item) (others : List Item)
+    → link_after m (first ∷ others) (exits_of policy (first ∷ others))
+    ≡ link_after (item_left policy m first) others (exits_of policy others)
 link_first policy m (item.Publish p) others = refl
 link_first policy m (item.Subscribe filter) others = refl
 link_first policy m (item.Unsubscribe filter) others = refl
@@ -229,44 +310,62 @@ pinged_exited : (m : Link) (p : Publication) (o : Outcome) → (exited m p o).pi
 pinged_exited m p Allowed = pinged_sent m p p.qos
 pinged_exited m p (Denied denial) = refl
 
-pinged_if : (m a b : Link) (here : Bool) → a.pinged ≡ m.pinged → b.pinged ≡ m.pinged → (if here then a else b).pinged ≡ m.pinged
+pinged_if : (m a b : Link) (here : Bool) → a.pinged ≡ m.pinged → b.pinged ≡ m.pinged
+    → (if here then a else b).pinged ≡ m.pinged
 pinged_if m a b true first second = first
 pinged_if m a b false first second = second
 
 pinged_left : (policy : Policy) (m : Link) (first : Item) → (item_left policy m first).pinged ≡ m.pinged
 pinged_left policy m (item.Publish p) = pinged_exited m p (exit policy p.origin p.name)
-pinged_left policy m (item.Subscribe filter) = pinged_if m (subscribe_sent m filter) m (wants m.wanted filter) refl refl
-pinged_left policy m (item.Unsubscribe filter) = pinged_if m m (unsubscribe_sent m) (wants m.wanted filter) refl refl
+pinged_left policy m (item.Subscribe filter) =
+    pinged_if m (subscribe_sent m filter) m (wants m.wanted filter) refl refl
+pinged_left policy m (item.Unsubscribe filter) =
+    pinged_if m m (unsubscribe_sent m) (wants m.wanted filter) refl refl
 pinged_left policy m (item.Acknowledge packet_id) = refl
 pinged_left policy m item.Ping = refl
 
-planned_more : (policy : Policy) (from : List Bool) (link : Link) (items : List Item) (first : Item) (others : List Item) (outs : List Out) (log : List Step) (n : Numbering) (wanted : List Wanted) (next : ℕ)
+planned_more : (policy : Policy) (from : List Bool) (link : Link) (items : List Item) (first : Item)
+    (others : List Item) (outs : List Out) (log : List Step) (n : Numbering) (wanted : List Wanted) (next : ℕ)
     → IsNext n next → next ≤ 65535 → Planned policy from link items (first ∷ others) outs log n wanted
-    → Planned policy from link items others (outs ++ item_outs policy wanted next first) (log ++ item_step policy wanted next first ∷ []) (numbered n first (item_step policy wanted next first))
+    → Planned policy from link items others (outs ++ item_outs policy wanted next first)
+    (log ++ item_step policy wanted next first ∷ [])
+    (numbered n first (item_step policy wanted next first))
     (wanted_after wanted first (item_step policy wanted next first))
 planned_more policy from link items first others outs log n wanted next follows small before =
     let m = before.now in
-    let stands : Stands from link.wanted (first ∷ others) log n m.wanted m = subst (λ w. Stands from link.wanted (first ∷ others) log n w before.now) (sym before.stands.wanted_is) before.stands in
+    let stands : Stands from link.wanted (first ∷ others) log n m.wanted m =
+    subst (λ w. Stands from link.wanted (first ∷ others) log n w before.now)
+    (sym before.stands.wanted_is) before.stands in
     let room = stands.room in
     let few : length m.in_flight ≤ MAX_IN_FLIGHT = omega (arith, room) in
     let same : next ≡ next_packet_id m = next_is m n next follows stands.marked stands.last few stands.few in
-    subst (λ w. Planned policy from link items others (outs ++ item_outs policy w next first) (log ++ item_step policy w next first ∷ []) (numbered n first (item_step policy w next first))
+    subst (λ w. Planned policy from link items others (outs ++ item_outs policy w next first)
+    (log ++ item_step policy w next first ∷ []) (numbered n first (item_step policy w next first))
     (wanted_after w first (item_step policy w next first))) before.stands.wanted_is
     (record {
       now = item_left policy m first;
       stands = stands_more from link.wanted m others log n policy first next follows small stands;
       pinged = pinged_left policy m first ∙ before.pinged;
-      outs_left = append_assoc outs (item_outs policy m.wanted next first) (leaving (item_left policy m first) others (exits_of policy others))
-          ∙ ap (λ k. outs ++ (item_outs policy m.wanted k first ++ leaving (item_left policy m first) others (exits_of policy others))) same
+      outs_left =
+          append_assoc outs (item_outs policy m.wanted next first)
+          (leaving (item_left policy m first) others (exits_of policy others))
+          ∙ ap (λ k. outs ++ (item_outs policy m.wanted k first
+          ++ leaving (item_left policy m first) others (exits_of policy others))) same
           ∙ ap (λ l. outs ++ l) (sym (leaving_first policy m first others)) ∙ before.outs_left;
       link_left = sym (link_first policy m first others) ∙ before.link_left;
-      plan_left = append_assoc log (item_step policy m.wanted next first ∷ []) (plan_of policy (item_left policy m first) others)
-          ∙ ap (λ k. log ++ (item_step policy m.wanted k first ∷ plan_of policy (item_left policy m first) others)) same ∙ before.plan_left;
+      plan_left =
+          append_assoc log (item_step policy m.wanted next first ∷ [])
+          (plan_of policy (item_left policy m first) others)
+          ∙ ap (λ k. log ++ (item_step policy m.wanted k first
+          ∷ plan_of policy (item_left policy m first) others)) same ∙ before.plan_left;
     })
 
 -- nothing left yet
-pub planned_first : (policy : Policy) (s : Sending) (n : Numbering) (wanted : List Wanted) (pinged : ℕ) (outs : List Out) (log : List Step) → AreMarked (ids_in_use s.in_flight wanted) n.marks → WantedOnce wanted
-    → length wanted ≤ MAX_WANTED → n.last ≤ 65535 → load s ≤ MAX_IN_FLIGHT → outs ≡ [] → log ≡ [] → Planned policy n.marks (link_of s n wanted pinged) s.waiting s.waiting outs log n wanted
+pub planned_first : (policy : Policy) (s : Sending) (n : Numbering) (wanted : List Wanted) (pinged : ℕ)
+    (outs : List Out) (log : List Step) → AreMarked (ids_in_use s.in_flight wanted) n.marks
+    → WantedOnce wanted
+    → length wanted ≤ MAX_WANTED → n.last ≤ 65535 → load s ≤ MAX_IN_FLIGHT → outs ≡ [] → log ≡ []
+    → Planned policy n.marks (link_of s n wanted pinged) s.waiting s.waiting outs log n wanted
 planned_first policy s n wanted pinged outs log marked once few small room no_outs no_log = record {
   now = link_of s n wanted pinged;
   stands = record {
@@ -280,45 +379,64 @@ planned_first policy s n wanted pinged outs log marked once few small room no_ou
     logged = rw no_log (record { can = tt; marks_back = refl; wanted_back = refl });
   };
   pinged = refl;
-  outs_left = ap (λ l. l ++ leaving (link_of s n wanted pinged) s.waiting (exits_of policy s.waiting)) no_outs;
+  outs_left =
+      ap (λ l. l ++ leaving (link_of s n wanted pinged) s.waiting (exits_of policy s.waiting)) no_outs;
   link_left = refl;
   plan_left = ap (λ l. l ++ plan_of policy (link_of s n wanted pinged) s.waiting) no_log;
 }
 
 -- the same in the words of the code
-pub planned_step : (policy : Policy) (from : List Bool) (link : Link) (items : List Item) (first : Item) (others left : List Item) (outs outs_then : List Out) (log log_then : List Step) (step : Step)
+pub planned_step : (policy : Policy) (from : List Bool) (link : Link) (items : List Item) (first : Item)
+    (others left : List Item) (outs outs_then : List Out) (log log_then : List Step) (step : Step)
     (n then_n : Numbering) (wanted later : List Wanted) (next : ℕ)
-    → IsNext n next → next ≤ 65535 → Planned policy from link items left outs log n wanted → left ≡ first ∷ others → outs_then ≡ outs ++ item_outs policy wanted next first
-    → step ≡ item_step policy wanted next first → log_then ≡ log ++ step ∷ [] → then_n ≡ numbered n first step → later ≡ wanted_after wanted first step
+    → IsNext n next → next ≤ 65535 → Planned policy from link items left outs log n wanted
+    → left ≡ first ∷ others → outs_then ≡ outs ++ item_outs policy wanted next first
+    → step ≡ item_step policy wanted next first → log_then ≡ log ++ step ∷ [] → then_n ≡ numbered n first step
+    → later ≡ wanted_after wanted first step
     → Planned policy from link items others outs_then log_then then_n later
-planned_step policy from link items first others left outs outs_then log log_then step n then_n wanted later next follows small before left_is outs_is step_is log_is n_is wanted_is =
-    rw (outs_is, log_is, n_is, wanted_is, step_is) (planned_more policy from link items first others outs log n wanted next follows small (rw left_is at before))
+planned_step policy from link items first others left outs outs_then log log_then step n then_n wanted later
+    next follows small before left_is outs_is step_is log_is n_is wanted_is =
+    rw (outs_is, log_is, n_is, wanted_is, step_is)
+    (planned_more policy from link items first others outs log n wanted next follows small
+    (rw left_is at before))
 
-pub planned_logged : (policy : Policy) (from : List Bool) (link : Link) (items others : List Item) (outs : List Out) (log : List Step) (n : Numbering) (wanted : List Wanted)
+pub planned_logged : (policy : Policy) (from : List Bool) (link : Link) (items others : List Item)
+    (outs : List Out) (log : List Step) (n : Numbering) (wanted : List Wanted)
     → Planned policy from link items others outs log n wanted → Logged from link.wanted log n.marks wanted
-planned_logged policy from link items others outs log n wanted planned = subst (λ w. Logged from link.wanted log n.marks w) planned.stands.wanted_is planned.stands.logged
+planned_logged policy from link items others outs log n wanted planned =
+    subst (λ w. Logged from link.wanted log n.marks w) planned.stands.wanted_is planned.stands.logged
 
 -- what a step needs of the filters
-free_by : (wanted : List Wanted) (next : ℕ) (former : Option ℕ) (here : Bool) → list_any (is_open next) wanted ≡ false
+free_by : (wanted : List Wanted) (next : ℕ) (former : Option ℕ) (here : Bool)
+    → list_any (is_open next) wanted ≡ false
     → IsFree wanted (if here then record { packet_id = Some next; former = former } else no_step).packet_id
-    × ((if here then record { packet_id = Some next; former = former } else no_step).packet_id ≡ None → (if here then record { packet_id = Some next; former = former } else no_step) ≡ no_step)
+    × ((if here then record { packet_id = Some next; former = former } else no_step).packet_id ≡ None
+    → (if here then record { packet_id = Some next; former = former } else no_step) ≡ no_step)
 free_by wanted next former true free = (free, λ none. absurd (cc))
 free_by wanted next former false free = (tt, λ none. refl)
 
-step_is : (policy : Policy) (wanted : List Wanted) (next : ℕ) (first : Item) → list_any (is_open next) wanted ≡ false → IsStep wanted first (item_step policy wanted next first)
+step_is : (policy : Policy) (wanted : List Wanted) (next : ℕ) (first : Item)
+    → list_any (is_open next) wanted ≡ false → IsStep wanted first (item_step policy wanted next first)
 step_is policy wanted next (item.Publish p) free = refl
-step_is policy wanted next (item.Subscribe filter) free = free_by wanted next (id_for wanted filter) (wants wanted filter) free
+step_is policy wanted next (item.Subscribe filter) free =
+    free_by wanted next (id_for wanted filter) (wants wanted filter) free
 step_is policy wanted next (item.Unsubscribe filter) free = tt
 step_is policy wanted next (item.Acknowledge packet_id) free = refl
 step_is policy wanted next item.Ping free = refl
 
-pub planned_free : (policy : Policy) (from : List Bool) (link : Link) (items others : List Item) (outs : List Out) (log : List Step) (n : Numbering) (wanted : List Wanted) (next : ℕ) (first : Item) (step : Step)
-    → IsNext n next → Planned policy from link items others outs log n wanted → step ≡ item_step policy wanted next first → IsStep wanted first step
+pub planned_free : (policy : Policy) (from : List Bool) (link : Link) (items others : List Item)
+    (outs : List Out) (log : List Step) (n : Numbering) (wanted : List Wanted) (next : ℕ) (first : Item)
+    (step : Step)
+    → IsNext n next → Planned policy from link items others outs log n wanted
+    → step ≡ item_step policy wanted next first → IsStep wanted first step
 planned_free policy from link items others outs log n wanted next first step follows planned is =
     let m = planned.now in
     let stands = planned.stands in
     let room = stands.room in
     let few : length m.in_flight ≤ MAX_IN_FLIGHT = omega (arith, room) in
-    let free : is_used (ids_in_use m.in_flight m.wanted) next ≡ false = next_fresh m n next follows stands.marked stands.small few stands.few in
-    let shut : list_any (is_open next) m.wanted ≡ false = fresh_open (ids_of m.in_flight) m.wanted next free in
-    rw is (step_is policy wanted next first (subst (λ w. list_any (is_open next) w ≡ false) stands.wanted_is shut))
+    let free : is_used (ids_in_use m.in_flight m.wanted) next ≡ false =
+    next_fresh m n next follows stands.marked stands.small few stands.few in
+    let shut : list_any (is_open next) m.wanted ≡ false =
+    fresh_open (ids_of m.in_flight) m.wanted next free in
+    rw is (step_is policy wanted next first
+    (subst (λ w. list_any (is_open next) w ≡ false) stands.wanted_is shut))

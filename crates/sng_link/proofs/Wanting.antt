@@ -1,5 +1,6 @@
 -- What a SUBSCRIBE that is sent makes of the filters and of the marks, and how it is taken back.
-use Rattle.std.proofs.Common.{Bor, arith, ◌≡◌, ℕ, ◌≤◌, length, zero, suc, Bool, true, false, ◌||◌, List, [], ◌∷◌, ◌++◌, set, cond, if◌then◌else◌, refl, sym, ◌∙◌, ap, true≢false}
+use Rattle.std.proofs.Common.{Bor, arith, ◌≡◌, ℕ, ◌≤◌, length, zero, suc, Bool, true, false, ◌||◌, List, []}
+use Rattle.std.proofs.Common.{◌∷◌, ◌++◌, set, cond, if◌then◌else◌, refl, sym, ◌∙◌, ap, true≢false}
 use Rattle.std.specs.Prelude.{Option, Some, None}
 use Rattle.std.specs.List.{list_any, find}
 use Rattle.std.specs.Option.{is_some, option_copied, option_map}
@@ -9,25 +10,30 @@ use Rattle.std.proofs.lemmas.List.{append_assoc}
 use Rattle.std.proofs.lemmas.Slice.Eq.{bytes_eq-Decides}
 use Rattle.sng_outbox.specs.PacketIds.{is_id, is_used, is_marked}
 use Rattle.sng_history.specs.Good.{WantedOnce}
-use Rattle.sng_history.specs.Links.{Wanted, wants, opened, closed, open_id, open_ids, has_id, is_filter_of, is_open}
+use Rattle.sng_history.specs.Links.{Wanted, wants, opened, closed, open_id, open_ids, has_id, is_filter_of}
+use Rattle.sng_history.specs.Links.{is_open}
 use Rattle.sng_history.specs.Packets.{filter_open}
 use Rattle.sng_history.specs.State.{with_wanted}
 use Rattle.sng_wanted.specs.Filters.{reopened, without_wanted, id_for, IsFree}
 use Rattle.sng_link.specs.Flights.{AreMarked}
 use Rattle.sng_link.specs.Steps.{marked}
-use Rattle.sng_link.proofs.Marks.{neither, one_between, one_less, distinct_less, unused_both, or_true, AmongThem}
+use Rattle.sng_link.proofs.Marks.{neither, one_between, one_less, distinct_less, unused_both, or_true}
+use Rattle.sng_link.proofs.Marks.{AmongThem}
 
 -- a packet id is open where it is one of the open ones
-open_by : (id : ℕ) (ids : List ℕ) (o : Option ℕ) (later : Bool) → later ≡ is_used ids id → (has_id id o || later) ≡ is_used (open_id o ++ ids) id
+open_by : (id : ℕ) (ids : List ℕ) (o : Option ℕ) (later : Bool) → later ≡ is_used ids id
+    → (has_id id o || later) ≡ is_used (open_id o ++ ids) id
 open_by id ids None later is = is
 open_by id ids (Some used) later is = ap (λ b. is_id id used || b) is
 
 pub open_used : (wanted : List Wanted) (id : ℕ) → list_any (is_open id) wanted ≡ is_used (open_ids wanted) id
 open_used [] id = refl
-open_used (w ∷ wanted) id = open_by id (open_ids wanted) w.open_id (list_any (is_open id) wanted) (open_used wanted id)
+open_used (w ∷ wanted) id =
+    open_by id (open_ids wanted) w.open_id (list_any (is_open id) wanted) (open_used wanted id)
 
 -- filters that are not wanted
-no_opened : (wanted : List Wanted) (text : List ℕ) (id : ℕ) → wants wanted text ≡ false → opened wanted text id ≡ wanted
+no_opened : (wanted : List Wanted) (text : List ℕ) (id : ℕ) → wants wanted text ≡ false
+    → opened wanted text id ≡ wanted
 no_opened [] text id none = refl
 no_opened (w ∷ wanted) text id none =
     let both = neither (is_filter_of text w) (wants wanted text) none in
@@ -37,13 +43,16 @@ same_text : (a b : List ℕ) → bytes_eq a b ≡ true → a ≡ b
 same_text a b is = (bytes_eq-Decides a b).0 is
 
 -- the others are of other filters
-others_differ : (w : Wanted) (wanted : List Wanted) (text : List ℕ) → WantedOnce (w ∷ wanted) → is_filter_of text w ≡ true → wants wanted text ≡ false
+others_differ : (w : Wanted) (wanted : List Wanted) (text : List ℕ) → WantedOnce (w ∷ wanted)
+    → is_filter_of text w ≡ true → wants wanted text ≡ false
 others_differ w wanted text once here = rw (same_text text w.filter here) once.0
 
-id_some : (text : List ℕ) (w : Wanted) (wanted : List Wanted) → is_filter_of text w ≡ true → id_for (w ∷ wanted) text ≡ w.open_id
+id_some : (text : List ℕ) (w : Wanted) (wanted : List Wanted) → is_filter_of text w ≡ true
+    → id_for (w ∷ wanted) text ≡ w.open_id
 id_some text w wanted here = rw here refl
 
-id_later : (text : List ℕ) (w : Wanted) (wanted : List Wanted) → is_filter_of text w ≡ false → id_for (w ∷ wanted) text ≡ id_for wanted text
+id_later : (text : List ℕ) (w : Wanted) (wanted : List Wanted) → is_filter_of text w ≡ false
+    → id_for (w ∷ wanted) text ≡ id_for wanted text
 id_later text w wanted here = rw here refl
 
 -- the packet id of the filter's open SUBSCRIBE is one of the open ones
@@ -55,95 +64,128 @@ id_among (w ∷ wanted) text = by (is_filter_of text w) refl (id_among wanted te
     here_used None ids = tt
     here_used (Some used) ids = rw (eq-eqb used used refl) refl
 
-    later_used : (o former : Option ℕ) (ids : List ℕ) → AmongThem ids former → AmongThem (open_id o ++ ids) former
+    later_used : (o former : Option ℕ) (ids : List ℕ) → AmongThem ids former
+        → AmongThem (open_id o ++ ids) former
     later_used o None ids there = tt
     later_used None (Some former) ids there = there
     later_used (Some used) (Some former) ids there = rw there (or_true (is_id former used))
 
-    by : (here : Bool) → is_filter_of text w ≡ here → AmongThem (open_ids wanted) (id_for wanted text) → AmongThem (open_ids (w ∷ wanted)) (id_for (w ∷ wanted) text)
+    by : (here : Bool) → is_filter_of text w ≡ here → AmongThem (open_ids wanted) (id_for wanted text)
+        → AmongThem (open_ids (w ∷ wanted)) (id_for (w ∷ wanted) text)
     by true is there = rw (id_some text w wanted is) (here_used w.open_id (open_ids wanted))
-    by false is there = rw (id_later text w wanted is) (later_used w.open_id (id_for wanted text) (open_ids wanted) there)
+    by false is there =
+        rw (id_later text w wanted is) (later_used w.open_id (id_for wanted text) (open_ids wanted) there)
 
 -- one that is open for none
-unopened : (wanted : List Wanted) (id : ℕ) (former : Option ℕ) → is_used (open_ids wanted) id ≡ false → reopened wanted id former ≡ wanted
+unopened : (wanted : List Wanted) (id : ℕ) (former : Option ℕ) → is_used (open_ids wanted) id ≡ false
+    → reopened wanted id former ≡ wanted
 unopened [] id former free = refl
 unopened (w ∷ wanted) id former free =
     let none : (is_open id w || list_any (is_open id) wanted) ≡ false = open_used (w ∷ wanted) id ∙ free in
     let both = neither (is_open id w) (list_any (is_open id) wanted) none in
     rw both.0 (ap (λ l. w ∷ l) (unopened wanted id former (sym (open_used wanted id) ∙ both.1)))
 
-pub back_same : (wanted : List Wanted) (id : ℕ) → is_used (open_ids wanted) id ≡ false → reopened wanted id None ≡ wanted
+pub back_same : (wanted : List Wanted) (id : ℕ) → is_used (open_ids wanted) id ≡ false
+    → reopened wanted id None ≡ wanted
 back_same wanted id free = unopened wanted id None free
 
 -- a SUBSCRIBE that is taken back
-pub back_opened : (wanted : List Wanted) (text : List ℕ) (id : ℕ) → WantedOnce wanted → is_used (open_ids wanted) id ≡ false → reopened (opened wanted text id) id (id_for wanted text) ≡ wanted
+pub back_opened : (wanted : List Wanted) (text : List ℕ) (id : ℕ) → WantedOnce wanted
+    → is_used (open_ids wanted) id ≡ false → reopened (opened wanted text id) id (id_for wanted text) ≡ wanted
 back_opened [] text id once free = refl
-back_opened (w ∷ wanted) text id once free = by (is_filter_of text w) refl (λ less. back_opened wanted text id once.1 less)
+back_opened (w ∷ wanted) text id once free =
+    by (is_filter_of text w) refl (λ less. back_opened wanted text id once.1 less)
   where
-    by : (here : Bool) → is_filter_of text w ≡ here → (is_used (open_ids wanted) id ≡ false → reopened (opened wanted text id) id (id_for wanted text) ≡ wanted)
+    by : (here : Bool) → is_filter_of text w ≡ here
+        → (is_used (open_ids wanted) id ≡ false
+        → reopened (opened wanted text id) id (id_for wanted text) ≡ wanted)
         → reopened (opened (w ∷ wanted) text id) id (id_for (w ∷ wanted) text) ≡ w ∷ wanted
     by true is later =
-        let none : (is_open id w || list_any (is_open id) wanted) ≡ false = open_used (w ∷ wanted) id ∙ free in
+        let none : (is_open id w || list_any (is_open id) wanted) ≡ false =
+        open_used (w ∷ wanted) id ∙ free in
         let both = neither (is_open id w) (list_any (is_open id) wanted) none in
         let less : is_used (open_ids wanted) id ≡ false = sym (open_used wanted id) ∙ both.1 in
         let rest = no_opened wanted text id (others_differ w wanted text once is) in
         ap (λ former. reopened (opened (w ∷ wanted) text id) id former) (id_some text w wanted is)
         ∙ (rw (is, rest, eq-eqb id id refl) (ap (λ l. w ∷ l) (unopened wanted id w.open_id less)))
     by false is later =
-        let none : (is_open id w || list_any (is_open id) wanted) ≡ false = open_used (w ∷ wanted) id ∙ free in
+        let none : (is_open id w || list_any (is_open id) wanted) ≡ false =
+        open_used (w ∷ wanted) id ∙ free in
         let both = neither (is_open id w) (list_any (is_open id) wanted) none in
         let less : is_used (open_ids wanted) id ≡ false = sym (open_used wanted id) ∙ both.1 in
         ap (λ former. reopened (opened (w ∷ wanted) text id) id former) (id_later text w wanted is)
         ∙ (rw (is, both.0) (ap (λ l. w ∷ l) (later less)))
 
 -- the marks of the packet ids once a SUBSCRIBE was sent
-taken_by : (before ids : List ℕ) (marks : List Bool) (id : ℕ) (former : Option ℕ) → id ≤ 65535 → AreMarked (before ++ (open_id former ++ ids)) marks
-    → is_used (before ++ (open_id former ++ ids)) id ≡ false → AreMarked (before ++ id ∷ ids) (marked (set marks id true) former false)
+taken_by : (before ids : List ℕ) (marks : List Bool) (id : ℕ) (former : Option ℕ) → id ≤ 65535
+    → AreMarked (before ++ (open_id former ++ ids)) marks
+    → is_used (before ++ (open_id former ++ ids)) id ≡ false
+    → AreMarked (before ++ id ∷ ids) (marked (set marks id true) former false)
 taken_by before ids marks id None small are free = one_between before ids marks id small are free
 taken_by before ids marks id (Some former) small are free =
-    let more : AreMarked (before ++ id ∷ former ∷ ids) (set marks id true) = one_between before (former ∷ ids) marks id small are free in
-    let split : before ++ id ∷ former ∷ ids ≡ (before ++ id ∷ []) ++ former ∷ ids = sym (append_assoc before (id ∷ []) (former ∷ ids)) in
-    let less : AreMarked ((before ++ id ∷ []) ++ ids) (set (set marks id true) former false) = one_less (before ++ id ∷ []) ids (set marks id true) former (rw split at more) in
+    let more : AreMarked (before ++ id ∷ former ∷ ids) (set marks id true) =
+    one_between before (former ∷ ids) marks id small are free in
+    let split : before ++ id ∷ former ∷ ids ≡ (before ++ id ∷ []) ++ former ∷ ids =
+    sym (append_assoc before (id ∷ []) (former ∷ ids)) in
+    let less : AreMarked ((before ++ id ∷ []) ++ ids) (set (set marks id true) former false) =
+    one_less (before ++ id ∷ []) ids (set marks id true) former (rw split at more) in
     rw (← append_assoc before (id ∷ []) ids) less
 
-pub opened_marked : (before : List ℕ) (wanted : List Wanted) (text : List ℕ) (id : ℕ) (marks : List Bool) → id ≤ 65535 → wants wanted text ≡ true → WantedOnce wanted
+pub opened_marked : (before : List ℕ) (wanted : List Wanted) (text : List ℕ) (id : ℕ) (marks : List Bool)
+    → id ≤ 65535 → wants wanted text ≡ true → WantedOnce wanted
     → AreMarked (before ++ open_ids wanted) marks → is_used (before ++ open_ids wanted) id ≡ false
-    → AreMarked (before ++ open_ids (opened wanted text id)) (marked (set marks id true) (id_for wanted text) false)
+    → AreMarked (before ++ open_ids (opened wanted text id))
+    (marked (set marks id true) (id_for wanted text) false)
 opened_marked before [] text id marks small there once are free = absurd (true≢false (sym there))
 opened_marked before (w ∷ wanted) text id marks small there once are free =
-    by (is_filter_of text w) refl (λ there are free. opened_marked (before ++ open_id w.open_id) wanted text id marks small there once.1 are free)
+    by (is_filter_of text w) refl
+    (λ there are free. opened_marked
+    (before ++ open_id w.open_id) wanted text id marks small there once.1 are free)
   where
     by : (here : Bool) → is_filter_of text w ≡ here
-        → (wants wanted text ≡ true → AreMarked ((before ++ open_id w.open_id) ++ open_ids wanted) marks → is_used ((before ++ open_id w.open_id) ++ open_ids wanted) id ≡ false
-        → AreMarked ((before ++ open_id w.open_id) ++ open_ids (opened wanted text id)) (marked (set marks id true) (id_for wanted text) false))
-        → AreMarked (before ++ open_ids (opened (w ∷ wanted) text id)) (marked (set marks id true) (id_for (w ∷ wanted) text) false)
+        → (wants wanted text ≡ true → AreMarked ((before ++ open_id w.open_id) ++ open_ids wanted) marks
+        → is_used ((before ++ open_id w.open_id) ++ open_ids wanted) id ≡ false
+        → AreMarked ((before ++ open_id w.open_id) ++ open_ids (opened wanted text id))
+        (marked (set marks id true) (id_for wanted text) false))
+        → AreMarked (before ++ open_ids (opened (w ∷ wanted) text id))
+        (marked (set marks id true) (id_for (w ∷ wanted) text) false)
     by true is later =
         let rest = no_opened wanted text id (others_differ w wanted text once is) in
-        rw (id_some text w wanted is, is, rest) (taken_by before (open_ids wanted) marks id w.open_id small are free)
+        rw (id_some text w wanted is, is, rest)
+        (taken_by before (open_ids wanted) marks id w.open_id small are free)
     by false is later =
         let more : wants wanted text ≡ true = rw is at there in
         let split = append_assoc before (open_id w.open_id) (open_ids wanted) in
-        rw (id_later text w wanted is, is, ← append_assoc before (open_id w.open_id) (open_ids (opened wanted text id))) (later more (rw (← split) at are) (rw (← split) at free))
+        rw (
+          id_later text w wanted is,
+          is,
+          ← append_assoc before (open_id w.open_id) (open_ids (opened wanted text id)),
+        ) (later more (rw (← split) at are) (rw (← split) at free))
 
 -- the filters stay
-pub opened_wants : (wanted : List Wanted) (text other : List ℕ) (id : ℕ) → wants (opened wanted text id) other ≡ wants wanted other
+pub opened_wants : (wanted : List Wanted) (text other : List ℕ) (id : ℕ)
+    → wants (opened wanted text id) other ≡ wants wanted other
 opened_wants [] text other id = refl
 opened_wants (w ∷ wanted) text other id = by (is_filter_of text w) (opened_wants wanted text other id)
   where
     by : (here : Bool) → wants (opened wanted text id) other ≡ wants wanted other
-        → (is_filter_of other (if here then record w { open_id = Some id } else w) || wants (opened wanted text id) other) ≡ (is_filter_of other w || wants wanted other)
+        → (is_filter_of other (if here then record w { open_id = Some id } else w)
+        || wants (opened wanted text id) other) ≡ (is_filter_of other w || wants wanted other)
     by true later = ap (λ b. is_filter_of other w || b) later
     by false later = ap (λ b. is_filter_of other w || b) later
 
-pub opened_once : (wanted : List Wanted) (text : List ℕ) (id : ℕ) → WantedOnce wanted → WantedOnce (opened wanted text id)
+pub opened_once : (wanted : List Wanted) (text : List ℕ) (id : ℕ) → WantedOnce wanted
+    → WantedOnce (opened wanted text id)
 opened_once [] text id once = tt
 opened_once (w ∷ wanted) text id once = by (is_filter_of text w) (opened_once wanted text id once.1)
   where
-    by : (here : Bool) → WantedOnce (opened wanted text id) → WantedOnce ((if here then record w { open_id = Some id } else w) ∷ opened wanted text id)
+    by : (here : Bool) → WantedOnce (opened wanted text id)
+        → WantedOnce ((if here then record w { open_id = Some id } else w) ∷ opened wanted text id)
     by true later = (opened_wants wanted text w.filter id ∙ once.0, later)
     by false later = (opened_wants wanted text w.filter id ∙ once.0, later)
 
-pub opened_length : (wanted : List Wanted) (text : List ℕ) (id : ℕ) → length (opened wanted text id) ≡ length wanted
+pub opened_length : (wanted : List Wanted) (text : List ℕ) (id : ℕ)
+    → length (opened wanted text id) ≡ length wanted
 opened_length [] text id = refl
 opened_length (w ∷ wanted) text id = ap suc (opened_length wanted text id)
 
@@ -153,14 +195,16 @@ set_off (m ∷ marks) zero = refl
 set_off (m ∷ marks) (suc id) = set_off marks id
 
 -- what is marked no more is free
-pub free_former : (before : List ℕ) (wanted : List Wanted) (marks : List Bool) (former : Option ℕ) → AreMarked (before ++ open_ids wanted) (marked marks former false) → IsFree wanted former
+pub free_former : (before : List ℕ) (wanted : List Wanted) (marks : List Bool) (former : Option ℕ)
+    → AreMarked (before ++ open_ids wanted) (marked marks former false) → IsFree wanted former
 free_former before wanted marks None are = tt
 free_former before wanted marks (Some former) are =
     let unmarked : is_marked (set marks former false) former ≡ false = set_off marks former in
     let free = unused_both before (open_ids wanted) former (sym (are.marked.same former) ∙ unmarked) in
     open_used wanted former ∙ free.1
 
-pub fresh_open : (before : List ℕ) (wanted : List Wanted) (id : ℕ) → is_used (before ++ open_ids wanted) id ≡ false → list_any (is_open id) wanted ≡ false
+pub fresh_open : (before : List ℕ) (wanted : List Wanted) (id : ℕ)
+    → is_used (before ++ open_ids wanted) id ≡ false → list_any (is_open id) wanted ≡ false
 fresh_open before wanted id free = open_used wanted id ∙ (unused_both before (open_ids wanted) id free).1
 
 -- there are no more of them than filters
@@ -168,43 +212,62 @@ pub few_open : (wanted : List Wanted) → length (open_ids wanted) ≤ length wa
 few_open [] = omega arith
 few_open (w ∷ wanted) = by w.open_id (few_open wanted)
   where
-    by : (o : Option ℕ) → length (open_ids wanted) ≤ length wanted → length (open_id o ++ open_ids wanted) ≤ suc (length wanted)
+    by : (o : Option ℕ) → length (open_ids wanted) ≤ length wanted
+        → length (open_id o ++ open_ids wanted) ≤ suc (length wanted)
     by None later = omega (arith, later)
     by (Some used) later = omega (arith, later)
 
-no_without : (wanted : List Wanted) (text : List ℕ) → wants wanted text ≡ false → without_wanted wanted text ≡ wanted
+no_without : (wanted : List Wanted) (text : List ℕ) → wants wanted text ≡ false
+    → without_wanted wanted text ≡ wanted
 no_without [] text none = refl
 no_without (w ∷ wanted) text none =
     let both = neither (is_filter_of text w) (wants wanted text) none in
     rw both.0 (ap (λ l. w ∷ l) (no_without wanted text both.1))
 
 -- the marks once a filter is wanted no more
-freed_by : (before ids : List ℕ) (marks : List Bool) (former : Option ℕ) → AreMarked (before ++ (open_id former ++ ids)) marks → AreMarked (before ++ ids) (marked marks former false)
+freed_by : (before ids : List ℕ) (marks : List Bool) (former : Option ℕ)
+    → AreMarked (before ++ (open_id former ++ ids)) marks
+    → AreMarked (before ++ ids) (marked marks former false)
 freed_by before ids marks None are = are
 freed_by before ids marks (Some former) are = one_less before ids marks former are
 
-pub without_marked : (before : List ℕ) (wanted : List Wanted) (text : List ℕ) (marks : List Bool) → WantedOnce wanted → AreMarked (before ++ open_ids wanted) marks
+pub without_marked : (before : List ℕ) (wanted : List Wanted) (text : List ℕ) (marks : List Bool)
+    → WantedOnce wanted → AreMarked (before ++ open_ids wanted) marks
     → AreMarked (before ++ open_ids (without_wanted wanted text)) (marked marks (id_for wanted text) false)
 without_marked before [] text marks once are = are
-without_marked before (w ∷ wanted) text marks once are = by (is_filter_of text w) refl (λ are. without_marked (before ++ open_id w.open_id) wanted text marks once.1 are)
+without_marked before (w ∷ wanted) text marks once are =
+    by (is_filter_of text w) refl
+    (λ are. without_marked (before ++ open_id w.open_id) wanted text marks once.1 are)
   where
     by : (here : Bool) → is_filter_of text w ≡ here
-        → (AreMarked ((before ++ open_id w.open_id) ++ open_ids wanted) marks → AreMarked ((before ++ open_id w.open_id) ++ open_ids (without_wanted wanted text)) (marked marks (id_for wanted text) false))
-        → AreMarked (before ++ open_ids (without_wanted (w ∷ wanted) text)) (marked marks (id_for (w ∷ wanted) text) false)
+        → (AreMarked ((before ++ open_id w.open_id) ++ open_ids wanted) marks
+        → AreMarked ((before ++ open_id w.open_id) ++ open_ids (without_wanted wanted text))
+        (marked marks (id_for wanted text) false))
+        → AreMarked (before ++ open_ids (without_wanted (w ∷ wanted) text))
+        (marked marks (id_for (w ∷ wanted) text) false)
     by true is later =
         let rest = no_without wanted text (others_differ w wanted text once is) in
         rw (id_some text w wanted is, is, rest) (freed_by before (open_ids wanted) marks w.open_id are)
     by false is later =
-        rw (id_later text w wanted is, is, ← append_assoc before (open_id w.open_id) (open_ids (without_wanted wanted text)))
+        rw (
+          id_later text w wanted is,
+          is,
+          ← append_assoc before (open_id w.open_id) (open_ids (without_wanted wanted text)),
+        )
         (later (rw (← append_assoc before (open_id w.open_id) (open_ids wanted)) at are))
 
 -- the marks once a SUBSCRIBE was answered
-pub closed_marked : (before : List ℕ) (wanted : List Wanted) (id : ℕ) (marks : List Bool) → list_any (is_open id) wanted ≡ true → AreMarked (before ++ open_ids wanted) marks
+pub closed_marked : (before : List ℕ) (wanted : List Wanted) (id : ℕ) (marks : List Bool)
+    → list_any (is_open id) wanted ≡ true → AreMarked (before ++ open_ids wanted) marks
     → AreMarked (before ++ open_ids (closed wanted id)) (set marks id false)
 closed_marked before [] id marks there are = absurd (true≢false (sym there))
-closed_marked before (w ∷ wanted) id marks there are = by w.open_id refl (has_id id w.open_id) refl (λ there are. closed_marked (before ++ open_id w.open_id) wanted id marks there are)
+closed_marked before (w ∷ wanted) id marks there are =
+    by w.open_id refl (has_id id w.open_id) refl
+    (λ there are. closed_marked (before ++ open_id w.open_id) wanted id marks there are)
   where
-    closed_here : (o : Option ℕ) → has_id id o ≡ true → AreMarked (before ++ (open_id o ++ open_ids wanted)) marks → AreMarked (before ++ open_ids (closed wanted id)) (set marks id false)
+    closed_here : (o : Option ℕ) → has_id id o ≡ true
+        → AreMarked (before ++ (open_id o ++ open_ids wanted)) marks
+        → AreMarked (before ++ open_ids (closed wanted id)) (set marks id false)
     closed_here None is are = absurd (true≢false (sym is))
     closed_here (Some used) is are =
         let same : used ≡ id = eqb-true used id is in
@@ -214,42 +277,53 @@ closed_marked before (w ∷ wanted) id marks there are = by w.open_id refl (has_
         rw none (one_less before (open_ids wanted) marks id are_id)
 
     by : (o : Option ℕ) → w.open_id ≡ o → (here : Bool) → has_id id w.open_id ≡ here
-        → (list_any (is_open id) wanted ≡ true → AreMarked ((before ++ open_id w.open_id) ++ open_ids wanted) marks → AreMarked ((before ++ open_id w.open_id) ++ open_ids (closed wanted id)) (set marks id false))
+        → (list_any (is_open id) wanted ≡ true
+        → AreMarked ((before ++ open_id w.open_id) ++ open_ids wanted) marks
+        → AreMarked ((before ++ open_id w.open_id) ++ open_ids (closed wanted id))
+        (set marks id false))
         → AreMarked (before ++ open_ids (closed (w ∷ wanted) id)) (set marks id false)
     by o o_is true is later = rw is (closed_here w.open_id is are)
     by o o_is false is later =
         let more : list_any (is_open id) wanted ≡ true = rw is at there in
-        rw (is, ← append_assoc before (open_id w.open_id) (open_ids (closed wanted id))) (later more (rw (← append_assoc before (open_id w.open_id) (open_ids wanted)) at are))
+        rw (is, ← append_assoc before (open_id w.open_id) (open_ids (closed wanted id)))
+        (later more (rw (← append_assoc before (open_id w.open_id) (open_ids wanted)) at are))
 
 -- where none is open with the packet id
-pub none_closed : (wanted : List Wanted) (id : ℕ) → list_any (is_open id) wanted ≡ false → closed wanted id ≡ wanted
+pub none_closed : (wanted : List Wanted) (id : ℕ) → list_any (is_open id) wanted ≡ false
+    → closed wanted id ≡ wanted
 none_closed wanted id none = unopened wanted id None (sym (open_used wanted id) ∙ none)
 
-pub open_any : (wanted : List Wanted) (id : ℕ) → is_some (filter_open wanted id) ≡ list_any (is_open id) wanted
+pub open_any : (wanted : List Wanted) (id : ℕ)
+    → is_some (filter_open wanted id) ≡ list_any (is_open id) wanted
 open_any [] id = refl
 open_any (w ∷ wanted) id = by (is_open id w) (open_any wanted id)
   where
     by : (here : Bool) → is_some (filter_open wanted id) ≡ list_any (is_open id) wanted
-        → is_some (option_map (λ (w : Wanted). w.filter) (cond here (Some w) (find (is_open id) wanted))) ≡ (here || list_any (is_open id) wanted)
+        → is_some (option_map (λ (w : Wanted). w.filter) (cond here (Some w) (find (is_open id) wanted)))
+        ≡ (here || list_any (is_open id) wanted)
     by true later = refl
     by false later = later
 
 -- one more that is wanted has no open SUBSCRIBE
-open_last : (wanted : List Wanted) (text : List ℕ) → open_ids (wanted ++ record { filter = text; open_id = None } ∷ []) ≡ open_ids wanted
+open_last : (wanted : List Wanted) (text : List ℕ)
+    → open_ids (wanted ++ record { filter = text; open_id = None } ∷ []) ≡ open_ids wanted
 open_last [] text = refl
 open_last (w ∷ wanted) text = ap (λ l. open_id w.open_id ++ l) (open_last wanted text)
 
 pub open_with : (wanted : List Wanted) (text : List ℕ) → open_ids (with_wanted wanted text) ≡ open_ids wanted
 open_with wanted text = by (wants wanted text)
   where
-    by : (here : Bool) → open_ids (if here then wanted else wanted ++ record { filter = text; open_id = None } ∷ []) ≡ open_ids wanted
+    by : (here : Bool) → open_ids
+        (if here then wanted else wanted ++ record { filter = text; open_id = None } ∷ []) ≡ open_ids wanted
     by true = refl
     by false = open_last wanted text
 
 -- what a look-up hands out is there where what it is of is
-pub some_copied : (o : Option (Bor (List ℕ))) (wanted : List Wanted) (id : ℕ) → option_copied o ≡ filter_open wanted id → is_some o ≡ list_any (is_open id) wanted
+pub some_copied : (o : Option (Bor (List ℕ))) (wanted : List Wanted) (id : ℕ)
+    → option_copied o ≡ filter_open wanted id → is_some o ≡ list_any (is_open id) wanted
 some_copied o wanted id is = by o is ∙ open_any wanted id
   where
-    by : (o : Option (Bor (List ℕ))) → option_copied o ≡ filter_open wanted id → is_some o ≡ is_some (filter_open wanted id)
+    by : (o : Option (Bor (List ℕ))) → option_copied o ≡ filter_open wanted id
+        → is_some o ≡ is_some (filter_open wanted id)
     by None is = ap is_some is
     by (Some x) is = ap is_some is

@@ -42,10 +42,12 @@ IsBack wanted (Some packet_id) former = IsFree wanted former
 -- they can be taken back
 abbrev pub CanUndo : List Wanted → List Step → Type 0
 CanUndo wanted [] = Unit {0}
-CanUndo wanted (step ∷ earlier) = IsBack wanted step.packet_id step.former × CanUndo (back_wanted wanted step) earlier
+CanUndo wanted (step ∷ earlier) =
+    IsBack wanted step.packet_id step.former × CanUndo (back_wanted wanted step) earlier
 
 -- taken back, the steps of the log, the newest last, lead to where they began
-pub record Logged (from : List Bool) (first : List Wanted) (log : List Step) (marks : List Bool) (wanted : List Wanted) : Type 0 where
+pub record Logged (from : List Bool) (first : List Wanted) (log : List Step) (marks : List Bool)
+    (wanted : List Wanted) : Type 0 where
   pub can : CanUndo wanted (reverse log)
   pub marks_back : undone_marks marks (reverse log) ≡ from
   pub wanted_back : undone_wanted wanted (reverse log) ≡ first

@@ -52,17 +52,21 @@ step_under packet_id = record { packet_id = packet_id; former = None }
 -- what an item lets out where these filters are wanted and this is the next packet id
 abbrev pub item_outs : Policy → List Wanted → ℕ → Item → List Out
 item_outs policy wanted next (item.Publish p) = forwarded p (id_at p.qos next) (exit policy p.origin p.name)
-item_outs policy wanted next (item.Subscribe filter) = if wants wanted filter then subscribe_packet next filter ∷ [] else []
-item_outs policy wanted next (item.Unsubscribe filter) = if wants wanted filter then [] else unsubscribe_packet next filter ∷ []
+item_outs policy wanted next (item.Subscribe filter) =
+    if wants wanted filter then subscribe_packet next filter ∷ [] else []
+item_outs policy wanted next (item.Unsubscribe filter) =
+    if wants wanted filter then [] else unsubscribe_packet next filter ∷ []
 item_outs policy wanted next (item.Acknowledge packet_id) = acknowledged packet_id ∷ []
 item_outs policy wanted next item.Ping = pinging ∷ []
 
 -- what it takes into use
 abbrev pub item_step : Policy → List Wanted → ℕ → Item → Step
-item_step policy wanted next (item.Publish p) = step_under (flight_id p.qos next (exit policy p.origin p.name))
+item_step policy wanted next (item.Publish p) =
+    step_under (flight_id p.qos next (exit policy p.origin p.name))
 item_step policy wanted next (item.Subscribe filter) =
     if wants wanted filter then record { packet_id = Some next; former = id_for wanted filter } else no_step
-item_step policy wanted next (item.Unsubscribe filter) = if wants wanted filter then no_step else step_under (Some next)
+item_step policy wanted next (item.Unsubscribe filter) =
+    if wants wanted filter then no_step else step_under (Some next)
 item_step policy wanted next (item.Acknowledge packet_id) = no_step
 item_step policy wanted next item.Ping = no_step
 
@@ -98,7 +102,8 @@ wanted_after wanted item.Ping step = wanted
 
 -- the packet id of a SUBSCRIBE's step is open for no filter
 abbrev pub IsStep : List Wanted → Item → Step → Type 0
-IsStep wanted (item.Subscribe filter) step = IsFree wanted step.packet_id × (step.packet_id ≡ None → step ≡ no_step)
+IsStep wanted (item.Subscribe filter) step =
+    IsFree wanted step.packet_id × (step.packet_id ≡ None → step ≡ no_step)
 IsStep wanted (item.Publish p) step = step.former ≡ None
 IsStep wanted (item.Unsubscribe filter) step = Unit {0}
 IsStep wanted (item.Acknowledge packet_id) step = step ≡ no_step
@@ -116,7 +121,8 @@ item_left policy link item.Ping = link
 abbrev pub plan_of : Policy → Link → List Item → List Step
 plan_of policy link [] = []
 plan_of policy link (first ∷ items) =
-    item_step policy link.wanted (next_packet_id link) first ∷ plan_of policy (item_left policy link first) items
+    item_step policy link.wanted (next_packet_id link) first
+    ∷ plan_of policy (item_left policy link first) items
 
 -- a publish is in flight at QoS 1, where it has a packet id
 abbrev pub flight_at : Publication → Qos → Option ℕ → List InFlight

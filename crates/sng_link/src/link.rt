@@ -27,8 +27,8 @@ use std::marker::Model;
 
 /// What waits for the broker, the publishes in flight to it, the filters that are wanted upstream, the packet
 /// ids in use, which are those of the publishes in flight and of the open SUBSCRIBEs, and when the connection
-/// began, or was last asked whether it is there. Room for all that may wait, be in flight and be wanted is made once. Contracts see the link of a
-/// history.
+/// began, or was last asked whether it is there. Room for all that may wait, be in flight and be wanted is
+/// made once. Contracts see the link of a history.
 #[derive(Drop)]
 pub struct Link {
     outbox: Outbox,
@@ -151,8 +151,8 @@ impl Link {
         is_up && clock.saturating_sub(self.pinged) >= PING_MS
     }
 
-    /// Where a PINGREQ is due at this time, in ms of the clock, and there is place for it, it waits behind all
-    /// else. Takes no memory.
+    /// Where a PINGREQ is due at this time, in ms of the clock, and there is place for it, it waits behind
+    /// all else. Takes no memory.
     pub fn ping(&mut self, is_up: bool, clock: u64)
         ensures { self.new ≡ pinged is_up self.old clock }
     {

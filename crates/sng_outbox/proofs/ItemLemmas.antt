@@ -1,7 +1,8 @@
 -- What keeping the publishes alone leaves.
 use Rattle.std.proofs.Common.{◌≡◌, List, [], ◌∷◌, map, refl, ap}
 use Rattle.sng_outbox.specs.declared.item.Item.{Item}
-use Rattle.sng_outbox.specs.declared.item.Item.TheVariants.{Publish, Subscribe, Unsubscribe, Acknowledge, Ping}
+use Rattle.sng_outbox.specs.declared.item.Item.TheVariants.{Publish, Subscribe, Unsubscribe, Acknowledge}
+use Rattle.sng_outbox.specs.declared.item.Item.TheVariants.{Ping}
 use Rattle.sng_outbox.specs.Sending.{publishes}
 use Rattle.sng_outbox.specs.Laws.{publications}
 

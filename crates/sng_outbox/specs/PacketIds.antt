@@ -1,5 +1,6 @@
 -- Packet ids (MQTT 3.1.1, 2.3.1): 1 to 65,535, counted on past those in use.
-use Rattle.std.specs.Prelude.{ℕ, ◌≡◌, ◌+◌, Bool, false, ◌==◌, List, [], ◌∷◌, length, get_or, set, if◌then◌else◌}
+use Rattle.std.specs.Prelude.{ℕ, ◌≡◌, ◌+◌, Bool, false, ◌==◌, List, [], ◌∷◌, length, get_or, set}
+use Rattle.std.specs.Prelude.{if◌then◌else◌}
 use Rattle.std.specs.List.{list_any}
 
 -- it is this id
@@ -17,7 +18,8 @@ successor packet_id = if packet_id == 65535 then 1 else packet_id + 1
 -- counted on from this id while it is one of those in use, once for each of the turns at the most
 abbrev pub counted_on : List ℕ → List ℕ → ℕ → ℕ
 counted_on ids [] packet_id = packet_id
-counted_on ids (turn ∷ turns) packet_id = if is_used ids packet_id then counted_on ids turns (successor packet_id) else packet_id
+counted_on ids (turn ∷ turns) packet_id =
+    if is_used ids packet_id then counted_on ids turns (successor packet_id) else packet_id
 
 -- the id after the last one, counted on past the ids in use: there are as many turns as ids in use
 abbrev pub next_id : List ℕ → ℕ → ℕ

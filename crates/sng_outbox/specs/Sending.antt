@@ -1,10 +1,12 @@
 -- What leaves for the broker: a list of items that wait, and a list of publishes in flight.
-use Rattle.std.specs.Prelude.{ℕ, ◌+◌, Bool, true, false, ◌==◌, ◌&&◌, not, nat_lt, nat_le, List, [], ◌∷◌, length, filter, count_by, if◌then◌else◌}
+use Rattle.std.specs.Prelude.{ℕ, ◌+◌, Bool, true, false, ◌==◌, ◌&&◌, not, nat_lt, nat_le, List, [], ◌∷◌}
+use Rattle.std.specs.Prelude.{length, filter, count_by, if◌then◌else◌}
 use Rattle.std.specs.List.{list_any}
 use Rattle.sng_text.specs.declared.qos.Qos.{Qos}
 use Rattle.sng_text.specs.declared.qos.Qos.TheVariants.{AtMostOnce, AtLeastOnce}
 use Rattle.sng_outbox.specs.declared.item.Item.{Item}
-use Rattle.sng_outbox.specs.declared.item.Item.TheVariants.{Publish, Subscribe, Unsubscribe, Acknowledge, Ping}
+use Rattle.sng_outbox.specs.declared.item.Item.TheVariants.{Publish, Subscribe, Unsubscribe, Acknowledge}
+use Rattle.sng_outbox.specs.declared.item.Item.TheVariants.{Ping}
 use Rattle.sng_outbox.specs.declared.in_flight.InFlight.{InFlight}
 use Rattle.sng_outbox.specs.declared.limits.TheConstants.{MAX_OUTBOX_ITEMS, MAX_IN_FLIGHT}
 
@@ -44,9 +46,11 @@ publishes waiting = filter is_publish waiting
 abbrev pub load : Sending → ℕ
 load s = count_by asks_for_ack s.waiting + length s.in_flight
 
--- the item may be added: fewer items wait than may, and of publishes of QoS 1 fewer wait or are in flight than may
+-- the item may be added: fewer items wait than may, and of publishes of QoS 1 fewer wait or are in flight
+-- than may
 abbrev pub has_room : Sending → Item → Bool
-has_room s item = not (asks_for_ack item && nat_le MAX_IN_FLIGHT (load s)) && nat_lt (length s.waiting) MAX_OUTBOX_ITEMS
+has_room s item =
+    not (asks_for_ack item && nat_le MAX_IN_FLIGHT (load s)) && nat_lt (length s.waiting) MAX_OUTBOX_ITEMS
 
 -- it was sent with this packet id
 abbrev pub has_id : ℕ → InFlight → Bool
@@ -59,4 +63,5 @@ is_in_flight in_flight packet_id = list_any (has_id packet_id) in_flight
 -- all but the first with this packet id
 abbrev pub without_first : List InFlight → ℕ → List InFlight
 without_first [] packet_id = []
-without_first (sent ∷ in_flight) packet_id = if has_id packet_id sent then in_flight else sent ∷ without_first in_flight packet_id
+without_first (sent ∷ in_flight) packet_id =
+    if has_id packet_id sent then in_flight else sent ∷ without_first in_flight packet_id

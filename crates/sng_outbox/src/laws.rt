@@ -1,7 +1,8 @@
-//! The laws of the outbox (MQTT 3.1.1, 2.3.1, 4.3.2 and 4.6). The functions here only state them: a contract is the law,
-//! and a call does nothing.
+//! The laws of the outbox (MQTT 3.1.1, 2.3.1, 4.3.2 and 4.6). The functions here only state them: a contract
+//! is the law, and a call does nothing.
 ghost use Rattle.std.specs.Prelude.{◌≡◌};
-ghost use Rattle.sng_outbox.specs.Laws.{NextIdIsFree, MarksFollowUse, UndoneIsUnused, OneIsAcknowledged, PublishesAreKept};
+ghost use Rattle.sng_outbox.specs.Laws.{NextIdIsFree, MarksFollowUse, UndoneIsUnused, OneIsAcknowledged};
+ghost use Rattle.sng_outbox.specs.Laws.{PublishesAreKept};
 
 use crate::{MAX_IN_FLIGHT, MAX_OUTBOX_ITEMS};
 
@@ -26,7 +27,8 @@ pub fn undone_is_unused()
     ensures { UndoneIsUnused }
 {}
 
-/// A PUBACK removes the first publish in flight with its packet id and nothing else, and where there is none nothing at all.
+/// A PUBACK removes the first publish in flight with its packet id and nothing else, and where there is none
+/// nothing at all.
 pub fn one_is_acknowledged()
     ensures { OneIsAcknowledged }
 {}

@@ -1,4 +1,5 @@
-//! What waits to leave for the broker, and the publishes in flight to it (MQTT 3.1.1, 2.3.1, 4.3.2, 4.4 and 4.6).
+//! What waits to leave for the broker, and the publishes in flight to it (MQTT 3.1.1, 2.3.1, 4.3.2, 4.4 and
+//! 4.6).
 #![tactic(auto)]
 
 pub mod in_flight;

@@ -1,6 +1,7 @@
-//! The list of what waits for the broker, in the order in which it was asked for (MQTT 3.1.1, 4.6), and the publishes in
-//! flight (4.3.2).
-ghost use Rattle.std.specs.Prelude.{◌≡◌, ◌+◌, ◌<◌, ◌≤◌, [], ◌∷◌, ◌++◌, true, false, length, nat_le, slice_get, drop, remove};
+//! The list of what waits for the broker, in the order in which it was asked for (MQTT 3.1.1, 4.6), and the
+//! publishes in flight (4.3.2).
+ghost use Rattle.std.specs.Prelude.{◌≡◌, ◌+◌, ◌<◌, ◌≤◌, [], ◌∷◌, ◌++◌, true, false, length, nat_le};
+ghost use Rattle.std.specs.Prelude.{slice_get, drop, remove};
 ghost use Rattle.std.specs.Prelude.{IfOk, IfSome, MatchResult, MatchOption};
 ghost use Rattle.std.specs.Option.{option_copied};
 ghost use Rattle.std.specs.List.{position_or_len};
@@ -8,7 +9,8 @@ ghost use Rattle.std.specs.Iterator.Runs.{YieldsRefsInOrder, YieldsRefsInReverse
 ghost use Rattle.std.specs.VecDeque.Iter.{deque_iter_rest, deque_iter_steps, deque_iter_steps_back};
 ghost use Rattle.sng_outbox.specs.declared.item.Item.{Item as item_type};
 ghost use Rattle.sng_outbox.specs.declared.limits.TheConstants.{MAX_OUTBOX_ITEMS, MAX_IN_FLIGHT};
-ghost use Rattle.sng_outbox.specs.Sending.{nothing, publishes, asks_for_ack, load, has_room, has_id, is_in_flight, without_first};
+ghost use Rattle.sng_outbox.specs.Sending.{nothing, publishes, asks_for_ack, load, has_room, has_id};
+ghost use Rattle.sng_outbox.specs.Sending.{is_in_flight, without_first};
 
 use crate::{InFlight, Item, MAX_IN_FLIGHT, MAX_OUTBOX_ITEMS, Publication};
 use std::alloc::{AllocError, Global};
@@ -16,9 +18,9 @@ use std::collections::VecDeque;
 use std::collections::vec_deque::Iter;
 use std::marker::Model;
 
-/// The items that wait for the broker, the oldest first, and the publishes in flight, in the order of their sending. Of
-/// publishes of QoS 1 no more than `MAX_IN_FLIGHT` wait or are in flight. Room for all is made once, so no later call takes
-/// memory. Contracts see the two lists.
+/// The items that wait for the broker, the oldest first, and the publishes in flight, in the order of their
+/// sending. Of publishes of QoS 1 no more than `MAX_IN_FLIGHT` wait or are in flight. Room for all is made
+/// once, so no later call takes memory. Contracts see the two lists.
 #[derive(Debug, Drop)]
 pub struct Outbox {
     waiting: VecDeque<Item>,
@@ -37,13 +39,16 @@ impl Model for Outbox {
 
     ghost view = { λ o. record { waiting = o.waiting.items; in_flight = o.in_flight.items } };
 
-    ghost invariant = { λ o. (length o.waiting.items ≤ MAX_OUTBOX_ITEMS) × (MAX_OUTBOX_ITEMS ≤ deque_capacity o.waiting)
+    ghost invariant = { λ o. (length o.waiting.items ≤ MAX_OUTBOX_ITEMS)
+        × (MAX_OUTBOX_ITEMS ≤ deque_capacity o.waiting)
         × (o.acks_waiting ≡ count_by asks_for_ack o.waiting.items)
-        × (o.acks_waiting + length o.in_flight.items ≤ MAX_IN_FLIGHT) × (MAX_IN_FLIGHT ≤ vec_capacity o.in_flight) };
+        × (o.acks_waiting + length o.in_flight.items ≤ MAX_IN_FLIGHT)
+        × (MAX_IN_FLIGHT ≤ vec_capacity o.in_flight) };
 }
 
 impl Outbox {
-    /// An outbox in which nothing waits and nothing is in flight, with room for all that may. Only memory can fail.
+    /// An outbox in which nothing waits and nothing is in flight, with room for all that may. Only memory can
+    /// fail.
     pub fn new(alloc: Global) -> Result<Outbox, AllocError>
         ensures { IfOk result (λ o. o ≡ nothing) }
     {
@@ -54,11 +59,12 @@ impl Outbox {
         })
     }
 
-    /// Adds an item behind the others. Where `MAX_OUTBOX_ITEMS` wait it is given back, and nothing changes; so is a publish of
-    /// QoS 1 where `MAX_IN_FLIGHT` of them wait or are in flight.
+    /// Adds an item behind the others. Where `MAX_OUTBOX_ITEMS` wait it is given back, and nothing changes;
+    /// so is a publish of QoS 1 where `MAX_IN_FLIGHT` of them wait or are in flight.
     pub fn push(&mut self, item: Item) -> Result<(), Item>
         ensures { MatchResult result
-            (λ _. (has_room self.old item ≡ true) × (self.new ≡ record self.old { waiting = self.old.waiting ++ item ∷ [] }))
+            (λ _. (has_room self.old item ≡ true)
+            × (self.new ≡ record self.old { waiting = self.old.waiting ++ item ∷ [] }))
             (λ refused. (has_room self.old item ≡ false) × (refused ≡ item) × (self.new ≡ self.old)) }
     {
         if !self.has_room(&item) {
@@ -71,8 +77,8 @@ impl Outbox {
         Ok(())
     }
 
-    /// Whether the item may be added: fewer than `MAX_OUTBOX_ITEMS` wait, and where it is a publish of QoS 1 fewer than
-    /// `MAX_IN_FLIGHT` of them wait or are in flight.
+    /// Whether the item may be added: fewer than `MAX_OUTBOX_ITEMS` wait, and where it is a publish of QoS 1
+    /// fewer than `MAX_IN_FLIGHT` of them wait or are in flight.
     pub fn has_room(&self, item: &Item) -> bool
         ensures { result ≡ has_room self.now item.now }
     {
@@ -110,8 +116,8 @@ impl Outbox {
         self.waiting.iter()
     }
 
-    /// Takes the oldest item out. None, and nothing changes, where nothing waits. Behind a publish of QoS 1 there is room to
-    /// track it.
+    /// Takes the oldest item out. None, and nothing changes, where nothing waits. Behind a publish of QoS 1
+    /// there is room to track it.
     pub fn settle(&mut self) -> Option<Item>
         ensures front { result ≡ slice_get self.old.waiting 0 }
         ensures rest { self.new ≡ record self.old { waiting = drop 1 self.old.waiting } }
@@ -155,10 +161,13 @@ impl Outbox {
         self.in_flight.len()
     }
 
-    /// Adds a publish in flight behind the others, where fewer than `MAX_IN_FLIGHT` of QoS 1 wait or are in flight.
+    /// Adds a publish in flight behind the others, where fewer than `MAX_IN_FLIGHT` of QoS 1 wait or are in
+    /// flight.
     pub fn track(&mut self, packet_id: u16, publication: Publication)
         requires { load self.old < MAX_IN_FLIGHT }
-        ensures { self.new ≡ record self.old { in_flight = self.old.in_flight ++ record { packet_id = packet_id; publication = publication } ∷ [] } }
+        ensures { self.new ≡ record self.old {
+          in_flight = self.old.in_flight ++ record { packet_id = packet_id; publication = publication } ∷ [];
+        } }
     {
         self.in_flight.push_reserved(InFlight {
             packet_id,
@@ -166,8 +175,8 @@ impl Outbox {
         });
     }
 
-    /// Takes the first publish in flight with this packet id out, which its PUBACK ends (MQTT 3.1.1, 4.3.2), and returns
-    /// whether there was one. Where there was none nothing changes.
+    /// Takes the first publish in flight with this packet id out, which its PUBACK ends (MQTT 3.1.1, 4.3.2),
+    /// and returns whether there was one. Where there was none nothing changes.
     pub fn acked(&mut self, packet_id: u16) -> bool
         ensures found { result ≡ is_in_flight self.old.in_flight packet_id }
         ensures rest { self.new ≡ record self.old { in_flight = without_first self.old.in_flight packet_id } }
@@ -180,11 +189,13 @@ impl Outbox {
         true
     }
 
-    /// The publish in flight at this place with its packet id, the one sent first being at 0: to be sent again (MQTT 3.1.1, 4.4).
+    /// The publish in flight at this place with its packet id, the one sent first being at 0: to be sent
+    /// again (MQTT 3.1.1, 4.4).
     pub fn again(&self, place: usize) -> Option<(u16, &Publication)>
         ensures { MatchOption result
             (slice_get self.now.in_flight place ≡ None)
-            (λ sent. slice_get self.now.in_flight place ≡ Some (record { packet_id = sent.0; publication = sent.1.now })) }
+            (λ sent. slice_get self.now.in_flight place
+            ≡ Some (record { packet_id = sent.0; publication = sent.1.now })) }
     {
         let sent = self.in_flight.get(place)?;
         Some((sent.packet_id, &sent.publication))

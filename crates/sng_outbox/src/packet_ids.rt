@@ -8,9 +8,9 @@ use std::marker::Model;
 /// How many numbers a packet id has, 0 among them, which is none.
 const NUMBERS: usize = 65_536;
 
-/// The packet ids that are in use, and the one that was given last. Which those are its holder says: those of the publishes in
-/// flight, and those of the open SUBSCRIBEs. Room for all is made once, so no later call takes memory. Contracts see a mark for
-/// each number, and the id that was given last.
+/// The packet ids that are in use, and the one that was given last. Which those are its holder says: those of
+/// the publishes in flight, and those of the open SUBSCRIBEs. Room for all is made once, so no later call
+/// takes memory. Contracts see a mark for each number, and the id that was given last.
 #[derive(Debug, Drop)]
 pub struct PacketIds {
     marks: Vec<bool>,
@@ -55,10 +55,12 @@ impl PacketIds {
         self.last
     }
 
-    /// The id that `give` would give: the first that is not in use, counted on from the last one. 1 follows on 65,535.
+    /// The id that `give` would give: the first that is not in use, counted on from the last one. 1 follows
+    /// on 65,535.
     pub fn next(&self) -> u16
         ensures some { 1 ≤ result }
-        ensures next { (ids : List ℕ) → length ids ≤ 65534 → AreInUse ids self.now.marks → result ≡ next_id ids self.now.last }
+        ensures next { (ids : List ℕ) → length ids ≤ 65534 → AreInUse ids self.now.marks
+            → result ≡ next_id ids self.now.last }
     {
         next_id(&self.marks, self.last)
     }
@@ -66,7 +68,8 @@ impl PacketIds {
     /// Counts on to the next id without taking it into use, as for a packet whose answer nothing waits for.
     pub fn pass(&mut self) -> u16
         ensures some { 1 ≤ result }
-        ensures next { (ids : List ℕ) → length ids ≤ 65534 → AreInUse ids self.old.marks → result ≡ next_id ids self.old.last }
+        ensures next { (ids : List ℕ) → length ids ≤ 65534 → AreInUse ids self.old.marks
+            → result ≡ next_id ids self.old.last }
         ensures after { self.new ≡ record self.old { last = result } }
     {
         let packet_id = next_id(&self.marks, self.last);
@@ -77,7 +80,8 @@ impl PacketIds {
     /// Counts on to the next id, which is in use from then on.
     pub fn give(&mut self) -> u16
         ensures some { 1 ≤ result }
-        ensures next { (ids : List ℕ) → length ids ≤ 65534 → AreInUse ids self.old.marks → result ≡ next_id ids self.old.last }
+        ensures next { (ids : List ℕ) → length ids ≤ 65534 → AreInUse ids self.old.marks
+            → result ≡ next_id ids self.old.last }
         ensures after { self.new ≡ with_mark (record self.old { last = result }) result true }
     {
         let packet_id = next_id(&self.marks, self.last);
@@ -119,7 +123,8 @@ fn successor(packet_id: u16) -> u16
     }
 }
 
-/// The first id without a mark, counted on from the last one. Where one is free, as many turns as there are ids but one find it.
+/// The first id without a mark, counted on from the last one. Where one is free, as many turns as there are
+/// ids but one find it.
 fn next_id(marks: &[bool], last: u16) -> u16
     requires { length marks.now ≡ 65536 }
     ensures some { 1 ≤ result }

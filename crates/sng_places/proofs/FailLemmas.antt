@@ -1,5 +1,6 @@
 -- Of a list of tests that ends at a fault the test that fails.
-use Rattle.std.proofs.Common.{◌≡◌, List, [], ◌∷◌, ◌++◌, Option, Some, None, Err, All, refl, sym, ap, ◌∙◌, subst}
+use Rattle.std.proofs.Common.{◌≡◌, List, [], ◌∷◌, ◌++◌, Option, Some, None, Err, All, refl, sym, ap, ◌∙◌}
+use Rattle.std.proofs.Common.{subst}
 use Rattle.std.proofs.lemmas.List.Elements.{All-nil, All-cons, All-head, All-tail}
 use Rattle.serde_json.specs.Data.{Data}
 use Rattle.sng_places.specs.Order.{Test, ends_at, first, flaw_of, tests_of}
@@ -24,7 +25,8 @@ record Split (ts : List Test) (found : Found) : Type 0 where
   flaw : flaw_of failing.rule failing.value ≡ Some found.flaw
 
 step : (t : Test) (ts : List Test) (found : Found) (o : Option Flaw) → flaw_of t.rule t.value ≡ o
-    → (first ts ≡ Err (At found) → Split ts found) → ends_at t.place o (first ts) ≡ Err (At found) → Split (t ∷ ts) found
+    → (first ts ≡ Err (At found) → Split ts found) → ends_at t.place o (first ts) ≡ Err (At found)
+    → Split (t ∷ ts) found
 step t ts found None passes more ends =
     let s : Split ts found = more ends in
     record {
@@ -69,8 +71,11 @@ fails_at d found s =
       passed = s.passed;
       place = s.place;
       flaw = s.flaw;
-      stands = middle (λ t. Stands d t.place t.value) s.before s.failing s.others (subst Standing s.tests (values_stand d));
+      stands =
+          middle (λ t. Stands d t.place t.value) s.before s.failing s.others
+          (subst Standing s.tests (values_stand d));
     }
 
 pub faults_stand : FaultsStand
-faults_stand text d found read ends = fails_at d found (split (tests_of d) found (sym (whole d) ∙ rw read at ends))
+faults_stand text d found read ends =
+    fails_at d found (split (tests_of d) found (sym (whole d) ∙ rw read at ends))

@@ -1,7 +1,10 @@
 -- The search for a place ends with the fault of the text, test by test.
-use Rattle.std.proofs.Common.{◌≡◌, ℕ, suc, Bool, true, false, not, ◌&&◌, ◌||◌, ◌==◌, cond, ltb, List, [], ◌∷◌, Option, Some, None, is_none, option_map, option_and_then, unwrap_or, ok_or, Result, Ok, Err, IfErr, codes, refl, sym, ap, ◌∙◌}
+use Rattle.std.proofs.Common.{◌≡◌, ℕ, suc, Bool, true, false, not, ◌&&◌, ◌||◌, ◌==◌, cond, ltb, List, [], ◌∷◌}
+use Rattle.std.proofs.Common.{Option, Some, None, is_none, option_map, option_and_then, unwrap_or, ok_or}
+use Rattle.std.proofs.Common.{Result, Ok, Err, IfErr, codes, refl, sym, ap, ◌∙◌}
 use Rattle.std.specs.Str.{is_utf8}
-use Rattle.serde_json.specs.Data.{Data, null, boolean, number, string, array, object, Items, no_items, item, Members, no_members, member}
+use Rattle.serde_json.specs.Data.{Data, null, boolean, number, string, array, object, Items, no_items, item}
+use Rattle.serde_json.specs.Data.{Members, no_members, member}
 use Rattle.serde_json.specs.Events.{items_len, members_len}
 use Rattle.serde_json.specs.Find.{get, as_array, as_number, as_object, as_str, as_u64}
 use Rattle.serde_json.specs.Read.{read}
@@ -14,8 +17,11 @@ use Rattle.sng_grants.specs.Topics.{with_name}
 use Rattle.sng_grants.specs.declared.limits.TheConstants.{MAX_CLIENTS, MAX_PAIRS, MAX_SOURCES, MAX_TOPICS}
 use Rattle.sng_grants.specs.declared.scope.Pair.{Pair}
 use Rattle.sng_scope.specs.Numerals.{topic_id_of}
-use Rattle.sng_scope.specs.Policies.{are_known, client_of, clients_of, clients_onto, is_known, is_policy_object, is_version_one, members_within, name_of_data, parts_of, policy_of_data, sources_of, sources_onto, topics_of, topics_onto}
-use Rattle.sng_scope.specs.Scopes.{are_permissions, are_texts, is_text, says, pair_from, pair_of, pairs_of, scope_of_items, text_and_array}
+use Rattle.sng_scope.specs.Policies.{are_known, client_of, clients_of, clients_onto, is_known}
+use Rattle.sng_scope.specs.Policies.{is_policy_object, is_version_one, members_within, name_of_data, parts_of}
+use Rattle.sng_scope.specs.Policies.{policy_of_data, sources_of, sources_onto, topics_of, topics_onto}
+use Rattle.sng_scope.specs.Scopes.{are_permissions, are_texts, is_text, says, pair_from, pair_of, pairs_of}
+use Rattle.sng_scope.specs.Scopes.{scope_of_items, text_and_array}
 use Rattle.sng_scope.specs.Scopes as scopes
 use Rattle.sng_scope.specs.Steps.{◌>>=◌}
 use Rattle.sng_scope.specs.Texts.{bytes_of, scope_of_data, scope_of_encoded, value_of}
@@ -23,9 +29,14 @@ use Rattle.sng_scope.specs.declared.fault.PolicyFault.{PolicyFault}
 use Rattle.sng_scope.specs.declared.fault.PolicyFault.TheVariants as faults
 use Rattle.sng_places.specs.Flaws.{fault_of}
 use Rattle.sng_places.specs.Laws.{PlacesAreOfFaults, blamed, fault_at, forget}
-use Rattle.sng_places.specs.Places.{client_check, clients_check, clients_in, data_check, known_check, object_check, part_within, sources_check, sources_in, text_check, topic_check, topics_check, topics_in, unknown_of, unless, version_check, within}
+use Rattle.sng_places.specs.Places.{client_check, clients_check, clients_in, data_check, known_check}
+use Rattle.sng_places.specs.Places.{object_check, part_within, sources_check, sources_in, text_check}
+use Rattle.sng_places.specs.Places.{topic_check, topics_check, topics_in, unknown_of, unless, version_check}
+use Rattle.sng_places.specs.Places.{within}
 use Rattle.sng_places.specs.Places as places
-use Rattle.sng_places.specs.ScopePlaces.{encoded_check, filter_by, items_check, no_text_from, or_stop, other_from, pair_check, pairs_check, parts_check, permissions_by, scope_check, stop_at, texts_by, two_check, two_of}
+use Rattle.sng_places.specs.ScopePlaces.{encoded_check, filter_by, items_check, no_text_from, or_stop}
+use Rattle.sng_places.specs.ScopePlaces.{other_from, pair_check, pairs_check, parts_check, permissions_by}
+use Rattle.sng_places.specs.ScopePlaces.{scope_check, stop_at, texts_by, two_check, two_of}
 use Rattle.sng_places.specs.declared.flaw.Flaw.TheVariants as flaws
 use Rattle.sng_places.specs.declared.place.Form.{Form}
 use Rattle.sng_places.specs.declared.place.Form.TheVariants as forms
@@ -45,22 +56,28 @@ scope_fault scope_stops.Memory = faults.Memory
 -- ---- steps
 
 -- a test, and what follows it
-chain : {A B S : Type 0} (fault : S → PolicyFault) (r : Result A PolicyFault) (next : A → Result B PolicyFault) (c : Result Unit S) (rest : Result Unit S)
-    → blamed fault c ≡ forget r → ((a : A) → blamed fault rest ≡ forget (next a)) → blamed fault (c >>= (λ checked. rest)) ≡ forget (r >>= next)
+chain : {A B S : Type 0} (fault : S → PolicyFault) (r : Result A PolicyFault)
+    (next : A → Result B PolicyFault) (c : Result Unit S) (rest : Result Unit S)
+    → blamed fault c ≡ forget r → ((a : A) → blamed fault rest ≡ forget (next a))
+    → blamed fault (c >>= (λ checked. rest)) ≡ forget (r >>= next)
 chain fault (Ok a) next (Ok checked) rest is k = k a
 chain fault (Ok a) next (Err stop) rest is k = absurd (cc)
 chain fault (Err e) next (Ok checked) rest is k = absurd (cc)
 chain fault (Err e) next (Err stop) rest is k = is
 
 -- a value that both take
-taken : {A B S : Type 0} (fault : S → PolicyFault) (o : Option A) (e : PolicyFault) (stop : S) (next : A → Result B PolicyFault) (rest : A → Result Unit S)
-    → fault stop ≡ e → ((a : A) → blamed fault (rest a) ≡ forget (next a)) → blamed fault (ok_or o stop >>= rest) ≡ forget (ok_or o e >>= next)
+taken : {A B S : Type 0} (fault : S → PolicyFault) (o : Option A) (e : PolicyFault) (stop : S)
+    (next : A → Result B PolicyFault) (rest : A → Result Unit S)
+    → fault stop ≡ e → ((a : A) → blamed fault (rest a) ≡ forget (next a))
+    → blamed fault (ok_or o stop >>= rest) ≡ forget (ok_or o e >>= next)
 taken fault None e stop next rest is k = ap Err is
 taken fault (Some a) e stop next rest is k = k a
 
 -- a value that both take from what was read
-read_by : {A B S : Type 0} (fault : S → PolicyFault) (r : Result A PolicyFault) (stop : S) (next : A → Result B PolicyFault) (rest : A → Result Unit S)
-    → IfErr r (λ e. fault stop ≡ e) → ((a : A) → blamed fault (rest a) ≡ forget (next a)) → blamed fault (or_stop r stop >>= rest) ≡ forget (r >>= next)
+read_by : {A B S : Type 0} (fault : S → PolicyFault) (r : Result A PolicyFault) (stop : S)
+    (next : A → Result B PolicyFault) (rest : A → Result Unit S)
+    → IfErr r (λ e. fault stop ≡ e) → ((a : A) → blamed fault (rest a) ≡ forget (next a))
+    → blamed fault (or_stop r stop >>= rest) ≡ forget (r >>= next)
 read_by fault (Ok a) stop next rest is k = k a
 read_by fault (Err e) stop next rest is k = ap Err is
 
@@ -69,35 +86,44 @@ made : {A B : Type 0} (r : Result A PolicyFault) (f : A → B) → forget (r >>=
 made (Ok a) f = refl
 made (Err e) f = refl
 
-assoc : {A B C : Type 0} (r : Result A PolicyFault) (f : A → Result B PolicyFault) (g : B → Result C PolicyFault) → (r >>= f) >>= g ≡ r >>= (λ a. f a >>= g)
+assoc : {A B C : Type 0} (r : Result A PolicyFault) (f : A → Result B PolicyFault)
+    (g : B → Result C PolicyFault) → (r >>= f) >>= g ≡ r >>= (λ a. f a >>= g)
 assoc (Ok a) f g = refl
 assoc (Err e) f g = refl
 
 -- ---- pairs
 
 -- one more that passes a test, or the place of one that does not
-found : {A : Type 0} (b rest : Bool) (o : Option A) (here : A) → rest ≡ is_none o → b && rest ≡ is_none (cond b o (Some here))
+found : {A : Type 0} (b rest : Bool) (o : Option A) (here : A) → rest ≡ is_none o
+    → b && rest ≡ is_none (cond b o (Some here))
 found true rest o here is = is
 found false rest o here is = refl
 
 are_texts-none : (k : ℕ) (ds : Items) → are_texts ds ≡ is_none (no_text_from k ds)
 are_texts-none k no_items = refl
-are_texts-none k (item d ds) = found (is_text d) (are_texts ds) (no_text_from (suc k) ds) k (are_texts-none (suc k) ds)
+are_texts-none k (item d ds) =
+    found (is_text d) (are_texts ds) (no_text_from (suc k) ds) k (are_texts-none (suc k) ds)
 
 are_permissions-none : (k : ℕ) (ds : Items) → are_permissions ds ≡ is_none (other_from k ds)
 are_permissions-none k no_items = refl
 are_permissions-none k (item d ds) =
-    found (says (codes "pub") d || says (codes "sub") d) (are_permissions ds) (other_from (suc k) ds) (k, unwrap_or (as_str d) []) (are_permissions-none (suc k) ds)
+    found (says (codes "pub") d || says (codes "sub") d) (are_permissions ds) (other_from (suc k) ds)
+    (k, unwrap_or (as_str d) []) (are_permissions-none (suc k) ds)
 
-parts_by : (form : Form) (i : ℕ) (text : List ℕ) (texts : Option ℕ) (filter : Option TextFault) (other : Option (ℕ × List ℕ)) (pair : Pair)
-    → blamed scope_fault (texts_by form i texts >>= (λ a. filter_by form i text filter >>= (λ b. permissions_by form i other)))
-    ≡ forget (cond (not (is_none texts)) (Err faults.Shape) (cond (not (is_none filter)) (Err faults.BadFilter) (cond (not (is_none other)) (Err faults.BadPermission) (Ok pair))))
+parts_by : (form : Form) (i : ℕ) (text : List ℕ) (texts : Option ℕ) (filter : Option TextFault)
+    (other : Option (ℕ × List ℕ)) (pair : Pair)
+    → blamed scope_fault (texts_by form i texts >>=
+    (λ a. filter_by form i text filter >>= (λ b. permissions_by form i other)))
+    ≡ forget (cond (not (is_none texts)) (Err faults.Shape)
+    (cond (not (is_none filter)) (Err faults.BadFilter)
+    (cond (not (is_none other)) (Err faults.BadPermission) (Ok pair))))
 parts_by form i text (Some k) filter other pair = refl
 parts_by form i text None (Some fault) other pair = refl
 parts_by form i text None None (Some other) pair = refl
 parts_by form i text None None None pair = refl
 
-parts : (form : Form) (i : ℕ) (filter : List ℕ) (permissions : Items) → blamed scope_fault (parts_check form i filter permissions) ≡ forget (pair_from filter permissions)
+parts : (form : Form) (i : ℕ) (filter : List ℕ) (permissions : Items)
+    → blamed scope_fault (parts_check form i filter permissions) ≡ forget (pair_from filter permissions)
 parts form i filter permissions =
     rw (are_texts-none 0 permissions, are_permissions-none 0 permissions)
     (parts_by form i filter (no_text_from 0 permissions) (filter_fault filter) (other_from 0 permissions) _)
@@ -106,14 +132,17 @@ abbrev both : Option (List ℕ) → Option Items → Option (List ℕ × Items)
 both filter permissions = option_and_then (λ s. option_map (λ ds. (s, ds)) permissions) filter
 
 two_by : (form : Form) (i : ℕ) (filter : Option (List ℕ)) (permissions : Option Items)
-    → blamed scope_fault (ok_or filter (stop_at form (spots.Filter i) flaws.NotText) >>= (λ text. ok_or permissions (stop_at form (spots.Permissions i) flaws.NotArray) >>= (λ ds. parts_check form i text ds)))
+    → blamed scope_fault (ok_or filter (stop_at form (spots.Filter i) flaws.NotText) >>=
+    (λ text. ok_or permissions (stop_at form (spots.Permissions i) flaws.NotArray) >>=
+    (λ ds. parts_check form i text ds)))
     ≡ forget (ok_or (both filter permissions) faults.Shape >>= (λ two. pair_from two.0 two.1))
 two_by form i None permissions = refl
 two_by form i (Some text) None = refl
 two_by form i (Some text) (Some ds) = parts form i text ds
 
 pair_by : (form : Form) (i : ℕ) (o : Option Items)
-    → blamed scope_fault (ok_or (option_and_then two_of o) (stop_at form (spots.Pair i) flaws.NotPair) >>= (λ two. two_check form i two.0 two.1))
+    → blamed scope_fault (ok_or (option_and_then two_of o) (stop_at form (spots.Pair i) flaws.NotPair) >>=
+    (λ two. two_check form i two.0 two.1))
     ≡ forget (ok_or (option_and_then scopes.two_of o) faults.Shape >>= (λ two. pair_from two.0 two.1))
 pair_by form i None = refl
 pair_by form i (Some no_items) = refl
@@ -132,31 +161,40 @@ pairs form i (item d ds) =
 
 -- ---- scopes
 
-limited : {A S : Type 0} (fault : S → PolicyFault) (b : Bool) (stop : S) (r : Result A PolicyFault) (c : Result Unit S)
-    → fault stop ≡ faults.TooMany → blamed fault c ≡ forget r → blamed fault (cond b (Err stop) c) ≡ forget (cond b (Err faults.TooMany) r)
+limited : {A S : Type 0} (fault : S → PolicyFault) (b : Bool) (stop : S) (r : Result A PolicyFault)
+    (c : Result Unit S)
+    → fault stop ≡ faults.TooMany → blamed fault c ≡ forget r
+    → blamed fault (cond b (Err stop) c) ≡ forget (cond b (Err faults.TooMany) r)
 limited fault true stop r c is k = ap Err is
 limited fault false stop r c is k = k
 
 items : (form : Form) (ds : Items) → blamed scope_fault (items_check form ds) ≡ forget (scope_of_items ds)
-items form ds = limited scope_fault (ltb MAX_PAIRS (items_len ds)) _ (pairs_of ds) (pairs_check form 0 ds) refl (pairs form 0 ds)
+items form ds =
+    limited scope_fault (ltb MAX_PAIRS (items_len ds)) _ (pairs_of ds) (pairs_check form 0 ds) refl
+    (pairs form 0 ds)
 
 only : {A : Type 0} (o : Option A) (e f : PolicyFault) → f ≡ e → IfErr (ok_or o e) (λ g. f ≡ g)
 only None e f is = is
 only (Some a) e f is = tt
 
-only_json : (b : Bool) (o : Option Data) → IfErr (cond b (ok_or o faults.NotJson) (Err faults.NotJson)) (λ g. faults.NotJson ≡ g)
+only_json : (b : Bool) (o : Option Data)
+    → IfErr (cond b (ok_or o faults.NotJson) (Err faults.NotJson)) (λ g. faults.NotJson ≡ g)
 only_json true o = only o faults.NotJson faults.NotJson refl
 only_json false o = refl
 
 encoded : (text : List ℕ) → blamed scope_fault (encoded_check text) ≡ forget (scope_of_encoded text)
 encoded text =
-    read_by scope_fault (bytes_of text) _ (λ bytes. (value_of bytes >>= (λ value. ok_or (as_array value) faults.Shape)) >>= scope_of_items) _
+    read_by scope_fault (bytes_of text) _
+    (λ bytes. (value_of bytes >>= (λ value. ok_or (as_array value) faults.Shape)) >>= scope_of_items) _
     (only _ faults.BadBase64 faults.BadBase64 refl)
-    (λ bytes. read_by scope_fault (value_of bytes) _ (λ value. ok_or (as_array value) faults.Shape >>= scope_of_items) _
+    (λ bytes. read_by scope_fault (value_of bytes) _
+    (λ value. ok_or (as_array value) faults.Shape >>= scope_of_items) _
     (only_json (is_utf8 bytes) (read bytes))
-    (λ value. taken scope_fault (as_array value) faults.Shape _ scope_of_items _ refl (λ ds. items forms.Encoded ds))
+    (λ value. taken scope_fault (as_array value) faults.Shape _ scope_of_items _ refl
+    (λ ds. items forms.Encoded ds))
     ∙ ap forget (sym (assoc (value_of bytes) (λ value. ok_or (as_array value) faults.Shape) scope_of_items)))
-    ∙ ap forget (sym (assoc (bytes_of text) (λ bytes. value_of bytes >>= (λ value. ok_or (as_array value) faults.Shape)) scope_of_items))
+    ∙ ap forget (sym (assoc (bytes_of text)
+    (λ bytes. value_of bytes >>= (λ value. ok_or (as_array value) faults.Shape)) scope_of_items))
 
 scope : (d : Data) → blamed scope_fault (scope_check d) ≡ forget (scope_of_data d)
 scope (array ds) = items forms.Plain ds
@@ -168,15 +206,18 @@ scope (object ms) = refl
 
 -- ---- members
 
-in_part : (part : Part) (name : List ℕ) (r : Result Unit ScopeStop) → blamed fault_at (within part name r) ≡ blamed scope_fault r
+in_part : (part : Part) (name : List ℕ) (r : Result Unit ScopeStop)
+    → blamed fault_at (within part name r) ≡ blamed scope_fault r
 in_part part name (Ok checked) = refl
 in_part part name (Err (scope_stops.At found)) = refl
 in_part part name (Err scope_stops.Memory) = refl
 
-scope_in : (part : Part) (name : List ℕ) (d : Data) → blamed fault_at (within part name (scope_check d)) ≡ forget (scope_of_data d)
+scope_in : (part : Part) (name : List ℕ) (d : Data)
+    → blamed fault_at (within part name (scope_check d)) ≡ forget (scope_of_data d)
 scope_in part name d = in_part part name (scope_check d) ∙ scope d
 
-unless_by : {A F : Type 0} (o : Option F) (a : A) (e : PolicyFault) (stop : F → Stop) → ((f : F) → fault_at (stop f) ≡ e)
+unless_by : {A F : Type 0} (o : Option F) (a : A) (e : PolicyFault) (stop : F → Stop)
+    → ((f : F) → fault_at (stop f) ≡ e)
     → blamed fault_at (unless o stop) ≡ forget (cond (is_none o) (Ok a) (Err e))
 unless_by None a e stop is = refl
 unless_by (Some f) a e stop is = ap Err (is f)
@@ -184,24 +225,31 @@ unless_by (Some f) a e stop is = ap Err (is f)
 client : (name : List ℕ) → blamed fault_at (client_check name) ≡ forget (client_of name)
 client name = unless_by (client_id_fault name) name faults.BadClientId _ (λ f. refl)
 
-clients : (ms : Members) (listed : List (List ℕ × List Pair)) → blamed fault_at (clients_check ms) ≡ forget (clients_onto listed ms)
+clients : (ms : Members) (listed : List (List ℕ × List Pair))
+    → blamed fault_at (clients_check ms) ≡ forget (clients_onto listed ms)
 clients no_members listed = refl
 clients (member name d ms) listed =
     chain fault_at (client_of name) _ (client_check name) _ (client name)
-    (λ key. chain fault_at (scope_of_data d) _ (within parts_of_a_policy.Clients name (scope_check d)) (clients_check ms) (scope_in parts_of_a_policy.Clients name d)
+    (λ key. chain fault_at (scope_of_data d) _ (within parts_of_a_policy.Clients name (scope_check d))
+    (clients_check ms) (scope_in parts_of_a_policy.Clients name d)
     (λ granted. clients ms (with_scope listed key granted)))
 
-sources : (ms : Members) (listed : List (List ℕ × List Pair)) → blamed fault_at (sources_check ms) ≡ forget (sources_onto listed ms)
+sources : (ms : Members) (listed : List (List ℕ × List Pair))
+    → blamed fault_at (sources_check ms) ≡ forget (sources_onto listed ms)
 sources no_members listed = refl
 sources (member name d ms) listed =
     taken fault_at (ipv4_of name) faults.BadSource _ _ _ refl
-    (λ key. chain fault_at (scope_of_data d) _ (within parts_of_a_policy.Sources name (scope_check d)) (sources_check ms) (scope_in parts_of_a_policy.Sources name d)
+    (λ key. chain fault_at (scope_of_data d) _ (within parts_of_a_policy.Sources name (scope_check d))
+    (sources_check ms) (scope_in parts_of_a_policy.Sources name d)
     (λ granted. sources ms (with_scope listed key granted)))
 
 topic : (name : List ℕ) (d : Data) → blamed fault_at (topic_check name d) ≡ forget (name_of_data d)
-topic name d = taken fault_at (as_str d) faults.Shape _ _ _ refl (λ text. unless_by (name_fault text) text faults.BadTopicId _ (λ f. refl))
+topic name d =
+    taken fault_at (as_str d) faults.Shape _ _ _ refl
+    (λ text. unless_by (name_fault text) text faults.BadTopicId _ (λ f. refl))
 
-topics : (ms : Members) (listed : List (ℕ × List ℕ)) → blamed fault_at (topics_check ms) ≡ forget (topics_onto listed ms)
+topics : (ms : Members) (listed : List (ℕ × List ℕ))
+    → blamed fault_at (topics_check ms) ≡ forget (topics_onto listed ms)
 topics no_members listed = refl
 topics (member name d ms) listed =
     taken fault_at (topic_id_of name) faults.BadTopicId _ _ _ refl
@@ -210,38 +258,49 @@ topics (member name d ms) listed =
 
 -- ---- parts
 
-part_by : {A : Type 0} (part : Part) (most : ℕ) (d : Data) (next : Members → Result A PolicyFault) (rest : Members → Result Unit Stop)
-    → ((ms : Members) → blamed fault_at (rest ms) ≡ forget (next ms)) → blamed fault_at (part_within part most d >>= rest) ≡ forget (members_within most d >>= next)
+part_by : {A : Type 0} (part : Part) (most : ℕ) (d : Data) (next : Members → Result A PolicyFault)
+    (rest : Members → Result Unit Stop)
+    → ((ms : Members) → blamed fault_at (rest ms) ≡ forget (next ms))
+    → blamed fault_at (part_within part most d >>= rest) ≡ forget (members_within most d >>= next)
 part_by part most d next rest k = by_object (as_object d)
   where
     by_limit : (b : Bool) (ms : Members) (stop : Stop) → fault_at stop ≡ faults.TooMany
-        → blamed fault_at (cond b (Err stop) (Ok ms) >>= rest) ≡ forget (cond b (Err faults.TooMany) (Ok ms) >>= next)
+        → blamed fault_at (cond b (Err stop) (Ok ms) >>= rest)
+        ≡ forget (cond b (Err faults.TooMany) (Ok ms) >>= next)
     by_limit true ms stop is = ap Err is
     by_limit false ms stop is = k ms
 
     by_object : (o : Option Members)
-        → blamed fault_at ((ok_or o (places.stop_at (all_places.Part part) flaws.NotObject) >>= (λ ms. cond (ltb most (members_len ms)) (Err (places.stop_at (all_places.Part part) (flaws.TooMany (members_len ms) most))) (Ok ms))) >>= rest)
-        ≡ forget ((ok_or o faults.Shape >>= (λ ms. cond (ltb most (members_len ms)) (Err faults.TooMany) (Ok ms))) >>= next)
+        → blamed fault_at ((ok_or o (places.stop_at (all_places.Part part) flaws.NotObject) >>=
+        (λ ms. cond (ltb most (members_len ms))
+        (Err (places.stop_at (all_places.Part part) (flaws.TooMany (members_len ms) most)))
+        (Ok ms))) >>= rest)
+        ≡ forget ((ok_or o faults.Shape >>=
+        (λ ms. cond (ltb most (members_len ms)) (Err faults.TooMany) (Ok ms))) >>= next)
     by_object None = refl
     by_object (Some ms) = by_limit (ltb most (members_len ms)) ms _ refl
 
 clients_part : (o : Option Data) → blamed fault_at (clients_in o) ≡ forget (clients_of o)
 clients_part None = refl
-clients_part (Some d) = part_by parts_of_a_policy.Clients MAX_CLIENTS d (clients_onto []) clients_check (λ ms. clients ms [])
+clients_part (Some d) =
+    part_by parts_of_a_policy.Clients MAX_CLIENTS d (clients_onto []) clients_check (λ ms. clients ms [])
 
 sources_part : (o : Option Data) → blamed fault_at (sources_in o) ≡ forget (sources_of o)
 sources_part None = refl
-sources_part (Some d) = part_by parts_of_a_policy.Sources MAX_SOURCES d (sources_onto []) sources_check (λ ms. sources ms [])
+sources_part (Some d) =
+    part_by parts_of_a_policy.Sources MAX_SOURCES d (sources_onto []) sources_check (λ ms. sources ms [])
 
 topics_part : (o : Option Data) → blamed fault_at (topics_in o) ≡ forget (topics_of o)
 topics_part None = refl
-topics_part (Some d) = part_by parts_of_a_policy.Topics MAX_TOPICS d (topics_onto []) topics_check (λ ms. topics ms [])
+topics_part (Some d) =
+    part_by parts_of_a_policy.Topics MAX_TOPICS d (topics_onto []) topics_check (λ ms. topics ms [])
 
 -- ---- policies
 
 are_known-none : (ms : Members) → are_known ms ≡ is_none (unknown_of ms)
 are_known-none no_members = refl
-are_known-none (member name d ms) = found (is_known name) (are_known ms) (unknown_of ms) name (are_known-none ms)
+are_known-none (member name d ms) =
+    found (is_known name) (are_known ms) (unknown_of ms) name (are_known-none ms)
 
 abbrev shaped : Bool → Result Unit PolicyFault
 shaped b = cond b (Ok tt) (Err faults.Shape)
@@ -253,18 +312,23 @@ abbrev one_or : Bool → Result Unit Stop
 one_or b = cond b (Ok tt) (Err (places.stop_at all_places.Version flaws.OtherVersion))
 
 known_by : (one : Bool) (o : Option (List ℕ))
-    → blamed fault_at (one_or one >>= (λ version. unless o (λ name. places.stop_at (all_places.Member name) flaws.UnknownMember))) ≡ shaped (one && is_none o)
+    → blamed fault_at (one_or one >>=
+    (λ version. unless o (λ name. places.stop_at (all_places.Member name) flaws.UnknownMember)))
+    ≡ shaped (one && is_none o)
 known_by false o = refl
 known_by true None = refl
 known_by true (Some name) = refl
 
 version_by : (g : Option Data) (ms : Members)
-    → blamed fault_at ((ok_or g (places.stop_at all_places.Whole flaws.NoVersion) >>= (λ version. one_or (is_one g))) >>= (λ version. known_check ms)) ≡ shaped (is_one g && are_known ms)
+    → blamed fault_at ((ok_or g (places.stop_at all_places.Whole flaws.NoVersion) >>=
+    (λ version. one_or (is_one g))) >>= (λ version. known_check ms)) ≡ shaped (is_one g && are_known ms)
 version_by None ms = refl
 version_by (Some d) ms = rw (are_known-none ms) (known_by (is_one (Some d)) (unknown_of ms))
 
 object_by : (d : Data) (o : Option Members)
-    → blamed fault_at (ok_or o (places.stop_at all_places.Whole flaws.NotObject) >>= (λ ms. version_check d >>= (λ version. known_check ms))) ≡ shaped (is_version_one d && unwrap_or (option_map are_known o) false)
+    → blamed fault_at (ok_or o (places.stop_at all_places.Whole flaws.NotObject) >>=
+    (λ ms. version_check d >>= (λ version. known_check ms)))
+    ≡ shaped (is_version_one d && unwrap_or (option_map are_known o) false)
 object_by d None = none (is_version_one d)
   where
     none : (b : Bool) → Err faults.Shape ≡ shaped (b && false)
@@ -272,21 +336,29 @@ object_by d None = none (is_version_one d)
     none false = refl
 object_by d (Some ms) = version_by (get (codes "version") d) ms
 
-with_shape : {A : Type 0} (b : Bool) (c : Result Unit Stop) (rest : Result Unit Stop) (r : Result A PolicyFault)
-    → blamed fault_at c ≡ shaped b → blamed fault_at rest ≡ forget r → blamed fault_at (c >>= (λ object. rest)) ≡ forget (cond b r (Err faults.Shape))
+with_shape : {A : Type 0} (b : Bool) (c : Result Unit Stop) (rest : Result Unit Stop)
+    (r : Result A PolicyFault)
+    → blamed fault_at c ≡ shaped b → blamed fault_at rest ≡ forget r
+    → blamed fault_at (c >>= (λ object. rest)) ≡ forget (cond b r (Err faults.Shape))
 with_shape true (Ok checked) rest r is k = k
 with_shape false (Ok checked) rest r is k = absurd (cc)
 with_shape true (Err stop) rest r is k = absurd (cc)
 with_shape false (Err stop) rest r is k = is
 
-all_parts : (d : Data) → blamed fault_at (clients_in (get (codes "clients") d) >>= (λ clients. sources_in (get (codes "sources") d) >>= (λ sources. topics_in (get (codes "topics") d)))) ≡ forget (parts_of d)
+all_parts : (d : Data) → blamed fault_at
+    (clients_in (get (codes "clients") d) >>=
+    (λ clients. sources_in (get (codes "sources") d) >>= (λ sources. topics_in (get (codes "topics") d))))
+    ≡ forget (parts_of d)
 all_parts d =
-    chain fault_at (clients_of (get (codes "clients") d)) _ (clients_in (get (codes "clients") d)) _ (clients_part (get (codes "clients") d))
-    (λ a. chain fault_at (sources_of (get (codes "sources") d)) _ (sources_in (get (codes "sources") d)) (topics_in (get (codes "topics") d)) (sources_part (get (codes "sources") d))
+    chain fault_at (clients_of (get (codes "clients") d)) _ (clients_in (get (codes "clients") d)) _
+    (clients_part (get (codes "clients") d))
+    (λ a. chain fault_at (sources_of (get (codes "sources") d)) _ (sources_in (get (codes "sources") d))
+    (topics_in (get (codes "topics") d)) (sources_part (get (codes "sources") d))
     (λ b. topics_part (get (codes "topics") d) ∙ sym (made (topics_of (get (codes "topics") d)) _)))
 
 whole : (d : Data) → blamed fault_at (data_check d) ≡ forget (policy_of_data d)
-whole d = with_shape (is_policy_object d) (object_check d) _ (parts_of d) (object_by d (as_object d)) (all_parts d)
+whole d =
+    with_shape (is_policy_object d) (object_check d) _ (parts_of d) (object_by d (as_object d)) (all_parts d)
 
 pub places_are_of_faults : PlacesAreOfFaults
 places_are_of_faults text =

@@ -1,11 +1,18 @@
 -- Each value that is tested stands at the place of its test.
-use Rattle.std.proofs.Common.{◌≡◌, ℕ, suc, ◌+◌, inl, inr, List, [], ◌∷◌, ◌++◌, Option, Some, None, option_and_then, Result, Ok, Err, All, codes, refl, ap, ◌∙◌, arith}
+use Rattle.std.proofs.Common.{◌≡◌, ℕ, suc, ◌+◌, inl, inr, List, [], ◌∷◌, ◌++◌, Option, Some, None}
+use Rattle.std.proofs.Common.{option_and_then, Result, Ok, Err, All, codes, refl, ap, ◌∙◌, arith}
 use Rattle.std.proofs.lemmas.List.Elements.{All-nil, All-cons, All-append}
-use Rattle.serde_json.specs.Data.{Data, null, boolean, number, string, array, object, Items, no_items, item, Members, no_members, member}
+use Rattle.serde_json.specs.Data.{Data, null, boolean, number, string, array, object, Items, no_items, item}
+use Rattle.serde_json.specs.Data.{Members, no_members, member}
 use Rattle.serde_json.specs.Find.{at, get, get_item}
 use Rattle.sng_grants.specs.declared.limits.TheConstants.{MAX_CLIENTS, MAX_PAIRS, MAX_SOURCES, MAX_TOPICS}
 use Rattle.sng_scope.specs.declared.fault.PolicyFault.{PolicyFault}
-use Rattle.sng_places.specs.Order.{Rule, HasVersion, HoldsJson, IsArray, IsAtMost, IsClient, IsEncoded, IsFilter, IsKnown, IsObject, IsOne, IsPair, IsPermission, IsScope, IsSource, IsText, IsTopic, IsTopicId, Test, array_tests, each_test, held_by, held_tests, items_in, known_tests, members_in, members_tests, pair_tests, pairs_tests, part_tests, scope_tests, test, topic_tests, version_tests, written_tests}
+use Rattle.sng_places.specs.Order.{Rule, HasVersion, HoldsJson, IsArray, IsAtMost, IsClient, IsEncoded}
+use Rattle.sng_places.specs.Order.{IsFilter, IsKnown, IsObject, IsOne, IsPair, IsPermission, IsScope}
+use Rattle.sng_places.specs.Order.{IsSource, IsText, IsTopic, IsTopicId, Test, array_tests, each_test}
+use Rattle.sng_places.specs.Order.{held_by, held_tests, items_in, known_tests, members_in, members_tests}
+use Rattle.sng_places.specs.Order.{pair_tests, pairs_tests, part_tests, scope_tests, test, topic_tests}
+use Rattle.sng_places.specs.Order.{version_tests, written_tests}
 use Rattle.sng_places.specs.Standing.{HasMember, IsListed, IsWritten, Stands, ValuesStand, name_of, value_at}
 use Rattle.sng_places.specs.declared.place.Form.{Form}
 use Rattle.sng_places.specs.declared.place.Form.TheVariants.{Plain, Encoded}
@@ -22,7 +29,8 @@ Standing d ts = All (λ t. Stands d t.place t.value) ts
 abbrev nothing : (d : Data) → Standing d []
 nothing d = All-nil (λ t. Stands d t.place t.value)
 
-one_more : (d : Data) (t : Test) (ts : List Test) → Stands d t.place t.value → Standing d ts → Standing d (t ∷ ts)
+one_more : (d : Data) (t : Test) (ts : List Test) → Stands d t.place t.value → Standing d ts
+    → Standing d (t ∷ ts)
 one_more d t ts stands others = All-cons (λ u. Stands d u.place u.value) t ts stands others
 
 both : (d : Data) (ts us : List Test) → Standing d ts → Standing d us → Standing d (ts ++ us)
@@ -36,18 +44,23 @@ Follow f i ds = (j : ℕ) (x : Data) → get_item j ds ≡ Some x → f (i + j) 
 head_follows : (f : ℕ → Option Data) (i : ℕ) (d : Data) (ds : Items) → Follow f i (item d ds) → f i ≡ Some d
 head_follows f i d ds follow = let e : i ≡ i + 0 = omega arith in ap f e ∙ follow 0 d refl
 
-tail_follows : (f : ℕ → Option Data) (i : ℕ) (d : Data) (ds : Items) → Follow f i (item d ds) → Follow f (suc i) ds
-tail_follows f i d ds follow j x is = let e : suc i + j ≡ i + suc j = omega arith in ap f e ∙ follow (suc j) x is
+tail_follows : (f : ℕ → Option Data) (i : ℕ) (d : Data) (ds : Items) → Follow f i (item d ds)
+    → Follow f (suc i) ds
+tail_follows f i d ds follow j x is =
+    let e : suc i + j ≡ i + suc j = omega arith in ap f e ∙ follow (suc j) x is
 
 -- ---- the items of an array, each at its place
 
-each : (d : Data) (place : ℕ → Place) (rule : Rule) (f : ℕ → Option Data) → ((k : ℕ) (v : Data) → f k ≡ Some v → Stands d (place k) v)
+each : (d : Data) (place : ℕ → Place) (rule : Rule) (f : ℕ → Option Data)
+    → ((k : ℕ) (v : Data) → f k ≡ Some v → Stands d (place k) v)
     → (i : ℕ) (ds : Items) → Follow f i ds → Standing d (each_test place rule i ds)
 each d place rule f stands i no_items follow = nothing d
 each d place rule f stands i (item e ds) follow =
-    one_more d _ _ (stands i e (head_follows f i e ds follow)) (each d place rule f stands (suc i) ds (tail_follows f i e ds follow))
+    one_more d _ _ (stands i e (head_follows f i e ds follow))
+    (each d place rule f stands (suc i) ds (tail_follows f i e ds follow))
 
-pairs : (d : Data) (place : Spot → Place) (f : ℕ → Option Data) → ((i : ℕ) (e : Data) → f i ≡ Some e → Standing d (pair_tests place i e))
+pairs : (d : Data) (place : Spot → Place) (f : ℕ → Option Data)
+    → ((i : ℕ) (e : Data) → f i ≡ Some e → Standing d (pair_tests place i e))
     → (i : ℕ) (ds : Items) → Follow f i ds → Standing d (pairs_tests place i ds)
 pairs d place f stands i no_items follow = nothing d
 pairs d place f stands i (item e ds) follow =
@@ -72,24 +85,35 @@ item_at j (object ms) = refl
 follow_found : (o : ℕ → Option Data) (e : Data) → ((j : ℕ) → o j ≡ at j e) → Follow o 0 (items_in e)
 follow_found o e same j x is = let from : 0 + j ≡ j = omega arith in ap o from ∙ same j ∙ item_at j e ∙ is
 
-pair_alone : (d : Data) (place : Spot → Place) (w : Data) → Spots d place w → (i : ℕ) (e : Data) → at i w ≡ Some e → Standing d (test (place (Pair i)) IsPair e ∷ [])
-pair_alone d place w spots i e is = one_more d (test (place (Pair i)) IsPair e) [] (spots (Pair i) e is) (nothing d)
+pair_alone : (d : Data) (place : Spot → Place) (w : Data) → Spots d place w → (i : ℕ) (e : Data)
+    → at i w ≡ Some e → Standing d (test (place (Pair i)) IsPair e ∷ [])
+pair_alone d place w spots i e is =
+    one_more d (test (place (Pair i)) IsPair e) [] (spots (Pair i) e is) (nothing d)
 
-pair : (d : Data) (place : Spot → Place) (w : Data) → Spots d place w → (i : ℕ) (e : Data) → at i w ≡ Some e → Standing d (pair_tests place i e)
+pair : (d : Data) (place : Spot → Place) (w : Data) → Spots d place w → (i : ℕ) (e : Data) → at i w ≡ Some e
+    → Standing d (pair_tests place i e)
 pair d place w spots i (array (item a (item b no_items))) is =
     let filter : option_and_then (at 0) (at i w) ≡ Some a = ap (option_and_then (at 0)) is in
     let permissions : option_and_then (at 1) (at i w) ≡ Some b = ap (option_and_then (at 1)) is in
     let follow : Follow (λ k. value_at (Permission i k) w) 0 (items_in b) =
     follow_found (λ k. value_at (Permission i k) w) b (λ j. ap (option_and_then (at j)) permissions) in
     let texts : List Test = each_test (λ k. place (Permission i k)) IsText 0 (items_in b) in
-    let others : List Test = test (place (Filter i)) IsFilter a ∷ each_test (λ k. place (Permission i k)) IsPermission 0 (items_in b) in
-    one_more d (test (place (Pair i)) IsPair (array (item a (item b no_items)))) (test (place (Filter i)) IsText a ∷ test (place (Permissions i)) IsArray b ∷ (texts ++ others)) (spots (Pair i) _ is)
-    (one_more d (test (place (Filter i)) IsText a) (test (place (Permissions i)) IsArray b ∷ (texts ++ others)) (spots (Filter i) a filter)
-    (one_more d (test (place (Permissions i)) IsArray b) (texts ++ others) (spots (Permissions i) b permissions)
+    let others : List Test =
+    test (place (Filter i)) IsFilter a
+    ∷ each_test (λ k. place (Permission i k)) IsPermission 0 (items_in b) in
+    one_more d (test (place (Pair i)) IsPair (array (item a (item b no_items))))
+    (test (place (Filter i)) IsText a ∷ test (place (Permissions i)) IsArray b ∷ (texts ++ others))
+    (spots (Pair i) _ is)
+    (one_more d (test (place (Filter i)) IsText a)
+    (test (place (Permissions i)) IsArray b ∷ (texts ++ others)) (spots (Filter i) a filter)
+    (one_more d (test (place (Permissions i)) IsArray b) (texts ++ others)
+    (spots (Permissions i) b permissions)
     (both d texts others
-    (each d (λ k. place (Permission i k)) IsText (λ k. value_at (Permission i k) w) (λ k v at_k. spots (Permission i k) v at_k) 0 (items_in b) follow)
+    (each d (λ k. place (Permission i k)) IsText (λ k. value_at (Permission i k) w)
+    (λ k v at_k. spots (Permission i k) v at_k) 0 (items_in b) follow)
     (one_more d (test (place (Filter i)) IsFilter a) _ (spots (Filter i) a filter)
-    (each d (λ k. place (Permission i k)) IsPermission (λ k. value_at (Permission i k) w) (λ k v at_k. spots (Permission i k) v at_k) 0 (items_in b) follow)))))
+    (each d (λ k. place (Permission i k)) IsPermission (λ k. value_at (Permission i k) w)
+    (λ k v at_k. spots (Permission i k) v at_k) 0 (items_in b) follow)))))
 pair d place w spots i (array no_items) is = pair_alone d place w spots i _ is
 pair d place w spots i (array (item a no_items)) is = pair_alone d place w spots i _ is
 pair d place w spots i (array (item a (item b (item c ds)))) is = pair_alone d place w spots i _ is
@@ -101,33 +125,46 @@ pair d place w spots i (object ms) is = pair_alone d place w spots i _ is
 
 array_of : (d : Data) (place : Spot → Place) (w : Data) → Spots d place w → Standing d (array_tests place w)
 array_of d place w spots =
-    one_more d (test (place Whole) (IsAtMost MAX_PAIRS) w) (pairs_tests place 0 (items_in w)) (spots Whole w refl)
-    (pairs d place (λ i. at i w) (λ i e is. pair d place w spots i e is) 0 (items_in w) (follow_found (λ i. at i w) w (λ j. refl)))
+    one_more d (test (place Whole) (IsAtMost MAX_PAIRS) w) (pairs_tests place 0 (items_in w))
+    (spots Whole w refl)
+    (pairs d place (λ i. at i w) (λ i e is. pair d place w spots i e is) 0 (items_in w)
+    (follow_found (λ i. at i w) w (λ j. refl)))
 
 -- each spot of what is written, or is held by that, has its place
 abbrev Written : Data → (Form → Spot → Place) → Data → Type 0
 Written d place e = (form : Form) (w : Data) → IsWritten form e w → Spots d (place form) w
 
-held : (d : Data) (place : Form → Spot → Place) (text : List ℕ) → Written d place (string text) → (r : Result Data PolicyFault) → held_by text ≡ r → Standing d (held_tests (place Encoded) r)
-held d place text written (Ok w) is = one_more d (test (place Encoded Whole) IsArray w) (array_tests (place Encoded) w) (written Encoded w is Whole w refl) (array_of d (place Encoded) w (written Encoded w is))
+held : (d : Data) (place : Form → Spot → Place) (text : List ℕ) → Written d place (string text)
+    → (r : Result Data PolicyFault) → held_by text ≡ r → Standing d (held_tests (place Encoded) r)
+held d place text written (Ok w) is =
+    one_more d (test (place Encoded Whole) IsArray w) (array_tests (place Encoded) w)
+    (written Encoded w is Whole w refl) (array_of d (place Encoded) w (written Encoded w is))
 held d place text written (Err fault) is = nothing d
 
-in_form : (d : Data) (place : Form → Spot → Place) (e : Data) → Written d place e → Standing d (written_tests place e)
+in_form : (d : Data) (place : Form → Spot → Place) (e : Data) → Written d place e
+    → Standing d (written_tests place e)
 in_form d place (array ds) written = array_of d (place Plain) (array ds) (written Plain (array ds) refl)
 in_form d place (string text) written =
-    let here : Stands d (place Plain Whole) (string text) = written Plain (string text) refl Whole (string text) refl in
+    let here : Stands d (place Plain Whole) (string text) =
+    written Plain (string text) refl Whole (string text) refl in
     let others : List Test = held_tests (place Encoded) (held_by text) in
-    one_more d (test (place Plain Whole) IsEncoded (string text)) (test (place Plain Whole) HoldsJson (string text) ∷ others) here
-    (one_more d (test (place Plain Whole) HoldsJson (string text)) others here (held d place text written (held_by text) refl))
+    one_more d (test (place Plain Whole) IsEncoded (string text))
+    (test (place Plain Whole) HoldsJson (string text) ∷ others) here
+    (one_more d (test (place Plain Whole) HoldsJson (string text)) others here
+    (held d place text written (held_by text) refl))
 in_form d place null written = nothing d
 in_form d place (boolean b) written = nothing d
 in_form d place (number n) written = nothing d
 in_form d place (object ms) written = nothing d
 
-scope : (d : Data) (place : Form → Spot → Place) (e : Data) → Written d place e → Standing d (scope_tests place e)
-scope d place e written = one_more d (test (place Plain Whole) IsScope e) (written_tests place e) (written Plain e refl Whole e refl) (in_form d place e written)
+scope : (d : Data) (place : Form → Spot → Place) (e : Data) → Written d place e
+    → Standing d (scope_tests place e)
+scope d place e written =
+    one_more d (test (place Plain Whole) IsScope e) (written_tests place e)
+    (written Plain e refl Whole e refl) (in_form d place e written)
 
-topic : (d : Data) (place : Form → Spot → Place) (e : Data) → Written d place e → Standing d (topic_tests place e)
+topic : (d : Data) (place : Form → Spot → Place) (e : Data) → Written d place e
+    → Standing d (topic_tests place e)
 topic d place e written =
     let here : Stands d (place Plain Whole) e = written Plain e refl Whole e refl in
     let named : Test = test (place Plain Whole) IsTopic e in
@@ -138,32 +175,41 @@ topic d place e written =
 abbrev Tests : Type 0
 Tests = (Form → Spot → Place) → Data → List Test
 
-members : (d : Data) (part : Part) (rule : Rule) (tests : Tests) → ((place : Form → Spot → Place) (e : Data) → Written d place e → Standing d (tests place e))
-    → (ms : Members) → ((name : List ℕ) (e : Data) → HasMember ms name e → IsListed d part name e) → Standing d (members_tests part rule tests ms)
+members : (d : Data) (part : Part) (rule : Rule) (tests : Tests)
+    → ((place : Form → Spot → Place) (e : Data) → Written d place e → Standing d (tests place e))
+    → (ms : Members) → ((name : List ℕ) (e : Data) → HasMember ms name e → IsListed d part name e)
+    → Standing d (members_tests part rule tests ms)
 members d part rule tests stand no_members listed = nothing d
 members d part rule tests stand (member name e ms) listed =
     let here : IsListed d part name e = listed name e (inl (refl, refl)) in
-    one_more d (test (places.Name part name) rule (string name)) (tests (places.Value part name) e ++ members_tests part rule tests ms) (refl, (e, here))
+    one_more d (test (places.Name part name) rule (string name))
+    (tests (places.Value part name) e ++ members_tests part rule tests ms) (refl, (e, here))
     (both d (tests (places.Value part name) e) (members_tests part rule tests ms)
     (stand (places.Value part name) e (λ form w written spot v is. (e, (here, (w, (written, is))))))
     (members d part rule tests stand ms (λ other x has. listed other x (inr has))))
 
-in_part : (d : Data) (part : Part) (most : ℕ) (rule : Rule) (tests : Tests) → ((place : Form → Spot → Place) (e : Data) → Written d place e → Standing d (tests place e))
+in_part : (d : Data) (part : Part) (most : ℕ) (rule : Rule) (tests : Tests)
+    → ((place : Form → Spot → Place) (e : Data) → Written d place e → Standing d (tests place e))
     → (o : Option Data) → get (name_of part) d ≡ o → Standing d (part_tests part most rule tests o)
 in_part d part most rule tests stand None is = nothing d
 in_part d part most rule tests stand (Some p) is =
     let many : Test = test (places.Part part) (IsAtMost most) p in
     let others : List Test = members_tests part rule tests (members_in p) in
-    one_more d (test (places.Part part) IsObject p) (many ∷ others) is (one_more d many others is (members d part rule tests stand (members_in p) (λ name e has. (p, (is, has)))))
+    one_more d (test (places.Part part) IsObject p) (many ∷ others) is
+    (one_more d many others is (members d part rule tests stand (members_in p)
+    (λ name e has. (p, (is, has)))))
 
 version : (d : Data) (o : Option Data) → get (codes "version") d ≡ o → Standing d (version_tests o)
 version d None is = nothing d
 version d (Some v) is = one_more d (test places.Version IsOne v) [] is (nothing d)
 
-known : (d : Data) (ms : Members) → ((name : List ℕ) (e : Data) → HasMember ms name e → HasMember (members_in d) name e) → Standing d (known_tests ms)
+known : (d : Data) (ms : Members)
+    → ((name : List ℕ) (e : Data) → HasMember ms name e → HasMember (members_in d) name e)
+    → Standing d (known_tests ms)
 known d no_members has = nothing d
 known d (member name e ms) has =
-    one_more d (test (places.Member name) IsKnown (string name)) (known_tests ms) (refl, (e, has name e (inl (refl, refl)))) (known d ms (λ other x more. has other x (inr more)))
+    one_more d (test (places.Member name) IsKnown (string name)) (known_tests ms)
+    (refl, (e, has name e (inl (refl, refl)))) (known d ms (λ other x more. has other x (inr more)))
 
 pub values_stand : ValuesStand
 values_stand d =
@@ -177,6 +223,8 @@ values_stand d =
     (one_more d (test places.Whole HasVersion d) others refl
     (both d versions (names ++ (clients ++ (sources ++ topics))) (version d (get (codes "version") d) refl)
     (both d names (clients ++ (sources ++ topics)) (known d (members_in d) (λ name e has. has))
-    (both d clients (sources ++ topics) (in_part d Clients MAX_CLIENTS IsClient scope_tests (scope d) (get (codes "clients") d) refl)
-    (both d sources topics (in_part d Sources MAX_SOURCES IsSource scope_tests (scope d) (get (codes "sources") d) refl)
+    (both d clients (sources ++ topics)
+    (in_part d Clients MAX_CLIENTS IsClient scope_tests (scope d) (get (codes "clients") d) refl)
+    (both d sources topics (in_part d Sources MAX_SOURCES IsSource scope_tests (scope d)
+    (get (codes "sources") d) refl)
     (in_part d Topics MAX_TOPICS IsTopicId topic_tests (topic d) (get (codes "topics") d) refl))))))

@@ -2,7 +2,11 @@
 use Rattle.sng_scope.specs.declared.fault.PolicyFault.{PolicyFault}
 use Rattle.sng_scope.specs.declared.fault.PolicyFault.TheVariants as faults
 use Rattle.sng_places.specs.declared.flaw.Flaw.{Flaw}
-use Rattle.sng_places.specs.declared.flaw.Flaw.TheVariants.{NotJson, NotObject, NoVersion, OtherVersion, UnknownMember, NotScope, NotPair, NotArray, NotText, Base64, NotEncodedJson, Filter, Permission, ClientId, Source, TopicId, TopicName, TooMany}
+use Rattle.sng_places.specs.declared.flaw.Flaw.TheVariants.{NotJson, NotObject, NoVersion, OtherVersion}
+use Rattle.sng_places.specs.declared.flaw.Flaw.TheVariants.{UnknownMember, NotScope, NotPair, NotArray}
+use Rattle.sng_places.specs.declared.flaw.Flaw.TheVariants.{NotText, Base64, NotEncodedJson, Filter}
+use Rattle.sng_places.specs.declared.flaw.Flaw.TheVariants.{Permission, ClientId, Source, TopicId, TopicName}
+use Rattle.sng_places.specs.declared.flaw.Flaw.TheVariants.{TooMany}
 
 abbrev pub fault_of : Flaw → PolicyFault
 fault_of NotJson = faults.NotJson

@@ -31,7 +31,9 @@ forget (Err fault) = Err fault
 
 -- the search goes through the tests of a policy in their order, and ends at the first that fails
 abbrev pub TestsAreInOrder : Type 0
-TestsAreInOrder = (text : List ℕ) → text_check text ≡ or_stop (value_of text) (stop_at places.Whole flaws.NotJson) >>= (λ d. first (tests_of d))
+TestsAreInOrder =
+    (text : List ℕ) → text_check text
+    ≡ or_stop (value_of text) (stop_at places.Whole flaws.NotJson) >>= (λ d. first (tests_of d))
 
 -- the search finds a place exactly where the text is no policy, with the fault of the text
 abbrev pub PlacesAreOfFaults : Type 0

@@ -1,7 +1,10 @@
 -- What is tested of a policy, in the documented order: each test is of the value that stands at a place, by a
 -- rule. The first that fails is the fault that is found.
-use Rattle.std.specs.Prelude.{ℕ, suc, Bool, true, false, ◌==◌, ◌||◌, nat_lt, List, [], ◌∷◌, ◌++◌, if◌then◌else◌, Option, Some, None, option_map, option_and_then, unwrap_or, Result, Ok, Err, codes}
-use Rattle.serde_json.specs.Data.{Data, null, boolean, number, string, array, object, Items, no_items, item, Members, no_members, member}
+use Rattle.std.specs.Prelude.{ℕ, suc, Bool, true, false, ◌==◌, ◌||◌, nat_lt, List, [], ◌∷◌, ◌++◌}
+use Rattle.std.specs.Prelude.{if◌then◌else◌, Option, Some, None, option_map, option_and_then, unwrap_or}
+use Rattle.std.specs.Prelude.{Result, Ok, Err, codes}
+use Rattle.serde_json.specs.Data.{Data, null, boolean, number, string, array, object, Items, no_items, item}
+use Rattle.serde_json.specs.Data.{Members, no_members, member}
 use Rattle.serde_json.specs.Events.{items_len, members_len}
 use Rattle.serde_json.specs.Find.{get, as_array, as_number, as_object, as_str, as_u64}
 use Rattle.sng_text.specs.ClientIds.{client_id_fault}
@@ -112,7 +115,8 @@ flaw_of IsPair d = unless_some (option_and_then two_of (as_array d)) flaws.NotPa
 flaw_of IsArray d = unless_some (as_array d) flaws.NotArray
 flaw_of IsText d = unless_some (as_str d) flaws.NotText
 flaw_of IsFilter d = option_map (flaws.Filter (text_of d)) (filter_fault (text_of d))
-flaw_of IsPermission d = unless_true (says (codes "pub") d || says (codes "sub") d) (flaws.Permission (text_of d))
+flaw_of IsPermission d =
+    unless_true (says (codes "pub") d || says (codes "sub") d) (flaws.Permission (text_of d))
 flaw_of IsTopic d = option_map (flaws.TopicName (text_of d)) (name_fault (text_of d))
 
 -- ---- tests

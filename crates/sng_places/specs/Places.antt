@@ -1,6 +1,7 @@
 -- The place of the first fault of a policy text: what is tested, in the order in which it is tested. It
 -- follows the definition of the policy that a text gives (`sng_scope`).
-use Rattle.std.specs.Prelude.{ℕ, nat_lt, List, if◌then◌else◌, Option, Some, None, ok_or, Result, Ok, Err, codes}
+use Rattle.std.specs.Prelude.{ℕ, nat_lt, List, if◌then◌else◌, Option, Some, None, ok_or, Result, Ok, Err}
+use Rattle.std.specs.Prelude.{codes}
 use Rattle.serde_json.specs.Data.{Data, Members, no_members, member}
 use Rattle.serde_json.specs.Events.{members_len}
 use Rattle.serde_json.specs.Find.{get, as_object, as_str}
@@ -47,7 +48,8 @@ within part name (Ok checked) = Ok checked
 within part name (Err stop) = Err (stop_in part name stop)
 
 abbrev pub client_check : List ℕ → Result Unit Stop
-client_check name = unless (client_id_fault name) (λ fault. stop_at (places.Name Clients name) (flaws.ClientId fault))
+client_check name =
+    unless (client_id_fault name) (λ fault. stop_at (places.Name Clients name) (flaws.ClientId fault))
 
 abbrev pub clients_check : Members → Result Unit Stop
 clients_check no_members = Ok tt
@@ -67,7 +69,8 @@ sources_check (member name d ms) = do
 abbrev pub topic_check : List ℕ → Data → Result Unit Stop
 topic_check name d =
     ok_or (as_str d) (stop_at (places.Value Topics name Plain spots.Whole) flaws.NotText)
-    >>= (λ text. unless (name_fault text) (λ fault. stop_at (places.Value Topics name Plain spots.Whole) (flaws.TopicName text fault)))
+    >>= (λ text. unless (name_fault text)
+    (λ fault. stop_at (places.Value Topics name Plain spots.Whole) (flaws.TopicName text fault)))
 
 abbrev pub topics_check : Members → Result Unit Stop
 topics_check no_members = Ok tt
@@ -82,7 +85,8 @@ topics_check (member name d ms) = do
 abbrev pub part_within : Part → ℕ → Data → Result Members Stop
 part_within part most d =
     ok_or (as_object d) (stop_at (places.Part part) flaws.NotObject)
-    >>= (λ ms. if nat_lt most (members_len ms) then Err (stop_at (places.Part part) (flaws.TooMany (members_len ms) most)) else Ok ms)
+    >>= (λ ms. if nat_lt most (members_len ms)
+    then Err (stop_at (places.Part part) (flaws.TooMany (members_len ms) most)) else Ok ms)
 
 -- what is absent is empty
 abbrev pub clients_in : Option Data → Result Unit Stop

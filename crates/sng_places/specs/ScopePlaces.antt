@@ -1,6 +1,7 @@
 -- The place of the first fault of a scope: what is tested, in the order in which it is tested. It follows the
 -- definition of the scope that a text gives (`sng_scope`).
-use Rattle.std.specs.Prelude.{ℕ, suc, ◌||◌, nat_lt, List, [], if◌then◌else◌, Option, Some, None, option_and_then, unwrap_or, ok_or, Result, Ok, Err, codes}
+use Rattle.std.specs.Prelude.{ℕ, suc, ◌||◌, nat_lt, List, [], if◌then◌else◌, Option, Some, None}
+use Rattle.std.specs.Prelude.{option_and_then, unwrap_or, ok_or, Result, Ok, Err, codes}
 use Rattle.serde_json.specs.Data.{Data, null, boolean, number, string, array, object, Items, no_items, item}
 use Rattle.serde_json.specs.Events.{items_len}
 use Rattle.serde_json.specs.Find.{as_str, as_array}
@@ -39,7 +40,9 @@ no_text_from k (item d ds) = if is_text d then no_text_from (suc k) ds else Some
 -- the place and the text of the first permission that is neither `pub` nor `sub`
 abbrev pub other_from : ℕ → Items → Option (ℕ × List ℕ)
 other_from k no_items = None
-other_from k (item d ds) = if says (codes "pub") d || says (codes "sub") d then other_from (suc k) ds else Some (k, unwrap_or (as_str d) [])
+other_from k (item d ds) =
+    if says (codes "pub") d || says (codes "sub") d then other_from (suc k) ds
+    else Some (k, unwrap_or (as_str d) [])
 
 -- each permission is a text
 abbrev pub texts_by : Form → ℕ → Option ℕ → Result Unit ScopeStop
@@ -72,7 +75,8 @@ two_check form i first second = do
 -- the pair that has this place
 abbrev pub pair_check : Form → ℕ → Data → Result Unit ScopeStop
 pair_check form i d =
-    ok_or (option_and_then two_of (as_array d)) (stop_at form (Pair i) flaws.NotPair) >>= (λ two. two_check form i two.0 two.1)
+    ok_or (option_and_then two_of (as_array d)) (stop_at form (Pair i) flaws.NotPair) >>=
+    (λ two. two_check form i two.0 two.1)
 
 -- pair by pair, of which the first has this place
 abbrev pub pairs_check : Form → ℕ → Items → Result Unit ScopeStop

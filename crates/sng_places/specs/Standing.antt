@@ -1,5 +1,6 @@
 -- Which value stands at a place of a policy.
-use Rattle.std.specs.Prelude.{◌≡◌, ◌⊎◌, ℕ, List, ◌∷◌, ◌++◌, Option, Some, None, option_and_then, Ok, Err, codes, All}
+use Rattle.std.specs.Prelude.{◌≡◌, ◌⊎◌, ℕ, List, ◌∷◌, ◌++◌, Option, Some, None, option_and_then, Ok, Err}
+use Rattle.std.specs.Prelude.{codes, All}
 use Rattle.serde_json.specs.Data.{Data, string, Members, no_members, member}
 use Rattle.serde_json.specs.Find.{at, get}
 use Rattle.sng_scope.specs.Texts.{value_of}
@@ -68,6 +69,9 @@ pub record FailsAt (d : Data) (found : Found) : Type 0 where
   pub flaw : flaw_of failing.rule failing.value ≡ Some found.flaw
   pub stands : Stands d failing.place failing.value
 
--- what is found of a text that is JSON: the value at the place has the flaw, and everything before it has none
+-- what is found of a text that is JSON: the value at the place has the flaw, and everything before it has
+-- none
 abbrev pub FaultsStand : Type 0
-FaultsStand = (text : List ℕ) (d : Data) (found : Found) → value_of text ≡ Ok d → text_check text ≡ Err (At found) → FailsAt d found
+FaultsStand =
+    (text : List ℕ) (d : Data) (found : Found) → value_of text ≡ Ok d → text_check text ≡ Err (At found)
+    → FailsAt d found

@@ -2,7 +2,8 @@
 ghost use Rattle.std.specs.Prelude.{◌≡◌, ◌⊎◌, OnOk, IfErr, Ok, Err};
 ghost use Rattle.serde_json.specs.View.{view, members_view};
 ghost use Rattle.sng_places.specs.ScopePlaces.{scope_check};
-ghost use Rattle.sng_places.specs.Places.{client_check, clients_check, sources_check, topic_check, topics_check, within};
+ghost use Rattle.sng_places.specs.Places.{client_check, clients_check, sources_check, topic_check};
+ghost use Rattle.sng_places.specs.Places.{topics_check, within};
 
 use crate::scope::check_scope;
 use crate::stop::ScopeStop;

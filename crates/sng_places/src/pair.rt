@@ -3,7 +3,8 @@ ghost use Rattle.std.specs.Prelude.{◌≡◌, ◌⊎◌, OnOk, IfErr, Ok, Err, 
 ghost use Rattle.serde_json.specs.Find.{as_str};
 ghost use Rattle.serde_json.specs.View.{view, items_view};
 ghost use Rattle.sng_text.specs.Texts.{filter_fault};
-ghost use Rattle.sng_places.specs.ScopePlaces.{pair_check, two_check, two_of, parts_check, texts_by, filter_by, permissions_by, no_text_from, other_from};
+ghost use Rattle.sng_places.specs.ScopePlaces.{pair_check, two_check, two_of, parts_check, texts_by};
+ghost use Rattle.sng_places.specs.ScopePlaces.{filter_by, permissions_by, no_text_from, other_from};
 
 use crate::stop::ScopeStop;
 use crate::text::octets;

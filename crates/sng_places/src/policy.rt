@@ -3,7 +3,8 @@ ghost use Rattle.std.specs.Prelude.{◌≡◌, ◌⊎◌, OnOk, IfErr, Ok, Err, 
 ghost use Rattle.serde_json.specs.Events.{members_len};
 ghost use Rattle.serde_json.specs.Find.{get};
 ghost use Rattle.serde_json.specs.View.{view, members_view};
-ghost use Rattle.sng_places.specs.Places.{text_check, data_check, object_check, version_check, known_check, unknown_of, part_within, clients_in, sources_in, topics_in};
+ghost use Rattle.sng_places.specs.Places.{text_check, data_check, object_check, version_check, known_check};
+ghost use Rattle.sng_places.specs.Places.{unknown_of, part_within, clients_in, sources_in, topics_in};
 
 use crate::entries::{check_clients, check_sources, check_topics};
 use crate::text::octets;

@@ -22,11 +22,16 @@ made filter permissions = record { filter = filter; publishes = permissions.0; s
 same_pair-Decides : (pair other : Pair) → Decides (same_pair pair other) (pair ≡ other)
 same_pair-Decides pair other = (
   λ is.
-      let filter = and_parts (bytes_eq pair.filter other.filter) (beq pair.publishes other.publishes && beq pair.subscribes other.subscribes) is in
-      let permissions = and_parts (beq pair.publishes other.publishes) (beq pair.subscribes other.subscribes) filter.1 in
+      let filter =
+      and_parts (bytes_eq pair.filter other.filter)
+      (beq pair.publishes other.publishes && beq pair.subscribes other.subscribes) is in
+      let permissions =
+      and_parts (beq pair.publishes other.publishes) (beq pair.subscribes other.subscribes) filter.1 in
       let filters : pair.filter ≡ other.filter = (bytes_eq-Decides pair.filter other.filter).0 filter.0 in
-      let publishes : pair.publishes ≡ other.publishes = (booleans_Decides pair.publishes other.publishes).0 permissions.0 in
-      let subscribes : pair.subscribes ≡ other.subscribes = (booleans_Decides pair.subscribes other.subscribes).0 permissions.1 in
+      let publishes : pair.publishes ≡ other.publishes =
+      (booleans_Decides pair.publishes other.publishes).0 permissions.0 in
+      let subscribes : pair.subscribes ≡ other.subscribes =
+      (booleans_Decides pair.subscribes other.subscribes).0 permissions.1 in
       ap₂ made filters (ap₂ both publishes subscribes),
   λ is.
       and_from _ _ ((bytes_eq-Decides pair.filter other.filter).1 (ap (λ (p : Pair). p.filter) is))
@@ -39,11 +44,14 @@ same_scopes-Decides None None = (λ is. refl, λ is. refl)
 same_scopes-Decides None (Some others) = (λ is. absurd (cc), λ is. absurd (cc))
 same_scopes-Decides (Some pairs) None = (λ is. absurd (cc), λ is. absurd (cc))
 same_scopes-Decides (Some pairs) (Some others) =
-    let same : Decides (pointwise same_pair pairs others) (pairs ≡ others) = slice_eq-Decides same_pair-Decides pairs others (pointwise same_pair pairs others) refl in (
+    let same : Decides (pointwise same_pair pairs others) (pairs ≡ others) =
+    slice_eq-Decides same_pair-Decides pairs others (pointwise same_pair pairs others) refl in (
       λ is. ap Some (same.0 is),
       λ is. let equal : pairs ≡ others = cc in same.1 equal,
     )
 
 pub same_scope-Decides : (before after : Policy) (client : List ℕ)
-    → Decides (same_scope before after client) (scope_of before.clients client ≡ scope_of after.clients client)
-same_scope-Decides before after client = same_scopes-Decides (scope_of before.clients client) (scope_of after.clients client)
+    → Decides (same_scope before after client)
+    (scope_of before.clients client ≡ scope_of after.clients client)
+same_scope-Decides before after client =
+    same_scopes-Decides (scope_of before.clients client) (scope_of after.clients client)

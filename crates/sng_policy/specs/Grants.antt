@@ -76,7 +76,8 @@ publish_grant policy client name = grant_by Publish NoScope MissingPub (scope_of
 
 -- to a publish under the name by the source
 abbrev pub source_grant : Policy → List ℕ → List ℕ → Grant
-source_grant policy source name = grant_by Publish UnknownSource MissingPub (scope_of policy.sources source) name
+source_grant policy source name =
+    grant_by Publish UnknownSource MissingPub (scope_of policy.sources source) name
 
 -- to a message with the name for the client
 abbrev pub receive_grant : Policy → List ℕ → List ℕ → Grant

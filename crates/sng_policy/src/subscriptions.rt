@@ -44,7 +44,8 @@ pub fn may_subscribe(
     }
 }
 
-/// Whether the filter is included in the union of the pairs' filters with `sub`, of which this is the profile.
+/// Whether the filter is included in the union of the pairs' filters with `sub`, of which this is the
+/// profile.
 fn cover_by(
     alloc: Global,
     filter: &TopicFilter,

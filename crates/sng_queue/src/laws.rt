@@ -1,7 +1,8 @@
 //! The law of the queue, and the limits' numbers. Each function only states its law: its contract is the law,
 //! and calling it does nothing.
 ghost use Rattle.std.specs.Prelude.{◌≡◌};
-ghost use Rattle.sng_queue.specs.declared.limits.TheConstants.{MAX_QUEUED, MAX_TRIES, MAX_WAITING_NAME, MAX_WAITING_PAYLOAD};
+ghost use Rattle.sng_queue.specs.declared.limits.TheConstants.{MAX_QUEUED, MAX_TRIES, MAX_WAITING_NAME};
+ghost use Rattle.sng_queue.specs.declared.limits.TheConstants.{MAX_WAITING_PAYLOAD};
 ghost use Rattle.sng_queue.specs.Laws.{MessagesStayInOrder};
 
 /// Messages leave in the order in which they came. To settle takes the front alone; to announce, to hand over

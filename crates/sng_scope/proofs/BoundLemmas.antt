@@ -1,5 +1,7 @@
 -- Each scope and each policy that a text gives keeps to its bounds.
-use Rattle.std.proofs.Common.{◌≡◌, ℕ, suc, ◌+◌, ◌≤◌, Bool, true, false, not, cond, ltb, List, [], ◌∷◌, length, All, Ordering, Less, Equal, Greater, Option, Some, None, ok_or, Result, Ok, Err, IfOk, codes, refl, arith}
+use Rattle.std.proofs.Common.{◌≡◌, ℕ, suc, ◌+◌, ◌≤◌, Bool, true, false, not, cond, ltb, List, [], ◌∷◌, length}
+use Rattle.std.proofs.Common.{All, Ordering, Less, Equal, Greater, Option, Some, None, ok_or, Result, Ok, Err}
+use Rattle.std.proofs.Common.{IfOk, codes, refl, arith}
 use Rattle.std.specs.Ordering.{nat_cmp, match_ordering}
 use Rattle.std.specs.Cmp.Lexicographic.{slice_cmp}
 use Rattle.std.specs.BTreeMap.{insert_entry}
@@ -7,7 +9,8 @@ use Rattle.std.specs.Map.{keys_of, values_of}
 use Rattle.std.proofs.lemmas.Bool.{ltb-false}
 use Rattle.std.proofs.lemmas.List.Elements.{All-nil, All-cons}
 use Rattle.std.proofs.lemmas.Map.Views.{All-keys-insert_entry, All-values-insert_entry}
-use Rattle.serde_json.specs.Data.{Data, null, boolean, number, string, array, object, Items, no_items, item, Members, no_members, member}
+use Rattle.serde_json.specs.Data.{Data, null, boolean, number, string, array, object, Items, no_items, item}
+use Rattle.serde_json.specs.Data.{Members, no_members, member}
 use Rattle.serde_json.specs.Events.{items_len, members_len}
 use Rattle.serde_json.specs.Find.{as_object, as_str, get}
 use Rattle.sng_text.specs.ClientIds.{is_client_id}
@@ -18,7 +21,9 @@ use Rattle.sng_grants.specs.declared.limits.TheConstants.{MAX_CLIENTS, MAX_PAIRS
 use Rattle.sng_scope.specs.Bounds.{IsTopicId, AreWithin, IsPolicy, ScopesAreBounded, PoliciesAreBounded}
 use Rattle.sng_grants.specs.Scopes.{IsScope}
 use Rattle.sng_scope.specs.Numerals.{topic_id_of}
-use Rattle.sng_scope.specs.Policies.{client_of, name_of_data, clients_onto, sources_onto, topics_onto, members_within, clients_of, sources_of, topics_of, is_policy_object, parts_of, policy_of_data}
+use Rattle.sng_scope.specs.Policies.{client_of, name_of_data, clients_onto, sources_onto, topics_onto}
+use Rattle.sng_scope.specs.Policies.{members_within, clients_of, sources_of, topics_of, is_policy_object}
+use Rattle.sng_scope.specs.Policies.{parts_of, policy_of_data}
 use Rattle.sng_scope.specs.Scopes.{are_texts, are_permissions, pair_parts, pair_of, pairs_of, scope_of_items}
 use Rattle.sng_grants.specs.Sources.{with_scope}
 use Rattle.sng_scope.specs.Texts.{value_of, items_of_text, scope_of_encoded, scope_of_data}
@@ -27,19 +32,23 @@ use Rattle.sng_scope.specs.Steps.{◌>>=◌}
 use Rattle.sng_grants.specs.declared.scope.Pair.{Pair}
 use Rattle.sng_grants.specs.declared.policy.Policy.{Policy}
 use Rattle.sng_scope.specs.declared.fault.PolicyFault.{PolicyFault}
-use Rattle.sng_scope.specs.declared.fault.PolicyFault.TheVariants.{Shape, BadFilter, BadPermission, BadSource, BadTopicId, TooMany}
+use Rattle.sng_scope.specs.declared.fault.PolicyFault.TheVariants.{Shape, BadFilter, BadPermission, BadSource}
+use Rattle.sng_scope.specs.declared.fault.PolicyFault.TheVariants.{BadTopicId, TooMany}
 
 -- what holds after a step, since each value that the step gives leads to it
-after : {A B E : Type 0} (r : Result A E) (next : A → Result B E) (P : A → Type 0) (Q : B → Type 0) → IfOk r P → ((a : A) → P a → IfOk (next a) Q) → IfOk (r >>= next) Q
+after : {A B E : Type 0} (r : Result A E) (next : A → Result B E) (P : A → Type 0) (Q : B → Type 0) → IfOk r P
+    → ((a : A) → P a → IfOk (next a) Q) → IfOk (r >>= next) Q
 after (Ok a) next P Q h k = k a h
 after (Err e) next P Q h k = tt
 
-after_any : {A B E : Type 0} (r : Result A E) (next : A → Result B E) (Q : B → Type 0) → ((a : A) → IfOk (next a) Q) → IfOk (r >>= next) Q
+after_any : {A B E : Type 0} (r : Result A E) (next : A → Result B E) (Q : B → Type 0)
+    → ((a : A) → IfOk (next a) Q) → IfOk (r >>= next) Q
 after_any (Ok a) next Q k = k a
 after_any (Err e) next Q k = tt
 
 -- a limit that is kept
-within : {A : Type 0} (b : Bool) (r : Result A PolicyFault) (Q : A → Type 0) → (b ≡ false → IfOk r Q) → IfOk (cond b (Err TooMany) r) Q
+within : {A : Type 0} (b : Bool) (r : Result A PolicyFault) (Q : A → Type 0) → (b ≡ false → IfOk r Q)
+    → IfOk (cond b (Err TooMany) r) Q
 within true r Q k = tt
 within false r Q k = k refl
 
@@ -47,7 +56,8 @@ abbrev HasFilter : Pair → Type 0
 HasFilter pair = is_filter pair.filter ≡ true
 
 pair_tests : (texts filter permissions : Bool) (pair : Pair) → (filter ≡ true → HasFilter pair)
-    → IfOk (cond (not texts) (Err Shape) (cond (not filter) (Err BadFilter) (cond (not permissions) (Err BadPermission) (Ok pair)))) HasFilter
+    → IfOk (cond (not texts) (Err Shape)
+    (cond (not filter) (Err BadFilter) (cond (not permissions) (Err BadPermission) (Ok pair)))) HasFilter
 pair_tests false filter permissions pair h = tt
 pair_tests true false permissions pair h = tt
 pair_tests true true false pair h = tt
@@ -65,7 +75,8 @@ pairs_of-pairs : (ds : Items) → IfOk (pairs_of ds) (IsPairs (items_len ds))
 pairs_of-pairs no_items = (refl, All-nil HasFilter)
 pairs_of-pairs (item d ds) =
     after (pair_of d) _ HasFilter (IsPairs (suc (items_len ds))) (pair_of-filter d) (λ pair filter.
-    after (pairs_of ds) _ (IsPairs (items_len ds)) (IsPairs (suc (items_len ds))) (pairs_of-pairs ds) (λ pairs h.
+    after (pairs_of ds) _ (IsPairs (items_len ds)) (IsPairs (suc (items_len ds))) (pairs_of-pairs ds)
+    (λ pairs h.
     (omega (arith, h.0), All-cons HasFilter pair pairs filter h.1)))
 
 if_ok_more : {A E : Type 0} (r : Result A E) (P Q : A → Type 0) → IfOk r P → ((a : A) → P a → Q a) → IfOk r Q
@@ -76,7 +87,8 @@ scope_of_items-scope : (ds : Items) → IfOk (scope_of_items ds) IsScope
 scope_of_items-scope ds =
     within (ltb MAX_PAIRS (items_len ds)) (pairs_of ds) IsScope (λ few.
     let most : items_len ds ≤ MAX_PAIRS = ltb-false MAX_PAIRS (items_len ds) few in
-    if_ok_more (pairs_of ds) (IsPairs (items_len ds)) IsScope (pairs_of-pairs ds) (λ pairs h. (omega (arith, h.0), h.1)))
+    if_ok_more (pairs_of ds) (IsPairs (items_len ds)) IsScope (pairs_of-pairs ds)
+    (λ pairs h. (omega (arith, h.0), h.1)))
 
 scope_of_encoded-scope : (text : List ℕ) → IfOk (scope_of_encoded text) IsScope
 scope_of_encoded-scope text = after_any (items_of_text text) scope_of_items IsScope scope_of_items-scope
@@ -93,15 +105,18 @@ pub scopes_are_bounded : ScopesAreBounded
 scopes_are_bounded text = after_any (value_of text) scope_of_data IsScope scope_of_data-scope
 
 -- one more entry at most
-placed : {A : Type 0} (o : Ordering) (n : ℕ) (a b c : List A) → length a ≤ n → length b ≤ n → length c ≤ n → length (match_ordering o a b c) ≤ n
+placed : {A : Type 0} (o : Ordering) (n : ℕ) (a b c : List A) → length a ≤ n → length b ≤ n → length c ≤ n
+    → length (match_ordering o a b c) ≤ n
 placed Less n a b c h i j = h
 placed Equal n a b c h i j = i
 placed Greater n a b c h i j = j
 
-length-insert_entry : {K V : Type 0} (cmp : K → K → Ordering) (entries : List (K × V)) (key : K) (value : V) → length (insert_entry cmp entries key value) ≤ suc (length entries)
+length-insert_entry : {K V : Type 0} (cmp : K → K → Ordering) (entries : List (K × V)) (key : K) (value : V)
+    → length (insert_entry cmp entries key value) ≤ suc (length entries)
 length-insert_entry cmp [] key value = omega arith
 length-insert_entry cmp (e ∷ entries) key value =
-    let more : length (insert_entry cmp entries key value) ≤ suc (length entries) = length-insert_entry cmp entries key value in
+    let more : length (insert_entry cmp entries key value) ≤ suc (length entries) =
+    length-insert_entry cmp entries key value in
     placed (cmp key e.0) (suc (suc (length entries))) _ _ _ (omega arith) (omega arith) (omega arith)
 
 abbrev IsClient : List ℕ → Type 0
@@ -115,71 +130,92 @@ tested_name true text is = is
 tested_name false text is = tt
 
 name_of_data-name : (d : Data) → IfOk (name_of_data d) IsName
-name_of_data-name d = after_any (ok_or (as_str d) Shape) _ IsName (λ text. tested_name (is_name text) text refl)
+name_of_data-name d =
+    after_any (ok_or (as_str d) Shape) _ IsName (λ text. tested_name (is_name text) text refl)
 
-clients_onto-within : (ms : Members) (n : ℕ) (clients : List (List ℕ × List Pair)) → length clients + members_len ms ≤ n → All IsClient (keys_of clients) → All IsScope (values_of clients)
+clients_onto-within : (ms : Members) (n : ℕ) (clients : List (List ℕ × List Pair))
+    → length clients + members_len ms ≤ n → All IsClient (keys_of clients) → All IsScope (values_of clients)
     → IfOk (clients_onto clients ms) (AreWithin n IsClient IsScope)
-clients_onto-within no_members n clients h keys values = record { few = omega arith; keys = keys; values = values }
+clients_onto-within no_members n clients h keys values =
+    record { few = omega arith; keys = keys; values = values }
 clients_onto-within (member name d ms) n clients h keys values =
-    after (client_of name) _ IsClient (AreWithin n IsClient IsScope) (client_of-client name) (λ client is_client.
-    after (scope_of_data d) _ IsScope (AreWithin n IsClient IsScope) (scope_of_data-scope d) (λ scope is_scope.
+    after (client_of name) _ IsClient (AreWithin n IsClient IsScope) (client_of-client name)
+    (λ client is_client.
+    after (scope_of_data d) _ IsScope (AreWithin n IsClient IsScope) (scope_of_data-scope d)
+    (λ scope is_scope.
     clients_onto-within ms n (with_scope clients client scope)
     (omega (arith, length-insert_entry (slice_cmp nat_cmp) clients client scope))
     (All-keys-insert_entry (slice_cmp nat_cmp) client scope IsClient clients keys is_client)
     (All-values-insert_entry (slice_cmp nat_cmp) client scope IsScope clients values is_scope)))
 
-sources_onto-within : (ms : Members) (n : ℕ) (sources : List (List ℕ × List Pair)) → length sources + members_len ms ≤ n → All IsAddress (keys_of sources) → All IsScope (values_of sources)
+sources_onto-within : (ms : Members) (n : ℕ) (sources : List (List ℕ × List Pair))
+    → length sources + members_len ms ≤ n → All IsAddress (keys_of sources) → All IsScope (values_of sources)
     → IfOk (sources_onto sources ms) (AreWithin n IsAddress IsScope)
-sources_onto-within no_members n sources h keys values = record { few = omega arith; keys = keys; values = values }
+sources_onto-within no_members n sources h keys values =
+    record { few = omega arith; keys = keys; values = values }
 sources_onto-within (member name d ms) n sources h keys values =
-    after (ok_or (ipv4_of name) BadSource) _ IsAddress (AreWithin n IsAddress IsScope) (ipv4_of-address name) (λ source is_address.
-    after (scope_of_data d) _ IsScope (AreWithin n IsAddress IsScope) (scope_of_data-scope d) (λ scope is_scope.
+    after (ok_or (ipv4_of name) BadSource) _ IsAddress (AreWithin n IsAddress IsScope) (ipv4_of-address name)
+    (λ source is_address.
+    after (scope_of_data d) _ IsScope (AreWithin n IsAddress IsScope) (scope_of_data-scope d)
+    (λ scope is_scope.
     sources_onto-within ms n (with_scope sources source scope)
     (omega (arith, length-insert_entry (slice_cmp nat_cmp) sources source scope))
     (All-keys-insert_entry (slice_cmp nat_cmp) source scope IsAddress sources keys is_address)
     (All-values-insert_entry (slice_cmp nat_cmp) source scope IsScope sources values is_scope)))
 
-topics_onto-within : (ms : Members) (n : ℕ) (topics : List (ℕ × List ℕ)) → length topics + members_len ms ≤ n → All IsTopicId (keys_of topics) → All IsName (values_of topics)
+topics_onto-within : (ms : Members) (n : ℕ) (topics : List (ℕ × List ℕ)) → length topics + members_len ms ≤ n
+    → All IsTopicId (keys_of topics) → All IsName (values_of topics)
     → IfOk (topics_onto topics ms) (AreWithin n IsTopicId IsName)
-topics_onto-within no_members n topics h keys values = record { few = omega arith; keys = keys; values = values }
+topics_onto-within no_members n topics h keys values =
+    record { few = omega arith; keys = keys; values = values }
 topics_onto-within (member name d ms) n topics h keys values =
-    after (ok_or (topic_id_of name) BadTopicId) _ IsTopicId (AreWithin n IsTopicId IsName) (topic_id_of-id name) (λ id is_id.
+    after (ok_or (topic_id_of name) BadTopicId) _ IsTopicId (AreWithin n IsTopicId IsName)
+    (topic_id_of-id name) (λ id is_id.
     after (name_of_data d) _ IsName (AreWithin n IsTopicId IsName) (name_of_data-name d) (λ topic named.
     topics_onto-within ms n (with_name topics id topic)
     (omega (arith, length-insert_entry nat_cmp topics id topic))
     (All-keys-insert_entry nat_cmp id topic IsTopicId topics keys is_id)
     (All-values-insert_entry nat_cmp id topic IsName topics values named)))
 
-few_members : (b : Bool) (most : ℕ) (ms : Members) → ltb most (members_len ms) ≡ b → IfOk (cond b (Err TooMany) (Ok ms)) (λ found. members_len found ≤ most)
+few_members : (b : Bool) (most : ℕ) (ms : Members) → ltb most (members_len ms) ≡ b
+    → IfOk (cond b (Err TooMany) (Ok ms)) (λ found. members_len found ≤ most)
 few_members true most ms is = tt
 few_members false most ms is = ltb-false most (members_len ms) is
 
 members_within-few : (most : ℕ) (d : Data) → IfOk (members_within most d) (λ ms. members_len ms ≤ most)
-members_within-few most d = after_any (ok_or (as_object d) Shape) _ (λ ms. members_len ms ≤ most) (λ ms. few_members (ltb most (members_len ms)) most ms refl)
+members_within-few most d =
+    after_any (ok_or (as_object d) Shape) _ (λ ms. members_len ms ≤ most)
+    (λ ms. few_members (ltb most (members_len ms)) most ms refl)
 
 clients_of-within : (o : Option Data) → IfOk (clients_of o) (AreWithin MAX_CLIENTS IsClient IsScope)
 clients_of-within None = record { few = omega arith; keys = All-nil IsClient; values = All-nil IsScope }
 clients_of-within (Some d) =
-    after (members_within MAX_CLIENTS d) (clients_onto []) (λ ms. members_len ms ≤ MAX_CLIENTS) (AreWithin MAX_CLIENTS IsClient IsScope) (members_within-few MAX_CLIENTS d)
+    after (members_within MAX_CLIENTS d) (clients_onto []) (λ ms. members_len ms ≤ MAX_CLIENTS)
+    (AreWithin MAX_CLIENTS IsClient IsScope) (members_within-few MAX_CLIENTS d)
     (λ ms few. clients_onto-within ms MAX_CLIENTS [] (omega arith) (All-nil IsClient) (All-nil IsScope))
 
 sources_of-within : (o : Option Data) → IfOk (sources_of o) (AreWithin MAX_SOURCES IsAddress IsScope)
 sources_of-within None = record { few = omega arith; keys = All-nil IsAddress; values = All-nil IsScope }
 sources_of-within (Some d) =
-    after (members_within MAX_SOURCES d) (sources_onto []) (λ ms. members_len ms ≤ MAX_SOURCES) (AreWithin MAX_SOURCES IsAddress IsScope) (members_within-few MAX_SOURCES d)
+    after (members_within MAX_SOURCES d) (sources_onto []) (λ ms. members_len ms ≤ MAX_SOURCES)
+    (AreWithin MAX_SOURCES IsAddress IsScope) (members_within-few MAX_SOURCES d)
     (λ ms few. sources_onto-within ms MAX_SOURCES [] (omega arith) (All-nil IsAddress) (All-nil IsScope))
 
 topics_of-within : (o : Option Data) → IfOk (topics_of o) (AreWithin MAX_TOPICS IsTopicId IsName)
 topics_of-within None = record { few = omega arith; keys = All-nil IsTopicId; values = All-nil IsName }
 topics_of-within (Some d) =
-    after (members_within MAX_TOPICS d) (topics_onto []) (λ ms. members_len ms ≤ MAX_TOPICS) (AreWithin MAX_TOPICS IsTopicId IsName) (members_within-few MAX_TOPICS d)
+    after (members_within MAX_TOPICS d) (topics_onto []) (λ ms. members_len ms ≤ MAX_TOPICS)
+    (AreWithin MAX_TOPICS IsTopicId IsName) (members_within-few MAX_TOPICS d)
     (λ ms few. topics_onto-within ms MAX_TOPICS [] (omega arith) (All-nil IsTopicId) (All-nil IsName))
 
 parts_of-policy : (d : Data) → IfOk (parts_of d) IsPolicy
 parts_of-policy d =
-    after (clients_of (get (codes "clients") d)) _ (AreWithin MAX_CLIENTS IsClient IsScope) IsPolicy (clients_of-within (get (codes "clients") d)) (λ clients c.
-    after (sources_of (get (codes "sources") d)) _ (AreWithin MAX_SOURCES IsAddress IsScope) IsPolicy (sources_of-within (get (codes "sources") d)) (λ sources s.
-    after (topics_of (get (codes "topics") d)) _ (AreWithin MAX_TOPICS IsTopicId IsName) IsPolicy (topics_of-within (get (codes "topics") d)) (λ topics t.
+    after (clients_of (get (codes "clients") d)) _ (AreWithin MAX_CLIENTS IsClient IsScope) IsPolicy
+    (clients_of-within (get (codes "clients") d)) (λ clients c.
+    after (sources_of (get (codes "sources") d)) _ (AreWithin MAX_SOURCES IsAddress IsScope) IsPolicy
+    (sources_of-within (get (codes "sources") d)) (λ sources s.
+    after (topics_of (get (codes "topics") d)) _ (AreWithin MAX_TOPICS IsTopicId IsName) IsPolicy
+    (topics_of-within (get (codes "topics") d)) (λ topics t.
     record { clients = c; sources = s; topics = t })))
 
 shaped : (b : Bool) (r : Result Policy PolicyFault) → IfOk r IsPolicy → IfOk (cond b r (Err Shape)) IsPolicy
@@ -187,4 +223,6 @@ shaped true r h = h
 shaped false r h = tt
 
 pub policies_are_bounded : PoliciesAreBounded
-policies_are_bounded text = after_any (value_of text) policy_of_data IsPolicy (λ d. shaped (is_policy_object d) (parts_of d) (parts_of-policy d))
+policies_are_bounded text =
+    after_any (value_of text) policy_of_data IsPolicy
+    (λ d. shaped (is_policy_object d) (parts_of d) (parts_of-policy d))

@@ -13,7 +13,8 @@ pub members_len-members_view : (es : List Entry) → members_len (members_view e
 members_len-members_view [] = refl
 members_len-members_view (e ∷ es) = ap suc (members_len-members_view es)
 
-not_json : (b : Bool) (text : List ℕ) → is_utf8 text ≡ b → (IsUtf8 text → read text ≡ None) → value_of text ≡ Err NotJson
+not_json : (b : Bool) (text : List ℕ) → is_utf8 text ≡ b → (IsUtf8 text → read text ≡ None)
+    → value_of text ≡ Err NotJson
 not_json true text is none = rw (is, none (IsUtf8-from_is_utf8 text is)) refl
 not_json false text is none = rw is refl
 

@@ -1,5 +1,6 @@
 -- The keys of a policy: client ids, addresses of four octets, and topic ids that are not reserved.
-use Rattle.std.proofs.Common.{◌≡◌, ℕ, Bool, true, false, cond, List, Option, Some, None, ok_or, Ok, Err, IfOk, IfSome, refl}
+use Rattle.std.proofs.Common.{◌≡◌, ℕ, Bool, true, false, cond, List, Option, Some, None, ok_or, Ok, Err, IfOk}
+use Rattle.std.proofs.Common.{IfSome, refl}
 use Rattle.sng_text.specs.ClientIds.{is_client_id}
 use Rattle.sng_text.specs.Ipv4.{IsAddress, ipv4_of}
 use Rattle.sng_text.proofs.Ipv4Lemmas.{ipv4_of-octets}
@@ -10,7 +11,8 @@ use Rattle.sng_scope.specs.declared.fault.PolicyFault.{PolicyFault}
 use Rattle.sng_scope.specs.declared.fault.PolicyFault.TheVariants.{BadClientId, BadSource, BadTopicId}
 use Rattle.sng_scope.proofs.LawLemmas.{to_decimal}
 
-tested_client : (b : Bool) (text : List ℕ) → is_client_id text ≡ b → IfOk (cond b (Ok text) (Err BadClientId)) (λ client. is_client_id client ≡ true)
+tested_client : (b : Bool) (text : List ℕ) → is_client_id text ≡ b
+    → IfOk (cond b (Ok text) (Err BadClientId)) (λ client. is_client_id client ≡ true)
 tested_client true text is = is
 tested_client false text is = tt
 
@@ -18,7 +20,8 @@ pub client_of-client : (text : List ℕ) → IfOk (client_of text) (λ client. i
 client_of-client text = tested_client (is_client_id text) text refl
 
 -- what was found, or the fault
-or_fault : {A : Type 0} (o : Option A) (fault : PolicyFault) (P : A → Type 0) → IfSome o P → IfOk (ok_or o fault) P
+or_fault : {A : Type 0} (o : Option A) (fault : PolicyFault) (P : A → Type 0) → IfSome o P
+    → IfOk (ok_or o fault) P
 or_fault None fault P h = tt
 or_fault (Some a) fault P h = h
 

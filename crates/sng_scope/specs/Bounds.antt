@@ -16,7 +16,8 @@ abbrev pub IsTopicId : ℕ → Type 0
 IsTopicId id = (1 ≤ id) × (id ≤ 65534)
 
 -- at most so many entries, each with a key and a value as they must be
-pub record AreWithin {K V : Type 0} (most : ℕ) (IsKey : K → Type 0) (IsValue : V → Type 0) (entries : List (K × V)) : Type 0 where
+pub record AreWithin {K V : Type 0} (most : ℕ) (IsKey : K → Type 0) (IsValue : V → Type 0)
+    (entries : List (K × V)) : Type 0 where
   pub few : length entries ≤ most
   pub keys : All IsKey (keys_of entries)
   pub values : All IsValue (values_of entries)

@@ -1,7 +1,9 @@
 -- The faults of a policy text: their numbers, and their names as logs print them.
 use Rattle.std.specs.Prelude.{ℕ, List, codes}
 use Rattle.sng_scope.specs.declared.fault.PolicyFault.{PolicyFault}
-use Rattle.sng_scope.specs.declared.fault.PolicyFault.TheVariants.{NotJson, Shape, BadFilter, BadPermission, BadBase64, BadClientId, BadSource, BadTopicId, TooMany, Memory}
+use Rattle.sng_scope.specs.declared.fault.PolicyFault.TheVariants.{NotJson, Shape, BadFilter, BadPermission}
+use Rattle.sng_scope.specs.declared.fault.PolicyFault.TheVariants.{BadBase64, BadClientId, BadSource}
+use Rattle.sng_scope.specs.declared.fault.PolicyFault.TheVariants.{BadTopicId, TooMany, Memory}
 
 abbrev pub number_of : PolicyFault → ℕ
 number_of NotJson = 1
@@ -29,13 +31,17 @@ name_of Memory = codes "Memory"
 
 -- what an operator is told to mend
 abbrev pub sentence_of : PolicyFault → List ℕ
-sentence_of NotJson = codes "the text is not JSON in UTF-8, or a scope given as a text does not decode to such JSON"
+sentence_of NotJson =
+    codes "the text is not JSON in UTF-8, or a scope given as a text does not decode to such JSON"
 sentence_of Shape = codes "the text is JSON, but not of the shape of a policy of version 1 or of a scope"
 sentence_of BadFilter = codes "a filter in a scope is not a valid topic filter, or is too long"
 sentence_of BadPermission = codes "a permission in a scope is neither `pub` nor `sub`"
 sentence_of BadBase64 = codes "a scope given as a text is not base64url without padding"
-sentence_of BadClientId = codes "a name under `clients` is not a client id: it is empty, too long or has U+0000"
+sentence_of BadClientId =
+    codes "a name under `clients` is not a client id: it is empty, too long or has U+0000"
 sentence_of BadSource = codes "a name under `sources` is not an IPv4 address in decimal without leading zeros"
-sentence_of BadTopicId = codes "under `topics` a name is not a topic id without leading zeros, or its text is not a topic name"
-sentence_of TooMany = codes "there are more clients, sources, topics or pairs in a scope than a policy may have"
+sentence_of BadTopicId =
+    codes "under `topics` a name is not a topic id without leading zeros, or its text is not a topic name"
+sentence_of TooMany =
+    codes "there are more clients, sources, topics or pairs in a scope than a policy may have"
 sentence_of Memory = codes "out of memory"

@@ -5,4 +5,5 @@ use Rattle.sng_scope.specs.Numerals.{topic_id_of}
 
 -- a topic id's text is the number from 1 to 65534 in decimal: each such number has one text
 abbrev pub TopicIdsAreDecimal : Type 0
-TopicIdsAreDecimal = (text : List ℕ) (id : ℕ) → (topic_id_of text ≡ Some id) ↔ ((1 ≤ id) × (id ≤ 65534) × (text ≡ decimal id))
+TopicIdsAreDecimal =
+    (text : List ℕ) (id : ℕ) → (topic_id_of text ≡ Some id) ↔ ((1 ≤ id) × (id ≤ 65534) × (text ≡ decimal id))

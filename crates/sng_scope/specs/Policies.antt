@@ -1,6 +1,8 @@
 -- Policy texts: a JSON object (RFC 8259) with the version, the scopes of clients and of sources, and the
 -- predefined topics.
-use Rattle.std.specs.Prelude.{ℕ, Bool, true, false, ◌==◌, ◌&&◌, ◌||◌, nat_lt, List, [], if◌then◌else◌, Option, Some, None, option_map, option_and_then, unwrap_or, ok_or, Result, Ok, Err, codes}
+use Rattle.std.specs.Prelude.{ℕ, Bool, true, false, ◌==◌, ◌&&◌, ◌||◌, nat_lt, List, [], if◌then◌else◌, Option}
+use Rattle.std.specs.Prelude.{Some, None, option_map, option_and_then, unwrap_or, ok_or, Result, Ok, Err}
+use Rattle.std.specs.Prelude.{codes}
 use Rattle.std.specs.Str.{bytes_eq}
 use Rattle.serde_json.specs.Data.{Data, Members, no_members, member}
 use Rattle.serde_json.specs.Events.{members_len}
@@ -17,11 +19,14 @@ use Rattle.sng_grants.specs.Topics.{with_name}
 use Rattle.sng_grants.specs.declared.scope.Pair.{Pair}
 use Rattle.sng_grants.specs.declared.policy.Policy.{Policy}
 use Rattle.sng_scope.specs.declared.fault.PolicyFault.{PolicyFault}
-use Rattle.sng_scope.specs.declared.fault.PolicyFault.TheVariants.{Shape, BadClientId, BadSource, BadTopicId, TooMany}
+use Rattle.sng_scope.specs.declared.fault.PolicyFault.TheVariants.{Shape, BadClientId, BadSource, BadTopicId}
+use Rattle.sng_scope.specs.declared.fault.PolicyFault.TheVariants.{TooMany}
 
 -- the name of a member that a policy may have
 abbrev pub is_known : List ℕ → Bool
-is_known name = bytes_eq name (codes "version") || bytes_eq name (codes "clients") || bytes_eq name (codes "sources") || bytes_eq name (codes "topics")
+is_known name =
+    bytes_eq name (codes "version") || bytes_eq name (codes "clients") || bytes_eq name (codes "sources")
+    || bytes_eq name (codes "topics")
 
 -- each name is known
 abbrev pub are_known : Members → Bool
@@ -30,7 +35,9 @@ are_known (member name d ms) = is_known name && are_known ms
 
 -- `version` is there, and is the whole number 1
 abbrev pub is_version_one : Data → Bool
-is_version_one d = unwrap_or (option_map (λ n. n == 1) (option_and_then as_u64 (option_and_then as_number (get (codes "version") d)))) false
+is_version_one d =
+    unwrap_or (option_map (λ n. n == 1)
+    (option_and_then as_u64 (option_and_then as_number (get (codes "version") d)))) false
 
 -- an object of this version, with no member that is unknown
 abbrev pub is_policy_object : Data → Bool
@@ -72,7 +79,8 @@ topics_onto topics (member name d ms) = do
 
 -- an object of at most so many members
 abbrev pub members_within : ℕ → Data → Result Members PolicyFault
-members_within most d = ok_or (as_object d) Shape >>= (λ ms. if nat_lt most (members_len ms) then Err TooMany else Ok ms)
+members_within most d =
+    ok_or (as_object d) Shape >>= (λ ms. if nat_lt most (members_len ms) then Err TooMany else Ok ms)
 
 -- what is absent is empty
 abbrev pub clients_of : Option Data → Result (List (List ℕ × List Pair)) PolicyFault

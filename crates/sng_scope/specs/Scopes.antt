@@ -1,5 +1,7 @@
 -- Scopes in JSON: the list of pairs of a topic filter and the permissions on it (RFC 9237, 2; RFC 9431, 2.3).
-use Rattle.std.specs.Prelude.{ℕ, Bool, true, false, ◌&&◌, ◌||◌, not, nat_lt, List, [], ◌∷◌, if◌then◌else◌, Option, None, option_map, option_and_then, unwrap_or, ok_or, Result, Ok, Err, codes}
+use Rattle.std.specs.Prelude.{ℕ, Bool, true, false, ◌&&◌, ◌||◌, not, nat_lt, List, [], ◌∷◌, if◌then◌else◌}
+use Rattle.std.specs.Prelude.{Option, None, option_map, option_and_then, unwrap_or, ok_or, Result, Ok, Err}
+use Rattle.std.specs.Prelude.{codes}
 use Rattle.std.specs.Str.{bytes_eq}
 use Rattle.serde_json.specs.Data.{Data, Items, no_items, item}
 use Rattle.serde_json.specs.Events.{items_len}
@@ -56,7 +58,11 @@ pair_from filter permissions =
     then Err BadFilter
     else (if not (are_permissions permissions)
     then Err BadPermission
-    else Ok (record { filter = filter; publishes = has_text (codes "pub") permissions; subscribes = has_text (codes "sub") permissions })))
+    else Ok (record {
+      filter = filter;
+      publishes = has_text (codes "pub") permissions;
+      subscribes = has_text (codes "sub") permissions;
+    })))
 
 -- `[filter, permissions]`
 abbrev pub pair_of : Data → Result Pair PolicyFault

@@ -2,7 +2,8 @@
 ghost use Rattle.std.specs.Prelude.{◌≡◌, ◌⊎◌, IfOk, IfErr, Ok, Err, MatchResult, nat_lt, length, ◌≤◌};
 ghost use Rattle.serde_json.specs.Events.{members_len};
 ghost use Rattle.serde_json.specs.View.{view, members_view};
-ghost use Rattle.sng_scope.specs.Policies.{is_known, are_known, is_version_one, is_policy_object, members_within, parts_of, policy_of_data};
+ghost use Rattle.sng_scope.specs.Policies.{is_known, are_known, is_version_one, is_policy_object};
+ghost use Rattle.sng_scope.specs.Policies.{members_within, parts_of, policy_of_data};
 
 mod clients;
 mod sources;

@@ -1,6 +1,7 @@
 //! Scopes in JSON: the list of pairs of a topic filter and the permissions on it (RFC 9237, 2; RFC 9431,
 //! 2.3).
-ghost use Rattle.std.specs.Prelude.{◌≡◌, ◌≤◌, ◌⊎◌, true, false, IfOk, IfErr, Ok, Err, option_map, nat_lt, length};
+ghost use Rattle.std.specs.Prelude.{◌≡◌, ◌≤◌, ◌⊎◌, true, false, IfOk, IfErr, Ok, Err, option_map, nat_lt};
+ghost use Rattle.std.specs.Prelude.{length};
 ghost use Rattle.serde_json.specs.Events.{items_len};
 ghost use Rattle.serde_json.specs.View.{view, items_view};
 ghost use Rattle.sng_text.specs.Texts.{is_filter};

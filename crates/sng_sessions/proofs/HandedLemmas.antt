@@ -15,7 +15,8 @@ pub record Keeps (f : Client → Client) : Type 0 where
   pub phase : (x : Client) → (f x).phase ≡ x.phase
   pub filters : (x : Client) → (f x).filters ≡ x.filters
 
-pub here-kept : {f : Client → Client} → Keeps f → (from : Address) (x : Client) → is_here (f x) from ≡ is_here x from
+pub here-kept : {f : Client → Client} → Keeps f → (from : Address) (x : Client)
+    → is_here (f x) from ≡ is_here x from
 here-kept k from x = λ i. is_here (record x { address = k.address x i; phase = k.phase x i }) from
 
 pub filters-kept : {f : Client → Client} → Keeps f → (x : Client) → (f x).filters ≡ x.filters
@@ -29,15 +30,18 @@ opened-keeps clock (Announcing name) = record {
   filters = λ x. by_filters x (is_full_for name x.ids);
 }
   where
-    by_address : (x : Client) (b : Bool) → (let y : Client = if b then x else announced clock name x in y).address ≡ x.address
+    by_address : (x : Client) (b : Bool)
+        → (let y : Client = if b then x else announced clock name x in y).address ≡ x.address
     by_address x true = refl
     by_address x false = refl
 
-    by_phase : (x : Client) (b : Bool) → (let y : Client = if b then x else announced clock name x in y).phase ≡ x.phase
+    by_phase : (x : Client) (b : Bool)
+        → (let y : Client = if b then x else announced clock name x in y).phase ≡ x.phase
     by_phase x true = refl
     by_phase x false = refl
 
-    by_filters : (x : Client) (b : Bool) → (let y : Client = if b then x else announced clock name x in y).filters ≡ x.filters
+    by_filters : (x : Client) (b : Bool)
+        → (let y : Client = if b then x else announced clock name x in y).filters ≡ x.filters
     by_filters x true = refl
     by_filters x false = refl
 opened-keeps clock (Awaiting kind id) = record { address = λ x. refl; phase = λ x. refl; filters = λ x. refl }

@@ -1,5 +1,6 @@
 -- How many ids there are, as a name gets one or one is confirmed.
-use Rattle.std.proofs.Common.{◌≡◌, ℕ, zero, suc, ◌+◌, ◌<◌, ◌≤◌, false, List, [], ◌∷◌, ◌++◌, length, Option, Some, None, unwrap_or, refl, ap, arith}
+use Rattle.std.proofs.Common.{◌≡◌, ℕ, zero, suc, ◌+◌, ◌<◌, ◌≤◌, false, List, [], ◌∷◌, ◌++◌, length, Option}
+use Rattle.std.proofs.Common.{Some, None, unwrap_or, refl, ap, arith}
 use Rattle.std.specs.Str.{bytes_eq}
 use Rattle.std.proofs.lemmas.List.Quantifiers.{position-Some}
 use Rattle.sng_ids.specs.Ids.{Ids, names_of, place_of, id_for, with_name, confirmed, confirmed_at}
@@ -23,13 +24,15 @@ named-already name ids within = by (place_of name ids) refl
         absurd (omega (arith, id, within))
 
 -- another one gets the next
-pub named-next : (name : List ℕ) (ids : Ids) → length ids < id_for name ids → length (with_name name ids) ≡ length ids + 1
+pub named-next : (name : List ℕ) (ids : Ids) → length ids < id_for name ids
+    → length (with_name name ids) ≡ length ids + 1
 named-next name ids beyond = by (place_of name ids) refl
   where
     by : (o : Option ℕ) → place_of name ids ≡ o → length (with_name name ids) ≡ length ids + 1
     by (Some place) is =
         let id : id_for name ids ≡ place + 1 = ap (λ o. unwrap_or o (length ids) + 1) is in
-        let there : place < length (names_of ids) = (position-Some (bytes_eq name) (names_of ids) place [] is).0 in
+        let there : place < length (names_of ids) =
+        (position-Some (bytes_eq name) (names_of ids) place [] is).0 in
         absurd (omega (arith, id, there, length_names ids, beyond))
     by None is = rw is (length_push ids (name, false))
 

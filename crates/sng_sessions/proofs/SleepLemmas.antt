@@ -3,7 +3,8 @@ use Rattle.std.proofs.Common.{◌≡◌, ℕ, Bool, true, false, refl, sym}
 use Rattle.std.specs.Prelude.{◌&&◌, if◌then◌else◌, is_none, slice_get}
 use Rattle.sng_states.specs.States.{has_session, is_due_messages, is_asleep, is_awake}
 use Rattle.sng_states.specs.declared.state.ClientState.{ClientState}
-use Rattle.sng_states.specs.declared.state.ClientState.TheVariants.{Dialogue, Active, Asleep, Awake, Disconnected, Lost}
+use Rattle.sng_states.specs.declared.state.ClientState.TheVariants.{Dialogue, Active, Asleep, Awake}
+use Rattle.sng_states.specs.declared.state.ClientState.TheVariants.{Disconnected, Lost}
 use Rattle.sng_book.specs.declared.address.Address.{Address}
 use Rattle.sng_history.specs.Clients.{Client, is_here, same_address, asleep, awake, is_drained}
 use Rattle.sng_history.specs.Entering.{heard_at}
@@ -51,24 +52,29 @@ awake_here Lost b is = absurd cc
 changed_leaves : (clock : ℕ) (change : Change) (x : Client) → Leaves x (changed clock change x)
 changed_leaves clock (Sleeps duration) x =
     leaves_if (is_due_messages x.phase) x (asleep duration (heard_at clock x)) (heard_at clock x)
-    (λ is. record { address = refl; session = sym (due_here x.phase is); filters = refl }) (heard_leaves clock x)
+    (λ is. record { address = refl; session = sym (due_here x.phase is); filters = refl })
+    (heard_leaves clock x)
 changed_leaves clock Wakes x =
     leaves_if (is_asleep x.phase) x (awake (heard_at clock x)) (heard_at clock x)
-    (λ is. record { address = refl; session = sym (asleep_here x.phase is); filters = refl }) (heard_leaves clock x)
+    (λ is. record { address = refl; session = sym (asleep_here x.phase is); filters = refl })
+    (heard_leaves clock x)
 changed_leaves clock Drains x =
     leaves_if (is_drained x) x (record x { phase = Asleep }) x
     (λ is. record {
       address = refl;
-      session = sym (awake_here x.phase (is_none (slice_get x.buffer.waiting 0) && is_none x.buffer.exchange) is);
+      session =
+          sym (awake_here x.phase (is_none (slice_get x.buffer.waiting 0) && is_none x.buffer.exchange) is);
       filters = refl;
     }) (record { address = refl; session = refl; filters = refl })
 changed_leaves clock Closes x = record { address = refl; session = refl; filters = refl }
 changed_leaves clock Repeats x = record { address = refl; session = refl; filters = refl }
 
-pub changed-here : (clock : ℕ) (change : Change) (from : Address) (x : Client) → is_here (changed clock change x) from ≡ is_here x from
+pub changed-here : (clock : ℕ) (change : Change) (from : Address) (x : Client)
+    → is_here (changed clock change x) from ≡ is_here x from
 changed-here clock change from x =
     let leaves = changed_leaves clock change x in
     λ i. leaves.session i && same_address (leaves.address i) from
 
-pub changed-filters : (clock : ℕ) (change : Change) (x : Client) → (changed clock change x).filters ≡ x.filters
+pub changed-filters : (clock : ℕ) (change : Change) (x : Client)
+    → (changed clock change x).filters ≡ x.filters
 changed-filters clock change x = (changed_leaves clock change x).filters

@@ -7,14 +7,17 @@ use Rattle.sng_states.specs.declared.state.ClientState.TheVariants.{Active}
 use Rattle.sng_book.specs.declared.address.Address.{Address}
 use Rattle.sng_history.specs.Clients.{Client, is_here, same_address}
 use Rattle.sng_sessions.specs.declared.wills.Stating.{Stating}
-use Rattle.sng_sessions.specs.declared.wills.Stating.TheVariants.{NoWill, Topic, Message, Deletion, NewTopic, NewMessage}
+use Rattle.sng_sessions.specs.declared.wills.Stating.TheVariants.{NoWill, Topic, Message, Deletion, NewTopic}
+use Rattle.sng_sessions.specs.declared.wills.Stating.TheVariants.{NewMessage}
 use Rattle.sng_sessions.specs.Willing.{phase_stated, stating_at}
 
-over_kept : (phase : ClientState) (b : Bool) → has_session phase ≡ b → has_session (if b then Active else phase) ≡ b
+over_kept : (phase : ClientState) (b : Bool) → has_session phase ≡ b
+    → has_session (if b then Active else phase) ≡ b
 over_kept phase true is = refl
 over_kept phase false is = is
 
-phase_kept : (stating : Stating) (phase : ClientState) → has_session (phase_stated stating phase) ≡ has_session phase
+phase_kept : (stating : Stating) (phase : ClientState)
+    → has_session (phase_stated stating phase) ≡ has_session phase
 phase_kept NoWill phase = over_kept phase (has_session phase) refl
 phase_kept (Message message) phase = over_kept phase (has_session phase) refl
 phase_kept (Topic stated) phase = refl

@@ -37,7 +37,8 @@ Counted held xs = (text : List ℕ) → count_of held text ≡ holder_count text
 -- the counts follow as the filters of one client move
 abbrev pub Follows : List (List ℕ × ℕ) → List (List ℕ × ℕ) → List Held → List Held → Type 0
 Follows before after was now =
-    (text : List ℕ) → count_of after text + one_if (stands was text) ≡ count_of before text + one_if (stands now text)
+    (text : List ℕ) → count_of after text + one_if (stands was text)
+    ≡ count_of before text + one_if (stands now text)
 
 -- what is left of a filter's count as each of these is taken off
 abbrev pub count_less : ℕ → List ℕ → List Held → ℕ

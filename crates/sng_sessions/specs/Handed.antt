@@ -1,4 +1,5 @@
--- What a hand-over does to its client, and what answers to announcements and messages do (MQTT-SN 1.2, 6.5, 6.6 and 6.10).
+-- What a hand-over does to its client, and what answers to announcements and messages do (MQTT-SN 1.2, 6.5,
+-- 6.6 and 6.10).
 use Rattle.std.specs.Prelude.{ℕ, zero, suc, ◌++◌, nat_le, [], ◌∷◌, length, if◌then◌else◌}
 use Rattle.sng_ids.specs.Ids.{is_full_for, confirmed}
 use Rattle.sng_queue.specs.Messages.{Message}
@@ -16,7 +17,10 @@ abbrev pub opened : ℕ → Opens → Client → Client
 opened clock Nothing x = x
 opened clock (Announcing name) x = if is_full_for name x.ids then x else announced clock name x
 opened clock (Awaiting kind id) x =
-    record x { number = number_after x.number; buffer = await_ack x.buffer kind id (number_after x.number) clock }
+    record x {
+      number = number_after x.number;
+      buffer = await_ack x.buffer kind id (number_after x.number) clock;
+    }
 
 -- so many messages are settled, the oldest first
 abbrev pub settled_times : ℕ → Buffer → Buffer

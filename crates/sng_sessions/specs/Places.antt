@@ -1,5 +1,6 @@
 -- Clients by where they stand among the clients, and the index from addresses to these places.
-use Rattle.std.specs.Prelude.{ℕ, zero, suc, ◌≡◌, ◌&&◌, Bool, true, false, List, [], ◌∷◌, ◌++◌, map, Option, Some, None, if◌then◌else◌}
+use Rattle.std.specs.Prelude.{ℕ, zero, suc, ◌≡◌, ◌&&◌, Bool, true, false, List, [], ◌∷◌, ◌++◌, map, Option}
+use Rattle.std.specs.Prelude.{Some, None, if◌then◌else◌}
 use Rattle.std.specs.Str.{bytes_eq}
 use Rattle.sng_book.specs.declared.address.Address.{Address}
 use Rattle.sng_states.specs.States.{has_session}
@@ -14,7 +15,17 @@ use Rattle.sng_sessions.specs.declared.session.Session.{Session}
 abbrev pub client_of : List ℕ × Session → Client
 client_of entry =
     let at = entry.1.presence in
-    record (blank entry.0) { address = at.address; phase = at.phase; duration = at.duration; heard = at.heard; ids = entry.1.ids; number = entry.1.number; buffer = entry.1.queue; filters = entry.1.filters; wills = entry.1.wills }
+    record (blank entry.0) {
+      address = at.address;
+      phase = at.phase;
+      duration = at.duration;
+      heard = at.heard;
+      ids = entry.1.ids;
+      number = entry.1.number;
+      buffer = entry.1.queue;
+      filters = entry.1.filters;
+      wills = entry.1.wills;
+    }
 
 abbrev pub clients_of : List (List ℕ × Session) → List Client
 clients_of entries = map client_of entries
@@ -41,7 +52,8 @@ abbrev pub points_at : ℕ → Option ℕ → Bool
 points_at place None = false
 points_at place (Some found) = is_place found place
 
--- the look-up of an address gives the place of the client that is there, and of no other: so no two are at one address
+-- the look-up of an address gives the place of the client that is there, and of no other: so no two are at
+-- one address
 abbrev pub Indexed : (Address → Option ℕ) → List Client → Type 0
 Indexed look xs = (from : Address) (place : ℕ) → points_at place (look from) ≡ stands_at from xs place
 
@@ -62,4 +74,5 @@ vacated clock from id x = if bytes_eq id x.id then x else (if is_here x from the
 -- the client with this id is as it is kept from now on; one that was not known comes last
 abbrev pub settled : List ℕ → Session → List Client → List Client
 settled id session xs =
-    map (λ x. if bytes_eq id x.id then client_of (x.id, session) else x) xs ++ (if is_known id xs then [] else client_of (id, session) ∷ [])
+    map (λ x. if bytes_eq id x.id then client_of (x.id, session) else x) xs
+    ++ (if is_known id xs then [] else client_of (id, session) ∷ [])

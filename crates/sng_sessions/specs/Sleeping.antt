@@ -1,4 +1,5 @@
--- What happens to a client beside its messages: sleep, wake-up, and what is sent again (MQTT-SN 1.2, 6.13 and 6.14).
+-- What happens to a client beside its messages: sleep, wake-up, and what is sent again (MQTT-SN 1.2, 6.13 and
+-- 6.14).
 use Rattle.std.specs.Prelude.{ℕ, if◌then◌else◌}
 use Rattle.sng_states.specs.States.{is_asleep, is_due_messages}
 use Rattle.sng_queue.specs.Exchanges.{repeat}
@@ -11,7 +12,8 @@ use Rattle.sng_sessions.specs.declared.sleeping.Change.TheVariants.{Sleeps, Wake
 
 -- it is heard, and where it is due messages it falls asleep
 abbrev pub slept : ℕ → ℕ → Client → Client
-slept clock duration x = if is_due_messages x.phase then asleep duration (heard_at clock x) else heard_at clock x
+slept clock duration x =
+    if is_due_messages x.phase then asleep duration (heard_at clock x) else heard_at clock x
 
 -- it is heard, and where it sleeps it is awake
 abbrev pub woken : ℕ → Client → Client

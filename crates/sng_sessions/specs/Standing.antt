@@ -28,7 +28,11 @@ told_at clock name outcome x = record (heard_at clock x) { ids = registered name
 abbrev pub standing_at : List ℕ → Qos → Client → Client
 standing_at filter qos x = record x { filters = with_filter x.filters filter qos }
 
--- a client that subscribes is heard, the filter stands for it, and where a name is given it is told an id of that
+-- a client that subscribes is heard, the filter stands for it, and where a name is given it is told an id of
+-- that
 abbrev pub subscribed_at : ℕ → Option (List ℕ) → List ℕ → Qos → Client → Client
 subscribed_at clock name filter qos x =
-    record (heard_at clock x) { filters = with_filter x.filters filter qos; ids = registered name Allowed x.ids }
+    record (heard_at clock x) {
+      filters = with_filter x.filters filter qos;
+      ids = registered name Allowed x.ids;
+    }

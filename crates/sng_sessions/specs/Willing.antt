@@ -1,5 +1,5 @@
--- What a client states of its will, once it is allowed, and what that does to the client (MQTT-SN 1.2, 6.3 and 6.4); and how a CONNECT
--- opens the dialogue about it.
+-- What a client states of its will, once it is allowed, and what that does to the client (MQTT-SN 1.2, 6.3
+-- and 6.4); and how a CONNECT opens the dialogue about it.
 use Rattle.std.specs.Prelude.{ℕ, Bool, unwrap_or, if◌then◌else◌}
 use Rattle.sng_states.specs.States.{has_session}
 use Rattle.sng_states.specs.declared.state.ClientState.{ClientState}
@@ -8,7 +8,8 @@ use Rattle.sng_wills.specs.Wills.{Wills, after_topic, after_message, after_topic
 use Rattle.sng_wills.specs.declared.will.Stage.TheVariants.{Closed, TopicAwaited}
 use Rattle.sng_history.specs.Clients.{Client, no_will}
 use Rattle.sng_sessions.specs.declared.wills.Stating.{Stating}
-use Rattle.sng_sessions.specs.declared.wills.Stating.TheVariants.{NoWill, Topic, Message, Deletion, NewTopic, NewMessage}
+use Rattle.sng_sessions.specs.declared.wills.Stating.TheVariants.{NoWill, Topic, Message, Deletion, NewTopic}
+use Rattle.sng_sessions.specs.declared.wills.Stating.TheVariants.{NewMessage}
 
 -- a CONNECT with Will opens a dialogue
 abbrev pub phase_opened : Bool → ClientState

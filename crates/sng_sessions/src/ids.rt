@@ -43,7 +43,8 @@ impl ClientIds {
         &self.table
     }
 
-    /// The name has an id from now on: its old one, or else the next, which is not confirmed then. Returns it.
+    /// The name has an id from now on: its old one, or else the next, which is not confirmed then. Returns
+    /// it.
     pub fn give(&mut self, name: TopicName) -> u16
         requires { is_full_for name self.old ≡ false }
         ensures id { result ≡ id_for name self.old }

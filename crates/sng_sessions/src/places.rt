@@ -1,5 +1,6 @@
 //! Changes of the clients together with the index from addresses to their places.
-ghost use Rattle.std.specs.Prelude.{◌≡◌, ℕ, ◌<◌, ◌≤◌, true, false, List, [], Some, None, map, position, if◌then◌else◌, OnOk, OnErr};
+ghost use Rattle.std.specs.Prelude.{◌≡◌, ℕ, ◌<◌, ◌≤◌, true, false, List, [], Some, None, map, position};
+ghost use Rattle.std.specs.Prelude.{if◌then◌else◌, OnOk, OnErr};
 ghost use Rattle.std.specs.Option.{ForSome};
 ghost use Rattle.std.specs.Str.{bytes_eq};
 ghost use Rattle.indexmap.specs.IndexMap.{get, keys, spare};
@@ -17,7 +18,8 @@ ghost use Rattle.sng_history.specs.State.{is_known};
 ghost use Rattle.sng_history.specs.Entering.{heard_at, left_at, entered};
 ghost use Rattle.sng_sessions.specs.Counts.{count_of, one_if, Counted, Follows};
 ghost use Rattle.sng_sessions.specs.Standing.{client_at, told_at};
-ghost use Rattle.sng_sessions.specs.Places.{clients_of, holds_at, stands_at, is_place, presence_in, was_at, Indexed, moved_at, vacated, settled};
+ghost use Rattle.sng_sessions.specs.Places.{clients_of, holds_at, stands_at, is_place, presence_in, was_at};
+ghost use Rattle.sng_sessions.specs.Places.{Indexed, moved_at, vacated, settled};
 
 use crate::holders::Holders;
 use crate::ids::ClientIds;

@@ -24,8 +24,8 @@ pub struct Presence {
 }
 
 impl Presence {
-    /// Whether the client has a session and was silent for longer than its Duration allows, as the clock is at
-    /// this, in ms. Takes no memory.
+    /// Whether the client has a session and was silent for longer than its Duration allows, as the clock is
+    /// at this, in ms. Takes no memory.
     pub fn is_overdue(&self, clock: u64) -> bool
         ensures { result ≡ (has_session self.now.phase && overdue self.now.duration self.now.heard clock) }
     {

@@ -1,5 +1,6 @@
 //! The clients of the gateway, in the order in which each was accepted first, and where each is.
-ghost use Rattle.std.specs.Prelude.{◌≡◌, ◌<◌, ◌+◌, ◌||◌, [], length, take, drop, false, Some, IfSome, OnOk, OnErr};
+ghost use Rattle.std.specs.Prelude.{◌≡◌, ◌<◌, ◌+◌, ◌||◌, [], length, take, drop, false, Some, IfSome, OnOk};
+ghost use Rattle.std.specs.Prelude.{OnErr};
 ghost use Rattle.std.specs.Option.{ForSome};
 ghost use Rattle.sng_fan.specs.Subscriptions.{is_full, IsOneClients};
 ghost use Rattle.sng_fan.specs.Greatest.{greatest_qos};
@@ -226,8 +227,8 @@ impl Sessions {
         hear_at(&mut self.clients, place, clock);
     }
 
-    /// A message comes to wait for the client at this place, where fewer wait than may, and an exchange begins.
-    /// Takes no memory.
+    /// A message comes to wait for the client at this place, where fewer wait than may, and an exchange
+    /// begins. Takes no memory.
     pub fn deliver(&mut self, place: usize, message: Waiting, opens: Opens, clock: u64)
         ensures { self.new ≡ moved_at place (delivered clock message opens) self.old }
     {
@@ -256,8 +257,8 @@ impl Sessions {
         leave_at(&mut self.clients, &mut self.places, place, clock);
     }
 
-    /// The client at this place is lost, and its address is free. Its subscriptions, its will and its ids stay.
-    /// Takes no memory.
+    /// The client at this place is lost, and its address is free. Its subscriptions, its will and its ids
+    /// stay. Takes no memory.
     pub fn lose(&mut self, place: usize)
         ensures { self.new ≡ moved_at place lost self.old }
     {

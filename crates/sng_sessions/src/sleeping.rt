@@ -1,5 +1,5 @@
-//! How a client falls asleep, wakes up and falls asleep again (MQTT-SN 1.2, 6.14), and how what is open with it is
-//! sent again, or is over (6.13). No call here takes memory.
+//! How a client falls asleep, wakes up and falls asleep again (MQTT-SN 1.2, 6.14), and how what is open with
+//! it is sent again, or is over (6.13). No call here takes memory.
 ghost use Rattle.std.specs.Prelude.{◌≡◌, List, ℕ};
 ghost use Rattle.sng_queue.specs.Exchanges.{repeat};
 ghost use Rattle.sng_history.specs.Clients.{is_drained, drained};
@@ -17,8 +17,8 @@ use sng_text::ClientId;
 /// What happens to a client beside its messages.
 #[derive(Clone, Copy, Debug)]
 pub enum Change {
-    /// It is heard, and where it is due messages it falls asleep: nothing is open with it any more, what waits
-    /// stays, and from now on this Duration counts, in seconds.
+    /// It is heard, and where it is due messages it falls asleep: nothing is open with it any more, what
+    /// waits stays, and from now on this Duration counts, in seconds.
     Sleeps(u16),
     /// It is heard, and where it sleeps it is awake.
     Wakes,
@@ -115,8 +115,8 @@ pub fn is_tried_out(queue: &Queue) -> bool
     }
 }
 
-/// Whether an exchange is open that was sent last as long ago as its answer may take, as the clock is at this, in ms
-/// (6.13: T_retry).
+/// Whether an exchange is open that was sent last as long ago as its answer may take, as the clock is at
+/// this, in ms (6.13: T_retry).
 pub fn is_unanswered(queue: &Queue, clock: u64) -> bool
     ensures { result ≡ is_unanswered clock queue.now.exchange }
 {

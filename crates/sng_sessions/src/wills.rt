@@ -13,8 +13,8 @@ use sng_wills::{StatedTopic, WillDialogue};
 /// What a client states of its will.
 #[derive(Debug, Drop)]
 pub enum Stating {
-    /// In the dialogue behind a CONNECT, a WILLTOPIC without a topic: the will is deleted, and the dialogue is
-    /// over.
+    /// In the dialogue behind a CONNECT, a WILLTOPIC without a topic: the will is deleted, and the dialogue
+    /// is over.
     NoWill,
     /// In the dialogue, a WILLTOPIC: its message is awaited.
     Topic(StatedTopic),

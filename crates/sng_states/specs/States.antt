@@ -3,9 +3,11 @@
 use Rattle.std.specs.Prelude.{Bool, true, false, None, Some, if◌then◌else◌}
 use Rattle.std.specs.declared.option.Option.{Option}
 use Rattle.sng_states.specs.declared.state.ClientState.{ClientState}
-use Rattle.sng_states.specs.declared.state.ClientState.TheVariants.{Dialogue, Active, Asleep, Awake, Disconnected, Lost}
+use Rattle.sng_states.specs.declared.state.ClientState.TheVariants.{Dialogue, Active, Asleep, Awake}
+use Rattle.sng_states.specs.declared.state.ClientState.TheVariants.{Disconnected, Lost}
 use Rattle.sng_states.specs.declared.state.Cue.{Cue}
-use Rattle.sng_states.specs.declared.state.Cue.TheVariants.{Connect, ConnectWill, WillDone, WillDenied, Sleep, Wake, Drained, Leave, Lapse}
+use Rattle.sng_states.specs.declared.state.Cue.TheVariants.{Connect, ConnectWill, WillDone, WillDenied, Sleep}
+use Rattle.sng_states.specs.declared.state.Cue.TheVariants.{Wake, Drained, Leave, Lapse}
 
 -- the dialogue about a will is open
 abbrev pub in_dialogue : ClientState → Bool

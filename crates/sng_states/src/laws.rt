@@ -2,7 +2,8 @@
 //! law: its contract is the law, and calling it does nothing.
 ghost use Rattle.std.specs.Prelude.{◌≡◌};
 ghost use Rattle.sng_states.specs.declared.limits.TheConstants.{SILENCE_MS_PER_SECOND};
-ghost use Rattle.sng_states.specs.Laws.{SessionsBeginByConnect, WakingIsFromSleep, MessagesNeedASession, SleepKeepsMessages};
+ghost use Rattle.sng_states.specs.Laws.{SessionsBeginByConnect, WakingIsFromSleep, MessagesNeedASession};
+ghost use Rattle.sng_states.specs.Laws.{SleepKeepsMessages};
 
 /// A client without a session, which has left or is lost, gets one by a CONNECT, and nothing else moves it.
 pub fn sessions_begin_by_connect()

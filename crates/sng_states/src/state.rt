@@ -19,7 +19,8 @@ pub enum ClientState {
 }
 
 impl ClientState {
-    ghost use Rattle.sng_states.specs.States.{has_session, is_due_messages, takes_messages, is_asleep, is_awake};
+    ghost use Rattle.sng_states.specs.States.{has_session, is_due_messages, takes_messages, is_asleep};
+    ghost use Rattle.sng_states.specs.States.{is_awake};
 
     /// Whether the gateway holds a session with the client at its address.
     pub fn has_session(self) -> bool

@@ -1,5 +1,6 @@
 -- A front of a text without a slash stands at the head of its first level.
-use Rattle.std.proofs.Common.{◌≡◌, ℕ, ◌+◌, ◌<◌, ◌≤◌, ◌==◌, ◌∙◌, Bool, true, false, cond, List, [], ◌∷◌, ◌++◌, length, take, drop, get_or, refl, ap, suc, add-one}
+use Rattle.std.proofs.Common.{◌≡◌, ℕ, ◌+◌, ◌<◌, ◌≤◌, ◌==◌, ◌∙◌, Bool, true, false, cond, List, [], ◌∷◌, ◌++◌}
+use Rattle.std.proofs.Common.{length, take, drop, get_or, refl, ap, suc, add-one}
 use Rattle.std.proofs.Math.Seq.{drop-cons, take-suc}
 use Rattle.std.proofs.lemmas.List.{take_all, drop_all}
 use Rattle.std.proofs.lemmas.List.Splits.{join_with_byte-slice_split}
@@ -12,7 +13,8 @@ abbrev pub prepend : List ℕ → List (List ℕ) → List (List ℕ)
 prepend [] levels = levels
 prepend (b ∷ front) levels = lengthen b (prepend front levels)
 
-pub prepend-push : (front : List ℕ) (b : ℕ) (levels : List (List ℕ)) → prepend (front ++ b ∷ []) levels ≡ prepend front (lengthen b levels)
+pub prepend-push : (front : List ℕ) (b : ℕ) (levels : List (List ℕ))
+    → prepend (front ++ b ∷ []) levels ≡ prepend front (lengthen b levels)
 prepend-push [] b levels = refl
 prepend-push (a ∷ front) b levels = ap (lengthen a) (prepend-push front b levels)
 
@@ -22,9 +24,16 @@ prepend-nil (a ∷ front) levels = ap (lengthen a) (prepend-nil front levels)
 
 -- a byte that is no slash goes on with the level
 pub prepend-more : (text : List ℕ) (i : ℕ) → i < length text → (get_or text i 0 == 47) ≡ false
-    → prepend (take (i + 1) text) (levels_of (drop (i + 1) text)) ≡ prepend (take i text) (levels_of (drop i text))
+    → prepend (take (i + 1) text) (levels_of (drop (i + 1) text))
+    ≡ prepend (take i text) (levels_of (drop i text))
 prepend-more text i within is =
-    rw (add-one, take-suc text i 0 within, drop-cons text i 0 within, prepend-push (take i text) (get_or text i 0) (levels_of (drop (suc i) text)), is) refl
+    rw (
+      add-one,
+      take-suc text i 0 within,
+      drop-cons text i 0 within,
+      prepend-push (take i text) (get_or text i 0) (levels_of (drop (suc i) text)),
+      is,
+    ) refl
 
 -- a slash ends it
 pub prepend-slash : (text : List ℕ) (i : ℕ) → i < length text → get_or text i 0 ≡ 47
@@ -33,7 +42,8 @@ prepend-slash text i within is =
     rw (add-one, drop-cons text i 0 within, is) (prepend-nil (take i text) (levels_of (drop (suc i) text)))
 
 -- a text with no slash left is one level
-pub prepend-all : (text : List ℕ) (i : ℕ) → length text ≤ i → prepend (take i text) (levels_of (drop i text)) ≡ text ∷ []
+pub prepend-all : (text : List ℕ) (i : ℕ) → length text ≤ i
+    → prepend (take i text) (levels_of (drop i text)) ≡ text ∷ []
 prepend-all text i past = rw (drop_all i text past, take_all i text past) (prepend-nil text [])
 
 lengthen-onto_first : (b : ℕ) (levels : List (List ℕ)) → lengthen b levels ≡ onto_first b levels

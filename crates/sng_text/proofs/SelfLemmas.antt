@@ -1,5 +1,6 @@
 -- A text without wildcards, taken as a filter, asks for its own levels one by one.
-use Rattle.std.proofs.Common.{◌≡◌, ℕ, ◌==◌, true, false, List, [], ◌∷◌, ◌++◌, refl, sym, ap, ap₂, ◌∙◌, inl, inr}
+use Rattle.std.proofs.Common.{◌≡◌, ℕ, ◌==◌, true, false, List, [], ◌∷◌, ◌++◌, refl, sym, ap, ap₂, ◌∙◌, inl}
+use Rattle.std.proofs.Common.{inr}
 use Rattle.std.proofs.lemmas.Bool.{and_parts, and_from, false_from_ne_true, eqb-true, cases_Bool}
 use Rattle.std.proofs.lemmas.Slice.Eq.{bytes_eq-Decides}
 use Rattle.std.specs.Str.{bytes_eq}
@@ -13,7 +14,8 @@ abbrev joined : List (List ℕ) → List ℕ
 joined [] = []
 joined (level ∷ levels) = 47 ∷ (level ++ joined levels)
 
-joined-lengthen : (b : ℕ) (text : List ℕ) (levels : List (List ℕ)) → joined levels ≡ 47 ∷ text → joined (lengthen b levels) ≡ 47 ∷ b ∷ text
+joined-lengthen : (b : ℕ) (text : List ℕ) (levels : List (List ℕ)) → joined levels ≡ 47 ∷ text
+    → joined (lengthen b levels) ≡ 47 ∷ b ∷ text
 joined-lengthen b text [] is = cc
 joined-lengthen b text (level ∷ levels) is = cc
 
@@ -50,13 +52,15 @@ has_rest-plain (level ∷ levels) is =
     let p = and_parts _ _ is in
     rw (plain-hash level p.0, has_rest-plain levels p.1) refl
 
-begins_wild-plain : (levels : List (List ℕ)) → all_plain levels ≡ true → begins_wild (items_of levels) false ≡ false
+begins_wild-plain : (levels : List (List ℕ)) → all_plain levels ≡ true
+    → begins_wild (items_of levels) false ≡ false
 begins_wild-plain [] is = refl
 begins_wild-plain (level ∷ levels) is =
     let p = and_parts _ _ is in
     rw (plain-hash level p.0, plain-plus level p.0) refl
 
-matched-same : (levels found : List (List ℕ)) → all_plain levels ≡ true → match_items (items_of levels) false found ≡ true → levels ≡ found
+matched-same : (levels found : List (List ℕ)) → all_plain levels ≡ true
+    → match_items (items_of levels) false found ≡ true → levels ≡ found
 matched-same [] [] is matched = refl
 matched-same [] (f ∷ found) is matched = cc
 matched-same (level ∷ levels) [] is matched =
@@ -65,23 +69,30 @@ matched-same (level ∷ levels) [] is matched =
     cc
 matched-same (level ∷ levels) (f ∷ found) is matched =
     let p = and_parts _ _ is in
-    let m = and_parts (bytes_eq level f) (match_items (items_of levels) false found) (rw (plain-hash level p.0, plain-plus level p.0) at matched) in
-    ap₂ (λ (l : List ℕ) (ls : List (List ℕ)). l ∷ ls) ((bytes_eq-Decides level f).0 m.0) (matched-same levels found p.1 m.1)
+    let m =
+    and_parts (bytes_eq level f) (match_items (items_of levels) false found)
+    (rw (plain-hash level p.0, plain-plus level p.0) at matched) in
+    ap₂ (λ (l : List ℕ) (ls : List (List ℕ)). l ∷ ls) ((bytes_eq-Decides level f).0 m.0)
+    (matched-same levels found p.1 m.1)
 
-matched-itself : (levels : List (List ℕ)) → all_plain levels ≡ true → match_items (items_of levels) false levels ≡ true
+matched-itself : (levels : List (List ℕ)) → all_plain levels ≡ true
+    → match_items (items_of levels) false levels ≡ true
 matched-itself [] is = refl
 matched-itself (level ∷ levels) is =
     let p = and_parts _ _ is in
-    rw (plain-hash level p.0, plain-plus level p.0) (and_from _ _ ((bytes_eq-Decides level level).1 refl) (matched-itself levels p.1))
+    rw (plain-hash level p.0, plain-plus level p.0)
+    (and_from _ _ ((bytes_eq-Decides level level).1 refl) (matched-itself levels p.1))
 
-matches-plain : (name other : List ℕ) → is_plain name ≡ true → matches name other ≡ match_items (items_of (levels_of name)) false (levels_of other)
+matches-plain : (name other : List ℕ) → is_plain name ≡ true
+    → matches name other ≡ match_items (items_of (levels_of name)) false (levels_of other)
 matches-plain name other is =
     let plain = all_plain-levels_of name is in
     rw (has_rest-plain (levels_of name) plain, begins_wild-plain (levels_of name) plain) refl
 
 pub matches_same : (name other : List ℕ) → is_plain name ≡ true → matches name other ≡ true → name ≡ other
 matches_same name other is matched =
-    levels_of_same name other (matched-same (levels_of name) (levels_of other) (all_plain-levels_of name is) (sym (matches-plain name other is) ∙ matched))
+    levels_of_same name other (matched-same (levels_of name) (levels_of other) (all_plain-levels_of name is)
+    (sym (matches-plain name other is) ∙ matched))
 
 pub matches_itself : (name other : List ℕ) → is_plain name ≡ true → name ≡ other → matches name other ≡ true
 matches_itself name other is same =

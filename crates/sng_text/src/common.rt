@@ -8,7 +8,8 @@ use std::cmp;
 /// What is left of two texts behind the levels with which both begin. None where no level is left of one.
 /// Where both have one, these two differ. Takes one walk over the bytes up to there.
 pub fn past_common<'a, 'b>(text: &'a [u8], other: &'b [u8]) -> (Option<&'a [u8]>, Option<&'b [u8]>)
-    ensures { AreLeft (levels_of text.now) (levels_of other.now) (levels_left result.0) (levels_left result.1) }
+    ensures { AreLeft (levels_of text.now) (levels_of other.now)
+        (levels_left result.0) (levels_left result.1) }
 {
     let shorter = shorter(text, other);
     let mut start = 0;

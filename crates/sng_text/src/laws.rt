@@ -1,7 +1,8 @@
 //! The laws of texts. Each function here only states one: its contract is the law, and calling it does
 //! nothing.
 ghost use Rattle.std.specs.Prelude.{◌≡◌};
-ghost use Rattle.sng_text.specs.Laws.{ClientIdsAreCharacters, NamesMatchThemselves, LevelsAreParts, AddressesAreDecimal};
+ghost use Rattle.sng_text.specs.Laws.{ClientIdsAreCharacters, NamesMatchThemselves, LevelsAreParts};
+ghost use Rattle.sng_text.specs.Laws.{AddressesAreDecimal};
 
 use crate::{MAX_CLIENT_ID, MAX_FILTER, MAX_NAME};
 

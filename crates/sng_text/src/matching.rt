@@ -41,7 +41,8 @@ pub fn is_reserved(name: &[u8]) -> bool
 /// level that does not fit.
 fn match_levels(filter: &[u8], name: &[u8]) -> bool
     requires { all_plain (levels_of name.now) ≡ true }
-    ensures { result ≡ match_items (items_of (levels_of filter.now)) (has_rest (levels_of filter.now)) (levels_of name.now) }
+    ensures { result ≡ match_items (items_of (levels_of filter.now))
+        (has_rest (levels_of filter.now)) (levels_of name.now) }
 {
     let (left, found) = past_common(filter, name);
     let Some(left) = left else {

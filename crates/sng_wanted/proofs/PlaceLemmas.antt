@@ -1,5 +1,7 @@
 -- Which place an open packet id leads to.
-use Rattle.std.proofs.Common.{◌≡◌, ℕ, zero, suc, ◌+◌, ◌<◌, ◌≤◌, ◌==◌, ◌||◌, Bool, true, false, true≢false, List, [], ◌∷◌, ◌++◌, Option, Some, None, length, get_or, set, filter, slice_get, nat_lt, cond, if◌then◌else◌, refl, sym, ap, ◌∙◌, arith}
+use Rattle.std.proofs.Common.{◌≡◌, ℕ, zero, suc, ◌+◌, ◌<◌, ◌≤◌, ◌==◌, ◌||◌, Bool, true, false, true≢false}
+use Rattle.std.proofs.Common.{List, [], ◌∷◌, ◌++◌, Option, Some, None, length, get_or, set, filter, slice_get}
+use Rattle.std.proofs.Common.{nat_lt, cond, if◌then◌else◌, refl, sym, ap, ◌∙◌, arith}
 use Rattle.std.specs.List.{list_any, find}
 use Rattle.std.specs.Option.{option_map}
 use Rattle.std.proofs.lemmas.Bool.{eqb-true, eq-eqb, eqb-false, ltb-true, ltb-false, false_from_ne_true}
@@ -16,41 +18,54 @@ some_is : (a b : ℕ) → Some a ≡ Some b → a ≡ b
 some_is a b same = cc
 
 -- the same open packet ids at all places lead to the same places
-pub indexed_same : (wanted other : List Entry) (places : List ℕ) → ((p : ℕ) → open_at other p ≡ open_at wanted p) → IsIndexed wanted places → IsIndexed other places
-indexed_same wanted other places same indexed = record { whole = indexed.whole; found = λ p id there. indexed.found p id (sym (same p) ∙ there) }
+pub indexed_same : (wanted other : List Entry) (places : List ℕ)
+    → ((p : ℕ) → open_at other p ≡ open_at wanted p) → IsIndexed wanted places → IsIndexed other places
+indexed_same wanted other places same indexed =
+    record { whole = indexed.whole; found = λ p id there. indexed.found p id (sym (same p) ∙ there) }
 
-open_at-same : (es : List Entry) (place : ℕ) (w : Want) → place < length es → open_at (set_value_at es place w) place ≡ open_in w
+open_at-same : (es : List Entry) (place : ℕ) (w : Want) → place < length es
+    → open_at (set_value_at es place w) place ≡ open_in w
 open_at-same [] place w within = absurd (omega arith)
 open_at-same (e ∷ es) zero w within = refl
 open_at-same (e ∷ es) (suc place) w within = open_at-same es place w (omega arith)
 
-open_at-other : (es : List Entry) (place : ℕ) (w : Want) (p : ℕ) → (p ≡ place → ⊥) → open_at (set_value_at es place w) p ≡ open_at es p
+open_at-other : (es : List Entry) (place : ℕ) (w : Want) (p : ℕ) → (p ≡ place → ⊥)
+    → open_at (set_value_at es place w) p ≡ open_at es p
 open_at-other [] place w p differs = refl
 open_at-other (e ∷ es) zero w zero differs = absurd (differs refl)
 open_at-other (e ∷ es) zero w (suc p) differs = refl
 open_at-other (e ∷ es) (suc place) w zero differs = refl
-open_at-other (e ∷ es) (suc place) w (suc p) differs = open_at-other es place w p (λ same. differs (ap suc same))
+open_at-other (e ∷ es) (suc place) w (suc p) differs =
+    open_at-other es place w p (λ same. differs (ap suc same))
 
 -- a change at a place changes what is open there alone
-set_by : (es : List Entry) (place : ℕ) (w : Want) (p : ℕ) (here : Bool) → (p == place) ≡ here → place < length es
+set_by : (es : List Entry) (place : ℕ) (w : Want) (p : ℕ) (here : Bool) → (p == place) ≡ here
+    → place < length es
     → open_at (set_value_at es place w) p ≡ (if here then open_in w else open_at es p)
 set_by es place w p true is within =
-    let at : p ≡ place = eqb-true p place is in ap (λ q. open_at (set_value_at es place w) q) at ∙ open_at-same es place w within
+    let at : p ≡ place = eqb-true p place is in
+    ap (λ q. open_at (set_value_at es place w) q) at ∙ open_at-same es place w within
 set_by es place w p false is within = open_at-other es place w p (eqb-false p place is)
 
-pub open_at-set : (es : List Entry) (place : ℕ) (w : Want) (p : ℕ) → place < length es → open_at (set_value_at es place w) p ≡ (if p == place then open_in w else open_at es p)
+pub open_at-set : (es : List Entry) (place : ℕ) (w : Want) (p : ℕ) → place < length es
+    → open_at (set_value_at es place w) p ≡ (if p == place then open_in w else open_at es p)
 open_at-set es place w p within = set_by es place w p (p == place) refl within
 
-closing_by : (es : List Entry) (places : List ℕ) (place p id : ℕ) (w : Want) (here : Bool) → (p == place) ≡ here → open_in w ≡ None → IsIndexed es places
+closing_by : (es : List Entry) (places : List ℕ) (place p id : ℕ) (w : Want) (here : Bool)
+    → (p == place) ≡ here → open_in w ≡ None → IsIndexed es places
     → (if here then open_in w else open_at es p) ≡ Some id → get_or places id 0 ≡ p
-closing_by es places place p id w true is none indexed there = let absent : None ≡ Some id = sym none ∙ there in cc
+closing_by es places place p id w true is none indexed there =
+    let absent : None ≡ Some id = sym none ∙ there in cc
 closing_by es places place p id w false is none indexed there = indexed.found p id there
 
 -- one that leaves none open at the place
-pub indexed_closed : (es : List Entry) (places : List ℕ) (place : ℕ) (w : Want) → place < length es → open_in w ≡ None → IsIndexed es places → IsIndexed (set_value_at es place w) places
+pub indexed_closed : (es : List Entry) (places : List ℕ) (place : ℕ) (w : Want) → place < length es
+    → open_in w ≡ None → IsIndexed es places → IsIndexed (set_value_at es place w) places
 indexed_closed es places place w within none indexed = record {
   whole = indexed.whole;
-  found = λ p id there. closing_by es places place p id w (p == place) refl none indexed (sym (open_at-set es place w p within) ∙ there);
+  found =
+      λ p id there. closing_by es places place p id w (p == place) refl none indexed
+      (sym (open_at-set es place w p within) ∙ there);
 }
 
 -- what leads to places is open once
@@ -65,44 +80,58 @@ abbrev pub Only : List Entry → ℕ → ℕ → Type 0
 Only es id p = (q : ℕ) → open_at es q ≡ Some id → q ≡ p
 
 -- where it is open it is open alone
-pub only_there : (es : List Entry) (places : List ℕ) (p id : ℕ) → IsIndexed es places → open_at es p ≡ Some id → Only es id p
+pub only_there : (es : List Entry) (places : List ℕ) (p id : ℕ) → IsIndexed es places → open_at es p ≡ Some id
+    → Only es id p
 only_there es places p id indexed at q there = sym (indexed.found q id there) ∙ indexed.found p id at
 
 -- the place that the packet id leads to is the only one at which it can be open
-pub not_elsewhere : (es : List Entry) (places : List ℕ) (place id : ℕ) → IsIndexed es places → place ≡ get_or places id 0 → (open_at es place ≡ Some id → ⊥)
+pub not_elsewhere : (es : List Entry) (places : List ℕ) (place id : ℕ) → IsIndexed es places
+    → place ≡ get_or places id 0 → (open_at es place ≡ Some id → ⊥)
     → (q : ℕ) → open_at es q ≡ Some id → ⊥
 not_elsewhere es places place id indexed place_is absent q there =
     let at : place ≡ q = place_is ∙ indexed.found q id there in absent (ap (λ p. open_at es p) at ∙ there)
 
 pub indexed_none : (es : List Entry) (places : List ℕ) → es ≡ [] → length places ≡ 65536 → IsIndexed es places
-indexed_none es places is whole = record { whole = whole; found = λ p id there. absurd (none_open id (sym (ap (λ l. open_at l p) is) ∙ there)) }
+indexed_none es places is whole =
+    record {
+      whole = whole;
+      found =
+          λ p id there. absurd (none_open id (sym (ap (λ l. open_at l p) is) ∙ there));
+    }
 
 -- what is left was there
-kept_from : (keep : Entry → Bool) (es : List Entry) (q id : ℕ) → open_at (filter keep es) q ≡ Some id → (p : ℕ) × (open_at es p ≡ Some id)
+kept_from : (keep : Entry → Bool) (es : List Entry) (q id : ℕ) → open_at (filter keep es) q ≡ Some id
+    → (p : ℕ) × (open_at es p ≡ Some id)
 kept_from keep [] q id = λ there. (q, there)
 kept_from keep (e ∷ es) q id = kept_by keep e es q id (keep e) (λ p. kept_from keep es p id)
   where
     kept_by : (keep : Entry → Bool) (e : Entry) (es : List Entry) (q id : ℕ) (here : Bool)
         → ((p : ℕ) → open_at (filter keep es) p ≡ Some id → (p' : ℕ) × (open_at es p' ≡ Some id))
-        → open_at (cond here (e ∷ filter keep es) (filter keep es)) q ≡ Some id → (p : ℕ) × (open_at (e ∷ es) p ≡ Some id)
+        → open_at (cond here (e ∷ filter keep es) (filter keep es)) q ≡ Some id
+        → (p : ℕ) × (open_at (e ∷ es) p ≡ Some id)
     kept_by keep e es zero id true later there = (zero, there)
     kept_by keep e es (suc q) id true later there = let found = later q there in (suc found.0, found.1)
     kept_by keep e es q id false later there = let found = later q there in (suc found.0, found.1)
 
-first_kept : (keep : Entry → Bool) (e : Entry) (es : List Entry) (q id : ℕ) → IsOpenOnce (e ∷ es) → open_in e.1 ≡ Some id → open_at (filter keep es) q ≡ Some id → ⊥
+first_kept : (keep : Entry → Bool) (e : Entry) (es : List Entry) (q id : ℕ) → IsOpenOnce (e ∷ es)
+    → open_in e.1 ≡ Some id → open_at (filter keep es) q ≡ Some id → ⊥
 first_kept keep e es q id once now there =
     let found = kept_from keep es q id there in
     let first : zero ≡ suc found.0 = once zero (suc found.0) id now found.1 in omega arith
 
 tail_once : (e : Entry) (es : List Entry) → IsOpenOnce (e ∷ es) → IsOpenOnce es
-tail_once e es once p q id first second = let more : suc p ≡ suc q = once (suc p) (suc q) id first second in omega arith
+tail_once e es once p q id first second =
+    let more : suc p ≡ suc q = once (suc p) (suc q) id first second in omega arith
 
-once_by : (keep : Entry → Bool) (e : Entry) (es : List Entry) (here : Bool) → IsOpenOnce (e ∷ es) → IsOpenOnce (filter keep es)
+once_by : (keep : Entry → Bool) (e : Entry) (es : List Entry) (here : Bool) → IsOpenOnce (e ∷ es)
+    → IsOpenOnce (filter keep es)
     → IsOpenOnce (cond here (e ∷ filter keep es) (filter keep es))
 once_by keep e es false all later p q id first second = later p q id first second
 once_by keep e es true all later zero zero id first second = refl
-once_by keep e es true all later zero (suc q) id first second = absurd (first_kept keep e es q id all first second)
-once_by keep e es true all later (suc p) zero id first second = absurd (first_kept keep e es p id all second first)
+once_by keep e es true all later zero (suc q) id first second =
+    absurd (first_kept keep e es q id all first second)
+once_by keep e es true all later (suc p) zero id first second =
+    absurd (first_kept keep e es p id all second first)
 once_by keep e es true all later (suc p) (suc q) id first second = ap suc (later p q id first second)
 
 -- fewer are open once
@@ -118,20 +147,28 @@ pub record Noted (es : List Entry) (places : List ℕ) (count : ℕ) : Type 0 wh
 pub noted_none : (es : List Entry) (places : List ℕ) → length places ≡ 65536 → Noted es places 0
 noted_none es places whole = record { whole = whole; found = λ p id below there. absurd (omega arith) }
 
-pub noted_past : (es : List Entry) (places : List ℕ) (count : ℕ) → open_at es count ≡ None → Noted es places count → Noted es places (count + 1)
-noted_past es places count absent noted = record { whole = noted.whole; found = λ p id below there. past_by p id (p == count) refl below there }
+pub noted_past : (es : List Entry) (places : List ℕ) (count : ℕ) → open_at es count ≡ None
+    → Noted es places count → Noted es places (count + 1)
+noted_past es places count absent noted =
+    record { whole = noted.whole; found = λ p id below there. past_by p id (p == count) refl below there }
   where
-    past_by : (p id : ℕ) (here : Bool) → (p == count) ≡ here → p < count + 1 → open_at es p ≡ Some id → get_or places id 0 ≡ p
-    past_by p id true is below there = let at : p ≡ count = eqb-true p count is in absurd (none_open id (sym absent ∙ ap (λ q. open_at es q) (sym at) ∙ there))
-    past_by p id false is below there = let other : p ≡ count → ⊥ = eqb-false p count is in noted.found p id (omega arith) there
+    past_by : (p id : ℕ) (here : Bool) → (p == count) ≡ here → p < count + 1 → open_at es p ≡ Some id
+        → get_or places id 0 ≡ p
+    past_by p id true is below there =
+        let at : p ≡ count = eqb-true p count is in
+        absurd (none_open id (sym absent ∙ ap (λ q. open_at es q) (sym at) ∙ there))
+    past_by p id false is below there =
+        let other : p ≡ count → ⊥ = eqb-false p count is in noted.found p id (omega arith) there
 
-pub noted_more : (es : List Entry) (places : List ℕ) (count id : ℕ) → IsOpenOnce es → id ≤ 65535 → open_at es count ≡ Some id → Noted es places count → Noted es (set places id count) (count + 1)
+pub noted_more : (es : List Entry) (places : List ℕ) (count id : ℕ) → IsOpenOnce es → id ≤ 65535
+    → open_at es count ≡ Some id → Noted es places count → Noted es (set places id count) (count + 1)
 noted_more es places count id once small here noted = record {
   whole = length-set places id count ∙ noted.whole;
   found = λ p other below there. more_by p other (p == count) refl below there;
 }
   where
-    more_by : (p other : ℕ) (at_end : Bool) → (p == count) ≡ at_end → p < count + 1 → open_at es p ≡ Some other → get_or (set places id count) other 0 ≡ p
+    more_by : (p other : ℕ) (at_end : Bool) → (p == count) ≡ at_end → p < count + 1
+        → open_at es p ≡ Some other → get_or (set places id count) other 0 ≡ p
     more_by p other true is below there =
         let at : p ≡ count = eqb-true p count is in
         let same : id ≡ other = some_is id other (sym here ∙ ap (λ q. open_at es q) (sym at) ∙ there) in
@@ -146,10 +183,13 @@ past_end [] p beyond = refl
 past_end (e ∷ es) zero beyond = absurd (omega arith)
 past_end (e ∷ es) (suc p) beyond = past_end es p (omega arith)
 
-pub noted_all : (es : List Entry) (places : List ℕ) (count : ℕ) → length es ≤ count → Noted es places count → IsIndexed es places
-noted_all es places count all noted = record { whole = noted.whole; found = λ p id there. all_by p id (nat_lt p count) refl there }
+pub noted_all : (es : List Entry) (places : List ℕ) (count : ℕ) → length es ≤ count → Noted es places count
+    → IsIndexed es places
+noted_all es places count all noted =
+    record { whole = noted.whole; found = λ p id there. all_by p id (nat_lt p count) refl there }
   where
-    all_by : (p id : ℕ) (below : Bool) → nat_lt p count ≡ below → open_at es p ≡ Some id → get_or places id 0 ≡ p
+    all_by : (p id : ℕ) (below : Bool) → nat_lt p count ≡ below → open_at es p ≡ Some id
+        → get_or places id 0 ≡ p
     all_by p id true is there = noted.found p id (ltb-true p count is) there
     all_by p id false is there =
         let above : count ≤ p = ltb-false p count is in
@@ -165,35 +205,45 @@ any_open ((k, Stands o) ∷ es) zero id there =
 any_open ((k, Ended) ∷ es) (suc p) id there = any_open es p id there
 any_open ((k, Stands o) ∷ es) (suc p) id there =
     let later : list_any (is_open id) (shown es) ≡ true = any_open es p id there in
-    elim (has_id id o) as (λ b. (b || list_any (is_open id) (shown es)) ≡ true) [ true ↦ refl | false ↦ later ]
+    elim (has_id id o) as (λ b. (b || list_any (is_open id) (shown es)) ≡ true)
+    [ true ↦ refl | false ↦ later ]
 
-opening_by : (es : List Entry) (places : List ℕ) (place id p other : ℕ) (w : Want) (here : Bool) → (p == place) ≡ here → open_in w ≡ Some id → id ≤ 65535
-    → list_any (is_open id) (shown es) ≡ false → IsIndexed es places → (if here then open_in w else open_at es p) ≡ Some other → get_or (set places id place) other 0 ≡ p
+opening_by : (es : List Entry) (places : List ℕ) (place id p other : ℕ) (w : Want) (here : Bool)
+    → (p == place) ≡ here → open_in w ≡ Some id → id ≤ 65535
+    → list_any (is_open id) (shown es) ≡ false → IsIndexed es places
+    → (if here then open_in w else open_at es p) ≡ Some other → get_or (set places id place) other 0 ≡ p
 opening_by es places place id p other w true is now small fresh indexed there =
     let at : p ≡ place = eqb-true p place is in
     let same : id ≡ other = some_is id other (sym now ∙ there) in
     rw (← same) (get_or-set_same places id place 0 (omega (arith, indexed.whole)) ∙ sym at)
 opening_by es places place id p other w false is now small fresh indexed there =
-    let differs : other ≡ id → ⊥ = λ same. true≢false (sym (any_open es p id (there ∙ ap Some same)) ∙ fresh) in
+    let differs : other ≡ id → ⊥ =
+    λ same. true≢false (sym (any_open es p id (there ∙ ap Some same)) ∙ fresh) in
     get_or-set_other places id other place 0 differs ∙ indexed.found p other there
 
 -- and one that opens a packet id that is not open
-pub indexed_opened : (es : List Entry) (places : List ℕ) (place id : ℕ) (w : Want) → place < length es → open_in w ≡ Some id → id ≤ 65535 → list_any (is_open id) (shown es) ≡ false
+pub indexed_opened : (es : List Entry) (places : List ℕ) (place id : ℕ) (w : Want) → place < length es
+    → open_in w ≡ Some id → id ≤ 65535 → list_any (is_open id) (shown es) ≡ false
     → IsIndexed es places → IsIndexed (set_value_at es place w) (set places id place)
 indexed_opened es places place id w within now small fresh indexed = record {
   whole = length-set places id place ∙ indexed.whole;
-  found = λ p other there. opening_by es places place id p other w (p == place) refl now small fresh indexed (sym (open_at-set es place w p within) ∙ there);
+  found =
+      λ p other there. opening_by es places place id p other w (p == place) refl now small fresh indexed
+      (sym (open_at-set es place w p within) ∙ there);
 }
 
 -- one more at the end, with no open packet id
-open_more : (es : List Entry) (text : List ℕ) (p : ℕ) → open_at (es ++ (text, Stands None) ∷ []) p ≡ open_at es p
+open_more : (es : List Entry) (text : List ℕ) (p : ℕ)
+    → open_at (es ++ (text, Stands None) ∷ []) p ≡ open_at es p
 open_more [] text zero = refl
 open_more [] text (suc p) = refl
 open_more (e ∷ es) text zero = refl
 open_more (e ∷ es) text (suc p) = open_more es text p
 
-pub indexed_more : (es : List Entry) (text : List ℕ) (places : List ℕ) → IsIndexed es places → IsIndexed (es ++ (text, Stands None) ∷ []) places
-indexed_more es text places indexed = indexed_same es (es ++ (text, Stands None) ∷ []) places (open_more es text) indexed
+pub indexed_more : (es : List Entry) (text : List ℕ) (places : List ℕ) → IsIndexed es places
+    → IsIndexed (es ++ (text, Stands None) ∷ []) places
+indexed_more es text places indexed =
+    indexed_same es (es ++ (text, Stands None) ∷ []) places (open_more es text) indexed
 
 has_open : (o : Option ℕ) (id : ℕ) → has_id id o ≡ true → o ≡ Some id
 has_open None id is = absurd (true≢false (sym is))
@@ -207,12 +257,14 @@ abbrev pub Nowhere : List Entry → ℕ → Type 0
 Nowhere es id = (q : ℕ) → open_at es q ≡ Some id → ⊥
 
 -- and then what it is reopened with changes nothing
-pub none_reopened : (es : List Entry) (id : ℕ) (former : Option ℕ) → Nowhere es id → reopened (shown es) id former ≡ shown es
+pub none_reopened : (es : List Entry) (id : ℕ) (former : Option ℕ) → Nowhere es id
+    → reopened (shown es) id former ≡ shown es
 none_reopened [] id former none = refl
 none_reopened ((k, Ended) ∷ es) id former none = none_reopened es id former (λ q. none (suc q))
 none_reopened ((k, Stands o) ∷ es) id former none =
     let unlike : has_id id o ≡ false = closed_off o id (λ is. none zero is) in
-    rw unlike (ap (λ l. record { filter = k; open_id = o } ∷ l) (none_reopened es id former (λ q. none (suc q))))
+    rw unlike (ap (λ l. record { filter = k; open_id = o } ∷ l)
+    (none_reopened es id former (λ q. none (suc q))))
 
 pub none_found : (es : List Entry) (id : ℕ) → Nowhere es id → find (is_open id) (shown es) ≡ None
 none_found [] id none = refl
@@ -227,36 +279,44 @@ later_nowhere e es id only q there = let none : suc q ≡ zero = only (suc q) th
 later_only : (e : Entry) (es : List Entry) (p id : ℕ) → Only (e ∷ es) id (suc p) → Only es id p
 later_only e es p id only q at = let more : suc q ≡ suc p = only (suc q) at in omega arith
 
-not_first : (k : List ℕ) (o : Option ℕ) (es : List Entry) (p id : ℕ) → Only ((k, Stands o) ∷ es) id (suc p) → has_id id o ≡ false
+not_first : (k : List ℕ) (o : Option ℕ) (es : List Entry) (p id : ℕ) → Only ((k, Stands o) ∷ es) id (suc p)
+    → has_id id o ≡ false
 not_first k o es p id only = closed_off o id (λ is. let first : zero ≡ suc p = only zero is in omega arith)
 
 -- the filter at the place is reopened, and no other
-pub at_reopened : (es : List Entry) (p id : ℕ) (former : Option ℕ) → open_at es p ≡ Some id → Only es id p → shown (set_value_at es p (Stands former)) ≡ reopened (shown es) id former
+pub at_reopened : (es : List Entry) (p id : ℕ) (former : Option ℕ) → open_at es p ≡ Some id → Only es id p
+    → shown (set_value_at es p (Stands former)) ≡ reopened (shown es) id former
 at_reopened [] p id former there only = absurd (none_open id there)
 at_reopened ((k, Ended) ∷ es) zero id former there only = absurd (none_open id there)
 at_reopened ((k, Stands o) ∷ es) zero id former there only =
     let here : has_id id o ≡ true = ap (λ o. has_id id o) there ∙ eq-eqb id id refl in
-    rw here (ap (λ l. record { filter = k; open_id = former } ∷ l) (sym (none_reopened es id former (later_nowhere (k, Stands o) es id only))))
-at_reopened ((k, Ended) ∷ es) (suc p) id former there only = at_reopened es p id former there (later_only (k, Ended) es p id only)
+    rw here (ap (λ l. record { filter = k; open_id = former } ∷ l)
+    (sym (none_reopened es id former (later_nowhere (k, Stands o) es id only))))
+at_reopened ((k, Ended) ∷ es) (suc p) id former there only =
+    at_reopened es p id former there (later_only (k, Ended) es p id only)
 at_reopened ((k, Stands o) ∷ es) (suc p) id former there only =
     let unlike : has_id id o ≡ false = not_first k o es p id only in
-    rw unlike (ap (λ l. record { filter = k; open_id = o } ∷ l) (at_reopened es p id former there (later_only (k, Stands o) es p id only)))
+    rw unlike (ap (λ l. record { filter = k; open_id = o } ∷ l)
+    (at_reopened es p id former there (later_only (k, Stands o) es p id only)))
 
 -- and it is the one that is found
-pub at_found : (es : List Entry) (p id : ℕ) (e : Entry) → slice_get es p ≡ Some e → open_at es p ≡ Some id → Only es id p
+pub at_found : (es : List Entry) (p id : ℕ) (e : Entry) → slice_get es p ≡ Some e → open_at es p ≡ Some id
+    → Only es id p
     → option_map (λ (w : Wanted). w.filter) (find (is_open id) (shown es)) ≡ Some e.0
 at_found [] p id e is there only = absurd (none_open id there)
 at_found ((k, Ended) ∷ es) zero id e is there only = absurd (none_open id there)
 at_found ((k, Stands o) ∷ es) zero id e is there only =
     let here : has_id id o ≡ true = ap (λ o. has_id id o) there ∙ eq-eqb id id refl in
     rw here (ap (λ (x : Option Entry). option_map (λ (e : Entry). e.0) x) is)
-at_found ((k, Ended) ∷ es) (suc p) id e is there only = at_found es p id e is there (later_only (k, Ended) es p id only)
+at_found ((k, Ended) ∷ es) (suc p) id e is there only =
+    at_found es p id e is there (later_only (k, Ended) es p id only)
 at_found ((k, Stands o) ∷ es) (suc p) id e is there only =
     let unlike : has_id id o ≡ false = not_first k o es p id only in
     rw unlike (at_found es p id e is there (later_only (k, Stands o) es p id only))
 
 -- where a packet id is open something stands
-pub open_stands : (es : List Entry) (p id : ℕ) → open_at es p ≡ Some id → want_of es p ≡ Some (Stands (Some id))
+pub open_stands : (es : List Entry) (p id : ℕ) → open_at es p ≡ Some id
+    → want_of es p ≡ Some (Stands (Some id))
 open_stands [] p id there = absurd (none_open id there)
 open_stands ((k, Ended) ∷ es) zero id there = absurd (none_open id there)
 open_stands ((k, Stands o) ∷ es) zero id there = ap (λ o. Some (Stands o)) there

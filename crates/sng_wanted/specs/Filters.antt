@@ -9,7 +9,8 @@ without_wanted wanted text = filter (λ w. not (is_filter_of text w)) wanted
 
 -- the open SUBSCRIBE with this packet id, where there is one, has this one instead, or none
 abbrev pub reopened : List Wanted → ℕ → Option ℕ → List Wanted
-reopened wanted packet_id former = map (λ w. if is_open packet_id w then record w { open_id = former } else w) wanted
+reopened wanted packet_id former =
+    map (λ w. if is_open packet_id w then record w { open_id = former } else w) wanted
 
 -- of a filter that may be wanted, the packet id of its open SUBSCRIBE, where it has one
 abbrev pub id_in : Option Wanted → Option ℕ

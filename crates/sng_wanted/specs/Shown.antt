@@ -1,5 +1,6 @@
 -- The filters as they are kept: those that stand, and among them some that ended.
-use Rattle.std.specs.Prelude.{ℕ, ◌≡◌, ◌≤◌, ◌+◌, Bool, true, false, zero, suc, List, [], ◌∷◌, length, get_or, slice_get, Option, Some, None}
+use Rattle.std.specs.Prelude.{ℕ, ◌≡◌, ◌≤◌, ◌+◌, Bool, true, false, zero, suc, List, [], ◌∷◌, length, get_or}
+use Rattle.std.specs.Prelude.{slice_get, Option, Some, None}
 use Rattle.std.specs.Str.{bytes_eq}
 use Rattle.std.specs.Option.{option_map}
 use Rattle.sng_history.specs.Links.{Wanted, wants}
@@ -84,6 +85,7 @@ abbrev pub IsPlaceOpen : List Entry → ℕ → Option ℕ → Type 0
 IsPlaceOpen es packet_id None = (place : ℕ) → open_at es place ≡ Some packet_id → ⊥
 IsPlaceOpen es packet_id (Some place) = open_at es place ≡ Some packet_id
 
--- the map has room for so many entries in all, with no more memory; the two numbers are how many it has, and how many more it takes
+-- the map has room for so many entries in all, with no more memory; the two numbers are how many it has, and
+-- how many more it takes
 abbrev pub HasRoom : ℕ → ℕ → ℕ → Type 0
 HasRoom room count spare = room ≤ count + spare

@@ -1,12 +1,15 @@
 -- The will after actions is what they stated last, action by action.
-use Rattle.std.proofs.Common.{◌≡◌, ℕ, Bool, true, false, List, [], ◌∷◌, Option, Some, None, is_some, ◌&&◌, unwrap_or, cond, refl, ap, ◌∙◌, true≢false}
+use Rattle.std.proofs.Common.{◌≡◌, ℕ, Bool, true, false, List, [], ◌∷◌, Option, Some, None, is_some, ◌&&◌}
+use Rattle.std.proofs.Common.{unwrap_or, cond, refl, ap, ◌∙◌, true≢false}
 use Rattle.std.specs.Option.{option_map}
 use Rattle.sng_wills.specs.declared.will.Will.{Will}
 use Rattle.sng_wills.specs.declared.will.StatedTopic.{StatedTopic}
 use Rattle.sng_wills.specs.declared.will.Stage.{Stage}
 use Rattle.sng_wills.specs.declared.will.Stage.TheVariants.{Closed, TopicAwaited, MessageAwaited}
-use Rattle.sng_wills.specs.Wills.{Wills, will_of, is_closed, after_topic, after_message, after_topic_update, after_message_update}
-use Rattle.sng_wills.specs.Stated.{Action, after, after_all, later, awaited_topic, last_topic, last_message, Start, Stop, Clear, Topic, Message, UpdateTopic, UpdateMessage}
+use Rattle.sng_wills.specs.Wills.{Wills, will_of, is_closed, after_topic, after_message, after_topic_update}
+use Rattle.sng_wills.specs.Wills.{after_message_update}
+use Rattle.sng_wills.specs.Stated.{Action, after, after_all, later, awaited_topic, last_topic, last_message}
+use Rattle.sng_wills.specs.Stated.{Start, Stop, Clear, Topic, Message, UpdateTopic, UpdateMessage}
 use Rattle.sng_wills.specs.Laws.{WillsAreWhatWasStatedLast}
 
 -- the will of a topic, where there is one, and a message

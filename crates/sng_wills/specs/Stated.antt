@@ -4,7 +4,8 @@ use Rattle.std.specs.declared.option.Option.{Option}
 use Rattle.sng_wills.specs.declared.will.StatedTopic.{StatedTopic}
 use Rattle.sng_wills.specs.declared.will.Stage.{Stage}
 use Rattle.sng_wills.specs.declared.will.Stage.TheVariants.{Closed, TopicAwaited, MessageAwaited}
-use Rattle.sng_wills.specs.Wills.{Wills, is_closed, after_topic, after_message, after_topic_update, after_message_update}
+use Rattle.sng_wills.specs.Wills.{Wills, is_closed, after_topic, after_message, after_topic_update}
+use Rattle.sng_wills.specs.Wills.{after_message_update}
 
 -- what happens to a dialogue
 pub data Action : Type 0 where

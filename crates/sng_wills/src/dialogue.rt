@@ -3,7 +3,8 @@
 ghost use Rattle.std.specs.Prelude.{◌≡◌, None, unwrap_or};
 ghost use Rattle.std.specs.Option.{option_copied};
 ghost use Rattle.sng_wills.specs.declared.will.Stage.TheVariants.{Closed, TopicAwaited};
-ghost use Rattle.sng_wills.specs.Wills.{stated_topic, after_topic, after_message, after_topic_update, after_message_update, answer};
+ghost use Rattle.sng_wills.specs.Wills.{stated_topic, after_topic, after_message, after_topic_update};
+ghost use Rattle.sng_wills.specs.Wills.{after_message_update, answer};
 
 use crate::{Stage, StatedTopic, Will, WillFault};
 use sng_text::{Octets, Qos, TopicName};

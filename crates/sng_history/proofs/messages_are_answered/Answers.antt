@@ -1,4 +1,5 @@
-use Rattle.sng_history.proofs.LawDatagrams.{ping_law, leave_law, sleep_law, unsupported_law, broken_law, packet_law}
+use Rattle.sng_history.proofs.LawDatagrams.{ping_law, leave_law, sleep_law, unsupported_law, broken_law}
+use Rattle.sng_history.proofs.LawDatagrams.{packet_law}
 use Rattle.sng_history.proofs.messages_are_answered.Goals as goal
 
 pub returns : goal.returns

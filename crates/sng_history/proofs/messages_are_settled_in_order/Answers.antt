@@ -3,4 +3,11 @@ use Rattle.sng_history.proofs.LawIdles.{idle_law, away_law}
 use Rattle.sng_history.proofs.messages_are_settled_in_order.Goals as goal
 
 pub returns : goal.returns
-returns c = record { in_order = settled_in_order; once = handed_once; front = front_announced; idles = idle_law; away = away_law }
+returns c =
+    record {
+      in_order = settled_in_order;
+      once = handed_once;
+      front = front_announced;
+      idles = idle_law;
+      away = away_law;
+    }

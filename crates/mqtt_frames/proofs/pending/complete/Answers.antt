@@ -26,9 +26,11 @@ returns-else-is_err-clause-ok c =
     ap (λ (b : List ℕ). header_at (held ++ b)) (sym parts) ∙ sym c.requires.header in
     let size : length (held ++ front) ≡ c.args.start + c.args.rest =
     omega (arith, length-append held front, c.split_at.ensures.front_len, c.len-before.ensures, part) in
-    let read : read_all (held ++ c.args.piece.now) ≡ behind_body (body_of c.args.kind (drop c.args.start c.extend_from_slice-2.new.self.items)) behind =
+    let read : read_all (held ++ c.args.piece.now)
+    ≡ behind_body (body_of c.args.kind (drop c.args.start c.extend_from_slice-2.new.self.items)) behind =
     ap (λ (b : List ℕ). read_all (held ++ b)) parts
-    ∙ whole-read held front behind c.args.kind c.args.start c.args.rest told c.if-total-gt-MAX_PACKET.false size
+    ∙ whole-read held front behind c.args.kind c.args.start c.args.rest told c.if-total-gt-MAX_PACKET.false
+    size
     ∙ ap (λ (b : List ℕ). behind_body (body_of c.args.kind (drop c.args.start b)) behind)
     (sym c.in_ok-extend_from_slice-2.ensures.items) in
     rw read c.completed-taken.ensures.ok

@@ -11,4 +11,5 @@ loop-packets-preserved c =
     let one =
     read_all-whole rest packet c.in-Whole.size (sym (c.in_ok-decode.ensures.value) ∙ c.in-Whole.is) in
     rw (c.in_ok-push-in-Whole.ensures.items, c.split_at.ensures.back)
-    (sym (with_packets-both packets (packet ∷ []) (read_all (drop c.in-Whole.size rest))) ∙ ap (with_packets packets) (sym one) ∙ c.loop-packets.invariant)
+    (sym (with_packets-both packets (packet ∷ []) (read_all (drop c.in-Whole.size rest)))
+    ∙ ap (with_packets packets) (sym one) ∙ c.loop-packets.invariant)

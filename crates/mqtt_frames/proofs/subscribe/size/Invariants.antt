@@ -6,5 +6,6 @@ use Rattle.mqtt_frames.proofs.subscribe.size.Given as goal
 abbrev pub invariant-loop-request : goal.invariant-loop-request
 invariant-loop-request l = record {
   short : l.size ≤ MAX_PACKET;
-  total : l.size + length (requests_bytes (drop l.request-index l.requests)) ≡ 2 + length (requests_bytes l.requests);
+  total : l.size + length (requests_bytes (drop l.request-index l.requests))
+      ≡ 2 + length (requests_bytes l.requests);
 }

@@ -6,5 +6,6 @@ use Rattle.mqtt_frames.proofs.unsubscribe.size.Given as goal
 abbrev pub invariant-loop-filter : goal.invariant-loop-filter
 invariant-loop-filter l = record {
   short : l.size ≤ MAX_PACKET;
-  total : l.size + length (filters_bytes (drop l.filter-index l.filters)) ≡ 2 + length (filters_bytes l.filters);
+  total : l.size + length (filters_bytes (drop l.filter-index l.filters))
+      ≡ 2 + length (filters_bytes l.filters);
 }

@@ -12,5 +12,8 @@ loop-peer-preserved c =
     let inside : c.loop-peer.peer-index < length items = omega arith in
     let none : Peer = record { conn = 0; last_id = 0 } in
     let peer : Peer = get_or items c.loop-peer.peer-index none in
-    let all = map_over_more (identified c.args.conn c.args.last_id) c.deref_mut-peer-items.result.now items c.loop-peer.peer-index peer within c.loop-peer.invariant (get_or_default items c.loop-peer.peer-index none peer inside) in
+    let all =
+    map_over_more (identified c.args.conn c.args.last_id) c.deref_mut-peer-items.result.now items
+    c.loop-peer.peer-index peer within c.loop-peer.invariant
+    (get_or_default items c.loop-peer.peer-index none peer inside) in
     rw c.identify.ensures all

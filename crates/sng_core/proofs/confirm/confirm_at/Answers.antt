@@ -12,13 +12,17 @@ returns-then-not-is_confirming-clause-next c =
     let xs = c.args.sessions.now in
     let x = client_at xs c.args.place in
     c.in_ok-outs.ensures.next
-    ∙ moved-here (heard_at c.args.clock) (confirm_next c.args.policy.now c.args.clock c.args.answer) xs c.args.place c.requires
-    (sym (ap (λ b. if b then confirming_next c.args.policy.now c.args.clock c.args.answer x else heard_at c.args.clock x) (sym c.is_confirming.ensures ∙ c.if-not-is_confirming.true)))
+    ∙ moved-here (heard_at c.args.clock)
+    (confirm_next c.args.policy.now c.args.clock c.args.answer) xs c.args.place c.requires
+    (sym (ap (λ b. if b then confirming_next c.args.policy.now c.args.clock c.args.answer x
+    else heard_at c.args.clock x) (sym c.is_confirming.ensures ∙ c.if-not-is_confirming.true)))
 
 pub returns-clause-next : goal.returns-clause-next
 returns-clause-next c =
     let xs = c.args.sessions.now in
     let x = client_at xs c.args.place in
     c.in_ok-confirm_in_turn.ensures.next
-    ∙ moved-here (confirming_next c.args.policy.now c.args.clock c.args.answer) (confirm_next c.args.policy.now c.args.clock c.args.answer) xs c.args.place c.requires
-    (sym (ap (λ b. if b then confirming_next c.args.policy.now c.args.clock c.args.answer x else heard_at c.args.clock x) (sym c.is_confirming.ensures ∙ c.if-not-is_confirming.false)))
+    ∙ moved-here (confirming_next c.args.policy.now c.args.clock c.args.answer)
+    (confirm_next c.args.policy.now c.args.clock c.args.answer) xs c.args.place c.requires
+    (sym (ap (λ b. if b then confirming_next c.args.policy.now c.args.clock c.args.answer x
+    else heard_at c.args.clock x) (sym c.is_confirming.ensures ∙ c.if-not-is_confirming.false)))

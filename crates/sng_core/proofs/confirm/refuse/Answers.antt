@@ -17,9 +17,12 @@ returns-in_default-clause-next c =
     let xs = c.args.sessions.now in
     let x = client_at xs c.args.place in
     c.hear.ensures
-    ∙ moved-here (heard_at c.args.clock) (λ y. refusing_next c.args.policy.now c.args.clock y y.buffer.waiting) xs c.args.place c.requires
+    ∙ moved-here (heard_at c.args.clock)
+    (λ y. refusing_next c.args.policy.now c.args.clock y y.buffer.waiting) xs c.args.place c.requires
     (sym (ap (refusing_next c.args.policy.now c.args.clock x)
-    (nothing-waits x.buffer.waiting (ap (λ b. slice_get b.waiting 0) (sym c.queue.ensures) ∙ (sym c.at.ensures ∙ ap option_copied c.in_default.is)))))
+    (nothing-waits x.buffer.waiting
+    (ap (λ b. slice_get b.waiting 0) (sym c.queue.ensures)
+    ∙ (sym c.at.ensures ∙ ap option_copied c.in_default.is)))))
 
 pub returns-clause-outs : goal.returns-clause-outs
 returns-clause-outs c =
@@ -28,11 +31,13 @@ returns-clause-outs c =
     let outs = c.args.outs.now in
     let refused = Denied (ClientRefused c.args.code) in
     let there = one-waits x.buffer.waiting c.in-Some.front.now
-    (ap (λ b. slice_get b.waiting 0) (sym c.queue.ensures) ∙ (sym c.at.ensures ∙ ap option_copied c.in-Some.is)) in
+    (ap (λ b. slice_get b.waiting 0) (sym c.queue.ensures)
+    ∙ (sym c.at.ensures ∙ ap option_copied c.in-Some.is)) in
     c.in_ok-serve.ensures.outs
     ∙ (ap (λ o. o ++ served_outs policy 0 1 x) (c.in_ok-note_hand.ensures
     ∙ (λ i. outs ++ Note (note.Hand (c.id.ensures i) (c.name.ensures.value i) refused) ∷ []))
-    ∙ (append_assoc outs (Note (note.Hand x.id c.in-Some.front.now.name refused) ∷ []) (served_outs policy 0 1 x)
+    ∙ (append_assoc outs (Note (note.Hand x.id c.in-Some.front.now.name refused) ∷ [])
+    (served_outs policy 0 1 x)
     ∙ ap (λ ms. outs ++ refusing_outs policy c.args.code x ms) (sym there)))
 
 pub returns-clause-next : goal.returns-clause-next
@@ -41,7 +46,9 @@ returns-clause-next c =
     let x = client_at xs c.args.place in
     let policy = c.args.policy.now in
     let there = one-waits x.buffer.waiting c.in-Some.front.now
-    (ap (λ b. slice_get b.waiting 0) (sym c.queue.ensures) ∙ (sym c.at.ensures ∙ ap option_copied c.in-Some.is)) in
+    (ap (λ b. slice_get b.waiting 0) (sym c.queue.ensures)
+    ∙ (sym c.at.ensures ∙ ap option_copied c.in-Some.is)) in
     c.in_ok-serve.ensures.next
-    ∙ moved-here (served_next policy c.args.clock 0 1) (λ y. refusing_next policy c.args.clock y y.buffer.waiting) xs c.args.place c.requires
+    ∙ moved-here (served_next policy c.args.clock 0 1)
+    (λ y. refusing_next policy c.args.clock y y.buffer.waiting) xs c.args.place c.requires
     (sym (ap (refusing_next policy c.args.clock x) there))

@@ -19,7 +19,9 @@ returns-clause-next c =
     let more = c.args.confirming in
     c.change.ensures
     ∙ (ap (moved_at place drained) (c.hand.ensures
-    ∙ (ap (moved_at place (handed_by clock h)) c.answer.ensures ∙ moved_at-twice (answered clock more) (handed_by clock h) place xs))
+    ∙ (ap (moved_at place (handed_by clock h)) c.answer.ensures
+    ∙ moved_at-twice (answered clock more) (handed_by clock h) place xs))
     ∙ (moved_at-twice (λ y. handed_by clock h (answered clock more y)) drained place xs
-    ∙ moved-here (λ y. drained (handed_by clock h (answered clock more y))) (served_next c.args.policy.now clock more c.args.first) xs place c.requires.place
+    ∙ moved-here (λ y. drained (handed_by clock h (answered clock more y)))
+    (served_next c.args.policy.now clock more c.args.first) xs place c.requires.place
     (ap (λ g. drained (handed_by clock g (answered clock more x))) c.in_ok-handed.ensures.plan)))

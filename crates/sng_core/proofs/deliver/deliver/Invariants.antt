@@ -4,6 +4,8 @@ use Rattle.sng_core.proofs.deliver.deliver.Given as goal
 
 abbrev pub invariant-loop-place : goal.invariant-loop-place
 invariant-loop-place l = record {
-  outs : l.outs ++ all_outs l.policy l.message (drop l.place l.sessions) ≡ l.initial.outs ++ all_outs l.policy l.message l.sessions;
-  kept : l.kept.items ++ all_kept l.policy l.message l.place (drop l.place l.sessions) ≡ all_kept l.policy l.message 0 l.sessions;
+  outs : l.outs ++ all_outs l.policy l.message (drop l.place l.sessions)
+      ≡ l.initial.outs ++ all_outs l.policy l.message l.sessions;
+  kept : l.kept.items ++ all_kept l.policy l.message l.place (drop l.place l.sessions)
+      ≡ all_kept l.policy l.message 0 l.sessions;
 }

@@ -13,6 +13,8 @@ loop-held-preserved c =
     let within : i < length held = omega (arith, c.loop-held-test.true) in
     let one : i + 1 ≡ suc i = omega arith in
     let longer : take i held ++ h ∷ [] ≡ take (i + 1) held =
-    ap (λ g. take i held ++ g ∷ []) c.held-item.is ∙ (sym (take-suc held i h within) ∙ ap (λ n. take n held) (sym one)) in
+    ap (λ g. take i held ++ g ∷ []) c.held-item.is
+    ∙ (sym (take-suc held i h within) ∙ ap (λ n. take n held) (sym one)) in
     c.in_ok-add_alone.ensures
-    ∙ (ap (λ texts. texts ++ alone_in others (h ∷ [])) c.loop-held.invariant ∙ (sym (alone_more others (take i held) h) ∙ ap (alone_in others) longer))
+    ∙ (ap (λ texts. texts ++ alone_in others (h ∷ [])) c.loop-held.invariant
+    ∙ (sym (alone_more others (take i held) h) ∙ ap (alone_in others) longer))

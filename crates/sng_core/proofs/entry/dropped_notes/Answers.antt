@@ -3,7 +3,7 @@ use Rattle.std.proofs.lemmas.List.{append_assoc}
 use Rattle.sng_book.specs.declared.decision.Decision.TheVariants as note
 use Rattle.sng_book.specs.declared.out.Out.TheVariants.{Note}
 use Rattle.sng_core.specs.Connecting.{dropped_notes}
-use Rattle.sng_core.proofs.Releasing.{one_more_note}
+use Rattle.sng_core.proofs.ReleasingLink.{one_more_note}
 use Rattle.sng_core.proofs.entry.dropped_notes.Goals as goal
 
 pub loop-turn-preserved : goal.loop-turn-preserved

@@ -10,5 +10,9 @@ use Rattle.sng_core.proofs.hand_over.all_gone.Goals as goal
 
 pub loop-place-preserved : goal.loop-place-preserved
 loop-place-preserved c =
-    gone-more c.args.id.now c.args.queue.now.waiting c.loop-place.place c.in-Some.message.now c.loop-place.outs _ _
-    (sym c.at.ensures ∙ ap option_copied c.in-Some.is) c.loop-place.invariant (c.in_ok-note_hand.ensures ∙ ap (λ name. c.loop-place.outs ++ Note (note.Hand c.args.id.now name (Denied Gone)) ∷ []) c.name.ensures.value)
+    gone-more c.args.id.now c.args.queue.now.waiting c.loop-place.place c.in-Some.message.now
+    c.loop-place.outs _ _
+    (sym c.at.ensures ∙ ap option_copied c.in-Some.is) c.loop-place.invariant
+    (c.in_ok-note_hand.ensures ∙ ap
+    (λ name. c.loop-place.outs ++ Note (note.Hand c.args.id.now name (Denied Gone)) ∷ [])
+    c.name.ensures.value)

@@ -7,5 +7,6 @@ pub returns-clause-next : goal.returns-clause-next
 returns-clause-next c =
     let next = register_next c.args.policy.now c.args.clock c.args.register.name in
     c.tell.ensures
-    ∙ (told_judged c.args.policy.now c.args.clock c.args.register.name c.args.sessions.now c.in-Some.place c.in_ok-judged.judged c.in-Some.ensures.within c.in_ok-judged.ensures
+    ∙ (told_judged c.args.policy.now c.args.clock c.args.register.name c.args.sessions.now c.in-Some.place
+    c.in_ok-judged.judged c.in-Some.ensures.within c.in_ok-judged.ensures
     ∙ ap (λ place. moved_if place next c.args.sessions.now) c.in-Some.ensures.place)

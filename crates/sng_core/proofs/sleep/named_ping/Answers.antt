@@ -15,7 +15,8 @@ returns-then-eq-clause-next c =
     let policy = c.args.policy.now in
     let clock = c.args.clock in
     c.in_ok-outs.ensures.next
-    ∙ moved-here (own_ping_next policy clock) (ping_next policy clock (Some c.args.id.now)) xs c.args.place c.requires
+    ∙ moved-here (own_ping_next policy clock)
+    (ping_next policy clock (Some c.args.id.now)) xs c.args.place c.requires
     (sym (ap (λ b. if b then own_ping_next policy clock x else heard_at clock x)
     (sym (c.eq.ensures ∙ ap (bytes_eq c.args.id.now) c.id.ensures) ∙ c.if-eq.true)))
 

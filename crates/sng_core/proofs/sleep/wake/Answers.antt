@@ -19,7 +19,9 @@ returns-clause-next c =
     let clock = c.args.clock in
     c.change-2.ensures
     ∙ (ap (moved_at place drained) (c.hand.ensures
-    ∙ (ap (moved_at place (handed_by clock h)) c.change.ensures ∙ moved_at-twice (woken clock) (handed_by clock h) place xs))
+    ∙ (ap (moved_at place (handed_by clock h)) c.change.ensures
+    ∙ moved_at-twice (woken clock) (handed_by clock h) place xs))
     ∙ (moved_at-twice (λ y. handed_by clock h (woken clock y)) drained place xs
-    ∙ moved-here (λ y. drained (handed_by clock h (woken clock y))) (woken_next c.args.policy.now clock) xs place c.requires
+    ∙ moved-here (λ y. drained (handed_by clock h (woken clock y)))
+    (woken_next c.args.policy.now clock) xs place c.requires
     (ap (λ g. drained (handed_by clock g (woken clock x))) c.in_ok-handed.ensures.plan)))

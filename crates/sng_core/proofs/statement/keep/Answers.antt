@@ -20,5 +20,6 @@ returns-clause-next c =
     c.hand.ensures
     ∙ (ap (moved_at place (handed_by clock h)) c.state.ensures
     ∙ (moved_at-twice (stating_at clock done) (handed_by clock h) place xs
-    ∙ moved-here (λ y. handed_by clock h (stating_at clock done y)) (kept_next c.args.policy.now clock (said c.args.statement)) xs place c.requires.place
+    ∙ moved-here (λ y. handed_by clock h (stating_at clock done y))
+    (kept_next c.args.policy.now clock (said c.args.statement)) xs place c.requires.place
     (λ i. handed_by clock (c.in_ok-handed.ensures.plan i) (stating_at clock (c.stating.ensures i) x))))

@@ -15,9 +15,12 @@ returns-in_ok-keep-clause-next c =
     let st = said c.args.statement in
     let x = client_at xs c.args.place in
     let may : is_allowed (statement_judged policy st x).outcome ≡ true =
-    ap (λ j. is_allowed j.outcome) (sym c.in_ok-judged.ensures) ∙ (sym c.in_ok-noted.ensures.allowed ∙ c.if-branch.true) in
+    ap (λ j. is_allowed j.outcome) (sym c.in_ok-judged.ensures)
+    ∙ (sym c.in_ok-noted.ensures.allowed ∙ c.if-branch.true) in
     c.in_ok-keep.ensures.next
-    ∙ moved-here (kept_next policy clock st) (λ y. following_next policy clock st (statement_judged policy st y).outcome y) xs c.args.place c.requires
+    ∙ moved-here (kept_next policy clock st)
+    (λ y. following_next policy clock st (statement_judged policy st y).outcome y) xs c.args.place
+    c.requires
     (kept-follows policy clock st (statement_judged policy st x).outcome x may)
 
 pub returns-in_ok-refuse-clause-next : goal.returns-in_ok-refuse-clause-next
@@ -28,7 +31,10 @@ returns-in_ok-refuse-clause-next c =
     let st = said c.args.statement in
     let x = client_at xs c.args.place in
     let may : is_allowed (statement_judged policy st x).outcome ≡ false =
-    ap (λ j. is_allowed j.outcome) (sym c.in_ok-judged.ensures) ∙ (sym c.in_ok-noted.ensures.allowed ∙ c.if-branch.false) in
+    ap (λ j. is_allowed j.outcome) (sym c.in_ok-judged.ensures)
+    ∙ (sym c.in_ok-noted.ensures.allowed ∙ c.if-branch.false) in
     c.in_ok-refuse.ensures.next
-    ∙ moved-here (refused_next clock st) (λ y. following_next policy clock st (statement_judged policy st y).outcome y) xs c.args.place c.requires
+    ∙ moved-here (refused_next clock st)
+    (λ y. following_next policy clock st (statement_judged policy st y).outcome y) xs c.args.place
+    c.requires
     (refused-follows policy clock st (statement_judged policy st x).outcome x may)

@@ -9,7 +9,11 @@ loop-due-preserved c =
     let due = c.in-Some.due in
     let clock = c.args.clock in
     record {
-      sessions = c.carry_out_one.ensures.sessions ∙ (ap (λ xs. due_clients clock xs due) c.loop-due.invariant.sessions
+      sessions =
+          c.carry_out_one.ensures.sessions
+          ∙ (ap (λ xs. due_clients clock xs due) c.loop-due.invariant.sessions
           ∙ sym (clients-more clock c.loop-due.yielded due c.args.sessions.now));
-      link = c.carry_out_one.ensures.link ∙ (ap (λ link. due_link link due) c.loop-due.invariant.link ∙ sym (link-more c.loop-due.yielded due c.args.link.now));
+      link =
+          c.carry_out_one.ensures.link ∙ (ap (λ link. due_link link due) c.loop-due.invariant.link
+          ∙ sym (link-more c.loop-due.yielded due c.args.link.now));
     }

@@ -10,4 +10,5 @@ returns c =
     let start : ℕ = c.level_start-start.result in
     let left = rw (rest_of text start, rest_of other start) at c.past_common.ensures in
     let same = c.same_front.ensures in
-    left-further text other c.same_front.result start _ _ same.within same.beside same.same c.level_start-start.ensures.within c.level_start-start.ensures.slash left
+    left-further text other c.same_front.result start _ _ same.within same.beside same.same
+    c.level_start-start.ensures.within c.level_start-start.ensures.slash left

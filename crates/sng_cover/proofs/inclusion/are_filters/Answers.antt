@@ -1,4 +1,5 @@
-use Rattle.std.proofs.Common.{◌≡◌, ◌+◌, ◌<◌, ◌≤◌, ℕ, List, [], ◌∷◌, ◌++◌, true, length, take, sym, subst, ap, ◌∙◌, All}
+use Rattle.std.proofs.Common.{◌≡◌, ◌+◌, ◌<◌, ◌≤◌, ℕ, List, [], ◌∷◌, ◌++◌, true, length, take, sym, subst, ap}
+use Rattle.std.proofs.Common.{◌∙◌, All}
 use Rattle.std.proofs.lemmas.List.{take_more, take_all}
 use Rattle.std.proofs.lemmas.List.Elements.{All-push}
 use Rattle.sng_text.specs.Texts.{is_filter}
@@ -14,11 +15,13 @@ loop-filter-preserved c =
     let filter : List ℕ = c.filter-item.result in
     let within : i < length filters = c.loop-filter-test.true in
     let one_more : take (i + 1) filters ≡ take i filters ++ filter ∷ [] =
-    take_more filters i filter within ∙ ap (λ (item : List ℕ). take i filters ++ item ∷ []) (sym c.filter-item.is) in
+    take_more filters i filter within
+    ∙ ap (λ (item : List ℕ). take i filters ++ item ∷ []) (sym c.filter-item.is) in
     subst (λ (some : List (List ℕ)). All IsFilter some) (sym one_more)
     (All-push IsFilter (take i filters) filter c.loop-filter.invariant c.text-text.ensures.filter)
 
 pub returns : goal.returns
 returns c =
     let past : length c.args.filters.now ≤ c.loop-filter.filter-index = c.loop-filter-test.false in
-    subst (λ (some : List (List ℕ)). All IsFilter some) (take_all c.loop-filter.filter-index c.args.filters.now past) c.loop-filter.invariant
+    subst (λ (some : List (List ℕ)). All IsFilter some)
+    (take_all c.loop-filter.filter-index c.args.filters.now past) c.loop-filter.invariant

@@ -1,4 +1,5 @@
-use Rattle.std.proofs.Common.{◌≡◌, ◌+◌, ◌<◌, ◌≤◌, ℕ, List, [], ◌∷◌, ◌++◌, true, length, take, drop, get_or, sym}
+use Rattle.std.proofs.Common.{◌≡◌, ◌+◌, ◌<◌, ◌≤◌, ℕ, List, [], ◌∷◌, ◌++◌, true, length, take, drop, get_or}
+use Rattle.std.proofs.Common.{sym}
 use Rattle.std.proofs.Common.{subst, ap, ◌∙◌, Result, Ok, Err, OnOk}
 use Rattle.std.proofs.lemmas.List.{take_more, take_all, take-append-drop}
 use Rattle.std.proofs.lemmas.List.Elements.{All-drop}
@@ -40,9 +41,11 @@ returns-then-is_covered-clause-value c =
     let i : ℕ = c.loop-filter.filter-index in
     let gathered = one_more asked granted i c.filter-item.result _ c.loop-filter-test.true c.filter-item.is
     (c.add.ensures asked (take i granted) c.loop-filter.invariant) in
-    let rest = All-drop (λ (filter : List ℕ). is_filter filter ≡ true) (i + 1) granted c.are_filters.ensures in
+    let rest =
+    All-drop (λ (filter : List ℕ). is_filter filter ≡ true) (i + 1) granted c.are_filters.ensures in
     let included : cover_of asked (take (i + 1) granted ++ drop (i + 1) granted) ≡ Included =
-    c.is_covered.ensures asked (take (i + 1) granted) (drop (i + 1) granted) gathered rest c.if-is_covered.true in
+    c.is_covered.ensures asked (take (i + 1) granted)
+    (drop (i + 1) granted) gathered rest c.if-is_covered.true in
     sym included ∙ ap (cover_of asked) (take-append-drop (i + 1) granted)
 
 pub returns-then-is_covered-clause-right : goal.returns-then-is_covered-clause-right
@@ -61,20 +64,25 @@ loop-filter-preserved c =
 -- all filters were added
 all_gathered : (asked : List ℕ) (granted : List (List ℕ)) (i : ℕ) (question : Question) → length granted ≤ i
     → Gathered question asked (take i granted) → Gathered question asked granted
-all_gathered asked granted i question past gathered = subst (λ (filters : List (List ℕ)). Gathered question asked filters) (take_all i granted past) gathered
+all_gathered asked granted i question past gathered =
+    subst (λ (filters : List (List ℕ)). Gathered question asked filters) (take_all i granted past) gathered
 
 pub answer-requires : goal.answer-requires
 answer-requires c =
     let granted : List (List ℕ) = c.args.granted.now in
     let past : length granted ≤ c.loop-filter.filter-index = c.loop-filter-test.false in
-    let gathered = all_gathered c.args.asked.now granted c.loop-filter.filter-index c.loop-filter.question past c.loop-filter.invariant in
+    let gathered =
+    all_gathered c.args.asked.now granted c.loop-filter.filter-index c.loop-filter.question past
+    c.loop-filter.invariant in
     (c.args.asked.now, (granted, (gathered, c.profile_of.ensures)))
 
 pub returns-clause-value : goal.returns-clause-value
 returns-clause-value c =
     let granted : List (List ℕ) = c.args.granted.now in
     let past : length granted ≤ c.loop-filter.filter-index = c.loop-filter-test.false in
-    let gathered = all_gathered c.args.asked.now granted c.loop-filter.filter-index c.loop-filter.question past c.loop-filter.invariant in
+    let gathered =
+    all_gathered c.args.asked.now granted c.loop-filter.filter-index c.loop-filter.question past
+    c.loop-filter.invariant in
     c.answer.ensures c.args.asked.now granted gathered c.profile_of.ensures
 
 on_ok : {A E : Type 0} (r : Result A E) (P : Type 0) → P → OnOk r P

@@ -4,4 +4,6 @@ use Rattle.sng_cover.specs.Candidates.{run}
 use Rattle.sng_cover.proofs.runs.is_run.Given as goal
 
 abbrev pub invariant-loop-byte : goal.invariant-loop-byte
-invariant-loop-byte l = bytes_eq (run (length (drop l.byte-index l.level))) (drop l.byte-index l.level) ≡ bytes_eq (run (length l.level)) l.level
+invariant-loop-byte l =
+    bytes_eq (run (length (drop l.byte-index l.level))) (drop l.byte-index l.level)
+    ≡ bytes_eq (run (length l.level)) l.level

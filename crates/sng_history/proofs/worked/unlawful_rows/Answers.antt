@@ -1,4 +1,5 @@
-use Rattle.sng_history.proofs.WorkedLemmas.{not_unnoted, not_kept_back, not_unjudged, not_while_down, not_at_up, not_denied}
+use Rattle.sng_history.proofs.WorkedLemmas.{not_unnoted, not_kept_back, not_unjudged, not_while_down}
+use Rattle.sng_history.proofs.WorkedLemmas.{not_at_up, not_denied}
 use Rattle.sng_history.proofs.worked.unlawful_rows.Goals as goal
 
 pub returns : goal.returns

@@ -6,8 +6,11 @@ use Rattle.sng_link.proofs.again.judge.Goals as goal
 
 pub loop-place-preserved : goal.loop-place-preserved
 loop-place-preserved c =
-    let sent : InFlight = record { packet_id = c.in-Some.packet_id; publication = c.in-Some.publication.now } in
+    let sent : InFlight =
+    record { packet_id = c.in-Some.packet_id; publication = c.in-Some.publication.now } in
     let there : slice_get c.args.outbox.now.in_flight c.loop-place.place ≡ Some sent = c.in-Some.ensures in
-    judged_more c.args.policy.now c.args.outbox.now.in_flight c.loop-place.place c.args.outs.now c.loop-place.outs c.sent_again.new.outs c.loop-place.stays.items c.push.new.self.items
-    c.loop-place.log.items c.note_denied.new.log.items sent c.in_ok-stay.stay c.loop-place.invariant there c.in_ok-stay.ensures.outs c.in_ok-stay.ensures.stays c.in_ok-push.ensures.items
+    judged_more c.args.policy.now c.args.outbox.now.in_flight c.loop-place.place c.args.outs.now
+    c.loop-place.outs c.sent_again.new.outs c.loop-place.stays.items c.push.new.self.items
+    c.loop-place.log.items c.note_denied.new.log.items sent c.in_ok-stay.stay c.loop-place.invariant there
+    c.in_ok-stay.ensures.outs c.in_ok-stay.ensures.stays c.in_ok-push.ensures.items
     c.in_ok-note_denied.ensures

@@ -10,6 +10,9 @@ invariant-loop-filter l = record {
   next : IsNext l.ids l.next;
   some : 0 < l.next;
   small : l.next ≤ 65535;
-  so_far : (from : List Bool) (first : List Wanted) (link : Link) → Stands from first [] l.fn.log.items l.fn.ids l.fn.wanted link
-      → (more : List Out) × (l.outs ≡ l.fn.outs ++ more) × Resubscribed from first link l.filters (drop l.filter-index l.filters) more l.log.items l.ids l.wanted;
+  so_far : (from : List Bool) (first : List Wanted) (link : Link)
+      → Stands from first [] l.fn.log.items l.fn.ids l.fn.wanted link
+      → (more : List Out) × (l.outs ≡ l.fn.outs ++ more)
+      × Resubscribed from first link l.filters
+      (drop l.filter-index l.filters) more l.log.items l.ids l.wanted;
 }

@@ -12,5 +12,6 @@ invariant-loop-item l = record {
   some : 0 < l.next;
   small : l.next ≤ 65535;
   so_far : (pinged : ℕ)
-      → Planned l.policy l.fn.ids.marks (link_of l.outbox l.fn.ids l.fn.wanted pinged) l.outbox.waiting (deque_iter_rest l.item-iterator) l.outs l.log.items l.ids l.wanted;
+      → Planned l.policy l.fn.ids.marks (link_of l.outbox l.fn.ids l.fn.wanted pinged) l.outbox.waiting
+      (deque_iter_rest l.item-iterator) l.outs l.log.items l.ids l.wanted;
 }

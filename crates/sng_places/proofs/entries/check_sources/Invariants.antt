@@ -4,4 +4,5 @@ use Rattle.sng_places.specs.Places.{sources_check}
 use Rattle.sng_places.proofs.entries.check_sources.Given as goal
 
 abbrev pub invariant-loop-name : goal.invariant-loop-name
-invariant-loop-name l = sources_check (members_view l.name-iterator) ≡ sources_check (members_view l.members.entries)
+invariant-loop-name l =
+    sources_check (members_view l.name-iterator) ≡ sources_check (members_view l.members.entries)

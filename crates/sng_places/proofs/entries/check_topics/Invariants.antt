@@ -4,4 +4,5 @@ use Rattle.sng_places.specs.Places.{topics_check}
 use Rattle.sng_places.proofs.entries.check_topics.Given as goal
 
 abbrev pub invariant-loop-name : goal.invariant-loop-name
-invariant-loop-name l = topics_check (members_view l.name-iterator) ≡ topics_check (members_view l.members.entries)
+invariant-loop-name l =
+    topics_check (members_view l.name-iterator) ≡ topics_check (members_view l.members.entries)

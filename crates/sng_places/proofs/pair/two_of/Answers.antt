@@ -1,7 +1,8 @@
 use Rattle.std.proofs.Common.{arith}
 use Rattle.sng_places.proofs.ItemLemmas.{two_of-few, two_of-many}
 use Rattle.sng_places.proofs.pair.two_of.Goals as goal
-use Rattle.sng_places.proofs.pair.two_of.Goals.{in_default-via-then-items-lt2, in_default-via-else-items-lt2+else-items-lt3}
+use Rattle.sng_places.proofs.pair.two_of.Goals.{in_default-via-then-items-lt2}
+use Rattle.sng_places.proofs.pair.two_of.Goals.{in_default-via-else-items-lt2+else-items-lt3}
 
 pub returns-in_default : goal.returns-in_default
 returns-in_default c =

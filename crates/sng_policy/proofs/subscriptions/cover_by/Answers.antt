@@ -1,4 +1,5 @@
-use Rattle.std.proofs.Common.{◌≡◌, ◌+◌, ◌<◌, ◌≤◌, ℕ, List, [], ◌∷◌, ◌++◌, true, length, take, drop, get_or, sym}
+use Rattle.std.proofs.Common.{◌≡◌, ◌+◌, ◌<◌, ◌≤◌, ℕ, List, [], ◌∷◌, ◌++◌, true, length, take, drop, get_or}
+use Rattle.std.proofs.Common.{sym}
 use Rattle.std.proofs.Common.{ap, ◌∙◌}
 use Rattle.std.proofs.lemmas.List.{take_more, take_all, take-append-drop, append-nil}
 use Rattle.std.proofs.lemmas.List.Elements.{All-drop}
@@ -53,11 +54,16 @@ returns-then-is_covered c =
     let filter : List ℕ = c.args.filter.now in
     let pairs : List Pair = c.args.pairs.now in
     let i : ℕ = c.loop-pair.pair-index in
-    let gathered = with_next filter pairs i c.pair-item.result _ c.loop-pair-test.true c.pair-item.is c.if-pair.true
+    let gathered =
+    with_next filter pairs i c.pair-item.result _ c.loop-pair-test.true c.pair-item.is c.if-pair.true
     (c.add.ensures filter (subscribed (take i pairs)) c.loop-pair.invariant) in
-    let rest = scope-has_filters (drop (i + 1) pairs) (All-drop (λ (pair : Pair). is_filter pair.filter ≡ true) (i + 1) pairs c.requires.filters) in
-    let included : cover_of filter (subscribed (take (i + 1) pairs) ++ subscribed (drop (i + 1) pairs)) ≡ Included =
-    c.is_covered.ensures filter (subscribed (take (i + 1) pairs)) (subscribed (drop (i + 1) pairs)) gathered rest c.if-is_covered.true in
+    let rest =
+    scope-has_filters (drop (i + 1) pairs)
+    (All-drop (λ (pair : Pair). is_filter pair.filter ≡ true) (i + 1) pairs c.requires.filters) in
+    let included : cover_of filter (subscribed (take (i + 1) pairs) ++ subscribed (drop (i + 1) pairs))
+    ≡ Included =
+    c.is_covered.ensures filter (subscribed (take (i + 1) pairs))
+    (subscribed (drop (i + 1) pairs)) gathered rest c.if-is_covered.true in
     sym included ∙ ap (cover_of filter) (sym (subscribed-append (take (i + 1) pairs) (drop (i + 1) pairs))
     ∙ ap subscribed (take-append-drop (i + 1) pairs))
 
@@ -69,10 +75,16 @@ loop-pair-preserved c =
     let pair : Pair = c.pair-item.result in
     elim c.if-pair.branch [
       | then-pair+else-is_covered w ↦
-          rw w.question-is (with_next filter pairs i pair _ c.loop-pair-test.true c.pair-item.is w.if-pair.true
+          rw w.question-is (with_next filter pairs i pair _ c.loop-pair-test.true c.pair-item.is
+          w.if-pair.true
           (w.add.ensures filter (subscribed (take i pairs)) c.loop-pair.invariant))
       | else-pair w ↦
-          rw (w.question-is, next_filters pairs i pair c.loop-pair-test.true c.pair-item.is, w.if-pair.false, append-nil (subscribed (take i pairs)))
+          rw (
+            w.question-is,
+            next_filters pairs i pair c.loop-pair-test.true c.pair-item.is,
+            w.if-pair.false,
+            append-nil (subscribed (take i pairs)),
+          )
           c.loop-pair.invariant
     ]
 

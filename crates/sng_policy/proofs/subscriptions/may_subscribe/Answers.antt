@@ -5,20 +5,28 @@ use Rattle.sng_policy.proofs.subscriptions.may_subscribe.Goals as goal
 
 pub returns-in-Included-clause-meaning : goal.returns-in-Included-clause-meaning
 returns-in-Included-clause-meaning c =
-    (grant-says c.args.policy.now c.args.client.now c.args.filter.now c.pairs.result.now _ c.text-text.ensures.filter (rw c.pairs.ensures.value c.pairs.ensures.filters)
-    (ap Some c.pairs.ensures.value ∙ c.in-Some.ensures) (ap grant_of_cover (sym c.in-Included.is ∙ c.in_ok-cover_by-in-Some.ensures))).0
+    (grant-says c.args.policy.now c.args.client.now c.args.filter.now c.pairs.result.now _
+    c.text-text.ensures.filter (rw c.pairs.ensures.value c.pairs.ensures.filters)
+    (ap Some c.pairs.ensures.value ∙ c.in-Some.ensures)
+    (ap grant_of_cover (sym c.in-Included.is ∙ c.in_ok-cover_by-in-Some.ensures))).0
 
 pub returns-in-Included-clause-joins : goal.returns-in-Included-clause-joins
 returns-in-Included-clause-joins c =
-    (grant-says c.args.policy.now c.args.client.now c.args.filter.now c.pairs.result.now _ c.text-text.ensures.filter (rw c.pairs.ensures.value c.pairs.ensures.filters)
-    (ap Some c.pairs.ensures.value ∙ c.in-Some.ensures) (ap grant_of_cover (sym c.in-Included.is ∙ c.in_ok-cover_by-in-Some.ensures))).1
+    (grant-says c.args.policy.now c.args.client.now c.args.filter.now c.pairs.result.now _
+    c.text-text.ensures.filter (rw c.pairs.ensures.value c.pairs.ensures.filters)
+    (ap Some c.pairs.ensures.value ∙ c.in-Some.ensures)
+    (ap grant_of_cover (sym c.in-Included.is ∙ c.in_ok-cover_by-in-Some.ensures))).1
 
 pub returns-in-Uncovered-clause-meaning : goal.returns-in-Uncovered-clause-meaning
 returns-in-Uncovered-clause-meaning c =
-    (grant-says c.args.policy.now c.args.client.now c.args.filter.now c.pairs.result.now _ c.text-text.ensures.filter (rw c.pairs.ensures.value c.pairs.ensures.filters)
-    (ap Some c.pairs.ensures.value ∙ c.in-Some.ensures) (ap grant_of_cover (sym c.in-Uncovered.is ∙ c.in_ok-cover_by-in-Some.ensures))).0
+    (grant-says c.args.policy.now c.args.client.now c.args.filter.now c.pairs.result.now _
+    c.text-text.ensures.filter (rw c.pairs.ensures.value c.pairs.ensures.filters)
+    (ap Some c.pairs.ensures.value ∙ c.in-Some.ensures)
+    (ap grant_of_cover (sym c.in-Uncovered.is ∙ c.in_ok-cover_by-in-Some.ensures))).0
 
 pub returns-in-Uncovered-clause-joins : goal.returns-in-Uncovered-clause-joins
 returns-in-Uncovered-clause-joins c =
-    (grant-says c.args.policy.now c.args.client.now c.args.filter.now c.pairs.result.now _ c.text-text.ensures.filter (rw c.pairs.ensures.value c.pairs.ensures.filters)
-    (ap Some c.pairs.ensures.value ∙ c.in-Some.ensures) (ap grant_of_cover (sym c.in-Uncovered.is ∙ c.in_ok-cover_by-in-Some.ensures))).1
+    (grant-says c.args.policy.now c.args.client.now c.args.filter.now c.pairs.result.now _
+    c.text-text.ensures.filter (rw c.pairs.ensures.value c.pairs.ensures.filters)
+    (ap Some c.pairs.ensures.value ∙ c.in-Some.ensures)
+    (ap grant_of_cover (sym c.in-Uncovered.is ∙ c.in_ok-cover_by-in-Some.ensures))).1

@@ -3,7 +3,8 @@ use Rattle.serde_json.specs.View.{items_view}
 use Rattle.sng_scope.specs.Scopes.{two_of}
 use Rattle.sng_scope.proofs.PairLemmas.{two_of-few, two_of-many}
 use Rattle.sng_scope.proofs.pairs.pair_parts.Goals as goal
-use Rattle.sng_scope.proofs.pairs.pair_parts.Goals.{in_default-via-then-as_slice-lt2, in_default-via-else-as_slice-lt2+else-this-lt3}
+use Rattle.sng_scope.proofs.pairs.pair_parts.Goals.{in_default-via-then-as_slice-lt2}
+use Rattle.sng_scope.proofs.pairs.pair_parts.Goals.{in_default-via-else-as_slice-lt2+else-this-lt3}
 
 pub returns-in_default : goal.returns-in_default
 returns-in_default c =

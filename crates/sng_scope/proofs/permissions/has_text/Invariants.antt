@@ -4,4 +4,5 @@ use Rattle.sng_scope.specs.Scopes.{has_text}
 use Rattle.sng_scope.proofs.permissions.has_text.Given as goal
 
 abbrev pub invariant-loop-item : goal.invariant-loop-item
-invariant-loop-item l = has_text l.text (items_view (drop l.item-index l.items)) ≡ has_text l.text (items_view l.items)
+invariant-loop-item l =
+    has_text l.text (items_view (drop l.item-index l.items)) ≡ has_text l.text (items_view l.items)

@@ -7,7 +7,8 @@ use Rattle.sng_sessions.proofs.handing.hand_at.Goals as goal
 
 pub returns-in-Some : goal.returns-in-Some
 returns-in-Some c =
-    clients-set c.args.clients.now.entries c.args.place c.in-Some.session.now _ (handed_by c.args.clock c.args.handed)
+    clients-set c.args.clients.now.entries c.args.place c.in-Some.session.now _
+    (handed_by c.args.clock c.args.handed)
     (sym c.get_index_mut.ensures.value ∙ ap option_copied_mut c.in-Some.is) (λ id. c.hand.ensures id)
 
 pub returns-in_default : goal.returns-in_default

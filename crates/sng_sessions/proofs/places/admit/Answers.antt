@@ -7,11 +7,16 @@ use Rattle.sng_sessions.proofs.places.admit.Goals as goal
 
 pub settle-requires-clause-alone : goal.settle-requires-clause-alone
 settle-requires-clause-alone c =
-    λ place. subst (λ xs. stands_at c.args.from xs place ≡ true → holds_at (λ x. bytes_eq c.args.connect.client_id x.id) xs place ≡ true)
+    λ place. subst (λ xs. stands_at c.args.from xs place ≡ true
+    → holds_at (λ x. bytes_eq c.args.connect.client_id x.id) xs place ≡ true)
     (sym c.vacate.ensures.clients) (vacated-alone c.args.clock c.args.from c.args.connect.client_id _ place)
 
 pub returns-clause-clients : goal.returns-clause-clients
 returns-clause-clients c =
     c.settle.ensures.clients
-    ∙ ap (settled c.args.connect.client_id (session_by c.args.clock c.args.from c.args.connect c.phase_opened.result c.args.ids c.args.queue c.args.filters c.open.new.wills)) c.vacate.ensures.clients
-    ∙ settled-entered c.args.clock c.args.from c.args.connect c.phase_opened.result c.args.ids c.args.queue c.args.filters c.args.wills c.open.new.wills c.requires.none c.phase_opened.ensures c.open.ensures _ c.requires.new
+    ∙ ap (settled c.args.connect.client_id
+    (session_by c.args.clock c.args.from c.args.connect c.phase_opened.result c.args.ids c.args.queue
+    c.args.filters c.open.new.wills)) c.vacate.ensures.clients
+    ∙ settled-entered c.args.clock c.args.from c.args.connect c.phase_opened.result c.args.ids c.args.queue
+    c.args.filters c.args.wills c.open.new.wills c.requires.none c.phase_opened.ensures c.open.ensures _
+    c.requires.new

@@ -12,20 +12,25 @@ pub return_at-requires-clause-counted : goal.return_at-requires-clause-counted
 return_at-requires-clause-counted c =
     let id = c.args.connect.now.client_id in
     λ text. c.requires.counted text ∙ sym (ap (holder_count text) c.vacate.ensures.clients
-    ∙ holder_count-map text (vacated c.args.clock c.args.from id) (vacated-filters c.args.clock c.args.from id) (clients_of c.args.clients.now.entries))
+    ∙ holder_count-map text (vacated c.args.clock c.args.from id)
+    (vacated-filters c.args.clock c.args.from id) (clients_of c.args.clients.now.entries))
 
 pub return_at-requires-clause-alone : goal.return_at-requires-clause-alone
 return_at-requires-clause-alone c =
     let entries = c.args.clients.now.entries in
     let id = c.args.connect.now.client_id in
-    let only = named-found id entries c.args.place (distinct entries c.len-count.ensures.unique) c.requires.place in
-    λ other. subst (λ xs. stands_at c.args.from xs other ≡ true → is_place c.args.place other ≡ true) (sym c.vacate.ensures.clients)
+    let only =
+    named-found id entries c.args.place (distinct entries c.len-count.ensures.unique) c.requires.place in
+    λ other. subst (λ xs. stands_at c.args.from xs other ≡ true → is_place c.args.place other ≡ true)
+    (sym c.vacate.ensures.clients)
     (vacated-sole c.args.clock c.args.from id (clients_of entries) c.args.place only other)
 
 pub returns-clause-clients : goal.returns-clause-clients
 returns-clause-clients c =
     let entries = c.args.clients.now.entries in
-    let only = named-found c.args.connect.now.client_id entries c.args.place (distinct entries c.len-count.ensures.unique) c.requires.place in
+    let only =
+    named-found c.args.connect.now.client_id entries c.args.place
+    (distinct entries c.len-count.ensures.unique) c.requires.place in
     c.return_at.ensures.clients
     ∙ ap (moved_at c.args.place (let_in c.args.clock c.args.from c.args.connect.now)) c.vacate.ensures.clients
     ∙ returned-entered c.args.clock c.args.from c.args.connect.now (clients_of entries) c.args.place only

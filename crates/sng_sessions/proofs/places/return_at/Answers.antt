@@ -17,9 +17,11 @@ pub returns-in-Ok-clause-clients : goal.returns-in-Ok-clause-clients
 returns-in-Ok-clause-clients c =
     let session = c.in-Some.session.now in
     let done = c.begin.ensures in
-    clients-set c.args.clients.now.entries c.args.place session c.begin.new.session (let_in c.args.clock c.args.from c.args.connect.now)
+    clients-set c.args.clients.now.entries c.args.place session c.begin.new.session
+    (let_in c.args.clock c.args.from c.args.connect.now)
     (sym c.get_index_mut.ensures.value ∙ ap option_copied_mut c.in-Some.is)
-    (λ id. client-begun id c.args.clock c.args.from c.args.connect.now session c.begin.new.session done.presence done.ids done.number done.queue done.filters done.wills)
+    (λ id. client-begun id c.args.clock c.args.from c.args.connect.now session c.begin.new.session
+    done.presence done.ids done.number done.queue done.filters done.wills)
 
 pub returns-in-Ok-clause-indexed : goal.returns-in-Ok-clause-indexed
 returns-in-Ok-clause-indexed c =
@@ -27,23 +29,32 @@ returns-in-Ok-clause-indexed c =
     let entries = c.args.clients.now.entries in
     let done = c.begin.ensures in
     let found = sym c.get_index_mut.ensures.value ∙ ap option_copied_mut c.in-Some.is in
-    let moved = clients-set entries c.args.place session c.begin.new.session (let_in c.args.clock c.args.from c.args.connect.now) found
-    (λ id. client-begun id c.args.clock c.args.from c.args.connect.now session c.begin.new.session done.presence done.ids done.number done.queue done.filters done.wills) in
+    let moved =
+    clients-set entries c.args.place session c.begin.new.session
+    (let_in c.args.clock c.args.from c.args.connect.now) found
+    (λ id. client-begun id c.args.clock c.args.from c.args.connect.now session c.begin.new.session
+    done.presence done.ids done.number done.queue done.filters done.wills) in
     subst (Indexed (get same_address c.insert.new.self)) (sym moved)
-    (returned-indexed (get same_address c.args.places.now) _ entries c.args.place c.args.clock c.args.from c.args.connect.now session found
+    (returned-indexed (get same_address c.args.places.now) _ entries c.args.place c.args.clock c.args.from
+    c.args.connect.now session found
     c.requires.indexed c.requires.alone
-    (λ from. c.in-Ok.ensures.updates.0 from ∙ ap (cond (same_address c.args.from from) (Some c.args.place)) (c.release.ensures.looks from)))
+    (λ from. c.in-Ok.ensures.updates.0 from
+    ∙ ap (cond (same_address c.args.from from) (Some c.args.place)) (c.release.ensures.looks from)))
 
 pub returns-in-Ok-clause-counted : goal.returns-in-Ok-clause-counted
 returns-in-Ok-clause-counted c =
     let session = c.in-Some.session.now in
     let done = c.begin.ensures in
-    counted-set c.args.holders.now.held c.begin.new.holders.held c.args.clients.now.entries c.args.place session c.begin.new.session
-    (let_in c.args.clock c.args.from c.args.connect.now) (sym c.get_index_mut.ensures.value ∙ ap option_copied_mut c.in-Some.is)
-    (λ id. client-begun id c.args.clock c.args.from c.args.connect.now session c.begin.new.session done.presence done.ids done.number done.queue done.filters done.wills)
+    counted-set c.args.holders.now.held c.begin.new.holders.held c.args.clients.now.entries c.args.place
+    session c.begin.new.session
+    (let_in c.args.clock c.args.from c.args.connect.now)
+    (sym c.get_index_mut.ensures.value ∙ ap option_copied_mut c.in-Some.is)
+    (λ id. client-begun id c.args.clock c.args.from c.args.connect.now session c.begin.new.session
+    done.presence done.ids done.number done.queue done.filters done.wills)
     done.counts c.requires.counted
 
 pub returns-in_default-clause-clients : goal.returns-in_default-clause-clients
 returns-in_default-clause-clients c =
-    sym (moved_at-past c.args.clients.now.entries c.args.place (let_in c.args.clock c.args.from c.args.connect.now)
+    sym (moved_at-past c.args.clients.now.entries c.args.place
+    (let_in c.args.clock c.args.from c.args.connect.now)
     (sym c.get_index_mut.ensures.value ∙ ap option_copied_mut c.in_default.is))

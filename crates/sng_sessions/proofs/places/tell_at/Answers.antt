@@ -11,14 +11,18 @@ use Rattle.sng_sessions.proofs.places.tell_at.Goals as goal
 pub tell-requires : goal.tell-requires
 tell-requires c =
     subst (λ x. is_full_for c.args.name x.ids ≡ false)
-    (sym (session-there c.args.clients.now.entries c.args.place c.in-Some.session.now (sym c.get_index_mut.ensures.value ∙ ap option_copied_mut c.in-Some.is))) c.requires
+    (sym (session-there c.args.clients.now.entries c.args.place c.in-Some.session.now
+    (sym c.get_index_mut.ensures.value ∙ ap option_copied_mut c.in-Some.is))) c.requires
 
 pub returns-in-Some : goal.returns-in-Some
 returns-in-Some c =
-    clients-set c.args.clients.now.entries c.args.place c.in-Some.session.now _ (told_at c.args.clock (Some c.args.name) Allowed)
-    (sym c.get_index_mut.ensures.value ∙ ap option_copied_mut c.in-Some.is) (λ id. ap (λ s. client_of (id, s)) (sym c.tell.ensures))
+    clients-set c.args.clients.now.entries c.args.place c.in-Some.session.now _
+    (told_at c.args.clock (Some c.args.name) Allowed)
+    (sym c.get_index_mut.ensures.value ∙ ap option_copied_mut c.in-Some.is)
+    (λ id. ap (λ s. client_of (id, s)) (sym c.tell.ensures))
 
 pub returns-in_default : goal.returns-in_default
 returns-in_default c =
-    sym (moved_at-past c.args.clients.now.entries c.args.place (told_at c.args.clock (Some c.args.name) Allowed)
+    sym (moved_at-past c.args.clients.now.entries c.args.place
+    (told_at c.args.clock (Some c.args.name) Allowed)
     (sym c.get_index_mut.ensures.value ∙ ap option_copied_mut c.in_default.is))

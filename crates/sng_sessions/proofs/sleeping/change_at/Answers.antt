@@ -7,7 +7,8 @@ use Rattle.sng_sessions.proofs.sleeping.change_at.Goals as goal
 
 pub returns-in-Some : goal.returns-in-Some
 returns-in-Some c =
-    clients-set c.args.clients.now.entries c.args.place c.in-Some.session.now _ (changed c.args.clock c.args.change)
+    clients-set c.args.clients.now.entries c.args.place c.in-Some.session.now _
+    (changed c.args.clock c.args.change)
     (sym c.get_index_mut.ensures.value ∙ ap option_copied_mut c.in-Some.is) (λ id. c.make.ensures id)
 
 pub returns-in_default : goal.returns-in_default

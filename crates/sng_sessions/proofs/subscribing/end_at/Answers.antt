@@ -15,12 +15,15 @@ end_one-requires c =
 pub returns-in-Some-clause-clients : goal.returns-in-Some-clause-clients
 returns-in-Some-clause-clients c =
     clients-set c.args.clients.now.entries c.args.place c.in-Some.session.now _ (without c.args.filter.now)
-    (sym c.get_index_mut.ensures.value ∙ ap option_copied_mut c.in-Some.is) (λ id. ap (λ s. client_of (id, s)) (sym c.end_one.ensures.session))
+    (sym c.get_index_mut.ensures.value ∙ ap option_copied_mut c.in-Some.is)
+    (λ id. ap (λ s. client_of (id, s)) (sym c.end_one.ensures.session))
 
 pub returns-in-Some-clause-counted : goal.returns-in-Some-clause-counted
 returns-in-Some-clause-counted c =
-    counted-set c.args.holders.now.held c.end_one.new.holders.held c.args.clients.now.entries c.args.place c.in-Some.session.now
-    c.end_one.new.session (without c.args.filter.now) (sym c.get_index_mut.ensures.value ∙ ap option_copied_mut c.in-Some.is)
+    counted-set c.args.holders.now.held c.end_one.new.holders.held c.args.clients.now.entries c.args.place
+    c.in-Some.session.now
+    c.end_one.new.session (without c.args.filter.now)
+    (sym c.get_index_mut.ensures.value ∙ ap option_copied_mut c.in-Some.is)
     (λ id. ap (λ s. client_of (id, s)) (sym c.end_one.ensures.session)) c.end_one.ensures.counts c.requires
 
 pub returns-in_default-clause-clients : goal.returns-in_default-clause-clients

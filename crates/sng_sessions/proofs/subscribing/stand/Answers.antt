@@ -10,11 +10,13 @@ pub returns-clause-counts : goal.returns-clause-counts
 returns-clause-counts c =
     elim c.if-not-stands.branch [
       | then-not-stands w ↦
-          follows-added c.args.holders.now.held c.if-not-stands.holders.held c.args.session.now.filters _ c.args.filter c.args.qos
+          follows-added c.args.holders.now.held c.if-not-stands.holders.held c.args.session.now.filters _
+          c.args.filter c.args.qos
           (sym c.stands.ensures ∙ w.if-not-stands.true) c.in-Ok.ensures.ok.1
           (λ text. ap (λ h. count_of h.held text) w.holders-is ∙ w.add.ensures text
           ∙ ap (λ f. count_of c.args.holders.now.held text + one_if (bytes_eq f text)) c.requires.copy)
       | else-not-stands w ↦
-          follows-stood c.args.holders.now.held c.if-not-stands.holders.held c.args.session.now.filters _ c.args.filter c.args.qos
+          follows-stood c.args.holders.now.held c.if-not-stands.holders.held c.args.session.now.filters _
+          c.args.filter c.args.qos
           (sym c.stands.ensures ∙ w.if-not-stands.false) c.in-Ok.ensures.ok.1 (ap (λ h. h.held) w.holders-is)
     ]

@@ -9,9 +9,11 @@ use Rattle.sng_sessions.proofs.wills.state_at.Goals as goal
 
 pub returns-in-Some : goal.returns-in-Some
 returns-in-Some c =
-    clients-set c.args.clients.now.entries c.args.place c.in-Some.session.now _ (stating_at c.args.clock c.args.stating)
+    clients-set c.args.clients.now.entries c.args.place c.in-Some.session.now _
+    (stating_at c.args.clock c.args.stating)
     (sym c.get_index_mut.ensures.value ∙ ap option_copied_mut c.in-Some.is)
-    (λ id. λ i. record (heard_at c.args.clock (client_of (id, c.in-Some.session.now))) { phase = sym c.phase_stated-session.ensures i; wills = sym c.state.ensures i })
+    (λ id. λ i. record (heard_at c.args.clock (client_of (id, c.in-Some.session.now)))
+    { phase = sym c.phase_stated-session.ensures i; wills = sym c.state.ensures i })
 
 pub returns-in_default : goal.returns-in_default
 returns-in_default c =

@@ -10,5 +10,6 @@ pub returns : goal.returns
 returns c =
     let text = c.args.text.now in
     let at = c.in_ok-at.at in
-    let whole : take (length text - (at + 1)) (drop (at + 1) text) ≡ drop (at + 1) text = take_all _ _ (omega (arith, length-drop (at + 1) text)) in
+    let whole : take (length text - (at + 1)) (drop (at + 1) text) ≡ drop (at + 1) text =
+    take_all _ _ (omega (arith, length-drop (at + 1) text)) in
     rw whole (parts_of-cut text at (sym c.in_ok-at.ensures))

@@ -7,10 +7,12 @@ use Rattle.sng_wanted.proofs.places.make_room.Goals as goal
 
 pub find_places-requires-clause-once : goal.find_places-requires-clause-once
 find_places-requires-clause-once c =
-    rw c.sweep.ensures.entries (once_kept is_standing c.args.filters.now.entries (once c.args.filters.now.entries c.args.places.now.items c.requires.indexed))
+    rw c.sweep.ensures.entries (once_kept is_standing c.args.filters.now.entries
+    (once c.args.filters.now.entries c.args.places.now.items c.requires.indexed))
 
 pub returns-clause-absent : goal.returns-clause-absent
-returns-clause-absent c = rw c.sweep.ensures.entries (absent_swept c.args.filters.now.entries c.args.filter.now c.requires.new)
+returns-clause-absent c =
+    rw c.sweep.ensures.entries (absent_swept c.args.filters.now.entries c.args.filter.now c.requires.new)
 
 pub returns-clause-place : goal.returns-clause-place
 returns-clause-place c =

@@ -8,7 +8,8 @@ invariant_of-self-in-None c =
     let taken = c.in_ok-packets-in-Reading in
     let none : taken.field-0.fault ≡ None = cc c.in-None.is in
     ready_from c.self.inside.status c.take.new.held.items c.in-Reading.is
-    (waits_then (held ++ c.args.piece.now) taken.field-0.packets.items taken.field-0.fault c.take.new.held.items taken.ensures.ok none)
+    (waits_then (held ++ c.args.piece.now) taken.field-0.packets.items taken.field-0.fault
+    c.take.new.held.items taken.ensures.ok none)
 
 pub returns-in-None-clause-most : goal.returns-in-None-clause-most
 returns-in-None-clause-most c =

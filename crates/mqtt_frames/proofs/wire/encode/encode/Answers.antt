@@ -39,12 +39,16 @@ returns-then-not-has_spelling-clause-malformed c =
 pub returns-in_err-write-clause-malformed : goal.returns-in_err-write-clause-malformed
 returns-in_err-write-clause-malformed c = (
   λ is. absurd (not_malformed c.from_residual.result c.from_residual.ensures.1 is),
-  λ lacks. absurd (not_spelled c.args.packet.now c.has_spelling.ensures.in_range (sym c.if-not-has_spelling.ensures.value) lacks),
+  λ lacks. absurd (not_spelled c.args.packet.now c.has_spelling.ensures.in_range
+      (sym c.if-not-has_spelling.ensures.value) lacks),
 )
 
 pub returns-clause-malformed : goal.returns-clause-malformed
-returns-clause-malformed c =
-    (λ is. cc, λ lacks. absurd (not_spelled c.args.packet.now c.has_spelling.ensures.in_range (sym c.if-not-has_spelling.ensures.value) lacks))
+returns-clause-malformed c = (
+  λ is. cc,
+  λ lacks. absurd (not_spelled c.args.packet.now c.has_spelling.ensures.in_range
+      (sym c.if-not-has_spelling.ensures.value) lacks),
+)
 
 pub returns-clause-spelled : goal.returns-clause-spelled
 returns-clause-spelled c =

@@ -11,10 +11,12 @@ pub returns-clause-outs : goal.returns-clause-outs
 returns-clause-outs c =
     let s : State = the_view c.self.inside in
     let good : Good s = subst Good (sym c.self.view_is) c.requires in
-    c.in_ok-outs.ensures.outs ∙ ((acknowledge_row s c.args.from c.args.answer good).outs ∙ ap (λ t. outs_by t (ByMessage c.args.from (ToAcknowledge c.args.answer))) c.self.view_is)
+    c.in_ok-outs.ensures.outs ∙ ((acknowledge_row s c.args.from c.args.answer good).outs
+    ∙ ap (λ t. outs_by t (ByMessage c.args.from (ToAcknowledge c.args.answer))) c.self.view_is)
 
 pub returns-clause-next : goal.returns-clause-next
 returns-clause-next c =
     let s : State = the_view c.self.inside in
     let good : Good s = subst Good (sym c.self.view_is) c.requires in
-    rw c.in_ok-outs.ensures.next ((acknowledge_row s c.args.from c.args.answer good).next ∙ ap (λ t. next_by t (ByMessage c.args.from (ToAcknowledge c.args.answer))) c.self.view_is)
+    rw c.in_ok-outs.ensures.next ((acknowledge_row s c.args.from c.args.answer good).next
+    ∙ ap (λ t. next_by t (ByMessage c.args.from (ToAcknowledge c.args.answer))) c.self.view_is)

@@ -7,6 +7,9 @@ use Rattle.sng_core.proofs.parts.Parts.keep.Goals as goal
 
 pub returns-clause-ok : goal.returns-clause-ok
 returns-clause-ok c =
-    kept (the_view c.self.inside) c.args.request.now c.args.place c.args.filter c.in_ok-item.item c.in_ok-name.name c.granted-qos.result c.subscribe-2.new.self c.subscribe.new.self
-    c.in_ok-item.ensures c.in_ok-name.ensures c.granted-qos.ensures c.subscribe-2.ensures c.in_ok-subscribe.ensures.ok
-    ∙ ap (λ s. stands_at s c.args.request.now c.args.place (record { filter = Some c.args.filter; outcome = Allowed })) c.self.view_is
+    kept (the_view c.self.inside) c.args.request.now c.args.place c.args.filter c.in_ok-item.item
+    c.in_ok-name.name c.granted-qos.result c.subscribe-2.new.self c.subscribe.new.self
+    c.in_ok-item.ensures c.in_ok-name.ensures c.granted-qos.ensures c.subscribe-2.ensures
+    c.in_ok-subscribe.ensures.ok
+    ∙ ap (λ s. stands_at s c.args.request.now c.args.place
+    (record { filter = Some c.args.filter; outcome = Allowed })) c.self.view_is

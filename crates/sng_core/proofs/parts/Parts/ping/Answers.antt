@@ -11,10 +11,12 @@ pub returns-clause-outs : goal.returns-clause-outs
 returns-clause-outs c =
     let s : State = the_view c.self.inside in
     let good : Good s = subst Good (sym c.self.view_is) c.requires in
-    c.in_ok-outs.ensures.outs ∙ ((ping_row s c.args.from c.args.client good).outs ∙ ap (λ t. outs_by t (ByMessage c.args.from (ToPing c.args.client))) c.self.view_is)
+    c.in_ok-outs.ensures.outs ∙ ((ping_row s c.args.from c.args.client good).outs
+    ∙ ap (λ t. outs_by t (ByMessage c.args.from (ToPing c.args.client))) c.self.view_is)
 
 pub returns-clause-next : goal.returns-clause-next
 returns-clause-next c =
     let s : State = the_view c.self.inside in
     let good : Good s = subst Good (sym c.self.view_is) c.requires in
-    rw c.in_ok-outs.ensures.next ((ping_row s c.args.from c.args.client good).next ∙ ap (λ t. next_by t (ByMessage c.args.from (ToPing c.args.client))) c.self.view_is)
+    rw c.in_ok-outs.ensures.next ((ping_row s c.args.from c.args.client good).next
+    ∙ ap (λ t. next_by t (ByMessage c.args.from (ToPing c.args.client))) c.self.view_is)

@@ -4,7 +4,7 @@ use Rattle.sng_core.specs.Refusing.{packet_next}
 use Rattle.sng_history.specs.Packets.{Refuses}
 use Rattle.sng_history.specs.State.{State}
 use Rattle.sng_core.specs.contracts.parts.Parts.{the_view}
-use Rattle.sng_core.proofs.Refusing.{nothing_open}
+use Rattle.sng_core.proofs.RefusedFilters.{nothing_open}
 use Rattle.sng_core.proofs.parts.Parts.refuse.Goals as goal
 
 pub returns-in_default-clause-next : goal.returns-in_default-clause-next

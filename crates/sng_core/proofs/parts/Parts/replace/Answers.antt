@@ -15,5 +15,6 @@ returns-clause-outs c =
 pub returns-clause-next : goal.returns-clause-next
 returns-clause-next c =
     let s : State = c.args.self.now in
-    ap (λ (t : State). let u : State = record t { policy = c.args.policy } in u) (c.self.view_is ∙ (c.end_all.ensures.next ∙ ap (all_next s) c.in_ok-endings.ensures))
+    ap (λ (t : State). let u : State = record t { policy = c.args.policy } in u)
+    (c.self.view_is ∙ (c.end_all.ensures.next ∙ ap (all_next s) c.in_ok-endings.ensures))
     ∙ replaced_next s c.args.policy c.requires

@@ -12,10 +12,12 @@ pub returns-clause-outs : goal.returns-clause-outs
 returns-clause-outs c =
     let s : State = the_view c.self.inside in
     let good : Good s = subst Good (sym c.self.view_is) c.requires in
-    c.in_ok-outs.ensures.outs ∙ ((state_row s c.args.from (said c.args.statement) good).outs ∙ ap (λ t. outs_by t (ByMessage c.args.from (ToState (said c.args.statement)))) c.self.view_is)
+    c.in_ok-outs.ensures.outs ∙ ((state_row s c.args.from (said c.args.statement) good).outs
+    ∙ ap (λ t. outs_by t (ByMessage c.args.from (ToState (said c.args.statement)))) c.self.view_is)
 
 pub returns-clause-next : goal.returns-clause-next
 returns-clause-next c =
     let s : State = the_view c.self.inside in
     let good : Good s = subst Good (sym c.self.view_is) c.requires in
-    rw c.in_ok-outs.ensures.next ((state_row s c.args.from (said c.args.statement) good).next ∙ ap (λ t. next_by t (ByMessage c.args.from (ToState (said c.args.statement)))) c.self.view_is)
+    rw c.in_ok-outs.ensures.next ((state_row s c.args.from (said c.args.statement) good).next
+    ∙ ap (λ t. next_by t (ByMessage c.args.from (ToState (said c.args.statement)))) c.self.view_is)

@@ -1,6 +1,6 @@
 use Rattle.std.proofs.Common.{subst, sym, ◌∙◌, ap}
 use Rattle.sng_history.specs.Causes.{ByMessage, Untaken}
-use Rattle.sng_core.proofs.Rows.{unsupported_row}
+use Rattle.sng_core.proofs.IdleRows.{unsupported_row}
 use Rattle.sng_history.specs.State.{State}
 use Rattle.sng_history.specs.Steps.{outs_by, next_by}
 use Rattle.sng_history.specs.Good.{Good}
@@ -11,10 +11,12 @@ pub returns-clause-outs : goal.returns-clause-outs
 returns-clause-outs c =
     let s : State = the_view c.self.inside in
     let good : Good s = subst Good (sym c.self.view_is) c.requires in
-    c.in_ok-outs.ensures.outs ∙ ((unsupported_row s c.args.from c.args.message good).outs ∙ ap (λ t. outs_by t (ByMessage c.args.from (Untaken c.args.message))) c.self.view_is)
+    c.in_ok-outs.ensures.outs ∙ ((unsupported_row s c.args.from c.args.message good).outs
+    ∙ ap (λ t. outs_by t (ByMessage c.args.from (Untaken c.args.message))) c.self.view_is)
 
 pub returns-clause-next : goal.returns-clause-next
 returns-clause-next c =
     let s : State = the_view c.self.inside in
     let good : Good s = subst Good (sym c.self.view_is) c.requires in
-    rw c.in_ok-outs.ensures.next ((unsupported_row s c.args.from c.args.message good).next ∙ ap (λ t. next_by t (ByMessage c.args.from (Untaken c.args.message))) c.self.view_is)
+    rw c.in_ok-outs.ensures.next ((unsupported_row s c.args.from c.args.message good).next
+    ∙ ap (λ t. next_by t (ByMessage c.args.from (Untaken c.args.message))) c.self.view_is)

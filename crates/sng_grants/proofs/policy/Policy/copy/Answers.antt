@@ -5,6 +5,9 @@ use Rattle.sng_grants.proofs.policy.Policy.copy.Goals as goal
 
 pub returns : goal.returns
 returns c =
-    let clients : c.in_ok-clients.clients ≡ c.args.self.now.clients = entries_from_clone _ _ (λ x y is. is) (λ v w is. is) _ _ c.in_ok-clients.ensures.cases in
-    let sources : c.in_ok-sources.sources ≡ c.args.self.now.sources = entries_from_clone _ _ (λ x y is. each_same x y is.whole) (λ v w is. is) _ _ c.in_ok-sources.ensures.cases in
+    let clients : c.in_ok-clients.clients ≡ c.args.self.now.clients =
+    entries_from_clone _ _ (λ x y is. is) (λ v w is. is) _ _ c.in_ok-clients.ensures.cases in
+    let sources : c.in_ok-sources.sources ≡ c.args.self.now.sources =
+    entries_from_clone _ _ (λ x y is. each_same x y is.whole)
+    (λ v w is. is) _ _ c.in_ok-sources.ensures.cases in
     rw (clients, sources, c.in_ok-topics.ensures) refl

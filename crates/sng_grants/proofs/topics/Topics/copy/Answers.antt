@@ -4,9 +4,12 @@ use Rattle.sng_grants.proofs.topics.Topics.copy.Goals as goal
 
 pub invariant_of-result : goal.invariant_of-result
 invariant_of-result c = λ name.
-    let names : c.in_ok-names.names ≡ c.self.inside.names = entries_from_clone _ _ (λ x y is. is) (λ v w is. is) _ _ c.in_ok-names.ensures.cases in
-    let ids : c.in_ok-ids.ids.entries ≡ c.self.inside.ids.entries = entries_from_clone _ _ (λ x y is. is) (λ v w is. is) _ _ c.in_ok-ids.ensures.cases in
+    let names : c.in_ok-names.names ≡ c.self.inside.names =
+    entries_from_clone _ _ (λ x y is. is) (λ v w is. is) _ _ c.in_ok-names.ensures.cases in
+    let ids : c.in_ok-ids.ids.entries ≡ c.self.inside.ids.entries =
+    entries_from_clone _ _ (λ x y is. is) (λ v w is. is) _ _ c.in_ok-ids.ensures.cases in
     rw (names, ids) (c.self.invariant name)
 
 pub returns : goal.returns
-returns c = entries_from_clone _ _ (λ x y is. is) (λ v w is. is) _ _ c.in_ok-names.ensures.cases ∙ c.self.view_is
+returns c =
+    entries_from_clone _ _ (λ x y is. is) (λ v w is. is) _ _ c.in_ok-names.ensures.cases ∙ c.self.view_is

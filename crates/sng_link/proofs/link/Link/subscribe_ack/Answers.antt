@@ -8,11 +8,17 @@ use Rattle.sng_link.proofs.link.Link.subscribe_ack.Goals as goal
 pub invariant_of-self : goal.invariant_of-self
 invariant_of-self c =
     let found : list_any (is_open c.args.packet_id) c.self.inside.wanted ≡ true =
-    sym (some_copied c.opened_by.result c.self.inside.wanted c.args.packet_id c.opened_by.ensures) ∙ sym c.is_some.ensures ∙ c.if-is_some.true in
-    rw (c.close.ensures, c.free.ensures) (closed_marked (ids_of c.self.inside.outbox.in_flight) c.self.inside.wanted c.args.packet_id c.self.inside.ids.marks found c.self.invariant)
+    sym (some_copied c.opened_by.result c.self.inside.wanted c.args.packet_id c.opened_by.ensures)
+    ∙ sym c.is_some.ensures ∙ c.if-is_some.true in
+    rw (c.close.ensures, c.free.ensures)
+    (closed_marked (ids_of c.self.inside.outbox.in_flight) c.self.inside.wanted c.args.packet_id
+    c.self.inside.ids.marks found c.self.invariant)
 
 pub returns-else-is_some : goal.returns-else-is_some
 returns-else-is_some c =
     let none : list_any (is_open c.args.packet_id) c.self.inside.wanted ≡ false =
-    sym (some_copied c.opened_by.result c.self.inside.wanted c.args.packet_id c.opened_by.ensures) ∙ sym c.is_some.ensures ∙ c.if-is_some.false in
-    rw (← c.self.view_is) (ap (λ w. record (link_of c.self.inside.outbox c.self.inside.ids c.self.inside.wanted c.self.inside.pinged) { wanted = w }) (sym (none_closed c.self.inside.wanted c.args.packet_id none)))
+    sym (some_copied c.opened_by.result c.self.inside.wanted c.args.packet_id c.opened_by.ensures)
+    ∙ sym c.is_some.ensures ∙ c.if-is_some.false in
+    rw (← c.self.view_is) (ap (λ w.
+    record (link_of c.self.inside.outbox c.self.inside.ids c.self.inside.wanted c.self.inside.pinged)
+    { wanted = w }) (sym (none_closed c.self.inside.wanted c.args.packet_id none)))

@@ -6,12 +6,17 @@ use Rattle.sng_link.proofs.link.Link.unwant.Goals as goal
 
 pub invariant_of-self : goal.invariant_of-self
 invariant_of-self c =
-    let id : id_for c.self.inside.wanted c.args.filter.now ≡ Some c.in-Some.packet_id = sym c.in-Some.ensures.open_id in
-    let left = without_marked (ids_of c.self.inside.outbox.in_flight) c.self.inside.wanted c.args.filter.now c.self.inside.ids.marks c.len-stand.ensures.once c.self.invariant in
+    let id : id_for c.self.inside.wanted c.args.filter.now ≡ Some c.in-Some.packet_id =
+    sym c.in-Some.ensures.open_id in
+    let left =
+    without_marked (ids_of c.self.inside.outbox.in_flight) c.self.inside.wanted c.args.filter.now
+    c.self.inside.ids.marks c.len-stand.ensures.once c.self.invariant in
     rw (c.end.ensures.wanted, c.free.ensures) (rw id at left)
 
 pub invariant_of-self-in_default : goal.invariant_of-self-in_default
 invariant_of-self-in_default c =
     let id : id_for c.self.inside.wanted c.args.filter.now ≡ None = sym c.in_default.ensures.open_id in
-    let left = without_marked (ids_of c.self.inside.outbox.in_flight) c.self.inside.wanted c.args.filter.now c.self.inside.ids.marks c.len-stand.ensures.once c.self.invariant in
+    let left =
+    without_marked (ids_of c.self.inside.outbox.in_flight) c.self.inside.wanted c.args.filter.now
+    c.self.inside.ids.marks c.len-stand.ensures.once c.self.invariant in
     rw c.end.ensures.wanted (rw id at left)

@@ -5,5 +5,6 @@ use Rattle.sng_sessions.proofs.ids.ClientIds.confirm.Goals as goal
 
 pub invariant_of-self : goal.invariant_of-self
 invariant_of-self c =
-    let size : length c.confirm.new.self.ids ≡ length c.self.inside.table.ids = ap length c.confirm.ensures.ids ∙ length-confirmed c.args.id _ in
+    let size : length c.confirm.new.self.ids ≡ length c.self.inside.table.ids =
+    ap length c.confirm.ensures.ids ∙ length-confirmed c.args.id _ in
     omega (arith, c.self.invariant, size, c.confirm.ensures.spare)

@@ -12,8 +12,10 @@ use Rattle.sng_sessions.proofs.sessions.Sessions.answer.Goals as goal
 pub invariant_of-self : goal.invariant_of-self
 invariant_of-self c =
     let keeps = answered-keeps c.args.clock c.args.id in (
-      λ from place. c.self.invariant.0 from place ∙ sym (ap (λ xs. holds_at (λ x. is_here x from) xs place) c.answer_at.ensures
-          ∙ holds_at-kept (λ x. is_here x from) (answered c.args.clock c.args.id) (here-kept keeps from) _ c.args.place place),
+      λ from place. c.self.invariant.0 from place
+          ∙ sym (ap (λ xs. holds_at (λ x. is_here x from) xs place) c.answer_at.ensures
+          ∙ holds_at-kept (λ x. is_here x from) (answered c.args.clock c.args.id)
+          (here-kept keeps from) _ c.args.place place),
       λ text. c.self.invariant.1 text ∙ sym (ap (holder_count text) c.answer_at.ensures
           ∙ holder_count-kept text (answered c.args.clock c.args.id) (filters-kept keeps) _ c.args.place),
     )

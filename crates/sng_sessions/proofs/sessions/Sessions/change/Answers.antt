@@ -11,8 +11,11 @@ use Rattle.sng_sessions.proofs.sessions.Sessions.change.Goals as goal
 
 pub invariant_of-self : goal.invariant_of-self
 invariant_of-self c = (
-  λ from place. c.self.invariant.0 from place ∙ sym (ap (λ xs. holds_at (λ x. is_here x from) xs place) c.change_at.ensures
-      ∙ holds_at-kept (λ x. is_here x from) (changed c.args.clock c.args.change) (changed-here c.args.clock c.args.change from) _ c.args.place place),
+  λ from place. c.self.invariant.0 from place
+      ∙ sym (ap (λ xs. holds_at (λ x. is_here x from) xs place) c.change_at.ensures
+      ∙ holds_at-kept (λ x. is_here x from) (changed c.args.clock c.args.change)
+      (changed-here c.args.clock c.args.change from) _ c.args.place place),
   λ text. c.self.invariant.1 text ∙ sym (ap (holder_count text) c.change_at.ensures
-      ∙ holder_count-kept text (changed c.args.clock c.args.change) (changed-filters c.args.clock c.args.change) _ c.args.place),
+      ∙ holder_count-kept text (changed c.args.clock c.args.change)
+      (changed-filters c.args.clock c.args.change) _ c.args.place),
 )

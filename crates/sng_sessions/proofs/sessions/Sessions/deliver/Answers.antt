@@ -12,8 +12,11 @@ use Rattle.sng_sessions.proofs.sessions.Sessions.deliver.Goals as goal
 pub invariant_of-self : goal.invariant_of-self
 invariant_of-self c =
     let keeps = delivered-keeps c.args.clock c.args.message c.args.opens in (
-      λ from place. c.self.invariant.0 from place ∙ sym (ap (λ xs. holds_at (λ x. is_here x from) xs place) c.deliver_at.ensures
-          ∙ holds_at-kept (λ x. is_here x from) (delivered c.args.clock c.args.message c.args.opens) (here-kept keeps from) _ c.args.place place),
+      λ from place. c.self.invariant.0 from place
+          ∙ sym (ap (λ xs. holds_at (λ x. is_here x from) xs place) c.deliver_at.ensures
+          ∙ holds_at-kept (λ x. is_here x from) (delivered c.args.clock c.args.message c.args.opens)
+          (here-kept keeps from) _ c.args.place place),
       λ text. c.self.invariant.1 text ∙ sym (ap (holder_count text) c.deliver_at.ensures
-          ∙ holder_count-kept text (delivered c.args.clock c.args.message c.args.opens) (filters-kept keeps) _ c.args.place),
+          ∙ holder_count-kept text (delivered c.args.clock c.args.message c.args.opens)
+          (filters-kept keeps) _ c.args.place),
     )

@@ -7,7 +7,8 @@ use Rattle.sng_sessions.proofs.sessions.Sessions.end.Goals as goal
 
 pub invariant_of-self : goal.invariant_of-self
 invariant_of-self c = (
-  λ from place. c.self.invariant.0 from place ∙ sym (ap (λ xs. holds_at (λ x. is_here x from) xs place) c.end_at.ensures.clients
+  λ from place. c.self.invariant.0 from place
+      ∙ sym (ap (λ xs. holds_at (λ x. is_here x from) xs place) c.end_at.ensures.clients
       ∙ holds_at-kept (λ x. is_here x from) (without c.args.filter.now) (λ x. refl) _ c.args.place place),
   c.end_at.ensures.counted,
 )

@@ -12,21 +12,27 @@ pub admit-requires-clause-new : goal.admit-requires-clause-new
 admit-requires-clause-new c =
     let id = c.args.connect.client_id in
     ap (λ entries. is_known id (clients_of entries)) c.reserve-in-None.ensures.entries
-    ∙ known-found id c.self.inside.clients.entries ∙ sym c.get_index_of.ensures.found ∙ ap is_some c.in-None.is
+    ∙ known-found id c.self.inside.clients.entries ∙ sym c.get_index_of.ensures.found
+    ∙ ap is_some c.in-None.is
 
 pub invariant_of-self-in-None : goal.invariant_of-self-in-None
 invariant_of-self-in-None c =
     let id = c.args.connect.client_id in
-    let new = known-found id c.self.inside.clients.entries ∙ sym c.get_index_of.ensures.found ∙ ap is_some c.in-None.is in
+    let new =
+    known-found id c.self.inside.clients.entries ∙ sym c.get_index_of.ensures.found
+    ∙ ap is_some c.in-None.is in
     let same = c.reserve-in-None.ensures.entries in (
       c.admit.ensures.indexed,
       λ text. c.self.invariant.1 text ∙ sym (ap (holder_count text) c.admit.ensures.clients
-          ∙ ap (λ entries. holder_count text (entered c.args.clock c.args.from c.args.connect (clients_of entries))) same
-          ∙ entered-count text c.args.clock c.args.from c.args.connect (clients_of c.self.inside.clients.entries) new),
+          ∙ ap (λ entries. holder_count text
+          (entered c.args.clock c.args.from c.args.connect (clients_of entries))) same
+          ∙ entered-count text c.args.clock c.args.from c.args.connect
+          (clients_of c.self.inside.clients.entries) new),
     )
 
 pub returns-in_ok-reserve-in-None-clause-ok : goal.returns-in_ok-reserve-in-None-clause-ok
 returns-in_ok-reserve-in-None-clause-ok c =
     c.admit.ensures.clients
-    ∙ (ap (λ entries. entered c.args.clock c.args.from c.args.connect (clients_of entries)) c.reserve-in-None.ensures.entries
+    ∙ (ap (λ entries. entered c.args.clock c.args.from c.args.connect (clients_of entries))
+    c.reserve-in-None.ensures.entries
     ∙ ap (entered c.args.clock c.args.from c.args.connect) c.self.view_is)

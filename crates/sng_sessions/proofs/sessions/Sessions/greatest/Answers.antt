@@ -7,6 +7,7 @@ use Rattle.sng_sessions.proofs.sessions.Sessions.greatest.Goals as goal
 
 pub returns : goal.returns
 returns c =
-    subst (λ xs. c.greatest.result ≡ greatest_qos (client_at xs c.args.place).filters c.args.name.now) c.self.view_is
+    subst (λ xs. c.greatest.result ≡ greatest_qos (client_at xs c.args.place).filters c.args.name.now)
+    c.self.view_is
     (c.greatest.ensures ∙ ap (λ held. greatest_qos held c.args.name.now)
     (filters-there c.self.inside.clients.entries c.args.place c.index.result.now c.index.ensures))

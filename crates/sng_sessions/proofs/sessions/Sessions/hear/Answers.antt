@@ -10,7 +10,8 @@ use Rattle.sng_sessions.proofs.sessions.Sessions.hear.Goals as goal
 
 pub invariant_of-self : goal.invariant_of-self
 invariant_of-self c = (
-  λ from place. c.self.invariant.0 from place ∙ sym (ap (λ xs. holds_at (λ x. is_here x from) xs place) c.hear_at.ensures
+  λ from place. c.self.invariant.0 from place
+      ∙ sym (ap (λ xs. holds_at (λ x. is_here x from) xs place) c.hear_at.ensures
       ∙ holds_at-kept (λ x. is_here x from) (heard_at c.args.clock) (λ x. refl) _ c.args.place place),
   λ text. c.self.invariant.1 text ∙ sym (ap (holder_count text) c.hear_at.ensures
       ∙ holder_count-kept text (heard_at c.args.clock) (λ x. refl) _ c.args.place),

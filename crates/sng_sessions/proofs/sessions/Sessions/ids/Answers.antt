@@ -7,4 +7,5 @@ use Rattle.sng_sessions.proofs.sessions.Sessions.ids.Goals as goal
 pub returns : goal.returns
 returns c =
     subst (λ xs. c.table.result.now.ids ≡ (client_at xs c.args.place).ids) c.self.view_is
-    (c.table.ensures ∙ ap (λ x. x.ids) (session-there c.self.inside.clients.entries c.args.place c.index.result.now c.index.ensures))
+    (c.table.ensures ∙ ap (λ x. x.ids)
+    (session-there c.self.inside.clients.entries c.args.place c.index.result.now c.index.ensures))

@@ -7,4 +7,5 @@ use Rattle.sng_sessions.proofs.sessions.Sessions.number.Goals as goal
 pub returns : goal.returns
 returns c =
     subst (λ xs. c.index.result.now.number ≡ (client_at xs c.args.place).number) c.self.view_is
-    (ap (λ x. x.number) (session-there c.self.inside.clients.entries c.args.place c.index.result.now c.index.ensures))
+    (ap (λ x. x.number) (session-there c.self.inside.clients.entries c.args.place c.index.result.now
+    c.index.ensures))

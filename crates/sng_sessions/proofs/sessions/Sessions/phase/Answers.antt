@@ -7,4 +7,5 @@ use Rattle.sng_sessions.proofs.sessions.Sessions.phase.Goals as goal
 pub returns : goal.returns
 returns c =
     subst (λ xs. c.index.result.now.presence.phase ≡ (client_at xs c.args.place).phase) c.self.view_is
-    (ap (λ x. x.phase) (session-there c.self.inside.clients.entries c.args.place c.index.result.now c.index.ensures))
+    (ap (λ x. x.phase) (session-there c.self.inside.clients.entries c.args.place c.index.result.now
+    c.index.ensures))

@@ -7,4 +7,5 @@ use Rattle.sng_sessions.proofs.sessions.Sessions.queue.Goals as goal
 pub returns : goal.returns
 returns c =
     subst (λ xs. c.index.result.now.queue ≡ (client_at xs c.args.place).buffer) c.self.view_is
-    (ap (λ x. x.buffer) (session-there c.self.inside.clients.entries c.args.place c.index.result.now c.index.ensures))
+    (ap (λ x. x.buffer) (session-there c.self.inside.clients.entries c.args.place c.index.result.now
+    c.index.ensures))

@@ -11,8 +11,10 @@ use Rattle.sng_sessions.proofs.sessions.Sessions.state.Goals as goal
 
 pub invariant_of-self : goal.invariant_of-self
 invariant_of-self c = (
-  λ from place. c.self.invariant.0 from place ∙ sym (ap (λ xs. holds_at (λ x. is_here x from) xs place) c.state_at.ensures
-      ∙ holds_at-kept (λ x. is_here x from) (stating_at c.args.clock c.args.stating) (stating-here c.args.clock c.args.stating from) _ c.args.place place),
+  λ from place. c.self.invariant.0 from place
+      ∙ sym (ap (λ xs. holds_at (λ x. is_here x from) xs place) c.state_at.ensures
+      ∙ holds_at-kept (λ x. is_here x from) (stating_at c.args.clock c.args.stating)
+      (stating-here c.args.clock c.args.stating from) _ c.args.place place),
   λ text. c.self.invariant.1 text ∙ sym (ap (holder_count text) c.state_at.ensures
       ∙ holder_count-kept text (stating_at c.args.clock c.args.stating) (λ x. refl) _ c.args.place),
 )

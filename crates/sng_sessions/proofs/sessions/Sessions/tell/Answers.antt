@@ -13,7 +13,8 @@ pub invariant_of-self : goal.invariant_of-self
 invariant_of-self c = (
   λ from place. c.self.invariant.0 from place
       ∙ sym (ap (λ xs. holds_at (λ x. is_here x from) xs place) c.tell_at.ensures
-      ∙ holds_at-kept (λ x. is_here x from) (told_at c.args.clock (Some c.args.name) Allowed) (λ x. refl) _ c.args.place place),
+      ∙ holds_at-kept (λ x. is_here x from) (told_at c.args.clock (Some c.args.name) Allowed)
+      (λ x. refl) _ c.args.place place),
   λ text. c.self.invariant.1 text ∙ sym (ap (holder_count text) c.tell_at.ensures
       ∙ holder_count-kept text (told_at c.args.clock (Some c.args.name) Allowed) (λ x. refl) _ c.args.place),
 )
