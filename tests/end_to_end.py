@@ -5,8 +5,8 @@ Runs the program over everything that a text can show: each script of tests/scri
 its whole output and exit status (NAME.expected; NAME.status, where it is not 0); the lines of
 tests/lines.table, which cannot be read; the scripts of full_places.py; the policy texts of policy_texts.py;
 the questions of tests/cover.table and tests/may.table; the reports on policy texts of policy_reports.py, with
-their warnings where the proved program runs; command lines, good and bad; output that cannot be written; a
-line without end under a limit of memory. A search over names (cover_search.py) answers the first table of
+their warnings where the proved program runs; books of a script, its own and others; command lines, good and
+bad; output that cannot be written; a line without end under a limit of memory. A search over names (cover_search.py) answers the first table of
 questions too. Uses the proved program where one lies in crates/sng/out that is newer than every source, and
 else one build without proof, which leaves out what it cannot run, and says what.
 """
@@ -32,8 +32,9 @@ PROVED = os.path.join(CRATE, 'out', 'sng')
 SECONDS = 600
 POLICY = 'policy.json'
 NO_FILE = b'cannot read no-such.json: No such file or directory (os error 2)\n'
+BOOK_SCRIPT = 'scripts/refused-policy-leaves-the-one-before.script'
 # The files that the words of a case name, for the build without proof
-DATA = [word for name in (POLICY, 'cover.table')
+DATA = [word for name in (POLICY, 'cover.table', BOOK_SCRIPT)
         for word in ('--data', '%s=%s' % (name, os.path.join(HERE, name)))]
 MAX_LINE = 64 * 1024 * 1024
 MEMORY = 512 * 1024 * 1024
@@ -139,11 +140,48 @@ def checks():
         yield Case('policy-' + name, words, b'', status, printed)
 
 
+def books():
+    """Books of a script with a refused policy: the one that it has, and others."""
+    book = read(os.path.join(HERE, BOOK_SCRIPT[:-len('.script')] + '.expected'))
+    lines = book.splitlines(keepends=True)
+    refused, note, wire = lines[1].decode(), lines[4].decode(), lines[7].decode()
+    for name, text, printed in (
+            ('as-it-is', book, None),
+            ('with-a-changed-byte', book.replace(b'allowed', b'allowee', 1),
+             'row 3, line 5: unlike\nstands: %sshould: %s' % (note.replace('allowed', 'allowee'), note)),
+            ('with-a-byte-that-is-not-printed', book.replace(b'wire', b'wir\x01'),
+             'row 4, line 8: unlike\nstands: %sshould: %s' % (wire.replace('wire', 'wir%01'), wire)),
+            ('that-is-empty', b'', 'row 1, line 1: cut off\nshould: row 1 0 replace\n'),
+            ('that-is-cut-off-behind-a-row', b''.join(lines[:5]),
+             'row 4, line 6: cut off\nshould: row 4 0 take\n'),
+            ('that-is-cut-off-within-a-line', b''.join(lines[:5]) + b'ro',
+             'row 4, line 6: cut off\nstands: ro\nshould: row 4 0 take\n'),
+            ('without-the-last-line-feed', book[:-1], 'row 4, line 8: cut off\nstands: %sshould: %s' % (wire, wire)),
+            ('that-goes-on', book + b'row 5 0 up\n', 'row 5, line 9: goes on\nstands: row 5 0 up\n'),
+            ('that-goes-on-with-an-out', book + lines[7], 'row 4, line 9: goes on\nstands: %s' % wire),
+            ('without-an-out', b''.join(lines[:4] + lines[5:]),
+             'row 3, line 5: unlike\nstands: row 4 0 take\nshould: %s' % note),
+            ('with-an-out-more', b''.join(lines[:5] + lines[4:]),
+             'row 3, line 6: unlike\nstands: %sshould: row 4 0 take\n' % note),
+            ('without-what-is-told', b''.join(lines[:1] + lines[2:]),
+             'row 1, line 2: unlike\nstands: row 2 0 up\nshould: %s' % refused)):
+        yield Case('book-' + name, ['check', BOOK_SCRIPT], text, 1 if printed else 0,
+                   (printed or 'lawful 4 rows\n').encode())
+    yield Case('book-of-a-line-that-is-too-long', ['check', BOOK_SCRIPT], b'r' * (MAX_LINE + 1), 1,
+               b'unreadable book\n')
+    for name, words, status, printed in (
+            ('of-a-script-that-is-not-there', ['check', 'no-such.json'], 1, NO_FILE),
+            ('of-no-script', ['check'], 2, b''),
+            ('of-two-scripts', ['check', BOOK_SCRIPT, BOOK_SCRIPT], 2, b''),
+            ('of-a-word-that-is-no-text', ['check', b'\xff'], 1, b'bad word 2\n')):
+        yield Case('book-' + name, words, book, status, printed)
+
+
 def command_lines():
     for name, words in (('nothing', []), ('no-such-command', ['nonsense']), ('cover-nothing', ['cover']),
                         ('play-with-a-word', ['play', 'x']), ('no-such-option', ['cover', '--x', 'a'])):
         yield Case('command-line-' + name, words, b'', 2, b'')
-    for words in (['--help'], ['cover', '--help'], ['may', '--help'], ['policy', '--help'], ['serve', '--help'],
+    for words in (['--help'], ['check', '--help'], ['cover', '--help'], ['may', '--help'], ['policy', '--help'], ['serve', '--help'],
                   ['broker', '--help'], ['help']):
         yield Case('-'.join(words).replace('--', ''), words, b'', 0, None)
 
@@ -153,6 +191,7 @@ def cases():
     yield from questions()
     yield from questions_to_a_policy()
     yield from checks()
+    yield from books()
     yield from command_lines()
 
 
@@ -161,6 +200,7 @@ def lost():
     yield Case('help-that-is-lost', ['--help'], b'', 4, None)
     yield Case('an-answer-that-is-lost', ['cover', 'a', '#'], b'', 4, None)
     yield Case('a-row-that-is-lost', ['play'], b'up\n', 4, None)
+    yield Case('a-verdict-that-is-lost', ['check', BOOK_SCRIPT], b'', 4, None)
     yield Case('a-report-that-is-lost', ['policy'], b'{}', 4, None)
 
 

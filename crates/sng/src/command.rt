@@ -21,6 +21,8 @@ const USUAL_TRIES: u32 = 5;
 pub enum Chosen<'a> {
     /// Plays a script from standard input.
     Play,
+    /// Checks a book from standard input against the script of this file.
+    Check(&'a str),
     /// Answers whether a filter is covered by granted ones.
     Cover,
     /// Answers what a policy says to a question.
@@ -57,6 +59,7 @@ pub fn read_command(alloc: Global, words: &[String]) -> Result<Chosen<'_>, Error
         .version(VERSION)
         .subcommand_required(true)
         .subcommand(play)?
+        .subcommand(check_command(alloc)?)?
         .subcommand(cover_command(alloc)?)?
         .subcommand(may_command(alloc)?)?
         .subcommand(policy_command(alloc)?)?
@@ -64,6 +67,7 @@ pub fn read_command(alloc: Global, words: &[String]) -> Result<Chosen<'_>, Error
         .subcommand(broker_command(alloc)?)?;
     let matches = command.try_get_matches_from(words)?;
     match matches.subcommand() {
+        Some(("check", asked)) => Ok(Chosen::Check(asked.get_str("SCRIPT").unwrap_or(""))),
         Some(("cover", _)) => Ok(Chosen::Cover),
         Some(("may", asked)) => Ok(Chosen::May(may_words(asked))),
         Some(("policy", asked)) => Ok(Chosen::Policy(asked.get_str("FILE"))),
@@ -82,6 +86,16 @@ fn may_words<'a>(matches: &ArgMatches<'a>) -> MayWords<'a> {
         second: matches.get_str("ACTION").unwrap_or(""),
         third: matches.get_str("NAME"),
     }
+}
+
+fn check_command<'a>(alloc: Global) -> Result<Command<'a>, AllocError> {
+    let script = Arg::new(alloc, "SCRIPT")
+        .help("The file of the script whose book it is to be")
+        .required(true)
+        .action(ArgAction::Set);
+    Command::new(alloc, "check")
+        .about("Tells whether the rows of standard input are the lawful history of a script")
+        .arg(script)
 }
 
 fn cover_command<'a>(alloc: Global) -> Result<Command<'a>, AllocError> {

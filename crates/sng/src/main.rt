@@ -1,6 +1,7 @@
 //! `sng`, a gateway from MQTT-SN 1.2 to MQTT 3.1.1.
 #![tactic(auto)]
 
+mod checking;
 mod command;
 mod file;
 mod may;
@@ -24,6 +25,7 @@ fn main(rt: HostRuntime) -> ExitCode {
     let status = match read_words(&rt) {
         Ok((words, texts)) => match read_command(rt.alloc(), texts.as_slice()) {
             Ok(Chosen::Play) => play(rt.alloc(), rt.reader(), io::writer(&rt)),
+            Ok(Chosen::Check(script)) => checking::answer(&rt, words.as_slice(), script),
             Ok(Chosen::Cover) => {
                 let filters = filters_among(words);
                 cover_words(rt.alloc(), filters.as_slice(), io::writer(&rt))

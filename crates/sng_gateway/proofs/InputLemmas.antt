@@ -1,11 +1,12 @@
 -- The lines of an input whose bytes are known.
-use Rattle.std.proofs.Common.{◌≡◌, ◌≢◌, Bool, false, not, ℕ, suc, ◌≤◌, ◌==◌, ◌⊎◌, List, [], ◌∷◌, ◌++◌, length, drop, if◌then◌else◌, Option, Some, None, IfSome, refl, sym, ap, subst, ◌∙◌, append_assoc, append-nil, length-append, ne_eqb, inl, inr, arith}
+use Rattle.std.proofs.Common.{◌≡◌, ◌≢◌, Bool, true, false, not, ℕ, suc, ◌≤◌, ◌==◌, ◌⊎◌, List, [], ◌∷◌, ◌++◌, length, drop, if◌then◌else◌, Option, Some, None, IfSome, refl, sym, ap, subst, ◌∙◌, append_assoc, append-nil, length-append, ne_eqb, inl, inr, arith}
 use Rattle.std.proofs.lemmas.List.Elements.{All-head, All-tail, All-append}
 use Rattle.std.proofs.KnownBytes.{starts_with_rest, Consumes-trans}
 use Rattle.std.specs.Io.{StartsWith}
 use Rattle.std.specs.Io.KnownBytes.{Consumes, IsAtEnd, Keeps}
 use Rattle.sng_gateway.specs.Scripts.{lines_of, onto_first}
-use Rattle.sng_gateway.specs.Input.{IsWithinLine, IsTooLong, IsFirstLine, IsNextLine, BeginsTooLong, Takes}
+use Rattle.sng_gateway.specs.Input.{IsWithinLine, IsTooLong, IsFirstLine, IsNextLine, IsRest, BeginsTooLong, Takes, Ends}
+use Rattle.sng_gateway.specs.declared.input.LineEnd.TheVariants.{Feed, Input}
 use Rattle.sng_gateway.specs.declared.input.Piece.TheVariants.{Whole, End}
 
 -- a line with its line feed
@@ -54,21 +55,26 @@ ends_line (Some bytes) None line within taken = absurd taken
 ends_line (Some bytes) (Some rest) line within taken =
     ap lines_of (taken ∙ append_assoc line (10 ∷ []) rest) ∙ lines_of-line line rest within
 
-ends_input : (left stays after : Option (List ℕ)) (line : List ℕ) → IsWithinLine line → line ≢ [] → Consumes left stays line
-    → IsAtEnd stays → Keeps stays after → IsFirstLine left after line
-ends_input None stays after line within some taken end keeps = tt
-ends_input (Some bytes) None after line within some taken end keeps = absurd taken
-ends_input (Some bytes) (Some rest) None line within some taken end keeps = absurd keeps
-ends_input (Some bytes) (Some rest) (Some last) [] within some taken end keeps = absurd (some refl)
-ends_input (Some bytes) (Some rest) (Some last) (byte ∷ line) within some taken end keeps =
-    let none : last ≡ [] = keeps ∙ end in
-    ap lines_of (taken ∙ ap (λ l. (byte ∷ line) ++ l) end ∙ append-nil (byte ∷ line))
-    ∙ lines_of-last byte line within ∙ ap (λ l. (byte ∷ line) ∷ lines_of l) (sym none)
+ends_input : (left stays : Option (List ℕ)) (line : List ℕ) → IsWithinLine line → line ≢ [] → IsRest left stays line
+    → IsFirstLine left stays line
+ends_input None stays line within some rest = tt
+ends_input (Some bytes) None line within some rest = absurd rest
+ends_input (Some bytes) (Some left) [] within some rest = absurd (some refl)
+ends_input (Some bytes) (Some left) (byte ∷ line) within some (all, none) =
+    ap lines_of all ∙ lines_of-last byte line within ∙ ap (λ l. (byte ∷ line) ∷ lines_of l) (sym none)
 
-has_ended : (left stays : Option (List ℕ)) → Consumes left stays [] → IsAtEnd stays → IsAtEnd left
-has_ended None stays taken end = tt
-has_ended (Some bytes) None taken end = absurd taken
-has_ended (Some bytes) (Some rest) taken end = taken ∙ end
+has_ended : (left stays : Option (List ℕ)) → IsRest left stays [] → IsAtEnd left
+has_ended None stays rest = tt
+has_ended (Some bytes) None rest = absurd rest
+has_ended (Some bytes) (Some left) (all, none) = all
+
+is_rest : (left between stays : Option (List ℕ)) (line : List ℕ) → Consumes left between line → IsAtEnd between → Keeps between stays
+    → IsRest left stays line
+is_rest None between stays line taken end keeps = tt
+is_rest (Some bytes) None stays line taken end keeps = absurd taken
+is_rest (Some bytes) (Some rest) None line taken end keeps = absurd keeps
+is_rest (Some bytes) (Some rest) (Some left) line taken end keeps =
+    (taken ∙ ap (λ l. line ++ l) end ∙ append-nil line, keeps ∙ end)
 
 -- a piece within the line behind what was read of it
 goes_on : (text front : List ℕ) → IsWithinLine text → IsWithinLine front → IsWithinLine (text ++ front)
@@ -76,21 +82,29 @@ goes_on text front within more = All-append (λ b. b ≢ 10) text front within m
 
 -- the line feed came
 pub whole_line : (left between stays : Option (List ℕ)) (text new : List ℕ) → IsWithinLine text → Consumes left between text
-    → Takes Whole between stays text new → IsFirstLine left stays new
+    → Takes Whole between stays text new → Ends Feed left stays new
 whole_line left between stays text new within taken (front, appended, here, more) =
     let line = text ++ front in
     let all : Consumes left stays (line ++ 10 ∷ []) =
     subst (Consumes left stays) (sym (append_assoc text front (10 ∷ []))) (Consumes-trans left between stays text (front ++ 10 ∷ []) taken more) in
-    subst (IsFirstLine left stays) (sym appended) (ends_line left stays line (goes_on text front within here) all)
+    subst (Ends Feed left stays) (sym appended) (goes_on text front within here, all)
 
 -- the input ended
-pub last_line : (left between stays : Option (List ℕ)) (text new : List ℕ) (is_empty : Bool) → is_empty ≡ (length new == 0)
-    → IsWithinLine text → Consumes left between text → Takes End between stays text new → IsNextLine (not is_empty) left stays new
-last_line left between stays text [] is_empty test within taken (same, end, keeps) =
-    rw test (has_ended left between (subst (Consumes left between) (sym same) taken) end)
-last_line left between stays text (byte ∷ new) is_empty test within taken (same, end, keeps) =
-    let some : is_empty ≡ false = test ∙ ne_eqb (suc (length new)) 0 (λ none. omega (arith, none)) in
-    rw some (ends_input left between stays (byte ∷ new) (subst IsWithinLine (sym same) within) (λ none. absurd (cc)) (subst (Consumes left between) (sym same) taken) end keeps)
+pub last_line : (left between stays : Option (List ℕ)) (text new : List ℕ) → IsWithinLine text → Consumes left between text
+    → Takes End between stays text new → Ends Input left stays new
+last_line left between stays text new within taken (same, end, keeps) =
+    subst (Ends Input left stays) (sym same) (within, is_rest left between stays text taken end keeps)
+
+-- the line that ended so is the next one, where there is one
+pub line_by_feed : (left stays : Option (List ℕ)) (line : List ℕ) → Ends Feed left stays line → IsNextLine true left stays line
+line_by_feed left stays line (within, taken) = ends_line left stays line within taken
+
+pub line_by_input : (left stays : Option (List ℕ)) (line : List ℕ) (is_empty : Bool) → is_empty ≡ (length line == 0)
+    → Ends Input left stays line → IsNextLine (not is_empty) left stays line
+line_by_input left stays [] is_empty test (within, rest) = rw test (has_ended left stays rest)
+line_by_input left stays (byte ∷ line) is_empty test (within, rest) =
+    let some : is_empty ≡ false = test ∙ ne_eqb (suc (length line)) 0 (λ none. omega (arith, none)) in
+    rw some (ends_input left stays (byte ∷ line) within (λ none. absurd (cc)) rest)
 
 pub is_too_long : (left stays : Option (List ℕ)) (text : List ℕ) → IsWithinLine text → Consumes left stays text
     → IsTooLong stays text → BeginsTooLong left

@@ -59,13 +59,13 @@ written_row rows before event text after stands step =
     }
 
 -- deeds that come after rows write their text after them, and the gateway stands after its rows
-record Written (rows : List Row) (before : Standing) (deeds : List Deed) (text : List ℕ) (after : Standing) : Type 0 where
-  now : List Row
-  writes : Writes rows deeds text now
-  stands : StandsAfter now after
-  same : after.stream ≡ before.stream
+pub record Written (rows : List Row) (before : Standing) (deeds : List Deed) (text : List ℕ) (after : Standing) : Type 0 where
+  pub now : List Row
+  pub writes : Writes rows deeds text now
+  pub stands : StandsAfter now after
+  pub same : after.stream ≡ before.stream
 
-written : (rows : List Row) (before : Standing) (deeds : List Deed) (text : List ℕ) (after : Standing)
+pub written : (rows : List Row) (before : Standing) (deeds : List Deed) (text : List ℕ) (after : Standing)
     → StandsAfter rows before → Does before deeds text after → Written rows before deeds text after
 written rows before [] text after stands does = record {
   now = rows;
@@ -281,4 +281,5 @@ outcome (Some bytes) held between holds statuses.OutOfMemory played number halts
 outcome (Some bytes) held between holds statuses.Failed played number halts finishes = tt
 outcome (Some bytes) held between holds statuses.Uncovered played number halts finishes = absurd finishes
 outcome (Some bytes) held between holds statuses.Denied played number halts finishes = absurd finishes
+outcome (Some bytes) held between holds statuses.Unlawful played number halts finishes = absurd finishes
 outcome (Some bytes) held between holds statuses.BadCommandLine played number halts finishes = absurd finishes

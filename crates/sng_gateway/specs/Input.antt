@@ -3,6 +3,8 @@ use Rattle.std.specs.Prelude.{ℕ, ◌≡◌, ◌≢◌, ◌+◌, ◌<◌, Bool,
 use Rattle.std.specs.Io.KnownBytes.{Consumes, IsAtEnd, Keeps}
 use Rattle.sng_gateway.specs.declared.input.Piece.{Piece}
 use Rattle.sng_gateway.specs.declared.input.Piece.TheVariants.{Front, Whole, End}
+use Rattle.sng_gateway.specs.declared.input.LineEnd.{LineEnd}
+use Rattle.sng_gateway.specs.declared.input.LineEnd.TheVariants.{Feed, Input}
 use Rattle.sng_gateway.specs.declared.limits.TheConstants.{MAX_LINE}
 use Rattle.sng_gateway.specs.Scripts.{lines_of}
 
@@ -17,6 +19,17 @@ Takes Front left stays text new =
 Takes Whole left stays text new =
     (front : List ℕ) × (new ≡ text ++ front) × IsWithinLine front × Consumes left stays (front ++ 10 ∷ [])
 Takes End left stays text new = (new ≡ text) × IsAtEnd left × Keeps left stays
+
+-- the line is all that the input had left
+abbrev pub IsRest : (left stays : Option (List ℕ)) (line : List ℕ) → Type 0
+IsRest None stays line = ⊤
+IsRest (Some bytes) None line = ⊥
+IsRest (Some bytes) (Some rest) line = (bytes ≡ line) × (rest ≡ [])
+
+-- the line is taken from the front of the input, with what ended it
+abbrev pub Ends : LineEnd → (left stays : Option (List ℕ)) (line : List ℕ) → Type 0
+Ends Feed left stays line = IsWithinLine line × Consumes left stays (line ++ 10 ∷ [])
+Ends Input left stays line = IsWithinLine line × IsRest left stays line
 
 -- the input goes on for more bytes within the line than the text has room for
 abbrev pub IsTooLong : (left : Option (List ℕ)) (text : List ℕ) → Type 0

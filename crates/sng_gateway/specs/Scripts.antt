@@ -109,6 +109,7 @@ Finishes statuses.OutOfMemory played number held holds =
 Finishes statuses.Failed played number held holds = ⊤
 Finishes statuses.Uncovered played number held holds = ⊥
 Finishes statuses.Denied played number held holds = ⊥
+Finishes statuses.Unlawful played number held holds = ⊥
 Finishes statuses.BadCommandLine played number held holds = ⊥
 
 -- what is written of a script that comes out so, behind what the writer held: the text of its lines; or of
@@ -126,4 +127,5 @@ IsOutcome statuses.OutOfMemory script held holds =
 IsOutcome statuses.Failed script held holds = ⊤
 IsOutcome statuses.Uncovered script held holds = ⊥
 IsOutcome statuses.Denied script held holds = ⊥
+IsOutcome statuses.Unlawful script held holds = ⊥
 IsOutcome statuses.BadCommandLine script held holds = ⊥

@@ -1,12 +1,13 @@
 -- The exit status of a command, and what ends one.
 use Rattle.std.specs.Prelude.{ℕ, Bool, true, false}
 use Rattle.sng_gateway.specs.declared.status.Status.{Status}
-use Rattle.sng_gateway.specs.declared.status.Status.TheVariants.{Done, Uncovered, Denied, Unreadable, BadCommandLine, OutOfMemory, Failed}
+use Rattle.sng_gateway.specs.declared.status.Status.TheVariants.{Done, Uncovered, Denied, Unlawful, Unreadable, BadCommandLine, OutOfMemory, Failed}
 
 abbrev pub code_of : Status → ℕ
 code_of Done = 0
 code_of Uncovered = 1
 code_of Denied = 1
+code_of Unlawful = 1
 code_of Unreadable = 1
 code_of BadCommandLine = 2
 code_of OutOfMemory = 3
@@ -18,6 +19,7 @@ abbrev pub lost : Status → Status
 lost Done = Failed
 lost Uncovered = Failed
 lost Denied = Failed
+lost Unlawful = Failed
 lost Unreadable = Failed
 lost BadCommandLine = BadCommandLine
 lost OutOfMemory = Failed

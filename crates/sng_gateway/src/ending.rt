@@ -16,6 +16,7 @@ pub fn ended(status: Status, is_printed: bool) -> Status
         (Status::Done, false)
         | (Status::Uncovered, false)
         | (Status::Denied, false)
+        | (Status::Unlawful, false)
         | (Status::Unreadable, false)
         | (Status::OutOfMemory, false)
         | (Status::Failed, false) => Status::Failed,

@@ -1,6 +1,6 @@
 //! Reads lines of at most `MAX_LINE` bytes.
 ghost use Rattle.std.specs.Prelude.{◌≡◌, ◌≢◌, ◌++◌, ◌≤◌, ◌<◌, ◌+◌, length, slice_index, take, vec_len, OnOk, OnErr, IfOk, IfNone, IfSome};
-ghost use Rattle.sng_gateway.specs.Input.{BeginsTooLong, IsNextLine, IsTooLong, IsWithinLine, Takes};
+ghost use Rattle.sng_gateway.specs.Input.{BeginsTooLong, Ends, IsNextLine, IsTooLong, IsWithinLine, Takes};
 ghost use Rattle.sng_gateway.specs.declared.limits.TheConstants.{MAX_LINE};
 
 use crate::limits::MAX_LINE;
@@ -17,6 +17,15 @@ enum Piece {
     End,
 }
 
+/// What ended a line.
+#[derive(Clone, Copy, Debug, PartialEq, Eq)]
+pub enum LineEnd {
+    /// Its line feed.
+    Feed,
+    /// The end of the input.
+    Input,
+}
+
 /// Puts the next line in `text`, without its line feed. Whether there was a line: the last one may lack its
 /// line feed. A longer line than `MAX_LINE` is unreadable, and nothing past the limit is kept.
 pub fn read_line<R: BufRead>(reader: &mut R, text: &mut Vec<u8>) -> Result<bool, Stop>
@@ -25,12 +34,26 @@ pub fn read_line<R: BufRead>(reader: &mut R, text: &mut Vec<u8>) -> Result<bool,
         IsNextLine is_line (R.remaining reader.old) (R.remaining reader.new) text.new.items) }
     ensures long { result ≡ Err Stop.Unreadable → BeginsTooLong (R.remaining reader.old) }
 {
+    match read_to_end_of_line(reader, text)? {
+        LineEnd::Feed => Ok(true),
+        LineEnd::Input => Ok(!text.is_empty()),
+    }
+}
+
+/// Puts what the input has up to the end of a line in `text`, without a line feed, and tells which end that
+/// was. A longer line than `MAX_LINE` is unreadable, and nothing past the limit is kept.
+pub fn read_to_end_of_line<R: BufRead>(reader: &mut R, text: &mut Vec<u8>) -> Result<LineEnd, Stop>
+    ensures within { vec_len text.new ≤ MAX_LINE }
+    ensures ok { IfOk result (λ end.
+        Ends end (R.remaining reader.old) (R.remaining reader.new) text.new.items) }
+    ensures long { result ≡ Err Stop.Unreadable → BeginsTooLong (R.remaining reader.old) }
+{
     text.clear();
     for _ in 0..u64::MAX {
         match read_piece(reader, text)? {
             Piece::Front => {}
-            Piece::Whole => return Ok(true),
-            Piece::End => return Ok(!text.is_empty()),
+            Piece::Whole => return Ok(LineEnd::Feed),
+            Piece::End => return Ok(LineEnd::Input),
         }
     }
     Err(Stop::Failed)
@@ -68,7 +91,7 @@ fn read_piece<R: BufRead>(reader: &mut R, text: &mut Vec<u8>) -> Result<Piece, S
 }
 
 /// The place of the first line feed.
-fn line_feed_in(bytes: &[u8]) -> Option<usize>
+pub fn line_feed_in(bytes: &[u8]) -> Option<usize>
     ensures found { IfSome result (λ at. at < length bytes.now) }
     ensures before { IfSome result (λ at. IsWithinLine (take at bytes.now)) }
     ensures there { IfSome result (λ at. slice_index bytes.now at ≡ 10) }

@@ -80,6 +80,13 @@ impl Player {
         })
     }
 
+    /// How many rows it made.
+    pub fn rows(&self) -> u64
+        ensures { result ≡ (standing self.now).rows }
+    {
+        self.rows
+    }
+
     /// Plays one line, without its line feed, and prints what comes of it. That goes out once it is whole:
     /// where an allocation fails between two packets of the line, nothing of it is printed. Steps may have
     /// been taken then, so the player is not to be played on. A line that cannot be read prints nothing and

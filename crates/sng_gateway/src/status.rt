@@ -11,6 +11,8 @@ pub enum Status {
     Uncovered,
     /// What was asked for is not allowed.
     Denied,
+    /// The book is not that of the script.
+    Unlawful,
     /// A line or a word of the input could not be read.
     Unreadable,
     /// The command line is not one of the program's.
@@ -22,8 +24,8 @@ pub enum Status {
 }
 
 impl Status {
-    /// The exit status: 0 for `Done`, 1 for `Uncovered`, `Denied` and `Unreadable`, 2 for `BadCommandLine`, 3
-    /// for `OutOfMemory`, 4 for `Failed`.
+    /// The exit status: 0 for `Done`, 1 for `Uncovered`, `Denied`, `Unlawful` and `Unreadable`, 2 for
+    /// `BadCommandLine`, 3 for `OutOfMemory`, 4 for `Failed`.
     pub fn code(self) -> u8
         ensures { result ≡ code_of self }
     {
@@ -31,6 +33,7 @@ impl Status {
             Status::Done => 0,
             Status::Uncovered => 1,
             Status::Denied => 1,
+            Status::Unlawful => 1,
             Status::Unreadable => 1,
             Status::BadCommandLine => 2,
             Status::OutOfMemory => 3,

@@ -1,19 +1,11 @@
-use Rattle.std.proofs.Common.{◌≡◌, ◌==◌, length, Err, rules}
-use Rattle.sng_gateway.specs.declared.player.Stop.TheVariants.{Unreadable}
-use Rattle.sng_gateway.proofs.InputLemmas.{is_too_long, last_line, whole_line}
+use Rattle.std.proofs.Common.{◌≡◌, ◌==◌, length, rules}
+use Rattle.sng_gateway.proofs.InputLemmas.{line_by_feed, line_by_input}
 use Rattle.sng_gateway.proofs.input.read_line.Goals as goal
 
-pub returns-in_err-read_piece-clause-long : goal.returns-in_err-read_piece-clause-long
-returns-in_err-read_piece-clause-long g c = λ is.
-    let stopped : c.read_piece.result ≡ Err Unreadable = search rules in
-    is_too_long _ _ _ c.loop.invariant.within c.loop.invariant.taken (c.read_piece.ensures.long stopped)
+pub returns-in-Feed-clause-ok : goal.returns-in-Feed-clause-ok
+returns-in-Feed-clause-ok g c = line_by_feed _ _ _ (rw c.in-Feed.is at c.in_ok-read_to_end_of_line.ensures.ok)
 
-pub returns-in-Whole-clause-ok : goal.returns-in-Whole-clause-ok
-returns-in-Whole-clause-ok g c =
-    whole_line _ _ _ _ _ c.loop.invariant.within c.loop.invariant.taken (rw c.in-Whole.is at c.in_ok-read_piece.ensures.ok)
-
-pub returns-in-End-clause-ok : goal.returns-in-End-clause-ok
-returns-in-End-clause-ok g c =
-    let empty : c.is_empty.result ≡ (length c.read_piece.new.text.items == 0) = search rules in
-    last_line _ _ _ _ _ c.is_empty.result empty c.loop.invariant.within c.loop.invariant.taken
-    (rw c.in-End.is at c.in_ok-read_piece.ensures.ok)
+pub returns-in-Input-clause-ok : goal.returns-in-Input-clause-ok
+returns-in-Input-clause-ok g c =
+    let empty : c.is_empty.result ≡ (length c.read_to_end_of_line.new.text.items == 0) = search rules in
+    line_by_input _ _ _ c.is_empty.result empty (rw c.in-Input.is at c.in_ok-read_to_end_of_line.ensures.ok)

@@ -2,7 +2,7 @@ use Rattle.std.proofs.Common.{◌≤◌, vec_len}
 use Rattle.std.specs.Io.KnownBytes.{Consumes}
 use Rattle.sng_gateway.specs.declared.limits.TheConstants.{MAX_LINE}
 use Rattle.sng_gateway.specs.Input.{IsWithinLine}
-use Rattle.sng_gateway.proofs.input.read_line.Given as goal
+use Rattle.sng_gateway.proofs.input.read_to_end_of_line.Given as goal
 
 abbrev pub invariant-loop : goal.invariant-loop
 invariant-loop g l = record {

@@ -1,0 +1,5 @@
+pub mod Books
+pub mod Mismatches
+pub mod Comparing
+pub mod Judging
+pub mod Reports
