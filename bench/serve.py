@@ -5,8 +5,8 @@ Measures `sng serve` on loopback (SNG is the build that `rt run` leaves in crate
 given), beside a plain relay of UDP to TCP that decides and keeps nothing (serve.c, built on the spot by
 `cc -O2`). Prints how many PUBLISHes a second reach the broker at QoS -1 and at QoS 1, with 1, 2 and 4
 workers; how many messages of the broker a second reach 1, 10 and 100 devices; the median and the 99th percentile of a
-round trip in microseconds; and the memory of a row. Each figure is of payloads of 32 bytes, the best of
-several runs. The ratios are to the relay of the same run."""
+round trip in microseconds; the memory of a row; and what an idle gateway uses of a processor. Each figure is
+of payloads of 32 bytes, that of the run in the middle of several; relay and gateway take turns."""
 import json
 import os
 import re
@@ -14,12 +14,15 @@ import socket
 import subprocess
 import sys
 import tempfile
+import time
+from functools import partial
 
 HERE = os.path.dirname(os.path.abspath(__file__))
 PROVED = os.path.join(os.path.dirname(HERE), 'crates', 'sng', 'out', 'sng')
 HOST = '127.0.0.1'
-RUNS = 3
+ROUNDS = 5
 SECONDS = 60
+IDLE_SECONDS = 20
 MINUS, ONE, TRIPS = '100000', '30000', '10000'
 POLICY = {'version': 1, 'sources': {HOST: [['ab', ['pub']]]},
           'clients': dict({'s1': [['t/1', ['pub']]]}, **{'d%03d' % k: [['ab', ['sub']]] for k in range(100)})}
@@ -38,6 +41,11 @@ def figures(text):
 def resident(pid):
     with open('/proc/%d/status' % pid) as status:
         return int(re.search(r'VmRSS:\s+(\d+)', status.read())[1]) * 1024
+
+
+def processor_seconds(pid):
+    with open('/proc/%d/stat' % pid) as stat:
+        return sum(map(int, stat.read().rsplit(')', 1)[1].split()[11:13])) / os.sysconf('SC_CLK_TCK')
 
 
 def by_relay(tool, words):
@@ -60,21 +68,33 @@ def by_relay(tool, words):
                 process.wait()
 
 
+def begun(gateway):
+    """The port of the devices, once the policy is in force and the broker is connected."""
+    udp, awaited = None, {'policy in force', 'connected'}
+    for line in gateway.stderr:
+        found = re.search(r'listening on [\d.]+:(\d+)', line)
+        udp = int(found[1]) if found else udp
+        awaited = {what for what in awaited if what not in line}
+        if not awaited:
+            break
+    time.sleep(0.2)
+    return udp
+
+
+def started(sng, policy, workers, port):
+    words = ['--listen', HOST + ':0', '--broker', '%s:%d' % (HOST, port), '--id', 'gw1', '--workers',
+             str(workers), '--policy', policy]
+    return subprocess.Popen([sng, 'serve', *words], stdin=subprocess.PIPE, stdout=subprocess.PIPE,
+                            stderr=subprocess.PIPE, text=True)
+
+
 def by_gateway(tool, sng, policy, workers, words):
     port = free_port(socket.SOCK_STREAM)
     driver = subprocess.Popen([tool, words[0], str(port), *words[1:]], stdin=subprocess.PIPE,
                               stdout=subprocess.PIPE, text=True, env=dict(os.environ, SESSION='1'))
-    words = ['--listen', HOST + ':0', '--broker', '%s:%d' % (HOST, port), '--id', 'gw1', '--workers',
-             str(workers), '--policy', policy]
-    gateway = subprocess.Popen([sng, 'serve', *words], stdin=subprocess.PIPE, stdout=subprocess.PIPE,
-                               stderr=subprocess.PIPE, text=True)
+    gateway = started(sng, policy, workers, port)
     try:
-        udp = None
-        for line in gateway.stderr:
-            found = re.search(r'listening on [\d.]+:(\d+)', line)
-            udp = int(found[1]) if found else udp
-            if 'connected' in line:
-                break
+        udp = begun(gateway)
         before = resident(gateway.pid)
         came = figures(driver.communicate('%d\n' % udp, timeout=SECONDS)[0])
         after = resident(gateway.pid)
@@ -88,9 +108,26 @@ def by_gateway(tool, sng, policy, workers, words):
                 process.wait()
 
 
-def best(run):
-    """The best of several runs, by its rate."""
-    return max((run() for _ in range(RUNS)), key=lambda came: came.get('rate', 0))
+def idle(tool, sng, policy, workers):
+    """Which part of a processor a gateway uses to which nothing comes."""
+    port = free_port(socket.SOCK_STREAM)
+    driver = subprocess.Popen([tool, 'minus', str(port), '1'], stdin=subprocess.PIPE, stdout=subprocess.DEVNULL)
+    gateway = started(sng, policy, workers, port)
+    try:
+        begun(gateway)
+        before = processor_seconds(gateway.pid)
+        time.sleep(IDLE_SECONDS)
+        return (processor_seconds(gateway.pid) - before) / IDLE_SECONDS
+    finally:
+        for process in (driver, gateway):
+            process.kill()
+            process.wait()
+
+
+def middles(runs):
+    """Of several rounds, in each of which the runs take turns, the run in the middle by its rate, of each."""
+    rounds = [[run() for run in runs] for _ in range(ROUNDS)]
+    return [sorted(came, key=lambda one: one['rate'])[ROUNDS // 2] for came in zip(*rounds)]
 
 
 def show(name, came, scale=None):
@@ -115,16 +152,17 @@ def main():
             json.dump(POLICY, file)
         for title, words in (('QoS -1', ['minus', MINUS]), ('QoS 1, 32 on the way', ['one', ONE, '32']),
                              ('QoS 1, one at a time', ['one', TRIPS, '1'])):
-            scale = best(lambda words=words: by_relay(tool, words))
+            scale, *others = middles([partial(by_relay, tool, words)] + [
+                partial(by_gateway, tool, sng, policy, workers, words) for workers in (1, 2, 4)])
             show(title + ': relay', scale)
-            for workers in (1, 2, 4):
-                came = best(lambda words=words, workers=workers: by_gateway(
-                    tool, sng, policy, workers, words))
+            for workers, came in zip((1, 2, 4), others):
                 show('%s: sng, workers %d' % (title, workers), came, scale)
         for devices in (1, 10, 100):
             words = ['fan', str(max(200, 20000 // devices)), str(devices)]
-            show('to %d devices: sng, workers 2' % devices, best(lambda words=words: by_gateway(
-                tool, sng, policy, 2, words)))
+            came, = middles([partial(by_gateway, tool, sng, policy, 2, words)])
+            show('to %d devices: sng, workers 2' % devices, came)
+        for workers in (1, 8):
+            print('idle, workers %d: %.4f of a processor' % (workers, idle(tool, sng, policy, workers)))
 
 
 if __name__ == '__main__':

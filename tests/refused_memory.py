@@ -6,7 +6,8 @@ until two turns in a row refuse none or TURNS are made. A test that meets the re
 of memory, or at a comparison whose left side is one; where it ends otherwise, what is said of it is printed,
 and the exit status is 1.
 
-NAMEs are those of the files in tests/calls; without any it takes them all, in one build a turn. A turn
+NAMEs are those of the files in tests/calls; without any it takes them all, in one build a turn, but
+sng_serve: there a worker on a thread of its own meets the refusal, and goes on without what it wanted. A turn
 takes half a minute for one file and some two minutes for all, so the gate leaves this out."""
 import re
 import sys
@@ -54,7 +55,8 @@ def refuse(names):
 
 
 def main():
-    return 0 if refuse(sys.argv[1:]) else 1
+    names = sys.argv[1:] or [name for name in calls.files([]) if name != 'sng_serve']
+    return 0 if refuse(names) else 1
 
 
 if __name__ == '__main__':

@@ -2,19 +2,19 @@
 #![tactic(auto)]
 
 pub mod ask;
-mod beats;
-mod bell;
+pub mod beats;
+pub mod bell;
 mod closing;
-mod hub;
+pub mod hub;
 pub mod limits;
-mod link;
-mod opening;
+pub mod link;
+pub mod opening;
 mod peer;
 mod policies;
 mod printing;
 pub mod serving;
-mod socket;
-mod switch;
+pub mod socket;
+pub mod switch;
 mod tell;
 pub mod testing;
 

@@ -30,6 +30,7 @@ pub struct OperatorPolicies<'a, R: Input + Print + Eprint + Files + AllocGlobal>
     /// The text of a policy that was read before.
     first: Option<Vec<u8>>,
     has_ended: bool,
+    lost_input: bool,
 }
 
 impl<'a, R: Input + Print + Eprint + Files + AllocGlobal> OperatorPolicies<'a, R> {
@@ -52,7 +53,15 @@ impl<'a, R: Input + Print + Eprint + Files + AllocGlobal> OperatorPolicies<'a, R
             file,
             first,
             has_ended: false,
+            lost_input: false,
         })
+    }
+
+    /// Whether standard input could not be read.
+    pub fn has_lost_input(&self) -> bool
+        ensures { result ≡ self.now.lost_input }
+    {
+        self.lost_input
     }
 
     /// What the next line asks for. The end of the input stops all where no file has the policy.
@@ -69,6 +78,7 @@ impl<'a, R: Input + Print + Eprint + Files + AllocGlobal> OperatorPolicies<'a, R
             }
             Err(_) => {
                 tell(self.rt, "standard input cannot be read");
+                self.lost_input = true;
                 self.end(true)
             }
         }

@@ -149,7 +149,8 @@ fn run<
     })
 }
 
-/// Holds what the workers left against the book, and prints what comes of it.
+/// Holds what the workers left against the book, and prints what comes of it. Where standard input could not
+/// be read, nothing is printed.
 fn finish<R: Clock + Net + Files + Input + Print + Eprint + AllocGlobal>(
     rt: &R,
     desk: Desk,
@@ -157,10 +158,14 @@ fn finish<R: Clock + Net + Files + Input + Print + Eprint + AllocGlobal>(
     printed: bool,
 ) -> Status {
     match ran {
-        Ok(ended) => match accounts_of(rt, ended) {
-            Ok(accounts) => tell_closed(rt, accounts.close(desk), printed),
-            Err(AllocError) => report(rt, &Fault::Memory),
-        },
+        Ok(ended) => {
+            let lost_input = ended.policies.source.has_lost_input();
+            match accounts_of(rt, ended) {
+                Ok(_) if lost_input => Status::Failed,
+                Ok(accounts) => tell_closed(rt, accounts.close(desk), printed),
+                Err(AllocError) => report(rt, &Fault::Memory),
+            }
+        }
         Err(NotStarted) => tell_closed(rt, None, printed),
     }
 }

@@ -32,11 +32,12 @@ const READ_BYTES: usize = 65536;
 
 /// The test broker with its connections.
 #[derive(Drop)]
-struct Server {
+pub struct Server {
     alloc: Global,
     poll: Poll,
     events: Events,
     listener: TcpListener,
+    address: SocketAddr,
     core: BrokerCore,
     peers: Vec<Peer>,
     /// The number of the next connection.
@@ -60,7 +61,7 @@ pub fn broker<R: Wait + Net + Print + Eprint + AllocGlobal>(rt: &R, listen: &str
 }
 
 /// A broker that listens.
-fn open<R: Net + Eprint + AllocGlobal>(rt: &R, address: SocketAddr) -> io::Result<Server> {
+pub fn open<R: Net + Eprint + AllocGlobal>(rt: &R, address: SocketAddr) -> io::Result<Server> {
     let alloc = rt.alloc();
     let poll = Poll::new(rt)?;
     let mut listener = TcpListener::bind(rt, address)?;
@@ -73,6 +74,7 @@ fn open<R: Net + Eprint + AllocGlobal>(rt: &R, address: SocketAddr) -> io::Resul
         poll,
         events: Events::with_capacity(alloc, EVENTS)?,
         listener,
+        address,
         core: BrokerCore::new(alloc),
         peers: Vec::new(alloc),
         next: 1,
@@ -92,8 +94,13 @@ fn serve_on<R: Wait + Eprint + AllocGlobal>(rt: &R, mut server: Server) -> Statu
 }
 
 impl Server {
+    /// Where it listens.
+    pub fn address(&self) -> SocketAddr {
+        self.address
+    }
+
     /// Takes new connections, what came from each, and passes on what waits.
-    fn turn(&mut self) -> io::Result<()> {
+    pub fn turn(&mut self) -> io::Result<()> {
         self.accept_all();
         let mut is_busy = false;
         for place in 0..self.peers.len() {

@@ -1,0 +1,201 @@
+"""Cases of tests/live.py: how the program starts and ends, its policies, and brokers that fail."""
+import os
+import socket
+import subprocess
+import time
+
+from live_parts import HOST, free_port, wanted
+from live_sessions import S1, SOURCE
+
+
+def a_broker_that_comes_back(room):
+    broker = room.broker()
+    gateway = room.gateway(broker.port, policy=SOURCE)
+    device = room.device(gateway)
+    broker.kill()
+    gateway.line('err', 'lost: ')
+    gateway.line('err', 'trying again in 200 ms')
+    device.publish_short('ab', b'lost')
+    gateway.line('out', 'note publish .* 21 UpstreamDown')
+    anew = room.broker(broker.port)
+    gateway.line('err', 'connected', count=2)
+    heard = room.subscriber(anew, 'ab', 1)
+    device.publish_short('ab', b'again')
+    wanted(heard.ended() == 0 and 'got ab again' in heard.lines['out'], 'the message')
+    gateway.close()
+    wanted(len([line for line in gateway.lines['out'] if line.endswith(' up')]) == 2, 'two rows up')
+    wanted(len([line for line in gateway.lines['out'] if line.endswith(' down')]) == 1, 'one row down')
+
+
+def a_subscription_outlives_the_broker(room):
+    broker = room.broker()
+    gateway = room.gateway(broker.port, policy=S1)
+    device = room.device(gateway)
+    device.connect('s1')
+    device.subscribe('t/#')
+    gateway.line('out', '^wire 82')
+    broker.kill()
+    gateway.line('err', 'lost: ')
+    room.broker(broker.port)
+    gateway.line('out', '^wire 82', count=2)
+    gateway.line('out', '^row .* broker', count=2)
+    room.publish(broker, 't/2', 'anew')
+    device.handed(device.announced('t/2'), b'anew')
+    gateway.close()
+
+
+def a_broker_that_refuses(room):
+    broker = room.broker(anonymous=False)
+    gateway = room.gateway(broker.port, '--tries', '2', policy=SOURCE, connected=False)
+    gateway.line('err', 'refused with code 5; trying again in 200 ms')
+    gateway.line('err', 'refused with code 5; gave up after 2 tries')
+    room.device(gateway).publish_short('ab', b'x')
+    gateway.line('out', 'note publish .* 21 UpstreamDown')
+    gateway.close()
+
+
+def an_unreachable_broker(room):
+    gateway = room.gateway(free_port(), '--tries', '3', policy=SOURCE, connected=False)
+    gateway.line('err', 'gave up after 3 tries')
+    room.device(gateway).publish_short('ab', b'x')
+    gateway.line('out', 'note publish .* 21 UpstreamDown')
+    gateway.close()
+
+
+def a_broker_that_says_nothing(room):
+    with socket.socket() as mute:
+        mute.bind((HOST, 0))
+        mute.listen(5)
+        gateway = room.gateway(mute.getsockname()[1], '--tries', '1', connected=False)
+        gateway.line('err', 'no CONNACK in time; gave up after 1 tries')
+        gateway.close()
+
+
+def a_hostile_broker(room):
+    with socket.socket() as hostile:
+        hostile.bind((HOST, 0))
+        hostile.listen(5)
+        gateway = room.gateway(hostile.getsockname()[1], '--tries', '2', connected=False)
+        peer, _ = hostile.accept()
+        peer.sendall(b'\x20\x02\x00\x00' + b'\xf0' * 9000)
+        gateway.line('err', 'lost: ')
+        again, _ = hostile.accept()
+        again.sendall(b'HTTP/1.1 400 Bad Request\r\n\r\n')
+        gateway.line('err', 'trying again|gave up')
+        gateway.close()
+        peer.close()
+        again.close()
+
+
+def a_policy_of_a_file(room):
+    broker = room.broker()
+    path = room.file('policy.json', '{"version":1,\n"clients":{"s1":[["t/#",["pub","sub"]]]}}\n')
+    gateway = room.gateway(broker.port, '--policy', path)
+    gateway.line('err', 'policy in force: 1 clients, 0 sources, 0 topics')
+    device = room.device(gateway)
+    device.connect('s1')
+    room.file('policy.json', '{"version":1,"clients":{"s1":[["t+",["pub"]]]}}')
+    gateway.say('reload')
+    gateway.line('out', '^refused policy 3 BadFilter$')
+    gateway.line('err', 'policy refused: BadFilter')
+    room.file('policy.json', '{"version":1}')
+    gateway.say('reload')
+    gateway.line('err', 'policy in force: 0 clients')
+    gateway.line('out', '^row .* replace$', count=2)
+    room.device(gateway).connect('s1', code=3)
+    gateway.close()
+
+
+def the_end_of_the_input(room):
+    gateway = room.gateway(free_port(), connected=False)
+    gateway.child.stdin.close()
+    wanted(gateway.ended() == 0, 'status 0')
+    wanted(gateway.lines['out'][-1].startswith('closed '), 'rows that are closed')
+
+
+def a_service_without_input(room):
+    path = room.file('policy.json', '{"version":1}')
+    gateway = room.gateway(free_port(), '--policy', path, connected=False)
+    gateway.child.stdin.close()
+    gateway.line('out', '^row .* tick$')
+    wanted(gateway.child.poll() is None, 'a gateway that goes on')
+    room.device(gateway).connect('s1', code=3)
+    gateway.kill()
+
+
+def a_test_broker_that_does_not_open(room):
+    with socket.socket() as taken:
+        taken.bind((HOST, 0))
+        taken.listen(1)
+        busy = '%s:%d' % taken.getsockname()
+        for word, printed in ((busy, 'cannot open %s\n' % busy), ('x', 'bad address x\n')):
+            status, came = room.run('broker', '--listen', word)
+            wanted((status, came) == (1, printed), '%r, and not %d: %r' % (printed, status, came))
+
+
+def the_version(room):
+    status, came = room.run('--version')
+    kit = subprocess.run(['rt', 'version'], stdin=subprocess.DEVNULL, stdout=subprocess.PIPE, timeout=60,
+                         check=True, text=True)
+    printed = 'sng 0.1.0, proved by %s\n' % kit.stdout.strip()
+    wanted((status, came) == (0, printed), '%r, and not %d: %r' % (printed, status, came))
+
+
+def a_start_that_fails(room):
+    path = room.file('policy.json', '{"version":1,"clients":{"s1":[["t+",["pub"]]]}}')
+    with socket.socket(socket.AF_INET, socket.SOCK_DGRAM) as taken:
+        taken.bind((HOST, 0))
+        busy = '%s:%d' % taken.getsockname()
+        good = ['--listen', HOST + ':0', '--broker', HOST + ':1883', '--id', 'gw1', '--workers', '1']
+
+        def case(at, word, more, status, printed):
+            words = good[:at] + [word] + good[at + 1:] if at is not None else good
+            came = room.run('serve', *words, *more)
+            wanted(came == (status, printed), '%r: %r, and not %r' % (words + more, (status, printed), came))
+        case(1, 'localhost:1', [], 1, 'bad address localhost:1\n')
+        case(3, '127.0.0.1', ['--policy', path], 1, 'bad address 127.0.0.1\n')
+        case(5, '', ['--policy', path], 1, 'bad id\n')
+        case(5, 'x' * 24, [], 1, 'bad id\n')
+        case(1, busy, [], 1, 'cannot open %s\n' % busy)
+        case(1, busy, ['--policy', path], 1,
+             'refused policy 3 BadFilter\na filter in a scope is not a valid topic filter, or is too long\n'
+             'at clients.s1[0][0]: "t+": wildcard \'+\' inside a level\n')
+        case(None, '', ['--policy', path + 'x'], 1,
+             'cannot read %sx: No such file or directory (os error 2)\n' % path)
+        for number in ('0', '9', 'x'):
+            case(7, number, [], 2, '')
+
+
+def an_input_that_cannot_be_read(room):
+    policy, long = room.file('policy.json', '{"version":1}'), room.file('long', '')
+    os.truncate(long, 64 * 1024 * 1024 + 1)
+    for path, more in ((room.folder, []), (room.folder, ['--policy', policy]), (long, [])):
+        source = os.open(path, os.O_RDONLY)
+        try:
+            gateway = room.gateway(free_port(), *more, connected=False, verbose=False, stdin=source)
+        finally:
+            os.close(source)
+        status, came = gateway.ended(), gateway.lines['out']
+        wanted((status, came) == (4, []), 'status 4 and no text, and not %d: %r' % (status, came))
+        gateway.line('err', '^sng: standard input cannot be read$')
+
+
+def a_full_disk(room):
+    with open('/dev/full', 'wb') as full:
+        gateway = room.gateway(free_port(), connected=False, stdout=full)
+        room.device(gateway).connect('s1', code=3)
+        gateway.say('quit')
+        wanted(gateway.ended() == 4, 'status 4')
+
+
+def idle(room):
+    broker = room.broker()
+    gateway = room.gateway(broker.port, workers=8, verbose=False)
+    with open('/proc/%d/stat' % gateway.child.pid) as stat:
+        before = sum(map(int, stat.read().rsplit(')', 1)[1].split()[11:13]))
+    time.sleep(3)
+    with open('/proc/%d/stat' % gateway.child.pid) as stat:
+        after = sum(map(int, stat.read().rsplit(')', 1)[1].split()[11:13]))
+    gateway.close(verbose=False)
+    used = (after - before) / os.sysconf('SC_CLK_TCK')
+    wanted(used <= 0.1, 'no more than 0.1 s of a processor in 3 s, and not %.2f' % used)
