@@ -7,7 +7,8 @@ gateway_model.py.
 
 `lawful N rows` is printed, with status 0, where all of the book is lawful. Else it is the first line that
 is not, with what stands there, what is due, and the law that is broken, with status 1; and so it is where
-the book is cut off, or goes on behind its end. It is slow: each row looks back through all rows before it.
+the book is cut off, or goes on behind its end. Each row looks back through all rows before it, with memory of
+what was found there.
 """
 import sys
 

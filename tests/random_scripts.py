@@ -10,8 +10,9 @@ SEED (0) on, N (300) of them, so that each run plays the same ones; with --show 
 A few addresses, clients and names meet often, and a few long scripts fill what is limited. Some lines need
 to fit what the lines before them led to, as an answer of a client has to fit what it was sent: the model
 tells that, too. A script that is answered otherwise is printed with its seed and the first line that differs,
-and the exit status is 1. So it is where the first 300 scripts meet not all of MET: then they are too tame. A
-new kind of line is a function of World here, with its line in WEIGHTS, and a method of the model.
+and the exit status is 1. So it is where the first 300 scripts meet not all of MET, here and in
+replacements.py: then they are too tame. A new kind of line is a function of World here, with its line in
+WEIGHTS, and a method of the model.
 """
 import argparse
 import base64
@@ -27,6 +28,7 @@ import tempfile
 sys.dont_write_bytecode = True
 import end_to_end
 import gateway_model
+import replacements
 
 SCRIPTS, SECONDS, MOST_SHOWN = 300, 120, 1000
 # `rt try` gives no answer beyond 1 MiB of output
@@ -225,29 +227,34 @@ WEIGHTS = {
     'broker_fault': 2, 'turn': 4, 'empty': 0.5, 'answer': 6, 'delivery': 18, 'burst': 0.4,
     'busy_connect': 1, 'busy_disconnect': 0.5, 'tick': 3, 'lapse': 0.5, 'will_connect': 3, 'will_update': 3,
     'stray_will': 1, 'last_will': 0.5, 'published_will': 1.5, 'sign_of_life': 1, 'sleep': 2, 'wake': 4,
-    'nap': 5, 'late': 1.5, 'late_and_denied': 1,
+    'nap': 5, 'late': 1.5, 'late_and_denied': 1, 'withdrawal': 3,
 }
 # Those that no script leaves out, and those that some scripts are about
 ALWAYS = ('policy', 'up', 'take', 'connect', 'register', 'publish', 'subscribe')
 SUBSCRIBING = ('policy', 'subscribe', 'unsubscribe', 'broker_suback', 'take')
 STATING_WILLS = ('policy', 'tick', 'lapse', 'connect', 'will_connect', 'will_update', 'published_will',
                  'delivery')
-SLEEPING = ('policy', 'subscribe', 'delivery', 'wake', 'nap', 'late', 'late_and_denied')
+SLEEPING = ('policy', 'withdrawal', 'subscribe', 'delivery', 'wake', 'nap', 'late', 'late_and_denied')
 # What decides over what waits for the broker, is in flight there or stands, and over what waits for clients
-TURNS = ('publish', 'source_publish', 'policy', 'take', 'down', 'up', 'subscribe', 'unsubscribe',
-         'broker_suback')
-FATES = ('policy', 'policy', 'less_policy', 'less_policy', 'busy_connect', 'busy_connect', 'busy_disconnect',
-         'unsubscribe', 'broker_suback', 'broker_publish', 'broker_publish', 'register', 'subscribe', 'answer',
-         'lapse', 'will_connect', 'late', 'late', 'late', 'sleep', 'wake', 'wake')
+TURNS = ('publish', 'source_publish', 'policy', 'withdrawal', 'take', 'down', 'up', 'subscribe',
+         'unsubscribe', 'broker_suback')
+FATES = ('policy', 'policy', 'less_policy', 'less_policy', 'withdrawal', 'withdrawal', 'busy_connect',
+         'busy_connect', 'busy_disconnect', 'unsubscribe', 'broker_suback', 'broker_publish',
+         'broker_publish', 'register', 'subscribe', 'answer', 'lapse', 'will_connect', 'late', 'late', 'late',
+         'sleep', 'wake', 'wake')
 # What may come between the frames of a dialogue about a will
 BREAKS = ('policy',) * 3 + ('less_policy',) * 9 + (
     'busy_connect', 'busy_disconnect', 'lapse', 'tick', 'pingreq', 'register', 'publish', 'subscribe',
     'unsubscribe', 'will_update', 'broker_publish', 'answer')
+# What may come between two policies, and what behind them
+BETWEEN = ('answer', 'late', 'take', 'wake', 'sleep', 'broker_publish')
+BEHIND = ('answer', 'answer', 'answer', 'late', 'late', 'sleep', 'wake', 'take')
 # What may come just before a client is lost, whether it is heard by that or not
 SIGNS = ('source_publish', 'source_publish', 'malformed', 'other_frame', 'pingreq', 'register', 'bad_connect',
          'answer')
 # What may become of a will that waits for the broker
-PUBLISHED = (['take'], ['policy', 'take'], ['down', 'up', 'take'], ['take', 'policy', 'up'])
+PUBLISHED = (['take'], ['policy', 'take'], ['withdrawal', 'take'], ['down', 'up', 'take'],
+             ['take', 'policy', 'up'])
 
 
 def frame(kind, *parts, is_long=False):
@@ -424,11 +431,10 @@ class World:
     def less_policy(self, name=None):
         """The policy in force, in which this client, or else mostly one that has to answer something, is not
         listed any more, has lost one of the permissions, or has only some names left."""
-        busy, policy = self.busy(), self.gateway.policy
+        busy = self.busy()
         name = name or (busy.name if busy and self.chance(0.7) else self.client())
         kept, change = {'pub', 'sub'}, self.one(('unlisted', 'pub', 'sub', 'names', 'names', 'names'))
-        clients, sources = [{who.decode(): [[pattern.decode(), sorted(words)] for pattern, words in scope]
-                             for who, scope in scopes.items()} for scopes in (policy.clients, policy.sources)]
+        clients, sources, topics = self.in_force()
         scope = clients.pop(name.decode(), [])
         if change == 'names':
             names = self.names + ['n/%d' % it for it in range(1, self.fresh + 4)]
@@ -436,7 +442,28 @@ class World:
         if change != 'unlisted':
             kept = {change} if change in kept else kept
             clients[name.decode()] = [[pattern, sorted(kept.intersection(words))] for pattern, words in scope]
-        return self.policy_of(clients, sources, {str(it): name.decode() for it, name in policy.topics.items()})
+        return self.policy_of(clients, sources, topics)
+
+    def in_force(self):
+        """The clients, sources and topics of the policy in force."""
+        policy = self.gateway.policy
+        clients, sources = [{who.decode(): [[pattern.decode(), sorted(words)] for pattern, words in scope]
+                             for who, scope in scopes.items()} for scopes in (policy.clients, policy.sources)]
+        return clients, sources, {str(it): name.decode() for it, name in policy.topics.items()}
+
+    def withdrawal(self):
+        """A policy takes away from a client with which something is under way, if there is one, and mostly
+        another one gives it back. Then what decides about that may come, and may come between the two."""
+        busy = self.busy()
+        waited_for = [client for client in self.present() if client.queue]
+        client = busy if busy and self.chance(0.7) else self.one(waited_for or [busy])
+        given = self.policy_of(*self.in_force())
+        self.lines.append(self.less_policy(client and client.name))
+        if self.chance(0.2):
+            self.say(self.one(BETWEEN))
+        if self.chance(0.7):
+            self.lines.append(given)
+        self.say(*[self.one(BEHIND)] * self.chance(0.6))
 
     def policy_of(self, clients, sources, topics):
         parts = {'version': 1, 'clients': clients, 'sources': sources, 'topics': topics}
@@ -662,9 +689,10 @@ class World:
         return self.sent(kind, topic_id, msg_id, code, address=address)
 
     def sleep(self):
-        """A client that has a session sleeps, if there is one."""
-        present = self.present()
-        address = self.one(present).address.decode() if present else None
+        """A client that has a session sleeps, if there is one, at times one that has to answer something."""
+        present, busy = self.present(), self.busy()
+        client = busy if busy and self.chance(0.5) else self.one(present or [None])
+        address = client.address.decode() if client else None
         return self.sent(0x18, self.duration(), address=address)
 
     def wake(self):
@@ -883,12 +911,17 @@ class World:
 # Whole scripts
 
 
-def mixed(world):
-    """A short script of everything."""
+def begun(world):
+    """Mostly clients connect and subscribe first."""
     if world.chance(0.9):
         world.say('policy', 'up', *['connect'] * 3 * len(world.clients))
         if world.chance(0.7):
             world.say(*['subscribe'] * world.among(2, 8), 'take')
+
+
+def mixed(world):
+    """A short script of everything."""
+    begun(world)
     world.go_on(world.among(30, 80))
     if world.chance(0.05):
         world.lines += [world.one(UNREADABLE), 'up']
@@ -930,7 +963,7 @@ def many_messages(world):
     """Clients hold a few filters, and the broker publishes more than they answer at times."""
     heavy(world, 400, subscribe=4, subscribe_to_all=2, connect=1, broker_publish=20, burst=0.5, answer=40,
           policy=1, busy_connect=1, busy_disconnect=0.5, delivery=5, tick=2, lapse=0.5, will_connect=0.5,
-          sleep=1, wake=2, late=2, late_and_denied=0.5)
+          sleep=1, wake=2, late=2, late_and_denied=0.5, withdrawal=2)
 
 
 def many_wills(world):
@@ -942,7 +975,7 @@ def many_wills(world):
 def many_naps(world):
     """Clients sleep and wake up, and answer late, and policies change beside that."""
     heavy(world, 400, policy=3, connect=3, subscribe_to_all=4, broker_publish=5, answer=5, nap=20, sleep=1,
-          wake=2, late=3, late_and_denied=3)
+          wake=2, late=3, late_and_denied=3, withdrawal=3)
 
 
 def many_in_flight(world):
@@ -1001,13 +1034,29 @@ def many_packet_ids(world):
 
 # The kinds of the first scripts; all others are mixed
 LONG = ([many_ids] * 2 + [many_subscriptions] * 2 + [many_holders] * 3 + [many_in_flight] * 2
-        + [many_items] * 3 + [many_messages] * 3 + [many_wills] * 4 + [many_naps] * 6
+        + [many_items] * 3 + [many_messages] * 3 + [many_wills] * 4 + [many_naps] * 8
         + [many_clients, many_packet_ids])
 
 
 def script(seed):
     world = World(seed)
     (LONG[seed] if seed < len(LONG) else mixed)(world)
+    return text_of(world)
+
+
+def script_of_lines(seed, lines):
+    """A script of everything that has so many lines."""
+    world = World(seed)
+    world.is_generous = world.chance(0.2)
+    begun(world)
+    while len(world.lines) < lines:
+        world.go_on(min(lines - len(world.lines), 20))
+    ends = [world.one(UNREADABLE), 'up'] * world.chance(0.05)
+    world.lines = world.lines[:lines - len(ends)] + ends
+    return text_of(world)
+
+
+def text_of(world):
     return '\n'.join(world.lines).encode() + b'\n' * world.chance(0.9)
 
 
@@ -1117,10 +1166,13 @@ def main():
     program = given.program or (end_to_end.PROVED if end_to_end.is_current() else None)
     print('random scripts, by', program or 'a build without proof', flush=True)
     scripts = {seed: script(seed) for seed in range(given.first, given.first + given.scripts)}
-    wanted = {seed: gateway_model.play(text) for seed, text in scripts.items()}
-    missing = unmet(output for _, output in wanted.values()) if list(scripts) == list(range(SCRIPTS)) else []
-    for begin in missing:
-        print('no script meets:', begin)
+    watched = {seed: replacements.Watched() for seed in scripts}
+    wanted = {seed: gateway_model.play(text, watched[seed]) for seed, text in scripts.items()}
+    missing = []
+    if list(scripts) == list(range(SCRIPTS)):
+        missing = unmet(output for _, output in wanted.values()) + replacements.unmet(watched.values())
+    for what in missing:
+        print('no script meets:', what)
     seeds = [seed for seed in scripts if program or len(wanted[seed][1]) < MOST_PRINTED]
     if len(seeds) < len(scripts):
         print('left to the proved program: seeds', [seed for seed in scripts if seed not in seeds])

@@ -1,37 +1,7 @@
 """Gateways that break a promise, each in one way, for lawful_books.py: the second reader has to refuse a
 book of each. They are the model of gateway_model.py but for that."""
-from gateway_model import MISSING, Denied, Gateway, shown
-
-
-class Purges(Gateway):
-    """As a policy comes into force, what waits for a client that sleeps and may not be received is settled at
-    once."""
-
-    def replace(self, text):
-        super().replace(text)
-        for client in [client for client in self.clients.values() if client.exchange is None]:
-            kept = [message for message in client.queue if self.may_receive(client, message)]
-            gone = [message for message in client.queue if message not in kept]
-            client.queue[:] = gone + kept
-            for message in gone:
-                self.purge(client, message)
-
-    def purge(self, client, message):
-        self.settle(client, MISSING['sub'] + shown(message.name))
-
-    def may_receive(self, client, message):
-        try:
-            self.ask_for_grant(False, client.name, 'sub', message.name)
-        except Denied:
-            return False
-        return True
-
-
-class PurgesSilently(Purges):
-    """The same without a note, so that a policy which grants it again comes too late."""
-
-    def purge(self, client, message):
-        client.queue.remove(message)
+import wrong_replacements
+from gateway_model import Gateway
 
 
 class Unjudged(Gateway):
@@ -62,6 +32,36 @@ class HandsOverUnjudged(Unjudged):
 
     def hand(self, client, message):
         self.unasked(super().hand, client, message)
+
+
+class HandsAnnouncedUnjudged(Unjudged):
+    """A message that was announced is handed over unjudged, as its announcement is answered."""
+
+    def __init__(self):
+        super().__init__()
+        self.announced = []
+
+    def announce(self, client, name):
+        super().announce(client, name)
+        self.announced.append(client.queue[0])
+
+    def hand(self, client, message):
+        act = super().hand
+        if any(message is announced for announced in self.announced):
+            self.unasked(act, client, message)
+        else:
+            act(client, message)
+
+
+class AnnouncesAgainUnjudged(Unjudged):
+    """What was announced and is not answered is announced again unjudged."""
+
+    def retry(self, client, exchange):
+        act = super().retry
+        if exchange.announces:
+            self.unasked(act, client, exchange)
+        else:
+            act(client, exchange)
 
 
 class GoesOnUnjudged(Unjudged):
@@ -114,5 +114,7 @@ class ForgetsWaiting(Gateway):
         super().begin(client)
 
 
-WRONG = (Purges, PurgesSilently, SendsAgainUnjudged, HandsOverUnjudged, GoesOnUnjudged, ForwardsUnjudged,
-         BeginsUnjudged, KeepsSubscriptions, HandsTwice, ForgetsWaiting)
+WRONG = (
+    *wrong_replacements.WRONG, SendsAgainUnjudged, HandsOverUnjudged, HandsAnnouncedUnjudged,
+    AnnouncesAgainUnjudged, GoesOnUnjudged, ForwardsUnjudged, BeginsUnjudged, KeepsSubscriptions, HandsTwice,
+    ForgetsWaiting)

@@ -2,8 +2,8 @@
 come.
 
 A Book keeps what happened, in order, as its rows tell it: the event of each row, and each of its outs.
-Whatever is to be known of a client or of the connection is looked up in that, in laws.clients and
-laws.link.
+Whatever is to be known of a client or of the connection is looked up in that by a View, in laws.clients,
+laws.link and others.
 """
 import functools
 from dataclasses import dataclass
@@ -31,12 +31,6 @@ def law(judge):
     return judging
 
 
-# What matters to the connection to the broker, and what begins and ends filters
-OF_LINK = {'up', 'down', 'take', 'joined', 'forwarded', 'subscribed', 'unsubscribed', 'dropped', 'puback',
-           'suback'}
-OF_FILTERS = {'connect', 'subscribe', 'unsubscribe', 'end', 'subscribed', 'suback'}
-
-
 @dataclass(frozen=True)
 class Entry:
     """Something that a row tells: what it is, of whom, what is said, and the clock of that row."""
@@ -44,6 +38,25 @@ class Entry:
     client: bytes
     said: object
     clock: int
+
+
+class View:
+    """What a reader finds who looks back through all that the rows tell, or through what they tell of one
+    client. It reads each entry once, the oldest first, and remembers what it found by then: who looks back
+    again reads only what was told since."""
+
+    def __init__(self):
+        self.seen = 0
+
+    def read(self, entry):
+        """What one entry more changes in what is found."""
+        raise NotImplementedError
+
+    def look_back(self, entries):
+        while self.seen < len(entries):
+            self.read(entries[self.seen])
+            self.seen += 1
+        return self
 
 
 class Book:
@@ -60,7 +73,7 @@ class Book:
         # The greatest tick, and the policy of the last replacement
         self.clock = 0
         self.policy = Policy()
-        self.of_client, self.of_link, self.of_filters = {}, [], []
+        self.told, self.of_client, self.views = [], {}, {}
 
     # Reading on
 
@@ -89,9 +102,13 @@ class Book:
 
     def tell(self, what, client=None, said=None):
         entry = Entry(what, client, said, self.clock)
+        self.told.append(entry)
         if client is not None:
             self.of_client.setdefault(client, []).append(entry)
-        if what in OF_LINK:
-            self.of_link.append(entry)
-        if what in OF_FILTERS:
-            self.of_filters.append(entry)
+
+    def view(self, kind, client=None):
+        """What a View of this kind finds in all that is told, or in what is told of a client."""
+        if (kind, client) not in self.views:
+            self.views[kind, client] = kind()
+        entries = self.told if client is None else self.of_client.get(client, ())
+        return self.views[kind, client].look_back(entries)

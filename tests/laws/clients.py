@@ -7,6 +7,8 @@ The entries of a client are, in order: `connect`, its accepted CONNECT; `came`, 
 again`, a PINGRESP that was sent to it while it was awake. A `hand` of a message that was turned away is
 none of them.
 """
+from laws.book import View
+
 DIALOGUE, ACTIVE, ASLEEP, AWAKE, GONE, LOST = 'dialogue', 'active', 'asleep', 'awake', 'disconnected', 'lost'
 WITH_SESSION, AWAITS, TAKES = (DIALOGUE, ACTIVE, ASLEEP, AWAKE), (ACTIVE, ASLEEP, AWAKE), (ACTIVE, AWAKE)
 
@@ -16,37 +18,38 @@ def accepted(book):
     return list(book.of_client)
 
 
-def session(book, client):
-    """What the rows tell of a client since its last accepted CONNECT, that one first."""
-    entries = book.of_client[client]
-    place = len(entries) - 1
-    while entries[place].what != 'connect':
-        place -= 1
-    return entries[place:]
+class Presence(View):
+    """Of a client its state, where it is, the Duration that it stated, and the clock as it was heard."""
 
+    def __init__(self):
+        super().__init__()
+        self.phase, self.address, self.duration, self.heard = None, None, None, None
 
-def turns(book, client):
-    """The same, each with the state that the client had before it and has behind it."""
-    state = None
-    for entry in session(book, client):
-        before, state = state, state_behind(client, state, entry)
-        yield before, entry, state
+    def read(self, entry):
+        if entry.what in ('connect', 'came'):
+            self.heard = entry.clock
+        if entry.what == 'connect':
+            frame, self.address = entry.said
+            self.duration = frame.duration
+        elif goes_to_sleep(entry, self.phase):
+            self.duration = entry.said.duration
+        self.phase = state_behind(self.phase, entry)
 
 
 def phase(book, client):
     """The state of a client: by its last CONNECT, and by what ended its dialogue, let it sleep or woke it up,
     let it leave or lost it since."""
-    return [state for _, _, state in turns(book, client)][-1]
+    return book.view(Presence, client).phase
 
 
-def state_behind(client, state, entry):
+def state_behind(state, entry):
     if entry.what == 'connect':
         return DIALOGUE if entry.said[0].has_will else ACTIVE
     if entry.what == 'will' and ends_dialogue(entry.said):
         return ACTIVE
     if goes_to_sleep(entry, state) or entry.what == 'slept again':
         return ASLEEP
-    if entry.what == 'came' and state == ASLEEP and wakes(client, entry.said):
+    if entry.what == 'came' and state == ASLEEP and wakes(entry.client, entry.said):
         return AWAKE
     return {'left': GONE, 'lost': LOST}.get(entry.what, state)
 
@@ -69,7 +72,7 @@ def wakes(client, frame):
 
 def address(book, client):
     """Where its last accepted CONNECT came from."""
-    return session(book, client)[0].said[1]
+    return book.view(Presence, client).address
 
 
 def client_at(book, where):
@@ -82,14 +85,9 @@ def client_at(book, where):
 
 def duration(book, client):
     """What it stated last: by its CONNECT, or as it went to sleep."""
-    stated = session(book, client)[0].said[0].duration
-    for before, entry, _ in turns(book, client):
-        if goes_to_sleep(entry, before):
-            stated = entry.said.duration
-    return stated
+    return book.view(Presence, client).duration
 
 
 def heard(book, client):
     """The clock as it was heard last: as its CONNECT was accepted, or a frame came from where it was."""
-    entries = reversed(book.of_client[client])
-    return next(entry.clock for entry in entries if entry.what in ('connect', 'came'))
+    return book.view(Presence, client).heard

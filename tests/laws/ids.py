@@ -1,17 +1,29 @@
 """Which topic ids a client was told, which it knows, and by which it is sent a name (docs/model.md, the
 views; MQTT-SN 1.2, 6.5 and 6.10)."""
-from laws.clients import session
+from laws.book import View
+
+
+class Ids(View):
+    """The names that a client was told ids of since its last accepted CONNECT, and those that it knows."""
+
+    def __init__(self):
+        super().__init__()
+        self.told, self.known = [], set()
+
+    def read(self, entry):
+        if entry.what == 'connect':
+            self.told, self.known = [], set()
+        if tells(entry):
+            self.known.add(named(entry))
+        if entry.what == 'accepted':
+            self.known.add(entry.said)
+        if (tells(entry) or entry.what == 'announce') and named(entry) not in self.told:
+            self.told.append(named(entry))
 
 
 def told(book, client):
     """The names that it was told ids of since its last accepted CONNECT: the k-th has the id k."""
-    names = []
-    for entry in session(book, client):
-        if tells(entry) or entry.what == 'announce':
-            name = named(entry)
-            if name not in names:
-                names.append(name)
-    return names
+    return list(book.view(Ids, client).told)
 
 
 def tells(entry):
@@ -27,13 +39,7 @@ def named(entry):
 
 def known(book, client):
     """The names whose ids it knows: REGACK or SUBACK told it, or it accepted the announcement."""
-    names = set()
-    for entry in session(book, client):
-        if tells(entry):
-            names.add(named(entry))
-        if entry.what == 'accepted':
-            names.add(entry.said)
-    return names
+    return book.view(Ids, client).known
 
 
 def topic_id(book, client, name):

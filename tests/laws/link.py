@@ -8,6 +8,7 @@ the broker.
 """
 from dataclasses import dataclass
 
+from laws.book import View
 from laws.standing import wanted
 
 MOST_ITEMS, MOST_IN_FLIGHT = 512, 128
@@ -25,52 +26,60 @@ class Item:
     packet_id: int = 0
 
 
+class Link(View):
+    """Whether the connection stands, and since when, what waits to leave, what is in flight, and which packet
+    id was given last."""
+
+    def __init__(self):
+        super().__init__()
+        self.is_up, self.pinged, self.items, self.in_flight, self.last_id = False, None, [], {}, 0
+
+    def read(self, entry):
+        if entry.what == 'joined':
+            self.items.append(entry.said)
+        elif entry.what == 'take' and self.is_up:
+            self.items = []
+        elif entry.what in ('up', 'down'):
+            if self.is_up or entry.what == 'down':
+                self.items = [item for item in self.items if item.kind == 'publish']
+            self.is_up = entry.what == 'up'
+        elif entry.what == 'forwarded':
+            self.in_flight[entry.said[0]] = entry.said[1]
+        elif entry.what in ('puback', 'dropped'):
+            self.in_flight.pop(entry.said, None)
+        if entry.what in ('forwarded', 'subscribed', 'unsubscribed'):
+            self.last_id = entry.said[0]
+        if entry.what == 'up' or (entry.what == 'joined' and entry.said.kind == 'ping'):
+            self.pinged = entry.clock
+
+
 def is_up(book):
     """The last of `up` and `down` is an `up`."""
-    said = [entry.what for entry in book.of_link if entry.what in ('up', 'down')]
-    return said[-1:] == ['up']
+    return book.view(Link).is_up
 
 
 def waiting(book):
     """What was asked for since the last take while up, without what other than publishes was dropped by
     the end of a connection."""
-    items, up = [], False
-    for entry in book.of_link:
-        if entry.what == 'joined':
-            items.append(entry.said)
-        elif entry.what == 'take' and up:
-            items = []
-        elif entry.what in ('up', 'down'):
-            if up or entry.what == 'down':
-                items = [item for item in items if item.kind == 'publish']
-            up = entry.what == 'up'
-    return items
+    return list(book.view(Link).items)
 
 
 def in_flight(book):
     """The publishes that left at QoS 1, by their packet ids, in the order in which they left: without
     those that the broker acknowledged, or that were denied as a connection began."""
-    found = {}
-    for entry in book.of_link:
-        if entry.what == 'forwarded':
-            found[entry.said[0]] = entry.said[1]
-        elif entry.what in ('puback', 'dropped'):
-            found.pop(entry.said, None)
-    return found
+    return dict(book.view(Link).in_flight)
 
 
 def pinged(book):
     """The clock as the connection began, or as the last PINGREQ since came to wait."""
-    return next(entry.clock for entry in reversed(book.of_link)
-                if entry.what == 'up' or (entry.what == 'joined' and entry.said.kind == 'ping'))
+    return book.view(Link).pinged
 
 
 def next_id(book):
     """The one after the last that was given, past those of publishes in flight and of open SUBSCRIBEs; 1
     follows on 65,535."""
     taken = set(in_flight(book)) | set(wanted(book).values())
-    number = next((entry.said[0] for entry in reversed(book.of_link)
-                   if entry.what in ('forwarded', 'subscribed', 'unsubscribed')), 0)
+    number = book.view(Link).last_id
     while True:
         number = number % 65_535 + 1
         if number not in taken:

@@ -1,10 +1,11 @@
 """Which messages of the broker wait for a client, and what it has not answered (docs/model.md, the views)."""
 from dataclasses import dataclass
 
-from laws.clients import goes_to_sleep, turns
+from laws.book import View
+from laws.clients import Presence, goes_to_sleep
 
-# What ends what is open, beside sleep and a CONNECT
-ENDS = ('left', 'lost', 'accepted', 'acknowledged', 'hand', 'retry denied')
+# What ends what is open, beside sleep
+ENDS = ('connect', 'left', 'lost', 'accepted', 'acknowledged', 'hand', 'retry denied')
 
 
 @dataclass(frozen=True)
@@ -29,30 +30,48 @@ class Open:
         return self.is_announced and (frame.topic_id, frame.message_id) == (self.topic_id, self.message_id)
 
 
+class Buffer(View):
+    """What was due to a client, and how many of that were settled; what is open with it, how often that was
+    sent again and when it was sent last; and how many MsgIds were given."""
+
+    def __init__(self):
+        super().__init__()
+        self.presence = Presence()
+        self.due, self.settled, self.given = [], 0, 0
+        self.opened, self.tries, self.sent = None, None, None
+
+    def read(self, entry):
+        if entry.what == 'due':
+            self.due.append(entry.said)
+        self.settled += entry.what == 'hand'
+        self.given += is_sending(entry)
+        if is_sending(entry):
+            self.opened = entry.said
+        elif entry.what in ENDS or goes_to_sleep(entry, self.presence.phase):
+            self.opened = None
+        if entry.what in ('announce', 'hand'):
+            self.tries, self.sent = 0, entry.clock
+        elif entry.what == 'retry':
+            self.tries, self.sent = self.tries + 1, entry.clock
+        self.presence.read(entry)
+
+
 def waits(book, client):
     """What was due to a client, without as many of the first as were settled."""
-    entries = book.of_client[client]
-    settled = sum(1 for entry in entries if entry.what == 'hand')
-    return [entry.said for entry in entries if entry.what == 'due'][settled:]
+    buffer = book.view(Buffer, client)
+    return buffer.due[buffer.settled:]
 
 
 def next_message_id(book, client):
     """The MsgIds of announcements and hand-overs at QoS 1 are counted on from 1, and begin anew behind
     65,535."""
-    given = sum(1 for entry in book.of_client[client] if is_sending(entry))
-    return (given % 65_535 + 1).to_bytes(2, 'big')
+    return (book.view(Buffer, client).given % 65_535 + 1).to_bytes(2, 'big')
 
 
 def unanswered(book, client):
     """What is open with a client: what it was announced or handed over at QoS 1 last, unless its REGACK or
     PUBACK in turn, a settled or denied sending, sleep, an accepted CONNECT, or its leave ended that."""
-    opened = None
-    for before, entry, _ in turns(book, client):
-        if is_sending(entry):
-            opened = entry.said
-        elif entry.what in ENDS or goes_to_sleep(entry, before):
-            opened = None
-    return opened
+    return book.view(Buffer, client).opened
 
 
 def is_sending(entry):
@@ -61,10 +80,5 @@ def is_sending(entry):
 
 def sendings(book, client):
     """How often what is open was sent again, and the clock as it was sent last."""
-    sent = []
-    for entry in reversed(book.of_client[client]):
-        if entry.what in ('retry', 'announce', 'hand'):
-            sent.append(entry.clock)
-        if entry.what in ('announce', 'hand'):
-            return len(sent) - 1, sent[0]
-    raise AssertionError('nothing was sent')
+    buffer = book.view(Buffer, client)
+    return buffer.tries, buffer.sent

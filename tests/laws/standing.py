@@ -1,41 +1,64 @@
 """Which filters stand for a client, and for anybody (docs/model.md, the views; MQTT 3.1.1, 3.8 and 3.9)."""
+from laws.book import View
 from laws.clients import accepted
+
+
+class Held(View):
+    """The filters that stand for a client, each with its QoS, in the order in which each stood first."""
+
+    def __init__(self):
+        super().__init__()
+        self.filters = {}
+
+    def read(self, entry):
+        if entry.what == 'connect' and entry.said[0].is_clean:
+            self.filters = {}
+        elif entry.what == 'subscribe':
+            self.filters[entry.said[0]] = entry.said[1]
+        elif entry.what in ('unsubscribe', 'end'):
+            self.filters.pop(entry.said, None)
+
+
+class Wanted(View):
+    """For whom each filter stands, in the order in which each stood first without a break, and the packet
+    ids of open SUBSCRIBEs."""
+
+    def __init__(self):
+        super().__init__()
+        self.holders, self.opened = {}, {}
+
+    def read(self, entry):
+        if entry.what == 'subscribed':
+            self.opened[entry.said[1]] = entry.said[0]
+        elif entry.what == 'suback':
+            self.opened = {pattern: it for pattern, it in self.opened.items() if it != entry.said}
+        elif entry.what == 'subscribe':
+            self.holders.setdefault(entry.said[0], []).append(entry.client)
+        elif entry.what in ('unsubscribe', 'end'):
+            self.leave(entry.said, entry.client)
+        elif entry.what == 'connect' and entry.said[0].is_clean:
+            for pattern in list(self.holders):
+                self.leave(pattern, entry.client)
+
+    def leave(self, pattern, leaving):
+        left = [client for client in self.holders.get(pattern, ()) if client != leaving]
+        if left:
+            self.holders[pattern] = left
+        else:
+            self.holders.pop(pattern, None)
+            self.opened.pop(pattern, None)
 
 
 def standing(book, client):
     """The filters that stand for a client, each with its QoS, in the order in which each stood first."""
-    filters = {}
-    for entry in book.of_client.get(client, ()):
-        if entry.what == 'connect' and entry.said[0].is_clean:
-            filters = {}
-        elif entry.what == 'subscribe':
-            filters[entry.said[0]] = entry.said[1]
-        elif entry.what in ('unsubscribe', 'end'):
-            filters.pop(entry.said, None)
-    return filters
+    return dict(book.view(Held, client).filters)
 
 
 def wanted(book):
     """The filters that stand for anybody, in the order in which each stood first without a break, each
     with the packet id of its open SUBSCRIBE: the last one since then, unless a SUBACK with that id came."""
-    holders, opened = {}, {}
-    for entry in book.of_filters:
-        if entry.what == 'subscribed':
-            opened[entry.said[1]] = entry.said[0]
-        elif entry.what == 'suback':
-            opened = {pattern: it for pattern, it in opened.items() if it != entry.said}
-        elif entry.what == 'subscribe':
-            holders.setdefault(entry.said[0], []).append(entry.client)
-        elif entry.what != 'connect' or entry.said[0].is_clean:
-            gone = list(holders) if entry.what == 'connect' else [entry.said]
-            for pattern in gone:
-                left = [client for client in holders.get(pattern, ()) if client != entry.client]
-                if left:
-                    holders[pattern] = left
-                else:
-                    holders.pop(pattern, None)
-                    opened.pop(pattern, None)
-    return {pattern: opened.get(pattern) for pattern in holders}
+    view = book.view(Wanted)
+    return {pattern: view.opened.get(pattern) for pattern in view.holders}
 
 
 def is_held(book, pattern):

@@ -1,5 +1,6 @@
 """Names, filters and client ids, which names a filter matches, and how texts are printed (MQTT 3.1.1, 4.7;
 MQTT-SN 1.2, 5.3.1)."""
+import functools
 
 MOST_NAME, MOST_FILTER, MOST_CLIENT_ID = 65_535, 200, 23
 
@@ -36,6 +37,7 @@ def items_of(pattern):
     return (levels[:-1], True) if levels[-1] == b'#' else (levels, False)
 
 
+@functools.lru_cache(maxsize=None)
 def matches(pattern, name):
     items, takes_rest = items_of(pattern)
     levels = name.split(b'/')
@@ -64,6 +66,7 @@ def gap(pattern, granted):
     return None
 
 
+@functools.lru_cache(maxsize=None)
 def shown(text):
     """A text as rows print it."""
     return ''.join(chr(octet) if 0x21 <= octet <= 0x7e and octet != 0x25 else '%%%02X' % octet
