@@ -33,7 +33,7 @@ def a_subscription_outlives_the_broker(room):
     device = room.device(gateway)
     device.connect('s1')
     device.subscribe('t/#')
-    gateway.line('out', '^wire 82')
+    gateway.line('out', '^row .* broker')
     broker.kill()
     gateway.line('err', 'lost: ')
     room.broker(broker.port)
