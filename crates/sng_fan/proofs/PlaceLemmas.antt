@@ -62,3 +62,12 @@ granted_last [] text qos = λ _. refl
 granted_last (h ∷ xs) text qos = λ absent.
     let both = or_false (has_text text h) (stands xs text) absent in
     rw both.0 (ap (λ l. h ∷ l) (granted_last xs text qos both.1))
+
+-- one that stands behind these has the QoS that it is granted now, and the others are as they were
+pub granted_again : (before : List Held) (h : Held) (later : List Held) (text : List ℕ) (qos : Qos)
+    → stands before text ≡ false → has_text text h ≡ true
+    → with_filter (before ++ h ∷ later) text qos ≡ before ++ record h { qos = qos } ∷ later
+granted_again [] h later text qos = λ absent here. rw here refl
+granted_again (g ∷ before) h later text qos = λ absent here.
+    let both = or_false (has_text text g) (stands before text) absent in
+    rw both.0 (ap (λ l. g ∷ l) (granted_again before h later text qos both.1 here))

@@ -5,6 +5,7 @@ use Rattle.sng_text.specs.Matching.{matches}
 use Rattle.sng_text.specs.declared.qos.Qos.{Qos}
 use Rattle.sng_fan.specs.declared.held.Held.{Held}
 use Rattle.sng_fan.specs.Greatest.{greater, greatest_qos}
+use Rattle.sng_fan.specs.Subscriptions.{has_text, stands, with_filter}
 
 -- no filter among these matches the name
 abbrev pub NoneMatches : List Held → List ℕ → Type 0
@@ -26,3 +27,16 @@ IsGreatest (Some qos) held name = NoneIsGreater qos held name
 
 abbrev pub GreatestIsGreatest : Type 0
 GreatestIsGreatest = (held : List Held) (name : List ℕ) → IsGreatest (greatest_qos held name) held name
+
+-- a filter that is granted again has the QoS of the last grant, in its place, and all others are as they were
+abbrev pub StandsAnew : Type 0
+StandsAnew =
+    (before : List Held) (h : Held) (later : List Held) (text : List ℕ) (qos : Qos)
+    → stands before text ≡ false → has_text text h ≡ true
+    → with_filter (before ++ h ∷ later) text qos ≡ before ++ record h { qos = qos } ∷ later
+
+-- one that did not stand is the last, and all others are as they were
+abbrev pub StandsLast : Type 0
+StandsLast =
+    (held : List Held) (text : List ℕ) (qos : Qos) → stands held text ≡ false
+    → with_filter held text qos ≡ held ++ record { filter = text; qos = qos } ∷ []

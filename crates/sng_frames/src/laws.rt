@@ -3,6 +3,8 @@
 ghost use Rattle.std.specs.Prelude.{◌≡◌, ◌+◌};
 ghost use Rattle.sng_frames.specs.declared.limits.TheConstants.{MAX_DATAGRAM, MAX_PAYLOAD};
 ghost use Rattle.sng_frames.specs.declared.limits.TheConstants.{MAX_REGISTERED_NAME, MAX_SHORT_LENGTH};
+ghost use Rattle.sng_frames.specs.declared.return_code.TheConstants.ReturnCode.{ACCEPTED, CONGESTION};
+ghost use Rattle.sng_frames.specs.declared.return_code.TheConstants.ReturnCode.{INVALID_TOPIC_ID, NOT_SUPPORTED};
 ghost use Rattle.sng_frames.specs.Laws.{ReadsTheGrammar, RefusesTheUnsupported, RefusesTheRest};
 ghost use Rattle.sng_frames.specs.Laws.{SpellsOne, SpellsNoneUnsupported};
 ghost use Rattle.sng_frames.specs.Laws.{WritesASpelling, WritesTheSpelled, WritesTheShortest};
@@ -15,6 +17,14 @@ pub fn limits()
     ensures payload { MAX_PAYLOAD + 9 ≡ MAX_DATAGRAM }
     ensures registered_name { MAX_REGISTERED_NAME + 8 ≡ MAX_DATAGRAM }
     ensures short_length { MAX_SHORT_LENGTH ≡ 255 }
+{}
+
+/// The ReturnCodes that have a name, as the octets that they are (5.3.10).
+pub fn return_codes()
+    ensures accepted { ACCEPTED.0 ≡ 0 }
+    ensures congestion { CONGESTION.0 ≡ 1 }
+    ensures invalid_topic_id { INVALID_TOPIC_ID.0 ≡ 2 }
+    ensures not_supported { NOT_SUPPORTED.0 ≡ 3 }
 {}
 
 /// A frame is decoded exactly from the bytes that spell it, up to `MAX_DATAGRAM` of them.

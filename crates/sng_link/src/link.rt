@@ -100,6 +100,20 @@ impl Link {
         MAX_OUTBOX_ITEMS - self.outbox.len()
     }
 
+    /// How many items wait.
+    pub fn items(&self) -> usize
+        ensures { result ≡ length self.now.waiting }
+    {
+        self.outbox.len()
+    }
+
+    /// How many publishes are in flight.
+    pub fn in_flight(&self) -> usize
+        ensures { result ≡ length self.now.in_flight }
+    {
+        self.outbox.in_flight()
+    }
+
     /// The room that there is for publishes.
     pub fn room_left(&self) -> Room
         ensures { result ≡ room_of self.now }
