@@ -13,3 +13,5 @@ pub mod Places
 pub mod Warnings
 pub mod Reports
 pub mod Laws
+pub mod PolicyTexts
+pub mod EventTexts
