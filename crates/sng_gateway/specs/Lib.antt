@@ -15,3 +15,4 @@ pub mod Reports
 pub mod Laws
 pub mod PolicyTexts
 pub mod EventTexts
+pub mod EventLaws

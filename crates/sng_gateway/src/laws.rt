@@ -1,5 +1,6 @@
 //! Laws of the definitions that the contracts cite. Each function does nothing: its contract is the law.
 ghost use Rattle.std.specs.Prelude.{◌≡◌};
+ghost use Rattle.sng_gateway.specs.EventLaws.{EventsAreRead};
 ghost use Rattle.sng_gateway.specs.Laws.{NumbersAreDecimal, PortsAreDecimal};
 ghost use Rattle.sng_gateway.specs.declared.limits.TheConstants.{MAX_READS, MAX_LINE, MAX_SHOWN};
 
@@ -18,4 +19,10 @@ pub fn ports_are_decimal()
 /// So is each number of 64 bits, as a clock.
 pub fn numbers_are_decimal()
     ensures { NumbersAreDecimal }
+{}
+
+/// The line that is printed of an event is read as just this event, where its numbers are in the ranges of
+/// their types, its packet is one that a stream may bring, and the text of its policy is read as the policy.
+pub fn events_are_read()
+    ensures { EventsAreRead }
 {}
