@@ -5,6 +5,7 @@
 
 mod again;
 mod answers;
+pub mod census;
 mod confirm;
 mod datagram;
 mod deliver;
@@ -31,5 +32,6 @@ mod turn;
 mod unsubscribe;
 mod verdict;
 
+pub use census::Census;
 pub use history::run;
 pub use machine::Core;

@@ -2,7 +2,9 @@
 ghost use Rattle.std.specs.Prelude.{◌≡◌, [], IfOk, OnErr};
 ghost use Rattle.sng_history.specs.State.{opening, Leads};
 ghost use Rattle.sng_history.specs.Lawful.{Keeps};
+ghost use Rattle.sng_core.specs.Census.{census_of};
 
+use crate::census::Census;
 use crate::parts::Parts;
 use sng_book::{Event, Outs};
 use std::alloc::{AllocError, Global};
@@ -46,5 +48,14 @@ impl Core {
     {
         let outs = self.parts.perform(alloc, event)?;
         Ok(outs)
+    }
+
+    /// What is counted of the state: clients by state, what stands and waits for them, what waits for the
+    /// broker and is in flight to it, and how much the policy in force lists. One walk over the clients; takes
+    /// no memory.
+    pub fn census(&self) -> Census
+        ensures { result ≡ census_of self.now }
+    {
+        self.parts.census()
     }
 }
