@@ -6,8 +6,9 @@ its whole output and exit status (NAME.expected; NAME.status, where it is not 0)
 tests/lines.table, which cannot be read; the scripts of full_places.py; the policy texts of policy_texts.py;
 the questions of tests/cover.table and tests/may.table; the reports on policy texts of policy_reports.py, with
 their warnings where the proved program runs; books of a script, its own and others; command lines, good and
-bad; output that cannot be written; a line without end under a limit of memory. A search over names (cover_search.py) answers the first table of
-questions too. Uses the proved program where one lies in crates/sng/out that is newer than every source, and
+bad; output that cannot be written; a line without end under a limit of memory. A search over names
+(cover_search.py) answers the first table of questions too, and memory_errors.py reads which lines of the
+sources make an error of memory. Uses the proved program where one lies in crates/sng/out that is newer than every source, and
 else one build without proof, which leaves out what it cannot run, and says what.
 """
 import collections
@@ -285,6 +286,8 @@ def main():
     results = list(by_the_proved_program() if proved else by_the_build_without_proof())
     search = subprocess.run([sys.executable, os.path.join(HERE, 'cover_search.py')], timeout=SECONDS)
     results.append(('cover.table-by-a-search-over-names', search.returncode == 0))
+    errors = subprocess.run([sys.executable, os.path.join(HERE, 'memory_errors.py')], timeout=SECONDS)
+    results.append(('errors-of-memory-in-the-sources', errors.returncode == 0))
     for name, good in results:
         if not good:
             print('FAIL', name)
