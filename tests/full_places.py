@@ -304,6 +304,32 @@ def subscriptions_that_fill_the_outbox():
     return story.whole()
 
 
+def subscriptions_that_end_at_once():
+    """A policy ends each of the 32 filters that five clients hold, all in one row, by both rules. The broker
+    is told of each, in the same order."""
+    story = Story()
+    held = [('s%d' % client, '10.0.0.9:400%d' % client, ['s%d/%d/+' % (client, number)
+             for number in range(1, MOST_SUBSCRIPTIONS + 1)]) for client in range(1, 6)]
+    story.give('policy {"version":1,"clients":{%s}}' % ','.join('"%s":[["#",["sub"]]]' % it[0] for it in held),
+               'replace')
+    story.give('up', 'up')
+    for client, address, filters in held:
+        story.hear('08040401003c' + client.encode().hex(), 'connect %s - allowed' % client, '030500', address)
+        for pattern in filters:
+            story.hear(subscribe(pattern), 'subscribe %s %s allowed' % (client, pattern), '0813200000000700',
+                       address)
+    every = [pattern for _, _, filters in held for pattern in filters]
+    story.give('take', 'take', *[subscribed(place, it) for place, it in enumerate(every, 1)])
+    ends = ['note end %s %s ' % (client, it) + ('3 NoScope ' + client if client in ('s1', 's4') else
+                                               '12 Uncovered %s %sx' % (it, it[:-1]))
+            for client, _, filters in held for it in filters]
+    story.give('policy {"version":1,"clients":{"s2":[],"s3":[["a/#",["sub"]]],"s5":[["#",["pub"]]]}}', 'replace',
+               *ends)
+    story.give('take', 'take', *[unsubscribed(place, it) for place, it in enumerate(every, len(every) + 1)])
+    story.give('up', 'up')
+    return story.whole()
+
+
 def publishes_that_fill_without_a_connection():
     """Publishes that wait leave no place for an UNSUBSCRIBE either, also once the connection is lost."""
     story = Story()
@@ -531,6 +557,7 @@ def scripts():
     for each in (ids_that_fill, in_flight_that_fills, acknowledgements_that_fill,
                  ids_that_fill_by_subscriptions, subscriptions_that_fill,
                  items_that_fill_beside_subscriptions, subscriptions_that_fill_the_outbox,
+                 subscriptions_that_end_at_once,
                  publishes_that_fill_without_a_connection, messages_that_fill_a_queue,
                  ids_that_fill_by_announcements, messages_that_fill_a_datagram,
                  messages_beside_a_full_outbox, messages_that_fill_the_queue_of_a_sleeper,
