@@ -8,8 +8,8 @@ the questions of tests/cover.table and tests/may.table; the reports on policy te
 their warnings where the proved program runs; books of a script, its own and others; command lines, good and
 bad; output that cannot be written; a line without end under a limit of memory. A search over names
 (cover_search.py) answers the first table of questions too, and memory_errors.py reads which lines of the
-sources make an error of memory. Uses the proved program where one lies in crates/sng/out that is newer than every source, and
-else one build without proof, which leaves out what it cannot run, and says what.
+sources make an error of memory. Uses the proved program where one lies in crates/sng/out that is newer than
+every source, and else one build without proof, which leaves out what it cannot run, and says what.
 """
 import collections
 import glob

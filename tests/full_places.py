@@ -310,8 +310,8 @@ def subscriptions_that_end_at_once():
     story = Story()
     held = [('s%d' % client, '10.0.0.9:400%d' % client, ['s%d/%d/+' % (client, number)
              for number in range(1, MOST_SUBSCRIPTIONS + 1)]) for client in range(1, 6)]
-    story.give('policy {"version":1,"clients":{%s}}' % ','.join('"%s":[["#",["sub"]]]' % it[0] for it in held),
-               'replace')
+    scopes = ','.join('"%s":[["#",["sub"]]]' % client for client, _, _ in held)
+    story.give('policy {"version":1,"clients":{%s}}' % scopes, 'replace')
     story.give('up', 'up')
     for client, address, filters in held:
         story.hear('08040401003c' + client.encode().hex(), 'connect %s - allowed' % client, '030500', address)
@@ -323,8 +323,8 @@ def subscriptions_that_end_at_once():
     ends = ['note end %s %s ' % (client, it) + ('3 NoScope ' + client if client in ('s1', 's4') else
                                                '12 Uncovered %s %sx' % (it, it[:-1]))
             for client, _, filters in held for it in filters]
-    story.give('policy {"version":1,"clients":{"s2":[],"s3":[["a/#",["sub"]]],"s5":[["#",["pub"]]]}}', 'replace',
-               *ends)
+    scopes = '"s2":[],"s3":[["a/#",["sub"]]],"s5":[["#",["pub"]]]'
+    story.give('policy {"version":1,"clients":{%s}}' % scopes, 'replace', *ends)
     story.give('take', 'take', *[unsubscribed(place, it) for place, it in enumerate(every, len(every) + 1)])
     story.give('up', 'up')
     return story.whole()

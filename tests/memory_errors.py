@@ -9,8 +9,8 @@ that is not listed fails, and a listed one that is gone. With --lines it prints 
 A line makes the error where it names the value `AllocError`, a variant `..::Memory` or `..::OutOfMemory`, or
 calls `out_of_memory(..)`. It does not where the name is a type, a pattern or what is compared with, or stands
 in a contract, and where an arm on the same line has taken just this error from a callee, as in
-`Err(X::Memory) => Err(AllocError)`. What `?` passes on is the callee's. Not seen: a want of memory that is told
-by a bool or by `None`.
+`Err(X::Memory) => Err(AllocError)`. What `?` passes on is the callee's. Not seen: a want of memory that is
+told by a bool or by `None`.
 """
 import collections
 import glob
