@@ -80,7 +80,13 @@ impl MemoryDatagrams {
     }
 
     /// Keeps a datagram that was passed to it, as long as there is memory.
-    fn keep(&mut self, to: Address, datagram: &Octets) {
+    fn keep(&mut self, to: Address, datagram: &Octets)
+        ensures told { not self.new.has_lost ≡ true → not self.old.has_lost ≡ true }
+        ensures kept { not self.new.has_lost ≡ true → self.new.kept.items ≡ self.old.kept.items ++ (to, datagram.now) ∷ [] }
+        ensures gave { (self.new.next ≡ self.old.next) × (self.new.datagrams ≡ self.old.datagrams) }
+        ensures counts { (self.new.failures ≡ self.old.failures) × (self.new.unsent ≡ self.old.unsent) }
+        ensures over { self.new.is_over ≡ self.old.is_over }
+    {
         let Ok(copy) = datagram.copy() else {
             self.has_lost = true;
             return;
