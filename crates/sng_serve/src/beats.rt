@@ -1,5 +1,5 @@
 //! The clock of the gateway: a beat each second, told in ms since the start.
-ghost use Rattle.std.specs.Prelude.{◌≡◌, ◌≢◌, ◌≤◌, ◌<◌, [], false};
+ghost use Rattle.std.specs.Prelude.{◌≡◌, ◌≢◌, ◌≤◌, ◌<◌, ◌↔◌, [], false};
 ghost use Rattle.sng_desk.specs.declared.source.Got.TheVariants.{Ended as ended_answer, Failed as failed_answer};
 
 use crate::bell::Ear;
@@ -37,7 +37,7 @@ impl<'a, R: Clock> SystemBeats<'a, R> {
 
     fn fail(&mut self) -> Got<u64>
         ensures failures { self.old.failures ≤ self.new.failures }
-        ensures failed { result ≡ failed_answer → self.old.failures < self.new.failures }
+        ensures failed { (result ≡ failed_answer) ↔ (self.old.failures < self.new.failures) }
         ensures goes_on { result ≢ ended_answer }
     {
         if self.failures == u64::MAX {
@@ -50,7 +50,7 @@ impl<'a, R: Clock> SystemBeats<'a, R> {
     /// The beat at this time, where one is due. Beats that were missed do not come any more.
     fn beat_at(&mut self, now: Duration) -> Got<u64>
         ensures failures { self.old.failures ≤ self.new.failures }
-        ensures failed { result ≡ failed_answer → self.old.failures < self.new.failures }
+        ensures failed { (result ≡ failed_answer) ↔ (self.old.failures < self.new.failures) }
         ensures goes_on { result ≢ ended_answer }
     {
         if now < self.due {
@@ -97,7 +97,7 @@ impl<'a, R: Clock> SystemBeats<'a, R> {
     /// The beat that is due after a wait.
     fn later(&mut self) -> Got<u64>
         ensures failures { self.old.failures ≤ self.new.failures }
-        ensures failed { result ≡ failed_answer → self.old.failures < self.new.failures }
+        ensures failed { (result ≡ failed_answer) ↔ (self.old.failures < self.new.failures) }
         ensures goes_on { result ≢ ended_answer }
     {
         match self.rt.monotonic() {

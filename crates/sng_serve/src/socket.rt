@@ -1,6 +1,6 @@
 //! The socket of the devices as a source of datagrams. All workers share one socket: each waits in its own
 //! call, and the system wakes one of them for each datagram.
-ghost use Rattle.std.specs.Prelude.{◌≡◌, ◌≢◌, ◌≤◌, ◌<◌, [], false};
+ghost use Rattle.std.specs.Prelude.{◌≡◌, ◌≢◌, ◌≤◌, ◌<◌, ◌↔◌, [], false};
 ghost use Rattle.sng_desk.specs.declared.source.Got.TheVariants.{Ended as ended_answer, Failed as failed_answer};
 
 use sng_book::Address;
@@ -23,6 +23,10 @@ pub struct Socket {
     socket: UdpSocket,
     buffer: Vec<u8>,
     failures: u64,
+    /// How many datagrams could not be sent.
+    unsent: u64,
+    /// How many datagrams were lost for want of memory.
+    lost: u64,
     errors: u32,
 }
 
@@ -34,6 +38,8 @@ impl Socket {
             socket,
             buffer: vec![in alloc; 0; BUFFER_BYTES]?,
             failures: 0,
+            unsent: 0,
+            lost: 0,
             errors: 0,
         })
     }
@@ -41,7 +47,7 @@ impl Socket {
     /// Where there is no memory for a datagram, it is lost.
     fn take(&mut self, from: SocketAddrV4, count: usize) -> Got<(Address, Octets)>
         ensures failures { self.old.failures ≤ self.new.failures }
-        ensures failed { result ≡ failed_answer → self.old.failures < self.new.failures }
+        ensures failed { (result ≡ failed_answer) ↔ (self.old.failures < self.new.failures) }
         ensures goes_on { result ≢ ended_answer }
     {
         self.errors = 0;
@@ -51,7 +57,7 @@ impl Socket {
         match Vec::from_slice(self.alloc, bytes) {
             Ok(datagram) => Got::Came((address_of(from), Octets::from(datagram))),
             Err(AllocError) => {
-                self.failures = self.failures.saturating_add(1);
+                self.lost = self.lost.saturating_add(1);
                 Got::Nothing
             }
         }
@@ -60,7 +66,7 @@ impl Socket {
     /// A wait that ended, a call to be made again, or a failure.
     fn missed(&mut self, error: &Error) -> Got<(Address, Octets)>
         ensures failures { self.old.failures ≤ self.new.failures }
-        ensures failed { result ≡ failed_answer → self.old.failures < self.new.failures }
+        ensures failed { (result ≡ failed_answer) ↔ (self.old.failures < self.new.failures) }
         ensures goes_on { result ≢ ended_answer }
     {
         match error.kind() {
@@ -86,6 +92,8 @@ impl Datagrams for Socket {
 
     ghost failures = { λ s. s.failures };
 
+    ghost unsent = { λ s. s.unsent };
+
     ghost has_ended = { λ _. false };
 
     fn receive(&mut self) -> Got<(Address, Octets)> {
@@ -96,11 +104,13 @@ impl Datagrams for Socket {
         }
     }
 
-    fn send(&mut self, to: Address, datagram: &Octets) {
+    fn send(&mut self, to: Address, datagram: &Octets) -> bool {
         let sent = self.socket.send_to(datagram.as_slice(), socket_address(to));
-        if sent.is_err() {
-            self.failures = self.failures.saturating_add(1);
+        if sent.is_err() && self.unsent < u64::MAX {
+            self.unsent += 1;
+            return false;
         }
+        true
     }
 
     fn ended(&self) -> bool {

@@ -4,7 +4,7 @@ ghost use Rattle.std.specs.Prelude.{true};
 use crate::hub::Hub;
 use crate::limits::{FULL_ROWS, NEARLY_FULL_ROWS};
 use crate::tell::tell;
-use sng_desk::Gate;
+use sng_desk::{ActFault, Gate, Receipt, WorkerFault};
 use std::sync::atomic::{AtomicU64, Ordering};
 
 /// After so many beats the worker at the broker looks whether something waits for it.
@@ -58,7 +58,18 @@ impl<'a, R: Eprint + AllocGlobal> Gate for Switch<'a, R> {
         true
     }
 
-    fn after(&self, by: u16, row: u64) {
+    fn refused(&self, _by: u16, _fault: ActFault) {}
+
+    fn short(&self, _by: u16) {}
+
+    fn over(&self, _by: u16, _fault: Option<WorkerFault>) {}
+
+    fn halt(&self) {
+        self.hub.stop();
+    }
+
+    fn after(&self, by: u16, receipt: &Receipt) {
+        let row = receipt.number();
         if by == self.upstream {
             self.hub.acted_upstream();
         }
