@@ -1,7 +1,7 @@
 //! `sng serve ..` and `sng broker ..`.
 use crate::file::{first_no_text, report_word};
 use sng_gateway::Status;
-use sng_serve::Words;
+use sng_serve::{End, Words};
 use sng_text::Octets;
 use std::net::Net;
 use std::rt::{Clock, Files};
@@ -13,7 +13,7 @@ pub fn serve<R: Threads + Wait + Sync + Net + Clock + Files + Input + Print + Ep
     rt: &R,
     words: &[Octets],
     asked: &Words<'_>,
-) -> Status
+) -> End
 where
     R::Reader: Send,
     R::File: Send,
@@ -22,7 +22,7 @@ where
     R::Stream: Send,
 {
     match first_no_text(words) {
-        Some(place) => report_word(rt, place),
+        Some(place) => End::from(report_word(rt, place)),
         None => sng_serve::serve(rt, asked),
     }
 }

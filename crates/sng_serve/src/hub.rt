@@ -1,7 +1,11 @@
 //! What all workers of a running gateway share beside the desk: whether they are to stop, and how those that
 //! wait are woken.
 
+use crate::answers::Answers;
 use crate::bell::Bell;
+use crate::ends::Halt;
+use crate::tally::Tally;
+use std::sync::Mutex;
 use std::sync::atomic::{AtomicBool, Ordering};
 
 #[derive(Drop)]
@@ -9,6 +13,19 @@ pub struct Hub {
     stops: AtomicBool,
     is_up: AtomicBool,
     is_over: AtomicBool,
+    has_full_book: AtomicBool,
+    has_lost_worker: AtomicBool,
+    is_socket_empty: AtomicBool,
+    /// How often an answer may leave for who has no session.
+    pub answers: Mutex<Answers>,
+    /// Acts that were refused for want of memory, and turns of workers that were left out.
+    pub refusals: Tally,
+    /// Datagrams that could not be sent.
+    pub unsent: Tally,
+    /// Answers that were held back.
+    pub held_back: Tally,
+    /// Datagrams that were passed over: the gateway had sent them itself.
+    pub passed_over: Tally,
     /// Wakes the worker at the connection to the broker.
     pub upstream: Bell,
     /// Wakes the ticker.
@@ -18,11 +35,19 @@ pub struct Hub {
 }
 
 impl Hub {
-    pub fn new(upstream: Bell, clock: Bell, printer: Bell) -> Hub {
+    pub fn new(answers: Answers, upstream: Bell, clock: Bell, printer: Bell) -> Hub {
         Hub {
             stops: AtomicBool::new(false),
             is_up: AtomicBool::new(false),
             is_over: AtomicBool::new(false),
+            has_full_book: AtomicBool::new(false),
+            has_lost_worker: AtomicBool::new(false),
+            is_socket_empty: AtomicBool::new(true),
+            answers: Mutex::new(answers),
+            refusals: Tally::new(),
+            unsent: Tally::new(),
+            held_back: Tally::new(),
+            passed_over: Tally::new(),
             upstream,
             clock,
             printer,
@@ -35,6 +60,40 @@ impl Hub {
         self.upstream.ring();
         self.clock.ring();
         self.printer.ring();
+    }
+
+    /// Remembers why the gateway cannot go on as it was.
+    pub fn remember(&self, why: Halt) {
+        match why {
+            Halt::FullBook => self.has_full_book.store(true, Ordering::SeqCst),
+            Halt::LostWorker => self.has_lost_worker.store(true, Ordering::SeqCst),
+        }
+    }
+
+    /// What was remembered; the full book before a lost worker.
+    pub fn halt(&self) -> Option<Halt> {
+        if self.has_full_book.load(Ordering::SeqCst) {
+            return Some(Halt::FullBook);
+        }
+        if self.has_lost_worker.load(Ordering::SeqCst) {
+            return Some(Halt::LostWorker);
+        }
+        None
+    }
+
+    /// A worker looked into the devices' socket, and nothing lay in it.
+    pub fn saw_empty_socket(&self) {
+        self.is_socket_empty.store(true, Ordering::SeqCst);
+    }
+
+    /// Nobody has looked into the socket since now.
+    pub fn look_again(&self) {
+        self.is_socket_empty.store(false, Ordering::SeqCst);
+    }
+
+    /// Whether the socket was seen empty since this was asked for.
+    pub fn has_seen_empty_socket(&self) -> bool {
+        self.is_socket_empty.load(Ordering::SeqCst)
     }
 
     /// Whether the workers are to stop.

@@ -1,22 +1,31 @@
 //! `sng serve`: the gateway between devices and a broker.
 
+use crate::answers::Answers;
 use crate::ask::{Ask, Fault, Words, ask_of};
 use crate::beats::SystemBeats;
+use crate::beginning::{Beginning, begin};
 use crate::bell::Ear;
 use crate::closing::Accounts;
+use crate::descriptors::{EMPTY, hold};
+use crate::ends::End;
 use crate::hub::Hub;
 use crate::limits::FULL_ROWS;
 use crate::link::BrokerLink;
+use crate::lists::Lists;
 use crate::opening::{Ears, NotBegun, crew_of, open, tell_open};
 use crate::policies::OperatorPolicies;
 use crate::printing::start_printer;
+use crate::roles::{OTHERS, Roles};
 use crate::socket::Socket;
 use crate::switch::Switch;
+use crate::tell::tell;
 use sng_desk::{
-    Beats, Crew, Datagrams, Desk, Ended, Gate, NotStarted, Policies, Terms, Upstream, run_workers,
+    Beats, Crew, Datagrams, Desk, Ended, Gate, NotStarted, Policies, Share, Terms, Upstream,
+    run_workers,
 };
 use sng_gateway::Status;
 use sng_gateway::ending::ended;
+use sng_scope::read_policy;
 use std::alloc::AllocError;
 use std::io::Write;
 use std::net::Net;
@@ -25,17 +34,39 @@ use std::sync::{Mutex, Wait};
 use std::thread::Threads;
 use std::{io, thread};
 
-/// What the workers left, where they were started.
-type Ran<'a, R> = Result<
-    Ended<Socket, BrokerLink<'a, R>, SystemBeats<'a, R>, OperatorPolicies<'a, R>>,
-    NotStarted,
+/// What the workers left.
+type Left<'a, R> = Ended<
+    Socket<'a, R>,
+    BrokerLink<'a, R>,
+    SystemBeats<'a, R>,
+    OperatorPolicies<'a, R>,
 >;
 
-/// Serves until `quit` or the end of standard input.
+/// Serves until `quit` or the end of standard input, or until the gateway cannot go on.
 pub fn serve<R: Threads + Wait + Sync + Net + Clock + Files + Input + Print + Eprint + AllocGlobal>(
     rt: &R,
     words: &Words<'_>,
-) -> Status
+) -> End
+where
+    R::Reader: Send,
+    R::File: Send,
+    R::Dir: Send,
+    R::Listener: Send,
+    R::Stream: Send,
+{
+    match hold(rt) {
+        Ok(_descriptors) => serve_apart(rt, words),
+        Err(error) => {
+            tell(rt, format_args!("cannot open {EMPTY}: {error}"));
+            End::from(Status::Failed)
+        }
+    }
+}
+
+/// Serves where no socket can get the number of a standard descriptor.
+fn serve_apart<
+    R: Threads + Wait + Sync + Net + Clock + Files + Input + Print + Eprint + AllocGlobal,
+>(rt: &R, words: &Words<'_>) -> End
 where
     R::Reader: Send,
     R::File: Send,
@@ -45,12 +76,11 @@ where
 {
     let ask = match ask_of(rt, words) {
         Ok(ask) => ask,
-        Err(fault) => return report(rt, &fault),
+        Err(fault) => return End::from(report(rt, &fault)),
     };
     match start(rt, ask) {
-        Ok(status) => status,
-        Err(NotBegun::Socket) => cannot_open(rt, words.listen),
-        Err(NotBegun::Memory) => report(rt, &Fault::Memory),
+        Ok(end) => end,
+        Err(why) => End::from(report_start(rt, &why)),
     }
 }
 
@@ -69,17 +99,29 @@ fn report<R: Print>(rt: &R, fault: &Fault<'_>) -> Status {
     ended(Status::Unreadable, printed.is_ok())
 }
 
-/// Prints that the socket of the devices was not opened.
-fn cannot_open<R: Print>(rt: &R, listen: &str) -> Status {
-    let printed = println!(rt; "cannot open {listen}");
-    ended(Status::Unreadable, printed.is_ok())
+/// Tells why no worker was started.
+fn report_start<R: Print + Eprint + AllocGlobal>(rt: &R, why: &NotBegun) -> Status {
+    match why {
+        NotBegun::Listening(address, error) => {
+            tell(
+                rt,
+                format_args!("--listen {address}: cannot be opened: {error}"),
+            );
+            ended(Status::Unreadable, true)
+        }
+        NotBegun::System(error) => {
+            tell(rt, format_args!("cannot start: {error}"));
+            ended(Status::Unreadable, true)
+        }
+        NotBegun::Memory => report(rt, &Fault::Memory),
+    }
 }
 
 /// Opens the socket, and serves by it.
 fn start<R: Threads + Wait + Sync + Net + Clock + Files + Input + Print + Eprint + AllocGlobal>(
     rt: &R,
     ask: Ask,
-) -> Result<Status, NotBegun>
+) -> Result<End, NotBegun>
 where
     R::Reader: Send,
     R::File: Send,
@@ -88,22 +130,47 @@ where
     R::Stream: Send,
 {
     let alloc = rt.alloc();
-    let Ok(socket) = open(rt, ask.listen) else {
-        return Err(NotBegun::Socket);
-    };
+    let socket = open(rt, ask.listen)?;
     let (upstream, upstream_bell) = Ear::new(rt, alloc)?;
     let (clock, clock_bell) = Ear::new(rt, alloc)?;
     let (printer, printer_bell) = Ear::new(rt, alloc)?;
-    let hub = Hub::new(upstream_bell, clock_bell, printer_bell);
-    let (desk, shares) = Desk::new(alloc, FULL_ROWS, ask.workers.saturating_add(3))?;
+    let answers = Answers::new(alloc)?;
+    let hub = Hub::new(answers, upstream_bell, clock_bell, printer_bell);
+    let shares = ask.workers.saturating_add(OTHERS + 1);
+    let (mut desk, mut shares) = Desk::new(alloc, FULL_ROWS, shares)?;
+    let beginning = begin_first(rt, &mut desk, &mut shares, &ask)?;
     tell_open(rt, &socket);
-    let gate = Switch::new(rt, &hub, ask.workers, ask.is_verbose);
+    let gate = Switch::new(rt, &hub, Roles::new(ask.workers), ask.is_verbose);
     let shows = if ask.is_verbose { Some(printer) } else { None };
     let ears = Ears { upstream, clock };
     let (crew, terms) = crew_of(rt, &hub, ask, shares, &socket, ears)?;
     let desk = Mutex::new(desk);
     let (ran, printed) = run(rt, &hub, &desk, crew, &terms, &gate, shows);
-    Ok(finish(rt, desk.into_inner(), ran, printed))
+    Ok(finish(rt, &hub, desk.into_inner(), beginning, ran, printed))
+}
+
+/// Brings the policy of the start into force, and tells it.
+fn begin_first<R: Wait + Eprint + AllocGlobal>(
+    rt: &R,
+    desk: &mut Desk,
+    shares: &mut Vec<Share>,
+    ask: &Ask,
+) -> Result<Beginning, NotBegun> {
+    let Some(share) = shares.pop() else {
+        return Err(NotBegun::Memory);
+    };
+    let alloc = rt.alloc();
+    let Some(text) = &ask.text else {
+        return Ok(begin(rt, alloc, desk, share, None)?);
+    };
+    // it was read before, so only memory can be wanting
+    let Ok(policy) = read_policy(alloc, text.as_slice()) else {
+        return Err(NotBegun::Memory);
+    };
+    let lists = Lists::of(&policy);
+    let beginning = begin(rt, alloc, desk, share, Some(policy))?;
+    tell(rt, format_args!("policy in force: {lists}"));
+    Ok(beginning)
 }
 
 /// Runs the workers, and prints rows beside them where there is an ear for it. Whether all could be printed.
@@ -151,31 +218,40 @@ fn run<
 
 /// Holds what the workers left against the book, and prints what comes of it. Where standard input could not
 /// be read, nothing is printed.
-fn finish<R: Clock + Net + Files + Input + Print + Eprint + AllocGlobal>(
+fn finish<R: Clock + Net + Wait + Files + Input + Print + Eprint + AllocGlobal>(
     rt: &R,
+    hub: &Hub,
     desk: Desk,
-    ran: Ran<'_, R>,
+    beginning: Beginning,
+    ran: Result<Left<'_, R>, NotStarted>,
     printed: bool,
-) -> Status {
-    match ran {
-        Ok(ended) => {
-            let lost_input = ended.policies.source.has_lost_input();
-            match accounts_of(rt, ended) {
-                Ok(_) if lost_input => Status::Failed,
-                Ok(accounts) => tell_closed(rt, accounts.close(desk), printed),
-                Err(AllocError) => report(rt, &Fault::Memory),
-            }
-        }
-        Err(NotStarted) => tell_closed(rt, None, printed),
+) -> End {
+    let Ok(ended) = ran else {
+        tell(rt, "a thread was refused: a limit of processes, or memory");
+        return End::from(tell_closed(rt, None, printed));
+    };
+    let lost_input = ended.policies.source.has_lost_input();
+    let Ok(accounts) = accounts_of(rt, ended, beginning) else {
+        return End::from(report(rt, &Fault::Memory));
+    };
+    if lost_input {
+        return End::from(Status::Failed);
+    }
+    let status = tell_closed(rt, accounts.close(desk), printed);
+    match (status, hub.halt()) {
+        (Status::Done, Some(why)) => End::Halted(why),
+        (status, _) => End::from(status),
     }
 }
 
 /// What all workers left. The worker at the broker takes leave of it.
-fn accounts_of<R: Clock + Net + Files + Input + Print + Eprint + AllocGlobal>(
+fn accounts_of<R: Clock + Net + Wait + Files + Input + Print + Eprint + AllocGlobal>(
     rt: &R,
-    ended: Ended<Socket, BrokerLink<'_, R>, SystemBeats<'_, R>, OperatorPolicies<'_, R>>,
+    ended: Left<'_, R>,
+    beginning: Beginning,
 ) -> Result<Accounts, AllocError> {
     let mut accounts = Accounts::new(rt.alloc());
+    accounts.take_beginning(beginning)?;
     for end in ended.udp {
         accounts.take(end)?;
     }
