@@ -5,8 +5,9 @@ use crate::answers::Answers;
 use crate::bell::Bell;
 use crate::ends::Halt;
 use crate::tally::Tally;
+use crate::verbosity::Verbosity;
 use std::sync::Mutex;
-use std::sync::atomic::{AtomicBool, Ordering};
+use std::sync::atomic::{AtomicBool, AtomicU8, Ordering};
 
 #[derive(Drop)]
 pub struct Hub {
@@ -16,6 +17,8 @@ pub struct Hub {
     has_full_book: AtomicBool,
     has_lost_worker: AtomicBool,
     is_socket_empty: AtomicBool,
+    /// Which rows are printed, by its number.
+    verbosity: AtomicU8,
     /// How often an answer may leave for who has no session.
     pub answers: Mutex<Answers>,
     /// Acts that were refused for want of memory, and turns of workers that were left out.
@@ -43,6 +46,7 @@ impl Hub {
             has_full_book: AtomicBool::new(false),
             has_lost_worker: AtomicBool::new(false),
             is_socket_empty: AtomicBool::new(true),
+            verbosity: AtomicU8::new(Verbosity::Off.number()),
             answers: Mutex::new(answers),
             refusals: Tally::new(),
             unsent: Tally::new(),
@@ -84,6 +88,17 @@ impl Hub {
     /// A worker looked into the devices' socket, and nothing lay in it.
     pub fn saw_empty_socket(&self) {
         self.is_socket_empty.store(true, Ordering::SeqCst);
+    }
+
+    /// Which rows are printed from now on.
+    pub fn set_verbosity(&self, verbosity: Verbosity) {
+        self.verbosity.store(verbosity.number(), Ordering::SeqCst);
+        self.printer.ring();
+    }
+
+    /// Which rows are printed: none, until it is said.
+    pub fn verbosity(&self) -> Verbosity {
+        Verbosity::of(self.verbosity.load(Ordering::SeqCst))
     }
 
     /// Nobody has looked into the socket since now.

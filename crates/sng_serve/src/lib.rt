@@ -24,6 +24,7 @@ pub mod switch;
 pub mod tally;
 mod tell;
 pub mod testing;
+pub mod verbosity;
 
 pub use ask::Words;
 pub use ends::End;

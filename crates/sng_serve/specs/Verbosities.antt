@@ -1,0 +1,15 @@
+-- By which numbers the verbosities are kept.
+use Rattle.std.specs.Prelude.{ℕ}
+use Rattle.sng_serve.specs.declared.verbosity.Verbosity.{Verbosity}
+use Rattle.sng_serve.specs.declared.verbosity.Verbosity.TheVariants.{Off, Denials, On}
+
+abbrev pub number_of : Verbosity → ℕ
+number_of Off = 0
+number_of Denials = 1
+number_of On = 2
+
+-- that with this number; of any other number all rows are printed
+abbrev pub verbosity_of : ℕ → Verbosity
+verbosity_of 0 = Off
+verbosity_of 1 = Denials
+verbosity_of _ = On
