@@ -17,6 +17,10 @@ pub struct Hub {
     has_full_book: AtomicBool,
     has_lost_worker: AtomicBool,
     is_socket_empty: AtomicBool,
+    /// An operator asked how the gateway stands, and was not answered yet.
+    wants_status: AtomicBool,
+    /// The act on the policy that came last was refused.
+    has_refused_policy: AtomicBool,
     /// Which rows are printed, by its number.
     verbosity: AtomicU8,
     /// How often an answer may leave for who has no session.
@@ -46,6 +50,8 @@ impl Hub {
             has_full_book: AtomicBool::new(false),
             has_lost_worker: AtomicBool::new(false),
             is_socket_empty: AtomicBool::new(true),
+            wants_status: AtomicBool::new(false),
+            has_refused_policy: AtomicBool::new(false),
             verbosity: AtomicU8::new(Verbosity::Off.number()),
             answers: Mutex::new(answers),
             refusals: Tally::new(),
@@ -99,6 +105,27 @@ impl Hub {
     /// Which rows are printed: none, until it is said.
     pub fn verbosity(&self) -> Verbosity {
         Verbosity::of(self.verbosity.load(Ordering::SeqCst))
+    }
+
+    /// Asks whoever prints rows how the gateway stands.
+    pub fn ask_status(&self) {
+        self.wants_status.store(true, Ordering::SeqCst);
+        self.printer.ring();
+    }
+
+    /// Whether it was asked for since this was looked up last.
+    pub fn takes_status(&self) -> bool {
+        self.wants_status.swap(false, Ordering::SeqCst)
+    }
+
+    /// The act on a policy was refused.
+    pub fn refuse_policy(&self) {
+        self.has_refused_policy.store(true, Ordering::SeqCst);
+    }
+
+    /// Whether one was refused since this was looked up last.
+    pub fn takes_policy_refusal(&self) -> bool {
+        self.has_refused_policy.swap(false, Ordering::SeqCst)
     }
 
     /// Nobody has looked into the socket since now.

@@ -84,18 +84,17 @@ where
     }
 }
 
-/// Prints why nothing was started.
-fn report<R: Print>(rt: &R, fault: &Fault<'_>) -> Status {
+/// Tells why nothing was started. Of a refused policy all is printed that `sng policy` prints.
+fn report<R: Print + Eprint + AllocGlobal>(rt: &R, fault: &Fault<'_>) -> Status {
     let printed = match fault {
-        Fault::Address(word) => println!(rt; "bad address {word}"),
-        Fault::Id => rt.println("bad id"),
-        Fault::File(path, error) => println!(rt; "cannot read {path}: {error}"),
-        Fault::Policy(report) => io::writer(rt).write_all(report.lines.as_slice()),
         Fault::Memory => {
             let printed = rt.println("out of memory");
             return ended(Status::OutOfMemory, printed.is_ok());
         }
+        Fault::Policy(_, _, report) => io::writer(rt).write_all(report.lines.as_slice()),
+        Fault::Address(_, _) | Fault::Id(_) | Fault::File(_, _) => Ok(()),
     };
+    tell(rt, format_args!("{fault}"));
     ended(Status::Unreadable, printed.is_ok())
 }
 

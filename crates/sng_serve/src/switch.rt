@@ -121,8 +121,12 @@ impl<'a, R: Clock + Eprint + AllocGlobal> Gate for Switch<'a, R> {
     fn refused(&self, by: u16, fault: ActFault) {
         match fault {
             ActFault::Memory => {
+                let role = self.roles.of(by);
+                if role == Role::Policies {
+                    self.hub.refuse_policy();
+                }
                 self.hub.refusals.add(1);
-                self.tell_counts(self.roles.of(by));
+                self.tell_counts(role);
             }
             // the worker ends by it
             ActFault::BookFull => {}
