@@ -1,7 +1,7 @@
 //! A reader that waits where a read would block: standard input may have been opened so by whoever shares it.
 
 use crate::hub::Hub;
-use std::io::{Error, ErrorKind, Read, Result};
+use std::io::{ErrorKind, Read, Result};
 use std::rt::Clock;
 use std::thread;
 use std::time::Duration;
@@ -9,7 +9,7 @@ use std::time::Duration;
 /// How long it waits before it asks again, in ms.
 const PAUSE_MS: u64 = 50;
 
-/// Reads as any other reader, until the gateway stops.
+/// Reads as any other reader. Where it would block, it waits until the gateway stops: then the input is over.
 #[derive(Drop)]
 pub struct PatientReader<'a, R: Clock, I> {
     rt: &'a R,
@@ -21,25 +21,22 @@ impl<'a, R: Clock, I: Read> PatientReader<'a, R, I> {
     pub fn new(rt: &'a R, hub: &'a Hub, inner: I) -> PatientReader<'a, R, I> {
         PatientReader { rt, hub, inner }
     }
-
-    /// Whether a read that gave this error is to be made again: a little later, while the gateway goes on.
-    fn waits(&self, error: &Error) -> bool {
-        if error.kind() != ErrorKind::WouldBlock || self.hub.stops() {
-            return false;
-        }
-        thread::sleep(self.rt, Duration::from_millis(PAUSE_MS));
-        true
-    }
 }
 
 impl<'a, R: Clock, I: Read> Read for PatientReader<'a, R, I> {
     fn read(&mut self, buf: &mut [u8]) -> Result<usize> {
         for _ in 0..u64::MAX {
             match self.inner.read(buf) {
-                Err(error) if self.waits(&error) => {}
+                Err(error) if error.kind() == ErrorKind::WouldBlock => {
+                    // whoever is told that the input is over ends as the others do
+                    if self.hub.stops() {
+                        return Ok(0);
+                    }
+                    thread::sleep(self.rt, Duration::from_millis(PAUSE_MS));
+                }
                 answer => return answer,
             }
         }
-        Err(Error::from(ErrorKind::WouldBlock))
+        Ok(0)
     }
 }
