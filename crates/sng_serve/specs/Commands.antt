@@ -1,5 +1,5 @@
 -- What a line of standard input asks a running gateway for: words parted by one space, or the text of a policy.
-use Rattle.std.specs.Prelude.{ℕ, ◌-◌, ◌==◌, codes, List, [], ◌∷◌, ◌++◌, length, min, take, if◌then◌else◌, Bool, true, false, Option, Some, None}
+use Rattle.std.specs.Prelude.{ℕ, ◌-◌, ◌==◌, codes, List, [], ◌∷◌, ◌++◌, length, min, take, drop, if◌then◌else◌, Bool, Option, Some, None}
 use Rattle.std.specs.Str.{bytes_eq}
 use Rattle.sng_book.specs.Printing.{name_text}
 use Rattle.sng_gateway.specs.Lines.{parted}
@@ -40,9 +40,7 @@ request_of (command.Unknown line) = NotKnown line.now
 
 -- whether the last byte is a carriage return, 13
 abbrev pub ends_with_return : List ℕ → Bool
-ends_with_return [] = false
-ends_with_return (b ∷ []) = b == 13
-ends_with_return (b ∷ (c ∷ rest)) = ends_with_return (c ∷ rest)
+ends_with_return line = bytes_eq (drop (length line - 1) line) (13 ∷ [])
 
 -- the line without the carriage return at its end
 abbrev pub without_return : List ℕ → List ℕ
@@ -91,7 +89,10 @@ text_request (b ∷ rest) =
 abbrev pub asked_by : List ℕ → Request
 asked_by line = text_request (without_return line)
 
+-- what of a line is shown
+abbrev pub front_of : List ℕ → List ℕ
+front_of line = take (min (length line) MAX_SHOWN) line
+
 -- what is told of a line that asks for nothing that is known
 abbrev pub unknown_text : List ℕ → List ℕ
-unknown_text line =
-    codes "unknown command: " ++ (name_text (take (min (length line) MAX_SHOWN) line) ++ codes " ('help' lists them)")
+unknown_text line = codes "unknown command: " ++ (name_text (front_of line) ++ codes " ('help' lists them)")

@@ -1,5 +1,5 @@
 -- By which numbers the verbosities are kept.
-use Rattle.std.specs.Prelude.{ℕ}
+use Rattle.std.specs.Prelude.{ℕ, ◌==◌, if◌then◌else◌}
 use Rattle.sng_serve.specs.declared.verbosity.Verbosity.{Verbosity}
 use Rattle.sng_serve.specs.declared.verbosity.Verbosity.TheVariants.{Off, Denials, On}
 
@@ -10,6 +10,4 @@ number_of On = 2
 
 -- that with this number; of any other number all rows are printed
 abbrev pub verbosity_of : ℕ → Verbosity
-verbosity_of 0 = Off
-verbosity_of 1 = Denials
-verbosity_of _ = On
+verbosity_of number = if number == 0 then Off else (if number == 1 then Denials else On)

@@ -1,6 +1,6 @@
 //! What a line of standard input asks a running gateway for.
-ghost use Rattle.std.specs.Prelude.{◌≡◌, ◌++◌, OnOk};
-ghost use Rattle.sng_serve.specs.Commands.{asked_by, request_of, unknown_text, verbosity_named, without_return, word_request, words_request};
+ghost use Rattle.std.specs.Prelude.{◌≡◌, ◌++◌, codes, OnOk};
+ghost use Rattle.sng_serve.specs.Commands.{asked_by, front_of, request_of, unknown_text, verbosity_named, without_return, word_request, words_request};
 
 use crate::verbosity::Verbosity;
 use sng_book::print::push_name;
@@ -109,9 +109,9 @@ fn verbosity_named(word: &[u8]) -> Option<Verbosity>
 fn without_return(line: &[u8]) -> &[u8]
     ensures { result.now ≡ without_return line.now }
 {
-    match line {
-        [text @ .., b'\r'] => text,
-        _ => line,
+    match line.strip_suffix(b"\r".as_slice()) {
+        Some(text) => text,
+        None => line,
     }
 }
 
@@ -120,7 +120,20 @@ pub fn push_unknown(text: &mut Vec<u8>, line: &[u8]) -> Result<(), AllocError>
     ensures { OnOk result (text.new.items ≡ text.old.items ++ unknown_text line.now) }
 {
     text.extend_from_slice(b"unknown command: ")?;
-    let shown = line.len().min(MAX_SHOWN);
-    push_name(text, &line[..shown])?;
+    push_name(text, front_of(line))?;
+    push_hint(text)
+}
+
+/// Appends where the lines are told that are known.
+fn push_hint(text: &mut Vec<u8>) -> Result<(), AllocError>
+    ensures { OnOk result (text.new.items ≡ text.old.items ++ codes " ('help' lists them)") }
+{
     text.extend_from_slice(b" ('help' lists them)")
+}
+
+/// The line, or what of it is shown.
+fn front_of(line: &[u8]) -> &[u8]
+    ensures { result.now ≡ front_of line.now }
+{
+    &line[..line.len().min(MAX_SHOWN)]
 }

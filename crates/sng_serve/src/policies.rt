@@ -16,6 +16,7 @@ use sng_gateway::input::read_line;
 use sng_gateway::may::push_refused;
 use sng_grants::Policy;
 use sng_scope::{PolicyFault, read_policy};
+use sng_text::Octets;
 use std::alloc::AllocError;
 use std::io::{BufReader, Write};
 use std::rt::{Clock, Files};
@@ -57,7 +58,7 @@ impl<'a, R: Clock + Input + Print + Eprint + Files + AllocGlobal> OperatorPolici
             input,
             line: Vec::new(alloc),
             file,
-            in_force: InForce::new(text),
+            in_force: InForce::new(text.map(Octets::from)),
             has_ended: false,
             lost_input: false,
         })

@@ -2,7 +2,7 @@
 ghost use Rattle.std.specs.Prelude.{◌≡◌, ◌++◌, IfOk, OnOk, length};
 ghost use Rattle.sng_core.specs.Census.{census_of};
 ghost use Rattle.sng_gateway.specs.Places.{count_text};
-ghost use Rattle.sng_serve.specs.Standings.{broker_text, clients_text, up_text, waiting_text, policy_text, rows_text, status_text};
+ghost use Rattle.sng_serve.specs.Standings.{absent_text, broker_text, clients_text, last_text, present_text, up_text, waiting_text, policy_text, rows_text, status_text};
 
 use sng_book::print::push_decimal;
 use sng_core::census::{Census, ClientCounts, ListedCounts};
@@ -50,8 +50,7 @@ fn push_broker(text: &mut Vec<u8>, census: &Census) -> Result<(), AllocError>
 {
     text.extend_from_slice(up_text(census.is_up).as_bytes())?;
     push_count(text, ", waiting: ", census.items as u64)?;
-    push_count(text, ", in flight: ", census.in_flight as u64)?;
-    text.extend_from_slice(b"\n")
+    push_last(text, ", in flight: ", census.in_flight as u64)
 }
 
 /// Whether the broker is there.
@@ -69,13 +68,26 @@ fn up_text(is_up: bool) -> &'static str
 fn push_clients(text: &mut Vec<u8>, clients: &ClientCounts) -> Result<(), AllocError>
     ensures { OnOk result (text.new.items ≡ text.old.items ++ clients_text clients.now) }
 {
+    push_present(text, clients)?;
+    push_absent(text, clients)
+}
+
+/// Appends those that are connected or asleep.
+fn push_present(text: &mut Vec<u8>, clients: &ClientCounts) -> Result<(), AllocError>
+    ensures { OnOk result (text.new.items ≡ text.old.items ++ present_text clients.now) }
+{
     push_count(text, "status clients: active ", clients.active as u64)?;
     push_count(text, ", asleep ", clients.asleep as u64)?;
-    push_count(text, ", awake ", clients.awake as u64)?;
+    push_count(text, ", awake ", clients.awake as u64)
+}
+
+/// Appends those that are not connected yet, or no longer.
+fn push_absent(text: &mut Vec<u8>, clients: &ClientCounts) -> Result<(), AllocError>
+    ensures { OnOk result (text.new.items ≡ text.old.items ++ absent_text clients.now) }
+{
     push_count(text, ", in dialogue ", clients.in_dialogue as u64)?;
     push_count(text, ", disconnected ", clients.disconnected as u64)?;
-    push_count(text, ", lost ", clients.lost as u64)?;
-    text.extend_from_slice(b"\n")
+    push_last(text, ", lost ", clients.lost as u64)
 }
 
 /// Appends the line of what stands and waits for clients.
@@ -83,8 +95,7 @@ fn push_waiting(text: &mut Vec<u8>, clients: &ClientCounts) -> Result<(), AllocE
     ensures { OnOk result (text.new.items ≡ text.old.items ++ waiting_text clients.now) }
 {
     push_count(text, "status subscriptions: ", clients.filters as u64)?;
-    push_count(text, ", messages waiting: ", clients.messages as u64)?;
-    text.extend_from_slice(b"\n")
+    push_last(text, ", messages waiting: ", clients.messages as u64)
 }
 
 /// Appends the line of the policy.
@@ -93,8 +104,7 @@ fn push_policy(text: &mut Vec<u8>, policy: &ListedCounts) -> Result<(), AllocErr
 {
     push_count(text, "status policy: clients ", policy.clients as u64)?;
     push_count(text, ", sources ", policy.sources as u64)?;
-    push_count(text, ", topics ", policy.topics as u64)?;
-    text.extend_from_slice(b"\n")
+    push_last(text, ", topics ", policy.topics as u64)
 }
 
 /// Appends the line of the book.
@@ -102,12 +112,11 @@ fn push_rows(text: &mut Vec<u8>, standing: &Standing) -> Result<(), AllocError>
     ensures { OnOk result (text.new.items ≡ text.old.items ++ rows_text standing.now) }
 {
     push_count(text, "status rows: ", standing.rows)?;
-    push_count(
+    push_last(
         text,
         ", left: ",
         standing.limit.saturating_sub(standing.rows),
-    )?;
-    text.extend_from_slice(b"\n")
+    )
 }
 
 /// Appends the words, and the number behind them.
@@ -116,4 +125,12 @@ fn push_count(text: &mut Vec<u8>, words: &str, count: u64) -> Result<(), AllocEr
 {
     text.extend_from_slice(words.as_bytes())?;
     push_decimal(text, count)
+}
+
+/// The same at the end of a line.
+fn push_last(text: &mut Vec<u8>, words: &str, count: u64) -> Result<(), AllocError>
+    ensures { OnOk result (text.new.items ≡ text.old.items ++ last_text words.now count) }
+{
+    push_count(text, words, count)?;
+    text.extend_from_slice(b"\n")
 }
