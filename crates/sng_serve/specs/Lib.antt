@@ -1,3 +1,5 @@
 pub mod Beginnings
+pub mod Denials
 pub mod Ends
+pub mod Rows
 pub mod Verbosities
