@@ -3,7 +3,6 @@ ghost use Rattle.std.specs.Prelude.{◌≡◌, ◌≢◌, [], false, true};
 ghost use Rattle.sng_desk.specs.declared.source.Got.TheVariants.{Ended as ended_answer, Failed as failed_answer};
 
 use crate::hub::Hub;
-use crate::tell::tell;
 use sng_desk::{Got, Policies};
 use sng_gateway::file::read_text;
 use sng_gateway::input::read_line;
@@ -11,7 +10,7 @@ use sng_gateway::may::push_refused;
 use sng_grants::Policy;
 use sng_scope::{PolicyFault, read_policy};
 use std::alloc::AllocError;
-use std::io::{BufReader, Write};
+use std::io::BufReader;
 use std::rt::Files;
 use std::{fs, io};
 
@@ -77,7 +76,7 @@ impl<'a, R: Input + Print + Eprint + Files + AllocGlobal> OperatorPolicies<'a, R
                 self.end(stops)
             }
             Err(_) => {
-                tell(self.rt, "standard input cannot be read");
+                self.hub.tell("standard input cannot be read");
                 self.lost_input = true;
                 self.end(true)
             }
@@ -93,7 +92,7 @@ impl<'a, R: Input + Print + Eprint + Files + AllocGlobal> OperatorPolicies<'a, R
             Wish::Nothing => Got::Nothing,
             Wish::Quit => self.end(true),
             Wish::Reload => self.reload(),
-            Wish::Policy => policy_of(self.rt, trimmed(self.line.as_slice())),
+            Wish::Policy => policy_of(self.rt, self.hub, trimmed(self.line.as_slice())),
         }
     }
 
@@ -102,8 +101,8 @@ impl<'a, R: Input + Print + Eprint + Files + AllocGlobal> OperatorPolicies<'a, R
         ensures { result ≢ ended_answer × result ≢ failed_answer }
     {
         match &self.file {
-            Some(path) => reload(self.rt, path.as_str()),
-            None => policy_of(self.rt, self.line.as_slice()),
+            Some(path) => reload(self.rt, self.hub, path.as_str()),
+            None => policy_of(self.rt, self.hub, self.line.as_slice()),
         }
     }
 
@@ -131,7 +130,7 @@ impl<'a, R: Input + Print + Eprint + Files + AllocGlobal> Policies for OperatorP
 
     fn next(&mut self) -> Got<Policy> {
         match self.first.take() {
-            Some(text) => policy_of(self.rt, text.as_slice()),
+            Some(text) => policy_of(self.rt, self.hub, text.as_slice()),
             None => self.read(),
         }
     }
@@ -176,13 +175,13 @@ fn trimmed(line: &[u8]) -> &[u8] {
 }
 
 /// The policy of the file. One that cannot be read or is refused is told, and replaces nothing.
-fn reload<R: Print + Eprint + Files + AllocGlobal>(rt: &R, path: &str) -> Got<Policy>
+fn reload<R: Files + AllocGlobal>(rt: &R, hub: &Hub, path: &str) -> Got<Policy>
     ensures { result ≢ ended_answer × result ≢ failed_answer }
 {
     match file_text(rt, path) {
-        Ok(text) => policy_of(rt, text.as_slice()),
+        Ok(text) => policy_of(rt, hub, text.as_slice()),
         Err(error) => {
-            tell(rt, format_args!("cannot read {path}: {error}"));
+            hub.tell(format_args!("cannot read {path}: {error}"));
             Got::Nothing
         }
     }
@@ -194,40 +193,36 @@ pub fn file_text<R: Files + AllocGlobal>(rt: &R, path: &str) -> io::Result<Vec<u
 }
 
 /// The policy that the text is. One that is refused is told, and replaces nothing.
-fn policy_of<R: Print + Eprint + AllocGlobal>(rt: &R, text: &[u8]) -> Got<Policy>
+fn policy_of<R: AllocGlobal>(rt: &R, hub: &Hub, text: &[u8]) -> Got<Policy>
     ensures { result ≢ ended_answer × result ≢ failed_answer }
 {
     match read_policy(rt.alloc(), text) {
         Ok(policy) => {
-            tell_policy(rt, &policy);
+            tell_policy(hub, &policy);
             Got::Came(policy)
         }
         Err(fault) => {
-            refuse(rt, fault);
+            refuse(rt, hub, fault);
             Got::Nothing
         }
     }
 }
 
 /// Tells how much a policy lists that comes into force.
-fn tell_policy<R: Eprint + AllocGlobal>(rt: &R, policy: &Policy) {
+fn tell_policy(hub: &Hub, policy: &Policy) {
     let (clients, sources) = (policy.clients.len(), policy.sources.len());
     let topics = policy.topics.len();
-    tell(
-        rt,
-        format_args!("policy in force: {clients} clients, {sources} sources, {topics} topics"),
-    );
+    hub.tell(format_args!(
+        "policy in force: {clients} clients, {sources} sources, {topics} topics"
+    ));
 }
 
 /// Prints the fault of a policy text, and tells it.
-fn refuse<R: Print + Eprint + AllocGlobal>(rt: &R, fault: PolicyFault) {
+fn refuse<R: AllocGlobal>(rt: &R, hub: &Hub, fault: PolicyFault) {
     let mut line = Vec::new(rt.alloc());
     if push_refused(&mut line, fault).is_ok() {
-        let _ = io::writer(rt).write_all(line.as_slice());
+        hub.print(line);
     }
     let name = fault.name();
-    tell(
-        rt,
-        format_args!("policy refused: {name}: the one before stays"),
-    );
+    hub.tell(format_args!("policy refused: {name}: the one before stays"));
 }
