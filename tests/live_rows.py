@@ -51,10 +51,8 @@ def denials_are_told(room):
     gateway.line('err', '^sng: denied: connect s1 - 3 NoScope s1$')
     device = room.device(gateway)
     count, begun = 500, time.monotonic()
-    for _ in range(count):
-        device.publish_short('cd', b'x')
-        time.sleep(0.0005)
-    gateway.line('err', '^sng: denied: publish %s cd 5 UnknownSource$' % re.escape(HOST))
+    publish_many(device, count)
+    gateway.line('err', '^sng: denied: publish %s - 5 UnknownSource$' % re.escape(HOST))
     gateway.line('err', r'^sng: \d+ more denials$')
     time.sleep(2)
     gateway.close(verbose=False)
@@ -65,6 +63,13 @@ def denials_are_told(room):
     seconds = time.monotonic() - begun + 1
     wanted(len(lines) <= 20 * seconds, '20 lines a second, and not %d in %.1f s' % (len(lines), seconds))
     wanted(not any(line.startswith('row ') for line in gateway.lines['out']), 'no rows')
+
+
+def publish_many(device, count):
+    """So many that are denied, at a pace at which none is lost."""
+    for _ in range(count):
+        device.publish_short('cd', b'denied')
+        time.sleep(0.0005)
 
 
 def full_pipe(blocks=True):
@@ -110,8 +115,7 @@ def a_stuck_standard_error(room):
     try:
         gateway, device = begin(room, broker.port, free_listen(), stderr=sink)
         os.close(sink)
-        for _ in range(600):
-            device.publish_short('cd', b'denied')
+        publish_many(device, 600)
         device.publish(device.register('t/1'), b'hi')
         heard.hears('t/1', 'hi')
         before = time.monotonic()
@@ -130,8 +134,7 @@ def a_stuck_standard_output(room):
     try:
         gateway, device = begin(room, broker.port, free_listen(), '--verbose', stdout=sink)
         os.close(sink)
-        for _ in range(2000):
-            device.publish_short('cd', b'denied')
+        publish_many(device, 2000)
         device.publish(device.register('t/1'), b'hi')
         heard.hears('t/1', 'hi')
         gateway.line('err', '^sng: denied: publish ')

@@ -21,7 +21,7 @@ use crate::socket::Socket;
 use crate::switch::Switch;
 use crate::tell::tell;
 use crate::verbosity::Verbosity;
-use crate::writers::{end_of_patience, start_errors, start_output, wait_for};
+use crate::writers::{end_of_patience, start_errors, start_output, wait_for, wait_for_last_words};
 use sng_desk::{
     Beats, Crew, Datagrams, Desk, Ended, Gate, NotStarted, Policies, Share, Terms, Upstream,
     run_workers,
@@ -194,7 +194,7 @@ where
     let desk = Mutex::new(desk);
     let (ran, printed) = run(rt, &hub, &desk, crew, &terms, &gate, printer);
     let end = finish(rt, &hub, desk.into_inner(), beginning, ran, printed);
-    let _ = wait_for(rt, &hub.errors, printed.end);
+    wait_for_last_words(rt, &hub.errors, printed.end);
     Ok(end)
 }
 

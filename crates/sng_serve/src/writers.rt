@@ -19,6 +19,9 @@ const RETRY_MS: u64 = 200;
 /// How long the end of the program waits for what is not written yet, in ms.
 const PATIENCE_MS: u64 = 2000;
 
+/// How long it waits for the last lines for an operator at least, in ms.
+const LAST_WORDS_MS: u64 = 250;
+
 /// How long that wait sleeps at a time, in ms.
 const NAP_MS: u64 = 1;
 
@@ -128,10 +131,21 @@ fn rest<R: Clock>(rt: &R, ear: &mut Ear) {
     }
 }
 
+/// The time after so many ms.
+fn end_after<R: Clock>(rt: &R, time: u64) -> Duration {
+    let now = rt.monotonic().unwrap_or(Duration::MAX);
+    now.saturating_add(Duration::from_millis(time))
+}
+
 /// When the end of the program waits no longer for what is not written yet.
 pub fn end_of_patience<R: Clock>(rt: &R) -> Duration {
-    let now = rt.monotonic().unwrap_or(Duration::MAX);
-    now.saturating_add(Duration::from_millis(PATIENCE_MS))
+    end_after(rt, PATIENCE_MS)
+}
+
+/// Waits until the last lines for an operator are written, up to this time, and a little longer for those that
+/// tell what was not printed in it.
+pub fn wait_for_last_words<R: Clock>(rt: &R, errors: &Board, end: Duration) {
+    let _ = wait_for(rt, errors, end.max(end_after(rt, LAST_WORDS_MS)));
 }
 
 /// Whether this time has come. It has where the clock cannot be read.
