@@ -16,7 +16,7 @@ const LONGEST_WAIT_MS: u64 = 60000;
 /// After which time a write that failed is tried again, in ms.
 const RETRY_MS: u64 = 200;
 
-/// How long the end of the program waits for what is not written yet, in ms.
+/// How long the end of the program waits for a stream that takes nothing, in ms.
 const PATIENCE_MS: u64 = 2000;
 
 /// How long it waits for the last lines for an operator at least, in ms.
@@ -137,7 +137,7 @@ fn end_after<R: Clock>(rt: &R, time: u64) -> Duration {
     now.saturating_add(Duration::from_millis(time))
 }
 
-/// When the end of the program waits no longer for what is not written yet.
+/// When the end of the program waits no longer for a stream that takes nothing.
 pub fn end_of_patience<R: Clock>(rt: &R) -> Duration {
     end_after(rt, PATIENCE_MS)
 }
@@ -153,11 +153,17 @@ pub fn is_past<R: Clock>(rt: &R, end: Duration) -> bool {
     end <= rt.monotonic().unwrap_or(Duration::MAX)
 }
 
-/// Waits until all texts are written, or up to this time. Whether they are.
+/// Waits until all texts are written, or the stream takes nothing any more: up to this time, and for as long as
+/// texts are written one after another. Whether all are.
 pub fn wait_for<R: Clock>(rt: &R, board: &Board, end: Duration) -> bool {
+    let (mut end, mut left) = (end, board.waiting());
     for _ in 0..u64::MAX {
-        if board.waiting() == 0 {
+        let waiting = board.waiting();
+        if waiting == 0 {
             return true;
+        }
+        if waiting != left {
+            (end, left) = (end_of_patience(rt), waiting);
         }
         if is_past(rt, end) {
             break;
