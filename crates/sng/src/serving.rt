@@ -9,7 +9,7 @@ use std::sync::Wait;
 use std::thread::Threads;
 
 /// Serves as the words say.
-pub fn serve<R: Threads + Wait + Sync + Net + Clock + Files + Input + Print + Eprint + AllocGlobal>(
+pub fn serve<R: Threads + Wait + Sync + Copy + Send + 'static + Net + Clock + Files + Input + Print + Eprint + AllocGlobal>(
     rt: &R,
     words: &[Octets],
     asked: &Words<'_>,

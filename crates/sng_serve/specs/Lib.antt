@@ -1,6 +1,8 @@
 pub mod Beginnings
 pub mod Commands
+pub mod Denials
 pub mod Ends
+pub mod Rows
 pub mod Standings
 pub mod Texts
 pub mod Verbosities

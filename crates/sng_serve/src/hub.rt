@@ -3,11 +3,14 @@
 
 use crate::answers::Answers;
 use crate::bell::Bell;
+use crate::board::Board;
 use crate::ends::Halt;
 use crate::tally::Tally;
 use crate::verbosity::Verbosity;
-use std::sync::Mutex;
+use std::alloc::Global;
+use std::fmt::Display;
 use std::sync::atomic::{AtomicBool, AtomicU8, Ordering};
+use std::sync::{Arc, Mutex};
 
 #[derive(Drop)]
 pub struct Hub {
@@ -39,10 +42,20 @@ pub struct Hub {
     pub clock: Bell,
     /// Wakes whoever prints rows.
     pub printer: Bell,
+    /// What waits for standard output, and for standard error.
+    pub output: Arc<Board, Global>,
+    pub errors: Arc<Board, Global>,
 }
 
 impl Hub {
-    pub fn new(answers: Answers, upstream: Bell, clock: Bell, printer: Bell) -> Hub {
+    pub fn new(
+        answers: Answers,
+        upstream: Bell,
+        clock: Bell,
+        printer: Bell,
+        output: Arc<Board, Global>,
+        errors: Arc<Board, Global>,
+    ) -> Hub {
         Hub {
             stops: AtomicBool::new(false),
             is_up: AtomicBool::new(false),
@@ -61,7 +74,19 @@ impl Hub {
             upstream,
             clock,
             printer,
+            output,
+            errors,
         }
+    }
+
+    /// Tells an operator: a line on standard error, for which nobody waits.
+    pub fn tell<D: Display + Drop>(&self, what: D) {
+        (*self.errors).tell(what);
+    }
+
+    /// Prints a text of whole lines on standard output, for which nobody waits.
+    pub fn print(&self, text: Vec<u8>) {
+        let _ = (*self.output).post(text, 0);
     }
 
     /// Stops all workers, each once it has finished its turn.

@@ -6,7 +6,6 @@ ghost use Rattle.sng_desk.specs.declared.connection.ReadAnswer.TheVariants.{Gone
 
 use crate::bell::Ear;
 use crate::hub::Hub;
-use crate::tell::tell;
 use mio::net::TcpStream;
 use mio::{Interest, Token};
 use sng_desk::{Opening, ReadAnswer, Upstream, Written};
@@ -148,16 +147,10 @@ impl<'a, R: Clock + Net + Eprint + AllocGlobal> BrokerLink<'a, R> {
         let address = self.address;
         if self.tries <= self.missed {
             let count = self.missed;
-            tell(
-                self.rt,
-                format_args!("broker {address}: {why}; gave up after {count} tries"),
-            );
+            self.hub.tell(format_args!("broker {address}: {why}; gave up after {count} tries"));
         } else {
             let pause = pause_after(self.missed);
-            tell(
-                self.rt,
-                format_args!("broker {address}: {why}; trying again in {pause} ms"),
-            );
+            self.hub.tell(format_args!("broker {address}: {why}; trying again in {pause} ms"));
         }
     }
 
@@ -168,7 +161,7 @@ impl<'a, R: Clock + Net + Eprint + AllocGlobal> BrokerLink<'a, R> {
         self.stream = None;
         if self.is_accepted {
             let address = self.address;
-            tell(self.rt, format_args!("broker {address}: lost: {why}"));
+            self.hub.tell(format_args!("broker {address}: lost: {why}"));
         } else {
             self.miss(why);
         }
@@ -280,7 +273,7 @@ impl<'a, R: Clock + Net + Eprint + AllocGlobal> BrokerLink<'a, R> {
             self.is_accepted = true;
             self.missed = 0;
             let address = self.address;
-            tell(self.rt, format_args!("broker {address}: connected"));
+            self.hub.tell(format_args!("broker {address}: connected"));
         }
     }
 

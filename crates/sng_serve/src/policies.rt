@@ -9,7 +9,6 @@ use crate::in_force::InForce;
 use crate::lists::Lists;
 use crate::patient::PatientReader;
 use crate::reports::tell_report;
-use crate::tell::tell;
 use sng_desk::{Got, Policies};
 use sng_gateway::file::read_text;
 use sng_gateway::input::read_line;
@@ -18,7 +17,7 @@ use sng_grants::Policy;
 use sng_scope::{PolicyFault, read_policy};
 use sng_text::Octets;
 use std::alloc::AllocError;
-use std::io::{BufReader, Write};
+use std::io::BufReader;
 use std::rt::{Clock, Files};
 use std::{fs, io, str};
 
@@ -84,7 +83,7 @@ impl<'a, R: Clock + Input + Print + Eprint + Files + AllocGlobal> OperatorPolici
                 self.end(stops)
             }
             Err(_) => {
-                tell(self.rt, "standard input cannot be read");
+                self.hub.tell("standard input cannot be read");
                 self.lost_input = true;
                 self.end(true)
             }
@@ -98,13 +97,13 @@ impl<'a, R: Clock + Input + Print + Eprint + Files + AllocGlobal> OperatorPolici
     {
         match command_of(self.line.as_slice()) {
             Command::Nothing => {}
-            Command::Policy(text) => return give(self.rt, &mut self.in_force, text),
+            Command::Policy(text) => return give(self.rt, self.hub, &mut self.in_force, text),
             Command::Reload => return self.reload(),
             Command::Status => self.hub.ask_status(),
             Command::Verbose(verbosity) => self.hub.set_verbosity(verbosity),
-            Command::Help => tell_help(self.rt),
+            Command::Help => tell_help(self.hub),
             Command::Quit => return self.end(true),
-            Command::Unknown(line) => tell_unknown(self.rt, line),
+            Command::Unknown(line) => tell_unknown(self.rt, self.hub, line),
         }
         Got::Nothing
     }
@@ -114,13 +113,13 @@ impl<'a, R: Clock + Input + Print + Eprint + Files + AllocGlobal> OperatorPolici
         ensures { result ≢ ended_answer × result ≢ failed_answer }
     {
         let Some(path) = &self.file else {
-            tell(self.rt, "nothing to reload: --policy names no file");
+            self.hub.tell("nothing to reload: --policy names no file");
             return Got::Nothing;
         };
         match file_text(self.rt, path.as_str()) {
-            Ok(text) => give(self.rt, &mut self.in_force, text.as_slice()),
+            Ok(text) => give(self.rt, self.hub, &mut self.in_force, text.as_slice()),
             Err(error) => {
-                tell(self.rt, format_args!("cannot read {path}: {error}"));
+                self.hub.tell(format_args!("cannot read {path}: {error}"));
                 Got::Nothing
             }
         }
@@ -145,12 +144,10 @@ impl<'a, R: Clock + Input + Print + Eprint + Files + AllocGlobal> OperatorPolici
             return;
         };
         if is_refused {
-            tell(
-                self.rt,
-                "policy refused: allocation failed: the one before stays",
-            );
+            self.hub
+                .tell("policy refused: allocation failed: the one before stays");
         } else {
-            tell(self.rt, format_args!("policy in force: {lists}"));
+            self.hub.tell(format_args!("policy in force: {lists}"));
         }
     }
 }
@@ -182,54 +179,51 @@ pub fn file_text<R: Files + AllocGlobal>(rt: &R, path: &str) -> io::Result<Vec<u
 
 /// The policy that the text is, with its warnings told. One that is refused is told, and replaces nothing; one
 /// that is in force already makes no event.
-fn give<R: Print + Eprint + AllocGlobal>(rt: &R, in_force: &mut InForce, text: &[u8]) -> Got<Policy>
+fn give<R: AllocGlobal>(rt: &R, hub: &Hub, in_force: &mut InForce, text: &[u8]) -> Got<Policy>
     ensures { result ≢ ended_answer × result ≢ failed_answer }
 {
     if in_force.is(text) {
-        tell(rt, "policy unchanged: nothing to do");
+        hub.tell("policy unchanged: nothing to do");
         return Got::Nothing;
     }
     match read_policy(rt.alloc(), text) {
         Ok(policy) => {
-            tell_report(rt, text);
+            tell_report(rt, hub, text);
             in_force.propose(rt.alloc(), text, Lists::of(&policy));
             Got::Came(policy)
         }
         Err(fault) => {
-            refuse(rt, text, fault);
+            refuse(rt, hub, text, fault);
             Got::Nothing
         }
     }
 }
 
 /// Prints the fault of a policy text, and tells it with its place.
-fn refuse<R: Print + Eprint + AllocGlobal>(rt: &R, text: &[u8], fault: PolicyFault) {
+fn refuse<R: AllocGlobal>(rt: &R, hub: &Hub, text: &[u8], fault: PolicyFault) {
     let mut line = Vec::new(rt.alloc());
     if push_refused(&mut line, fault).is_ok() {
-        let _ = io::writer(rt).write_all(line.as_slice());
+        hub.print(line);
     }
     let name = fault.name();
-    tell(
-        rt,
-        format_args!("policy refused: {name}: the one before stays"),
-    );
-    tell_report(rt, text);
+    hub.tell(format_args!("policy refused: {name}: the one before stays"));
+    tell_report(rt, hub, text);
 }
 
 /// Tells what a line can ask for.
-fn tell_help<R: Eprint + AllocGlobal>(rt: &R) {
+fn tell_help(hub: &Hub) {
     for line in HELP {
-        tell(rt, line);
+        hub.tell(line);
     }
 }
 
 /// Tells that the line asks for nothing that is known.
-fn tell_unknown<R: Eprint + AllocGlobal>(rt: &R, line: &[u8]) {
+fn tell_unknown<R: AllocGlobal>(rt: &R, hub: &Hub, line: &[u8]) {
     let mut text = Vec::new(rt.alloc());
     if push_unknown(&mut text, line).is_err() {
         return;
     }
     if let Ok(text) = str::from_utf8(text.as_slice()) {
-        tell(rt, text);
+        hub.tell(text);
     }
 }

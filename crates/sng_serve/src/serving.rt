@@ -4,7 +4,8 @@ use crate::answers::Answers;
 use crate::ask::{Ask, Fault, Words, ask_of};
 use crate::beats::SystemBeats;
 use crate::beginning::{Beginning, begin};
-use crate::bell::Ear;
+use crate::bell::{Bell, Ear};
+use crate::board::Board;
 use crate::closing::Accounts;
 use crate::descriptors::{EMPTY, hold};
 use crate::ends::End;
@@ -14,11 +15,13 @@ use crate::link::BrokerLink;
 use crate::lists::Lists;
 use crate::opening::{Ears, NotBegun, crew_of, open, tell_open};
 use crate::policies::OperatorPolicies;
-use crate::printing::start_printer;
+use crate::printing::{Printed, start_printer};
 use crate::roles::{OTHERS, Roles};
 use crate::socket::Socket;
 use crate::switch::Switch;
 use crate::tell::tell;
+use crate::verbosity::Verbosity;
+use crate::writers::{end_of_patience, start_errors, start_output, wait_for, wait_for_last_words};
 use sng_desk::{
     Beats, Crew, Datagrams, Desk, Ended, Gate, NotStarted, Policies, Share, Terms, Upstream,
     run_workers,
@@ -26,11 +29,11 @@ use sng_desk::{
 use sng_gateway::Status;
 use sng_gateway::ending::ended;
 use sng_scope::read_policy;
-use std::alloc::AllocError;
+use std::alloc::{AllocError, Global};
 use std::io::Write;
 use std::net::Net;
 use std::rt::{Clock, Files};
-use std::sync::{Mutex, Wait};
+use std::sync::{Arc, Mutex, Wait};
 use std::thread::Threads;
 use std::{io, thread};
 
@@ -43,10 +46,21 @@ type Left<'a, R> = Ended<
 >;
 
 /// Serves until `quit` or the end of standard input, or until the gateway cannot go on.
-pub fn serve<R: Threads + Wait + Sync + Net + Clock + Files + Input + Print + Eprint + AllocGlobal>(
-    rt: &R,
-    words: &Words<'_>,
-) -> End
+pub fn serve<
+    R: Threads
+        + Wait
+        + Sync
+        + Copy
+        + Send
+        + 'static
+        + Net
+        + Clock
+        + Files
+        + Input
+        + Print
+        + Eprint
+        + AllocGlobal,
+>(rt: &R, words: &Words<'_>) -> End
 where
     R::Reader: Send,
     R::File: Send,
@@ -65,7 +79,19 @@ where
 
 /// Serves where no socket can get the number of a standard descriptor.
 fn serve_apart<
-    R: Threads + Wait + Sync + Net + Clock + Files + Input + Print + Eprint + AllocGlobal,
+    R: Threads
+        + Wait
+        + Sync
+        + Copy
+        + Send
+        + 'static
+        + Net
+        + Clock
+        + Files
+        + Input
+        + Print
+        + Eprint
+        + AllocGlobal,
 >(rt: &R, words: &Words<'_>) -> End
 where
     R::Reader: Send,
@@ -117,10 +143,21 @@ fn report_start<R: Print + Eprint + AllocGlobal>(rt: &R, why: &NotBegun) -> Stat
 }
 
 /// Opens the socket, and serves by it.
-fn start<R: Threads + Wait + Sync + Net + Clock + Files + Input + Print + Eprint + AllocGlobal>(
-    rt: &R,
-    ask: Ask,
-) -> Result<End, NotBegun>
+fn start<
+    R: Threads
+        + Wait
+        + Sync
+        + Copy
+        + Send
+        + 'static
+        + Net
+        + Clock
+        + Files
+        + Input
+        + Print
+        + Eprint
+        + AllocGlobal,
+>(rt: &R, ask: Ask) -> Result<End, NotBegun>
 where
     R::Reader: Send,
     R::File: Send,
@@ -134,23 +171,59 @@ where
     let (clock, clock_bell) = Ear::new(rt, alloc)?;
     let (printer, printer_bell) = Ear::new(rt, alloc)?;
     let answers = Answers::new(alloc)?;
-    let hub = Hub::new(answers, upstream_bell, clock_bell, printer_bell);
+    let (output, errors) = boards(rt)?;
+    let hub = Hub::new(
+        answers,
+        upstream_bell,
+        clock_bell,
+        printer_bell,
+        output,
+        errors,
+    );
+    if ask.is_verbose {
+        hub.set_verbosity(Verbosity::On);
+    }
     let shares = ask.workers.saturating_add(OTHERS + 1);
     let (mut desk, mut shares) = Desk::new(alloc, FULL_ROWS, shares)?;
-    let beginning = begin_first(rt, &mut desk, &mut shares, &ask)?;
-    tell_open(rt, &socket);
-    let gate = Switch::new(rt, &hub, Roles::new(ask.workers), ask.is_verbose);
-    let shows = if ask.is_verbose { Some(printer) } else { None };
+    let beginning = begin_first(rt, &hub, &mut desk, &mut shares, &ask)?;
+    tell_open(&hub, &socket);
+    let gate = Switch::new(rt, &hub, Roles::new(ask.workers));
     let ears = Ears { upstream, clock };
     let (crew, terms) = crew_of(rt, &hub, ask, shares, &socket, ears)?;
     let desk = Mutex::new(desk);
-    let (ran, printed) = run(rt, &hub, &desk, crew, &terms, &gate, shows);
-    Ok(finish(rt, &hub, desk.into_inner(), beginning, ran, printed))
+    let (ran, printed) = run(rt, &hub, &desk, crew, &terms, &gate, printer);
+    let end = finish(rt, &hub, desk.into_inner(), beginning, ran, printed);
+    wait_for_last_words(rt, &hub.errors, printed.end);
+    Ok(end)
+}
+
+/// The boards of standard output and standard error, at which their writers have begun.
+fn boards<R: Threads + Wait + Net + Clock + Print + Eprint + Copy + Send + AllocGlobal + 'static>(
+    rt: &R,
+) -> Result<(Arc<Board, Global>, Arc<Board, Global>), NotBegun> {
+    let alloc = rt.alloc();
+    let (output_ear, output_bell) = Ear::new(rt, alloc)?;
+    let (errors_ear, errors_bell) = Ear::new(rt, alloc)?;
+    let output = board(alloc, output_bell)?;
+    let errors = board(alloc, errors_bell)?;
+    start_errors(rt, Arc::try_clone(&errors)?, errors_ear)?;
+    start_output(
+        rt,
+        Arc::try_clone(&output)?,
+        Arc::try_clone(&errors)?,
+        output_ear,
+    )?;
+    Ok((output, errors))
+}
+
+fn board(alloc: Global, bell: Bell) -> Result<Arc<Board, Global>, AllocError> {
+    Ok(Arc::new(alloc, Board::new(alloc, bell)?)?)
 }
 
 /// Brings the policy of the start into force, and tells it.
-fn begin_first<R: Wait + Eprint + AllocGlobal>(
+fn begin_first<R: Wait + AllocGlobal>(
     rt: &R,
+    hub: &Hub,
     desk: &mut Desk,
     shares: &mut Vec<Share>,
     ask: &Ask,
@@ -168,14 +241,14 @@ fn begin_first<R: Wait + Eprint + AllocGlobal>(
     };
     let lists = Lists::of(&policy);
     let beginning = begin(rt, alloc, desk, share, Some(policy))?;
-    tell(rt, format_args!("policy in force: {lists}"));
+    hub.tell(format_args!("policy in force: {lists}"));
     Ok(beginning)
 }
 
-/// Runs the workers, and prints rows beside them where there is an ear for it. Whether all could be printed.
+/// Runs the workers, and follows the rows of the desk beside them.
 /// It knows of the workers only that they may go to other threads, which is shown where it is called.
 fn run<
-    R: Threads + Wait + Sync + Print + AllocGlobal,
+    R: Threads + Wait + Clock + Sync + AllocGlobal,
     D: Datagrams + Send,
     U: Upstream + Send,
     B: Beats + Send,
@@ -188,11 +261,8 @@ fn run<
     crew: Crew<D, U, B, P>,
     terms: &Terms,
     gate: &G,
-    printer: Option<Ear>,
-) -> (Result<Ended<D, U, B, P>, NotStarted>, bool) {
-    let Some(ear) = printer else {
-        return (run_workers(rt, rt.alloc(), desk, crew, terms, gate), true);
-    };
+    ear: Ear,
+) -> (Result<Ended<D, U, B, P>, NotStarted>, Printed) {
     let Crew {
         udp,
         upstream,
@@ -201,7 +271,7 @@ fn run<
     } = crew;
     thread::scope(thread::scope_env(), rt, |scope| {
         let Some(printer) = start_printer(scope, rt, desk, hub, ear) else {
-            return (Err(NotStarted), true);
+            return (Err(NotStarted), Printed::none(rt));
         };
         let crew = Crew {
             udp,
@@ -223,11 +293,11 @@ fn finish<R: Clock + Net + Wait + Files + Input + Print + Eprint + AllocGlobal>(
     desk: Desk,
     beginning: Beginning,
     ran: Result<Left<'_, R>, NotStarted>,
-    printed: bool,
+    printed: Printed,
 ) -> End {
     let Ok(ended) = ran else {
-        tell(rt, "a thread was refused: a limit of processes, or memory");
-        return End::from(tell_closed(rt, None, printed));
+        hub.tell("a thread was refused: a limit of processes, or memory");
+        return End::from(tell_closed(rt, hub, None, printed));
     };
     let lost_input = ended.policies.source.has_lost_input();
     let Ok(accounts) = accounts_of(rt, ended, beginning) else {
@@ -236,7 +306,7 @@ fn finish<R: Clock + Net + Wait + Files + Input + Print + Eprint + AllocGlobal>(
     if lost_input {
         return End::from(Status::Failed);
     }
-    let status = tell_closed(rt, accounts.close(desk), printed);
+    let status = tell_closed(rt, hub, accounts.close(desk), printed);
     match (status, hub.halt()) {
         (Status::Done, Some(why)) => End::Halted(why),
         (status, _) => End::from(status),
@@ -262,16 +332,37 @@ fn accounts_of<R: Clock + Net + Wait + Files + Input + Print + Eprint + AllocGlo
     Ok(accounts)
 }
 
-/// Prints how many rows were closed, or that they were not.
-fn tell_closed<R: Print>(rt: &R, rows: Option<usize>, printed: bool) -> Status {
+/// Prints how many rows were closed, or that they were not, and waits until all is printed, as far as that takes
+/// no longer than there is patience for.
+fn tell_closed<R: Clock + AllocGlobal>(
+    rt: &R,
+    hub: &Hub,
+    rows: Option<usize>,
+    printed: Printed,
+) -> Status {
+    let status = match rows {
+        Some(_) => Status::Done,
+        None => Status::Unreadable,
+    };
+    let Ok(line) = closing_line(rt.alloc(), rows) else {
+        return ended(Status::OutOfMemory, false);
+    };
+    hub.print(line.into_bytes());
+    let is_written = wait_for(rt, &hub.output, printed.end);
+    let left = printed.left.saturating_add(hub.output.rows());
+    if left > 0 {
+        hub.tell(format_args!("{left} rows were not printed"));
+    }
+    ended(
+        status,
+        is_written && left == 0 && hub.output.lost.take() == 0,
+    )
+}
+
+/// The last line.
+fn closing_line(alloc: Global, rows: Option<usize>) -> Result<String, AllocError> {
     match rows {
-        Some(count) => {
-            let told = println!(rt; "closed {count} rows");
-            ended(Status::Done, printed && told.is_ok())
-        }
-        None => {
-            let told = rt.println("not closed");
-            ended(Status::Unreadable, printed && told.is_ok())
-        }
+        Some(count) => format!(in alloc; "closed {count} rows\n"),
+        None => format!(in alloc; "not closed\n"),
     }
 }

@@ -7,7 +7,6 @@ use crate::hub::Hub;
 use crate::limits::{FULL_ROWS, NEARLY_FULL_ROWS};
 use crate::roles::{Role, Roles};
 use crate::tally::Tally;
-use crate::tell::tell;
 use sng_desk::{ActFault, Gate, Receipt, WorkerFault};
 use std::rt::Clock;
 use std::sync::atomic::{AtomicU64, Ordering};
@@ -22,25 +21,23 @@ const SHORT_PAUSE_MS: u64 = 10;
 
 /// The gate of a running gateway.
 #[derive(Drop)]
-pub struct Switch<'a, R: Clock + Eprint + AllocGlobal> {
+pub struct Switch<'a, R: Clock> {
     rt: &'a R,
     hub: &'a Hub,
     roles: Roles,
     beats: AtomicU64,
     /// How many workers read the socket of the devices.
     listening: AtomicU64,
-    is_verbose: bool,
 }
 
-impl<'a, R: Clock + Eprint + AllocGlobal> Switch<'a, R> {
-    pub fn new(rt: &'a R, hub: &'a Hub, roles: Roles, is_verbose: bool) -> Switch<'a, R> {
+impl<'a, R: Clock> Switch<'a, R> {
+    pub fn new(rt: &'a R, hub: &'a Hub, roles: Roles) -> Switch<'a, R> {
         Switch {
             rt,
             hub,
             roles,
             beats: AtomicU64::new(0),
             listening: AtomicU64::new(u64::from(roles.workers())),
-            is_verbose,
         }
     }
 
@@ -77,7 +74,7 @@ impl<'a, R: Clock + Eprint + AllocGlobal> Switch<'a, R> {
     fn tell_count(&self, tally: &Tally, what: &str) {
         let count = tally.take();
         if count > 0 {
-            tell(self.rt, format_args!("{count} {what}"));
+            self.hub.tell(format_args!("{count} {what}"));
         }
     }
 
@@ -99,7 +96,7 @@ impl<'a, R: Clock + Eprint + AllocGlobal> Switch<'a, R> {
 
     /// A worker is lost: nobody is served without the last one at the socket, or without any of the others.
     fn take_loss(&self, role: Role) {
-        tell(self.rt, format_args!("the worker {role} gave up"));
+        self.hub.tell(format_args!("the worker {role} gave up"));
         self.hub.remember(Halt::LostWorker);
         if role != Role::Devices || self.listening.fetch_sub(1, Ordering::SeqCst) == 1 {
             self.hub.stop();
@@ -107,7 +104,7 @@ impl<'a, R: Clock + Eprint + AllocGlobal> Switch<'a, R> {
     }
 }
 
-impl<'a, R: Clock + Eprint + AllocGlobal> Gate for Switch<'a, R> {
+impl<'a, R: Clock> Gate for Switch<'a, R> {
     ghost may_stop = { λ _. true };
 
     fn before(&self, _by: u16) -> bool {
@@ -157,21 +154,14 @@ impl<'a, R: Clock + Eprint + AllocGlobal> Gate for Switch<'a, R> {
         if self.may_fill(role) {
             self.hub.upstream.ring();
         }
-        if self.is_verbose {
-            self.hub.printer.ring();
-        }
+        self.hub.printer.ring();
         self.tell_counts(role);
         if row == NEARLY_FULL_ROWS {
-            tell(
-                self.rt,
-                format_args!("the book has {row} of {FULL_ROWS} rows"),
-            );
+            self.hub
+                .tell(format_args!("the book has {row} of {FULL_ROWS} rows"));
         }
         if row == FULL_ROWS {
-            tell(
-                self.rt,
-                "the book is full: the gateway ends, as nothing more can be answered",
-            );
+            self.hub.tell("the book is full: the gateway ends, as nothing more can be answered");
             self.halt_for(Halt::FullBook);
         }
     }

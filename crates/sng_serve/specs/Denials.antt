@@ -1,0 +1,49 @@
+-- Which decisions deny something.
+use Rattle.std.specs.Prelude.{ℕ, Bool, true, false, List, [], ◌∷◌, ◌||◌}
+use Rattle.sng_book.specs.declared.outcome.Outcome.{Outcome}
+use Rattle.sng_book.specs.declared.outcome.Outcome.TheVariants.{Allowed, Denied}
+use Rattle.sng_book.specs.declared.decision.Decision.{Decision}
+use Rattle.sng_book.specs.declared.decision.Decision.TheVariants.{Connect, Register, Publish, Subscribe}
+use Rattle.sng_book.specs.declared.decision.Decision.TheVariants.{Unsubscribe, Will, Announce, Hand, Retry}
+use Rattle.sng_book.specs.declared.decision.Decision.TheVariants.{Forward, Again, End, Lost, Left, Outbox}
+use Rattle.sng_book.specs.declared.decision.Decision.TheVariants.{Frame}
+use Rattle.sng_book.specs.declared.out.Out.{Out}
+use Rattle.sng_book.specs.declared.out.Out.TheVariants.{Send, Wire, Note}
+use Rattle.sng_book.specs.Printing.{decision_text}
+
+abbrev pub denies : Outcome → Bool
+denies Allowed = false
+denies (Denied denial) = true
+
+abbrev pub is_denied : Decision → Bool
+is_denied (Connect client outcome) = denies outcome
+is_denied (Register who name outcome) = denies outcome
+is_denied (Publish who name outcome) = denies outcome
+is_denied (Subscribe who filter outcome) = denies outcome
+is_denied (Unsubscribe who filter outcome) = denies outcome
+is_denied (Will who name outcome) = denies outcome
+is_denied (Announce client name) = false
+is_denied (Hand client name outcome) = denies outcome
+is_denied (Retry client name outcome) = denies outcome
+is_denied (Forward who name outcome) = denies outcome
+is_denied (Again who name outcome) = denies outcome
+is_denied (End client filter outcome) = denies outcome
+is_denied (Lost client) = false
+is_denied (Left client) = false
+is_denied Outbox = true
+is_denied (Frame who outcome) = denies outcome
+
+abbrev pub is_denial : Out → Bool
+is_denial (Send to datagram) = false
+is_denial (Wire packet) = false
+is_denial (Note decision) = is_denied decision
+
+abbrev pub has_denial : List Out → Bool
+has_denial [] = false
+has_denial (first ∷ outs) = is_denial first || has_denial outs
+
+-- the words of a note
+abbrev pub words_of : Out → List ℕ
+words_of (Send to datagram) = []
+words_of (Wire packet) = []
+words_of (Note decision) = decision_text decision
