@@ -1,2 +1,5 @@
 pub mod Beginnings
 pub mod Ends
+pub mod Patiences
+pub mod Refusals
+pub mod Tries
