@@ -2,7 +2,10 @@ pub mod Beginnings
 pub mod Commands
 pub mod Denials
 pub mod Ends
+pub mod Patiences
+pub mod Refusals
 pub mod Rows
 pub mod Standings
 pub mod Texts
+pub mod Tries
 pub mod Verbosities

@@ -116,6 +116,9 @@ impl<'a, R: Clock> Gate for Switch<'a, R> {
     }
 
     fn refused(&self, by: u16, fault: ActFault) {
+        if self.roles.of(by) == Role::Broker {
+            self.hub.refuse_upstream();
+        }
         match fault {
             ActFault::Memory => {
                 let role = self.roles.of(by);
