@@ -23,8 +23,9 @@ def a_broker_that_comes_back(room):
     device.publish_short('ab', b'again')
     wanted(heard.ended() == 0 and 'got ab again' in heard.lines['out'], 'the message')
     gateway.close()
-    wanted(len([line for line in gateway.lines['out'] if line.endswith(' up')]) == 2, 'two rows up')
-    wanted(len([line for line in gateway.lines['out'] if line.endswith(' down')]) == 1, 'one row down')
+    kinds = [line.split()[-1] for line in gateway.lines['out'] if line.startswith('row ')]
+    wanted(kinds.count('up') == 2, 'two rows up')
+    wanted(kinds.count('down') == 1, 'one row down')
 
 
 def a_subscription_outlives_the_broker(room):
