@@ -21,7 +21,9 @@ use crate::socket::Socket;
 use crate::switch::Switch;
 use crate::tell::tell;
 use crate::verbosity::Verbosity;
-use crate::writers::{end_of_patience, start_errors, start_output, wait_for, wait_for_last_words};
+use crate::writers::{
+    ERRORS_PATIENCE_MS, OUTPUT_PATIENCE_MS, start_errors, start_output, wait_for,
+};
 use sng_desk::{
     Beats, Crew, Datagrams, Desk, Ended, Gate, NotStarted, Policies, Share, Terms, Upstream,
     run_workers,
@@ -194,7 +196,7 @@ where
     let desk = Mutex::new(desk);
     let (ran, printed) = run(rt, &hub, &desk, crew, &terms, &gate, printer);
     let end = finish(rt, &hub, desk.into_inner(), beginning, ran, printed);
-    wait_for_last_words(rt, &hub.errors, printed.end);
+    let _ = wait_for(rt, &hub.errors, ERRORS_PATIENCE_MS);
     Ok(end)
 }
 
@@ -272,7 +274,7 @@ fn run<
     } = crew;
     thread::scope(thread::scope_env(), rt, |scope| {
         let Some(printer) = start_printer(scope, rt, desk, hub, ear) else {
-            return (Err(NotStarted), Printed::none(rt));
+            return (Err(NotStarted), Printed::none());
         };
         let crew = Crew {
             udp,
@@ -349,7 +351,12 @@ fn tell_closed<R: Clock + AllocGlobal>(
         return ended(Status::OutOfMemory, false);
     };
     hub.print(line.into_bytes());
-    let is_written = wait_for(rt, &hub.output, printed.end);
+    let patience = if printed.is_stuck {
+        0
+    } else {
+        OUTPUT_PATIENCE_MS
+    };
+    let is_written = wait_for(rt, &hub.output, patience);
     let left = printed.left.saturating_add(hub.output.rows());
     if left > 0 {
         hub.tell(format_args!("{left} rows were not printed"));
