@@ -24,6 +24,7 @@ pub mod roles;
 pub mod rows;
 pub mod serving;
 pub mod socket;
+mod streams;
 pub mod switch;
 pub mod tally;
 mod tell;

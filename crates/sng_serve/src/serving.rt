@@ -4,8 +4,7 @@ use crate::answers::Answers;
 use crate::ask::{Ask, Fault, Words, ask_of};
 use crate::beats::SystemBeats;
 use crate::beginning::{Beginning, begin};
-use crate::bell::{Bell, Ear};
-use crate::board::Board;
+use crate::bell::Ear;
 use crate::closing::Accounts;
 use crate::descriptors::{EMPTY, hold};
 use crate::ends::End;
@@ -18,12 +17,11 @@ use crate::policies::OperatorPolicies;
 use crate::printing::{Printed, start_printer};
 use crate::roles::{OTHERS, Roles};
 use crate::socket::Socket;
+use crate::streams::boards;
 use crate::switch::Switch;
 use crate::tell::tell;
 use crate::verbosity::Verbosity;
-use crate::writers::{
-    ERRORS_PATIENCE_MS, OUTPUT_PATIENCE_MS, start_errors, start_output, wait_for,
-};
+use crate::writers::{ERRORS_PATIENCE_MS, OUTPUT_PATIENCE_MS, wait_for};
 use sng_desk::{
     Beats, Crew, Datagrams, Desk, Ended, Gate, NotStarted, Policies, Share, Terms, Upstream,
     run_workers,
@@ -35,7 +33,7 @@ use std::alloc::{AllocError, Global};
 use std::io::Write;
 use std::net::Net;
 use std::rt::{Clock, Files};
-use std::sync::{Arc, Mutex, Wait};
+use std::sync::{Mutex, Wait};
 use std::thread::Threads;
 use std::{io, thread};
 
@@ -198,29 +196,6 @@ where
     let end = finish(rt, &hub, desk.into_inner(), beginning, ran, printed);
     let _ = wait_for(rt, &hub.errors, ERRORS_PATIENCE_MS);
     Ok(end)
-}
-
-/// The boards of standard output and standard error, at which their writers have begun.
-fn boards<R: Threads + Wait + Net + Clock + Print + Eprint + Copy + Send + AllocGlobal + 'static>(
-    rt: &R,
-) -> Result<(Arc<Board, Global>, Arc<Board, Global>), NotBegun> {
-    let alloc = rt.alloc();
-    let (output_ear, output_bell) = Ear::new(rt, alloc)?;
-    let (errors_ear, errors_bell) = Ear::new(rt, alloc)?;
-    let output = board(alloc, output_bell)?;
-    let errors = board(alloc, errors_bell)?;
-    start_errors(rt, Arc::try_clone(&errors)?, errors_ear)?;
-    start_output(
-        rt,
-        Arc::try_clone(&output)?,
-        Arc::try_clone(&errors)?,
-        output_ear,
-    )?;
-    Ok((output, errors))
-}
-
-fn board(alloc: Global, bell: Bell) -> Result<Arc<Board, Global>, AllocError> {
-    Ok(Arc::new(alloc, Board::new(alloc, bell)?)?)
 }
 
 /// Brings the policy of the start into force, and tells it.
