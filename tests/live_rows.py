@@ -7,7 +7,7 @@ import subprocess
 import threading
 import time
 
-from live_parts import HOST, SECONDS, free_port, until, wanted
+from live_parts import HOST, SECONDS, Failure, free_port, until, wanted
 from live_room import Gateway
 from live_sessions import S1, SOURCE
 
@@ -108,6 +108,19 @@ def begin(room, broker, listen, *more, **streams):
     return gateway, until(answers, 'a gateway that answers')
 
 
+def publish_once_connected(device):
+    """A publish at QoS 1, tried again while the gateway has no connection to the broker."""
+    topic = device.register('t/1')
+
+    def publishes():
+        try:
+            device.publish(topic, b'hi')
+        except Failure:
+            return False
+        return True
+    until(publishes, 'a publish that is accepted')
+
+
 def a_stuck_standard_error(room):
     broker = room.test_broker()
     heard = room.subscriber(broker, 't/1', 1)
@@ -116,7 +129,7 @@ def a_stuck_standard_error(room):
         gateway, device = begin(room, broker.port, free_listen(), stderr=sink)
         os.close(sink)
         publish_many(device, 600)
-        device.publish(device.register('t/1'), b'hi')
+        publish_once_connected(device)
         heard.hears('t/1', 'hi')
         before = time.monotonic()
         gateway.say('quit')
@@ -135,7 +148,7 @@ def a_stuck_standard_output(room):
         gateway, device = begin(room, broker.port, free_listen(), '--verbose', stdout=sink)
         os.close(sink)
         publish_many(device, 2000)
-        device.publish(device.register('t/1'), b'hi')
+        publish_once_connected(device)
         heard.hears('t/1', 'hi')
         gateway.line('err', '^sng: denied: publish ')
         before = time.monotonic()
@@ -154,7 +167,7 @@ def an_output_that_fails_for_a_while(room):
     gateway, device = begin(room, broker.port, free_listen(), '--verbose', stdout=sink)
     os.close(sink)
     gateway.line('err', '^sng: standard output: Resource temporarily unavailable')
-    device.publish(device.register('t/1'), b'hi')
+    publish_once_connected(device)
     with os.fdopen(source, 'rb') as pipe:
         lines = []
         reader = threading.Thread(target=lambda: lines.extend(pipe.read().decode().split('\n')), daemon=True)

@@ -1,5 +1,5 @@
 -- Which decisions deny something.
-use Rattle.std.specs.Prelude.{ℕ, Bool, true, false, List, [], ◌∷◌, ◌||◌}
+use Rattle.std.specs.Prelude.{ℕ, Bool, true, false, List, [], ◌-◌, length, take, drop}
 use Rattle.sng_book.specs.declared.outcome.Outcome.{Outcome}
 use Rattle.sng_book.specs.declared.outcome.Outcome.TheVariants.{Allowed, Denied}
 use Rattle.sng_book.specs.declared.decision.Decision.{Decision}
@@ -38,12 +38,13 @@ is_denial (Send to datagram) = false
 is_denial (Wire packet) = false
 is_denial (Note decision) = is_denied decision
 
-abbrev pub has_denial : List Out → Bool
-has_denial [] = false
-has_denial (first ∷ outs) = is_denial first || has_denial outs
-
 -- the words of a note
 abbrev pub words_of : Out → List ℕ
 words_of (Send to datagram) = []
 words_of (Wire packet) = []
 words_of (Note decision) = decision_text decision
+
+-- the words of the note that is the one out of a row `0` of worker `0` on an event `up`: behind the 16 bytes of
+-- `row 0 0 up`, a line feed and `note `, without the line feed at the end
+abbrev pub words_in : List ℕ → List ℕ
+words_in row = take (length row - 1 - 16) (drop 16 row)

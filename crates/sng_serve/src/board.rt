@@ -13,8 +13,9 @@ use std::thread;
 /// So many texts wait at most: one more is lost, and counted.
 pub const PLACES: usize = 256;
 
-/// How often the board is tried, which others hold for an instant alone.
-const TRIES: u32 = 10000;
+/// How often the board is tried, which others hold for an instant alone: each try that fails leaves the processor
+/// to them.
+const TRIES: u32 = 1_000_000;
 
 /// A text, and how many rows it has.
 #[derive(Drop)]
@@ -52,25 +53,27 @@ impl Board {
     /// Posts a line for an operator.
     pub fn tell<D: Display + Drop>(&self, what: D) {
         match format!(in self.alloc; "sng: {what}\n") {
-            Ok(line) => {
-                let _ = self.post(line.into_bytes(), 0);
-            }
+            Ok(line) => self.post(line.into_bytes()),
             Err(AllocError) => self.lost.add(1),
         }
     }
 
-    /// Posts a text with so many rows. The answer is that it found a place: where it did not, it is lost, and
-    /// counted.
-    pub fn post(&self, bytes: Vec<u8>, rows: u64) -> bool {
+    /// Posts a text without rows. Where it finds no place it is lost, and counted.
+    pub fn post(&self, bytes: Vec<u8>) {
+        if !self.offer(bytes, 0) {
+            self.lost.add(1);
+        }
+    }
+
+    /// Posts a text with so many rows. Whether it found a place.
+    pub fn offer(&self, bytes: Vec<u8>, rows: u64) -> bool {
         self.waiting.fetch_add(1, Ordering::SeqCst);
         self.rows.fetch_add(rows, Ordering::SeqCst);
         if self.put(Text { bytes, rows }) {
             self.bell.ring();
             return true;
         }
-        self.rows.fetch_sub(rows, Ordering::SeqCst);
-        self.waiting.fetch_sub(1, Ordering::SeqCst);
-        self.lost.add(1);
+        self.finish(rows);
         false
     }
 

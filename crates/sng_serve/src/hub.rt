@@ -88,7 +88,7 @@ impl Hub {
 
     /// Prints a text of whole lines on standard output, for which nobody waits.
     pub fn print(&self, text: Vec<u8>) {
-        let _ = (*self.output).post(text, 0);
+        (*self.output).post(text);
     }
 
     /// Stops all workers, each once it has finished its turn.

@@ -33,6 +33,7 @@ pub mod serving;
 mod show_status;
 pub mod socket;
 pub mod status;
+mod streams;
 pub mod switch;
 pub mod tally;
 mod tell;

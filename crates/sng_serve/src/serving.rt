@@ -4,8 +4,7 @@ use crate::answers::Answers;
 use crate::ask::{Ask, Fault, Words, ask_of};
 use crate::beats::SystemBeats;
 use crate::beginning::{Beginning, begin};
-use crate::bell::{Bell, Ear};
-use crate::board::Board;
+use crate::bell::Ear;
 use crate::closing::Accounts;
 use crate::descriptors::{EMPTY, hold};
 use crate::ends::End;
@@ -18,10 +17,11 @@ use crate::policies::OperatorPolicies;
 use crate::printing::{Printed, start_printer};
 use crate::roles::{OTHERS, Roles};
 use crate::socket::Socket;
+use crate::streams::boards;
 use crate::switch::Switch;
 use crate::tell::tell;
 use crate::verbosity::Verbosity;
-use crate::writers::{end_of_patience, start_errors, start_output, wait_for, wait_for_last_words};
+use crate::writers::{ERRORS_PATIENCE_MS, OUTPUT_PATIENCE_MS, wait_for};
 use sng_desk::{
     Beats, Crew, Datagrams, Desk, Ended, Gate, NotStarted, Policies, Share, Terms, Upstream,
     run_workers,
@@ -33,7 +33,7 @@ use std::alloc::{AllocError, Global};
 use std::io::Write;
 use std::net::Net;
 use std::rt::{Clock, Files};
-use std::sync::{Arc, Mutex, Wait};
+use std::sync::{Mutex, Wait};
 use std::thread::Threads;
 use std::{io, thread};
 
@@ -193,31 +193,8 @@ where
     let desk = Mutex::new(desk);
     let (ran, printed) = run(rt, &hub, &desk, crew, &terms, &gate, printer);
     let end = finish(rt, &hub, desk.into_inner(), beginning, ran, printed);
-    wait_for_last_words(rt, &hub.errors, printed.end);
+    let _ = wait_for(rt, &hub.errors, ERRORS_PATIENCE_MS);
     Ok(end)
-}
-
-/// The boards of standard output and standard error, at which their writers have begun.
-fn boards<R: Threads + Wait + Net + Clock + Print + Eprint + Copy + Send + AllocGlobal + 'static>(
-    rt: &R,
-) -> Result<(Arc<Board, Global>, Arc<Board, Global>), NotBegun> {
-    let alloc = rt.alloc();
-    let (output_ear, output_bell) = Ear::new(rt, alloc)?;
-    let (errors_ear, errors_bell) = Ear::new(rt, alloc)?;
-    let output = board(alloc, output_bell)?;
-    let errors = board(alloc, errors_bell)?;
-    start_errors(rt, Arc::try_clone(&errors)?, errors_ear)?;
-    start_output(
-        rt,
-        Arc::try_clone(&output)?,
-        Arc::try_clone(&errors)?,
-        output_ear,
-    )?;
-    Ok((output, errors))
-}
-
-fn board(alloc: Global, bell: Bell) -> Result<Arc<Board, Global>, AllocError> {
-    Ok(Arc::new(alloc, Board::new(alloc, bell)?)?)
 }
 
 /// Brings the policy of the start into force, and tells it.
@@ -271,7 +248,7 @@ fn run<
     } = crew;
     thread::scope(thread::scope_env(), rt, |scope| {
         let Some(printer) = start_printer(scope, rt, desk, hub, ear) else {
-            return (Err(NotStarted), Printed::none(rt));
+            return (Err(NotStarted), Printed::none());
         };
         let crew = Crew {
             udp,
@@ -348,7 +325,12 @@ fn tell_closed<R: Clock + AllocGlobal>(
         return ended(Status::OutOfMemory, false);
     };
     hub.print(line.into_bytes());
-    let is_written = wait_for(rt, &hub.output, printed.end);
+    let patience = if printed.is_stuck {
+        0
+    } else {
+        OUTPUT_PATIENCE_MS
+    };
+    let is_written = wait_for(rt, &hub.output, patience);
     let left = printed.left.saturating_add(hub.output.rows());
     if left > 0 {
         hub.tell(format_args!("{left} rows were not printed"));

@@ -16,11 +16,11 @@ const LONGEST_WAIT_MS: u64 = 60000;
 /// After which time a write that failed is tried again, in ms.
 const RETRY_MS: u64 = 200;
 
-/// How long the end of the program waits for a stream that takes nothing, in ms.
-const PATIENCE_MS: u64 = 2000;
+/// How long the end of the program waits for a standard output that takes nothing, in ms.
+pub const OUTPUT_PATIENCE_MS: u64 = 2000;
 
-/// How long it waits for the last lines for an operator at least, in ms.
-const LAST_WORDS_MS: u64 = 250;
+/// How long it waits for a standard error that takes nothing, in ms.
+pub const ERRORS_PATIENCE_MS: u64 = 1000;
 
 /// How long that wait sleeps at a time, in ms.
 const NAP_MS: u64 = 1;
@@ -132,20 +132,9 @@ fn rest<R: Clock>(rt: &R, ear: &mut Ear) {
 }
 
 /// The time after so many ms.
-fn end_after<R: Clock>(rt: &R, time: u64) -> Duration {
+pub fn time_after<R: Clock>(rt: &R, time: u64) -> Duration {
     let now = rt.monotonic().unwrap_or(Duration::MAX);
     now.saturating_add(Duration::from_millis(time))
-}
-
-/// When the end of the program waits no longer for a stream that takes nothing.
-pub fn end_of_patience<R: Clock>(rt: &R) -> Duration {
-    end_after(rt, PATIENCE_MS)
-}
-
-/// Waits until the last lines for an operator are written, up to this time, and a little longer for those that
-/// tell what was not printed in it.
-pub fn wait_for_last_words<R: Clock>(rt: &R, errors: &Board, end: Duration) {
-    let _ = wait_for(rt, errors, end.max(end_after(rt, LAST_WORDS_MS)));
 }
 
 /// Whether this time has come. It has where the clock cannot be read.
@@ -153,17 +142,16 @@ pub fn is_past<R: Clock>(rt: &R, end: Duration) -> bool {
     end <= rt.monotonic().unwrap_or(Duration::MAX)
 }
 
-/// Waits until all texts are written, or the stream takes nothing any more: up to this time, and for as long as
-/// texts are written one after another. Whether all are.
-pub fn wait_for<R: Clock>(rt: &R, board: &Board, end: Duration) -> bool {
-    let (mut end, mut left) = (end, board.waiting());
+/// Waits until all texts are written, or none was for so many ms. Whether all are.
+pub fn wait_for<R: Clock>(rt: &R, board: &Board, patience: u64) -> bool {
+    let (mut end, mut left) = (time_after(rt, patience), board.waiting());
     for _ in 0..u64::MAX {
         let waiting = board.waiting();
         if waiting == 0 {
             return true;
         }
         if waiting != left {
-            (end, left) = (end_of_patience(rt), waiting);
+            (end, left) = (time_after(rt, patience), waiting);
         }
         if is_past(rt, end) {
             break;
