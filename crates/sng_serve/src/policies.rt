@@ -1,6 +1,6 @@
 //! What an operator says while the gateway serves, a line of standard input each: policies, and the commands of
 //! `commands.rt`.
-ghost use Rattle.std.specs.Prelude.{◌≡◌, ◌≢◌, [], false, true};
+ghost use Rattle.std.specs.Prelude.{◌≡◌, ◌≢◌, ◌⊎◌, [], false, true};
 ghost use Rattle.sng_desk.specs.declared.source.Got.TheVariants.{Ended as ended_answer, Failed as failed_answer};
 
 use crate::commands::{Command, HELP, command_of, push_unknown};
@@ -74,6 +74,7 @@ impl<'a, R: Clock + Input + Print + Eprint + Files + AllocGlobal> OperatorPolici
     fn read(&mut self) -> Got<Policy>
         ensures ended { result ≡ ended_answer → self.new.has_ended ≡ true }
         ensures going { result ≢ failed_answer }
+        ensures ends { self.new.has_ended ≡ true → (result ≡ ended_answer) ⊎ (self.old.has_ended ≡ true) }
     {
         let read = read_line(&mut self.input, &mut self.line);
         match read {
@@ -94,6 +95,7 @@ impl<'a, R: Clock + Input + Print + Eprint + Files + AllocGlobal> OperatorPolici
     fn take_line(&mut self) -> Got<Policy>
         ensures ended { result ≡ ended_answer → self.new.has_ended ≡ true }
         ensures going { result ≢ failed_answer }
+        ensures ends { self.new.has_ended ≡ true → (result ≡ ended_answer) ⊎ (self.old.has_ended ≡ true) }
     {
         match command_of(self.line.as_slice()) {
             Command::Nothing => {}
@@ -110,7 +112,8 @@ impl<'a, R: Clock + Input + Print + Eprint + Files + AllocGlobal> OperatorPolici
 
     /// The policy of the file, where there is one.
     fn reload(&mut self) -> Got<Policy>
-        ensures { result ≢ ended_answer × result ≢ failed_answer }
+        ensures going { result ≢ ended_answer × result ≢ failed_answer }
+        ensures same { self.new.has_ended ≡ self.old.has_ended }
     {
         let Some(path) = &self.file else {
             self.hub.tell("nothing to reload: --policy names no file");
@@ -128,7 +131,7 @@ impl<'a, R: Clock + Input + Print + Eprint + Files + AllocGlobal> OperatorPolici
     /// Nothing more comes, and all workers are stopped with it, or go on.
     fn end(&mut self, stops: bool) -> Got<Policy>
         ensures ended { self.new.has_ended ≡ true }
-        ensures going { result ≢ failed_answer }
+        ensures answer { result ≡ ended_answer }
     {
         if stops {
             self.hub.stop();
@@ -138,7 +141,9 @@ impl<'a, R: Clock + Input + Print + Eprint + Files + AllocGlobal> OperatorPolici
     }
 
     /// Tells what came of the policy that was given last: the desk has acted on it since, or refused to.
-    fn settle(&mut self) {
+    fn settle(&mut self)
+        ensures { self.new.has_ended ≡ self.old.has_ended }
+    {
         let is_refused = self.hub.takes_policy_refusal();
         let Some(lists) = self.in_force.settle(is_refused) else {
             return;
