@@ -47,8 +47,8 @@ def a_subscription_outlives_the_broker(room):
 def a_broker_that_refuses(room):
     broker = room.broker(anonymous=False)
     gateway = room.gateway(broker.port, '--tries', '2', policy=SOURCE, connected=False)
-    gateway.line('err', 'refused with code 5; trying again in 200 ms')
-    gateway.line('err', 'refused with code 5; gave up after 2 tries')
+    gateway.line('err', 'refused with code 5: not authorized, .*; trying again in 200 ms')
+    gateway.line('err', 'refused with code 5: not authorized, .*; gave up after 2 tries')
     room.device(gateway).publish_short('ab', b'x')
     gateway.line('out', 'note publish .* 21 UpstreamDown')
     gateway.close()

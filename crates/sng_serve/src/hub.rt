@@ -13,6 +13,7 @@ use std::sync::atomic::{AtomicBool, AtomicU8, Ordering};
 pub struct Hub {
     stops: AtomicBool,
     is_up: AtomicBool,
+    has_refused_upstream: AtomicBool,
     is_over: AtomicBool,
     has_full_book: AtomicBool,
     has_lost_worker: AtomicBool,
@@ -42,6 +43,7 @@ impl Hub {
         Hub {
             stops: AtomicBool::new(false),
             is_up: AtomicBool::new(false),
+            has_refused_upstream: AtomicBool::new(false),
             is_over: AtomicBool::new(false),
             has_full_book: AtomicBool::new(false),
             has_lost_worker: AtomicBool::new(false),
@@ -119,6 +121,17 @@ impl Hub {
     /// A connection to the broker is begun.
     pub fn begin(&self) {
         self.is_up.store(false, Ordering::SeqCst);
+        self.has_refused_upstream.store(false, Ordering::SeqCst);
+    }
+
+    /// An act of the worker at the broker was refused.
+    pub fn refuse_upstream(&self) {
+        self.has_refused_upstream.store(true, Ordering::SeqCst);
+    }
+
+    /// Whether an act of the worker at the broker was refused since the connection was begun.
+    pub fn has_refused_upstream(&self) -> bool {
+        self.has_refused_upstream.load(Ordering::SeqCst)
     }
 
     /// The worker at the broker has acted.

@@ -119,6 +119,9 @@ impl<'a, R: Clock + Eprint + AllocGlobal> Gate for Switch<'a, R> {
     }
 
     fn refused(&self, by: u16, fault: ActFault) {
+        if self.roles.of(by) == Role::Broker {
+            self.hub.refuse_upstream();
+        }
         match fault {
             ActFault::Memory => {
                 self.hub.refusals.add(1);
