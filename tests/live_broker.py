@@ -10,6 +10,7 @@ from live_sessions import SOURCE
 
 ACCEPTED = b'\x20\x02\x00\x00'
 PING_REQUEST, PING_RESPONSE = b'\xc0\0', b'\xd0\0'
+MESSAGE = b'\x30\xeb\x07\0\1x' + bytes(1000)
 
 # The case of a broker that hangs takes a minute: it runs where this is in the environment.
 SLOW = 'SNG_LIVE_SLOW'
@@ -198,9 +199,27 @@ def a_broker_that_reads_late(room):
         wanted(not any('lost' in line for line in gateway.lines['err']), 'a connection that stays')
 
 
+def messages_kept_unread():
+    """How many messages the system takes for a reader that reads nothing."""
+    with socket.socket() as listener:
+        listener.bind((HOST, 0))
+        listener.listen(1)
+        with socket.create_connection(listener.getsockname()):
+            sender, _ = listener.accept()
+            sender.setsockopt(socket.SOL_SOCKET, socket.SO_SNDBUF, 4096)
+            sender.settimeout(1)
+            sent = 0
+            with sender:
+                try:
+                    while True:
+                        sent += sender.send(MESSAGE)
+                except socket.timeout:
+                    return sent // len(MESSAGE)
+
+
 def a_broker_that_sends_before_it_reads(room):
     """It sends more than the system keeps for the gateway, and reads nothing before that."""
-    message = b'\x30\xeb\x07\0\1x' + bytes(1000)
+    count = messages_kept_unread() + 40
     with Listener(buffer=4096) as listener:
         gateway = room.gateway(listener.port, connected=False, verbose=False, workers=1, policy=SOURCE)
         stream = listener.connection()
@@ -208,7 +227,7 @@ def a_broker_that_sends_before_it_reads(room):
         stream.setsockopt(socket.SOL_SOCKET, socket.SO_SNDBUF, 4096)
         with Sender(room.device(gateway)):
             time.sleep(SECONDS * 0.8)
-            stream.sendall(message * 120)
+            stream.sendall(MESSAGE * count)
             numbers_of(stream, lambda found: len(found) > 1000)
         wanted(not any('lost' in line for line in gateway.lines['err']), 'a connection that stays')
 
