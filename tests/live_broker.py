@@ -199,36 +199,42 @@ def a_broker_that_reads_late(room):
         wanted(not any('lost' in line for line in gateway.lines['err']), 'a connection that stays')
 
 
-def messages_kept_unread():
-    """How many messages the system takes for a reader that reads nothing."""
+def fill(stream):
+    """Sends until nothing is taken for a while, and answers how many bytes were."""
+    stream.setsockopt(socket.SOL_SOCKET, socket.SO_SNDBUF, 4096)
+    stream.settimeout(1)
+    sent = 0
+    try:
+        while True:
+            sent += stream.send((MESSAGE * 2)[sent % len(MESSAGE):][:len(MESSAGE)])
+    except socket.timeout:
+        stream.settimeout(SECONDS)
+        return sent
+
+
+def kept_unread():
+    """How many bytes the system takes for a reader that reads nothing."""
     with socket.socket() as listener:
         listener.bind((HOST, 0))
         listener.listen(1)
         with socket.create_connection(listener.getsockname()):
             sender, _ = listener.accept()
-            sender.setsockopt(socket.SOL_SOCKET, socket.SO_SNDBUF, 4096)
-            sender.settimeout(1)
-            sent = 0
             with sender:
-                try:
-                    while True:
-                        sent += sender.send(MESSAGE)
-                except socket.timeout:
-                    return sent // len(MESSAGE)
+                return fill(sender)
 
 
 def a_broker_that_sends_before_it_reads(room):
-    """It sends more than the system keeps for the gateway, and reads nothing before that."""
-    count = messages_kept_unread() + 40
+    """It sends all that is taken, more than the system keeps for the gateway, and reads nothing before that."""
+    kept = kept_unread()
     with Listener(buffer=4096) as listener:
         gateway = room.gateway(listener.port, connected=False, verbose=False, workers=1, policy=SOURCE)
         stream = listener.connection()
         gateway.line('err', 'connected')
-        stream.setsockopt(socket.SOL_SOCKET, socket.SO_SNDBUF, 4096)
         with Sender(room.device(gateway)):
-            time.sleep(SECONDS * 0.8)
-            stream.sendall(MESSAGE * count)
+            time.sleep(SECONDS * 0.6)
+            sent = fill(stream)
             numbers_of(stream, lambda found: len(found) > 1000)
+        wanted(sent > kept + 30000, '30 KB that the gateway read beyond %d, and not %d in all' % (kept, sent))
         wanted(not any('lost' in line for line in gateway.lines['err']), 'a connection that stays')
 
 
