@@ -5,7 +5,8 @@ Runs `sng serve` between devices and a real broker, on loopback: mosquitto with 
 Python (live_ends.py). PROGRAM is the proved program where none is given. Each case is bounded, ends its
 processes by their ids, and checks what arrived, the rows, and the exit status. Where mosquitto cannot be had
 the cases that need it are left out, and a line says so; those of BY_ANY_BROKER run by the program's own test
-broker in any case. Exit status 1 where a case fails."""
+broker in any case. With SNG_LIVE_SLOW in the environment a broker that hangs is tried, too, which takes 80 s.
+Exit status 1 where a case fails."""
 import os
 import subprocess
 import sys

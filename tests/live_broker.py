@@ -10,6 +10,7 @@ from live_sessions import SOURCE
 
 ACCEPTED = b'\x20\x02\x00\x00'
 PING_REQUEST, PING_RESPONSE = b'\xc0\0', b'\xd0\0'
+MESSAGE = b'\x30\xeb\x07\0\1x' + bytes(1000)
 
 # The case of a broker that hangs takes a minute: it runs where this is in the environment.
 SLOW = 'SNG_LIVE_SLOW'
@@ -198,18 +199,42 @@ def a_broker_that_reads_late(room):
         wanted(not any('lost' in line for line in gateway.lines['err']), 'a connection that stays')
 
 
+def fill(stream):
+    """Sends until nothing is taken for a while, and answers how many bytes were."""
+    stream.setsockopt(socket.SOL_SOCKET, socket.SO_SNDBUF, 4096)
+    stream.settimeout(1)
+    sent = 0
+    try:
+        while True:
+            sent += stream.send((MESSAGE * 2)[sent % len(MESSAGE):][:len(MESSAGE)])
+    except socket.timeout:
+        stream.settimeout(SECONDS)
+        return sent
+
+
+def kept_unread():
+    """How many bytes the system takes for a reader that reads nothing."""
+    with socket.socket() as listener:
+        listener.bind((HOST, 0))
+        listener.listen(1)
+        with socket.create_connection(listener.getsockname()):
+            sender, _ = listener.accept()
+            with sender:
+                return fill(sender)
+
+
 def a_broker_that_sends_before_it_reads(room):
-    """It sends more than the system keeps for the gateway, and reads nothing before that."""
-    message = b'\x30\xeb\x07\0\1x' + bytes(1000)
+    """It sends all that is taken, more than the system keeps for the gateway, and reads nothing before that."""
+    kept = kept_unread()
     with Listener(buffer=4096) as listener:
         gateway = room.gateway(listener.port, connected=False, verbose=False, workers=1, policy=SOURCE)
         stream = listener.connection()
         gateway.line('err', 'connected')
-        stream.setsockopt(socket.SOL_SOCKET, socket.SO_SNDBUF, 4096)
         with Sender(room.device(gateway)):
-            time.sleep(SECONDS * 0.8)
-            stream.sendall(message * 120)
+            time.sleep(SECONDS * 0.6)
+            sent = fill(stream)
             numbers_of(stream, lambda found: len(found) > 1000)
+        wanted(sent > kept + 30000, '30 KB that the gateway read beyond %d, and not %d in all' % (kept, sent))
         wanted(not any('lost' in line for line in gateway.lines['err']), 'a connection that stays')
 
 

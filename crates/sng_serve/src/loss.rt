@@ -85,8 +85,8 @@ pub struct Parting {
 
 impl Display for Parting {
     fn fmt<W: Write>(&self, f: &mut Formatter<W>) -> fmt::Result {
-        let (why, pause) = (&self.why, self.pause);
-        write!(f, "lost: {why}")?;
+        f.write_str("lost: ")?;
+        self.why.fmt(f)?;
         if self.lasted {
             return Ok(());
         }
@@ -94,6 +94,7 @@ impl Display for Parting {
         if self.why.may_be_taken_over() {
             f.write_str(" (another client with this id?)")?;
         }
+        let pause = self.pause;
         write!(f, "; trying again in {pause} ms")
     }
 }
