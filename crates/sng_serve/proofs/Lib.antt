@@ -1,2 +1,2 @@
 pub mod Appends
-pub mod Words
+pub mod NoteWords

@@ -1,5 +1,5 @@
 //! The policy that is in force before anybody is listened to: its row is the first, under a tag of its own.
-ghost use Rattle.std.specs.Prelude.{◌≡◌, ◌×◌, ◌++◌, ◌∷◌, [], IfOk, IfErr, OnErr};
+ghost use Rattle.std.specs.Prelude.{◌≡◌, ◌++◌, ◌∷◌, [], IfOk, IfErr, OnErr};
 ghost use Rattle.sng_desk.specs.declared.fault.ActFault.TheVariants.{Memory};
 ghost use Rattle.sng_serve.specs.Beginnings.{Begun};
 
