@@ -68,7 +68,8 @@ def what_a_line_asks_for(room):
     """Each command, and lines that are none."""
     gateway = room.gateway(free_port(), connected=False)
     gateway.say('help')
-    for word in ('policy TEXT', 'reload', 'status', 'verbose on', 'verbose denials', 'verbose off', 'quit', 'help'):
+    for word in ('policy TEXT', 'reload', 'status', 'verbose on', 'verbose denials', 'verbose off', 'quit',
+                 'help'):
         gateway.line('err', '^sng: %s  ' % word)
     for line, shown in (('relaod', 'relaod'), ('verbose loud', 'verbose%20loud'), ('policy', 'policy'),
                         ('\u00e4%', '%C3%A4%25'), ('x' * 300, 'x' * 200)):
@@ -98,6 +99,28 @@ def how_it_stands(room):
     found = gateway.line('out', r'^status rows: (\d+), left: (\d+)$')
     wanted(int(found[1]) + int(found[2]) == 1000000, 'as many rows as the book may have')
     gateway.close()
+
+
+def rows_from_now_on(room):
+    """`verbose` turns rows on and off, and `status` needs none of them."""
+    gateway = room.gateway(free_port(), connected=False, verbose=False, policy=ALLOWS_S1)
+    gateway.say('status')
+    gateway.line('out', '^status rows: ')
+    wanted(not any(line.startswith('row ') for line in gateway.lines['out']), 'no row')
+    gateway.say('verbose denials')
+    time.sleep(0.3)
+    room.device(gateway).connect('s2', code=3)
+    gateway.line('out', '^note connect s2 - 3 NoScope')
+    wanted(not any(line.endswith(' tick') for line in gateway.lines['out']), 'rows with a denial alone')
+    gateway.say('verbose on')
+    gateway.line('out', '^row .* tick$')
+    gateway.say('verbose off')
+    time.sleep(0.3)
+    before = len(gateway.lines['out'])
+    room.device(gateway).connect('s1')
+    time.sleep(0.3)
+    wanted(len(gateway.lines['out']) == before, 'no more rows')
+    gateway.close(verbose=False)
 
 
 def a_policy_that_changes_nothing(room):
@@ -155,5 +178,6 @@ def an_input_that_does_not_block(room):
         os.close(given)
 
 
-ALONE = (a_control_pipe, the_units, what_a_line_asks_for, how_it_stands, a_policy_that_changes_nothing,
+ALONE = (a_control_pipe, the_units, what_a_line_asks_for, how_it_stands,
+         rows_from_now_on, a_policy_that_changes_nothing,
          what_is_told_of_a_policy, an_input_that_does_not_block)
