@@ -1,5 +1,5 @@
 -- The policy that is in force before any worker begins.
-use Rattle.std.specs.Prelude.{ℕ, ◌+◌, ◌≡◌, ◌×◌, Option, Some, None, List, [], ◌∷◌, ◌++◌, length}
+use Rattle.std.specs.Prelude.{ℕ, ◌+◌, ◌≡◌, Option, Some, None, List, [], ◌∷◌, ◌++◌, length}
 use Rattle.sng_grants.specs.declared.policy.Policy.{Policy}
 use Rattle.sng_book.specs.declared.event.Event.TheVariants.{Replace}
 use Rattle.sng_book.specs.declared.row.Row.{Row}
@@ -13,8 +13,8 @@ pub record InForce (policy : Policy) (rows now : List Row) (trail : Trail) (left
   pub event : receipt.event ≡ Replace policy
   pub row : now ≡ rows ++ record { by = share.tag; event = receipt.event; outs = receipt.outs } ∷ []
   pub number : receipt.number ≡ length now
-  pub trail : trail ≡ record (no_trail share.tag) { receipts = receipt ∷ [] }
-  pub share : left ≡ record { tag = share.tag; count = share.count + 1 }
+  pub said : trail ≡ record (no_trail share.tag) { receipts = receipt ∷ [] }
+  pub counted : left ≡ record { tag = share.tag; count = share.count + 1 }
 
 -- one row where there is a policy, none where there is not, and what is said of it
 abbrev pub Begun : Option Policy → List Row → List Row → Trail → Share → Share → Type 0
