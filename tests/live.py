@@ -5,18 +5,14 @@ Runs `sng serve` between devices and a real broker, on loopback: mosquitto with 
 Python (live_ends.py). PROGRAM is the proved program where none is given. Each case is bounded, ends its
 processes by their ids, and checks what arrived, the rows, and the exit status. Where mosquitto cannot be had
 the cases that need it are left out, and a line says so; those of BY_ANY_BROKER run by the program's own test
-broker in any case. With SNG_LIVE_SLOW in the environment a broker that hangs is tried, too, which takes 80 s.
-Exit status 1 where a case fails."""
+broker in any case. Exit status 1 where a case fails."""
 import os
 import subprocess
 import sys
 
 sys.dont_write_bytecode = True
-import live_broker as broker_cases
-import live_faults as fault_cases
 import live_operator as operator_cases
 import live_program as program_cases
-import live_rows as row_cases
 import live_sessions as session_cases
 from live_parts import Failure, tool
 from live_room import Room
@@ -29,8 +25,7 @@ ALONE = (session_cases.the_test_broker, program_cases.a_test_broker_that_does_no
          program_cases.an_unreachable_broker, program_cases.a_broker_that_says_nothing,
          program_cases.a_hostile_broker, program_cases.the_end_of_the_input,
          program_cases.a_service_without_input, program_cases.the_version, program_cases.a_start_that_fails,
-         program_cases.an_input_that_cannot_be_read, program_cases.a_full_disk)
-ALONE = ALONE + operator_cases.ALONE + row_cases.ALONE + broker_cases.ALONE + fault_cases.ALONE
+         program_cases.an_input_that_cannot_be_read, program_cases.a_full_disk) + operator_cases.ALONE
 BESIDE_A_BROKER = (session_cases.a_publish_without_a_session, session_cases.a_session_that_publishes,
                    session_cases.a_subscription, session_cases.a_policy_that_ends_a_subscription,
                    program_cases.a_broker_that_comes_back, program_cases.a_subscription_outlives_the_broker,

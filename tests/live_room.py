@@ -34,12 +34,6 @@ class Room:
                               stdout=subprocess.PIPE, stderr=subprocess.DEVNULL, check=False)
         return done.returncode, done.stdout
 
-    def told(self, *words):
-        """The same with the standard error."""
-        done = subprocess.run([self.program, *words], stdin=subprocess.DEVNULL, timeout=20, text=True,
-                              capture_output=True, check=False)
-        return done.returncode, done.stdout, done.stderr
-
     def keep(self, process):
         self.processes.append(process)
         return process

@@ -5,11 +5,9 @@ use crate::socket::socket_address;
 use mqtt_frames::encode_connect;
 use sng_gateway::report::{Report, report_of};
 use sng_gateway::sender::address_of;
-use sng_scope::{PolicyFault, read_policy};
+use sng_scope::read_policy;
 use sng_text::{ClientId, Octets, TextFault};
 use std::alloc::{AllocError, Global};
-use std::fmt;
-use std::fmt::{Display, Formatter, Write};
 use std::io::Error;
 use std::net::SocketAddr;
 use std::rt::Files;
@@ -54,52 +52,18 @@ pub struct Ask {
     pub is_verbose: bool,
 }
 
-/// An option whose word is an address.
-#[derive(Clone, Copy, Debug, PartialEq, Eq)]
-pub enum AddressOption {
-    Listen,
-    Broker,
-}
-
-impl Display for AddressOption {
-    fn fmt<W: Write>(&self, f: &mut Formatter<W>) -> fmt::Result {
-        f.write_str(match self {
-            AddressOption::Listen => "--listen",
-            AddressOption::Broker => "--broker",
-        })
-    }
-}
-
 /// Why nothing is started.
 #[derive(Drop)]
 pub enum Fault<'a> {
     /// The word is no IPv4 address with a port.
-    Address(AddressOption, &'a str),
-    /// The word is no client id.
-    Id(&'a str),
+    Address(&'a str),
+    /// The id is no client id.
+    Id,
     /// The file of the policy cannot be read.
     File(&'a str, Error),
     /// The policy of the file is refused.
-    Policy(&'a str, PolicyFault, Report),
+    Policy(Report),
     Memory,
-}
-
-impl<'a> Display for Fault<'a> {
-    fn fmt<W: Write>(&self, f: &mut Formatter<W>) -> fmt::Result {
-        match self {
-            Fault::Address(option, word) => write!(
-                f,
-                "{option} {word}: not an IPv4 address with a port, as 0.0.0.0:1884"
-            ),
-            Fault::Id(word) => write!(f, "--id {word}: not a client id of 1 to 23 characters"),
-            Fault::File(path, error) => write!(f, "--policy {path}: cannot be read: {error}"),
-            Fault::Policy(path, fault, _) => {
-                let name = fault.name();
-                write!(f, "--policy {path}: refused: {name}")
-            }
-            Fault::Memory => f.write_str("out of memory"),
-        }
-    }
 }
 
 impl<'a> From<AllocError> for Fault<'a> {
@@ -110,9 +74,9 @@ impl<'a> From<AllocError> for Fault<'a> {
 
 /// Reads the words. The first of them that is not valid is the fault.
 pub fn ask_of<'a, R: Files + AllocGlobal>(rt: &R, words: &Words<'a>) -> Result<Ask, Fault<'a>> {
-    let listen = address_in(AddressOption::Listen, words.listen)?;
-    let broker = address_in(AddressOption::Broker, words.broker)?;
-    let greeting = greeting_of(rt.alloc(), words.id)?;
+    let listen = socket_address_of(words.listen)?;
+    let broker = socket_address_of(words.broker)?;
+    let greeting = greeting_of(rt.alloc(), words.id.as_bytes())?;
     let (file, text) = match words.policy {
         Some(path) => {
             let text = policy_in(rt, path)?;
@@ -132,26 +96,23 @@ pub fn ask_of<'a, R: Files + AllocGlobal>(rt: &R, words: &Words<'a>) -> Result<A
     })
 }
 
-/// The address that the word of this option is.
-fn address_in(option: AddressOption, word: &str) -> Result<SocketAddr, Fault<'_>> {
-    socket_address_of(word).ok_or(Fault::Address(option, word))
-}
-
 /// The address that the word is.
-pub fn socket_address_of(word: &str) -> Option<SocketAddr> {
-    address_of(word.as_bytes()).map(socket_address)
+pub fn socket_address_of(word: &str) -> Result<SocketAddr, Fault<'_>> {
+    match address_of(word.as_bytes()) {
+        Some(address) => Ok(socket_address(address)),
+        None => Err(Fault::Address(word)),
+    }
 }
 
 /// The CONNECT of the gateway under this id: a clean session.
-fn greeting_of(alloc: Global, word: &str) -> Result<Octets, Fault<'_>> {
-    let id = word.as_bytes();
+fn greeting_of<'a>(alloc: Global, id: &[u8]) -> Result<Octets, Fault<'a>> {
     if MAX_ID_BYTES < id.len() {
-        return Err(Fault::Id(word));
+        return Err(Fault::Id);
     }
     match ClientId::read(alloc, id) {
         Ok(_) => Ok(encode_connect(alloc, id, true, KEEP_ALIVE)?),
         Err(TextFault::Memory) => Err(Fault::Memory),
-        Err(_) => Err(Fault::Id(word)),
+        Err(_) => Err(Fault::Id),
     }
 }
 
@@ -163,10 +124,6 @@ fn policy_in<'a, R: Files + AllocGlobal>(rt: &R, path: &'a str) -> Result<Vec<u8
     };
     match read_policy(rt.alloc(), text.as_slice()) {
         Ok(_) => Ok(text),
-        Err(PolicyFault::Memory) => Err(Fault::Memory),
-        Err(fault) => {
-            let report = report_of(rt.alloc(), text.as_slice())?;
-            Err(Fault::Policy(path, fault, report))
-        }
+        Err(_) => Err(Fault::Policy(report_of(rt.alloc(), text.as_slice())?)),
     }
 }

@@ -1,25 +1,15 @@
 //! The clock of the gateway: a beat each second, told in ms since the start.
-ghost use Rattle.std.specs.Prelude.{◌≡◌, ◌≢◌, ◌≤◌, ◌<◌, ◌↔◌, [], false};
+ghost use Rattle.std.specs.Prelude.{◌≡◌, ◌≢◌, ◌≤◌, ◌<◌, [], false};
 ghost use Rattle.sng_desk.specs.declared.source.Got.TheVariants.{Ended as ended_answer, Failed as failed_answer};
 
 use crate::bell::Ear;
 use crate::hub::Hub;
 use sng_desk::{Beats, Got};
 use std::rt::Clock;
-use std::thread;
 use std::time::Duration;
 
 /// How long a beat is, in ms.
 const BEAT_MS: u64 = 1000;
-
-/// Where a beat comes so much too late, in ms, the gateway was stopped or starved.
-const GAP_MS: u64 = 1500;
-
-/// How long the workers have behind such a gap to read what lies in the socket, in ms.
-const LOOK_MS: u64 = 2000;
-
-/// How long one wait is until the socket was seen empty, in ms.
-const LOOK_STEP_MS: u64 = 20;
 
 /// Beats of the system's clock.
 #[derive(Drop)]
@@ -29,8 +19,6 @@ pub struct SystemBeats<'a, R: Clock> {
     ear: Ear,
     begun: Duration,
     due: Duration,
-    /// Behind a gap: until when the beat is put off for what lies in the socket.
-    held_until: Option<Duration>,
     failures: u64,
 }
 
@@ -43,14 +31,13 @@ impl<'a, R: Clock> SystemBeats<'a, R> {
             ear,
             begun,
             due: begun.saturating_add(Duration::from_millis(BEAT_MS)),
-            held_until: None,
             failures: 0,
         }
     }
 
     fn fail(&mut self) -> Got<u64>
         ensures failures { self.old.failures ≤ self.new.failures }
-        ensures failed { (result ≡ failed_answer) ↔ (self.old.failures < self.new.failures) }
+        ensures failed { result ≡ failed_answer → self.old.failures < self.new.failures }
         ensures goes_on { result ≢ ended_answer }
     {
         if self.failures == u64::MAX {
@@ -63,7 +50,7 @@ impl<'a, R: Clock> SystemBeats<'a, R> {
     /// The beat at this time, where one is due. Beats that were missed do not come any more.
     fn beat_at(&mut self, now: Duration) -> Got<u64>
         ensures failures { self.old.failures ≤ self.new.failures }
-        ensures failed { (result ≡ failed_answer) ↔ (self.old.failures < self.new.failures) }
+        ensures failed { result ≡ failed_answer → self.old.failures < self.new.failures }
         ensures goes_on { result ≢ ended_answer }
     {
         if now < self.due {
@@ -98,7 +85,7 @@ impl<'a, R: Clock> Beats for SystemBeats<'a, R> {
             }
             return self.fail();
         }
-        self.beat_unless_held(now)
+        self.beat_at(now)
     }
 
     fn ended(&self) -> bool {
@@ -107,54 +94,14 @@ impl<'a, R: Clock> Beats for SystemBeats<'a, R> {
 }
 
 impl<'a, R: Clock> SystemBeats<'a, R> {
-    /// Whether the beat that is due waits a step longer: behind a gap a device's PINGREQ may lie in the socket
-    /// that is read before its client is taken for lost.
-    fn is_held(&mut self, now: Duration) -> bool
-        ensures failures { self.new.failures ≡ self.old.failures }
-    {
-        let Some(until) = self.held_until else {
-            return self.begin_to_hold(now);
-        };
-        if until <= now || self.hub.has_seen_empty_socket() {
-            self.held_until = None;
-            return false;
-        }
-        thread::sleep(self.rt, Duration::from_millis(LOOK_STEP_MS));
-        true
-    }
-
-    /// The beat at this time, where one is due and not put off.
-    fn beat_unless_held(&mut self, now: Duration) -> Got<u64>
-        ensures failures { self.old.failures ≤ self.new.failures }
-        ensures failed { (result ≡ failed_answer) ↔ (self.old.failures < self.new.failures) }
-        ensures goes_on { result ≢ ended_answer }
-    {
-        if self.due <= now && self.is_held(now) {
-            return Got::Nothing;
-        }
-        self.beat_at(now)
-    }
-
-    /// Puts the beat off where it is much too late.
-    fn begin_to_hold(&mut self, now: Duration) -> bool
-        ensures failures { self.new.failures ≡ self.old.failures }
-    {
-        let is_gap = Duration::from_millis(GAP_MS) <= now.saturating_sub(self.due);
-        if is_gap {
-            self.hub.look_again();
-            self.held_until = Some(now.saturating_add(Duration::from_millis(LOOK_MS)));
-        }
-        is_gap
-    }
-
     /// The beat that is due after a wait.
     fn later(&mut self) -> Got<u64>
         ensures failures { self.old.failures ≤ self.new.failures }
-        ensures failed { (result ≡ failed_answer) ↔ (self.old.failures < self.new.failures) }
+        ensures failed { result ≡ failed_answer → self.old.failures < self.new.failures }
         ensures goes_on { result ≢ ended_answer }
     {
         match self.rt.monotonic() {
-            Ok(now) => self.beat_unless_held(now),
+            Ok(now) => self.beat_at(now),
             Err(_) => self.fail(),
         }
     }

@@ -1,35 +1,23 @@
 //! `sng serve`: the gateway between devices and a broker.
 
-use crate::answers::Answers;
 use crate::ask::{Ask, Fault, Words, ask_of};
 use crate::beats::SystemBeats;
-use crate::beginning::{Beginning, begin};
 use crate::bell::Ear;
 use crate::closing::Accounts;
-use crate::descriptors::{EMPTY, hold};
-use crate::ends::End;
 use crate::hub::Hub;
 use crate::limits::FULL_ROWS;
 use crate::link::BrokerLink;
-use crate::lists::Lists;
 use crate::opening::{Ears, NotBegun, crew_of, open, tell_open};
 use crate::policies::OperatorPolicies;
-use crate::printing::{Printed, start_printer};
-use crate::roles::{OTHERS, Roles};
+use crate::printing::start_printer;
 use crate::socket::Socket;
-use crate::streams::boards;
 use crate::switch::Switch;
-use crate::tell::tell;
-use crate::verbosity::Verbosity;
-use crate::writers::{ERRORS_PATIENCE_MS, OUTPUT_PATIENCE_MS, wait_for};
 use sng_desk::{
-    Beats, Crew, Datagrams, Desk, Ended, Gate, NotStarted, Policies, Share, Terms, Upstream,
-    run_workers,
+    Beats, Crew, Datagrams, Desk, Ended, Gate, NotStarted, Policies, Terms, Upstream, run_workers,
 };
 use sng_gateway::Status;
 use sng_gateway::ending::ended;
-use sng_scope::read_policy;
-use std::alloc::{AllocError, Global};
+use std::alloc::AllocError;
 use std::io::Write;
 use std::net::Net;
 use std::rt::{Clock, Files};
@@ -37,62 +25,17 @@ use std::sync::{Mutex, Wait};
 use std::thread::Threads;
 use std::{io, thread};
 
-/// What the workers left.
-type Left<'a, R> = Ended<
-    Socket<'a, R>,
-    BrokerLink<'a, R>,
-    SystemBeats<'a, R>,
-    OperatorPolicies<'a, R>,
+/// What the workers left, where they were started.
+type Ran<'a, R> = Result<
+    Ended<Socket, BrokerLink<'a, R>, SystemBeats<'a, R>, OperatorPolicies<'a, R>>,
+    NotStarted,
 >;
 
-/// Serves until `quit` or the end of standard input, or until the gateway cannot go on.
-pub fn serve<
-    R: Threads
-        + Wait
-        + Sync
-        + Copy
-        + Send
-        + 'static
-        + Net
-        + Clock
-        + Files
-        + Input
-        + Print
-        + Eprint
-        + AllocGlobal,
->(rt: &R, words: &Words<'_>) -> End
-where
-    R::Reader: Send,
-    R::File: Send,
-    R::Dir: Send,
-    R::Listener: Send,
-    R::Stream: Send,
-{
-    match hold(rt) {
-        Ok(_descriptors) => serve_apart(rt, words),
-        Err(error) => {
-            tell(rt, format_args!("cannot open {EMPTY}: {error}"));
-            End::from(Status::Failed)
-        }
-    }
-}
-
-/// Serves where no socket can get the number of a standard descriptor.
-fn serve_apart<
-    R: Threads
-        + Wait
-        + Sync
-        + Copy
-        + Send
-        + 'static
-        + Net
-        + Clock
-        + Files
-        + Input
-        + Print
-        + Eprint
-        + AllocGlobal,
->(rt: &R, words: &Words<'_>) -> End
+/// Serves until `quit` or the end of standard input.
+pub fn serve<R: Threads + Wait + Sync + Net + Clock + Files + Input + Print + Eprint + AllocGlobal>(
+    rt: &R,
+    words: &Words<'_>,
+) -> Status
 where
     R::Reader: Send,
     R::File: Send,
@@ -102,62 +45,41 @@ where
 {
     let ask = match ask_of(rt, words) {
         Ok(ask) => ask,
-        Err(fault) => return End::from(report(rt, &fault)),
+        Err(fault) => return report(rt, &fault),
     };
     match start(rt, ask) {
-        Ok(end) => end,
-        Err(why) => End::from(report_start(rt, &why)),
+        Ok(status) => status,
+        Err(NotBegun::Socket) => cannot_open(rt, words.listen),
+        Err(NotBegun::Memory) => report(rt, &Fault::Memory),
     }
 }
 
-/// Tells why nothing was started. Of a refused policy all is printed that `sng policy` prints.
-fn report<R: Print + Eprint + AllocGlobal>(rt: &R, fault: &Fault<'_>) -> Status {
+/// Prints why nothing was started.
+fn report<R: Print>(rt: &R, fault: &Fault<'_>) -> Status {
     let printed = match fault {
+        Fault::Address(word) => println!(rt; "bad address {word}"),
+        Fault::Id => rt.println("bad id"),
+        Fault::File(path, error) => println!(rt; "cannot read {path}: {error}"),
+        Fault::Policy(report) => io::writer(rt).write_all(report.lines.as_slice()),
         Fault::Memory => {
             let printed = rt.println("out of memory");
             return ended(Status::OutOfMemory, printed.is_ok());
         }
-        Fault::Policy(_, _, report) => io::writer(rt).write_all(report.lines.as_slice()),
-        Fault::Address(_, _) | Fault::Id(_) | Fault::File(_, _) => Ok(()),
     };
-    tell(rt, format_args!("{fault}"));
     ended(Status::Unreadable, printed.is_ok())
 }
 
-/// Tells why no worker was started.
-fn report_start<R: Print + Eprint + AllocGlobal>(rt: &R, why: &NotBegun) -> Status {
-    match why {
-        NotBegun::Listening(address, error) => {
-            tell(
-                rt,
-                format_args!("--listen {address}: cannot be opened: {error}"),
-            );
-            ended(Status::Unreadable, true)
-        }
-        NotBegun::System(error) => {
-            tell(rt, format_args!("cannot start: {error}"));
-            ended(Status::Unreadable, true)
-        }
-        NotBegun::Memory => report(rt, &Fault::Memory),
-    }
+/// Prints that the socket of the devices was not opened.
+fn cannot_open<R: Print>(rt: &R, listen: &str) -> Status {
+    let printed = println!(rt; "cannot open {listen}");
+    ended(Status::Unreadable, printed.is_ok())
 }
 
 /// Opens the socket, and serves by it.
-fn start<
-    R: Threads
-        + Wait
-        + Sync
-        + Copy
-        + Send
-        + 'static
-        + Net
-        + Clock
-        + Files
-        + Input
-        + Print
-        + Eprint
-        + AllocGlobal,
->(rt: &R, ask: Ask) -> Result<End, NotBegun>
+fn start<R: Threads + Wait + Sync + Net + Clock + Files + Input + Print + Eprint + AllocGlobal>(
+    rt: &R,
+    ask: Ask,
+) -> Result<Status, NotBegun>
 where
     R::Reader: Send,
     R::File: Send,
@@ -166,66 +88,28 @@ where
     R::Stream: Send,
 {
     let alloc = rt.alloc();
-    let socket = open(rt, ask.listen)?;
+    let Ok(socket) = open(rt, ask.listen) else {
+        return Err(NotBegun::Socket);
+    };
     let (upstream, upstream_bell) = Ear::new(rt, alloc)?;
     let (clock, clock_bell) = Ear::new(rt, alloc)?;
     let (printer, printer_bell) = Ear::new(rt, alloc)?;
-    let answers = Answers::new(alloc)?;
-    let (output, errors) = boards(rt)?;
-    let hub = Hub::new(
-        answers,
-        upstream_bell,
-        clock_bell,
-        printer_bell,
-        output,
-        errors,
-    );
-    if ask.is_verbose {
-        hub.set_verbosity(Verbosity::On);
-    }
-    let shares = ask.workers.saturating_add(OTHERS + 1);
-    let (mut desk, mut shares) = Desk::new(alloc, FULL_ROWS, shares)?;
-    let beginning = begin_first(rt, &hub, &mut desk, &mut shares, &ask)?;
-    tell_open(&hub, &socket);
-    let gate = Switch::new(rt, &hub, Roles::new(ask.workers));
+    let hub = Hub::new(upstream_bell, clock_bell, printer_bell);
+    let (desk, shares) = Desk::new(alloc, FULL_ROWS, ask.workers.saturating_add(3))?;
+    tell_open(rt, &socket);
+    let gate = Switch::new(rt, &hub, ask.workers, ask.is_verbose);
+    let shows = if ask.is_verbose { Some(printer) } else { None };
     let ears = Ears { upstream, clock };
     let (crew, terms) = crew_of(rt, &hub, ask, shares, &socket, ears)?;
     let desk = Mutex::new(desk);
-    let (ran, printed) = run(rt, &hub, &desk, crew, &terms, &gate, printer);
-    let end = finish(rt, &hub, desk.into_inner(), beginning, ran, printed);
-    let _ = wait_for(rt, &hub.errors, ERRORS_PATIENCE_MS);
-    Ok(end)
+    let (ran, printed) = run(rt, &hub, &desk, crew, &terms, &gate, shows);
+    Ok(finish(rt, desk.into_inner(), ran, printed))
 }
 
-/// Brings the policy of the start into force, and tells it.
-fn begin_first<R: Wait + AllocGlobal>(
-    rt: &R,
-    hub: &Hub,
-    desk: &mut Desk,
-    shares: &mut Vec<Share>,
-    ask: &Ask,
-) -> Result<Beginning, NotBegun> {
-    let Some(share) = shares.pop() else {
-        return Err(NotBegun::Memory);
-    };
-    let alloc = rt.alloc();
-    let Some(text) = &ask.text else {
-        return Ok(begin(rt, alloc, desk, share, None)?);
-    };
-    // it was read before, so only memory can be wanting
-    let Ok(policy) = read_policy(alloc, text.as_slice()) else {
-        return Err(NotBegun::Memory);
-    };
-    let lists = Lists::of(&policy);
-    let beginning = begin(rt, alloc, desk, share, Some(policy))?;
-    hub.tell(format_args!("policy in force: {lists}"));
-    Ok(beginning)
-}
-
-/// Runs the workers, and follows the rows of the desk beside them.
+/// Runs the workers, and prints rows beside them where there is an ear for it. Whether all could be printed.
 /// It knows of the workers only that they may go to other threads, which is shown where it is called.
 fn run<
-    R: Threads + Wait + Clock + Sync + AllocGlobal,
+    R: Threads + Wait + Sync + Print + AllocGlobal,
     D: Datagrams + Send,
     U: Upstream + Send,
     B: Beats + Send,
@@ -238,8 +122,11 @@ fn run<
     crew: Crew<D, U, B, P>,
     terms: &Terms,
     gate: &G,
-    ear: Ear,
-) -> (Result<Ended<D, U, B, P>, NotStarted>, Printed) {
+    printer: Option<Ear>,
+) -> (Result<Ended<D, U, B, P>, NotStarted>, bool) {
+    let Some(ear) = printer else {
+        return (run_workers(rt, rt.alloc(), desk, crew, terms, gate), true);
+    };
     let Crew {
         udp,
         upstream,
@@ -248,7 +135,7 @@ fn run<
     } = crew;
     thread::scope(thread::scope_env(), rt, |scope| {
         let Some(printer) = start_printer(scope, rt, desk, hub, ear) else {
-            return (Err(NotStarted), Printed::none());
+            return (Err(NotStarted), true);
         };
         let crew = Crew {
             udp,
@@ -264,40 +151,31 @@ fn run<
 
 /// Holds what the workers left against the book, and prints what comes of it. Where standard input could not
 /// be read, nothing is printed.
-fn finish<R: Clock + Net + Wait + Files + Input + Print + Eprint + AllocGlobal>(
+fn finish<R: Clock + Net + Files + Input + Print + Eprint + AllocGlobal>(
     rt: &R,
-    hub: &Hub,
     desk: Desk,
-    beginning: Beginning,
-    ran: Result<Left<'_, R>, NotStarted>,
-    printed: Printed,
-) -> End {
-    let Ok(ended) = ran else {
-        hub.tell("a thread was refused: a limit of processes, or memory");
-        return End::from(tell_closed(rt, hub, None, printed));
-    };
-    let lost_input = ended.policies.source.has_lost_input();
-    let Ok(accounts) = accounts_of(rt, ended, beginning) else {
-        return End::from(report(rt, &Fault::Memory));
-    };
-    if lost_input {
-        return End::from(Status::Failed);
-    }
-    let status = tell_closed(rt, hub, accounts.close(desk), printed);
-    match (status, hub.halt()) {
-        (Status::Done, Some(why)) => End::Halted(why),
-        (status, _) => End::from(status),
+    ran: Ran<'_, R>,
+    printed: bool,
+) -> Status {
+    match ran {
+        Ok(ended) => {
+            let lost_input = ended.policies.source.has_lost_input();
+            match accounts_of(rt, ended) {
+                Ok(_) if lost_input => Status::Failed,
+                Ok(accounts) => tell_closed(rt, accounts.close(desk), printed),
+                Err(AllocError) => report(rt, &Fault::Memory),
+            }
+        }
+        Err(NotStarted) => tell_closed(rt, None, printed),
     }
 }
 
 /// What all workers left. The worker at the broker takes leave of it.
-fn accounts_of<R: Clock + Net + Wait + Files + Input + Print + Eprint + AllocGlobal>(
+fn accounts_of<R: Clock + Net + Files + Input + Print + Eprint + AllocGlobal>(
     rt: &R,
-    ended: Left<'_, R>,
-    beginning: Beginning,
+    ended: Ended<Socket, BrokerLink<'_, R>, SystemBeats<'_, R>, OperatorPolicies<'_, R>>,
 ) -> Result<Accounts, AllocError> {
     let mut accounts = Accounts::new(rt.alloc());
-    accounts.take_beginning(beginning)?;
     for end in ended.udp {
         accounts.take(end)?;
     }
@@ -309,42 +187,16 @@ fn accounts_of<R: Clock + Net + Wait + Files + Input + Print + Eprint + AllocGlo
     Ok(accounts)
 }
 
-/// Prints how many rows were closed, or that they were not, and waits until all is printed, as far as that takes
-/// no longer than there is patience for.
-fn tell_closed<R: Clock + AllocGlobal>(
-    rt: &R,
-    hub: &Hub,
-    rows: Option<usize>,
-    printed: Printed,
-) -> Status {
-    let status = match rows {
-        Some(_) => Status::Done,
-        None => Status::Unreadable,
-    };
-    let Ok(line) = closing_line(rt.alloc(), rows) else {
-        return ended(Status::OutOfMemory, false);
-    };
-    hub.print(line.into_bytes());
-    let patience = if printed.is_stuck {
-        0
-    } else {
-        OUTPUT_PATIENCE_MS
-    };
-    let is_written = wait_for(rt, &hub.output, patience);
-    let left = printed.left.saturating_add(hub.output.rows());
-    if left > 0 {
-        hub.tell(format_args!("{left} rows were not printed"));
-    }
-    ended(
-        status,
-        is_written && left == 0 && hub.output.lost.take() == 0,
-    )
-}
-
-/// The last line.
-fn closing_line(alloc: Global, rows: Option<usize>) -> Result<String, AllocError> {
+/// Prints how many rows were closed, or that they were not.
+fn tell_closed<R: Print>(rt: &R, rows: Option<usize>, printed: bool) -> Status {
     match rows {
-        Some(count) => format!(in alloc; "closed {count} rows\n"),
-        None => format!(in alloc; "not closed\n"),
+        Some(count) => {
+            let told = println!(rt; "closed {count} rows");
+            ended(Status::Done, printed && told.is_ok())
+        }
+        None => {
+            let told = rt.println("not closed");
+            ended(Status::Unreadable, printed && told.is_ok())
+        }
     }
 }
