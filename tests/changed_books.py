@@ -79,6 +79,40 @@ def other_order_of_rows(draw, lines):
     return joined(numbered(before, changed) if draw.random() < 0.5 else [before, *changed])
 
 
+def other_order_of_exits(draw, lines):
+    """Two outs that follow one another at a take, or as a connection begins, are exchanged: a packet and a
+    note, two packets or two notes."""
+    pairs, kind = [], None
+    for place, line in enumerate(lines[:-1]):
+        kind = line.split()[-1] if line.startswith(b'row ') else kind
+        if kind in (b'up', b'take') and line.startswith(OUTS) and lines[place + 1].startswith(OUTS):
+            pairs.append(place)
+    if not pairs:
+        return None
+    place = draw.choice(pairs)
+    return b''.join(lines[:place] + [lines[place + 1], lines[place]] + lines[place + 2:])
+
+
+def other_topic_id(draw, lines):
+    """A REGACK, a SUBACK or a REGISTER of an announcement tells another topic id."""
+    told = [place for place, line in enumerate(lines) if line.startswith(b'send ') and id_at(line)]
+    if not told:
+        return None
+    place = draw.choice(told)
+    *before, datagram = lines[place].split()
+    at = id_at(lines[place])
+    topic_id = draw.choice([number for number in range(8) if b'%04x' % number != datagram[at:at + 4]])
+    changed = b' '.join([*before, datagram[:at] + b'%04x' % topic_id + datagram[at + 4:]]) + b'\n'
+    return b''.join(lines[:place] + [changed] + lines[place + 1:])
+
+
+def id_at(line):
+    """Where the topic id begins in the datagram that is sent, in hexadecimal digits; none where it tells no
+    id, or its Length has three octets."""
+    datagram = line.split()[-1]
+    return None if datagram.startswith(b'01') else {b'0a': 4, b'0b': 4, b'13': 6}.get(datagram[2:4])
+
+
 def cut_off(draw, lines):
     """The book ends before its end: behind a line, or within one."""
     place = draw.randrange(len(lines))
@@ -91,7 +125,8 @@ def gone_on(draw, lines):
     return b''.join(lines) + line[:draw.choice((len(line), draw.randrange(1, len(line) + 1)))]
 
 
-KINDS = (other_byte, other_out, other_row, other_order, other_order_of_rows, cut_off, gone_on)
+KINDS = (other_byte, other_out, other_row, other_order, other_order_of_rows, other_order_of_exits,
+         other_topic_id, cut_off, gone_on)
 
 
 @dataclass

@@ -15,9 +15,26 @@ class Failure(Exception):
     """What a case wanted did not come."""
 
 
+class Skipped(Exception):
+    """A case needs what this user or this machine does not have."""
+
+
 def wanted(holds, what):
     if not holds:
         raise Failure(what)
+
+
+def measured(figure):
+    """Shows a figure of docs/hardening.md, where it is asked for."""
+    if 'SNG_LIVE_FIGURES' in os.environ:
+        print('measured: ' + figure, flush=True)
+
+
+def rss_kib(number):
+    """The memory of a process as it is now; 0 where it has ended."""
+    with open('/proc/%d/status' % number) as status:
+        found = [int(line.split()[1]) for line in status if line.startswith('VmRSS:')]
+    return found[0] if found else 0
 
 
 def until(asked, what, seconds=SECONDS):

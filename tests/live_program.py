@@ -23,8 +23,9 @@ def a_broker_that_comes_back(room):
     device.publish_short('ab', b'again')
     wanted(heard.ended() == 0 and 'got ab again' in heard.lines['out'], 'the message')
     gateway.close()
-    wanted(len([line for line in gateway.lines['out'] if line.endswith(' up')]) == 2, 'two rows up')
-    wanted(len([line for line in gateway.lines['out'] if line.endswith(' down')]) == 1, 'one row down')
+    kinds = [line.split()[-1] for line in gateway.lines['out'] if line.startswith('row ')]
+    wanted(kinds.count('up') == 2, 'two rows up')
+    wanted(kinds.count('down') == 1, 'one row down')
 
 
 def a_subscription_outlives_the_broker(room):
@@ -47,8 +48,8 @@ def a_subscription_outlives_the_broker(room):
 def a_broker_that_refuses(room):
     broker = room.broker(anonymous=False)
     gateway = room.gateway(broker.port, '--tries', '2', policy=SOURCE, connected=False)
-    gateway.line('err', 'refused with code 5; trying again in 200 ms')
-    gateway.line('err', 'refused with code 5; gave up after 2 tries')
+    gateway.line('err', 'refused with code 5: not authorized, .*; trying again in 200 ms')
+    gateway.line('err', 'refused with code 5: not authorized, .*; gave up after 2 tries')
     room.device(gateway).publish_short('ab', b'x')
     gateway.line('out', 'note publish .* 21 UpstreamDown')
     gateway.close()
@@ -148,22 +149,28 @@ def a_start_that_fails(room):
         busy = '%s:%d' % taken.getsockname()
         good = ['--listen', HOST + ':0', '--broker', HOST + ':1883', '--id', 'gw1', '--workers', '1']
 
-        def case(at, word, more, status, printed):
+        def case(at, word, more, status, told, printed=''):
             words = good[:at] + [word] + good[at + 1:] if at is not None else good
-            came = room.run('serve', *words, *more)
-            wanted(came == (status, printed), '%r: %r, and not %r' % (words + more, (status, printed), came))
-        case(1, 'localhost:1', [], 1, 'bad address localhost:1\n')
-        case(3, '127.0.0.1', ['--policy', path], 1, 'bad address 127.0.0.1\n')
-        case(5, '', ['--policy', path], 1, 'bad id\n')
-        case(5, 'x' * 24, [], 1, 'bad id\n')
-        case(1, busy, [], 1, 'cannot open %s\n' % busy)
-        case(1, busy, ['--policy', path], 1,
+            came = room.told('serve', *words, *more)
+            told = 'sng: %s\n' % told
+            wanted(came == (status, printed, told),
+                   '%r: %r, and not %r' % (words + more, (printed, told), came))
+        no_address = ': not an IPv4 address with a port, as 0.0.0.0:1884'
+        no_id = ': not a client id of 1 to 23 characters'
+        case(1, 'localhost:1', [], 1, '--listen localhost:1' + no_address)
+        case(3, '127.0.0.1', ['--policy', path], 1, '--broker 127.0.0.1' + no_address)
+        case(5, '', ['--policy', path], 1, '--id ' + no_id)
+        case(5, 'x' * 24, [], 1, '--id ' + 'x' * 24 + no_id)
+        case(1, busy, [], 1, '--listen %s: cannot be opened: Address already in use (os error 98)' % busy)
+        case(1, busy, ['--policy', path], 1, '--policy %s: refused: BadFilter' % path,
              'refused policy 3 BadFilter\na filter in a scope is not a valid topic filter, or is too long\n'
              'at clients.s1[0][0]: "t+": wildcard \'+\' inside a level\n')
         case(None, '', ['--policy', path + 'x'], 1,
-             'cannot read %sx: No such file or directory (os error 2)\n' % path)
+             '--policy %sx: cannot be read: No such file or directory (os error 2)' % path)
         for number in ('0', '9', 'x'):
-            case(7, number, [], 2, '')
+            words = good[:7] + [number]
+            status, printed = room.run('serve', *words)
+            wanted((status, printed) == (2, ''), '%r: status 2, and not %d' % (words, status))
 
 
 def an_input_that_cannot_be_read(room):

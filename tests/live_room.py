@@ -34,6 +34,12 @@ class Room:
                               stdout=subprocess.PIPE, stderr=subprocess.DEVNULL, check=False)
         return done.returncode, done.stdout
 
+    def told(self, *words):
+        """The same with the standard error."""
+        done = subprocess.run([self.program, *words], stdin=subprocess.DEVNULL, timeout=20, text=True,
+                              capture_output=True, check=False)
+        return done.returncode, done.stdout, done.stderr
+
     def keep(self, process):
         self.processes.append(process)
         return process
@@ -92,8 +98,9 @@ class Room:
         words = [tool('mosquitto_pub'), '-h', HOST, '-p', str(broker.port), '-t', topic, '-m', payload, *more]
         subprocess.run(words, check=True, timeout=SECONDS, stdin=subprocess.DEVNULL)
 
-    def gateway(self, port, *more, workers=2, policy=None, connected=True, verbose=True, **rest):
-        words = [self.program, 'serve', '--listen', HOST + ':0', '--broker', '%s:%d' % (HOST, port),
+    def gateway(self, port, *more, workers=2, policy=None, connected=True, verbose=True, listen=HOST + ':0',
+                **rest):
+        words = [self.program, 'serve', '--listen', listen, '--broker', '%s:%d' % (HOST, port),
                  '--id', 'gw1', '--workers', str(workers), *(['--verbose'] if verbose else []), *more]
         gateway = self.keep(Gateway(words, **rest))
         gateway.is_verbose = verbose

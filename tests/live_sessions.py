@@ -76,7 +76,7 @@ def a_policy_that_ends_a_subscription(room):
     gateway.line('out', '^note hand s1 t/1 11 MissingSub t/1')
     gateway.line('out', '^wire a2')
     device.silent()
-    gateway.say('not a policy')
+    gateway.say('policy not JSON')
     gateway.line('out', '^refused policy 1 NotJson$')
     gateway.close()
 

@@ -1,7 +1,7 @@
 """Gateways that break a promise, each in one way, for lawful_books.py: the second reader has to refuse a
 book of each. They are the model of gateway_model.py but for that."""
 import wrong_replacements
-from gateway_model import Gateway
+from gateway_model import Acknowledge, Gateway
 
 
 class Unjudged(Gateway):
@@ -114,7 +114,17 @@ class ForgetsWaiting(Gateway):
         super().begin(client)
 
 
+class AcknowledgesFirst(Gateway):
+    """An acknowledgement leaves before what waited as it came to wait."""
+
+    def owe(self, item):
+        is_placed = super().owe(item)
+        if is_placed and isinstance(item, Acknowledge):
+            self.outbox.insert(0, self.outbox.pop())
+        return is_placed
+
+
 WRONG = (
     *wrong_replacements.WRONG, SendsAgainUnjudged, HandsOverUnjudged, HandsAnnouncedUnjudged,
     AnnouncesAgainUnjudged, GoesOnUnjudged, ForwardsUnjudged, BeginsUnjudged, KeepsSubscriptions, HandsTwice,
-    ForgetsWaiting)
+    ForgetsWaiting, AcknowledgesFirst)

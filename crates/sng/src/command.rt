@@ -6,15 +6,21 @@ ghost use Rattle.sng.specs.Words.{filters_of, is_escape};
 
 use clap::{Arg, ArgAction, ArgMatches, Command, Error, value_parser};
 use sng_gateway::Status;
-use sng_serve::{MAX_WORKERS, Words as ServeWords};
+use sng_serve::{FloodLimits, MAX_WORKERS, Words as ServeWords};
 use sng_text::Octets;
 use std::alloc::{AllocError, Global};
 
 /// The version, and what `rt version` prints of the kit that proves it.
-const VERSION: &str = "0.1.0, proved by rattle-kit-13b logic dac8208d650f15bf";
+const VERSION: &str = "0.1.0, proved by rattle-kit-13f logic dac8208d650f15bf";
 
 /// How many tries to connect may fail, one after another, where nothing else is asked for.
 const USUAL_TRIES: u32 = 5;
+
+/// How many datagrams of strangers may be denied in a second, where nothing else is asked for.
+const USUAL_FLOOD: FloodLimits = FloodLimits {
+    each: 50,
+    all: 1000,
+};
 
 /// What the command line asks for.
 #[derive(Clone, Copy, Debug, PartialEq, Eq)]
@@ -163,6 +169,10 @@ fn serve_words<'a>(matches: &ArgMatches<'a>) -> ServeWords<'a> {
         id: matches.get_str("ID").unwrap_or(""),
         workers: matches.get_one::<u16>("N").unwrap_or(1),
         tries: if tries == 0 { u32::MAX } else { tries },
+        flood: FloodLimits {
+            each: matches.get_one::<u32>("EACH").unwrap_or(USUAL_FLOOD.each),
+            all: matches.get_one::<u32>("ALL").unwrap_or(USUAL_FLOOD.all),
+        },
         policy: matches.get_str("FILE"),
         is_verbose: matches.get_flag("verbose"),
     }
@@ -188,7 +198,7 @@ fn serve_command<'a>(alloc: Global) -> Result<Command<'a>, AllocError> {
         .long("verbose")
         .help("Prints rows as they are made")
         .action(ArgAction::SetTrue);
-    Command::new(alloc, "serve")
+    let command = Command::new(alloc, "serve")
         .about(
             "Serves between MQTT-SN devices and an MQTT broker, until `quit` or the end of input",
         )
@@ -198,7 +208,23 @@ fn serve_command<'a>(alloc: Global) -> Result<Command<'a>, AllocError> {
         .arg(workers)?
         .arg(tries)?
         .arg(policy)?
-        .arg(verbose)
+        .arg(verbose)?;
+    with_flood_limits(alloc, command)
+}
+
+/// The command with the options that say what is passed over in a flood.
+fn with_flood_limits<'a>(alloc: Global, command: Command<'a>) -> Result<Command<'a>, AllocError> {
+    let each = Arg::new(alloc, "EACH")
+        .long("flood-each")
+        .help("How many denied datagrams a second one stranger may send: 50 where it is left out")
+        .action(ArgAction::Set)
+        .value_parser(value_parser!(u32).range(1..=i64::from(u32::MAX)));
+    let all = Arg::new(alloc, "ALL")
+        .long("flood-all")
+        .help("How many all strangers together may send: 1000 where it is left out")
+        .action(ArgAction::Set)
+        .value_parser(value_parser!(u32).range(1..=i64::from(u32::MAX)));
+    command.arg(each)?.arg(all)
 }
 
 fn broker_command<'a>(alloc: Global) -> Result<Command<'a>, AllocError> {

@@ -14,6 +14,7 @@ use command::{Chosen, filters_among, read_command};
 use report::{out_of_memory, report};
 use sng_gateway::covering::cover_words;
 use sng_gateway::play::play;
+use sng_serve::End;
 use sng_text::Octets;
 use std::alloc::AllocError;
 use std::io;
@@ -22,23 +23,28 @@ use std::rt::Env;
 use words::{texts, words};
 
 fn main(rt: HostRuntime) -> ExitCode {
-    let status = match read_words(&rt) {
+    let end = match read_words(&rt) {
         Ok((words, texts)) => match read_command(rt.alloc(), texts.as_slice()) {
-            Ok(Chosen::Play) => play(rt.alloc(), rt.reader(), io::writer(&rt)),
-            Ok(Chosen::Check(script)) => checking::answer(&rt, words.as_slice(), script),
+            Ok(Chosen::Play) => End::from(play(rt.alloc(), rt.reader(), io::writer(&rt))),
+            Ok(Chosen::Check(script)) => {
+                End::from(checking::answer(&rt, words.as_slice(), script))
+            }
             Ok(Chosen::Cover) => {
                 let filters = filters_among(words);
-                cover_words(rt.alloc(), filters.as_slice(), io::writer(&rt))
+                let status = cover_words(rt.alloc(), filters.as_slice(), io::writer(&rt));
+                End::from(status)
             }
-            Ok(Chosen::May(asked)) => may::answer(&rt, words.as_slice(), &asked),
-            Ok(Chosen::Policy(path)) => policy::check(&rt, words.as_slice(), path),
+            Ok(Chosen::May(asked)) => End::from(may::answer(&rt, words.as_slice(), &asked)),
+            Ok(Chosen::Policy(path)) => End::from(policy::check(&rt, words.as_slice(), path)),
             Ok(Chosen::Serve(asked)) => serving::serve(&rt, words.as_slice(), &asked),
-            Ok(Chosen::Broker(listen)) => serving::broker(&rt, words.as_slice(), listen),
-            Err(error) => report(&rt, &error),
+            Ok(Chosen::Broker(listen)) => {
+                End::from(serving::broker(&rt, words.as_slice(), listen))
+            }
+            Err(error) => End::from(report(&rt, &error)),
         },
-        Err(AllocError) => out_of_memory(&rt),
+        Err(AllocError) => End::from(out_of_memory(&rt)),
     };
-    ExitCode::from(status.code())
+    ExitCode::from(end.code())
 }
 
 /// The words of the command line, as they came and as texts.

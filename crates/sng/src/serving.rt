@@ -1,7 +1,7 @@
 //! `sng serve ..` and `sng broker ..`.
 use crate::file::{first_no_text, report_word};
 use sng_gateway::Status;
-use sng_serve::Words;
+use sng_serve::{End, Words};
 use sng_text::Octets;
 use std::net::Net;
 use std::rt::{Clock, Files};
@@ -9,11 +9,21 @@ use std::sync::Wait;
 use std::thread::Threads;
 
 /// Serves as the words say.
-pub fn serve<R: Threads + Wait + Sync + Net + Clock + Files + Input + Print + Eprint + AllocGlobal>(
-    rt: &R,
-    words: &[Octets],
-    asked: &Words<'_>,
-) -> Status
+pub fn serve<
+    R: Threads
+        + Wait
+        + Sync
+        + Copy
+        + Send
+        + 'static
+        + Net
+        + Clock
+        + Files
+        + Input
+        + Print
+        + Eprint
+        + AllocGlobal,
+>(rt: &R, words: &[Octets], asked: &Words<'_>) -> End
 where
     R::Reader: Send,
     R::File: Send,
@@ -22,7 +32,7 @@ where
     R::Stream: Send,
 {
     match first_no_text(words) {
-        Some(place) => report_word(rt, place),
+        Some(place) => End::from(report_word(rt, place)),
         None => sng_serve::serve(rt, asked),
     }
 }

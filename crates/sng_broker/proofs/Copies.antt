@@ -1,20 +1,26 @@
 -- What one connection gets of a message.
 use Rattle.std.proofs.Common.{◌≡◌, ℕ, ◌+◌, ◌==◌, ◌≤◌, Bool, true, false, true≢false, ◌||◌, List, [], ◌∷◌}
-use Rattle.std.proofs.Common.{◌++◌, if◌then◌else◌, cond, is_some, refl, sym, ◌∙◌, ap, arith}
+use Rattle.std.proofs.Common.{◌++◌, if◌then◌else◌, cond, is_some, Option, Some, None, refl, sym, subst, ◌∙◌, ap}
+use Rattle.std.proofs.Common.{arith}
 use Rattle.std.specs.List.{Any, count_by, list_any}
 use Rattle.std.proofs.lemmas.Bool.{eqb-true, eq-eqb, and_parts, and_from}
 use Rattle.std.proofs.lemmas.List.Folds.{Any-from_list_any, list_any-from_Any}
 use Rattle.std.proofs.lemmas.List.Sums.{sum_by-cons}
 use Rattle.sng_text.specs.Matching.{matches}
+use Rattle.sng_text.specs.Texts.{name_fault}
+use Rattle.sng_text.specs.declared.fault.TextFault.{TextFault}
 use Rattle.sng_text.specs.declared.qos.Qos.{Qos}
 use Rattle.sng_text.specs.declared.qos.Qos.TheVariants.{AtMostOnce, AtLeastOnce}
 use Rattle.mqtt_frames.specs.declared.packet.Packet.{Packet}
+use Rattle.mqtt_frames.specs.declared.packet.Packet.TheVariants as packet
+use Rattle.mqtt_frames.specs.declared.packet.Publish.{Publish}
 use Rattle.sng_broker.specs.declared.parts.Message.{Message}
 use Rattle.sng_broker.specs.declared.parts.Peer.{Peer}
 use Rattle.sng_broker.specs.declared.parts.Standing.{Standing}
-use Rattle.sng_broker.specs.Brokers.{is_peer, is_open, is_at_least_once, fits, fits_surely, EachOnce}
-use Rattle.sng_broker.specs.Steps.{id_for, packet_of, gets, gets_surely, copy_for, fan_out}
-use Rattle.sng_broker.specs.Laws.{sent_to, Fits, IsSure, IsOneCopy, OneCopyEach}
+use Rattle.sng_broker.specs.Brokers.{Broker, is_peer, is_open, is_at_least_once, fits, fits_surely, EachOnce}
+use Rattle.sng_broker.specs.Steps.{Stepped, id_for, packet_of, gets, gets_surely, copy_for, fan_out, message_of}
+use Rattle.sng_broker.specs.Steps.{delivered, dropped, greeted, published, step, taken}
+use Rattle.sng_broker.specs.Laws.{sent_to, Fits, IsSure, IsOneCopy, OneCopyEach, PublishGoesOnce}
 use Rattle.sng_broker.proofs.Peers.{or_false}
 
 sent_both : (conn : ℕ) (xs ys : List (ℕ × Packet))
@@ -215,9 +221,29 @@ copied standing m peers conn (last, is) =
     )
 
 pub one_copy_each : OneCopyEach
-one_copy_each = λ standing m peers conn once. (
-  λ there some. copied standing m peers conn
-      (one_for standing m peers conn once there (gotten standing m conn some)),
-  λ absent. nobody standing m peers conn absent,
-  λ none. no_filter standing m peers conn (unless standing m conn _ refl none),
+one_copy_each = λ b m once conn. (
+  λ there some. copied b.standing m b.peers conn
+      (one_for b.standing m b.peers conn once there (gotten b.standing m conn some)),
+  λ absent. nobody b.standing m b.peers conn absent,
+  λ none. no_filter b.standing m b.peers conn (unless b.standing m conn _ refl none),
+)
+
+-- the step of a PUBLISH under a topic name, of an open connection
+publish_steps : (b : Broker) (conn : ℕ) (p : Publish) → is_open b.peers conn ≡ true → name_fault p.name ≡ None
+    → step b conn (packet.Publish p) ≡ delivered b conn p
+publish_steps b conn p there named =
+    subst (λ (open' : Bool). (if open' then taken b conn (packet.Publish p) else
+    greeted b conn (packet.Publish p)) ≡ published b conn p) (sym there) refl
+    ∙ subst (λ (fault : Option TextFault). (elim fault as (λ _. Stepped) [
+      | None ↦ delivered b conn p
+      | Some fault ↦ dropped b conn
+    ]) ≡ delivered b conn p) (sym named) refl
+
+-- so the message of a PUBLISH goes in each step
+pub publish_goes_once : (b : Broker) (conn : ℕ) (asked : Packet) → EachOnce b.peers
+    → PublishGoesOnce b conn asked (step b conn asked).outs
+publish_goes_once b conn asked once p is there named = (
+  fan_out b.standing (message_of p) b.peers,
+  ap (λ q. (step b conn q).outs) is ∙ ap (λ s. s.outs) (publish_steps b conn p there named),
+  one_copy_each b (message_of p) once,
 )

@@ -1,16 +1,18 @@
 -- What the broker does with a message, in the words of its use.
 use Rattle.std.specs.Prelude.{ℕ, ◌≡◌, ◌==◌, true, false, ◌↔◌, List, [], ◌∷◌, ◌++◌, filter, if◌then◌else◌}
-use Rattle.std.specs.Prelude.{is_some}
+use Rattle.std.specs.Prelude.{is_some, None}
 use Rattle.std.specs.declared.option.Option.{Option}
 use Rattle.std.specs.List.{Any}
 use Rattle.sng_text.specs.Matching.{matches}
+use Rattle.sng_text.specs.Texts.{name_fault}
 use Rattle.sng_text.specs.declared.qos.Qos.TheVariants.{AtLeastOnce}
 use Rattle.mqtt_frames.specs.declared.packet.Packet.{Packet}
+use Rattle.mqtt_frames.specs.declared.packet.Packet.TheVariants as packet
+use Rattle.mqtt_frames.specs.declared.packet.Publish.{Publish}
 use Rattle.sng_broker.specs.declared.parts.Message.{Message}
-use Rattle.sng_broker.specs.declared.parts.Peer.{Peer}
 use Rattle.sng_broker.specs.declared.parts.Standing.{Standing}
-use Rattle.sng_broker.specs.Brokers.{EachOnce, is_open}
-use Rattle.sng_broker.specs.Steps.{Sending, packet_of, fan_out, replay}
+use Rattle.sng_broker.specs.Brokers.{Broker, EachOnce, is_open}
+use Rattle.sng_broker.specs.Steps.{Sending, acknowledged, fan_out, message_of, packet_of, replay}
 
 -- the packets that go to one connection, in order
 abbrev pub sent_to : ℕ → List (ℕ × Packet) → List Packet
@@ -31,14 +33,25 @@ abbrev pub IsOneCopy : Message → ℕ → List Standing → List Packet → Typ
 IsOneCopy m conn standing packets =
     (id : Option ℕ) × (packets ≡ packet_of false id m ∷ []) × ((is_some id ≡ true) ↔ IsSure m conn standing)
 
--- a message goes once to each connection with a filter that matches, at the smaller QoS, however many of its
--- filters match; and to no other
+-- what is sent is one copy of the message for each connection with a filter that matches, at the smaller QoS,
+-- however many of its filters match; and nothing for any other
+abbrev pub GoesOnce : Broker → Message → List (ℕ × Packet) → Type 0
+GoesOnce b m outs = (conn : ℕ)
+    → (is_open b.peers conn ≡ true → Any (Fits conn m.name) b.standing
+    → IsOneCopy m conn b.standing (sent_to conn outs))
+    × ((is_open b.peers conn ≡ false) → sent_to conn outs ≡ [])
+    × ((Any (Fits conn m.name) b.standing → ⊥) → sent_to conn outs ≡ [])
+
+-- so a message goes in a broker in which no connection is there twice
 abbrev pub OneCopyEach : Type 0
-OneCopyEach = (standing : List Standing) (m : Message) (peers : List Peer) (conn : ℕ) → EachOnce peers
-    → (is_open peers conn ≡ true → Any (Fits conn m.name) standing
-    → IsOneCopy m conn standing (sent_to conn (fan_out standing m peers)))
-    × ((is_open peers conn ≡ false) → sent_to conn (fan_out standing m peers) ≡ [])
-    × ((Any (Fits conn m.name) standing → ⊥) → sent_to conn (fan_out standing m peers) ≡ [])
+OneCopyEach = (b : Broker) (m : Message) → EachOnce b.peers → GoesOnce b m (fan_out b.standing m b.peers)
+
+-- what is sent for a PUBLISH of an open connection is its message, once to each, and behind it its PUBACK
+abbrev pub PublishGoesOnce : Broker → ℕ → Packet → List (ℕ × Packet) → Type 0
+PublishGoesOnce b conn taken outs = (p : Publish) → taken ≡ packet.Publish p
+    → is_open b.peers conn ≡ true → name_fault p.name ≡ None
+    → (copies : List (ℕ × Packet)) × (outs ≡ copies ++ acknowledged conn p.packet_id)
+    × GoesOnce b (message_of p) copies
 
 -- the packets are copies of these messages, each for the connection of the filter and marked as retained
 abbrev pub AreCopies : Standing → List Message → List (ℕ × Packet) → Type 0

@@ -3,6 +3,7 @@ ghost use Rattle.std.specs.Prelude.{◌≡◌, [], false, IfOk, OnErr};
 ghost use Rattle.sng_broker.specs.Brokers.{is_open, forgotten, EachOnce};
 ghost use Rattle.sng_broker.specs.Steps.{step, taken, greeted, published, subscribed, unsubscribed, welcomed};
 ghost use Rattle.sng_broker.specs.Steps.{answered, dropped};
+ghost use Rattle.sng_broker.specs.Laws.{PublishGoesOnce};
 
 use crate::parts::{Message, Peer, Standing};
 use crate::publishing::{Outs, count_copies, fan_out, qos_of, retain};
@@ -46,9 +47,10 @@ impl BrokerCore {
         }
     }
 
-    /// Whether the connection was accepted, and is not forgotten.
+    /// Whether the connection was accepted, and is not forgotten. No connection is there twice.
     pub fn is_open(&self, conn: u32) -> bool
-        ensures { result ≡ is_open self.now.peers conn }
+        ensures open { result ≡ is_open self.now.peers conn }
+        ensures apart { EachOnce self.now.peers }
     {
         self.peers.iter().any(|peer| peer.is(conn))
     }
@@ -58,6 +60,19 @@ impl BrokerCore {
     /// forgotten: whoever holds it sees that by `is_open`, and closes it. Where memory is refused nothing has
     /// changed.
     pub fn step(&mut self, conn: u32, packet: Packet) -> Result<Outs, AllocError>
+        ensures outs { IfOk result (λ outs. outs.items ≡ (step self.old conn packet).outs) }
+        ensures next { IfOk result (λ _. self.new ≡ (step self.old conn packet).broker) }
+        ensures once { IfOk result (λ outs. PublishGoesOnce self.old conn packet outs.items) }
+        ensures err { OnErr result (self.new ≡ self.old) }
+    {
+        // Read for the invariant alone: no connection is there twice.
+        let _peers = &self.peers;
+        let outs = self.take(conn, packet)?;
+        Ok(outs)
+    }
+
+    /// The same, by what the packet is.
+    fn take(&mut self, conn: u32, packet: Packet) -> Result<Outs, AllocError>
         ensures outs { IfOk result (λ outs. outs.items ≡ (step self.old conn packet).outs) }
         ensures next { IfOk result (λ _. self.new ≡ (step self.old conn packet).broker) }
         ensures err { OnErr result (self.new ≡ self.old) }

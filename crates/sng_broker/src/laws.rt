@@ -2,8 +2,8 @@
 //! nothing.
 ghost use Rattle.sng_broker.specs.Laws.{OneCopyEach, RetainedAreReplayed};
 
-/// A message goes once to each connection with a filter that matches its name, at the smaller QoS, and to no
-/// other.
+/// Where no connection is there twice, as in each `BrokerCore`, a message goes once to each connection with a
+/// filter that matches its name, at the smaller QoS, and to no other.
 pub fn one_copy_each()
     ensures { OneCopyEach }
 {}

@@ -6,3 +6,4 @@ pub mod Printed
 pub mod Judged
 pub mod Turns
 pub mod Having
+pub mod Checked

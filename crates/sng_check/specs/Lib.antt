@@ -3,3 +3,4 @@ pub mod Mismatches
 pub mod Comparing
 pub mod Judging
 pub mod Reports
+pub mod Outcomes

@@ -1,5 +1,6 @@
 //! `sng check`: what is printed of a book, and how that comes out.
-ghost use Rattle.std.specs.Prelude.{IfOk};
+ghost use Rattle.std.specs.Prelude.{ℕ, List, Option, None, IfOk};
+ghost use Rattle.sng_check.specs.Outcomes.{IsCheck, Tells};
 ghost use Rattle.sng_check.specs.Reports.{IsAnswer};
 
 use crate::judging::judge;
@@ -11,21 +12,34 @@ use std::alloc::Global;
 use std::io::{Read, Write};
 
 /// Prints whether the book is that of the script, and flushes: `lawful N rows`; or where it departs from
-/// that, what stands there, and what should. `Done` is answered for a lawful book alone. A line of the book
-/// that is longer than `MAX_LINE` prints `unreadable book`, and a failure to read prints nothing.
+/// that, what stands there, and what should. `Done` is answered for a lawful book alone, when it and the
+/// script have been read to their ends, and `Unlawful` for one that departs. A line of the book that is
+/// longer than `MAX_LINE` prints `unreadable book`, and a failure to read prints nothing.
 pub fn check<S: Read + Drop, B: Read + Drop, W: Write + Drop>(
     alloc: Global,
     script: S,
     book: B,
     mut output: W,
-) -> Status {
-    let (printed, status) = match checked(alloc, script, book) {
-        Ok((text, status)) => (output.write_all(text.as_slice()), status),
-        Err(Stop::Unreadable) => (output.write_all(b"unreadable book\n"), Status::Unreadable),
-        Err(Stop::OutOfMemory) => (output.write_all(b"out of memory\n"), Status::OutOfMemory),
-        Err(Stop::Failed) => (Ok(()), Status::Failed),
-    };
-    end(status, printed, &mut output)
+) -> Status
+    ensures { IsCheck result (S.remaining script) (B.remaining book) None None }
+{
+    print_check(alloc, script, book, &mut output)
+}
+
+/// Checks and prints as `check` does.
+pub fn print_check<S: Read + Drop, B: Read + Drop, W: Write>(
+    alloc: Global,
+    script: S,
+    book: B,
+    output: &mut W,
+) -> Status
+    ensures { IsCheck result (S.remaining script) (B.remaining book)
+        (W.contents output.old) (W.contents output.new) }
+{
+    match checked(alloc, script, book) {
+        Ok((text, status)) => tell(text.as_slice(), status, output),
+        Err(stop) => tell_stop(stop, output),
+    }
 }
 
 /// What is printed of the book, and how the check of it comes out.
@@ -41,4 +55,24 @@ pub fn checked<S: Read + Drop, B: Read + Drop>(
     let mut text = Vec::new(alloc);
     push_verdict(&mut text, &verdict)?;
     Ok((text, status(&verdict)))
+}
+
+/// Prints why nothing is said of the book, where that is printed, and ends the command.
+fn tell_stop<W: Write>(stop: Stop, output: &mut W) -> Status
+    ensures { (script book : Option (List ℕ))
+        → IsCheck result script book (W.contents output.old) (W.contents output.new) }
+{
+    match stop {
+        Stop::Unreadable => tell(b"unreadable book\n", Status::Unreadable, output),
+        Stop::OutOfMemory => tell(b"out of memory\n", Status::OutOfMemory, output),
+        Stop::Failed => tell(b"", Status::Failed, output),
+    }
+}
+
+/// Prints the text and ends the command.
+fn tell<W: Write>(text: &[u8], status: Status, output: &mut W) -> Status
+    ensures { Tells result status text.now (W.contents output.old) (W.contents output.new) }
+{
+    let printed = output.write_all(text);
+    end(status, printed, output)
 }

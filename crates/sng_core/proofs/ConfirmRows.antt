@@ -27,7 +27,7 @@ use Rattle.sng_history.specs.Good.{AtRest, Good}
 use Rattle.sng_history.proofs.SaysParts.{part_for}
 use Rattle.sng_history.proofs.Steady.{undrained}
 use Rattle.sng_history.proofs.Booleans.{left_holds, right_holds}
-use Rattle.sng_history.proofs.SeenAnswered.{awaits_none}
+use Rattle.sng_history.proofs.Awaited.{awaits_none}
 use Rattle.sng_core.specs.Forms.{place_at, at_place, moved_if, found_outs, heard_at, broken_outs}
 use Rattle.sng_core.specs.Confirming.{served_outs, served_next, refusing_outs, refusing_next, confirming_outs}
 use Rattle.sng_core.specs.Confirming.{confirming_next, confirm_outs, confirm_next, acknowledge_outs}

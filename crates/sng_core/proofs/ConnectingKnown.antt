@@ -13,8 +13,8 @@ use Rattle.sng_history.specs.Clients.{Client}
 use Rattle.sng_history.specs.Whole.{moved}
 use Rattle.sng_history.specs.Good.{Away, Distinct}
 use Rattle.sng_history.proofs.Places.{away_of}
-use Rattle.sng_history.proofs.SeenOrder.{ids_of}
-use Rattle.sng_history.proofs.LawEntryEnds.{length_ids}
+use Rattle.sng_history.proofs.ClientIds.{ids_of}
+use Rattle.sng_history.proofs.ClientIds.{length_ids}
 use Rattle.sng_core.specs.Forms.{place_of, client_at, at_place}
 use Rattle.sng_core.specs.Connecting.{moved_outs}
 use Rattle.sng_core.proofs.Found.{read_at}

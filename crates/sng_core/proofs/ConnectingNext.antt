@@ -15,8 +15,8 @@ use Rattle.sng_history.specs.Good.{Away, Distinct}
 use Rattle.sng_history.proofs.Own.{same_means}
 use Rattle.sng_history.proofs.Kept.{let_in_id}
 use Rattle.sng_history.proofs.Places.{away_of}
-use Rattle.sng_history.proofs.SeenOrder.{ids_of}
-use Rattle.sng_history.proofs.LawEntryEnds.{length_ids}
+use Rattle.sng_history.proofs.ClientIds.{ids_of}
+use Rattle.sng_history.proofs.ClientIds.{length_ids}
 use Rattle.sng_core.specs.Forms.{place_of, client_at, at_place, moved_if}
 use Rattle.sng_core.specs.Forms.{entered}
 use Rattle.sng_sessions.specs.Handed.{handed_by}

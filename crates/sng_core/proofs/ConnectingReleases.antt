@@ -20,8 +20,8 @@ use Rattle.sng_history.proofs.Own.{each_all}
 use Rattle.sng_history.proofs.Hands.{served_steady}
 use Rattle.sng_history.proofs.WantedKept.{or_no}
 use Rattle.sng_history.proofs.NothingNew.{held_both}
-use Rattle.sng_history.proofs.SeenOrder.{ids_of}
-use Rattle.sng_history.proofs.LawEntryEnds.{length_ids}
+use Rattle.sng_history.proofs.ClientIds.{ids_of}
+use Rattle.sng_history.proofs.ClientIds.{length_ids}
 use Rattle.sng_core.specs.Forms.{place_of, client_at}
 use Rattle.sng_core.specs.Connecting.{alone_in, held_beside, alone_at}
 use Rattle.sng_core.specs.Connecting.{alone_by}

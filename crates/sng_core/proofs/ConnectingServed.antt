@@ -21,8 +21,8 @@ use Rattle.sng_history.specs.Whole.{spell, around_welcome}
 use Rattle.sng_history.specs.Good.{Distinct, Good}
 use Rattle.sng_history.proofs.Own.{same_means}
 use Rattle.sng_history.proofs.SaysParts.{entering_for}
-use Rattle.sng_history.proofs.SeenOrder.{ids_of}
-use Rattle.sng_history.proofs.LawEntryEnds.{length_ids}
+use Rattle.sng_history.proofs.ClientIds.{ids_of}
+use Rattle.sng_history.proofs.ClientIds.{length_ids}
 use Rattle.sng_core.specs.Forms.{place_of, client_at, at_place}
 use Rattle.sng_grants.specs.declared.policy.Policy.{Policy}
 use Rattle.sng_core.specs.HandingOver.{gone_outs, hand_outs}

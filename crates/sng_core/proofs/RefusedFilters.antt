@@ -18,7 +18,7 @@ use Rattle.sng_history.specs.Standing.{holds, is_held, still_wanted}
 use Rattle.sng_history.specs.State.{State}
 use Rattle.sng_history.proofs.Own.{same_self}
 use Rattle.sng_history.proofs.Booleans.{or_right}
-use Rattle.sng_history.proofs.LawReplaced.{without_stands}
+use Rattle.sng_history.proofs.OneEnds.{without_stands}
 use Rattle.sng_sessions.specs.Moving.{moved_at}
 use Rattle.sng_sessions.specs.Standing.{client_at}
 use Rattle.sng_core.specs.Refusing.{end_note, end_notes, refused_clients, refused_wanted}

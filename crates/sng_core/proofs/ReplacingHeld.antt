@@ -11,7 +11,7 @@ use Rattle.sng_history.specs.Standing.{still_wanted}
 use Rattle.sng_wanted.specs.Filters.{without_wanted}
 use Rattle.sng_history.proofs.Own.{same_self, same_means}
 use Rattle.sng_history.proofs.Booleans.{and_no, and_yes}
-use Rattle.sng_history.proofs.LawReplaced.{without_stands}
+use Rattle.sng_history.proofs.OneEnds.{without_stands}
 
 -- ---- one of many clients
 

@@ -22,7 +22,7 @@ use Rattle.sng_history.proofs.Endless.{EachIn, each_in}
 use Rattle.sng_history.proofs.Steady.{client_filters}
 use Rattle.sng_history.proofs.Own.{same_self, same_means}
 use Rattle.sng_history.proofs.Booleans.{and_no, and_yes}
-use Rattle.sng_history.proofs.LawReplaced.{without_stands}
+use Rattle.sng_history.proofs.OneEnds.{without_stands}
 use Rattle.sng_core.proofs.Plain.{Busy, plain_next}
 use Rattle.sng_core.proofs.ReplacingClient.{lost_of, lost, HeldOnce}
 

@@ -27,9 +27,9 @@ use Rattle.sng_history.specs.Ticking.{with_item, placed, all_placed}
 use Rattle.sng_history.specs.Whole.{spell, drained_outs}
 use Rattle.sng_history.specs.Good.{Each, AtRest, Distinct}
 use Rattle.sng_history.proofs.TickRests.{lost_next}
-use Rattle.sng_history.proofs.SeenPlaced.{placed_append}
-use Rattle.sng_history.proofs.SeenTicks.{before_is}
-use Rattle.sng_history.proofs.LawTicks.{testaments_with}
+use Rattle.sng_history.proofs.WillsPlaced.{placed_append}
+use Rattle.sng_history.proofs.WillsPlaced.{before_is}
+use Rattle.sng_history.proofs.WillsPlaced.{testaments_with}
 use Rattle.sng_link.specs.Rooms.{room_of}
 use Rattle.sng_core.specs.HandingOver.{gone_outs}
 use Rattle.sng_core.specs.Losing.{publication_of, turned_down, will_outs, kept_by, kept_will, room_behind}

@@ -24,7 +24,7 @@ use Rattle.sng_history.specs.Ticking.{with_item, placed, all_placed, with_wills,
 use Rattle.sng_history.specs.Ticking.{ping_dropped}
 use Rattle.sng_history.specs.Good.{Each, AtRest, Good}
 use Rattle.sng_history.proofs.TickRests.{tick_next}
-use Rattle.sng_history.proofs.SeenPlaced.{placed_append}
+use Rattle.sng_history.proofs.WillsPlaced.{placed_append}
 use Rattle.sng_sessions.specs.Moving.{moved_at}
 use Rattle.sng_link.specs.Rooms.{room_of}
 use Rattle.sng_link.specs.declared.room.Room.{Room}

@@ -14,7 +14,7 @@ use Rattle.sng_desk.specs.declared.trail.Trail.{Trail}
 use Rattle.sng_desk.specs.Acts.{Moves, Act, Acted, no_trail, events_of, receipts_of, receipt_in, sends_in, sends_of, wires_in}
 use Rattle.std.specs.Prelude.{Option, Some, None}
 use Rattle.sng_desk.specs.declared.ending.WorkerFault.{WorkerFault}
-use Rattle.sng_desk.specs.declared.ending.WorkerFault.TheVariants.{Memory, Device, GaveUp, Refused}
+use Rattle.sng_desk.specs.declared.ending.WorkerFault.TheVariants.{Device, GaveUp, Refused, BookFull}
 use Rattle.sng_desk.specs.Working.{Worked, Served, EndsFor}
 use Rattle.sng_desk.proofs.Acting.{logs_on, logs_none}
 
@@ -108,9 +108,9 @@ served tells gave failed told passed event before now trail share grown left fin
     }
 
 -- why the last turn is the last is why the worker came to its end
-pub ends_since : (fault : Option WorkerFault) (first before now : ℕ) (ended stops : Bool) → first ≤ before → EndsFor fault before now ended stops → EndsFor fault first now ended stops
-ends_since None first before now ended stops le e = e
-ends_since (Some Device) first before now ended stops le e = omega (arith, le, e)
-ends_since (Some Memory) first before now ended stops le e = e
-ends_since (Some GaveUp) first before now ended stops le e = e
-ends_since (Some Refused) first before now ended stops le e = e
+pub ends_since : (fault : Option WorkerFault) (first before now : ℕ) (ended stops : Bool) (trail : Trail) → first ≤ before → EndsFor fault before now ended stops trail → EndsFor fault first now ended stops trail
+ends_since None first before now ended stops trail le e = e
+ends_since (Some Device) first before now ended stops trail le e = omega (arith, le, e)
+ends_since (Some BookFull) first before now ended stops trail le e = e
+ends_since (Some GaveUp) first before now ended stops trail le e = e
+ends_since (Some Refused) first before now ended stops trail le e = e

@@ -20,11 +20,11 @@ use Rattle.sng_desk.specs.declared.connection.Close.TheVariants.{Stays, Breaks, 
 use Rattle.sng_desk.specs.declared.connection.Stage.{Stage}
 use Rattle.sng_desk.specs.declared.connection.Stage.TheVariants.{Away, Greeting, Open, Fallen}
 use Rattle.sng_desk.specs.declared.ending.WorkerFault.{WorkerFault}
-use Rattle.sng_desk.specs.declared.ending.WorkerFault.TheVariants.{Memory, Device, GaveUp, Refused}
+use Rattle.sng_desk.specs.declared.ending.WorkerFault.TheVariants.{Device, GaveUp, Refused, BookFull}
 use Rattle.sng_desk.specs.declared.ending.WorkerEnd.{WorkerEnd}
 use Rattle.sng_desk.specs.declared.working.Next.{Next}
 use Rattle.sng_desk.specs.declared.working.Next.TheVariants.{On, Over}
-use Rattle.sng_desk.specs.Acts.{Act, Moves, Logs, no_trail, is_taken, events_of, receipts_of, all_taken, wires_of, sends_of}
+use Rattle.sng_desk.specs.Acts.{Act, EndsRefused, Moves, Logs, no_trail, is_taken, events_of, receipts_of, all_taken, wires_of, sends_of}
 use Rattle.sng_desk.specs.Streaming.{accepts, packets_in, broken_in, left_by}
 
 -- what a device's answer is in the list of its calls
@@ -209,20 +209,20 @@ pub record Worked {U D : Type 0} (tells : U → Bool) (did : U → List Call) (t
   -- the trail and the share tell the acts of the turns
   pub logs : Logs (no_trail share.tag) share (all_acts turns) trail left
 
--- Why a worker came to its end. Of want of memory no more is said.
-abbrev pub EndsFor : ℕ → Option WorkerFault → Stage → Bool → Bool → Type 0
-EndsFor tries None stage ended stops = (ended ≡ true) ⊎ (stops ≡ true)
-EndsFor tries (Some GaveUp) stage ended stops = stage ≡ Away tries
-EndsFor tries (Some Refused) stage ended stops = stage ≡ Fallen
-EndsFor tries (Some Memory) stage ended stops = Unit {0}
-EndsFor tries (Some Device) stage ended stops = ⊥
+-- why a worker came to its end
+abbrev pub EndsFor : ℕ → Option WorkerFault → Stage → Bool → Bool → Trail → Type 0
+EndsFor tries None stage ended stops trail = (ended ≡ true) ⊎ (stops ≡ true)
+EndsFor tries (Some GaveUp) stage ended stops trail = stage ≡ Away tries
+EndsFor tries (Some Refused) stage ended stops trail = stage ≡ Fallen
+EndsFor tries (Some BookFull) stage ended stops trail = EndsRefused trail.refused trail.receipts
+EndsFor tries (Some Device) stage ended stops trail = ⊥
 
 -- How a worker ended that began with these.
 pub record HasEnded {U D : Type 0} (tells : U → Bool) (did : U → List Call) (told : D → Bool) (passed : D → List (Address × List ℕ)) (has_ended : U → Bool) (terms : Terms) (up : U) (sink : D) (share : Share) (may_stop : Bool) (end : WorkerEnd U D) : Type 0 where
   pub stage : Stage
   pub rest : State
   pub worked : Worked tells did told passed terms up sink share stage rest end.source end.sender end.trail end.share
-  pub fault : EndsFor terms.tries end.fault stage (has_ended end.source) may_stop
+  pub fault : EndsFor terms.tries end.fault stage (has_ended end.source) may_stop end.trail
 
 -- STEPS OF A TURN
 
@@ -252,9 +252,9 @@ abbrev pub next_stage : Stage → Close → Bool → Bool → Bool → Bool → 
 next_stage stage close opened greeting up told = if is_staying close then stage_on stage opened greeting else stage_off stage up told
 
 -- what a turn says of why it is the last
-abbrev pub NextFor : ℕ → Next → Stage → Bool → Bool → Type 0
-NextFor tries On stage ended stops = Unit {0}
-NextFor tries (Over fault) stage ended stops = EndsFor tries fault stage ended stops
+abbrev pub NextFor : ℕ → Next → Stage → Bool → Bool → Trail → Type 0
+NextFor tries On stage ended stops trail = Unit {0}
+NextFor tries (Over fault) stage ended stops trail = EndsFor tries fault stage ended stops trail
 
 abbrev pub fails : Bool → List Call
 fails true = []

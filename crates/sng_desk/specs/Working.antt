@@ -3,12 +3,12 @@ use Rattle.std.specs.Prelude.{ℕ, ◌≡◌, ◌≤◌, ◌<◌, ◌⊎◌, Boo
 use Rattle.sng_book.specs.declared.address.Address.{Address}
 use Rattle.sng_book.specs.declared.event.Event.{Event}
 use Rattle.sng_desk.specs.Sights.{Share}
-use Rattle.sng_desk.specs.Acts.{Act, Logs, Moves, no_trail, events_of, receipts_of, sends_of}
+use Rattle.sng_desk.specs.Acts.{Act, EndsRefused, Logs, Moves, no_trail, events_of, receipts_of, sends_of}
 use Rattle.sng_desk.specs.declared.trail.Trail.{Trail}
 use Rattle.sng_desk.specs.declared.source.Got.{Got}
 use Rattle.sng_desk.specs.declared.source.Got.TheVariants.{Came, Nothing, Ended, Failed}
 use Rattle.sng_desk.specs.declared.ending.WorkerFault.{WorkerFault}
-use Rattle.sng_desk.specs.declared.ending.WorkerFault.TheVariants.{Memory, Device, GaveUp, Refused}
+use Rattle.sng_desk.specs.declared.ending.WorkerFault.TheVariants.{Device, GaveUp, Refused, BookFull}
 use Rattle.sng_desk.specs.declared.working.Next.{Next}
 use Rattle.sng_desk.specs.declared.working.Next.TheVariants.{On, Over}
 
@@ -30,23 +30,23 @@ pub record Worked {S D : Type 0} (tells : S → Bool) (gave : S → List Event) 
   pub logs : Logs (no_trail share.tag) share acts trail left
   pub failures : failed source ≤ failed now
 
--- Why a worker came to its end: its source failed, or it has ended or is to stop. Of want of memory no more is said.
-abbrev pub EndsFor : Option WorkerFault → ℕ → ℕ → Bool → Bool → Type 0
-EndsFor None before now ended stops = (ended ≡ true) ⊎ (stops ≡ true)
-EndsFor (Some Device) before now ended stops = before < now
-EndsFor (Some Memory) before now ended stops = Unit {0}
-EndsFor (Some GaveUp) before now ended stops = ⊥
-EndsFor (Some Refused) before now ended stops = ⊥
+-- Why a worker came to its end: its source failed, its last event was refused, or the source has ended or the worker is to stop.
+abbrev pub EndsFor : Option WorkerFault → ℕ → ℕ → Bool → Bool → Trail → Type 0
+EndsFor None before now ended stops trail = (ended ≡ true) ⊎ (stops ≡ true)
+EndsFor (Some Device) before now ended stops trail = before < now
+EndsFor (Some BookFull) before now ended stops trail = EndsRefused trail.refused trail.receipts
+EndsFor (Some GaveUp) before now ended stops trail = ⊥
+EndsFor (Some Refused) before now ended stops trail = ⊥
 
 -- what a turn says of why it is the last
-abbrev pub NextFor : Next → ℕ → ℕ → Bool → Bool → Type 0
-NextFor On before now ended stops = Unit {0}
-NextFor (Over fault) before now ended stops = EndsFor fault before now ended stops
+abbrev pub NextFor : Next → ℕ → ℕ → Bool → Bool → Trail → Type 0
+NextFor On before now ended stops trail = Unit {0}
+NextFor (Over fault) before now ended stops trail = EndsFor fault before now ended stops trail
 
 -- How a worker ended that began with this source, this sink and this share, under a gate that may stop it or not.
 pub record HasEnded {S D : Type 0} (tells : S → Bool) (gave : S → List Event) (failed : S → ℕ) (has_ended : S → Bool) (told : D → Bool) (passed : D → List (Address × List ℕ)) (source : S) (sink : D) (share : Share) (may_stop : Bool) (now : S) (emptied : D) (trail : Trail) (left : Share) (fault : Option WorkerFault) : Type 0 where
   pub worked : Worked tells gave failed told passed source sink share now emptied trail left
-  pub ends : EndsFor fault (failed source) (failed now) (has_ended now) may_stop
+  pub ends : EndsFor fault (failed source) (failed now) (has_ended now) may_stop trail
 
 -- the desk was asked about an event, and what came of it was passed on
 pub record Served {S : Type 0} (tells : S → Bool) (gave : S → List Event) (failed : S → ℕ) (told : S → Bool) (passed : S → List (Address × List ℕ)) (event : Event) (before : S) (trail : Trail) (share : Share) (now : S) (grown : Trail) (left : Share) : Type 0 where

@@ -5,14 +5,14 @@ use crate::trail::Trail;
 /// Why a worker gave up.
 #[derive(Clone, Copy, Debug, PartialEq, Eq)]
 pub enum WorkerFault {
-    /// The trail could not grow.
-    Memory,
     /// The source failed.
     Device,
     /// As many tries to connect as there may be failed, one after another.
     GaveUp,
     /// The desk refused to hear that the connection is lost.
     Refused,
+    /// The desk refused the last event, since the book is full.
+    BookFull,
 }
 
 /// What a worker leaves: what it says of its acts, its share, its source and what it sent by, and why it gave

@@ -1,5 +1,5 @@
 //! The sources of three workers as sources of events: datagrams, clock values and policies.
-ghost use Rattle.std.specs.Prelude.{◌≡◌, ◌≤◌, ◌<◌, ◌∷◌, [], ℕ, Bool, List, true, false, map};
+ghost use Rattle.std.specs.Prelude.{◌≡◌, ◌≤◌, ◌<◌, ◌↔◌, ◌⊎◌, ◌∷◌, [], ℕ, Bool, List, true, false, map};
 ghost use Rattle.sng_book.specs.declared.address.Address.{Address};
 ghost use Rattle.sng_book.specs.declared.event.Event.{Event as event};
 ghost use Rattle.sng_desk.specs.declared.source.Got.TheVariants.{Ended as ended_answer, Failed as failed_answer};
@@ -30,13 +30,14 @@ pub trait Source: Drop {
         ensures given { Moves tells gave self.old self.new (given_by result) }
         ensures passed { Moves told passed self.old self.new [] }
         ensures failures { failures self.old ≤ failures self.new }
-        ensures failed { result ≡ failed_answer → failures self.old < failures self.new }
-        ensures ended { result ≡ ended_answer → has_ended self.new ≡ true };
+        ensures failed { (result ≡ failed_answer) ↔ (failures self.old < failures self.new) }
+        ensures ended { result ≡ ended_answer → has_ended self.new ≡ true }
+        ensures ends { has_ended self.new ≡ true → (result ≡ ended_answer) ⊎ (has_ended self.old ≡ true) };
 
     fn send(&mut self, to: Address, datagram: &Octets)
         ensures given { Moves tells gave self.old self.new [] }
         ensures passed { Moves told passed self.old self.new ((to, datagram.now) ∷ []) }
-        ensures failures { failures self.old ≤ failures self.new };
+        ensures failures { failures self.new ≡ failures self.old };
 }
 
 /// Datagrams, sent by what they came from.
@@ -68,7 +69,7 @@ impl<D: Datagrams> Source for Socket<D> {
     }
 
     fn send(&mut self, to: Address, datagram: &Octets) {
-        self.datagrams.send(to, datagram);
+        let _sent = self.datagrams.send(to, datagram);
     }
 }
 
@@ -102,7 +103,7 @@ impl<B: Beats, D: Datagrams> Source for Clock<B, D> {
     }
 
     fn send(&mut self, to: Address, datagram: &Octets) {
-        self.sender.send(to, datagram);
+        let _sent = self.sender.send(to, datagram);
     }
 }
 

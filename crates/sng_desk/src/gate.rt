@@ -1,12 +1,17 @@
-//! What lets workers go on.
+//! What lets workers go on, and hears what comes of them.
 ghost use Rattle.std.specs.Prelude.{◌≡◌, Bool, true, false};
 
-/// What lets workers go on.
+use crate::desk::Receipt;
+use crate::ending::WorkerFault;
+use crate::fault::ActFault;
+
+/// What lets workers go on, and hears what comes of them. All workers share one, so each call but `stops` says
+/// by its first value which worker calls.
 pub trait Gate {
     /// Workers may be stopped by it.
     ghost may_stop: { Self → Bool };
 
-    /// Before each turn of the worker with this tag. At false it ends.
+    /// Before each turn of a worker. At false it ends.
     fn before(&self, by: u16) -> bool
         ensures { result ≡ false → may_stop self.now ≡ true };
 
@@ -14,6 +19,19 @@ pub trait Gate {
     fn stops(&self) -> bool
         ensures { result ≡ may_stop self.now };
 
-    /// After each act of the worker with this tag.
-    fn after(&self, by: u16, row: u64);
+    /// After each act, once the lock is free: what came of it.
+    fn after(&self, by: u16, receipt: &Receipt);
+
+    /// An act was refused, and why.
+    fn refused(&self, by: u16, fault: ActFault);
+
+    /// There was no memory for the trail of a turn: the source was not asked, and the next turn begins anew. A
+    /// gate that waits a little here keeps a worker from asking for memory without a pause.
+    fn short(&self, by: u16);
+
+    /// The last call of a worker: it has ended, with this fault.
+    fn over(&self, by: u16, fault: Option<WorkerFault>);
+
+    /// A thread was refused: those that run are to end.
+    fn halt(&self);
 }

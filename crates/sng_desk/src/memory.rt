@@ -5,6 +5,9 @@ ghost use Rattle.sng_desk.specs.Devices.{IsShort, read_call, wrote_call};
 
 use crate::Items;
 use crate::connection::{Call, Opening, ReadAnswer, Upstream, Written};
+use crate::desk::Receipt;
+use crate::ending::WorkerFault;
+use crate::fault::ActFault;
 use crate::gate::Gate;
 use crate::source::{Beats, Datagrams, Got, Policies};
 use sng_book::Address;
@@ -47,6 +50,7 @@ pub struct MemoryDatagrams {
     kept: Vec<(Address, Octets)>,
     calls: Calls,
     failures: u64,
+    unsent: u64,
     has_lost: bool,
     is_over: bool,
 }
@@ -59,14 +63,38 @@ impl MemoryDatagrams {
             kept: Vec::new(alloc),
             calls,
             failures: 0,
+            unsent: 0,
             has_lost: false,
             is_over: false,
         }
     }
 
-    /// What was passed to it, in order.
+    /// What was passed to it, in order, that which was lost among it.
     pub fn kept(&self) -> &[(Address, Octets)] {
         self.kept.as_slice()
+    }
+
+    /// How many datagrams were lost that were passed to it.
+    pub fn unsent(&self) -> u64 {
+        self.unsent
+    }
+
+    /// Keeps a datagram that was passed to it, as long as there is memory.
+    fn keep(&mut self, to: Address, datagram: &Octets)
+        ensures told { not self.new.has_lost ≡ true → not self.old.has_lost ≡ true }
+        ensures kept { not self.new.has_lost ≡ true → self.new.kept.items ≡ self.old.kept.items ++ (to, datagram.now) ∷ [] }
+        ensures gave { (self.new.next ≡ self.old.next) × (self.new.datagrams ≡ self.old.datagrams) }
+        ensures counts { (self.new.failures ≡ self.old.failures) × (self.new.unsent ≡ self.old.unsent) }
+        ensures over { self.new.is_over ≡ self.old.is_over }
+    {
+        let Ok(copy) = datagram.copy() else {
+            self.has_lost = true;
+            return;
+        };
+        let Ok(()) = self.kept.push((to, copy)) else {
+            self.has_lost = true;
+            return;
+        };
     }
 
     pub fn calls(&self) -> &Calls {
@@ -82,6 +110,8 @@ impl Datagrams for MemoryDatagrams {
     ghost passed = { λ m. m.kept.items };
 
     ghost failures = { λ m. m.failures };
+
+    ghost unsent = { λ m. m.unsent };
 
     ghost has_ended = { λ m. m.is_over };
 
@@ -107,18 +137,13 @@ impl Datagrams for MemoryDatagrams {
         Got::Came((from, copy))
     }
 
-    fn send(&mut self, to: Address, datagram: &Octets) {
-        if self.calls.fails() && self.failures < u64::MAX {
-            self.failures += 1;
+    fn send(&mut self, to: Address, datagram: &Octets) -> bool {
+        self.keep(to, datagram);
+        if self.calls.fails() && self.unsent < u64::MAX {
+            self.unsent += 1;
+            return false;
         }
-        let Ok(copy) = datagram.copy() else {
-            self.has_lost = true;
-            return;
-        };
-        let Ok(()) = self.kept.push((to, copy)) else {
-            self.has_lost = true;
-            return;
-        };
+        true
     }
 
     fn ended(&self) -> bool {
@@ -404,5 +429,13 @@ impl Gate for OpenGate {
         false
     }
 
-    fn after(&self, _by: u16, _row: u64) {}
+    fn after(&self, _by: u16, _receipt: &Receipt) {}
+
+    fn refused(&self, _by: u16, _fault: ActFault) {}
+
+    fn short(&self, _by: u16) {}
+
+    fn over(&self, _by: u16, _fault: Option<WorkerFault>) {}
+
+    fn halt(&self) {}
 }

@@ -89,7 +89,9 @@ fn send_out<D: Datagrams>(sink: &mut D, out: &Out)
     ensures { Moves D.tells D.passed sink.old sink.new (sends_in (out.now ∷ [])) }
 {
     match out {
-        Out::Send(to, bytes) => sink.send(*to, bytes),
+        Out::Send(to, bytes) => {
+            let _sent = sink.send(*to, bytes);
+        }
         Out::Note(_) => {}
         Out::Wire(_) => {}
     }

@@ -1,6 +1,6 @@
 //! Where events come from, and where datagrams go: the traits that a worker knows. Each tells contracts what
 //! it gave and what was passed to it, as far as it can (`tells`): a socket tells nothing, one over memory all.
-ghost use Rattle.std.specs.Prelude.{◌≡◌, ◌≤◌, ◌<◌, ◌∷◌, [], ℕ, Bool, List, true, map};
+ghost use Rattle.std.specs.Prelude.{◌≡◌, ◌≤◌, ◌<◌, ◌↔◌, ◌⊎◌, ◌∷◌, [], ℕ, Bool, List, true, false, map};
 ghost use Rattle.sng_book.specs.declared.address.Address.{Address};
 ghost use Rattle.sng_grants.specs.declared.policy.Policy.{Policy as policy};
 ghost use Rattle.sng_desk.specs.declared.source.Got.TheVariants.{Ended as ended_answer, Failed as failed_answer};
@@ -35,8 +35,11 @@ pub trait Datagrams: Drop {
     /// The datagrams that were passed to it, in order, each with the address to which it goes.
     ghost passed: { Self → List (Address × List ℕ) };
 
-    /// How often a call failed, want of memory among it.
+    /// How often it answered that it failed.
     ghost failures: { Self → ℕ };
+
+    /// How many datagrams were lost that were passed to it.
+    ghost unsent: { Self → ℕ };
 
     /// It answered that nothing more comes.
     ghost has_ended: { Self → Bool };
@@ -46,14 +49,18 @@ pub trait Datagrams: Drop {
         ensures given { Moves tells gave self.old self.new (given_by result) }
         ensures passed { Moves tells passed self.old self.new [] }
         ensures failures { failures self.old ≤ failures self.new }
-        ensures failed { result ≡ failed_answer → failures self.old < failures self.new }
-        ensures ended { result ≡ ended_answer → has_ended self.new ≡ true };
+        ensures failed { (result ≡ failed_answer) ↔ (failures self.old < failures self.new) }
+        ensures ended { result ≡ ended_answer → has_ended self.new ≡ true }
+        ensures ends { has_ended self.new ≡ true → (result ≡ ended_answer) ⊎ (has_ended self.old ≡ true) };
 
-    /// Passes a datagram on. One that fails is lost, and counted.
-    fn send(&mut self, to: Address, datagram: &Octets)
+    /// Passes a datagram on. The answer is that the call did not fail: where it did, the datagram is lost, and
+    /// counted.
+    fn send(&mut self, to: Address, datagram: &Octets) -> bool
         ensures given { Moves tells gave self.old self.new [] }
         ensures passed { Moves tells passed self.old self.new ((to, datagram.now) ∷ []) }
-        ensures failures { failures self.old ≤ failures self.new };
+        ensures unsent { (result ≡ false) ↔ (unsent self.old < unsent self.new) }
+        ensures failures { failures self.new ≡ failures self.old }
+        ensures ends { has_ended self.new ≡ has_ended self.old };
 
     /// Whether it answered that nothing more comes.
     fn ended(&self) -> bool
@@ -68,7 +75,7 @@ pub trait Beats: Drop {
     /// The clock values that it gave, in order.
     ghost gave: { Self → List ℕ };
 
-    /// How often a call failed.
+    /// How often it answered that it failed.
     ghost failures: { Self → ℕ };
 
     /// It answered that nothing more comes.
@@ -78,8 +85,9 @@ pub trait Beats: Drop {
     fn next(&mut self) -> Got<u64>
         ensures given { Moves tells gave self.old self.new (given_by result) }
         ensures failures { failures self.old ≤ failures self.new }
-        ensures failed { result ≡ failed_answer → failures self.old < failures self.new }
-        ensures ended { result ≡ ended_answer → has_ended self.new ≡ true };
+        ensures failed { (result ≡ failed_answer) ↔ (failures self.old < failures self.new) }
+        ensures ended { result ≡ ended_answer → has_ended self.new ≡ true }
+        ensures ends { has_ended self.new ≡ true → (result ≡ ended_answer) ⊎ (has_ended self.old ≡ true) };
 
     /// Whether it answered that nothing more comes.
     fn ended(&self) -> bool
@@ -94,7 +102,7 @@ pub trait Policies: Drop {
     /// The policies that it gave, in order.
     ghost gave: { Self → List policy };
 
-    /// How often a call failed, want of memory among it.
+    /// How often it answered that it failed.
     ghost failures: { Self → ℕ };
 
     /// It answered that nothing more comes.
@@ -104,8 +112,9 @@ pub trait Policies: Drop {
     fn next(&mut self) -> Got<Policy>
         ensures given { Moves tells gave self.old self.new (given_by result) }
         ensures failures { failures self.old ≤ failures self.new }
-        ensures failed { result ≡ failed_answer → failures self.old < failures self.new }
-        ensures ended { result ≡ ended_answer → has_ended self.new ≡ true };
+        ensures failed { (result ≡ failed_answer) ↔ (failures self.old < failures self.new) }
+        ensures ended { result ≡ ended_answer → has_ended self.new ≡ true }
+        ensures ends { has_ended self.new ≡ true → (result ≡ ended_answer) ⊎ (has_ended self.old ≡ true) };
 
     /// Whether it answered that nothing more comes.
     fn ended(&self) -> bool

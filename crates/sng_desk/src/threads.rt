@@ -116,8 +116,8 @@ impl Locked for Mutex<Desk> {
     }
 }
 
-/// Runs all workers on threads of their own, and joins them. Where a thread is refused, that is answered once
-/// those that were started have ended.
+/// Runs all workers on threads of their own, and joins them. Where a thread is refused, the gate is told to halt,
+/// and the refusal is answered once those that were started have ended.
 pub fn run_workers<
     R: Threads + Wait + Sync,
     D: Datagrams + Send,
@@ -173,10 +173,16 @@ pub fn run_workers<
                     ticker,
                     policies,
                 }),
-                Err(_) => Err(NotStarted),
+                Err(_) => Err(halted(gate)),
             }
         },
     )
+}
+
+/// What is answered where a thread, or the memory for it, was refused: the gate is told first.
+fn halted<G: Gate>(gate: &G) -> NotStarted {
+    gate.halt();
+    NotStarted
 }
 
 fn start_all<
@@ -201,12 +207,12 @@ fn start_all<
     ensures stops { IfOk result (λ handles. map (λ h. h.promise.may_stop) handles.items ≡ map (λ p. may_stop) posts.items) }
 {
     let Ok(mut handles) = Vec::with_capacity(alloc, posts.len()) else {
-        return Err(NotStarted);
+        return Err(halted(gate));
     };
     for post in posts {
         let handle = start_udp(scope, rt, alloc, desk, post, gate, may_stop)?;
         let Ok(()) = handles.push(handle) else {
-            return Err(NotStarted);
+            return Err(halted(gate));
         };
     }
     Ok(handles)
@@ -240,7 +246,7 @@ fn start_udp<
     let Ok(handle) = scope.spawn_with(promise, move || {
         udp_worker(rt, alloc, desk.desk(), share, source, gate)
     }) else {
-        return Err(NotStarted);
+        return Err(halted(gate));
     };
     Ok(handle)
 }
@@ -282,7 +288,7 @@ fn start_upstream<
     let Ok(handle) = scope.spawn_with(promise, move || {
         upstream_worker(rt, alloc, desk.desk(), share, source, sender, terms, gate)
     }) else {
-        return Err(NotStarted);
+        return Err(halted(gate));
     };
     Ok(handle)
 }
@@ -321,7 +327,7 @@ fn start_ticker<
     let Ok(handle) = scope.spawn_with(promise, move || {
         ticker(rt, alloc, desk.desk(), share, source, sender, gate)
     }) else {
-        return Err(NotStarted);
+        return Err(halted(gate));
     };
     Ok(handle)
 }
@@ -354,7 +360,7 @@ fn start_loader<
     let Ok(handle) = scope.spawn_with(promise, move || {
         policy_worker(rt, alloc, desk.desk(), share, source, gate)
     }) else {
-        return Err(NotStarted);
+        return Err(halted(gate));
     };
     Ok(handle)
 }

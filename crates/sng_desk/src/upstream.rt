@@ -274,9 +274,12 @@ impl<U: Upstream, D: Datagrams> Round<U, D> {
     ) -> Next
         requires { Below terms.now.tries self.old.stage }
         ensures worked { (up : U) (sink : D) (share : share_sight) → Worked U.tells U.did D.tells D.passed terms.now up sink share self.old.stage self.old.stream self.old.up self.old.sink self.old.hand.log.trail self.old.hand.share → Worked U.tells U.did D.tells D.passed terms.now up sink share self.new.stage self.new.stream self.new.up self.new.sink self.new.hand.log.trail self.new.hand.share }
-        ensures over { NextFor terms.now.tries result self.new.stage (U.has_ended self.new.up) (G.may_stop gate.now) }
+        ensures over { NextFor terms.now.tries result self.new.stage (U.has_ended self.new.up) (G.may_stop gate.now) self.new.hand.log.trail }
         ensures below { Below terms.now.tries self.new.stage }
     {
+        if self.hand.log.is_full() {
+            return Next::Over(Some(WorkerFault::BookFull));
+        }
         if let Stage::Fallen = self.stage {
             return Next::Over(Some(WorkerFault::Refused));
         }
@@ -287,7 +290,8 @@ impl<U: Upstream, D: Datagrams> Round<U, D> {
             return Next::Over(None);
         }
         if self.hand.log.room(2052).is_err() {
-            return Next::Over(Some(WorkerFault::Memory));
+            gate.short(self.hand.log.by());
+            return Next::On;
         }
         if let Stage::Away(_) = self.stage {
             if self.open(alloc, terms) {
@@ -334,6 +338,7 @@ pub fn upstream_worker<R: Wait, U: Upstream, D: Datagrams, G: Gate>(
     };
     for _ in rt.forever() {
         if let Next::Over(fault) = round.turn(rt, alloc, desk, gate, terms) {
+            gate.over(round.hand.log.by(), fault);
             let Round {
                 up,
                 sink,

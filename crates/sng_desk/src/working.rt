@@ -35,13 +35,17 @@ impl<S: Source> Round<S> {
         ensures worked { (source : S) (share : share_sight)
             → Worked S.tells S.gave S.failures S.told S.passed source source share self.old.source self.old.source self.old.hand.log.trail self.old.hand.share
             → Worked S.tells S.gave S.failures S.told S.passed source source share self.new.source self.new.source self.new.hand.log.trail self.new.hand.share }
-        ensures over { NextFor result (S.failures self.old.source) (S.failures self.new.source) (S.has_ended self.new.source) (G.may_stop gate.now) }
+        ensures over { NextFor result (S.failures self.old.source) (S.failures self.new.source) (S.has_ended self.new.source) (G.may_stop gate.now) self.new.hand.log.trail }
     {
+        if self.hand.log.is_full() {
+            return Next::Over(Some(WorkerFault::BookFull));
+        }
         if !gate.before(self.hand.log.by()) {
             return Next::Over(None);
         }
         if self.hand.log.room(1).is_err() {
-            return Next::Over(Some(WorkerFault::Memory));
+            gate.short(self.hand.log.by());
+            return Next::On;
         }
         match self.source.ask() {
             Got::Came(event) => {
@@ -69,7 +73,7 @@ impl<S: Source> Round<S> {
 fn send_all<S: Source>(source: &mut S, receipts: &[Receipt])
     ensures given { Moves S.tells S.gave source.old source.new [] }
     ensures passed { Moves S.told S.passed source.old source.new (sends_of receipts.now) }
-    ensures failures { S.failures source.old ≤ S.failures source.new }
+    ensures failures { S.failures source.new ≡ S.failures source.old }
 {
     for receipt in receipts {
         send_outs(source, receipt.outs());
@@ -79,7 +83,7 @@ fn send_all<S: Source>(source: &mut S, receipts: &[Receipt])
 fn send_outs<S: Source>(source: &mut S, outs: &[Out])
     ensures given { Moves S.tells S.gave source.old source.new [] }
     ensures passed { Moves S.told S.passed source.old source.new (sends_in outs.now) }
-    ensures failures { S.failures source.old ≤ S.failures source.new }
+    ensures failures { S.failures source.new ≡ S.failures source.old }
 {
     for out in outs {
         send_out(source, out);
@@ -89,7 +93,7 @@ fn send_outs<S: Source>(source: &mut S, outs: &[Out])
 fn send_out<S: Source>(source: &mut S, out: &Out)
     ensures given { Moves S.tells S.gave source.old source.new [] }
     ensures passed { Moves S.told S.passed source.old source.new (sends_in (out.now ∷ [])) }
-    ensures failures { S.failures source.old ≤ S.failures source.new }
+    ensures failures { S.failures source.new ≡ S.failures source.old }
 {
     match out {
         Out::Send(to, datagram) => source.send(*to, datagram),
@@ -123,6 +127,7 @@ pub fn work<R: Wait, S: Source, G: Gate>(
     let mut round = Round { source, hand };
     for _ in rt.forever() {
         if let Next::Over(fault) = round.turn(rt, desk, gate) {
+            gate.over(round.hand.log.by(), fault);
             let Round { source, hand } = round;
             let Hand {
                 alloc: _,

@@ -4,3 +4,7 @@ pub mod EventLemmas
 pub mod InputLemmas
 pub mod NumberLemmas
 pub mod PlayLemmas
+pub mod ShortNameLemmas
+pub mod PublishingLemmas
+pub mod PieceLemmas
+pub mod FileLemmas

@@ -10,6 +10,9 @@ pub mod Stops
 pub mod Scripts
 pub mod Input
 pub mod Places
+pub mod ShortNames
+pub mod Publishing
+pub mod Redundant
 pub mod Warnings
 pub mod Reports
 pub mod Laws

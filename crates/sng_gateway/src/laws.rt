@@ -2,13 +2,17 @@
 ghost use Rattle.std.specs.Prelude.{◌≡◌};
 ghost use Rattle.sng_gateway.specs.EventLaws.{EventsAreRead};
 ghost use Rattle.sng_gateway.specs.Laws.{NumbersAreDecimal, PortsAreDecimal};
+ghost use Rattle.sng_gateway.specs.Publishing.{PublishersAreFound};
+ghost use Rattle.sng_gateway.specs.ShortNames.{ShortNamesAreFound};
 ghost use Rattle.sng_gateway.specs.declared.limits.TheConstants.{MAX_READS, MAX_LINE, MAX_SHOWN};
+ghost use Rattle.sng_gateway.specs.declared.short_name.TheConstants.{SHORT_NAME};
 
 /// The limits in numbers.
 pub fn limits()
     ensures reads { MAX_READS ≡ 1000000 }
     ensures line { MAX_LINE ≡ 67108864 }
     ensures shown { MAX_SHOWN ≡ 200 }
+    ensures short_name { SHORT_NAME ≡ 2 }
 {}
 
 /// Each port is read from its decimal digits.
@@ -25,4 +29,14 @@ pub fn numbers_are_decimal()
 /// their types, its packet is one that a stream may bring, and the text of its policy is read as the policy.
 pub fn events_are_read()
     ensures { EventsAreRead }
+{}
+
+/// A filter is found to match a short topic name exactly where it matches one.
+pub fn short_names_are_found()
+    ensures { ShortNamesAreFound }
+{}
+
+/// The pairs of a scope are found to let a source publish exactly where they grant a name that it can say.
+pub fn publishers_are_found()
+    ensures { PublishersAreFound }
 {}

@@ -19,10 +19,13 @@ mod places;
 pub mod play;
 pub mod player;
 pub mod policy_text;
+mod publishing;
 pub mod reader;
+mod redundant;
 pub mod report;
 pub mod script;
 pub mod sender;
+pub mod short_name;
 pub mod status;
 mod warnings;
 

@@ -59,7 +59,8 @@ pub fn push_place(line: &mut Vec<u8>, place: &Place) -> Result<(), AllocError>
     }
 }
 
-fn push_member(line: &mut Vec<u8>, part: Part, name: &[u8]) -> Result<(), AllocError>
+/// Appends the place of a member of the part.
+pub fn push_member(line: &mut Vec<u8>, part: Part, name: &[u8]) -> Result<(), AllocError>
     ensures { OnOk result (line.new.items ≡ line.old.items ++ member_text part name.now) }
 {
     push_part(line, part)?;

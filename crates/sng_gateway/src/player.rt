@@ -96,6 +96,7 @@ impl Player {
             (W.contents output.new) (standing self.new)) }
         ensures unreadable { result ≡ Err Stop.Unreadable
             → (line_of line.now ≡ None) × (standing self.new ≡ standing self.old) }
+        ensures told { line_of line.now ≡ None → result ≡ Err Stop.Unreadable }
         ensures nothing_written { OnErr result (result ≢ Err Stop.Failed
             → Keeps (W.contents output.old) (W.contents output.new)) }
     {

@@ -3,6 +3,7 @@ ghost use Rattle.std.specs.Prelude.{◌≡◌, ◌++◌, IfOk, OnOk};
 ghost use Rattle.sng_scope.specs.Policies.{policy_of};
 ghost use Rattle.sng_places.specs.Places.{text_check};
 ghost use Rattle.sng_places.specs.declared.position.Position.{Position};
+ghost use Rattle.sng_gateway.specs.Warnings.{AreWarningsOf};
 ghost use Rattle.sng_gateway.specs.Reports.{accepted_text, fault_report, stop_text, report_text, report_status};
 
 use crate::Status;
@@ -30,6 +31,8 @@ pub struct Report {
 pub fn report_of(alloc: Global, text: &[u8]) -> Result<Report, AllocError>
     ensures lines { IfOk result (λ report. (position : Position)
         × (report.lines.items ≡ report_text position (policy_of text.now) (text_check text.now))) }
+    ensures warnings { IfOk result (λ report.
+        AreWarningsOf (policy_of text.now) report.warnings.items) }
     ensures status { IfOk result (λ report. report.status ≡ report_status (policy_of text.now)) }
 {
     let mut lines = Vec::new(alloc);

@@ -1,6 +1,7 @@
 //! The lines of a script. Words are parted by one space.
-ghost use Rattle.std.specs.Prelude.{◌≡◌, ◌⊎◌, Some, None, IfOk, IfErr};
+ghost use Rattle.std.specs.Prelude.{◌≡◌, Some, IfOk, IfErr};
 ghost use Rattle.sng_gateway.specs.Lines.{line_of, word_line, words_line, policy_line, from_line, broker_line, tick_line};
+ghost use Rattle.sng_gateway.specs.Stops.{fault_of};
 ghost use Rattle.sng_scope.specs.Policies.{policy_of};
 
 use crate::datagram::{read_datagram, read_piece};
@@ -34,10 +35,11 @@ pub enum LineFault {
 }
 
 /// What the line says, without the line feed at its end: `up`, `down`, `take`, `policy TEXT`,
-/// `from IP:PORT HEX`, `broker HEX`, `tick MS`, or nothing.
+/// `from IP:PORT HEX`, `broker HEX`, `tick MS`, or nothing. Any other line is unreadable, whatever memory
+/// there is.
 pub fn line_of(alloc: Global, line: &[u8]) -> Result<Line, LineFault>
     ensures ok { IfOk result (λ said. line_of line.now ≡ Some said) }
-    ensures err { IfErr result (λ fault. (fault ≡ LineFault.Memory) ⊎ (line_of line.now ≡ None)) }
+    ensures err { IfErr result (λ fault. fault ≡ fault_of (line_of line.now)) }
 {
     match parted(line, b' ') {
         None => word_line(line).ok_or(LineFault::Unreadable),
@@ -65,8 +67,7 @@ fn word_line(word: &[u8]) -> Option<Line>
 /// What a line says with this word before its first space, and this behind it.
 fn words_line(alloc: Global, word: &[u8], rest: &[u8]) -> Result<Line, LineFault>
     ensures ok { IfOk result (λ said. words_line word.now rest.now ≡ Some said) }
-    ensures err { IfErr result (λ fault. (fault ≡ LineFault.Memory)
-        ⊎ (words_line word.now rest.now ≡ None)) }
+    ensures err { IfErr result (λ fault. fault ≡ fault_of (words_line word.now rest.now)) }
 {
     if word == b"policy".as_slice() {
         policy_line(alloc, rest)
@@ -96,7 +97,7 @@ fn policy_line(alloc: Global, text: &[u8]) -> Result<Line, LineFault>
 /// A datagram came from an address.
 fn from_line(alloc: Global, words: &[u8]) -> Result<Line, LineFault>
     ensures ok { IfOk result (λ said. from_line words.now ≡ Some said) }
-    ensures err { IfErr result (λ fault. (fault ≡ LineFault.Memory) ⊎ (from_line words.now ≡ None)) }
+    ensures err { IfErr result (λ fault. fault ≡ fault_of (from_line words.now)) }
 {
     let Some((word, digits)) = parted(words, b' ') else {
         return Err(LineFault::Unreadable);
@@ -111,7 +112,7 @@ fn from_line(alloc: Global, words: &[u8]) -> Result<Line, LineFault>
 /// A piece of bytes came from the broker.
 fn broker_line(alloc: Global, digits: &[u8]) -> Result<Line, LineFault>
     ensures ok { IfOk result (λ said. broker_line digits.now ≡ Some said) }
-    ensures err { IfErr result (λ fault. (fault ≡ LineFault.Memory) ⊎ (broker_line digits.now ≡ None)) }
+    ensures err { IfErr result (λ fault. fault ≡ fault_of (broker_line digits.now)) }
 {
     let piece = read_piece(alloc, digits)?;
     Ok(Line::Broker(piece))

@@ -12,9 +12,13 @@ use Rattle.sng_history.specs.Links.{Wanted, wants}
 use Rattle.sng_history.specs.Standing.{holds, is_held}
 use Rattle.sng_history.specs.State.{State}
 use Rattle.sng_history.specs.Good.{Each, WantedOnce, Good}
-use Rattle.sng_history.specs.ViewsClients.{is_among}
 use Rattle.sng_history.proofs.Own.{same_self, same_means, flip}
 use Rattle.sng_history.proofs.Booleans.{or_right}
+
+-- the text is one of these
+abbrev is_among : List ℕ → List (List ℕ) → Bool
+is_among text [] = false
+is_among text (one ∷ texts) = bytes_eq text one || is_among text texts
 
 -- all but the first that is this text
 abbrev remove : List ℕ → List (List ℕ) → List (List ℕ)

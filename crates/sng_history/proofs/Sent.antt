@@ -1,10 +1,9 @@
 -- What a row lets out for clients beside their notes is sent to them, so it brings no packet for the broker;
 -- only that an UNSUBSCRIBE was dropped is noted among it.
-use Rattle.std.proofs.Common.{◌≡◌, ℕ, Bool, true, false, List, [], ◌∷◌, ◌++◌, refl, ap, sym, ◌∙◌}
+use Rattle.std.proofs.Common.{◌≡◌, ℕ, Bool, true, false, List, [], ◌∷◌, ◌++◌, refl}
 use Rattle.std.proofs.Common.{if◌then◌else◌}
 use Rattle.std.specs.Prelude.{slice_get, Option, Some, None}
 use Rattle.std.specs.List.{list_any}
-use Rattle.std.proofs.lemmas.List.{append-nil}
 use Rattle.sng_frames.specs.declared.messages.publish.Publish.{Publish}
 use Rattle.sng_frames.specs.declared.qos.FrameQos.{FrameQos}
 use Rattle.sng_frames.specs.declared.qos.FrameQos.TheVariants as qos
@@ -30,15 +29,14 @@ use Rattle.sng_history.specs.Causes.{Request, ToPing, ToLeave, ToSleep, ToRegist
 use Rattle.sng_history.specs.Causes.{ToUnsubscribe, ToConfirm, ToAcknowledge, ToState, Untaken, Cause}
 use Rattle.sng_history.specs.Causes.{request_of}
 use Rattle.sng_history.specs.Handing.{Known, known_as, front, handed_outs, announced_again, repeated_outs}
-use Rattle.sng_history.specs.Clients.{Around, Client, is_author, start_by, note_by, notes_by, is_drained}
+use Rattle.sng_history.specs.Clients.{Around, Client, is_drained}
 use Rattle.sng_history.specs.Standing.{Release, is_release, drop_notes}
 use Rattle.sng_history.specs.Verdicts.{is_active, ping_verdict}
 use Rattle.sng_history.specs.Answers.{refusal, code_of, sent_to, puback, dismissed, statement_answer}
 use Rattle.sng_history.specs.Answers.{dialogue_ended, statement_refused, pong}
 use Rattle.sng_history.specs.Whole.{takes_leave, farewell, denied_to, denied_by, granted_to, granted_by}
 use Rattle.sng_history.specs.Whole.{replied, dropped_with, handed_frames, repeated_frames, frames_of}
-use Rattle.sng_history.specs.Whole.{spell, pong_by, answer_to, answer, drained_outs, part}
-use Rattle.sng_history.specs.Views.{wires_in}
+use Rattle.sng_history.specs.Whole.{pong_by, answer_to, answer, drained_outs}
 
 -- ---- frames
 
@@ -229,45 +227,5 @@ pub answer_sent : (request : Option Request) (x : Client) → AllSent (answer re
 answer_sent None x = tt
 answer_sent (Some request) x = answer_to_sent request x
 
-author_sent : (request : Option Request) (x : Client) (b : Bool)
-    → AllSent (if b then answer request x else [])
-author_sent request x true = answer_sent request x
-author_sent request x false = tt
-
 pub drained_sent : (x : Client) → AllSent (drained_outs x)
 drained_sent x = if_sent (is_drained x) (pong x.address ∷ []) tt
-
--- ---- no packets
-
-pub sent_wires : (xs ys : List Out) → AllSent xs → wires_in (xs ++ ys) ≡ wires_in ys
-sent_wires [] ys sent = refl
-sent_wires (Send to datagram ∷ xs) ys sent = sent_wires xs ys sent
-sent_wires (Note said ∷ xs) ys sent = sent_wires xs ys sent.1
-sent_wires (Wire packet ∷ xs) ys sent = absurd sent
-
-pub spell_wires : (a : Around) (dropped : List Release) (x : Client) (notes : List Decision)
-    → wires_in (spell a dropped x notes) ≡ []
-spell_wires a dropped x [] = refl
-spell_wires a dropped x (said ∷ notes) =
-    sent_wires (frames_of a dropped x said) (spell a dropped (note_by a said x) notes)
-    (frames_sent a dropped x said) ∙ spell_wires a dropped (note_by a said x) notes
-
-only_sent_wires : (xs : List Out) → AllSent xs → wires_in xs ≡ []
-only_sent_wires xs sent = ap wires_in (sym (append-nil xs)) ∙ sent_wires xs [] sent
-
-both_wires : (xs ys : List Out) → wires_in xs ≡ [] → AllSent ys → wires_in (xs ++ ys) ≡ []
-both_wires [] ys none sent = only_sent_wires ys sent
-both_wires (Send to datagram ∷ xs) ys none sent = both_wires xs ys none sent
-both_wires (Note said ∷ xs) ys none sent = both_wires xs ys none sent
-both_wires (Wire packet ∷ xs) ys none sent = absurd cc
-
-pub part_wires : (a : Around) (dropped : List Release) (notes : List Decision) (x : Client)
-    → wires_in (part a dropped notes x) ≡ []
-part_wires a dropped notes x =
-    let y = start_by a x in
-    let last = drained_outs (notes_by a notes y) in
-    sent_wires (if is_author a.cause x then answer (request_of a.cause) x else [])
-    (spell a dropped y notes ++ last)
-    (author_sent (request_of a.cause) x (is_author a.cause x))
-    ∙ both_wires (spell a dropped y notes) last (spell_wires a dropped y notes)
-    (drained_sent (notes_by a notes y))

@@ -1,13 +1,18 @@
 //! What `sng serve` is asked for, read in the order in which its faults are told.
+ghost use Rattle.std.specs.Prelude.{◌≡◌, IfOk};
+ghost use Rattle.sng_serve.specs.Readings.{gateway_connect};
 
+use crate::flood::FloodLimits;
 use crate::policies::file_text;
 use crate::socket::socket_address;
 use mqtt_frames::encode_connect;
 use sng_gateway::report::{Report, report_of};
 use sng_gateway::sender::address_of;
-use sng_scope::read_policy;
+use sng_scope::{PolicyFault, read_policy};
 use sng_text::{ClientId, Octets, TextFault};
 use std::alloc::{AllocError, Global};
+use std::fmt;
+use std::fmt::{Display, Formatter, Write};
 use std::io::Error;
 use std::net::SocketAddr;
 use std::rt::Files;
@@ -31,6 +36,8 @@ pub struct Words<'a> {
     pub workers: u16,
     /// How many tries to connect may fail, one after another.
     pub tries: u32,
+    /// How many datagrams that made nothing but denials are acted on in a second.
+    pub flood: FloodLimits,
     /// The file of the policy.
     pub policy: Option<&'a str>,
     /// Rows are printed as they are made.
@@ -46,24 +53,59 @@ pub struct Ask {
     pub greeting: Octets,
     pub workers: u16,
     pub tries: u32,
+    pub flood: FloodLimits,
     /// The file of the policy, and its text, which is a policy.
     pub file: Option<String>,
     pub text: Option<Vec<u8>>,
     pub is_verbose: bool,
 }
 
+/// An option whose word is an address.
+#[derive(Clone, Copy, Debug, PartialEq, Eq)]
+pub enum AddressOption {
+    Listen,
+    Broker,
+}
+
+impl Display for AddressOption {
+    fn fmt<W: Write>(&self, f: &mut Formatter<W>) -> fmt::Result {
+        f.write_str(match self {
+            AddressOption::Listen => "--listen",
+            AddressOption::Broker => "--broker",
+        })
+    }
+}
+
 /// Why nothing is started.
 #[derive(Drop)]
 pub enum Fault<'a> {
     /// The word is no IPv4 address with a port.
-    Address(&'a str),
-    /// The id is no client id.
-    Id,
+    Address(AddressOption, &'a str),
+    /// The word is no client id.
+    Id(&'a str),
     /// The file of the policy cannot be read.
     File(&'a str, Error),
     /// The policy of the file is refused.
-    Policy(Report),
+    Policy(&'a str, PolicyFault, Report),
     Memory,
+}
+
+impl<'a> Display for Fault<'a> {
+    fn fmt<W: Write>(&self, f: &mut Formatter<W>) -> fmt::Result {
+        match self {
+            Fault::Address(option, word) => write!(
+                f,
+                "{option} {word}: not an IPv4 address with a port, as 0.0.0.0:1884"
+            ),
+            Fault::Id(word) => write!(f, "--id {word}: not a client id of 1 to 23 characters"),
+            Fault::File(path, error) => write!(f, "--policy {path}: cannot be read: {error}"),
+            Fault::Policy(path, fault, _) => {
+                let name = fault.name();
+                write!(f, "--policy {path}: refused: {name}")
+            }
+            Fault::Memory => f.write_str("out of memory"),
+        }
+    }
 }
 
 impl<'a> From<AllocError> for Fault<'a> {
@@ -74,9 +116,9 @@ impl<'a> From<AllocError> for Fault<'a> {
 
 /// Reads the words. The first of them that is not valid is the fault.
 pub fn ask_of<'a, R: Files + AllocGlobal>(rt: &R, words: &Words<'a>) -> Result<Ask, Fault<'a>> {
-    let listen = socket_address_of(words.listen)?;
-    let broker = socket_address_of(words.broker)?;
-    let greeting = greeting_of(rt.alloc(), words.id.as_bytes())?;
+    let listen = address_in(AddressOption::Listen, words.listen)?;
+    let broker = address_in(AddressOption::Broker, words.broker)?;
+    let greeting = greeting_of(rt.alloc(), words.id)?;
     let (file, text) = match words.policy {
         Some(path) => {
             let text = policy_in(rt, path)?;
@@ -90,29 +132,35 @@ pub fn ask_of<'a, R: Files + AllocGlobal>(rt: &R, words: &Words<'a>) -> Result<A
         greeting,
         workers: words.workers,
         tries: words.tries,
+        flood: words.flood,
         file,
         text,
         is_verbose: words.is_verbose,
     })
 }
 
+/// The address that the word of this option is.
+fn address_in(option: AddressOption, word: &str) -> Result<SocketAddr, Fault<'_>> {
+    socket_address_of(word).ok_or(Fault::Address(option, word))
+}
+
 /// The address that the word is.
-pub fn socket_address_of(word: &str) -> Result<SocketAddr, Fault<'_>> {
-    match address_of(word.as_bytes()) {
-        Some(address) => Ok(socket_address(address)),
-        None => Err(Fault::Address(word)),
-    }
+pub fn socket_address_of(word: &str) -> Option<SocketAddr> {
+    address_of(word.as_bytes()).map(socket_address)
 }
 
 /// The CONNECT of the gateway under this id: a clean session.
-fn greeting_of<'a>(alloc: Global, id: &[u8]) -> Result<Octets, Fault<'a>> {
+fn greeting_of(alloc: Global, word: &str) -> Result<Octets, Fault<'_>>
+    ensures { IfOk result (λ greeting. greeting ≡ gateway_connect word.now) }
+{
+    let id = word.as_bytes();
     if MAX_ID_BYTES < id.len() {
-        return Err(Fault::Id);
+        return Err(Fault::Id(word));
     }
     match ClientId::read(alloc, id) {
         Ok(_) => Ok(encode_connect(alloc, id, true, KEEP_ALIVE)?),
         Err(TextFault::Memory) => Err(Fault::Memory),
-        Err(_) => Err(Fault::Id),
+        Err(_) => Err(Fault::Id(word)),
     }
 }
 
@@ -124,6 +172,10 @@ fn policy_in<'a, R: Files + AllocGlobal>(rt: &R, path: &'a str) -> Result<Vec<u8
     };
     match read_policy(rt.alloc(), text.as_slice()) {
         Ok(_) => Ok(text),
-        Err(_) => Err(Fault::Policy(report_of(rt.alloc(), text.as_slice())?)),
+        Err(PolicyFault::Memory) => Err(Fault::Memory),
+        Err(fault) => {
+            let report = report_of(rt.alloc(), text.as_slice())?;
+            Err(Fault::Policy(path, fault, report))
+        }
     }
 }

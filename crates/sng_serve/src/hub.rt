@@ -1,32 +1,109 @@
 //! What all workers of a running gateway share beside the desk: whether they are to stop, and how those that
 //! wait are woken.
 
+use crate::answers::Answers;
 use crate::bell::Bell;
-use std::sync::atomic::{AtomicBool, Ordering};
+use crate::board::Board;
+use crate::ends::Halt;
+use crate::flood::Flood;
+use crate::tally::Tally;
+use crate::token::Token;
+use crate::verbosity::Verbosity;
+use std::alloc::Global;
+use std::fmt::Display;
+use std::sync::atomic::{AtomicBool, AtomicU8, Ordering};
+use std::sync::{Arc, Mutex};
 
 #[derive(Drop)]
 pub struct Hub {
     stops: AtomicBool,
     is_up: AtomicBool,
+    has_refused_upstream: AtomicBool,
     is_over: AtomicBool,
+    has_full_book: AtomicBool,
+    has_lost_worker: AtomicBool,
+    is_socket_empty: AtomicBool,
+    /// An operator asked how the gateway stands, and was not answered yet.
+    wants_status: AtomicBool,
+    /// The act on the policy that came last was refused.
+    has_refused_policy: AtomicBool,
+    /// Which rows are printed, by its number.
+    verbosity: AtomicU8,
+    /// Held by the worker that reads the devices' socket: one reads at a time, so what comes has an order.
+    pub listening: Mutex<()>,
+    /// The right to act and to send.
+    pub token: Token,
+    /// Which datagrams are passed over in a flood.
+    pub flood: Mutex<Flood>,
+    /// How often an answer may leave for who has no session.
+    pub answers: Mutex<Answers>,
+    /// Acts that were refused for want of memory, and turns of workers that were left out.
+    pub refusals: Tally,
+    /// Datagrams that could not be sent.
+    pub unsent: Tally,
+    /// Answers that were held back.
+    pub held_back: Tally,
+    /// Datagrams that were passed over: the gateway had sent them itself.
+    pub passed_over: Tally,
+    /// Datagrams that were passed over in a flood.
+    pub flooded: Tally,
     /// Wakes the worker at the connection to the broker.
     pub upstream: Bell,
     /// Wakes the ticker.
     pub clock: Bell,
     /// Wakes whoever prints rows.
     pub printer: Bell,
+    /// What waits for standard output, and for standard error.
+    pub output: Arc<Board, Global>,
+    pub errors: Arc<Board, Global>,
 }
 
 impl Hub {
-    pub fn new(upstream: Bell, clock: Bell, printer: Bell) -> Hub {
+    pub fn new(
+        answers: Answers,
+        flood: Flood,
+        upstream: Bell,
+        clock: Bell,
+        printer: Bell,
+        output: Arc<Board, Global>,
+        errors: Arc<Board, Global>,
+    ) -> Hub {
         Hub {
             stops: AtomicBool::new(false),
             is_up: AtomicBool::new(false),
+            has_refused_upstream: AtomicBool::new(false),
             is_over: AtomicBool::new(false),
+            has_full_book: AtomicBool::new(false),
+            has_lost_worker: AtomicBool::new(false),
+            is_socket_empty: AtomicBool::new(true),
+            wants_status: AtomicBool::new(false),
+            has_refused_policy: AtomicBool::new(false),
+            verbosity: AtomicU8::new(Verbosity::Off.number()),
+            listening: Mutex::new(()),
+            token: Token::new(),
+            flood: Mutex::new(flood),
+            answers: Mutex::new(answers),
+            refusals: Tally::new(),
+            unsent: Tally::new(),
+            held_back: Tally::new(),
+            passed_over: Tally::new(),
+            flooded: Tally::new(),
             upstream,
             clock,
             printer,
+            output,
+            errors,
         }
+    }
+
+    /// Tells an operator: a line on standard error, for which nobody waits.
+    pub fn tell<D: Display + Drop>(&self, what: D) {
+        (*self.errors).tell(what);
+    }
+
+    /// Prints a text of whole lines on standard output, for which nobody waits.
+    pub fn print(&self, text: Vec<u8>) {
+        (*self.output).post(text);
     }
 
     /// Stops all workers, each once it has finished its turn.
@@ -37,6 +114,72 @@ impl Hub {
         self.printer.ring();
     }
 
+    /// Remembers why the gateway cannot go on as it was.
+    pub fn remember(&self, why: Halt) {
+        match why {
+            Halt::FullBook => self.has_full_book.store(true, Ordering::SeqCst),
+            Halt::LostWorker => self.has_lost_worker.store(true, Ordering::SeqCst),
+        }
+    }
+
+    /// What was remembered; the full book before a lost worker.
+    pub fn halt(&self) -> Option<Halt> {
+        if self.has_full_book.load(Ordering::SeqCst) {
+            return Some(Halt::FullBook);
+        }
+        if self.has_lost_worker.load(Ordering::SeqCst) {
+            return Some(Halt::LostWorker);
+        }
+        None
+    }
+
+    /// A worker looked into the devices' socket, and nothing lay in it.
+    pub fn saw_empty_socket(&self) {
+        self.is_socket_empty.store(true, Ordering::SeqCst);
+    }
+
+    /// Which rows are printed from now on.
+    pub fn set_verbosity(&self, verbosity: Verbosity) {
+        self.verbosity.store(verbosity.number(), Ordering::SeqCst);
+        self.printer.ring();
+    }
+
+    /// Which rows are printed: none, until it is said.
+    pub fn verbosity(&self) -> Verbosity {
+        Verbosity::of(self.verbosity.load(Ordering::SeqCst))
+    }
+
+    /// Asks whoever prints rows how the gateway stands.
+    pub fn ask_status(&self) {
+        self.wants_status.store(true, Ordering::SeqCst);
+        self.printer.ring();
+    }
+
+    /// Whether it was asked for since this was looked up last.
+    pub fn takes_status(&self) -> bool {
+        self.wants_status.swap(false, Ordering::SeqCst)
+    }
+
+    /// The act on a policy was refused.
+    pub fn refuse_policy(&self) {
+        self.has_refused_policy.store(true, Ordering::SeqCst);
+    }
+
+    /// Whether one was refused since this was looked up last.
+    pub fn takes_policy_refusal(&self) -> bool {
+        self.has_refused_policy.swap(false, Ordering::SeqCst)
+    }
+
+    /// Nobody has looked into the socket since now.
+    pub fn look_again(&self) {
+        self.is_socket_empty.store(false, Ordering::SeqCst);
+    }
+
+    /// Whether the socket was seen empty since this was asked for.
+    pub fn has_seen_empty_socket(&self) -> bool {
+        self.is_socket_empty.load(Ordering::SeqCst)
+    }
+
     /// Whether the workers are to stop.
     pub fn stops(&self) -> bool {
         self.stops.load(Ordering::SeqCst)
@@ -45,6 +188,17 @@ impl Hub {
     /// A connection to the broker is begun.
     pub fn begin(&self) {
         self.is_up.store(false, Ordering::SeqCst);
+        self.has_refused_upstream.store(false, Ordering::SeqCst);
+    }
+
+    /// An act of the worker at the broker was refused.
+    pub fn refuse_upstream(&self) {
+        self.has_refused_upstream.store(true, Ordering::SeqCst);
+    }
+
+    /// Whether an act of the worker at the broker was refused since the connection was begun.
+    pub fn has_refused_upstream(&self) -> bool {
+        self.has_refused_upstream.load(Ordering::SeqCst)
     }
 
     /// The worker at the broker has acted.

@@ -1,343 +1,213 @@
-//! The connection to the broker over TCP (MQTT 3.1.1, 4.2): it is made anew after pauses that grow, and what a
-//! turn of its worker writes is one write.
-ghost use Rattle.std.specs.Prelude.{◌≡◌, [], false, IfSome};
+//! The connection to the broker over TCP (MQTT 3.1.1, 4.2): it is made anew after pauses that grow, and what
+//! a turn of its worker writes is one write.
+ghost use Rattle.std.specs.Prelude.{◌≡◌, [], true, false, IfSome};
 ghost use Rattle.sng_desk.specs.Devices.{IsShort};
 ghost use Rattle.sng_desk.specs.declared.connection.ReadAnswer.TheVariants.{Gone as gone_answer};
 
 use crate::bell::Ear;
+use crate::ends::Halt;
 use crate::hub::Hub;
-use crate::tell::tell;
-use mio::net::TcpStream;
-use mio::{Interest, Token};
+use crate::loss::{Loss, Parting};
+use crate::patience::Patience;
+use crate::refusal::{CONNACK_BYTES, Refusal, connack_code};
+use crate::tries::Tries;
+use crate::watch::Watch;
+use crate::wire::{Came, Sent, Wire};
 use sng_desk::{Opening, ReadAnswer, Upstream, Written};
 use sng_text::Octets;
 use std::alloc::AllocError;
-use std::fmt::Display;
-use std::io;
-use std::io::{Error, ErrorKind, Read, Write};
-use std::net::{Net, Shutdown, SocketAddr};
+use std::net::{Net, SocketAddr};
 use std::rt::Clock;
+use std::sync::Wait;
 use std::time::Duration;
 
-/// Under which the connection is registered at the ear.
-const CONNECTION: Token = Token(1);
-
-/// How many bytes one read takes at most.
-const READ_BYTES: usize = 4096;
-
-/// So many bytes at most are kept before they are written.
-const KEPT_BYTES: usize = 65536;
-
-/// How long a connection may take to be made, and to be accepted with a CONNACK, in ms.
-const PATIENCE_MS: u64 = 5000;
-
-/// How long the broker may leave bytes unread, in ms.
+/// How long the broker may take nothing of what is written, in ms.
 const WRITE_PATIENCE_MS: u64 = 10000;
-
-/// The pause after the first failed try, in ms; each further one doubles it, up to the longest.
-const FIRST_PAUSE_MS: u64 = 200;
-
-const LONGEST_PAUSE_MS: u64 = 5000;
-
-/// How long one wait for the broker is, in ms: another one follows it.
-const LONGEST_WAIT_MS: u64 = 60000;
 
 /// Connections to the broker.
 #[derive(Drop)]
-pub struct BrokerLink<'a, R: Clock + Net + Eprint + AllocGlobal> {
+pub struct BrokerLink<'a, R: Clock + Net + Wait + AllocGlobal> {
     rt: &'a R,
     hub: &'a Hub,
-    ear: Ear,
+    /// The worker that has this connection.
+    by: u16,
+    watch: Watch<'a, R>,
     address: SocketAddr,
     /// After so many failed tries the worker gives up.
-    tries: u32,
-    stream: Option<TcpStream>,
-    /// The broker accepted it.
-    is_accepted: bool,
-    /// The code of a CONNACK that came first.
-    code: Option<u8>,
-    /// When a connection that is not accepted is given up.
-    deadline: Duration,
-    /// What the turn wrote, as far as the system did not take it yet.
-    kept: Vec<u8>,
-    buffer: Vec<u8>,
-    missed: u32,
+    most: u32,
+    tries: Tries,
+    wire: Wire,
+    patience: Patience,
+    /// When the broker accepted the connection.
+    accepted: Duration,
+    /// The first bytes that came, as many as a CONNACK has.
+    first: Vec<u8>,
+    /// Why a write failed.
+    fault: Option<Loss>,
     /// A try was made before.
     is_begun: bool,
     has_ended: bool,
 }
 
-impl<'a, R: Clock + Net + Eprint + AllocGlobal> BrokerLink<'a, R> {
+impl<'a, R: Clock + Net + Wait + AllocGlobal> BrokerLink<'a, R> {
+    /// The connection of the worker with this tag, whose gate has to give back the token.
     pub fn new(
         rt: &'a R,
         hub: &'a Hub,
         ear: Ear,
         address: SocketAddr,
         tries: u32,
+        by: u16,
     ) -> Result<BrokerLink<'a, R>, AllocError> {
         let alloc = rt.alloc();
         Ok(BrokerLink {
             rt,
             hub,
-            ear,
+            by,
+            watch: Watch::new(rt, hub, ear),
             address,
-            tries,
-            stream: None,
-            is_accepted: false,
-            code: None,
-            deadline: Duration::from_secs(0),
-            kept: Vec::with_capacity(alloc, KEPT_BYTES)?,
-            buffer: vec![in alloc; 0; READ_BYTES]?,
-            missed: 0,
+            most: tries,
+            tries: Tries::new(),
+            wire: Wire::new(alloc)?,
+            patience: Patience::new(Duration::ZERO),
+            accepted: Duration::ZERO,
+            first: Vec::with_capacity(alloc, CONNACK_BYTES)?,
+            fault: None,
             is_begun: false,
             has_ended: false,
         })
     }
 
-    /// The time, or the longest there is where the clock cannot be read: no wait is longer for it.
-    fn now(&self) -> Duration {
-        self.rt.monotonic().unwrap_or(Duration::MAX)
-    }
-
-    /// Waits until this time, or until the gateway stops.
-    fn pause_until(&mut self, end: Duration) {
-        for _ in 0..u64::MAX {
-            let now = self.now();
-            let _ = self.hub.upstream.heard();
-            if end <= now || self.hub.stops() {
-                return;
-            }
-            if self.ear.wait(end.saturating_sub(now)).is_err() {
-                return;
-            }
-        }
-    }
-
-    /// Begins a connection, and waits until it is made.
-    fn dial(&mut self) -> io::Result<TcpStream> {
-        let mut stream = TcpStream::connect(self.rt, self.address)?;
-        self.ear.registry().register(
-            &mut stream,
-            CONNECTION,
-            Interest::READABLE | Interest::WRITABLE,
-        )?;
-        let end = self
-            .now()
-            .saturating_add(Duration::from_millis(PATIENCE_MS));
-        for _ in 0..u64::MAX {
-            if let Some(error) = stream.take_error()? {
-                return Err(error);
-            }
-            if stream.peer_addr().is_ok() {
-                stream.set_nodelay(true)?;
-                return Ok(stream);
-            }
-            let now = self.now();
-            let _ = self.hub.upstream.heard();
-            if end <= now || self.hub.stops() {
-                break;
-            }
-            self.ear.wait(end.saturating_sub(now))?;
-        }
-        Err(Error::from(ErrorKind::TimedOut))
-    }
-
     /// Counts a try that failed, and tells why.
-    fn miss<D: Display + Drop>(&mut self, why: D) {
-        self.missed = self.missed.saturating_add(1);
-        let address = self.address;
-        if self.tries <= self.missed {
-            let count = self.missed;
-            tell(
-                self.rt,
-                format_args!("broker {address}: {why}; gave up after {count} tries"),
-            );
+    fn miss(&mut self, why: Loss) {
+        self.tries.fail();
+        let (address, count, pause) = (self.address, self.tries.failed, self.tries.pause());
+        if self.tries.are_used_up(self.most) {
+            self.hub.tell(format_args!("broker {address}: {why}; gave up after {count} tries"));
         } else {
-            let pause = pause_after(self.missed);
-            tell(
-                self.rt,
-                format_args!("broker {address}: {why}; trying again in {pause} ms"),
-            );
+            self.hub.tell(format_args!("broker {address}: {why}; trying again in {pause} ms"));
         }
+    }
+
+    /// An accepted connection is over. Where it did not last, the next one is tried as after a failed try.
+    fn part(&mut self, why: Loss) {
+        let up = self.watch.now().saturating_sub(self.accepted);
+        let lasted = self.tries.lose(up);
+        let (address, pause) = (self.address, self.tries.pause());
+        let parting = Parting { why, lasted, pause };
+        self.hub.tell(format_args!("broker {address}: {parting}"));
     }
 
     /// The connection is over. One that was not accepted was a failed try.
-    fn lose<D: Display + Drop>(&mut self, why: D) -> ReadAnswer
+    fn lose(&mut self, why: Loss) -> ReadAnswer
         ensures { result ≡ gone_answer }
     {
-        self.stream = None;
-        if self.is_accepted {
-            let address = self.address;
-            tell(self.rt, format_args!("broker {address}: lost: {why}"));
+        self.wire.close();
+        if self.patience.is_accepted {
+            self.part(why);
         } else {
             self.miss(why);
         }
         ReadAnswer::Gone
     }
 
-    /// Writes what is kept from this place on, as much as the system takes, and answers how much that was.
-    fn write_from(&self, at: usize) -> io::Result<usize> {
-        let bytes = self.kept.as_slice().get(at..).unwrap_or(&[]);
-        match &self.stream {
-            Some(stream) => (&*stream).write(bytes),
-            None => Ok(bytes.len()),
-        }
+    /// Until when a write waits for the broker to take something.
+    fn write_end(&self) -> Duration {
+        self.watch
+            .now()
+            .saturating_add(Duration::from_millis(WRITE_PATIENCE_MS))
     }
 
-    /// Writes what is kept. A failure is that of the connection.
-    fn flush(&mut self) -> io::Result<()> {
-        let end = self
-            .now()
-            .saturating_add(Duration::from_millis(WRITE_PATIENCE_MS));
-        let mut at = 0usize;
+    /// Writes what is kept. Once the broker takes something it has its whole time again, unless the gateway
+    /// stops.
+    fn flush(&mut self) -> Result<(), Loss> {
+        let mut end = self.write_end();
         for _ in 0..u64::MAX {
-            if self.kept.len() <= at {
-                break;
-            }
-            match self.write_from(at) {
-                Ok(0) => return Err(Error::from(ErrorKind::WriteZero)),
-                Ok(count) => at = at.saturating_add(count),
-                Err(error) => self.wait_to_write(error, end)?,
+            match self.wire.send()? {
+                Sent::All => break,
+                Sent::Some if self.hub.stops() => {}
+                Sent::Some => end = self.write_end(),
+                Sent::Nothing => self.wait_to_write(end)?,
             }
         }
-        self.kept.clear();
+        if self.wire.take_ping() {
+            let now = self.watch.now();
+            self.patience.ask(now);
+        }
         Ok(())
     }
 
-    /// Where a write would have waited, waits up to this time; where it was interrupted, does not. Any other
-    /// error is answered.
-    fn wait_to_write(&mut self, error: Error, end: Duration) -> io::Result<()> {
-        match error.kind() {
-            ErrorKind::Interrupted => Ok(()),
-            ErrorKind::WouldBlock => {
-                let now = self.now();
-                if end <= now {
-                    return Err(Error::from(ErrorKind::TimedOut));
+    /// Waits until the broker takes something, and reads what it sends meanwhile.
+    fn wait_to_write(&mut self, end: Duration) -> Result<(), Loss> {
+        for _ in 0..u64::MAX {
+            match self.wire.receive_ahead()? {
+                Came::Some => {
+                    let now = self.watch.now();
+                    self.patience.hear(now);
                 }
-                self.ear.wait(end.saturating_sub(now))
+                Came::Nothing | Came::End => break,
             }
-            _ => Err(error),
+        }
+        if end <= self.watch.now() {
+            return Err(Loss::Stuck);
+        }
+        Ok(self.watch.wait_until(end)?)
+    }
+
+    /// Remembers the bytes of a CONNACK.
+    fn notice(&mut self, bytes: &[u8]) {
+        let count = bytes
+            .len()
+            .min(CONNACK_BYTES.saturating_sub(self.first.len()));
+        if let Some(bytes) = bytes.get(..count) {
+            let _ = self.first.extend_from_slice(bytes);
         }
     }
 
-    /// A piece that was read.
-    fn take(&mut self, count: usize) -> ReadAnswer
+    /// Gives the next piece of what came.
+    fn take(&mut self) -> ReadAnswer
         ensures { IsShort 4096 result }
     {
-        let Some(bytes) = self.buffer.as_slice().get(..count.min(READ_BYTES)) else {
-            return ReadAnswer::Nothing;
-        };
-        if !self.is_accepted && self.code.is_none() {
-            self.code = code_of(bytes);
-        }
-        match Vec::from_slice(self.rt.alloc(), bytes) {
-            Ok(piece) => ReadAnswer::Piece(Octets::from(piece)),
-            Err(AllocError) => self.lose("out of memory"),
+        match self.wire.piece(self.rt.alloc()) {
+            Ok(piece) => {
+                self.notice(piece.as_slice());
+                ReadAnswer::Piece(Octets::from(piece))
+            }
+            Err(AllocError) => self.lose(Loss::Memory),
         }
     }
 
-    /// Reads once. Where nothing is there, it answers nothing.
+    /// Gives what came, or reads once. Where nothing is there, it answers nothing.
     fn look(&mut self) -> Option<ReadAnswer>
         ensures { IfSome result (λ answer. IsShort 4096 answer) }
     {
-        let Some(stream) = &self.stream else {
+        if !self.wire.is_open() {
             return Some(ReadAnswer::Gone);
-        };
-        match (&*stream).read(self.buffer.as_mut_slice()) {
-            Ok(0) => Some(self.lose("closed by the broker")),
-            Ok(count) => Some(self.take(count)),
-            Err(error) => match error.kind() {
-                ErrorKind::WouldBlock | ErrorKind::Interrupted => None,
-                _ => Some(self.lose(error)),
-            },
         }
+        for _ in 0..u64::MAX {
+            if !self.wire.is_drained() {
+                return Some(self.take());
+            }
+            match self.wire.receive() {
+                Ok(Came::Some) => {
+                    let now = self.watch.now();
+                    self.patience.hear(now);
+                }
+                Ok(Came::Nothing) => return None,
+                Ok(Came::End) => return Some(self.lose(Loss::Closed)),
+                Err(error) => return Some(self.lose(Loss::from(error))),
+            }
+        }
+        None
     }
 
-    /// Waits once for bytes, or for something that is to be written.
-    fn wait(&mut self) -> Option<ReadAnswer>
-        ensures { IfSome result (λ answer. IsShort 4096 answer) }
+    /// Writes what is kept, and waits for bytes, or for something that is to be written.
+    fn listen(&mut self) -> ReadAnswer
+        ensures { IsShort 4096 result }
     {
-        if self.hub.upstream.heard() || self.hub.stops() {
-            return Some(ReadAnswer::Nothing);
-        }
-        let mut time = Duration::from_millis(LONGEST_WAIT_MS);
-        if !self.is_accepted {
-            let now = self.now();
-            if self.deadline <= now {
-                return Some(self.lose("no CONNACK in time"));
-            }
-            time = self.deadline.saturating_sub(now);
-        }
-        match self.ear.wait(time) {
-            Ok(()) => None,
-            Err(error) => Some(self.lose(error)),
-        }
-    }
-
-    /// The worker has acted since the connection was made, so the broker accepted it.
-    fn learn(&mut self) {
-        if !self.is_accepted && self.hub.is_up() {
-            self.is_accepted = true;
-            self.missed = 0;
-            let address = self.address;
-            tell(self.rt, format_args!("broker {address}: connected"));
-        }
-    }
-
-    /// Passes on what is left, and takes leave of the broker (MQTT 3.1.1, 3.14).
-    pub fn finish(&mut self) {
-        if self.kept.extend_from_slice(&[0xe0, 0]).is_ok() {
-            let _ = self.flush();
-        }
-        if let Some(stream) = &self.stream {
-            let _ = stream.shutdown(Shutdown::Both);
-        }
-        self.stream = None;
-    }
-}
-
-impl<'a, R: Clock + Net + Eprint + AllocGlobal> Upstream for BrokerLink<'a, R> {
-    ghost tells = { λ _. false };
-
-    ghost did = { λ _. [] };
-
-    ghost has_ended = { λ l. l.has_ended };
-
-    fn connect(&mut self) -> Opening {
-        if self.is_begun {
-            let end = self
-                .now()
-                .saturating_add(Duration::from_millis(pause_after(self.missed)));
-            self.pause_until(end);
-        }
-        self.is_begun = true;
-        if self.hub.stops() {
-            self.has_ended = true;
-            return Opening::NoneLeft;
-        }
-        self.hub.begin();
-        self.is_accepted = false;
-        self.code = None;
-        self.kept.clear();
-        match self.dial() {
-            Ok(stream) => {
-                self.stream = Some(stream);
-                self.deadline = self
-                    .now()
-                    .saturating_add(Duration::from_millis(PATIENCE_MS));
-                Opening::Made
-            }
-            Err(error) => {
-                self.miss(error);
-                Opening::Missed
-            }
-        }
-    }
-
-    fn read(&mut self) -> ReadAnswer {
         self.learn();
-        if let Err(error) = self.flush() {
-            return self.lose(error);
+        if let Err(why) = self.flush() {
+            return self.lose(why);
         }
         for _ in 0..u64::MAX {
             if let Some(answer) = self.look() {
@@ -350,51 +220,134 @@ impl<'a, R: Clock + Net + Eprint + AllocGlobal> Upstream for BrokerLink<'a, R> {
         ReadAnswer::Nothing
     }
 
-    fn write(&mut self, bytes: &[u8]) -> Written {
-        if KEPT_BYTES <= self.kept.len() && self.flush().is_err() {
-            return Written::Failed;
+    /// Waits once for bytes, or for something that is to be written.
+    fn wait(&mut self) -> Option<ReadAnswer>
+        ensures { IfSome result (λ answer. IsShort 4096 answer) }
+    {
+        let (end, late) = self.patience.due();
+        if end <= self.watch.now() {
+            return Some(self.lose(Loss::Late(late)));
         }
-        let count = bytes.len().min(KEPT_BYTES.saturating_sub(self.kept.len()));
-        if count == 0 {
-            return Written::Failed;
+        if self.hub.upstream.heard() || self.hub.stops() {
+            return Some(ReadAnswer::Nothing);
         }
-        match self.kept.extend_from_slice(&bytes[..count]) {
-            Ok(()) => Written::Took(count),
-            Err(AllocError) => Written::Failed,
+        match self.watch.wait_until(end) {
+            Ok(()) => None,
+            Err(error) => Some(self.lose(Loss::from(error))),
         }
     }
 
-    fn close(&mut self) {
-        if self.stream.is_none() {
-            return;
+    /// The worker has acted since the connection was made, so the broker accepted it.
+    fn learn(&mut self) {
+        if !self.patience.is_accepted && self.hub.is_up() {
+            self.patience.accept();
+            self.tries.accept();
+            self.accepted = self.watch.now();
+            let address = self.address;
+            self.hub.tell(format_args!("broker {address}: connected"));
         }
-        self.learn();
-        let code = self.code;
-        match code {
-            Some(code) if code != 0 => {
-                let _ = self.lose(format_args!("refused with code {code}"));
+    }
+
+    /// Why the worker closes a connection that is not lost.
+    fn reason(&mut self) -> Loss {
+        if let Some(fault) = self.fault.take() {
+            return fault;
+        }
+        if self.hub.has_refused_upstream() {
+            return match self.hub.halt() {
+                Some(Halt::FullBook) => Loss::FullBook,
+                _ => Loss::Memory,
+            };
+        }
+        if self.patience.is_accepted {
+            return Loss::NotMqtt;
+        }
+        match connack_code(self.first.as_slice()) {
+            Some(code) => Refusal::of(code).map_or(Loss::NotMqtt, Loss::Refused),
+            None => Loss::NotConnack,
+        }
+    }
+
+    /// Passes on what is left, and takes leave of the broker (MQTT 3.1.1, 3.14).
+    pub fn finish(&mut self) {
+        if self.flush().is_ok() {
+            let _ = self.wire.keep(&[0xe0, 0]);
+            let _ = self.flush();
+        }
+        self.wire.shut();
+    }
+
+    /// No further connection comes.
+    fn end(&mut self) -> Opening
+        ensures { self.new.has_ended ≡ true }
+    {
+        self.has_ended = true;
+        Opening::NoneLeft
+    }
+}
+
+impl<'a, R: Clock + Net + Wait + AllocGlobal> Upstream for BrokerLink<'a, R> {
+    ghost tells = { λ _. false };
+
+    ghost did = { λ _. [] };
+
+    ghost has_ended = { λ l. l.has_ended };
+
+    fn connect(&mut self) -> Opening {
+        if self.is_begun {
+            let pause = Duration::from_millis(self.tries.pause());
+            let end = self.watch.now().saturating_add(pause);
+            self.watch.pause_until(end);
+        }
+        self.is_begun = true;
+        self.hub.begin();
+        self.first.clear();
+        self.fault = None;
+        if self.hub.stops() {
+            return self.end();
+        }
+        match self.watch.dial(self.address) {
+            Ok(stream) => {
+                self.wire.open(stream);
+                self.patience = Patience::new(self.watch.now());
+                Opening::Made
             }
-            _ => {
-                let _ = self.lose("closed by the gateway");
+            Err(_) if self.hub.stops() => self.end(),
+            Err(why) => {
+                self.miss(why);
+                Opening::Missed
             }
+        }
+    }
+
+    /// The worker has the token with what the broker sent. A connection that is over, and a look at what waits
+    /// for the broker, send nothing to devices.
+    fn read(&mut self) -> ReadAnswer {
+        let answer = self.listen();
+        if let ReadAnswer::Piece(_) = &answer {
+            self.hub.token.take(self.rt, self.by);
+        }
+        answer
+    }
+
+    /// It keeps the bytes for the next read and does not wait, as the worker has the token.
+    fn write(&mut self, bytes: &[u8]) -> Written {
+        let written = self.wire.keep(bytes);
+        if let Written::Failed = written {
+            self.fault = Some(Loss::Memory);
+        }
+        written
+    }
+
+    fn close(&mut self) {
+        if self.wire.is_open() {
+            self.learn();
+            let why = self.reason();
+            let _ = self.lose(why);
         }
     }
 
     fn ended(&self) -> bool {
         self.has_ended
     }
-}
-
-/// The code of a CONNACK with which the bytes begin (MQTT 3.1.1, 3.2).
-fn code_of(bytes: &[u8]) -> Option<u8> {
-    match bytes {
-        [0x20, 2, _, code, ..] => Some(*code),
-        _ => None,
-    }
-}
-
-/// How long to wait after so many failed tries in a row, in ms.
-fn pause_after(missed: u32) -> u64 {
-    let doublings = missed.saturating_sub(1).min(10);
-    (FIRST_PAUSE_MS << doublings).min(LONGEST_PAUSE_MS)
 }

@@ -2,40 +2,95 @@
 
 use crate::ask::{Ask, Fault, Words, ask_of};
 use crate::beats::SystemBeats;
+use crate::beginning::{Beginning, begin};
 use crate::bell::Ear;
 use crate::closing::Accounts;
+use crate::descriptors::{EMPTY, hold};
+use crate::ends::End;
 use crate::hub::Hub;
 use crate::limits::FULL_ROWS;
 use crate::link::BrokerLink;
-use crate::opening::{Ears, NotBegun, crew_of, open, tell_open};
+use crate::lists::Lists;
+use crate::opening::{Ears, NotBegun, ServingCrew, Shared, crew_of, make_shared, open, tell_open};
 use crate::policies::OperatorPolicies;
-use crate::printing::start_printer;
+use crate::printing::{Printed, start_printer};
+use crate::roles::{OTHERS, Roles};
 use crate::socket::Socket;
 use crate::switch::Switch;
+use crate::tell::tell;
+use crate::verbosity::Verbosity;
+use crate::writers::{ERRORS_PATIENCE_MS, OUTPUT_PATIENCE_MS, wait_for};
 use sng_desk::{
-    Beats, Crew, Datagrams, Desk, Ended, Gate, NotStarted, Policies, Terms, Upstream, run_workers,
+    Beats, Crew, Datagrams, Desk, Ended, Gate, NotStarted, Policies, Share, Terms, Upstream,
+    run_workers,
 };
 use sng_gateway::Status;
 use sng_gateway::ending::ended;
-use std::alloc::AllocError;
+use sng_scope::read_policy;
+use std::alloc::{AllocError, Global};
 use std::io::Write;
-use std::net::Net;
+use std::net::{Net, UdpSocket};
 use std::rt::{Clock, Files};
 use std::sync::{Mutex, Wait};
 use std::thread::Threads;
 use std::{io, thread};
 
-/// What the workers left, where they were started.
-type Ran<'a, R> = Result<
-    Ended<Socket, BrokerLink<'a, R>, SystemBeats<'a, R>, OperatorPolicies<'a, R>>,
-    NotStarted,
+/// What the workers left.
+type Left<'a, R> = Ended<
+    Socket<'a, R>,
+    BrokerLink<'a, R>,
+    SystemBeats<'a, R>,
+    OperatorPolicies<'a, R>,
 >;
 
-/// Serves until `quit` or the end of standard input.
-pub fn serve<R: Threads + Wait + Sync + Net + Clock + Files + Input + Print + Eprint + AllocGlobal>(
-    rt: &R,
-    words: &Words<'_>,
-) -> Status
+/// Serves until `quit` or the end of standard input, or until the gateway cannot go on.
+pub fn serve<
+    R: Threads
+        + Wait
+        + Sync
+        + Copy
+        + Send
+        + 'static
+        + Net
+        + Clock
+        + Files
+        + Input
+        + Print
+        + Eprint
+        + AllocGlobal,
+>(rt: &R, words: &Words<'_>) -> End
+where
+    R::Reader: Send,
+    R::File: Send,
+    R::Dir: Send,
+    R::Listener: Send,
+    R::Stream: Send,
+{
+    match hold(rt) {
+        Ok(_descriptors) => serve_apart(rt, words),
+        Err(error) => {
+            tell(rt, format_args!("cannot open {EMPTY}: {error}"));
+            End::from(Status::Failed)
+        }
+    }
+}
+
+/// Serves where no socket can get the number of a standard descriptor.
+fn serve_apart<
+    R: Threads
+        + Wait
+        + Sync
+        + Copy
+        + Send
+        + 'static
+        + Net
+        + Clock
+        + Files
+        + Input
+        + Print
+        + Eprint
+        + AllocGlobal,
+>(rt: &R, words: &Words<'_>) -> End
 where
     R::Reader: Send,
     R::File: Send,
@@ -45,41 +100,62 @@ where
 {
     let ask = match ask_of(rt, words) {
         Ok(ask) => ask,
-        Err(fault) => return report(rt, &fault),
+        Err(fault) => return End::from(report(rt, &fault)),
     };
     match start(rt, ask) {
-        Ok(status) => status,
-        Err(NotBegun::Socket) => cannot_open(rt, words.listen),
-        Err(NotBegun::Memory) => report(rt, &Fault::Memory),
+        Ok(end) => end,
+        Err(why) => End::from(report_start(rt, &why)),
     }
 }
 
-/// Prints why nothing was started.
-fn report<R: Print>(rt: &R, fault: &Fault<'_>) -> Status {
+/// Tells why nothing was started. Of a refused policy all is printed that `sng policy` prints.
+fn report<R: Print + Eprint + AllocGlobal>(rt: &R, fault: &Fault<'_>) -> Status {
     let printed = match fault {
-        Fault::Address(word) => println!(rt; "bad address {word}"),
-        Fault::Id => rt.println("bad id"),
-        Fault::File(path, error) => println!(rt; "cannot read {path}: {error}"),
-        Fault::Policy(report) => io::writer(rt).write_all(report.lines.as_slice()),
         Fault::Memory => {
             let printed = rt.println("out of memory");
             return ended(Status::OutOfMemory, printed.is_ok());
         }
+        Fault::Policy(_, _, report) => io::writer(rt).write_all(report.lines.as_slice()),
+        Fault::Address(_, _) | Fault::Id(_) | Fault::File(_, _) => Ok(()),
     };
+    tell(rt, format_args!("{fault}"));
     ended(Status::Unreadable, printed.is_ok())
 }
 
-/// Prints that the socket of the devices was not opened.
-fn cannot_open<R: Print>(rt: &R, listen: &str) -> Status {
-    let printed = println!(rt; "cannot open {listen}");
-    ended(Status::Unreadable, printed.is_ok())
+/// Tells why no worker was started.
+fn report_start<R: Print + Eprint + AllocGlobal>(rt: &R, why: &NotBegun) -> Status {
+    match why {
+        NotBegun::Listening(address, error) => {
+            tell(
+                rt,
+                format_args!("--listen {address}: cannot be opened: {error}"),
+            );
+            ended(Status::Unreadable, true)
+        }
+        NotBegun::System(error) => {
+            tell(rt, format_args!("cannot start: {error}"));
+            ended(Status::Unreadable, true)
+        }
+        NotBegun::Memory => report(rt, &Fault::Memory),
+    }
 }
 
-/// Opens the socket, and serves by it.
-fn start<R: Threads + Wait + Sync + Net + Clock + Files + Input + Print + Eprint + AllocGlobal>(
-    rt: &R,
-    ask: Ask,
-) -> Result<Status, NotBegun>
+/// Opens what is waited at, and serves by it.
+fn start<
+    R: Threads
+        + Wait
+        + Sync
+        + Copy
+        + Send
+        + 'static
+        + Net
+        + Clock
+        + Files
+        + Input
+        + Print
+        + Eprint
+        + AllocGlobal,
+>(rt: &R, ask: Ask) -> Result<End, NotBegun>
 where
     R::Reader: Send,
     R::File: Send,
@@ -87,29 +163,96 @@ where
     R::Listener: Send,
     R::Stream: Send,
 {
-    let alloc = rt.alloc();
-    let Ok(socket) = open(rt, ask.listen) else {
-        return Err(NotBegun::Socket);
-    };
-    let (upstream, upstream_bell) = Ear::new(rt, alloc)?;
-    let (clock, clock_bell) = Ear::new(rt, alloc)?;
-    let (printer, printer_bell) = Ear::new(rt, alloc)?;
-    let hub = Hub::new(upstream_bell, clock_bell, printer_bell);
-    let (desk, shares) = Desk::new(alloc, FULL_ROWS, ask.workers.saturating_add(3))?;
-    tell_open(rt, &socket);
-    let gate = Switch::new(rt, &hub, ask.workers, ask.is_verbose);
-    let shows = if ask.is_verbose { Some(printer) } else { None };
-    let ears = Ears { upstream, clock };
-    let (crew, terms) = crew_of(rt, &hub, ask, shares, &socket, ears)?;
-    let desk = Mutex::new(desk);
-    let (ran, printed) = run(rt, &hub, &desk, crew, &terms, &gate, shows);
-    Ok(finish(rt, desk.into_inner(), ran, printed))
+    let socket = open(rt, ask.listen)?;
+    let Shared { hub, ears, printer } = make_shared(rt, ask.flood)?;
+    if ask.is_verbose {
+        hub.set_verbosity(Verbosity::On);
+    }
+    let end = serve_by(rt, &hub, &socket, ears, printer, ask)?;
+    let _ = wait_for(rt, &hub.errors, ERRORS_PATIENCE_MS);
+    Ok(end)
 }
 
-/// Runs the workers, and prints rows beside them where there is an ear for it. Whether all could be printed.
+/// Serves by the socket. The policy of the start is in force before a worker reads.
+fn serve_by<R: Threads + Wait + Sync + Net + Clock + Files + Input + Print + Eprint + AllocGlobal>(
+    rt: &R,
+    hub: &Hub,
+    socket: &UdpSocket,
+    ears: Ears,
+    printer: Ear,
+    ask: Ask,
+) -> Result<End, NotBegun>
+where
+    R::Reader: Send,
+    R::File: Send,
+    R::Dir: Send,
+    R::Listener: Send,
+    R::Stream: Send,
+{
+    let shares = ask.workers.saturating_add(OTHERS + 1);
+    let (mut desk, mut shares) = Desk::new(rt.alloc(), FULL_ROWS, shares)?;
+    let beginning = begin_first(rt, hub, &mut desk, &mut shares, &ask)?;
+    tell_open(hub, socket);
+    let gate = Switch::new(rt, hub, Roles::new(ask.workers));
+    let (crew, terms) = crew_of(rt, hub, ask, shares, socket, ears)?;
+    let desk = Mutex::new(desk);
+    let (ran, printed) = run_crew(rt, hub, &desk, crew, &terms, &gate, printer);
+    Ok(finish(rt, hub, desk.into_inner(), beginning, ran, printed))
+}
+
+/// Runs the workers at the socket, the broker, the clock and standard input. Here stands that each of them may go
+/// to a thread of its own.
+fn run_crew<
+    'a,
+    R: Threads + Wait + Sync + Net + Clock + Files + Input + Print + Eprint + AllocGlobal,
+>(
+    rt: &'a R,
+    hub: &'a Hub,
+    desk: &Mutex<Desk>,
+    crew: ServingCrew<'a, R>,
+    terms: &Terms,
+    gate: &Switch<'a, R>,
+    ear: Ear,
+) -> (Result<Left<'a, R>, NotStarted>, Printed)
+where
+    R::Reader: Send,
+    R::File: Send,
+    R::Dir: Send,
+    R::Listener: Send,
+    R::Stream: Send,
+{
+    run(rt, hub, desk, crew, terms, gate, ear)
+}
+
+/// Brings the policy of the start into force, and tells it.
+fn begin_first<R: Wait + AllocGlobal>(
+    rt: &R,
+    hub: &Hub,
+    desk: &mut Desk,
+    shares: &mut Vec<Share>,
+    ask: &Ask,
+) -> Result<Beginning, NotBegun> {
+    let Some(share) = shares.pop() else {
+        return Err(NotBegun::Memory);
+    };
+    let alloc = rt.alloc();
+    let Some(text) = &ask.text else {
+        return Ok(begin(rt, alloc, desk, share, None)?);
+    };
+    // it was read before, so only memory can be wanting
+    let Ok(policy) = read_policy(alloc, text.as_slice()) else {
+        return Err(NotBegun::Memory);
+    };
+    let lists = Lists::of(&policy);
+    let beginning = begin(rt, alloc, desk, share, Some(policy))?;
+    hub.tell(format_args!("policy in force: {lists}"));
+    Ok(beginning)
+}
+
+/// Runs the workers, and follows the rows of the desk beside them.
 /// It knows of the workers only that they may go to other threads, which is shown where it is called.
 fn run<
-    R: Threads + Wait + Sync + Print + AllocGlobal,
+    R: Threads + Wait + Clock + Sync + AllocGlobal,
     D: Datagrams + Send,
     U: Upstream + Send,
     B: Beats + Send,
@@ -122,11 +265,8 @@ fn run<
     crew: Crew<D, U, B, P>,
     terms: &Terms,
     gate: &G,
-    printer: Option<Ear>,
-) -> (Result<Ended<D, U, B, P>, NotStarted>, bool) {
-    let Some(ear) = printer else {
-        return (run_workers(rt, rt.alloc(), desk, crew, terms, gate), true);
-    };
+    ear: Ear,
+) -> (Result<Ended<D, U, B, P>, NotStarted>, Printed) {
     let Crew {
         udp,
         upstream,
@@ -135,7 +275,7 @@ fn run<
     } = crew;
     thread::scope(thread::scope_env(), rt, |scope| {
         let Some(printer) = start_printer(scope, rt, desk, hub, ear) else {
-            return (Err(NotStarted), true);
+            return (Err(NotStarted), Printed::none());
         };
         let crew = Crew {
             udp,
@@ -151,31 +291,40 @@ fn run<
 
 /// Holds what the workers left against the book, and prints what comes of it. Where standard input could not
 /// be read, nothing is printed.
-fn finish<R: Clock + Net + Files + Input + Print + Eprint + AllocGlobal>(
+fn finish<R: Clock + Net + Wait + Files + Input + Print + Eprint + AllocGlobal>(
     rt: &R,
+    hub: &Hub,
     desk: Desk,
-    ran: Ran<'_, R>,
-    printed: bool,
-) -> Status {
-    match ran {
-        Ok(ended) => {
-            let lost_input = ended.policies.source.has_lost_input();
-            match accounts_of(rt, ended) {
-                Ok(_) if lost_input => Status::Failed,
-                Ok(accounts) => tell_closed(rt, accounts.close(desk), printed),
-                Err(AllocError) => report(rt, &Fault::Memory),
-            }
-        }
-        Err(NotStarted) => tell_closed(rt, None, printed),
+    beginning: Beginning,
+    ran: Result<Left<'_, R>, NotStarted>,
+    printed: Printed,
+) -> End {
+    let Ok(ended) = ran else {
+        hub.tell("a thread was refused: a limit of processes, or memory");
+        return End::from(tell_closed(rt, hub, None, printed));
+    };
+    let lost_input = ended.policies.source.has_lost_input();
+    let Ok(accounts) = accounts_of(rt, ended, beginning) else {
+        return End::from(report(rt, &Fault::Memory));
+    };
+    if lost_input {
+        return End::from(Status::Failed);
+    }
+    let status = tell_closed(rt, hub, accounts.close(desk), printed);
+    match (status, hub.halt()) {
+        (Status::Done, Some(why)) => End::Halted(why),
+        (status, _) => End::from(status),
     }
 }
 
 /// What all workers left. The worker at the broker takes leave of it.
-fn accounts_of<R: Clock + Net + Files + Input + Print + Eprint + AllocGlobal>(
+fn accounts_of<R: Clock + Net + Wait + Files + Input + Print + Eprint + AllocGlobal>(
     rt: &R,
-    ended: Ended<Socket, BrokerLink<'_, R>, SystemBeats<'_, R>, OperatorPolicies<'_, R>>,
+    ended: Left<'_, R>,
+    beginning: Beginning,
 ) -> Result<Accounts, AllocError> {
     let mut accounts = Accounts::new(rt.alloc());
+    accounts.take_beginning(beginning)?;
     for end in ended.udp {
         accounts.take(end)?;
     }
@@ -187,16 +336,42 @@ fn accounts_of<R: Clock + Net + Files + Input + Print + Eprint + AllocGlobal>(
     Ok(accounts)
 }
 
-/// Prints how many rows were closed, or that they were not.
-fn tell_closed<R: Print>(rt: &R, rows: Option<usize>, printed: bool) -> Status {
+/// Prints how many rows were closed, or that they were not, and waits until all is printed, as far as that takes
+/// no longer than there is patience for.
+fn tell_closed<R: Clock + AllocGlobal>(
+    rt: &R,
+    hub: &Hub,
+    rows: Option<usize>,
+    printed: Printed,
+) -> Status {
+    let status = match rows {
+        Some(_) => Status::Done,
+        None => Status::Unreadable,
+    };
+    let Ok(line) = closing_line(rt.alloc(), rows) else {
+        return ended(Status::OutOfMemory, false);
+    };
+    hub.print(line.into_bytes());
+    let patience = if printed.is_stuck {
+        0
+    } else {
+        OUTPUT_PATIENCE_MS
+    };
+    let is_written = wait_for(rt, &hub.output, patience);
+    let left = printed.left.saturating_add(hub.output.rows());
+    if left > 0 {
+        hub.tell(format_args!("{left} rows were not printed"));
+    }
+    ended(
+        status,
+        is_written && left == 0 && hub.output.lost.take() == 0,
+    )
+}
+
+/// The last line.
+fn closing_line(alloc: Global, rows: Option<usize>) -> Result<String, AllocError> {
     match rows {
-        Some(count) => {
-            let told = println!(rt; "closed {count} rows");
-            ended(Status::Done, printed && told.is_ok())
-        }
-        None => {
-            let told = rt.println("not closed");
-            ended(Status::Unreadable, printed && told.is_ok())
-        }
+        Some(count) => format!(in alloc; "closed {count} rows\n"),
+        None => format!(in alloc; "not closed\n"),
     }
 }

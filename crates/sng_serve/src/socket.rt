@@ -1,14 +1,19 @@
-//! The socket of the devices as a source of datagrams. All workers share one socket: each waits in its own
-//! call, and the system wakes one of them for each datagram.
-ghost use Rattle.std.specs.Prelude.{◌≡◌, ◌≢◌, ◌≤◌, ◌<◌, [], false};
+//! The socket of the devices as a source of datagrams. All workers share one socket, and one of them reads it
+//! at a time. It takes the token with what it read, before the next one reads, so what comes has an order.
+ghost use Rattle.std.specs.Prelude.{◌≡◌, ◌≢◌, ◌≤◌, ◌<◌, ◌↔◌, [], false};
 ghost use Rattle.sng_desk.specs.declared.source.Got.TheVariants.{Ended as ended_answer, Failed as failed_answer};
 
+use crate::hub::Hub;
+use crate::paths::Paths;
 use sng_book::Address;
 use sng_desk::{Datagrams, Got};
 use sng_text::Octets;
 use std::alloc::{AllocError, Global};
 use std::io::{Error, ErrorKind};
-use std::net::{Ipv4Addr, SocketAddr, SocketAddrV4, UdpSocket};
+use std::net::{Ipv4Addr, Net, SocketAddr, SocketAddrV4, UdpSocket};
+use std::rt::Clock;
+use std::sync::Wait;
+use std::time::Duration;
 
 /// One byte more than the longest datagram that is read, so that a longer one shows.
 const BUFFER_BYTES: usize = 2049;
@@ -16,55 +21,117 @@ const BUFFER_BYTES: usize = 2049;
 /// So many calls may fail one after another before the socket is taken for lost.
 const MAX_ERRORS: u32 = 100;
 
+/// DISCONNECT without a Duration (MQTT-SN 1.2, 5.4.21), as it answers who has no session.
+const DISCONNECT: [u8; 2] = [2, 0x18];
+
 /// A worker's handle of the socket.
 #[derive(Drop)]
-pub struct Socket {
+pub struct Socket<'a, R: Net + Clock + Wait> {
+    rt: &'a R,
+    hub: &'a Hub,
     alloc: Global,
     socket: UdpSocket,
+    /// The worker that has this handle.
+    by: u16,
+    /// The port of the socket: what comes from it at this machine was sent by the gateway itself.
+    port: u16,
     buffer: Vec<u8>,
+    paths: Paths,
     failures: u64,
+    /// How many datagrams could not be sent.
+    unsent: u64,
+    /// How many datagrams were lost for want of memory.
+    lost: u64,
     errors: u32,
 }
 
-impl Socket {
-    /// The socket is to end a wait for a datagram in good time.
-    pub fn new(alloc: Global, socket: UdpSocket) -> Result<Socket, AllocError> {
+impl<'a, R: Net + Clock + Wait> Socket<'a, R> {
+    /// The handle of the worker with this tag, whose gate has to give back the token. The socket is to end a
+    /// wait for a datagram, and a write, in good time.
+    pub fn new(
+        rt: &'a R,
+        hub: &'a Hub,
+        alloc: Global,
+        socket: UdpSocket,
+        port: u16,
+        by: u16,
+    ) -> Result<Socket<'a, R>, AllocError> {
         Ok(Socket {
+            rt,
+            hub,
             alloc,
             socket,
+            by,
+            port,
             buffer: vec![in alloc; 0; BUFFER_BYTES]?,
+            paths: Paths::new(alloc)?,
             failures: 0,
+            unsent: 0,
+            lost: 0,
             errors: 0,
         })
     }
 
-    /// Where there is no memory for a datagram, it is lost.
+    /// Where there is no memory for a datagram, it is lost. One that the gateway sent is passed over.
     fn take(&mut self, from: SocketAddrV4, count: usize) -> Got<(Address, Octets)>
         ensures failures { self.old.failures ≤ self.new.failures }
-        ensures failed { result ≡ failed_answer → self.old.failures < self.new.failures }
+        ensures failed { (result ≡ failed_answer) ↔ (self.old.failures < self.new.failures) }
         ensures goes_on { result ≢ ended_answer }
     {
         self.errors = 0;
+        if self.is_own(from) {
+            self.hub.passed_over.add(1);
+            return Got::Nothing;
+        }
         let Some(bytes) = self.buffer.as_slice().get(..count) else {
             return Got::Nothing;
         };
         match Vec::from_slice(self.alloc, bytes) {
             Ok(datagram) => Got::Came((address_of(from), Octets::from(datagram))),
             Err(AllocError) => {
-                self.failures = self.failures.saturating_add(1);
+                self.lost = self.lost.saturating_add(1);
+                self.hub.refusals.add(1);
                 Got::Nothing
             }
+        }
+    }
+
+    /// Whether the address is passed over now. Who has the token knows what became of all that came before.
+    fn is_flooded(&self, from: Address) -> bool {
+        let second = second_of(self.rt);
+        !self.hub.flood.lock(self.rt).takes(from, second)
+    }
+
+    /// Whether the gateway itself has this address: its port, at an address of this machine.
+    fn is_own(&self, from: SocketAddrV4) -> bool {
+        from.port() == self.port && is_of_this_machine(self.rt, *from.ip())
+    }
+
+    /// Waits for a datagram.
+    fn listen(&mut self) -> Got<(Address, Octets)>
+        ensures failures { self.old.failures ≤ self.new.failures }
+        ensures failed { (result ≡ failed_answer) ↔ (self.old.failures < self.new.failures) }
+        ensures goes_on { result ≢ ended_answer }
+    {
+        match self.socket.recv_from(self.buffer.as_mut_slice()) {
+            Ok((count, SocketAddr::V4(from))) => self.take(from, count),
+            Ok((_, SocketAddr::V6(_))) => Got::Nothing,
+            Err(error) => self.missed(&error),
         }
     }
 
     /// A wait that ended, a call to be made again, or a failure.
     fn missed(&mut self, error: &Error) -> Got<(Address, Octets)>
         ensures failures { self.old.failures ≤ self.new.failures }
-        ensures failed { result ≡ failed_answer → self.old.failures < self.new.failures }
+        ensures failed { (result ≡ failed_answer) ↔ (self.old.failures < self.new.failures) }
         ensures goes_on { result ≢ ended_answer }
     {
         match error.kind() {
-            ErrorKind::WouldBlock | ErrorKind::TimedOut | ErrorKind::Interrupted => Got::Nothing,
+            ErrorKind::WouldBlock | ErrorKind::TimedOut => {
+                self.hub.saw_empty_socket();
+                Got::Nothing
+            }
+            ErrorKind::Interrupted => Got::Nothing,
             _ => {
                 self.errors = self.errors.saturating_add(1);
                 if self.errors < MAX_ERRORS || self.failures == u64::MAX {
@@ -75,9 +142,54 @@ impl Socket {
             }
         }
     }
+
+    /// Whether the datagram may leave now: an answer to who has no session leaves a few times a second.
+    fn may_leave(&self, to: Address, datagram: &[u8]) -> bool {
+        if datagram != DISCONNECT.as_slice() {
+            return true;
+        }
+        let second = second_of(self.rt);
+        let may = self.hub.answers.lock(self.rt).take(to, second);
+        if !may {
+            self.hub.held_back.add(1);
+        }
+        may
+    }
+
+    /// Sends a datagram. Whether it left: not where there is no room in time, nor for a while behind that.
+    fn pass(&mut self, to: Address, datagram: &[u8]) -> bool
+        ensures failures { self.new.failures ≡ self.old.failures }
+        ensures unsent { self.new.unsent ≡ self.old.unsent }
+    {
+        let now = self.rt.monotonic().map_or(0, |now| ms_of(now));
+        if self.paths.rests(to, now) {
+            return false;
+        }
+        match self.socket.send_to(datagram, socket_address(to)) {
+            Ok(_) => true,
+            Err(error) => {
+                if is_full(&error) {
+                    self.paths.rest(to, now);
+                }
+                false
+            }
+        }
+    }
+
+    /// A datagram is lost. Whether that could be counted.
+    fn lose(&mut self) -> bool
+        ensures lost { (result ≡ false) ↔ (self.old.unsent < self.new.unsent) }
+        ensures failures { self.new.failures ≡ self.old.failures }
+    {
+        if self.unsent == u64::MAX {
+            return true;
+        }
+        self.unsent += 1;
+        false
+    }
 }
 
-impl Datagrams for Socket {
+impl<'a, R: Net + Clock + Wait> Datagrams for Socket<'a, R> {
     ghost tells = { λ _. false };
 
     ghost gave = { λ _. [] };
@@ -86,26 +198,70 @@ impl Datagrams for Socket {
 
     ghost failures = { λ s. s.failures };
 
+    ghost unsent = { λ s. s.unsent };
+
     ghost has_ended = { λ _. false };
 
+    /// The worker has the token with what comes, before the next one reads. What belongs to a flood is passed
+    /// over, and makes no event.
     fn receive(&mut self) -> Got<(Address, Octets)> {
-        match self.socket.recv_from(self.buffer.as_mut_slice()) {
-            Ok((count, SocketAddr::V4(from))) => self.take(from, count),
-            Ok((_, SocketAddr::V6(_))) => Got::Nothing,
-            Err(error) => self.missed(&error),
+        let hub = self.hub;
+        let _listening = hub.listening.lock(self.rt);
+        if hub.stops() {
+            return Got::Nothing;
         }
+        let got = self.listen();
+        let Got::Came((from, _)) = &got else {
+            return got;
+        };
+        hub.token.take(self.rt, self.by);
+        if self.is_flooded(*from) {
+            hub.flooded.add(1);
+            return Got::Nothing;
+        }
+        got
     }
 
-    fn send(&mut self, to: Address, datagram: &Octets) {
-        let sent = self.socket.send_to(datagram.as_slice(), socket_address(to));
-        if sent.is_err() {
-            self.failures = self.failures.saturating_add(1);
+    fn send(&mut self, to: Address, datagram: &Octets) -> bool {
+        if !self.may_leave(to, datagram.as_slice()) {
+            return self.lose();
         }
+        if !self.pass(to, datagram.as_slice()) {
+            self.hub.unsent.add(1);
+            return self.lose();
+        }
+        true
     }
 
     fn ended(&self) -> bool {
         false
     }
+}
+
+/// Whether there was no room for a datagram in the time that a send may take.
+fn is_full(error: &Error) -> bool {
+    match error.kind() {
+        ErrorKind::WouldBlock | ErrorKind::TimedOut => true,
+        _ => false,
+    }
+}
+
+/// The time in ms.
+fn ms_of(time: Duration) -> u64 {
+    time.as_secs()
+        .saturating_mul(1000)
+        .saturating_add(u64::from(time.subsec_millis()))
+}
+
+/// The second of now, by a clock that never goes back. It is 0 where the clock cannot be read.
+pub fn second_of<R: Clock>(rt: &R) -> u64 {
+    rt.monotonic().map_or(0, |now| now.as_secs())
+}
+
+/// Whether this machine has the address: only then may a socket be bound to it.
+fn is_of_this_machine<R: Net>(rt: &R, ip: Ipv4Addr) -> bool {
+    rt.bind_udp(SocketAddr::V4(SocketAddrV4::new(ip, 0)))
+        .is_ok()
 }
 
 fn address_of(from: SocketAddrV4) -> Address {

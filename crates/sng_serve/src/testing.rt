@@ -47,7 +47,7 @@ pub struct Server {
 
 /// Serves MQTT clients until it is stopped from outside.
 pub fn broker<R: Wait + Net + Print + Eprint + AllocGlobal>(rt: &R, listen: &str) -> Status {
-    let Ok(address) = socket_address_of(listen) else {
+    let Some(address) = socket_address_of(listen) else {
         let printed = println!(rt; "bad address {listen}");
         return ended(Status::Unreadable, printed.is_ok());
     };

@@ -21,6 +21,10 @@ count_in (Some count) = count
 abbrev pub count_of : List (List ℕ × ℕ) → List ℕ → ℕ
 count_of held text = count_in (lookup (bytes_eq text) held)
 
+-- a filter that nobody holds has no entry, so each count that is kept is above 0
+abbrev pub KeepsHeld : List (List ℕ × ℕ) → Type 0
+KeepsHeld held = (text : List ℕ) → count_of held text ≡ 0 → lookup (bytes_eq text) held ≡ None
+
 -- one where it is so
 abbrev pub one_if : Bool → ℕ
 one_if b = if b then 1 else 0

@@ -9,8 +9,8 @@ use sng_text::TopicFilter;
 use std::alloc::{AllocError, Global};
 use std::marker::Model;
 
-/// For each filter how many clients hold it. Contracts see that number, and how many filters more there is
-/// room for.
+/// For each filter how many clients hold it; one that nobody holds has no entry. Contracts see that number,
+/// and how many filters more there is room for.
 #[derive(Drop)]
 pub struct Holders {
     counts: IndexMap<TopicFilter, usize>,
@@ -18,11 +18,13 @@ pub struct Holders {
 
 impl Model for Holders {
     ghost use Rattle.indexmap.specs.IndexMap.{spare};
-    ghost use Rattle.sng_sessions.specs.Counts.{Counts};
+    ghost use Rattle.sng_sessions.specs.Counts.{Counts, KeepsHeld};
 
     ghost Value = { Counts };
 
     ghost view = { λ h. record { held = h.counts.entries; room = spare h.counts } };
+
+    ghost invariant = { λ h. KeepsHeld h.counts.entries };
 }
 
 impl Holders {

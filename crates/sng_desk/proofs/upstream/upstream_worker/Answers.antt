@@ -26,5 +26,5 @@ returns-in-Over g c = record {
   stage = c.turn.new.self.stage;
   rest = c.turn.new.self.stream;
   worked = rw c.into_trail.ensures (c.turn.ensures.worked c.args.source c.args.sender c.args.share c.loop.invariant.worked);
-  fault = c.in-Over.ensures.over;
+  fault = rw c.into_trail.ensures c.in-Over.ensures.over;
 }

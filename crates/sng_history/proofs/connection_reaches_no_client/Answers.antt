@@ -1,5 +1,0 @@
-use Rattle.sng_history.proofs.LawExits.{down_law, exits_law}
-use Rattle.sng_history.proofs.connection_reaches_no_client.Goals as goal
-
-pub returns : goal.returns
-returns c = record { downs = down_law; exits = exits_law }

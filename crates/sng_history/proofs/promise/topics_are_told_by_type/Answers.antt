@@ -1,5 +1,0 @@
-use Rattle.sng_history.proofs.PromiseRefuses.{topics_told}
-use Rattle.sng_history.proofs.promise.topics_are_told_by_type.Goals as goal
-
-pub returns : goal.returns
-returns c = topics_told

@@ -1,5 +1,0 @@
-use Rattle.sng_history.proofs.LawFlight.{each_returns, ids_apart}
-use Rattle.sng_history.proofs.publishes_return_judged.Goals as goal
-
-pub returns : goal.returns
-returns c = record { judged = each_returns; ids = ids_apart }

@@ -1,5 +1,0 @@
-use Rattle.sng_history.proofs.UpstreamTold.{each_owed, begins_same, takes_same, stays_same}
-use Rattle.sng_history.proofs.subscriptions.subscriptions_reach_the_broker.Goals as goal
-
-pub returns : goal.returns
-returns c = record { waits = each_owed; begins = begins_same; takes = takes_same; stays = stays_same }

@@ -1,5 +1,0 @@
-use Rattle.sng_history.proofs.WorkedClients.{refused, moved, taken_over, gone, pinged}
-use Rattle.sng_history.proofs.worked.lawful_clients.Goals as goal
-
-pub returns : goal.returns
-returns c = record { refused = refused; moved = moved; taken_over = taken_over; left = gone; pinged = pinged }

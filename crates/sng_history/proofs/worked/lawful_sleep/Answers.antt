@@ -1,5 +1,0 @@
-use Rattle.sng_history.proofs.WorkedSleep.{again_asleep, answered, gave_up}
-use Rattle.sng_history.proofs.worked.lawful_sleep.Goals as goal
-
-pub returns : goal.returns
-returns c = record { asleep = again_asleep; answered = answered; given_up = gave_up }

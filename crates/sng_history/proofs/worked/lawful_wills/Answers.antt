@@ -1,5 +1,0 @@
-use Rattle.sng_history.proofs.WorkedWills.{refused, published, unpublished}
-use Rattle.sng_history.proofs.worked.lawful_wills.Goals as goal
-
-pub returns : goal.returns
-returns c = record { refused = refused; published = published; unpublished = unpublished }

@@ -1,5 +1,0 @@
-use Rattle.sng_history.proofs.WorkedAsks.{not_reused, not_unjudged, not_refused}
-use Rattle.sng_history.proofs.worked.unlawful_asks.Goals as goal
-
-pub returns : goal.returns
-returns c = record { reused = not_reused; unjudged = not_unjudged; denied = not_refused }

@@ -1,5 +1,0 @@
-use Rattle.sng_history.proofs.WorkedSleep.{not_early, not_asleep, not_fourth}
-use Rattle.sng_history.proofs.worked.unlawful_sleep.Goals as goal
-
-pub returns : goal.returns
-returns c = record { early = not_early; asleep = not_asleep; fourth = not_fourth }

@@ -1,0 +1,52 @@
+-- What a reader of the book sees who looks back through its rows: the policy in force, the clock, and the
+-- broker's connection. A history is the list of its rows, the newest first.
+use Rattle.std.specs.Prelude.{ℕ, nat_le, Bool, true, false, List, [], ◌∷◌, ◌++◌, if◌then◌else◌}
+use Rattle.sng_grants.specs.declared.policy.Policy.{Policy}
+use Rattle.sng_book.specs.declared.event.Event.{Event}
+use Rattle.sng_book.specs.declared.event.Event.TheVariants.{Up, Down, Replace, Tick}
+use Rattle.sng_book.specs.declared.out.Out.{Out}
+use Rattle.sng_book.specs.declared.out.Out.TheVariants.{Send, Wire, Note}
+use Rattle.sng_book.specs.declared.row.Row.{Row}
+
+-- the policy of the last replacement; before any, nothing is granted
+abbrev pub in_force_after : Event → Policy → Policy
+in_force_after (Replace policy) before = policy
+in_force_after other before = before
+
+abbrev pub policy_in_force : List Row → Policy
+policy_in_force [] = record { clients = []; sources = []; topics = [] }
+policy_in_force (row ∷ earlier) = in_force_after row.event (policy_in_force earlier)
+
+-- the clocks that were told, the newest first
+abbrev pub ticks_of : Event → List ℕ
+ticks_of (Tick clock) = clock ∷ []
+ticks_of other = []
+
+abbrev pub ticks : List Row → List ℕ
+ticks [] = []
+ticks (row ∷ earlier) = ticks_of row.event ++ ticks earlier
+
+-- the greatest of all ticks, 0 before any
+abbrev pub greatest : List ℕ → ℕ
+greatest [] = 0
+greatest (n ∷ ns) = if nat_le (greatest ns) n then n else greatest ns
+
+abbrev pub clock_at : List Row → ℕ
+clock_at h = greatest (ticks h)
+
+-- what became of the broker's connection: the last Up or Down so far is an Up
+abbrev pub is_up_after : Event → Bool → Bool
+is_up_after Up before = true
+is_up_after Down before = false
+is_up_after other before = before
+
+abbrev pub is_up : List Row → Bool
+is_up [] = false
+is_up (row ∷ earlier) = is_up_after row.event (is_up earlier)
+
+-- the packets that a row sends to the broker
+abbrev pub wires_in : List Out → List (List ℕ)
+wires_in [] = []
+wires_in (Wire packet ∷ outs) = packet ∷ wires_in outs
+wires_in (Send to datagram ∷ outs) = wires_in outs
+wires_in (Note said ∷ outs) = wires_in outs

@@ -1,0 +1,19 @@
+-- How clients come, are heard and leave is what the rows show of them.
+pub mod SeenNotes
+pub mod SeenClients
+pub mod SeenUnmoved
+pub mod SeenHeard
+pub mod SeenLeft
+pub mod SeenEntered
+pub mod SeenDatagrams
+pub mod SeenStart
+pub mod SeenStrangers
+pub mod SeenRows
+pub mod SeenNewcomers
+pub mod SeenOrder
+pub mod SeenState
+pub mod NeverAccepted
+pub mod LawHere
+pub mod LawAdmits
+pub mod LawStrangersConnects
+pub mod LawStrangers

@@ -1,0 +1,8 @@
+-- The worked rows, by computation.
+pub mod WorkedLemmas
+pub mod WorkedClients
+pub mod WorkedAsks
+pub mod WorkedSubscriptions
+pub mod WorkedMessages
+pub mod WorkedWills
+pub mod WorkedSleep

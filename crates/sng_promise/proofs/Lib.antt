@@ -1,0 +1,12 @@
+pub mod Clients
+pub mod Handing
+pub mod Names
+pub mod Sleepers
+pub mod LastWills
+pub mod Link
+pub mod WantedFilters
+pub mod Standing
+pub mod Answers
+pub mod Ticks
+pub mod InForce
+pub mod Examples

@@ -1,0 +1,21 @@
+-- The connection to the broker: what waits for it, what is in flight, and what leaves.
+pub mod SentWires
+pub mod SeenOwed
+pub mod SeenPlaced
+pub mod SeenTicks
+pub mod SeenPings
+pub mod SeenReleases
+pub mod SeenLink
+pub mod FlightIds
+pub mod SeenFlight
+pub mod SeenRest
+pub mod LawLink
+pub mod LawLinkOrder
+pub mod LawAgainBegins
+pub mod LawAgain
+pub mod LawWires
+pub mod LawRows
+pub mod LawFlight
+pub mod LawExits
+pub mod SeenLast
+pub mod LawOutgoing

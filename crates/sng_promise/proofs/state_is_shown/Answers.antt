@@ -1,0 +1,16 @@
+use Rattle.sng_promise.proofs.Clients.SeenState.{stands}
+use Rattle.sng_promise.proofs.Clients.NeverAccepted.{never_accepted}
+use Rattle.sng_promise.proofs.Link.SeenLast.{rest_shown}
+use Rattle.sng_promise.proofs.state_is_shown.Goals as goal
+
+pub returns : goal.returns
+returns c = record {
+  policy = λ h l. (stands h l).shown.policy;
+  clock = λ h l. (stands h l).shown.clock;
+  up = λ h l. (stands h l).shown.up;
+  waits = λ h l. (stands h l).shown.waits;
+  rest = rest_shown;
+  order = λ h l. (stands h l).shown.order;
+  clients = λ h l. (stands h l).shown.clients;
+  strangers = never_accepted;
+}

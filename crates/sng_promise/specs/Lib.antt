@@ -1,0 +1,4 @@
+pub mod Examples
+pub mod ExamplesClients
+pub mod ExamplesWills
+pub mod ExamplesSleep

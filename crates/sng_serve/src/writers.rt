@@ -1,0 +1,162 @@
+//! The threads that write to standard output and standard error. They own what they use, so that a stream that
+//! takes nothing any more does not keep the program from ending: it cuts them off.
+
+use crate::bell::Ear;
+use crate::board::Board;
+use std::alloc::{AllocError, Global};
+use std::rt::Clock;
+use std::sync::{Arc, Wait};
+use std::thread;
+use std::thread::Threads;
+use std::time::Duration;
+
+/// How long one wait for texts is, in ms: another one follows it.
+const LONGEST_WAIT_MS: u64 = 60000;
+
+/// After which time a write that failed is tried again, in ms.
+const RETRY_MS: u64 = 200;
+
+/// How long the end of the program waits for a standard output that takes nothing, in ms.
+pub const OUTPUT_PATIENCE_MS: u64 = 2000;
+
+/// How long it waits for a standard error that takes nothing, in ms.
+pub const ERRORS_PATIENCE_MS: u64 = 1000;
+
+/// How long that wait sleeps at a time, in ms.
+const NAP_MS: u64 = 1;
+
+/// Starts the thread that writes lines for an operator.
+pub fn start_errors<R: Threads + Wait + Clock + Eprint + Copy + Send + 'static>(
+    rt: &R,
+    errors: Arc<Board, Global>,
+    ear: Ear,
+) -> Result<(), AllocError> {
+    let own = *rt;
+    let _detached = thread::spawn(rt, move || write_errors(&own, &errors, ear))?;
+    Ok(())
+}
+
+/// Starts the thread that writes what is printed. What comes of that is told.
+pub fn start_output<R: Threads + Wait + Clock + Print + Copy + Send + 'static>(
+    rt: &R,
+    output: Arc<Board, Global>,
+    errors: Arc<Board, Global>,
+    ear: Ear,
+) -> Result<(), AllocError> {
+    let own = *rt;
+    let _detached = thread::spawn(rt, move || write_output(&own, &output, &errors, ear))?;
+    Ok(())
+}
+
+/// Writes all lines, for ever. Those that were lost are told before the next one.
+fn write_errors<R: Wait + Clock + Eprint>(rt: &R, errors: &Board, mut ear: Ear) {
+    for _ in rt.forever() {
+        let _ = errors.bell.heard();
+        let Some(line) = errors.next() else {
+            rest(rt, &mut ear);
+            continue;
+        };
+        let lost = errors.lost.take();
+        if lost > 0 && eprint_lost(rt, lost).is_none() {
+            errors.lost.add(lost);
+        }
+        if eprint_line(rt, line.bytes.as_slice()).is_none() {
+            errors.lost.add(1);
+        }
+        errors.finish(line.rows);
+    }
+    unreachable!()
+}
+
+/// Prints how many lines were lost.
+fn eprint_lost<R: Eprint>(rt: &R, count: u64) -> Option<()> {
+    rt.eprint(format_args!("sng: {count} lines were lost\n"))
+        .ok()
+}
+
+/// Prints a line.
+fn eprint_line<R: Eprint>(rt: &R, line: &[u8]) -> Option<()> {
+    let line = str::from_utf8(line).ok()?;
+    rt.eprint(line).ok()
+}
+
+/// Writes all texts, for ever.
+fn write_output<R: Wait + Clock + Print>(rt: &R, output: &Board, errors: &Board, mut ear: Ear) {
+    for _ in rt.forever() {
+        let _ = output.bell.heard();
+        match output.next() {
+            Some(text) => {
+                write_text(rt, errors, text.bytes.as_slice());
+                output.finish(text.rows);
+            }
+            None => rest(rt, &mut ear),
+        }
+    }
+    unreachable!()
+}
+
+/// Writes the text to its end. What cannot be written is tried again until it can be, so that no row is left out
+/// or printed in part; the first such failure is told, and the end of it.
+fn write_text<R: Wait + Clock + Print>(rt: &R, errors: &Board, text: &[u8]) {
+    let mut left = text;
+    let mut has_failed = false;
+    for _ in rt.forever() {
+        if left.is_empty() {
+            break;
+        }
+        match rt.write_some(left) {
+            Ok(count) if count > 0 => left = left.get(count..).unwrap_or(&[]),
+            Ok(_) => thread::sleep(rt, Duration::from_millis(RETRY_MS)),
+            Err(error) => {
+                if !has_failed {
+                    errors.tell(format_args!(
+                        "standard output: {error}; rows wait until it can be written"
+                    ));
+                }
+                has_failed = true;
+                thread::sleep(rt, Duration::from_millis(RETRY_MS));
+            }
+        }
+    }
+    if has_failed {
+        errors.tell("standard output: written again");
+    }
+}
+
+/// Waits for a text.
+fn rest<R: Clock>(rt: &R, ear: &mut Ear) {
+    if ear.wait(Duration::from_millis(LONGEST_WAIT_MS)).is_err() {
+        // as after the process was stopped and continued
+        thread::sleep(rt, Duration::from_millis(NAP_MS));
+    }
+}
+
+/// The time after so many ms.
+pub fn time_after<R: Clock>(rt: &R, time: u64) -> Duration {
+    let now = rt.monotonic().unwrap_or(Duration::MAX);
+    now.saturating_add(Duration::from_millis(time))
+}
+
+/// Whether this time has come. It has where the clock cannot be read.
+pub fn is_past<R: Clock>(rt: &R, end: Duration) -> bool {
+    end <= rt.monotonic().unwrap_or(Duration::MAX)
+}
+
+/// Waits until all texts are written, or none was for so many ms. Whether all are.
+pub fn wait_for<R: Clock>(rt: &R, board: &Board, patience: u64) -> bool {
+    let (mut end, mut left) = (time_after(rt, patience), board.waiting());
+    for _ in 0..u64::MAX {
+        let waiting = board.waiting();
+        if waiting == 0 {
+            return true;
+        }
+        if waiting != left {
+            (end, left) = (time_after(rt, patience), waiting);
+        }
+        if is_past(rt, end) {
+            break;
+        }
+        thread::sleep(rt, Duration::from_millis(NAP_MS));
+    }
+    false
+}
