@@ -110,14 +110,16 @@ def refused_threads(room):
     told = []
     for count in range(1, 30):
         gateway = limited(count)
-
-        def serves(gateway=gateway):
-            return gateway.child.poll() is not None or any('trying again' in x for x in gateway.lines['err'])
-        until(serves, 'an end, or a gateway that serves: %r' % gateway.lines)
-        if gateway.child.poll() is None:
+        try:
+            # one that has all its threads ends by this line, and one that lacks any ends whether it is read or not
+            gateway.say('quit')
+        except BrokenPipeError:
+            pass
+        status = gateway.ended()
+        if status == 0:
             break
-        told.append((gateway.ended(), gateway.lines['out'], gateway.lines['err'][-1:]))
-    gateway.kill()
+        told.append((status, gateway.lines['out'], gateway.lines['err'][-1:]))
+    wanted(status == 0, 'a gateway that has all its threads')
     # the two threads that write to standard output and standard error come first, when nothing is begun
     begun = (1, ['not closed'], ['sng: a thread was refused: a limit of processes, or memory'])
     wanted(told == [(3, ['out of memory'], [])] * 2 + [begun] * 6, 'each refusal told, and not %r' % told)

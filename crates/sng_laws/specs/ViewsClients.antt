@@ -202,7 +202,7 @@ duration_of id (row ∷ earlier) =
 abbrev pub is_spoken : Option Message → Bool
 is_spoken (Some (Publishes p)) = not (is_without_session p.flags.qos)
 is_spoken None = false
-is_spoken (Some other) = true
+is_spoken (Some _) = true
 
 -- the event is a message from where the client is
 abbrev pub speaks : List ℕ → Event → List Row → Bool

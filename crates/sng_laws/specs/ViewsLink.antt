@@ -235,7 +235,7 @@ abbrev pub items_for : Option Message → List Out → List Item
 items_for (Some (Connects connect)) outs = []
 items_for (Some (Publishes p)) outs = items_in (publish_in (Some (Publishes p))) outs
 items_for None outs = []
-items_for (Some other) outs = items_in None outs
+items_for (Some _) outs = items_in None outs
 
 -- the client's filters after a row with this event and these outs
 abbrev pub standing_then : Event → List Row → List Out → List ℕ → List Held
