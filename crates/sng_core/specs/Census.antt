@@ -1,10 +1,13 @@
 -- What is counted of a state: its clients one by one, and the lists beside them.
-use Rattle.std.specs.Prelude.{ℕ, ◌+◌, List, [], ◌∷◌, length}
+use Rattle.std.specs.Prelude.{ℕ, ◌+◌, ◌*◌, List, [], ◌∷◌, length}
 use Rattle.sng_states.specs.declared.state.ClientState.{ClientState}
 use Rattle.sng_states.specs.declared.state.ClientState.TheVariants.{Dialogue, Active, Asleep, Awake}
 use Rattle.sng_states.specs.declared.state.ClientState.TheVariants.{Disconnected, Lost}
 use Rattle.sng_history.specs.Clients.{Client}
 use Rattle.sng_history.specs.State.{State}
+use Rattle.sng_history.specs.declared.limits.TheConstants.{MAX_CLIENTS}
+use Rattle.sng_queue.specs.declared.limits.TheConstants.{MAX_QUEUED}
+use Rattle.sng_fan.specs.declared.limits.TheConstants.{MAX_SUBSCRIPTIONS}
 use Rattle.sng_core.specs.declared.census.ClientCounts.{ClientCounts}
 use Rattle.sng_core.specs.declared.census.Census.{Census}
 
@@ -58,9 +61,9 @@ census_of s = record {
   };
 }
 
--- all that was counted, which stays small
+-- all that was counted, which stays small: each client in its state, with its filters and its messages
 abbrev pub total : ClientCounts → ℕ
 total c = c.active + c.asleep + c.awake + c.in_dialogue + c.disconnected + c.lost + c.filters + c.messages
 
 abbrev pub MOST : ℕ
-MOST = 1000000
+MOST = (1 + MAX_SUBSCRIPTIONS + MAX_QUEUED) * MAX_CLIENTS

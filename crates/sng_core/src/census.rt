@@ -2,6 +2,7 @@
 //! for the broker, and what the policy in force lists. Nothing changes by it.
 ghost use Rattle.std.specs.Prelude.{◌≡◌, ◌≤◌, ◌+◌, length};
 ghost use Rattle.sng_history.specs.Good.{Good};
+ghost use Rattle.sng_history.specs.declared.limits.TheConstants.{MAX_CLIENTS};
 ghost use Rattle.sng_core.specs.Census.{nobody, counted_as, counts_of, census_of, total, MOST};
 
 use crate::parts::Parts;
@@ -106,7 +107,7 @@ impl ClientCounts {
 
 /// The clients by state, and what stands and waits for them.
 fn counts(sessions: &Sessions) -> ClientCounts
-    requires { length sessions.now ≤ 256 }
+    requires { length sessions.now ≤ MAX_CLIENTS }
     ensures { result ≡ counts_of sessions.now }
 {
     let mut counts = ClientCounts::nobody();

@@ -6,11 +6,13 @@ use Rattle.std.specs.Prelude.{◌||◌, if◌then◌else◌}
 use Rattle.std.specs.Str.{bytes_eq}
 use Rattle.std.proofs.lemmas.List.{length-map}
 use Rattle.sng_fan.specs.declared.held.Held.{Held}
+use Rattle.sng_fan.specs.declared.limits.TheConstants.{MAX_SUBSCRIPTIONS}
 use Rattle.sng_fan.specs.Subscriptions.{stands, IsOneClients}
 use Rattle.sng_history.specs.Clients.{Client}
 use Rattle.sng_history.specs.Links.{Wanted, wants}
 use Rattle.sng_history.specs.Standing.{holds, is_held}
 use Rattle.sng_history.specs.State.{State}
+use Rattle.sng_history.specs.declared.limits.TheConstants.{MAX_CLIENTS}
 use Rattle.sng_history.specs.Good.{Each, WantedOnce, Good}
 use Rattle.sng_history.proofs.Own.{same_self, same_means, flip}
 use Rattle.sng_history.proofs.Booleans.{or_right}
@@ -124,17 +126,17 @@ held_among (x ∷ xs) text there =
     (later (holds text x) (is_held xs text) (is_among text (all_texts xs)) (held_among xs text) there)
 
 few_texts : (xs : List Client) → Each (λ x. IsOneClients x.filters) xs
-    → length (all_texts xs) ≤ 32 * length xs
+    → length (all_texts xs) ≤ MAX_SUBSCRIPTIONS * length xs
 few_texts [] each = omega arith
 few_texts (x ∷ xs) each =
-    let one : length x.filters ≤ 32 = each.0.1 in
+    let one : length x.filters ≤ MAX_SUBSCRIPTIONS = each.0.1 in
     let texts : length (map (λ (h : Held). h.filter) x.filters) ≡ length x.filters =
     length-map x.filters (λ (h : Held). h.filter) in
     omega (arith, length-append (map (λ (h : Held). h.filter) x.filters) (all_texts xs), few_texts xs each.1)
 
-pub few_wanted : (s : State) → Good s → length s.link.wanted ≤ 8192
+pub few_wanted : (s : State) → Good s → length s.link.wanted ≤ MAX_CLIENTS * MAX_SUBSCRIPTIONS
 few_wanted s good =
-    let most : length s.clients ≤ 256 = good.most in
+    let most : length s.clients ≤ MAX_CLIENTS = good.most in
     let all =
     few s.link.wanted (all_texts s.clients) good.wanted_once
     (λ text is. held_among s.clients text (sym (good.wanted_held text) ∙ is)) in

@@ -40,6 +40,7 @@ pub mod Rests
 pub mod AddressesKept
 pub mod GoodNext
 pub mod FewWanted
+pub mod Ceilings
 pub mod ClientIds
 pub mod WillsPlaced
 pub mod OneEnds

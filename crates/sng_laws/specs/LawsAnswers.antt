@@ -40,6 +40,8 @@ use Rattle.sng_book.specs.declared.out.Out.{Out}
 use Rattle.sng_book.specs.declared.out.Out.TheVariants.{Send, Note}
 use Rattle.sng_book.specs.declared.row.Row.{Row}
 use Rattle.sng_history.specs.Clients.{same_address}
+use Rattle.sng_history.specs.declared.limits.TheConstants.{MAX_CLIENTS}
+use Rattle.sng_outbox.specs.declared.limits.TheConstants.{MAX_OUTBOX_ITEMS}
 use Rattle.sng_laws.specs.Views.{policy_in_force, is_up}
 use Rattle.sng_laws.specs.ViewsClients.{is_awaiting, is_asleep, phase_of, address_of, accepted, is_among}
 use Rattle.sng_laws.specs.ViewsClients.{those_at}
@@ -70,7 +72,10 @@ abbrev pub connect_rules : List Row → Connect → List Rule
 connect_rules h c =
     (not (c.protocol_id == 1), NotSupported)
     ∷ (not (lists (policy_in_force h) c.client_id), NoScope c.client_id)
-    ∷ (not (is_among c.client_id (accepted h)) && not (nat_lt (length (accepted h)) 256), Full place.Clients)
+    ∷ (
+      not (is_among c.client_id (accepted h)) && not (nat_lt (length (accepted h)) MAX_CLIENTS),
+      Full place.Clients,
+    )
     ∷ []
 
 abbrev pub connack_to : Address → ReturnCode → Out
@@ -167,7 +172,7 @@ source_rules h from p =
     ∷ (is_nameless policy type p.topic_id, UnknownId kind.Predefined p.topic_id)
     ∷ (not (may_publish (scope_of policy.sources from.ip) name), MissingPub name)
     ∷ (not (is_up h), UpstreamDown)
-    ∷ (not (nat_lt (length (waiting h)) 512), Full place.Outbox)
+    ∷ (not (nat_lt (length (waiting h)) MAX_OUTBOX_ITEMS), Full place.Outbox)
     ∷ []
 
 -- the publish is noted, with the name where a listed device names one, and is not answered

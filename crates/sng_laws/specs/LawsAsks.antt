@@ -21,6 +21,7 @@ use Rattle.sng_frames.specs.declared.return_code.ReturnCode.{ReturnCode}
 use Rattle.sng_frames.specs.declared.return_code.TheConstants.ReturnCode.{ACCEPTED}
 use Rattle.sng_frames.specs.declared.frame.SnFrame.TheVariants as frame
 use Rattle.sng_outbox.specs.Sending.{is_at_least_once}
+use Rattle.sng_outbox.specs.declared.limits.TheConstants.{MAX_IN_FLIGHT, MAX_OUTBOX_ITEMS}
 use Rattle.sng_book.specs.declared.address.Address.{Address}
 use Rattle.sng_book.specs.declared.decision.Decision.TheVariants as note
 use Rattle.sng_book.specs.declared.decision.Who.TheVariants as who
@@ -34,6 +35,7 @@ use Rattle.sng_book.specs.declared.outcome.Outcome.TheVariants.{Allowed, Denied}
 use Rattle.sng_book.specs.declared.out.Out.{Out}
 use Rattle.sng_book.specs.declared.out.Out.TheVariants.{Send, Note}
 use Rattle.sng_book.specs.declared.row.Row.{Row}
+use Rattle.sng_ids.specs.declared.limits.TheConstants.{MAX_TOPIC_IDS}
 use Rattle.sng_laws.specs.Views.{policy_in_force, is_up}
 use Rattle.sng_laws.specs.LawsHanding.{arrivals}
 use Rattle.sng_laws.specs.ViewsHanding.{meant_for}
@@ -61,7 +63,7 @@ register_rules h id name =
     ∷ (not (lists policy id), NoScope id)
     ∷ (not (is_name name), BadName)
     ∷ (not (may_publish (scope_of policy.clients id) name), MissingPub name)
-    ∷ (not (is_among name told) && not (nat_lt (length told) 128), Full place.Ids)
+    ∷ (not (is_among name told) && not (nat_lt (length told) MAX_TOPIC_IDS), Full place.Ids)
     ∷ []
 
 -- REGACK with an id, the MsgId that came, and a code
@@ -143,8 +145,8 @@ session_rules h id p =
     ∷ (is_untold told type p.topic_id, UnknownId kind.Normal p.topic_id)
     ∷ (not (may_publish (scope_of policy.clients id) name), MissingPub name)
     ∷ (not (is_up h), UpstreamDown)
-    ∷ (is_acknowledged p.flags.qos && not (nat_lt (unacknowledged h) 128), Full place.InFlight)
-    ∷ (not (nat_lt (length (waiting h)) 512), Full place.Outbox)
+    ∷ (is_acknowledged p.flags.qos && not (nat_lt (unacknowledged h) MAX_IN_FLIGHT), Full place.InFlight)
+    ∷ (not (nat_lt (length (waiting h)) MAX_OUTBOX_ITEMS), Full place.Outbox)
     ∷ []
 
 -- PUBACK names the TopicId and the MsgId that came
@@ -176,7 +178,7 @@ abbrev pub message_answer : List Row → mqtt.Publish → List Out
 message_answer h p =
     flat_map (λ id. arrivals h id (address_of id h) (meant_for id p h)) (accepted h)
     ++ (if is_name p.name then [] else Note (note.Frame who.Broker (Denied BadName)) ∷ [])
-    ++ (if is_some p.packet_id && (is_up h && not (nat_lt (length (waiting h)) 512))
+    ++ (if is_some p.packet_id && (is_up h && not (nat_lt (length (waiting h)) MAX_OUTBOX_ITEMS))
     then Note note.Outbox ∷ [] else [])
 
 -- a SUBACK whose first code refuses ends the filter of the SUBSCRIBE that it answers, for each client for

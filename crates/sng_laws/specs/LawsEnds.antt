@@ -13,6 +13,7 @@ use Rattle.sng_book.specs.declared.outcome.Outcome.TheVariants.{Denied}
 use Rattle.sng_book.specs.declared.out.Out.{Out}
 use Rattle.sng_book.specs.declared.out.Out.TheVariants.{Note}
 use Rattle.sng_book.specs.declared.row.Row.{Row}
+use Rattle.sng_outbox.specs.declared.limits.TheConstants.{MAX_OUTBOX_ITEMS}
 use Rattle.sng_laws.specs.ViewsClients.{accepted}
 use Rattle.sng_laws.specs.ViewsLink.{waiting}
 use Rattle.sng_laws.specs.ViewsStanding.{standing_of}
@@ -52,7 +53,7 @@ last_ends h stays = last_ends_from h stays [] (accepted h)
 
 -- how many items more may wait for the broker
 abbrev pub places : List Row → ℕ
-places h = 512 - length (waiting h)
+places h = MAX_OUTBOX_ITEMS - length (waiting h)
 
 -- those of the last ends of which the broker is not told, for want of place
 abbrev pub untold : List Row → Stays → List (List ℕ × List ℕ)

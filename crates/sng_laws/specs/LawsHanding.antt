@@ -1,8 +1,8 @@
 -- How what comes from the broker is handed over to a client in a lawful history, in the views' words: the
 -- rules, the frames, and the rows.
-use Rattle.std.specs.Prelude.{ℕ, ◌≡◌, ◌≤◌, ◌+◌, ◌==◌, ◌%◌, ◌&&◌, ◌||◌, not, nat_lt, Bool, true, false, List}
-use Rattle.std.specs.Prelude.{[], ◌∷◌, ◌++◌, map, length, filter, take, drop, is_some, if◌then◌else◌, Option}
-use Rattle.std.specs.Prelude.{Some, None}
+use Rattle.std.specs.Prelude.{ℕ, ◌≡◌, ◌≤◌, ◌+◌, ◌==◌, ◌%◌, ◌&&◌, ◌||◌, not, nat_lt, nat_le, Bool, true, false}
+use Rattle.std.specs.Prelude.{List, [], ◌∷◌, ◌++◌, map, length, filter, take, drop, is_some, if◌then◌else◌}
+use Rattle.std.specs.Prelude.{Option, Some, None}
 use Rattle.sng_text.specs.declared.qos.Qos.{Qos}
 use Rattle.sng_text.specs.declared.qos.Qos.TheVariants.{AtMostOnce, AtLeastOnce}
 use Rattle.std.specs.Option.{option_to_list}
@@ -10,6 +10,7 @@ use Rattle.mqtt_frames.specs.declared.packet.Publish.{Publish}
 use Rattle.sng_grants.specs.declared.policy.Policy.{Policy}
 use Rattle.sng_grants.specs.Topics.{id_of}
 use Rattle.sng_queue.specs.Messages.{Message}
+use Rattle.sng_queue.specs.declared.limits.TheConstants.{MAX_QUEUED, MAX_WAITING_NAME, MAX_WAITING_PAYLOAD}
 use Rattle.sng_frames.specs.Writing.{written}
 use Rattle.sng_frames.specs.declared.flags.TopicIdType.{TopicIdType}
 use Rattle.sng_frames.specs.declared.flags.TopicIdType.TheVariants.{Normal, Predefined, Short}
@@ -33,6 +34,7 @@ use Rattle.sng_book.specs.declared.outcome.Outcome.TheVariants.{Allowed, Denied}
 use Rattle.sng_book.specs.declared.out.Out.{Out}
 use Rattle.sng_book.specs.declared.out.Out.TheVariants.{Send, Wire, Note}
 use Rattle.sng_book.specs.declared.row.Row.{Row}
+use Rattle.sng_ids.specs.declared.limits.TheConstants.{MAX_TOPIC_IDS}
 use Rattle.sng_laws.specs.LawsRules.{Rule, judged, receive_rules, IsDenial}
 use Rattle.sng_laws.specs.LawsUnsupported.{unset}
 use Rattle.sng_laws.specs.Views.{policy_in_force}
@@ -63,13 +65,13 @@ is_known policy told known name =
 abbrev pub knows : Mailing → List ℕ → Bool
 knows c name = is_known c.policy c.told c.known name
 
--- what forbids it as its turn comes, in order: the policy, and a name that would need an id where 128 were
--- told
+-- what forbids it as its turn comes, in order: the policy, and a name that would need an id where
+-- `MAX_TOPIC_IDS` were told
 abbrev pub hand_rules : Mailing → List ℕ → List Rule
 hand_rules c name =
     receive_rules c.policy c.id name
     ++ (
-      not (knows c name) && (not (is_among name c.told) && not (nat_lt (length c.told) 128)),
+      not (knows c name) && (not (is_among name c.told) && not (nat_lt (length c.told) MAX_TOPIC_IDS)),
       Full place.Ids,
     ) ∷ []
 
@@ -214,7 +216,8 @@ puback_answer h from r id =
 
 -- no datagram can carry its name or its payload
 abbrev pub is_too_long : Message → Bool
-is_too_long m = not (nat_lt (length m.name) 2041 && nat_lt (length m.payload) 2040)
+is_too_long m =
+    not (nat_le (length m.name) MAX_WAITING_NAME && nat_le (length m.payload) MAX_WAITING_PAYLOAD)
 
 -- the client takes messages, and nothing is open with it
 abbrev pub is_ready : List Row → List ℕ → Bool
@@ -225,7 +228,7 @@ abbrev pub arrival_answer : List Row → List ℕ → Address → Message → Li
 arrival_answer h id to m =
     if is_too_long m
     then Note (note.Hand id m.name (Denied TooLong)) ∷ []
-    else (if not (nat_lt (length (waits_for id h)) 64)
+    else (if not (nat_lt (length (waits_for id h)) MAX_QUEUED)
     then Note (note.Hand id m.name (Denied (Full place.Queue))) ∷ []
     else (if is_ready h id then handed_out (mailing h id to) (m ∷ []) else []))
 

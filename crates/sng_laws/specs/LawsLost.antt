@@ -6,9 +6,11 @@ use Rattle.std.specs.Prelude.{List, [], ◌∷◌, ◌++◌, filter, length, dro
 use Rattle.std.specs.Str.{bytes_eq}
 use Rattle.sng_states.specs.States.{has_session}
 use Rattle.sng_states.specs.declared.state.ClientState.{ClientState}
+use Rattle.sng_states.specs.declared.limits.TheConstants.{SILENCE_MS_PER_SECOND}
 use Rattle.sng_queue.specs.Messages.{Message}
 use Rattle.sng_queue.specs.declared.kind.TopicIdKind.{TopicIdKind}
 use Rattle.sng_queue.specs.declared.kind.TopicIdKind.TheVariants as kind
+use Rattle.sng_queue.specs.declared.limits.TheConstants.{MAX_TRIES}
 use Rattle.sng_frames.specs.Writing.{written}
 use Rattle.sng_frames.specs.declared.flags.TopicIdType.{TopicIdType}
 use Rattle.sng_frames.specs.declared.flags.TopicIdType.TheVariants as type
@@ -17,6 +19,7 @@ use Rattle.sng_book.specs.declared.address.Address.{Address}
 use Rattle.sng_outbox.specs.declared.item.Item.{Item}
 use Rattle.sng_outbox.specs.declared.item.Item.TheVariants as item
 use Rattle.sng_outbox.specs.declared.item.Publication.{Publication}
+use Rattle.sng_outbox.specs.declared.limits.TheConstants.{MAX_IN_FLIGHT, MAX_OUTBOX_ITEMS}
 use Rattle.sng_book.specs.declared.decision.Decision.{Decision}
 use Rattle.sng_book.specs.declared.decision.Decision.TheVariants as note
 use Rattle.sng_book.specs.declared.decision.Who.TheVariants as who
@@ -29,6 +32,7 @@ use Rattle.sng_book.specs.declared.event.Event.TheVariants.{Tick}
 use Rattle.sng_book.specs.declared.out.Out.{Out}
 use Rattle.sng_book.specs.declared.out.Out.TheVariants.{Send, Wire, Note}
 use Rattle.sng_book.specs.declared.row.Row.{Row}
+use Rattle.sng_history.specs.declared.limits.TheConstants.{RETRY_MS}
 use Rattle.sng_laws.specs.Views.{ticks, greatest}
 use Rattle.sng_laws.specs.ViewsClients.{phase_of, address_of, duration_of, heard_of, accepted, id_told}
 use Rattle.sng_laws.specs.ViewsHanding.{Opening, Announced, HandedOver, is_at_least_once, is_taking}
@@ -45,24 +49,24 @@ use Rattle.sng_laws.specs.LawsHanding.{gone_answer}
 
 -- ---- who is lost
 
--- a client with a session that stated a Duration other than 0, in seconds, and was silent for one and a half
--- times as long, in ms
+-- a client with a session that stated a Duration other than 0, in seconds, and was silent for
+-- `SILENCE_MS_PER_SECOND` for each of them, in ms
 abbrev pub is_silent : Option ClientState → Option ℕ → Option ℕ → ℕ → Bool
 is_silent (Some phase) (Some duration) (Some heard) clock =
-    has_session phase && (not (duration == 0) && nat_le (duration * 1500) (clock - heard))
+    has_session phase && (not (duration == 0) && nat_le (duration * SILENCE_MS_PER_SECOND) (clock - heard))
 is_silent None duration heard clock = false
 is_silent (Some phase) None heard clock = false
 is_silent (Some phase) (Some duration) None clock = false
 
--- something is open with a client that takes messages, and was sent last 10,000 ms ago or more
+-- something is open with a client that takes messages, and was sent last `RETRY_MS` ago or more
 abbrev pub is_unanswered : List Row → ℕ → List ℕ → Bool
 is_unanswered h clock id =
     is_taking (phase_of id h) && (not (is_idle (progress_of id h).unanswered)
-    && nat_le 10000 (clock - (last_of id h).at))
+    && nat_le RETRY_MS (clock - (last_of id h).at))
 
--- and it was sent again three times
+-- and it was sent again `MAX_TRIES` times
 abbrev pub is_given_up : List Row → ℕ → List ℕ → Bool
-is_given_up h clock id = is_unanswered h clock id && nat_le 3 (last_of id h).tries
+is_given_up h clock id = is_unanswered h clock id && nat_le MAX_TRIES (last_of id h).tries
 
 abbrev pub is_due_to_be_lost : List Row → ℕ → List ℕ → Bool
 is_due_to_be_lost h clock id =
@@ -123,16 +127,16 @@ again_answer h clock id = if is_unanswered h clock id then again_at h id (addres
 
 -- ---- its will
 
--- what denies it a place where these items wait: at QoS 1, 128 publishes of QoS 1 that wait or are in flight,
--- and 512 items that wait
+-- what denies it a place where these items wait: at QoS 1, `MAX_IN_FLIGHT` publishes of QoS 1 that wait or
+-- are in flight, and `MAX_OUTBOX_ITEMS` items that wait
 abbrev pub place_rules : List Row → List Item → Publication → List Rule
 place_rules h items p = (
   is_at_least_once p.qos
       && not (nat_lt (length (filter (λ one. is_at_least_once one.qos) (publications items))
-      + length (in_flight h)) 128),
+      + length (in_flight h)) MAX_IN_FLIGHT),
   Full place.InFlight,
 )
-    ∷ (not (nat_lt (length items) 512), Full place.Outbox)
+    ∷ (not (nat_lt (length items) MAX_OUTBOX_ITEMS), Full place.Outbox)
     ∷ []
 
 -- it waits, or it is noted that it found no place
@@ -157,8 +161,8 @@ will_refused h items id (p ∷ ps) = refused_by id p (judged (place_rules h item
 -- the PINGREQ that is due and finds no place is noted last
 abbrev pub ping_noted : List Row → ℕ → List Item → List Out
 ping_noted h clock items =
-    if is_ping_due (Tick clock) h (pinged h) && not (nat_lt (length items) 512) then Note note.Outbox ∷ []
-    else []
+    if is_ping_due (Tick clock) h (pinged h) && not (nat_lt (length items) MAX_OUTBOX_ITEMS)
+    then Note note.Outbox ∷ [] else []
 
 -- in the order of first acceptance, each client that is lost: so, what waited for it is gone, and where its
 -- will finds no place behind these items that is noted; a will that finds one waits behind them. With any

@@ -13,6 +13,7 @@ use Rattle.sng_policy.specs.Laws.{HasFilters}
 use Rattle.sng_policy.specs.declared.grant.Grant.{Grant}
 use Rattle.sng_policy.specs.declared.grant.Grant.TheVariants as grant
 use Rattle.sng_fan.specs.Subscriptions.{stands}
+use Rattle.sng_fan.specs.declared.limits.TheConstants.{MAX_SUBSCRIPTIONS}
 use Rattle.sng_frames.specs.Writing.{written}
 use Rattle.sng_frames.specs.declared.flags.TopicIdType.{TopicIdType}
 use Rattle.sng_frames.specs.declared.flags.TopicIdType.TheVariants.{Normal, Predefined, Short, Reserved}
@@ -35,6 +36,8 @@ use Rattle.sng_book.specs.declared.outcome.Outcome.TheVariants.{Allowed, Denied}
 use Rattle.sng_book.specs.declared.out.Out.{Out}
 use Rattle.sng_book.specs.declared.out.Out.TheVariants.{Send, Note}
 use Rattle.sng_book.specs.declared.row.Row.{Row}
+use Rattle.sng_ids.specs.declared.limits.TheConstants.{MAX_TOPIC_IDS}
+use Rattle.sng_outbox.specs.declared.limits.TheConstants.{MAX_OUTBOX_ITEMS}
 use Rattle.sng_laws.specs.Views.{policy_in_force, is_up}
 use Rattle.sng_laws.specs.ViewsClients.{phase_of, is_at, accepted, is_among, tells_id, names_told, id_told}
 use Rattle.sng_laws.specs.ViewsLink.{waiting}
@@ -103,15 +106,19 @@ gap_rule policy id text =
     (is_some gap, Uncovered text (or_empty gap))
 
 -- what forbids a subscription that is covered, in order: a connection that is down, a name without an id
--- where 128 were told, a filter that does not stand for the client where 32 do, and 512 items that wait
+-- where `MAX_TOPIC_IDS` were told, a filter that does not stand for the client where `MAX_SUBSCRIPTIONS` do,
+-- and `MAX_OUTBOX_ITEMS` items that wait
 abbrev pub room_rules : List Row → List ℕ → TopicIdType → List ℕ → List Rule
 room_rules h id type text =
     let told = names_told id h in
     let held = standing_of id h in
     (not (is_up h), UpstreamDown)
-    ∷ (tells_id type text && (not (is_among text told) && not (nat_lt (length told) 128)), Full place.Ids)
-    ∷ (not (stands held text) && not (nat_lt (length held) 32), Full place.Subscriptions)
-    ∷ (not (nat_lt (length (waiting h)) 512), Full place.Outbox)
+    ∷ (
+      tells_id type text && (not (is_among text told) && not (nat_lt (length told) MAX_TOPIC_IDS)),
+      Full place.Ids,
+    )
+    ∷ (not (stands held text) && not (nat_lt (length held) MAX_SUBSCRIPTIONS), Full place.Subscriptions)
+    ∷ (not (nat_lt (length (waiting h)) MAX_OUTBOX_ITEMS), Full place.Outbox)
     ∷ []
 
 -- what forbids a SUBSCRIBE of a client, in order

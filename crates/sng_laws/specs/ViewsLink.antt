@@ -19,6 +19,7 @@ use Rattle.sng_outbox.specs.declared.item.Item.TheVariants as item
 use Rattle.sng_outbox.specs.declared.item.Publication.{Publication}
 use Rattle.sng_outbox.specs.declared.origin.Origin.{Origin}
 use Rattle.sng_outbox.specs.declared.origin.Origin.TheVariants as origin
+use Rattle.sng_outbox.specs.declared.limits.TheConstants.{MAX_OUTBOX_ITEMS}
 use Rattle.sng_book.specs.Denials.{is_allowed}
 use Rattle.sng_book.specs.declared.address.Address.{Address}
 use Rattle.sng_book.specs.declared.decision.Decision.{Decision}
@@ -32,6 +33,7 @@ use Rattle.sng_book.specs.declared.event.Event.TheVariants.{Datagram, Broker, Up
 use Rattle.sng_book.specs.declared.out.Out.{Out}
 use Rattle.sng_book.specs.declared.out.Out.TheVariants.{Send, Wire, Note}
 use Rattle.sng_book.specs.declared.row.Row.{Row}
+use Rattle.sng_history.specs.declared.limits.TheConstants.{PING_MS}
 use Rattle.sng_laws.specs.Views.{is_up, ticks, greatest, clock_at}
 pub use Rattle.sng_laws.specs.Views.{wires_in}
 use Rattle.sng_laws.specs.ViewsMessages.{Message, Connects, Publishes}
@@ -175,11 +177,11 @@ owed_with other earlier outs = []
 
 -- ---- the connection is kept alive
 
--- a PINGREQ is due to the broker at a tick while up, 30,000 ms or more after the connection began or the last
+-- a PINGREQ is due to the broker at a tick while up, `PING_MS` or more after the connection began or the last
 -- was asked for, whose clock is this one
 abbrev pub is_ping_due : Event → List Row → ℕ → Bool
 is_ping_due (Tick clock) earlier last =
-    is_up earlier && nat_le 30000 (greatest (clock ∷ ticks earlier) - last)
+    is_up earlier && nat_le PING_MS (greatest (clock ∷ ticks earlier) - last)
 is_ping_due other earlier last = false
 
 -- it is asked for, unless the row notes that no more could wait
@@ -273,7 +275,7 @@ told_with e earlier outs places =
 abbrev pub added : Event → List Row → List Item → List Out → List Item
 added e earlier items outs =
     items_for (message_at e) outs
-    ++ (map item.Unsubscribe (told_with e earlier outs (512 - length items))
+    ++ (map item.Unsubscribe (told_with e earlier outs (MAX_OUTBOX_ITEMS - length items))
     ++ (map item.Acknowledge (owed_with e earlier outs)
     ++ (map item.Publish (testaments_with e earlier outs) ++ pings_with e earlier outs)))
 

@@ -26,6 +26,7 @@ use Rattle.sng_history.specs.Links.{sent_by, exited, subscribe_sent, unsubscribe
 use Rattle.sng_history.specs.Exits.{exits_of, forwarded, leaving}
 use Rattle.sng_history.specs.Verdicts.{exit}
 use Rattle.sng_wanted.specs.declared.limits.TheConstants.{MAX_WANTED}
+use Rattle.sng_wanted.proofs.Ceilings.{ids_suffice}
 use Rattle.sng_wanted.specs.Filters.{id_for, IsFree}
 use Rattle.sng_link.specs.Flights.{link_of, ids_of, ids_in_use, AreMarked}
 use Rattle.sng_link.specs.Steps.{forth_marks, back_marks, back_wanted, undone_marks, undone_wanted, IsBack}
@@ -63,7 +64,7 @@ few_ids m few most =
     let counted = length-map m.in_flight (λ (sent : InFlight). sent.packet_id) in
     let longer = length-append (ids_of m.in_flight) (open_ids m.wanted) in
     let fewer = few_open m.wanted in
-    omega (arith, counted, longer, fewer, few, most)
+    omega (arith, counted, longer, fewer, few, most, ids_suffice)
 
 pub next_is : (m : Link) (n : Numbering) (next : ℕ) → IsNext n next
     → AreMarked (ids_in_use m.in_flight m.wanted) n.marks → n.last ≡ m.last

@@ -31,14 +31,14 @@ pub fn wills_are_judged()
 
 /// Which clients are lost, in every lawful history. `exactly`: a client is lost at a row exactly where that
 /// is a tick, and by the greatest clock so far either the client has a session and stated a Duration other
-/// than 0, and since it was heard last the Duration x 1500 ms or more passed; or something is open with it
-/// that was sent again three times, and last 10,000 ms ago or more. `ticks`: at a tick each of these is noted
-/// in the order of first acceptance, behind it what waited for it is gone, and where its will finds no place,
-/// among the publishes at QoS 1 or in the outbox as the wills before it left them, that is noted, too. What
-/// is open with any other, and was sent last 10,000 ms ago or more, is judged by the policy in force:
-/// allowed, it is sent again, with the ids of its first sending and a PUBLISH with DUP; denied, it is open no
-/// more, an announced message is settled so, and what may leave then leaves. A PINGREQ to the broker that is
-/// due and finds no place is noted last, and nothing else is let out.
+/// than 0, and since it was heard last `SILENCE_MS_PER_SECOND` or more passed for each second of it; or
+/// something is open with it that was sent again `MAX_TRIES` times, and last `RETRY_MS` ago or more. `ticks`:
+/// at a tick each of these is noted in the order of first acceptance, behind it what waited for it is gone,
+/// and where its will finds no place, among the publishes at QoS 1 or in the outbox as the wills before it
+/// left them, that is noted, too. What is open with any other, and was sent last `RETRY_MS` ago or more, is
+/// judged by the policy in force: allowed, it is sent again, with the ids of its first sending and a PUBLISH
+/// with DUP; denied, it is open no more, an announced message is settled so, and what may leave then leaves.
+/// A PINGREQ to the broker that is due and finds no place is noted last, and nothing else is let out.
 pub fn silent_clients_are_lost()
     ensures exactly { (h : List Row) → Lawful opening h → (id : List ℕ) → LostExactly id h }
     ensures ticks { (h : List Row) → (row : Row) → (clock : ℕ) → Lawful opening (row ∷ h)

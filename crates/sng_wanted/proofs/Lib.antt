@@ -1,3 +1,4 @@
 mod ShownLemmas
 mod PlaceLemmas
 mod OrderLemmas
+pub mod Ceilings

@@ -1,4 +1,7 @@
 //! The limit of wanted filters.
 
-/// How many filters may be wanted: 256 clients, and 32 filters for each.
-pub const MAX_WANTED: usize = 8_193;
+use sng_fan::MAX_SUBSCRIPTIONS;
+use sng_history::MAX_CLIENTS;
+
+/// How many filters may be wanted: those of all clients, and one more.
+pub const MAX_WANTED: usize = MAX_CLIENTS * MAX_SUBSCRIPTIONS + 1;

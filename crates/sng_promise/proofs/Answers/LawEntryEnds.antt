@@ -53,6 +53,7 @@ use Rattle.sng_promise.proofs.Standing.LawEnds.{Kept, drops_shown}
 use Rattle.sng_promise.proofs.Answers.LawDisconnects.{gone_spelled}
 use Rattle.sng_history.proofs.Booleans.{and_no}
 use Rattle.sng_history.proofs.ClientIds.{length_ids}
+use Rattle.sng_history.specs.declared.limits.TheConstants.{MAX_CLIENTS}
 
 -- ---- the verdict
 
@@ -72,7 +73,7 @@ pub entry_ruled : (h : List Row) (s : State) (c : Connect) → StateShown h s
 entry_ruled h s c shown =
     rw (sym shown.policy, sym shown.order, known_among c.client_id s.clients, length_ids s.clients)
     (ruled c.client_id (c.protocol_id == 1) (lists s.policy c.client_id) (is_known c.client_id s.clients)
-    (nat_lt (length s.clients) 256))
+    (nat_lt (length s.clients) MAX_CLIENTS))
 
 -- ---- another client at the address leaves
 

@@ -40,6 +40,7 @@ use Rattle.sng_laws.specs.LawsState.{ClientShown}
 use Rattle.sng_laws.specs.LawsHanding.{arrivals}
 use Rattle.sng_laws.specs.LawsAsks.{message_answer, suback_answer, packet_answer}
 use Rattle.sng_history.proofs.Own.{each_map, each_with, flat_same}
+use Rattle.sng_outbox.specs.declared.limits.TheConstants.{MAX_OUTBOX_ITEMS}
 use Rattle.sng_promise.proofs.Clients.SeenOrder.{StateShown}
 use Rattle.sng_promise.proofs.Clients.SeenState.{Stands}
 use Rattle.sng_promise.proofs.Clients.LawHere.{settled}
@@ -71,10 +72,10 @@ message_out h s p st =
     (flat_ids g f s.clients each ∙ ap (flat_map f) st.shown.order)
     ∙ (rw (sym st.shown.up, sym st.shown.waits)
     (ap (λ outs. flat_map f (accepted h) ++ outs)
-    (message_by p.name p.packet_id s.up (nat_lt (length s.link.waiting) 512))
+    (message_by p.name p.packet_id s.up (nat_lt (length s.link.waiting) MAX_OUTBOX_ITEMS))
     ∙ sym (append_assoc (flat_map f (accepted h)) (misnamed p.name)
-    (if is_some p.packet_id && (s.up && not (nat_lt (length s.link.waiting) 512)) then Note note.Outbox ∷ []
-    else []))))
+    (if is_some p.packet_id && (s.up && not (nat_lt (length s.link.waiting) MAX_OUTBOX_ITEMS))
+    then Note note.Outbox ∷ [] else []))))
 
 -- ---- any other packet
 

@@ -16,6 +16,7 @@ use Rattle.sng_outbox.specs.declared.item.Item.{Item}
 use Rattle.sng_outbox.specs.declared.item.Item.TheVariants as item
 use Rattle.sng_outbox.specs.declared.item.Publication.{Publication}
 use Rattle.sng_outbox.specs.declared.origin.Origin.TheVariants as origin
+use Rattle.sng_outbox.specs.declared.limits.TheConstants.{MAX_IN_FLIGHT, MAX_OUTBOX_ITEMS}
 use Rattle.sng_book.specs.declared.decision.Decision.TheVariants as note
 use Rattle.sng_book.specs.declared.decision.Who.TheVariants as who
 use Rattle.sng_book.specs.declared.outcome.IdKind.TheVariants as kind
@@ -95,7 +96,7 @@ load_same h s shown flights =
 abbrev is_crowded : State → FrameQos → Bool
 is_crowded s q =
     is_acknowledged q && not (nat_lt
-    (load (record { waiting = s.link.waiting; in_flight = s.link.in_flight })) 128)
+    (load (record { waiting = s.link.waiting; in_flight = s.link.in_flight })) MAX_IN_FLIGHT)
 
 not_not : (b : Bool) → b ≡ not (not b)
 not_not true = refl
@@ -103,7 +104,7 @@ not_not false = refl
 
 flight_free : (s : State) (q : FrameQos) → has_flight s.link (qos_of q) ≡ not (is_crowded s q)
 flight_free s qos.AtLeastOnce =
-    not_not (nat_lt (load (record { waiting = s.link.waiting; in_flight = s.link.in_flight })) 128)
+    not_not (nat_lt (load (record { waiting = s.link.waiting; in_flight = s.link.in_flight })) MAX_IN_FLIGHT)
 flight_free s qos.AtMostOnce = refl
 flight_free s qos.ExactlyOnce = refl
 flight_free s qos.WithoutSession = refl
@@ -112,14 +113,14 @@ flight_free s qos.WithoutSession = refl
 abbrev state_table : State → List ℕ → List ℕ → FrameQos → List Rule
 state_table s id name q =
     name_table name (may_publish (scope_of s.policy.clients id) name) s.up (is_crowded s q)
-    (nat_lt (length s.link.waiting) 512)
+    (nat_lt (length s.link.waiting) MAX_OUTBOX_ITEMS)
 
 verdict_judged : (s : State) (id name : List ℕ) (q : FrameQos) → lists s.policy id ≡ true
     → verdict s (origin.Client id) name (qos_of q) ≡ judged (state_table s id name q)
 verdict_judged s id name q listed =
     rw (listed_exit s.policy id name listed, flight_free s q)
     (name_judged name (may_publish (scope_of s.policy.clients id) name) s.up (is_crowded s q)
-    (nat_lt (length s.link.waiting) 512))
+    (nat_lt (length s.link.waiting) MAX_OUTBOX_ITEMS))
 
 -- what forbids a publish of a client that may ask
 abbrev pub type_table : State → List ℕ → List (List ℕ) → TopicIdType → ℕ → FrameQos → List Rule

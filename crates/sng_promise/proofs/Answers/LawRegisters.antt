@@ -8,6 +8,7 @@ use Rattle.sng_grants.specs.Sources.{scope_of}
 use Rattle.sng_grants.specs.declared.policy.Policy.{Policy}
 use Rattle.sng_policy.specs.Grants.{lists}
 use Rattle.sng_ids.specs.Ids.{id_for, is_full_for}
+use Rattle.sng_ids.specs.declared.limits.TheConstants.{MAX_TOPIC_IDS}
 use Rattle.sng_frames.specs.declared.messages.register.Register.{Register}
 use Rattle.sng_book.specs.declared.address.Address.{Address}
 use Rattle.sng_book.specs.declared.decision.Decision.TheVariants as note
@@ -114,7 +115,7 @@ register_judged h s x text shown is =
     rw (is.phase, sym (active_same x.phase), sym shown.policy)
     (register_said s.policy x text (is_active x.phase) (lists s.policy x.id) (is_name text)
     (may_publish (scope_of s.policy.clients x.id) text)
-    (not (is_among text names) && not (nat_lt (length names) 128)) refl refl refl refl
+    (not (is_among text names) && not (nat_lt (length names) MAX_TOPIC_IDS)) refl refl refl refl
     (ap (is_full_for text) is.ids ∙ full_marked text names (names_known x.id h)))
 
 register_there : (h : List Row) (s : State) (from : Address) (r : Register) (dropped : List Release)
@@ -134,7 +135,7 @@ register_there h s from r dropped x shown is =
     (judged (register_rules h x.id r.name))
     (register_named_so x.id r.name (laws.is_active (phase_of x.id h)) (lists policy x.id) (is_name r.name)
     (may_publish (scope_of policy.clients x.id) r.name)
-    (not (is_among r.name names) && not (nat_lt (length names) 128)))
+    (not (is_among r.name names) && not (nat_lt (length names) MAX_TOPIC_IDS)))
     (ap (id_for r.name) is.ids ∙ id_marked r.name names (names_known x.id h))
 
 -- the note moves no more than the ids of the client

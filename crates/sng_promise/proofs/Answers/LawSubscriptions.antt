@@ -8,7 +8,9 @@ use Rattle.sng_text.specs.Texts.{is_filter}
 use Rattle.sng_grants.specs.declared.policy.Policy.{Policy}
 use Rattle.sng_policy.specs.Grants.{lists}
 use Rattle.sng_fan.specs.Subscriptions.{stands, is_full}
+use Rattle.sng_fan.specs.declared.limits.TheConstants.{MAX_SUBSCRIPTIONS}
 use Rattle.sng_ids.specs.Ids.{Ids, is_full_for}
+use Rattle.sng_ids.specs.declared.limits.TheConstants.{MAX_TOPIC_IDS}
 use Rattle.sng_frames.specs.declared.flags.TopicIdType.{TopicIdType}
 use Rattle.sng_frames.specs.declared.flags.TopicIdType.TheVariants.{Normal, Predefined, Short, Reserved}
 use Rattle.sng_frames.specs.declared.messages.subscribe.TopicRequest.{TopicRequest}
@@ -51,6 +53,7 @@ use Rattle.sng_laws.specs.LawsSubscriptions.{subscribe_rules, qos_granted, id_gr
 use Rattle.sng_laws.specs.LawsSubscriptions.{subscribe_stranger, subscribe_answer}
 use Rattle.sng_history.proofs.Asks.{of_subscribe}
 use Rattle.sng_history.proofs.Places.{here_is}
+use Rattle.sng_outbox.specs.declared.limits.TheConstants.{MAX_OUTBOX_ITEMS}
 use Rattle.sng_promise.proofs.Clients.SeenClients.{heard_if}
 use Rattle.sng_promise.proofs.Names.Marked.{marked, id_marked, full_marked}
 use Rattle.sng_promise.proofs.Names.SeenIds.{gets_same}
@@ -84,15 +87,17 @@ room_judged h s x r text shown is =
     let told = names_told x.id h in
     let held = standing_of x.id h in
     let full : (gets_id r.flags.id_type text && is_full_for text x.ids)
-    ≡ (tells_id r.flags.id_type text && (not (is_among text told) && not (nat_lt (length told) 128))) =
+    ≡ (tells_id r.flags.id_type text
+    && (not (is_among text told) && not (nat_lt (length told) MAX_TOPIC_IDS))) =
     ap (λ b. b && is_full_for text x.ids) (gets_same r.flags.id_type text)
     ∙ ap (λ b. tells_id r.flags.id_type text && b)
     (ap (is_full_for text) is.ids ∙ full_marked text told (names_known x.id h)) in
-    let crowded : is_full x.filters text ≡ (not (stands held text) && not (nat_lt (length held) 32)) =
+    let crowded : is_full x.filters text
+    ≡ (not (stands held text) && not (nat_lt (length held) MAX_SUBSCRIPTIONS)) =
     ap (λ all. is_full all text) is.filters
-    ∙ ap (λ b. not (stands held text) && b) (most_by (length held) 32) in
+    ∙ ap (λ b. not (stands held text) && b) (most_by (length held) MAX_SUBSCRIPTIONS) in
     room_by s.up (gets_id r.flags.id_type text && is_full_for text x.ids) (is_full x.filters text)
-    (nat_lt (length s.link.waiting) 512)
+    (nat_lt (length s.link.waiting) MAX_OUTBOX_ITEMS)
     ∙ rw (full, crowded, shown.up, shown.waits) refl
 
 -- a client that may ask

@@ -14,6 +14,7 @@ use Rattle.sng_states.specs.declared.state.ClientState.TheVariants.{Disconnected
 use Rattle.sng_queue.specs.declared.exchange.Exchange.{Exchange}
 use Rattle.sng_queue.specs.Messages.{Message}
 use Rattle.sng_queue.specs.Buffers.{Buffer}
+use Rattle.sng_queue.specs.declared.limits.TheConstants.{MAX_QUEUED, MAX_WAITING_NAME, MAX_WAITING_PAYLOAD}
 use Rattle.sng_book.specs.declared.decision.Decision.{Decision}
 use Rattle.sng_book.specs.declared.decision.Decision.TheVariants as note
 use Rattle.sng_book.specs.declared.outcome.Place.TheVariants as place
@@ -120,9 +121,6 @@ undrained_by x z same off =
 
 -- ---- what becomes of a message that is due
 
-most_by : (n m k : ℕ) → k ≡ m + 1 → nat_le n m ≡ nat_lt n k
-most_by n m k is = grind (arith, nat_tests, is)
-
 full_by : (n m : ℕ) → nat_le m n ≡ not (nat_lt n m)
 full_by n m = grind (arith, nat_tests)
 
@@ -135,15 +133,11 @@ arrival_if false room = refl
 arrival_same : (b : Buffer) (m : Message)
     → arrival b m
     ≡ (if is_too_long m then Denied TooLong
-    else (if not (nat_lt (length b.waiting) 64) then Denied (Full place.Queue) else Allowed))
+    else (if not (nat_lt (length b.waiting) MAX_QUEUED) then Denied (Full place.Queue) else Allowed))
 arrival_same b m =
-    rw (
-      most_by (length m.name) 2040 2041 refl,
-      most_by (length m.payload) 2039 2040 refl,
-      full_by (length b.waiting) 64,
-    )
-    (arrival_if (nat_lt (length m.name) 2041 && nat_lt (length m.payload) 2040)
-    (nat_lt (length b.waiting) 64))
+    rw (full_by (length b.waiting) MAX_QUEUED)
+    (arrival_if (nat_le (length m.name) MAX_WAITING_NAME && nat_le (length m.payload) MAX_WAITING_PAYLOAD)
+    (nat_lt (length b.waiting) MAX_QUEUED))
 
 -- the client once the message came
 abbrev came : Outcome → Message → Client → Client
@@ -224,7 +218,7 @@ answer_same : (h : List Row) (x : Client) (m : Message) → ClientShown h x
     → answer_as h x m (arrival x.buffer m) ≡ arrival_answer h x.id x.address m
 answer_same h x m shown =
     ap (answer_as h x m) (arrival_same x.buffer m)
-    ∙ (answer_if h x m (is_too_long m) (nat_lt (length x.buffer.waiting) 64)
+    ∙ (answer_if h x m (is_too_long m) (nat_lt (length x.buffer.waiting) MAX_QUEUED)
     ∙ (rw shown.waiting refl))
 
 due_came : (h : List Row) (s : State) (p : Publish) (x : Client) (due : Option Message) → StateShown h s

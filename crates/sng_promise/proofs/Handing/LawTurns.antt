@@ -7,6 +7,7 @@ use Rattle.sng_text.specs.declared.qos.Qos.TheVariants.{AtMostOnce, AtLeastOnce}
 use Rattle.sng_grants.specs.Sources.{scope_of}
 use Rattle.sng_grants.specs.declared.policy.Policy.{Policy}
 use Rattle.sng_ids.specs.Ids.{is_full_for}
+use Rattle.sng_ids.specs.declared.limits.TheConstants.{MAX_TOPIC_IDS}
 use Rattle.sng_queue.specs.Messages.{Message}
 use Rattle.sng_queue.specs.Buffers.{settle}
 use Rattle.sng_book.specs.declared.decision.Decision.TheVariants as note
@@ -114,9 +115,10 @@ Offered a dropped told known m more x o =
 
 -- the last rule
 abbrev pub full_rule : Mailing → List ℕ → List Rule
-full_rule c name =
-    (not (knows c name) && (not (is_among name c.told) && not (nat_lt (length c.told) 128)), Full place.Ids)
-    ∷ []
+full_rule c name = (
+  not (knows c name) && (not (is_among name c.told) && not (nat_lt (length c.told) MAX_TOPIC_IDS)),
+  Full place.Ids,
+) ∷ []
 
 -- what the laws say of it, where the client knows the name, where no id is left, and where one is announced
 known_one : (c : Mailing) (m : Message) (rest : List Out) → knows c m.name ≡ true
@@ -134,7 +136,7 @@ known_one c m rest is = ap (λ o. handed_one c m o rest) (allowed c m.name is) �
 
 -- no id of the name was told, and none is left
 abbrev pub is_crowded : Mailing → List ℕ → Bool
-is_crowded c name = not (is_among name c.told) && not (nat_lt (length c.told) 128)
+is_crowded c name = not (is_among name c.told) && not (nat_lt (length c.told) MAX_TOPIC_IDS)
 
 crowded_one : (c : Mailing) (m : Message) (rest : List Out) → knows c m.name ≡ false
     → is_crowded c m.name ≡ true

@@ -11,6 +11,7 @@ use Rattle.sng_queue.specs.Messages.{Message, is_sendable}
 use Rattle.sng_queue.specs.Buffers.{Buffer, settle}
 use Rattle.sng_queue.specs.declared.exchange.Exchange.{Exchange}
 use Rattle.sng_queue.specs.declared.exchange.Exchange.TheVariants.{Announcing, Acknowledging}
+use Rattle.sng_queue.specs.declared.limits.TheConstants.{MAX_QUEUED}
 use Rattle.sng_frames.specs.declared.messages.acks.TopicAck.{TopicAck}
 use Rattle.sng_book.specs.declared.decision.Decision.{Decision}
 use Rattle.sng_book.specs.declared.outcome.Place.TheVariants as place
@@ -103,7 +104,8 @@ every_refusal policy id code (m ∷ more) = (tt, tt)
 every_away : (policy : Policy) (id : List ℕ) (due : Option Message) (b : Buffer)
     → Every (Stands policy) (turned_away id due b)
 every_away policy id None b = tt
-every_away policy id (Some m) b = away_by (is_sendable m.name m.payload) (nat_le 64 (length b.waiting))
+every_away policy id (Some m) b =
+    away_by (is_sendable m.name m.payload) (nat_le MAX_QUEUED (length b.waiting))
   where
     away_by : (sendable full : Bool)
         → Every (Stands policy)

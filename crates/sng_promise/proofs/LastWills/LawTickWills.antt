@@ -11,6 +11,7 @@ use Rattle.sng_outbox.specs.Sending.{load}
 use Rattle.sng_outbox.specs.declared.item.Item.TheVariants as item
 use Rattle.sng_outbox.specs.declared.item.Publication.{Publication}
 use Rattle.sng_outbox.specs.declared.origin.Origin.TheVariants as origin
+use Rattle.sng_outbox.specs.declared.limits.TheConstants.{MAX_IN_FLIGHT, MAX_OUTBOX_ITEMS}
 use Rattle.sng_book.specs.Denials.{is_allowed}
 use Rattle.sng_book.specs.declared.outcome.Place.TheVariants as place
 use Rattle.sng_book.specs.declared.outcome.Denial.TheVariants.{Full}
@@ -83,19 +84,19 @@ room_at : (h : List Row) (link : Link) (q : Qos) → Crowds h link
     ((
       is_at_least_once q
           && not (nat_lt (length (filter (λ one. is_at_least_once one.qos) (publications link.waiting))
-          + length (in_flight h)) 128),
+          + length (in_flight h)) MAX_IN_FLIGHT),
       Full place.InFlight,
     )
-    ∷ (not (nat_lt (length link.waiting) 512), Full place.Outbox)
+    ∷ (not (nat_lt (length link.waiting) MAX_OUTBOX_ITEMS), Full place.Outbox)
     ∷ [])
-room_at h link AtMostOnce flights = place_by (nat_lt (length link.waiting) 512)
+room_at h link AtMostOnce flights = place_by (nat_lt (length link.waiting) MAX_OUTBOX_ITEMS)
 room_at h link AtLeastOnce flights =
-    let free = nat_lt (length link.waiting) 512 in
-    ap (λ n. if nat_lt n 128 then (if free then Allowed else Denied (Full place.Outbox))
+    let free = nat_lt (length link.waiting) MAX_OUTBOX_ITEMS in
+    ap (λ n. if nat_lt n MAX_IN_FLIGHT then (if free then Allowed else Denied (Full place.Outbox))
     else Denied (Full place.InFlight))
     (waiting_load h link flights)
     ∙ room_both (nat_lt (length (filter (λ one. is_at_least_once one.qos) (publications link.waiting))
-    + length (in_flight h)) 128) free
+    + length (in_flight h)) MAX_IN_FLIGHT) free
 
 pub room_judged : (h : List Row) (link : Link) (p : Publication) → Crowds h link
     → room_in link p.qos ≡ judged (place_rules h link.waiting p)

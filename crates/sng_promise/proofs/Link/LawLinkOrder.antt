@@ -11,6 +11,7 @@ use Rattle.sng_outbox.specs.Sending.{publishes}
 use Rattle.sng_outbox.specs.declared.item.Item.{Item}
 use Rattle.sng_outbox.specs.declared.item.Item.TheVariants as item
 use Rattle.sng_outbox.specs.declared.item.Publication.{Publication}
+use Rattle.sng_outbox.specs.declared.limits.TheConstants.{MAX_OUTBOX_ITEMS}
 use Rattle.sng_book.specs.declared.decision.Decision.{Decision}
 use Rattle.sng_book.specs.declared.decision.Decision.TheVariants as note
 use Rattle.sng_book.specs.declared.outcome.Outcome.{Outcome}
@@ -142,7 +143,7 @@ pub publications_added : (e : Event) (h : List Row) (items : List Item) (outs : 
     → publications (added e h items outs) ≡ asked_with e h outs
 publications_added e h items outs =
     let first = items_for (message_at e) outs in
-    let texts = told_with e h outs (512 - length items) in
+    let texts = told_with e h outs (MAX_OUTBOX_ITEMS - length items) in
     let wills = testaments_with e h outs in
     let more = map item.Publish wills ++ pings_with e h outs in
     publications_append first (map item.Unsubscribe texts

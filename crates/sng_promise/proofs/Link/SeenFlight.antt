@@ -13,6 +13,7 @@ use Rattle.sng_outbox.specs.declared.item.Item.{Item}
 use Rattle.sng_outbox.specs.declared.item.Item.TheVariants as item
 use Rattle.sng_outbox.specs.declared.item.Publication.{Publication}
 use Rattle.sng_outbox.proofs.LoadLemmas.{counted-front}
+use Rattle.sng_outbox.specs.declared.limits.TheConstants.{MAX_IN_FLIGHT}
 use Rattle.sng_book.specs.declared.outcome.Outcome.{Outcome}
 use Rattle.sng_book.specs.declared.outcome.Outcome.TheVariants.{Allowed, Denied}
 use Rattle.sng_book.specs.declared.out.Out.{Out}
@@ -81,7 +82,7 @@ given link p n m fit is same free = record {
 }
 
 sent_moves : (link : Link) (p : Publication) (q : Qos) → Fit link
-    → length link.in_flight + cond (is_at_least_once q) 1 0 ≤ 128
+    → length link.in_flight + cond (is_at_least_once q) 1 0 ≤ MAX_IN_FLIGHT
     → Moves link (sent_by link p q) (new_by link p q)
 sent_moves link p AtMostOnce fit few = stays link fit
 sent_moves link p AtLeastOnce fit few =
@@ -92,7 +93,7 @@ sent_moves link p AtLeastOnce fit few =
 -- the first that leaves
 first_moves : (link : Link) (p : Publication) (o : Outcome) (ps : List Publication) (outs : List Out)
     (after : Link)
-    → Fit link → length link.in_flight + cond (is_at_least_once p.qos) 1 0 ≤ 128
+    → Fit link → length link.in_flight + cond (is_at_least_once p.qos) 1 0 ≤ MAX_IN_FLIGHT
     → (Fit (exited link p o) → length (exited link p o).in_flight ≤ length link.in_flight
     + cond (is_at_least_once p.qos) 1 0
     → Moves (exited link p o) after (flights_of ps (departures outs)))
@@ -112,7 +113,7 @@ opened_few : (wanted : List Wanted) (text : List ℕ) (n : ℕ) → length (open
 opened_few wanted text n = length-map wanted _
 
 subscribe_moves : (link : Link) (text : List ℕ) (b : Bool) → wants link.wanted text ≡ b → Fit link
-    → length link.in_flight ≤ 128
+    → length link.in_flight ≤ MAX_IN_FLIGHT
     → Moves link (subscribe_left link text) []
 subscribe_moves link text true is fit few =
     let free : Free link (next_packet_id link) = next_is_free link fit few in
@@ -129,7 +130,7 @@ subscribe_moves link text true is fit few =
 subscribe_moves link text false is fit few = rw is (stays link fit)
 
 unsubscribe_moves : (link : Link) (text : List ℕ) (b : Bool) → wants link.wanted text ≡ b → Fit link
-    → length link.in_flight ≤ 128
+    → length link.in_flight ≤ MAX_IN_FLIGHT
     → Moves link (unsubscribe_left link text) []
 unsubscribe_moves link text true is fit few = rw is (stays link fit)
 unsubscribe_moves link text false is fit few =
@@ -145,7 +146,7 @@ unsubscribe_moves link text false is fit few =
 -- ---- all of them
 
 pub all_move : (policy : Policy) (link : Link) (items : List Item) → Fit link
-    → length link.in_flight + count_by asks_for_ack items ≤ 128
+    → length link.in_flight + count_by asks_for_ack items ≤ MAX_IN_FLIGHT
     → Moves link (link_after link items (exits_of policy items))
     (flights_of (publications items) (departures (leaving link items (exits_of policy items))))
 all_move policy link [] fit few = stays link fit

@@ -15,6 +15,7 @@ use Rattle.sng_frames.specs.declared.frame.SnFrame.TheVariants as frame
 use Rattle.sng_outbox.specs.Sending.{publishes}
 use Rattle.sng_outbox.specs.declared.item.Item.{Item}
 use Rattle.sng_outbox.specs.declared.item.Item.TheVariants as item
+use Rattle.sng_outbox.specs.declared.limits.TheConstants.{MAX_OUTBOX_ITEMS}
 use Rattle.sng_book.specs.declared.address.Address.{Address}
 use Rattle.sng_book.specs.declared.event.Event.{Event}
 use Rattle.sng_book.specs.declared.event.Event.TheVariants.{Datagram, Broker, Up, Down, Take, Replace, Tick}
@@ -142,7 +143,7 @@ waits_row s (Datagram from datagram) h is items apart order shown wills own =
     let e = Datagram from datagram in
     rw (sym items)
     (datagram_waits s from (frame_of datagram)
-    (take (512 - length s.link.waiting) (released_among e h (outs_of s e) [] (accepted h)))
+    (take (MAX_OUTBOX_ITEMS - length s.link.waiting) (released_among e h (outs_of s e) [] (accepted h)))
     (unsubscribes_are h s e shown own order))
 waits_row s (Broker sent) h is items apart order shown wills own =
     let owed =
@@ -158,7 +159,8 @@ waits_row s Take h is items apart order shown wills own =
     rw (sym is.up, sym items) (take_waits s.up s.link.waiting)
 waits_row s (Replace policy) h is items apart order shown wills own =
     let e = Replace policy in
-    let gone = take (512 - length s.link.waiting) (released_among e h (outs_of s e) [] (accepted h)) in
+    let gone =
+    take (MAX_OUTBOX_ITEMS - length s.link.waiting) (released_among e h (outs_of s e) [] (accepted h)) in
     rw (sym items)
     (ap (λ more. s.link.waiting ++ more)
     (unsubscribes_are h s e shown own order ∙ sym (append-nil (map item.Unsubscribe gone))))

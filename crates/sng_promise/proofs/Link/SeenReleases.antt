@@ -12,6 +12,7 @@ use Rattle.sng_frames.specs.declared.qos.FrameQos.TheVariants as qos
 use Rattle.sng_frames.specs.declared.messages.publish.Publish.{Publish}
 use Rattle.sng_outbox.specs.declared.item.Item.TheVariants as item
 use Rattle.sng_outbox.specs.declared.origin.Origin.TheVariants as origin
+use Rattle.sng_outbox.specs.declared.limits.TheConstants.{MAX_OUTBOX_ITEMS}
 use Rattle.sng_book.specs.Denials.{is_allowed}
 use Rattle.sng_book.specs.declared.decision.Decision.{Decision}
 use Rattle.sng_book.specs.declared.decision.Decision.TheVariants as note
@@ -231,7 +232,7 @@ pub unsubscribes_are : (h : List Row) (s : State) (e : Event) → Each (FiltersS
     → Each (λ x. notes_of x.id (outs_of s e) ≡ fixed_for s (cause_of e) x) s.clients
     → ids_of s.clients ≡ accepted h
     → unsubscribes s.link (released s.clients (clients_next s (cause_of e)))
-    ≡ map item.Unsubscribe (take (512 - length s.link.waiting)
+    ≡ map item.Unsubscribe (take (MAX_OUTBOX_ITEMS - length s.link.waiting)
     (released_among e h (outs_of s e) [] (accepted h)))
 unsubscribes_are h s e shown own order =
     let c = cause_of e in
@@ -242,6 +243,6 @@ unsubscribes_are h s e shown own order =
     (λ x was is. moves_row h s e x was is) shown own in
     ap (λ all. unsubscribes s.link (released s.clients all)) (map-append f s.clients (newcomers_for s c))
     ∙ (told_items (places_left s.link) (released s.clients (map f s.clients ++ map f (newcomers_for s c)))
-    ∙ ap (λ all. map item.Unsubscribe (take (512 - length s.link.waiting) all))
+    ∙ ap (λ all. map item.Unsubscribe (take (MAX_OUTBOX_ITEMS - length s.link.waiting) all))
     (released_are e h (outs_of s e) f [] s.clients (map f (newcomers_for s c)) tt moves
     ∙ ap (released_among e h (outs_of s e) []) order))

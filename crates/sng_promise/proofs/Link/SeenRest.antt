@@ -13,6 +13,7 @@ use Rattle.sng_grants.specs.declared.policy.Policy.{Policy}
 use Rattle.sng_frames.specs.Reading.{frame_of}
 use Rattle.sng_outbox.specs.Sending.{asks_for_ack}
 use Rattle.sng_outbox.specs.declared.in_flight.InFlight.{InFlight}
+use Rattle.sng_outbox.specs.declared.limits.TheConstants.{MAX_IN_FLIGHT}
 use Rattle.sng_book.specs.declared.outcome.Outcome.{Outcome}
 use Rattle.sng_book.specs.declared.outcome.Outcome.TheVariants.{Allowed, Denied}
 use Rattle.sng_book.specs.declared.event.Event.{Event}
@@ -148,7 +149,7 @@ again_stays policy (sent ∷ flights) more =
     (agains_of policy flights)
     (resending flights (agains_of policy flights)) more (again_stays policy flights more)
 
-anew_fit : (link : Link) (texts : List (List ℕ)) → Fit link → length link.in_flight ≤ 128
+anew_fit : (link : Link) (texts : List (List ℕ)) → Fit link → length link.in_flight ≤ MAX_IN_FLIGHT
     → Fit (subscribes_sent link texts)
 anew_fit link [] fit few = fit
 anew_fit link (text ∷ texts) fit few =
@@ -191,7 +192,7 @@ up_moved h s st was =
 -- ---- what waits leaves
 
 take_moves : (s : State) (up : Bool) → s.up ≡ up → Fit s.link
-    → length s.link.in_flight + count_by asks_for_ack s.link.waiting ≤ 128
+    → length s.link.in_flight + count_by asks_for_ack s.link.waiting ≤ MAX_IN_FLIGHT
     → Moves s.link (link_moved s ByTake (exits_for s ByTake))
     (if up then flights_of (publications s.link.waiting) (departures (outs_of s Take)) else [])
 take_moves s true is fit few = rw is (all_move s.policy s.link s.link.waiting fit few)

@@ -35,6 +35,7 @@ use Rattle.sng_laws.specs.LawsAsks.{told_as}
 use Rattle.sng_history.proofs.Own.{same_self, same_means}
 use Rattle.sng_history.proofs.Says.{says}
 use Rattle.sng_history.proofs.Keeping.{exact_by}
+use Rattle.sng_ids.specs.declared.limits.TheConstants.{MAX_TOPIC_IDS}
 use Rattle.sng_promise.proofs.Clients.SeenNotes.{admitted_by_notes, names_by_notes}
 use Rattle.sng_promise.proofs.Names.SeenIds.{id_place}
 use Rattle.sng_promise.proofs.Clients.SeenState.{Stands, stands}
@@ -120,7 +121,7 @@ name_told h row from r id l brought at may =
     ≡ Some r.name =
     register_named_so id r.name (is_active (phase_of id h)) (lists policy id) (is_name r.name)
     (may_publish (scope_of policy.clients id) r.name)
-    (not (is_among r.name names) && not (nat_lt (length names) 128)) may in
+    (not (is_among r.name names) && not (nat_lt (length names) MAX_TOPIC_IDS)) may in
     ap (λ all. told_as (id_told r.name names)
     (names_after (subscribe_in (message_at row.event)) id all names)) outs
     ∙ (ap (told_as (id_told r.name names))

@@ -10,6 +10,7 @@ use Rattle.std.specs.Str.{bytes_eq}
 use Rattle.std.proofs.lemmas.Bool.Decides.{nat_tests}
 use Rattle.std.proofs.lemmas.List.Sums.{prefix_len-le-length}
 use Rattle.sng_ids.specs.Ids.{Ids, names_of, place_of, id_for, id_of, is_full_for}
+use Rattle.sng_ids.specs.declared.limits.TheConstants.{MAX_TOPIC_IDS}
 use Rattle.sng_laws.specs.ViewsClients.{is_among, id_told}
 use Rattle.sng_history.proofs.Own.{same_means}
 
@@ -81,14 +82,15 @@ most_by : (n m : ℕ) → nat_le m n ≡ not (nat_lt n m)
 most_by n m = grind (arith, nat_tests)
 
 pub full_marked : (name : List ℕ) (told known : List (List ℕ))
-    → is_full_for name (marked told known) ≡ (not (is_among name told) && not (nat_lt (length told) 128))
+    → is_full_for name (marked told known)
+    ≡ (not (is_among name told) && not (nat_lt (length told) MAX_TOPIC_IDS))
 full_marked name told known =
     rw (
       place_marked name told known,
       marked_length told known,
       none_if (is_among name told) (position_or_len (bytes_eq name) told),
       most_by
-          (length told) 128,
+          (length told) MAX_TOPIC_IDS,
     ) refl
 
 -- ---- the id by which the client knows a name

@@ -24,6 +24,7 @@ use Rattle.sng_laws.specs.LawsEnds.{Stays, texts_of, stays_for, stands_for, endi
 use Rattle.sng_laws.specs.LawsEnds.{untold, is_end, untold_note}
 use Rattle.sng_history.proofs.Own.{same_self, each_append}
 use Rattle.sng_history.proofs.ClientIds.{ids_of}
+use Rattle.sng_outbox.specs.declared.limits.TheConstants.{MAX_OUTBOX_ITEMS}
 use Rattle.sng_promise.proofs.Clients.SeenOrder.{ids_append, StateShown}
 use Rattle.sng_history.proofs.Booleans.{or_right}
 
@@ -148,7 +149,7 @@ pub untold_pairs : (h : List Row) (s : State) (c : Cause) (stays : Stays) → St
 untold_pairs h s c stays shown each =
     let all = released s.clients (map (client_next s c) s.clients) in
     pairs_drop (places_left s.link) all
-    ∙ (ap (λ n. drop n (pairs all)) (ap (λ items. 512 - length items) shown.waits)
+    ∙ (ap (λ n. drop n (pairs all)) (ap (λ items. MAX_OUTBOX_ITEMS - length items) shown.waits)
     ∙ ap (drop (places h)) (released_pairs h stays (client_next s c) [] s.clients tt each
     ∙ ap (λ ids. last_ends_from h stays [] ids) shown.order))
 

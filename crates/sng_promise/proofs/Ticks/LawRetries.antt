@@ -9,6 +9,7 @@ use Rattle.sng_queue.specs.Exchanges.{repeat}
 use Rattle.sng_queue.specs.declared.exchange.Exchange.TheVariants.{Announcing, Acknowledging}
 use Rattle.sng_queue.specs.declared.kind.TopicIdKind.{TopicIdKind}
 use Rattle.sng_queue.specs.declared.kind.TopicIdKind.TheVariants as kind
+use Rattle.sng_queue.specs.declared.limits.TheConstants.{MAX_TRIES}
 use Rattle.sng_book.specs.declared.decision.Decision.{Decision}
 use Rattle.sng_book.specs.declared.decision.Decision.TheVariants as note
 use Rattle.sng_book.specs.declared.outcome.Outcome.{Outcome}
@@ -45,6 +46,7 @@ use Rattle.sng_promise.proofs.Handing.LawTurns.{mail, denied_settles}
 use Rattle.sng_promise.proofs.Handing.LawAwake.{awake_same, awake_shown}
 use Rattle.sng_promise.proofs.Clients.LawHere.{settled}
 use Rattle.sng_history.proofs.Booleans.{and_no, left_holds}
+use Rattle.sng_history.specs.declared.limits.TheConstants.{RETRY_MS}
 
 abbrev pub ticking_by : State → ℕ → Around
 ticking_by s came = around s (ByTick came)
@@ -225,7 +227,7 @@ opening_by h s came x (Some (HandedOver m)) is front takes busy state shown =
 
 unanswered_by : (o : Option Opening) (told : List (List ℕ)) (number clock : ℕ) (last : Last)
     → ticking.is_unanswered clock (exchange_shown o told number last)
-    ≡ (not (is_idle o) && nat_le 10000 (clock - last.at))
+    ≡ (not (is_idle o) && nat_le RETRY_MS (clock - last.at))
 unanswered_by None told number clock last = refl
 unanswered_by (Some (Announced name)) told number clock last = refl
 unanswered_by (Some (HandedOver m)) told number clock last = refl
@@ -238,13 +240,14 @@ repeating_shown h clock x shown =
     ap (λ e. takes_messages x.phase && ticking.is_unanswered clock e) shown.exchange
     ∙ (ap (λ b. takes_messages x.phase && b)
     (unanswered_by o (names_told x.id h) (number_of x.id h) clock last)
-    ∙ ap (λ b. b && (not (is_idle o) && nat_le 10000 (clock - last.at)))
+    ∙ ap (λ b. b && (not (is_idle o) && nat_le RETRY_MS (clock - last.at)))
     (sym (taking_same x.phase) ∙ ap is_taking (sym shown.phase)))
 
 tried_by : (o : Option Opening) (told : List (List ℕ)) (number clock : ℕ) (last : Last) (takes : Bool)
     → ((takes && ticking.is_unanswered clock (exchange_shown o told number last))
     && is_tried_out (exchange_shown o told number last))
-    ≡ ((takes && ticking.is_unanswered clock (exchange_shown o told number last)) && nat_le 3 last.tries)
+    ≡ ((takes && ticking.is_unanswered clock (exchange_shown o told number last))
+    && nat_le MAX_TRIES last.tries)
 tried_by None told number clock last true = refl
 tried_by None told number clock last false = refl
 tried_by (Some (Announced name)) told number clock last takes = refl
@@ -257,9 +260,9 @@ given_up_shown h clock x shown =
     let last = last_of x.id h in
     ap (λ e. (takes_messages x.phase && ticking.is_unanswered clock e) && is_tried_out e) shown.exchange
     ∙ (tried_by o (names_told x.id h) (number_of x.id h) clock last (takes_messages x.phase)
-    ∙ (ap (λ e. (takes_messages x.phase && ticking.is_unanswered clock e) && nat_le 3 last.tries)
+    ∙ (ap (λ e. (takes_messages x.phase && ticking.is_unanswered clock e) && nat_le MAX_TRIES last.tries)
     (sym shown.exchange)
-    ∙ ap (λ b. b && nat_le 3 last.tries) (repeating_shown h clock x shown)))
+    ∙ ap (λ b. b && nat_le MAX_TRIES last.tries) (repeating_shown h clock x shown)))
 
 again_by : (h : List Row) (s : State) (came : ℕ) (x : Client) (b : Bool)
     → is_repeating (later s.clock came) x ≡ b → FrontAnnounced h x.id

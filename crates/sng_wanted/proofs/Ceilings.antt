@@ -1,0 +1,16 @@
+-- What the limits may come to together. A number that is too great or too small is refused here.
+use Rattle.std.proofs.Common.{ℕ, ◌+◌, ◌*◌, ◌<◌}
+use Rattle.std.proofs.Math.Dec.{lit<}
+use Rattle.sng_outbox.specs.declared.limits.TheConstants.{MAX_IN_FLIGHT}
+use Rattle.sng_fan.specs.declared.limits.TheConstants.{MAX_SUBSCRIPTIONS}
+use Rattle.sng_history.specs.declared.limits.TheConstants.{MAX_CLIENTS}
+use Rattle.sng_wanted.specs.declared.limits.TheConstants.{MAX_WANTED}
+
+-- there is room for the filters of all clients, and for one more
+pub all_have_room : MAX_CLIENTS * MAX_SUBSCRIPTIONS < MAX_WANTED
+all_have_room = lit< tt
+
+-- each publish in flight and each filter for which there is room has at most one packet id, and one of the
+-- 65,535 that there are is always free
+pub ids_suffice : MAX_IN_FLIGHT + MAX_WANTED < 65535
+ids_suffice = lit< tt
