@@ -1,13 +1,2 @@
 pub mod Beginnings
-pub mod Commands
-pub mod Denials
-pub mod Ends
-pub mod Floods
-pub mod Patiences
 pub mod Readings
-pub mod Refusals
-pub mod Rows
-pub mod Standings
-pub mod Texts
-pub mod Tries
-pub mod Verbosities

@@ -1,7 +1,5 @@
--- What the words and lines of an operator are read as.
-use Rattle.std.specs.Prelude.{ℕ, ◌≡◌, List, Ok, true}
-use Rattle.mqtt_frames.specs.Packets.{written}
-use Rattle.mqtt_frames.specs.Parts.{connect_of_parts}
+-- What the lines of an operator are read as.
+use Rattle.std.specs.Prelude.{ℕ, ◌≡◌, List, Ok}
 use Rattle.sng_desk.specs.declared.source.Got.{Got}
 use Rattle.sng_desk.specs.declared.source.Got.TheVariants.{Came, Nothing, Failed, Ended}
 use Rattle.sng_grants.specs.declared.policy.Policy.{Policy}
@@ -13,7 +11,3 @@ IsPolicyOf text (Came policy) = policy_of text ≡ Ok policy
 IsPolicyOf text Nothing = Unit {0}
 IsPolicyOf text Failed = Unit {0}
 IsPolicyOf text Ended = Unit {0}
-
--- the CONNECT of the gateway with this id: a clean session, and a keep alive of 60 s
-abbrev pub gateway_connect : List ℕ → List ℕ
-gateway_connect id = written (connect_of_parts id true 60)

@@ -1,14 +1,14 @@
 //! What all workers of a running gateway share beside the desk: whether they are to stop, and how those that
 //! wait are woken.
 
-use crate::answers::Answers;
 use crate::bell::Bell;
 use crate::board::Board;
-use crate::ends::Halt;
-use crate::flood::Flood;
 use crate::tally::Tally;
 use crate::token::Token;
-use crate::verbosity::Verbosity;
+use sng_bounds::answers::Answers;
+use sng_bounds::flood::Flood;
+use sng_operator::ends::Halt;
+use sng_operator::verbosity::Verbosity;
 use std::alloc::Global;
 use std::fmt::Display;
 use std::sync::atomic::{AtomicBool, AtomicU8, Ordering};

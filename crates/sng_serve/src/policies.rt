@@ -4,23 +4,23 @@ ghost use Rattle.std.specs.Prelude.{◌≡◌, ◌≢◌, ◌⊎◌, [], false, 
 ghost use Rattle.sng_serve.specs.Readings.{IsPolicyOf};
 ghost use Rattle.sng_desk.specs.declared.source.Got.TheVariants.{Ended as ended_answer, Failed as failed_answer};
 
-use crate::commands::{Command, HELP, command_of, push_unknown};
 use crate::hub::Hub;
-use crate::in_force::InForce;
-use crate::lists::Lists;
 use crate::patient::{InputWatch, PatientReader};
 use crate::reports::tell_report;
 use sng_desk::{Got, Policies};
-use sng_gateway::file::read_text;
 use sng_gateway::input::read_line;
 use sng_gateway::may::push_refused;
 use sng_grants::Policy;
+use sng_operator::ask::file_text;
+use sng_operator::commands::{Command, HELP, command_of, push_unknown};
+use sng_operator::in_force::InForce;
+use sng_operator::lists::Lists;
 use sng_scope::{PolicyFault, read_policy};
 use sng_text::Octets;
 use std::alloc::AllocError;
 use std::io::BufReader;
 use std::rt::{Clock, Files};
-use std::{fs, io, str};
+use std::str;
 
 /// How many bytes of standard input are read at a time.
 const BUFFER_BYTES: usize = 65536;
@@ -177,11 +177,6 @@ impl<'a, R: Clock + Input + Print + Eprint + Files + AllocGlobal> Policies
     fn ended(&self) -> bool {
         self.has_ended
     }
-}
-
-/// The text of the file.
-pub fn file_text<R: Files + AllocGlobal>(rt: &R, path: &str) -> io::Result<Vec<u8>> {
-    read_text(rt.alloc(), fs::open(rt, path)?)
 }
 
 /// The policy that the text is, with its warnings told. One that is refused is told, and replaces nothing; one

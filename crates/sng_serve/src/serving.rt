@@ -1,24 +1,19 @@
 //! `sng serve`: the gateway between devices and a broker.
 
-use crate::ask::{Ask, Fault, Words, ask_of};
 use crate::beats::SystemBeats;
 use crate::beginning::{Beginning, begin};
 use crate::bell::Ear;
 use crate::closing::Accounts;
 use crate::descriptors::{EMPTY, hold};
-use crate::ends::End;
 use crate::hub::Hub;
 use crate::limits::FULL_ROWS;
 use crate::link::BrokerLink;
-use crate::lists::Lists;
 use crate::opening::{Ears, NotBegun, ServingCrew, Shared, crew_of, make_shared, open, tell_open};
 use crate::policies::OperatorPolicies;
 use crate::printing::{Printed, start_printer};
-use crate::roles::{OTHERS, Roles};
 use crate::socket::Socket;
 use crate::switch::Switch;
 use crate::tell::tell;
-use crate::verbosity::Verbosity;
 use crate::writers::{ERRORS_PATIENCE_MS, OUTPUT_PATIENCE_MS, wait_for};
 use sng_desk::{
     Beats, Crew, Datagrams, Desk, Ended, Gate, NotStarted, Policies, Share, Terms, Upstream,
@@ -26,6 +21,11 @@ use sng_desk::{
 };
 use sng_gateway::Status;
 use sng_gateway::ending::ended;
+use sng_operator::ask::{Ask, Fault, Words, ask_of};
+use sng_operator::ends::End;
+use sng_operator::lists::Lists;
+use sng_operator::roles::{OTHERS, Roles};
+use sng_operator::verbosity::Verbosity;
 use sng_scope::read_policy;
 use std::alloc::{AllocError, Global};
 use std::io::Write;

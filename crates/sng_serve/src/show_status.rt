@@ -1,8 +1,10 @@
 //! `status`: the desk is held while it is counted, and the lines are posted when it is free again.
+ghost use Rattle.std.specs.Prelude.{◌≡◌, length};
+ghost use Rattle.sng_core.specs.Census.{census_of};
 
 use crate::hub::Hub;
-use crate::status::{push_status, standing_of};
 use sng_desk::Desk;
+use sng_operator::status::{Standing, push_status};
 use std::sync::{Mutex, Wait};
 
 /// Prints how the gateway stands, or tells that it cannot.
@@ -13,5 +15,18 @@ pub fn show_status<R: Wait + AllocGlobal>(rt: &R, hub: &Hub, desk: &Mutex<Desk>)
         hub.print(text);
     } else {
         hub.tell("no status: allocation failed");
+    }
+}
+
+/// How the gateway stands now. It takes no memory, and one walk over the clients.
+pub fn standing_of(desk: &Desk) -> Standing
+    ensures census { result.census ≡ census_of desk.now.state }
+    ensures rows { result.rows ≡ length desk.now.rows }
+    ensures limit { result.limit ≡ desk.now.limit }
+{
+    Standing {
+        census: desk.census(),
+        rows: desk.book().len() as u64,
+        limit: desk.limit(),
     }
 }

@@ -4,9 +4,10 @@ ghost use Rattle.std.specs.Prelude.{◌≡◌, ◌≢◌, ◌≤◌, ◌<◌, �
 ghost use Rattle.sng_desk.specs.declared.source.Got.TheVariants.{Ended as ended_answer, Failed as failed_answer};
 
 use crate::hub::Hub;
-use crate::paths::Paths;
 use sng_book::Address;
+use sng_bounds::paths::Paths;
 use sng_desk::{Datagrams, Got};
+use sng_operator::ask::socket_address;
 use sng_text::Octets;
 use std::alloc::{AllocError, Global};
 use std::io::{Error, ErrorKind};
@@ -269,10 +270,4 @@ fn address_of(from: SocketAddrV4) -> Address {
         ip: from.ip().octets(),
         port: from.port(),
     }
-}
-
-/// The address as the system's calls take it.
-pub fn socket_address(address: Address) -> SocketAddr {
-    let [a, b, c, d] = address.ip;
-    SocketAddr::V4(SocketAddrV4::new(Ipv4Addr::new(a, b, c, d), address.port))
 }

@@ -2,15 +2,15 @@
 //! and tells an operator what came of acts and workers.
 ghost use Rattle.std.specs.Prelude.{true};
 
-use crate::denials::denies_all;
-use crate::ends::Halt;
 use crate::hub::Hub;
 use crate::limits::{FULL_ROWS, NEARLY_FULL_ROWS};
-use crate::roles::{Role, Roles};
 use crate::socket::second_of;
 use crate::tally::Tally;
 use sng_book::Event;
 use sng_desk::{ActFault, Gate, Receipt, WorkerFault};
+use sng_operator::denials::denies_all;
+use sng_operator::ends::Halt;
+use sng_operator::roles::{Role, Roles};
 use std::rt::Clock;
 use std::sync::Wait;
 use std::sync::atomic::{AtomicU64, Ordering};

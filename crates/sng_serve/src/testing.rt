@@ -1,6 +1,5 @@
 //! `sng broker`: the test broker over TCP, on one thread.
 
-use crate::ask::socket_address_of;
 use crate::peer::{Heard, Peer};
 use crate::tell::tell;
 use mio::net::TcpListener;
@@ -9,6 +8,7 @@ use mqtt_frames::Packet;
 use sng_broker::BrokerCore;
 use sng_gateway::Status;
 use sng_gateway::ending::ended;
+use sng_operator::ask::socket_address_of;
 use std::alloc::{AllocError, Global};
 use std::io;
 use std::net::{Net, SocketAddr};

@@ -2,9 +2,9 @@
 
 use crate::bell::Ear;
 use crate::hub::Hub;
-use crate::loss::Loss;
 use mio::net::TcpStream;
 use mio::{Interest, Token};
+use sng_bounds::loss::Loss;
 use std::io;
 use std::net::{Net, SocketAddr};
 use std::rt::Clock;

@@ -1,0 +1,4 @@
+pub mod Floods
+pub mod Patiences
+pub mod Refusals
+pub mod Tries

@@ -1,0 +1,13 @@
+//! What bounds a running gateway, as plain values: what is passed over, held back or not sent, how long it waits
+//! for the broker, and why it gives a connection up.
+#![tactic(auto)]
+
+pub mod answers;
+pub mod flood;
+pub mod loss;
+pub mod paths;
+pub mod patience;
+pub mod refusal;
+pub mod tries;
+
+pub use flood::FloodLimits;

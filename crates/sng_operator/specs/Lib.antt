@@ -1,0 +1,8 @@
+pub mod Commands
+pub mod Denials
+pub mod Ends
+pub mod Readings
+pub mod Rows
+pub mod Standings
+pub mod Texts
+pub mod Verbosities

@@ -1,0 +1,46 @@
+//! How `sng serve` ends.
+ghost use Rattle.std.specs.Prelude.{◌≡◌};
+ghost use Rattle.sng_operator.specs.Ends.{exit_code};
+
+use sng_gateway::Status;
+
+/// Why a gateway ends by itself.
+#[derive(Clone, Copy, Debug, PartialEq, Eq)]
+pub enum Halt {
+    /// The book has as many rows as it may have.
+    FullBook,
+    /// A worker without which nobody is served gave up.
+    LostWorker,
+}
+
+/// How `sng serve` came out.
+#[derive(Clone, Copy, Debug, PartialEq, Eq)]
+pub enum End {
+    /// As any command.
+    Command(Status),
+    /// It ended by itself, and its rows were closed.
+    Halted(Halt),
+}
+
+impl End {
+    /// The exit status: 5 where the book is full, 6 where a worker gave up, else that of the command.
+    pub fn code(self) -> u8
+        ensures { result ≡ exit_code self }
+    {
+        match self {
+            End::Command(status) => status.code(),
+            End::Halted(Halt::FullBook) => 5,
+            End::Halted(Halt::LostWorker) => 6,
+        }
+    }
+}
+
+impl From<Status> for End {
+    ghost use Rattle.sng_operator.specs.declared.ends.End.TheVariants.{Command};
+
+    ghost from_gives = { λ status end. end ≡ Command status };
+
+    fn from(status: Status) -> End {
+        End::Command(status)
+    }
+}

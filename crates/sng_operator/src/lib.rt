@@ -1,0 +1,19 @@
+//! What an operator of a running gateway says, and what an operator sees: the words of the command line, the
+//! lines of standard input, rows, denials and how the gateway stands and ends.
+#![tactic(auto)]
+
+pub mod ask;
+pub mod commands;
+pub mod denials;
+pub mod ends;
+pub mod in_force;
+pub mod lists;
+pub mod news;
+pub mod pace;
+pub mod roles;
+pub mod rows;
+pub mod status;
+pub mod verbosity;
+
+pub use ask::Words;
+pub use ends::End;

@@ -1,7 +1,0 @@
-use Rattle.sng_serve.proofs.Appends.{three}
-use Rattle.sng_serve.proofs.status.push_policy.Goals as goal
-
-pub returns : goal.returns
-returns c =
-    three _ _ _ _ _ _ _ _
-    c.in_ok-push_count.ensures c.in_ok-push_count-2.ensures c.push_last.ensures
