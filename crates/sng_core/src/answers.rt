@@ -4,7 +4,7 @@ ghost use Rattle.sng_history.specs.Answers.{denied_note, code_of, refused, dismi
 ghost use Rattle.sng_history.specs.Answers.{no_flags};
 ghost use Rattle.sng_frames.specs.Writing.{written};
 
-use sng_book::{Address, Decision, Denial, Out, Outcome, Outs, Who};
+use sng_book::{Address, Decision, Denial, Out, Outcome, Outs, OutsPair, Who};
 use sng_frames::{
     Connect, Flags, FrameQos, ReturnCode, SnFrame, SubscribeAck, TopicAck, TopicIdType,
     write_connect_ack, write_disconnect, write_ping_response, write_publish_ack,
@@ -222,11 +222,12 @@ pub fn pong(alloc: Global, to: Address) -> Result<Out, AllocError>
     Ok(Out::Send(to, Octets::from(datagram)))
 }
 
-/// One out alone.
-pub fn only(alloc: Global, out: Out) -> Result<Outs, AllocError>
+/// One out alone, for both owners.
+pub fn only(alloc: Global, out: Out) -> Result<OutsPair, AllocError>
     ensures { IfOk result (λ outs. outs ≡ out ∷ []) }
 {
     let mut outs = Outs::with_capacity(alloc, 1)?;
     outs.push(out)?;
+    let outs = OutsPair::of(alloc, outs)?;
     Ok(outs)
 }

@@ -15,7 +15,7 @@ ghost use Rattle.sng_core.specs.Confirming.{acknowledge_outs, acknowledge_next};
 use crate::messages::{denied_frame, no_session_frame};
 use crate::serve::serve_plan;
 use crate::turn::note_hand;
-use sng_book::{Address, Denial, Outcome, Outs};
+use sng_book::{Address, Denial, Outcome, Outs, OutsPair};
 use sng_frames::TopicAck;
 use sng_grants::Policy;
 use sng_queue::{Exchange, Sending};
@@ -30,7 +30,7 @@ pub fn confirm(
     from: Address,
     answer: TopicAck,
     sessions: &mut Sessions,
-) -> Result<Outs, AllocError>
+) -> Result<OutsPair, AllocError>
     ensures outs { IfOk result (λ outs. outs
         ≡ found_outs (stranger_to from (ToConfirm answer)) (confirm_outs policy.now answer)
         (at_place sessions.old (place_at from sessions.old))) }
@@ -54,7 +54,7 @@ fn confirm_at(
     answer: TopicAck,
     sessions: &mut Sessions,
     place: usize,
-) -> Result<Outs, AllocError>
+) -> Result<OutsPair, AllocError>
     requires { place < length sessions.old }
     ensures outs { IfOk result (λ outs. outs
         ≡ confirm_outs policy.now answer (client_at sessions.old place)) }
@@ -66,8 +66,8 @@ fn confirm_at(
         let outs = out_of_turn(alloc, clock, sessions, place)?;
         return Ok(outs);
     }
-    let mut outs = Outs::new(alloc);
-    confirm_in_turn(alloc, policy, clock, answer, sessions, place, &mut outs)?;
+    let none = Outs::new(alloc);
+    let outs = confirm_in_turn(alloc, policy, clock, answer, sessions, place, none)?;
     Ok(outs)
 }
 
@@ -79,17 +79,17 @@ fn confirm_in_turn(
     answer: TopicAck,
     sessions: &mut Sessions,
     place: usize,
-    outs: &mut Outs,
-) -> Result<(), AllocError>
+    outs: Outs,
+) -> Result<OutsPair, AllocError>
     requires { place < length sessions.old }
-    ensures outs { OnOk result (outs.new ≡ outs.old
+    ensures outs { IfOk result (λ pair. pair ≡ outs
         ++ confirming_outs policy.now answer (client_at sessions.old place)) }
     ensures next { OnOk result (sessions.new
         ≡ moved_at place (confirming_next policy.now clock answer) sessions.old) }
     ensures err { OnErr result (sessions.new ≡ sessions.old) }
 {
     if answer.code.0 == 0 {
-        serve(
+        let served = serve(
             alloc,
             policy,
             clock,
@@ -99,10 +99,10 @@ fn confirm_in_turn(
             0,
             outs,
         )?;
-        Ok(())
+        Ok(served)
     } else {
-        refuse(alloc, policy, clock, answer.code.0, sessions, place, outs)?;
-        Ok(())
+        let refused = refuse(alloc, policy, clock, answer.code.0, sessions, place, outs)?;
+        Ok(refused)
     }
 }
 
@@ -114,7 +114,7 @@ pub fn acknowledge(
     from: Address,
     answer: TopicAck,
     sessions: &mut Sessions,
-) -> Result<Outs, AllocError>
+) -> Result<OutsPair, AllocError>
     ensures outs { IfOk result (λ outs. outs
         ≡ found_outs (stranger_to from (ToAcknowledge answer)) (acknowledge_outs policy.now answer)
         (at_place sessions.old (place_at from sessions.old))) }
@@ -138,7 +138,7 @@ fn acknowledge_at(
     answer: TopicAck,
     sessions: &mut Sessions,
     place: usize,
-) -> Result<Outs, AllocError>
+) -> Result<OutsPair, AllocError>
     requires { place < length sessions.old }
     ensures outs { IfOk result (λ outs. outs
         ≡ acknowledge_outs policy.now answer (client_at sessions.old place)) }
@@ -150,8 +150,8 @@ fn acknowledge_at(
         let outs = out_of_turn(alloc, clock, sessions, place)?;
         return Ok(outs);
     }
-    let mut outs = Outs::new(alloc);
-    serve(alloc, policy, clock, sessions, place, 0, 0, &mut outs)?;
+    let none = Outs::new(alloc);
+    let outs = serve(alloc, policy, clock, sessions, place, 0, 0, none)?;
     Ok(outs)
 }
 
@@ -165,11 +165,11 @@ fn serve(
     place: usize,
     confirming: u16,
     first: usize,
-    outs: &mut Outs,
-) -> Result<(), AllocError>
+    mut outs: Outs,
+) -> Result<OutsPair, AllocError>
     requires place { place < length sessions.old }
     requires first { first ≤ length (client_at sessions.old place).buffer.waiting }
-    ensures outs { OnOk result (outs.new ≡ outs.old
+    ensures outs { IfOk result (λ pair. pair ≡ outs
         ++ served_outs policy.now confirming first (client_at sessions.old place)) }
     ensures next { OnOk result (sessions.new
         ≡ moved_at place (served_next policy.now clock confirming first) sessions.old) }
@@ -177,12 +177,13 @@ fn serve(
 {
     let phase = sessions.phase(place);
     let handed = serve_plan(
-        alloc, policy, phase, sessions, place, confirming, first, outs,
+        alloc, policy, phase, sessions, place, confirming, first, &mut outs,
     )?;
+    let pair = OutsPair::of(alloc, outs)?;
     sessions.answer(place, confirming, clock);
     sessions.hand(place, handed, clock);
     sessions.change(place, Change::Drains, clock);
-    Ok(())
+    Ok(pair)
 }
 
 /// The message for which the id was announced comes out so, and what waits behind it is handed over.
@@ -193,23 +194,24 @@ fn refuse(
     code: u8,
     sessions: &mut Sessions,
     place: usize,
-    outs: &mut Outs,
-) -> Result<(), AllocError>
+    mut outs: Outs,
+) -> Result<OutsPair, AllocError>
     requires { place < length sessions.old }
-    ensures outs { OnOk result (let x = client_at sessions.old place in outs.new ≡ outs.old
+    ensures outs { IfOk result (λ pair. let x = client_at sessions.old place in pair ≡ outs
         ++ refusing_outs policy.now code x x.buffer.waiting) }
     ensures next { OnOk result (sessions.new
         ≡ moved_at place (λ x. refusing_next policy.now clock x x.buffer.waiting) sessions.old) }
     ensures err { OnErr result (sessions.new ≡ sessions.old) }
 {
     let Some(front) = sessions.queue(place).at(0) else {
+        let pair = OutsPair::of(alloc, outs)?;
         sessions.hear(place, clock);
-        return Ok(());
+        return Ok(pair);
     };
     let denied = Outcome::Denied(Denial::ClientRefused(code));
-    note_hand(sessions.id(place), front.name(), denied, outs)?;
-    serve(alloc, policy, clock, sessions, place, 0, 1, outs)?;
-    Ok(())
+    note_hand(sessions.id(place), front.name(), denied, &mut outs)?;
+    let served = serve(alloc, policy, clock, sessions, place, 0, 1, outs)?;
+    Ok(served)
 }
 
 /// It is noted, and its client is heard.
@@ -218,7 +220,7 @@ fn out_of_turn(
     clock: u64,
     sessions: &mut Sessions,
     place: usize,
-) -> Result<Outs, AllocError>
+) -> Result<OutsPair, AllocError>
     requires { place < length sessions.old }
     ensures outs { IfOk result (λ outs. outs ≡ broken_outs Denial.OutOfTurn (client_at sessions.old place)) }
     ensures next { OnOk result (sessions.new ≡ moved_at place (heard_at clock) sessions.old) }

@@ -12,7 +12,7 @@ ghost use Rattle.sng_core.specs.Stating.{said};
 use crate::parts::Parts;
 use crate::stating::Statement;
 use crate::{confirm, messages, register, sleep, statement};
-use sng_book::{Address, Denial, Outs};
+use sng_book::{Address, Denial, OutsPair};
 use sng_frames::{
     FrameFault, FrameQos, Publish, Register, SnFrame, TopicAck, TopicRequest, decode,
 };
@@ -26,7 +26,7 @@ impl Parts {
         alloc: Global,
         from: Address,
         datagram: &[u8],
-    ) -> Result<Outs, AllocError>
+    ) -> Result<OutsPair, AllocError>
         requires { Good self.old }
         ensures outs { IfOk result (λ outs. outs
             ≡ outs_by self.old (datagram_cause from (frame_of datagram.now))) }
@@ -44,7 +44,12 @@ impl Parts {
     }
 
     /// A message from this address.
-    fn message(&mut self, alloc: Global, from: Address, frame: SnFrame) -> Result<Outs, AllocError>
+    fn message(
+        &mut self,
+        alloc: Global,
+        from: Address,
+        frame: SnFrame,
+    ) -> Result<OutsPair, AllocError>
         requires { Good self.old }
         ensures outs { IfOk result (λ outs. outs ≡ outs_by self.old (frame_cause from frame)) }
         ensures next { OnOk result (self.new ≡ next_by self.old (frame_cause from frame)) }
@@ -125,7 +130,7 @@ impl Parts {
         alloc: Global,
         from: Address,
         request: TopicRequest,
-    ) -> Result<Outs, AllocError>
+    ) -> Result<OutsPair, AllocError>
         requires { Good self.old }
         ensures outs { IfOk result (λ outs. outs ≡ outs_by self.old (ByMessage from (ToSubscribe request))) }
         ensures next { OnOk result (self.new ≡ next_by self.old (ByMessage from (ToSubscribe request))) }
@@ -141,7 +146,7 @@ impl Parts {
         alloc: Global,
         from: Address,
         request: TopicRequest,
-    ) -> Result<Outs, AllocError>
+    ) -> Result<OutsPair, AllocError>
         requires { Good self.old }
         ensures outs { IfOk result (λ outs. outs
             ≡ outs_by self.old (ByMessage from (ToUnsubscribe request))) }
@@ -158,7 +163,7 @@ impl Parts {
         alloc: Global,
         from: Address,
         register: Register,
-    ) -> Result<Outs, AllocError>
+    ) -> Result<OutsPair, AllocError>
         requires { Good self.old }
         ensures outs { IfOk result (λ outs. outs ≡ outs_by self.old (ByMessage from (ToRegister register))) }
         ensures next { OnOk result (self.new ≡ next_by self.old (ByMessage from (ToRegister register))) }
@@ -175,7 +180,7 @@ impl Parts {
         alloc: Global,
         from: Address,
         answer: TopicAck,
-    ) -> Result<Outs, AllocError>
+    ) -> Result<OutsPair, AllocError>
         requires { Good self.old }
         ensures outs { IfOk result (λ outs. outs ≡ outs_by self.old (ByMessage from (ToConfirm answer))) }
         ensures next { OnOk result (self.new ≡ next_by self.old (ByMessage from (ToConfirm answer))) }
@@ -192,7 +197,7 @@ impl Parts {
         alloc: Global,
         from: Address,
         answer: TopicAck,
-    ) -> Result<Outs, AllocError>
+    ) -> Result<OutsPair, AllocError>
         requires { Good self.old }
         ensures outs { IfOk result (λ outs. outs
             ≡ outs_by self.old (ByMessage from (ToAcknowledge answer))) }
@@ -210,7 +215,7 @@ impl Parts {
         alloc: Global,
         from: Address,
         statement: Statement,
-    ) -> Result<Outs, AllocError>
+    ) -> Result<OutsPair, AllocError>
         requires { Good self.old }
         ensures outs { IfOk result (λ outs. outs
             ≡ outs_by self.old (ByMessage from (ToState (said statement)))) }
@@ -228,7 +233,7 @@ impl Parts {
         alloc: Global,
         from: Address,
         publish: Publish,
-    ) -> Result<Outs, AllocError>
+    ) -> Result<OutsPair, AllocError>
         requires { Good self.old }
         ensures outs { IfOk result (λ outs. outs
             ≡ outs_by self.old (publish_cause from publish publish.flags.qos)) }
@@ -245,7 +250,12 @@ impl Parts {
     }
 
     /// A PUBLISH without a session.
-    fn source(&mut self, alloc: Global, from: Address, publish: Publish) -> Result<Outs, AllocError>
+    fn source(
+        &mut self,
+        alloc: Global,
+        from: Address,
+        publish: Publish,
+    ) -> Result<OutsPair, AllocError>
         requires { Good self.old }
         ensures outs { IfOk result (λ outs. outs ≡ outs_by self.old (BySource from publish)) }
         ensures next { OnOk result (self.new ≡ next_by self.old (BySource from publish)) }
@@ -256,7 +266,12 @@ impl Parts {
     }
 
     /// A PUBLISH of a session, at QoS 0 or 1.
-    fn carry(&mut self, alloc: Global, from: Address, publish: Publish) -> Result<Outs, AllocError>
+    fn carry(
+        &mut self,
+        alloc: Global,
+        from: Address,
+        publish: Publish,
+    ) -> Result<OutsPair, AllocError>
         requires { Good self.old }
         ensures outs { IfOk result (λ outs. outs ≡ outs_by self.old (ByMessage from (ToPublish publish))) }
         ensures next { OnOk result (self.new ≡ next_by self.old (ByMessage from (ToPublish publish))) }
@@ -272,7 +287,7 @@ impl Parts {
         alloc: Global,
         from: Address,
         client: Option<ClientId>,
-    ) -> Result<Outs, AllocError>
+    ) -> Result<OutsPair, AllocError>
         requires { Good self.old }
         ensures outs { IfOk result (λ outs. outs ≡ outs_by self.old (ByMessage from (ToPing client))) }
         ensures next { OnOk result (self.new ≡ next_by self.old (ByMessage from (ToPing client))) }
@@ -289,7 +304,7 @@ impl Parts {
         alloc: Global,
         from: Address,
         duration: Option<u16>,
-    ) -> Result<Outs, AllocError>
+    ) -> Result<OutsPair, AllocError>
         requires { Good self.old }
         ensures outs { IfOk result (λ outs. outs ≡ outs_by self.old (disconnect_cause from duration)) }
         ensures next { OnOk result (self.new ≡ next_by self.old (disconnect_cause from duration)) }
@@ -302,7 +317,7 @@ impl Parts {
     }
 
     /// A DISCONNECT with Duration.
-    fn sleep(&mut self, alloc: Global, from: Address, duration: u16) -> Result<Outs, AllocError>
+    fn sleep(&mut self, alloc: Global, from: Address, duration: u16) -> Result<OutsPair, AllocError>
         requires { Good self.old }
         ensures outs { IfOk result (λ outs. outs ≡ outs_by self.old (ByMessage from (ToSleep duration))) }
         ensures next { OnOk result (self.new ≡ next_by self.old (ByMessage from (ToSleep duration))) }
@@ -313,7 +328,7 @@ impl Parts {
     }
 
     /// A DISCONNECT without Duration.
-    fn leave(&mut self, alloc: Global, from: Address) -> Result<Outs, AllocError>
+    fn leave(&mut self, alloc: Global, from: Address) -> Result<OutsPair, AllocError>
         requires { Good self.old }
         ensures outs { IfOk result (λ outs. outs ≡ outs_by self.old (ByMessage from ToLeave)) }
         ensures next { OnOk result (self.new ≡ next_by self.old (ByMessage from ToLeave)) }
@@ -329,7 +344,7 @@ impl Parts {
         alloc: Global,
         from: Address,
         message: SnFrame,
-    ) -> Result<Outs, AllocError>
+    ) -> Result<OutsPair, AllocError>
         requires { Good self.old }
         ensures outs { IfOk result (λ outs. outs ≡ outs_by self.old (ByMessage from (Untaken message))) }
         ensures next { OnOk result (self.new ≡ next_by self.old (ByMessage from (Untaken message))) }
@@ -340,7 +355,7 @@ impl Parts {
     }
 
     /// A datagram that is not a message, by the rule that it breaks.
-    fn broken(&mut self, alloc: Global, from: Address, rule: Denial) -> Result<Outs, AllocError>
+    fn broken(&mut self, alloc: Global, from: Address, rule: Denial) -> Result<OutsPair, AllocError>
         requires { Good self.old }
         ensures outs { IfOk result (λ outs. outs ≡ outs_by self.old (ByBroken from rule)) }
         ensures next { OnOk result (self.new ≡ next_by self.old (ByBroken from rule)) }

@@ -16,7 +16,7 @@ use crate::answers::{code_of, connack, dismissed, welcome};
 use crate::hand_over::{all_gone, hand_over};
 use crate::parts::Parts;
 use crate::verdict::entry;
-use sng_book::{Address, Decision, Denial, Out, Outcome, Outs};
+use sng_book::{Address, Decision, Denial, Out, Outcome, Outs, OutsPair};
 use sng_fan::Held;
 use sng_frames::Connect;
 use sng_grants::Policy;
@@ -33,7 +33,7 @@ impl Parts {
         alloc: Global,
         from: Address,
         connect: Connect,
-    ) -> Result<Outs, AllocError>
+    ) -> Result<OutsPair, AllocError>
         requires { Good self.old }
         ensures outs { IfOk result (λ outs. outs ≡ outs_by self.old (ByConnect from connect)) }
         ensures next { OnOk result (self.new ≡ next_by self.old (ByConnect from connect)) }
@@ -49,7 +49,7 @@ impl Parts {
         alloc: Global,
         from: Address,
         connect: Connect,
-    ) -> Result<Outs, AllocError>
+    ) -> Result<OutsPair, AllocError>
         ensures outs { IfOk result (λ outs. outs
             ≡ connect_outs self.old from connect (entry self.old connect)) }
         ensures next { OnOk result (self.new
@@ -73,7 +73,12 @@ impl Parts {
 
     /// It is accepted. What a clean session ends, and nobody else holds, is let go of upstream; after any
     /// other what waits is handed over.
-    fn accept(&mut self, alloc: Global, from: Address, connect: Connect) -> Result<Outs, AllocError>
+    fn accept(
+        &mut self,
+        alloc: Global,
+        from: Address,
+        connect: Connect,
+    ) -> Result<OutsPair, AllocError>
         ensures outs { IfOk result (λ outs. outs ≡ connect_outs self.old from connect Outcome.Allowed) }
         ensures next { OnOk result (self.new ≡ connect_next self.old from connect Outcome.Allowed) }
         ensures err { OnErr result (self.new ≡ self.old) }
@@ -92,6 +97,7 @@ impl Parts {
             place,
             &mut outs,
         )?;
+        let outs = OutsPair::of(alloc, outs)?;
         enter(
             alloc,
             from,
@@ -340,12 +346,13 @@ fn refused_outs(
     from: Address,
     id: &ClientId,
     rule: Denial,
-) -> Result<Outs, AllocError>
+) -> Result<OutsPair, AllocError>
     ensures { IfOk result (λ outs. outs ≡ refused_outs from id.now rule) }
 {
     let mut outs = Outs::with_capacity(alloc, 2)?;
     let code = code_of(&rule);
     outs.push(Out::Note(Decision::Connect(id.copy()?, Outcome::Denied(rule))))?;
     outs.push(connack(alloc, from, code)?)?;
+    let outs = OutsPair::of(alloc, outs)?;
     Ok(outs)
 }

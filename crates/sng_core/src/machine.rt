@@ -6,7 +6,7 @@ ghost use Rattle.sng_core.specs.Census.{census_of};
 
 use crate::census::Census;
 use crate::parts::Parts;
-use sng_book::{Event, Outs};
+use sng_book::{Event, OutsPair};
 use std::alloc::{AllocError, Global};
 use std::marker::Model;
 
@@ -42,7 +42,7 @@ impl Core {
     /// One step. After any lawful history that leads to the state before, the row of this event and these
     /// outs may come, and leads to the state after. An `Err` is a failed allocation; nothing changed, and
     /// there is no row.
-    pub fn step(&mut self, alloc: Global, event: Event) -> Result<Outs, AllocError>
+    pub fn step(&mut self, alloc: Global, event: Event) -> Result<OutsPair, AllocError>
         ensures kept { IfOk result (λ outs. Keeps self.old event outs self.new) }
         ensures err { OnErr result (self.new ≡ self.old) }
     {

@@ -9,7 +9,7 @@ ghost use Rattle.sng_core.specs.Forms.{found_outs, left_outs, unsupported_outs, 
 
 use crate::answers::{denied_note, dismissed, only, refused};
 use crate::hand_over::all_gone;
-use sng_book::{Address, Decision, Denial, Out, Outcome, Outs, Who};
+use sng_book::{Address, Decision, Denial, Out, Outcome, Outs, OutsPair, Who};
 use sng_frames::SnFrame;
 use sng_sessions::Sessions;
 use std::alloc::{AllocError, Global};
@@ -20,7 +20,7 @@ pub fn leave(
     clock: u64,
     from: Address,
     sessions: &mut Sessions,
-) -> Result<Outs, AllocError>
+) -> Result<OutsPair, AllocError>
     ensures outs { IfOk result (λ outs. outs
         ≡ found_outs (stranger_to from ToLeave) left_outs
         (at_place sessions.old (place_at from sessions.old))) }
@@ -37,7 +37,7 @@ pub fn leave(
     Ok(outs)
 }
 
-fn left_outs(alloc: Global, sessions: &Sessions, place: usize) -> Result<Outs, AllocError>
+fn left_outs(alloc: Global, sessions: &Sessions, place: usize) -> Result<OutsPair, AllocError>
     requires { place < length sessions.now }
     ensures { IfOk result (λ outs. outs ≡ left_outs (client_at sessions.now place)) }
 {
@@ -45,6 +45,7 @@ fn left_outs(alloc: Global, sessions: &Sessions, place: usize) -> Result<Outs, A
     outs.push(Out::Note(Decision::Left(sessions.id(place).copy()?)))?;
     outs.push(dismissed(alloc, sessions.address(place))?)?;
     all_gone(sessions.id(place), sessions.queue(place), &mut outs)?;
+    let outs = OutsPair::of(alloc, outs)?;
     Ok(outs)
 }
 
@@ -54,7 +55,7 @@ pub fn denied_frame(
     sessions: &Sessions,
     place: usize,
     rule: Denial,
-) -> Result<Outs, AllocError>
+) -> Result<OutsPair, AllocError>
     requires { place < length sessions.now }
     ensures { IfOk result (λ outs. outs ≡ broken_outs rule (client_at sessions.now place)) }
 {
@@ -72,7 +73,7 @@ pub fn unsupported(
     from: Address,
     message: &SnFrame,
     sessions: &mut Sessions,
-) -> Result<Outs, AllocError>
+) -> Result<OutsPair, AllocError>
     ensures outs { IfOk result (λ outs. outs
         ≡ found_outs (stranger_to from (Untaken message.now)) (unsupported_outs message.now)
         (at_place sessions.old (place_at from sessions.old))) }
@@ -95,7 +96,7 @@ fn unsupported_outs(
     message: &SnFrame,
     sessions: &Sessions,
     place: usize,
-) -> Result<Outs, AllocError>
+) -> Result<OutsPair, AllocError>
     requires { place < length sessions.now }
     ensures { IfOk result (λ outs. outs ≡ unsupported_outs message.now (client_at sessions.now place)) }
 {
@@ -109,6 +110,7 @@ fn unsupported_outs(
         &Denial::NotSupported,
         &mut outs,
     )?;
+    let outs = OutsPair::of(alloc, outs)?;
     Ok(outs)
 }
 
@@ -118,7 +120,7 @@ pub fn broken(
     from: Address,
     rule: Denial,
     sessions: &Sessions,
-) -> Result<Outs, AllocError>
+) -> Result<OutsPair, AllocError>
     ensures { IfOk result (λ outs. outs
         ≡ found_outs (Out.Note (Decision.Frame (Who.Address from) (Outcome.Denied rule)) ∷ [])
         (broken_outs rule)
@@ -133,17 +135,18 @@ pub fn broken(
 
 /// A message that needs a session comes from an address that has none: it is noted, and answered by
 /// DISCONNECT.
-pub fn no_session(alloc: Global, from: Address, note: Decision) -> Result<Outs, AllocError>
+pub fn no_session(alloc: Global, from: Address, note: Decision) -> Result<OutsPair, AllocError>
     ensures { IfOk result (λ outs. outs ≡ Out.Note note ∷ dismissed from ∷ []) }
 {
     let mut outs = Outs::with_capacity(alloc, 2)?;
     outs.push(Out::Note(note))?;
     outs.push(dismissed(alloc, from)?)?;
+    let outs = OutsPair::of(alloc, outs)?;
     Ok(outs)
 }
 
 /// The same of a message that asks for nothing.
-pub fn no_session_frame(alloc: Global, from: Address) -> Result<Outs, AllocError>
+pub fn no_session_frame(alloc: Global, from: Address) -> Result<OutsPair, AllocError>
     ensures { IfOk result (λ outs. outs ≡ stranger_to from ToLeave) }
 {
     let denied = Outcome::Denied(Denial::NoSession);

@@ -18,14 +18,14 @@ use crate::deliver::{Incoming, Kept, deliver, keep_all};
 use crate::known::fixed_id;
 use crate::parts::Parts;
 use mqtt_frames::{Packet, Publish, SubscribeAck, SubscribeCode};
-use sng_book::{Decision, Denial, Out, Outcome, Outs, Who};
+use sng_book::{Decision, Denial, Out, Outcome, Outs, OutsPair, Who};
 use sng_sessions::Sessions;
 use sng_text::{Qos, TopicFilter, TopicName};
 use std::alloc::{AllocError, Global};
 
 impl Parts {
     /// A packet of the broker.
-    pub fn packet(&mut self, alloc: Global, packet: Packet) -> Result<Outs, AllocError>
+    pub fn packet(&mut self, alloc: Global, packet: Packet) -> Result<OutsPair, AllocError>
         requires { Good self.old }
         ensures outs { IfOk result (λ outs. outs ≡ outs_by self.old (ByPacket packet)) }
         ensures next { OnOk result (self.new ≡ next_by self.old (ByPacket packet)) }
@@ -35,7 +35,7 @@ impl Parts {
         Ok(outs)
     }
 
-    fn answer(&mut self, alloc: Global, packet: Packet) -> Result<Outs, AllocError>
+    fn answer(&mut self, alloc: Global, packet: Packet) -> Result<OutsPair, AllocError>
         ensures outs { IfOk result (λ outs. outs ≡ packet_outs self.old (answer_of packet)) }
         ensures next { OnOk result (self.new ≡ packet_next self.old (answer_of packet)) }
         ensures err { OnErr result (self.new ≡ self.old) }
@@ -44,12 +44,12 @@ impl Parts {
             Packet::Publish(message) => self.deliver(alloc, message),
             Packet::PublishAck(packet_id) => {
                 self.link.acked(packet_id);
-                Ok(Outs::new(alloc))
+                Ok(OutsPair::empty(alloc))
             }
             Packet::SubscribeAck(answer) => self.subscribe_answered(alloc, answer),
             // What they answer waits for nothing.
-            Packet::UnsubscribeAck(_) => Ok(Outs::new(alloc)),
-            Packet::PingResponse => Ok(Outs::new(alloc)),
+            Packet::UnsubscribeAck(_) => Ok(OutsPair::empty(alloc)),
+            Packet::PingResponse => Ok(OutsPair::empty(alloc)),
             // These a server does not send, or not here.
             Packet::Connect(_) => denied(alloc, Denial::NotSupported),
             Packet::ConnectAck(_) => denied(alloc, Denial::NotSupported),
@@ -62,7 +62,7 @@ impl Parts {
 
     /// A message goes to the clients to whom it is due; one at QoS 1 is to be acknowledged, where there is a
     /// connection.
-    fn deliver(&mut self, alloc: Global, publish: Publish) -> Result<Outs, AllocError>
+    fn deliver(&mut self, alloc: Global, publish: Publish) -> Result<OutsPair, AllocError>
         ensures outs { IfOk result (λ outs. outs ≡ packet_outs self.old (Delivers publish)) }
         ensures next { OnOk result (self.new ≡ packet_next self.old (Delivers publish)) }
         ensures err { OnErr result (self.new ≡ self.old) }
@@ -72,6 +72,7 @@ impl Parts {
         let mut outs = Outs::new(alloc);
         let kept = self.delivered(alloc, publish, &mut outs)?;
         note_dropped(has_place, owed, &mut outs)?;
+        let outs = OutsPair::of(alloc, outs)?;
         keep_all(kept, &mut self.sessions, self.clock);
         if has_place {
             if let Some(packet_id) = owed {
@@ -127,7 +128,7 @@ impl Parts {
         &mut self,
         alloc: Global,
         answer: SubscribeAck,
-    ) -> Result<Outs, AllocError>
+    ) -> Result<OutsPair, AllocError>
         ensures outs { IfOk result (λ outs. outs
             ≡ packet_outs self.old (subscribe_answer answer.packet_id answer.codes)) }
         ensures next { OnOk result (self.new
@@ -139,19 +140,19 @@ impl Parts {
             Ok(outs)
         } else {
             self.link.subscribe_ack(answer.packet_id);
-            Ok(Outs::new(alloc))
+            Ok(OutsPair::empty(alloc))
         }
     }
 
     /// The broker refuses the subscription whose SUBSCRIBE has this packet id: the filter stands for nobody
     /// any more, and is wanted no more. Where none is open nothing happens.
-    fn refuse(&mut self, alloc: Global, packet_id: u16) -> Result<Outs, AllocError>
+    fn refuse(&mut self, alloc: Global, packet_id: u16) -> Result<OutsPair, AllocError>
         ensures outs { IfOk result (λ outs. outs ≡ packet_outs self.old (Refuses packet_id)) }
         ensures next { OnOk result (self.new ≡ packet_next self.old (Refuses packet_id)) }
         ensures err { OnErr result (self.new ≡ self.old) }
     {
         let Some(open) = self.link.filter_open(packet_id) else {
-            return Ok(Outs::new(alloc));
+            return Ok(OutsPair::empty(alloc));
         };
         let filter = open.copy()?;
         let outs = ends(alloc, &self.sessions, &filter)?;
@@ -175,13 +176,14 @@ fn is_refused(codes: &[SubscribeCode]) -> bool
 }
 
 /// The notes that the broker refuses the filter, of each client for whom it stands, in order.
-fn ends(alloc: Global, sessions: &Sessions, filter: &TopicFilter) -> Result<Outs, AllocError>
+fn ends(alloc: Global, sessions: &Sessions, filter: &TopicFilter) -> Result<OutsPair, AllocError>
     ensures { IfOk result (λ outs. outs ≡ end_notes filter.now sessions.now) }
 {
     let mut outs = Outs::new(alloc);
     for place in 0..sessions.len() {
         end(sessions, place, filter, &mut outs)?;
     }
+    let outs = OutsPair::of(alloc, outs)?;
     Ok(outs)
 }
 
@@ -240,7 +242,7 @@ fn note_dropped(has_place: bool, owed: Option<u16>, outs: &mut Outs) -> Result<(
 }
 
 /// The packet is noted as denied, alone.
-fn denied(alloc: Global, rule: Denial) -> Result<Outs, AllocError>
+fn denied(alloc: Global, rule: Denial) -> Result<OutsPair, AllocError>
     ensures { IfOk result (λ outs. outs ≡ Out.Note (Decision.Frame Who.Broker (Outcome.Denied rule)) ∷ []) }
 {
     only(alloc, noted(rule))

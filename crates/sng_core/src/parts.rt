@@ -8,7 +8,7 @@ ghost use Rattle.sng_history.specs.Good.{Good};
 ghost use Rattle.sng_history.specs.Steps.{outs_of, next_of};
 ghost use Rattle.sng_core.specs.Forms.{taken_outs, taken_next, begun_next};
 
-use sng_book::{Event, Outs};
+use sng_book::{Event, OutsPair};
 use sng_grants::Policy;
 use sng_link::Link;
 use sng_sessions::Sessions;
@@ -50,7 +50,7 @@ impl Parts {
     }
 
     /// One step. An `Err` is a failed allocation, and nothing changed.
-    pub fn perform(&mut self, alloc: Global, event: Event) -> Result<Outs, AllocError>
+    pub fn perform(&mut self, alloc: Global, event: Event) -> Result<OutsPair, AllocError>
         requires { Good self.old }
         ensures outs { IfOk result (λ outs. outs ≡ outs_of self.old event) }
         ensures next { OnOk result (self.new ≡ next_of self.old event) }
@@ -62,7 +62,7 @@ impl Parts {
             Event::Up => self.begin_connection(alloc),
             Event::Down => {
                 self.end_connection();
-                Ok(Outs::new(alloc))
+                Ok(OutsPair::empty(alloc))
             }
             Event::Take => self.take(alloc),
             Event::Replace(policy) => self.replace(alloc, policy),
@@ -72,7 +72,7 @@ impl Parts {
 
     /// The broker's connection is up. Where one was up, that one ended; what is in flight is judged and sent
     /// again, and what is wanted is subscribed anew.
-    fn begin_connection(&mut self, alloc: Global) -> Result<Outs, AllocError>
+    fn begin_connection(&mut self, alloc: Global) -> Result<OutsPair, AllocError>
         requires { length self.old.link.wanted < MAX_WANTED }
         ensures outs { IfOk result (λ outs. outs
             ≡ beginning self.old.link self.old.clock (agains_of self.old.policy self.old.link.in_flight)) }
@@ -111,14 +111,14 @@ impl Parts {
     }
 
     /// What waits leaves, where there is a connection.
-    fn take(&mut self, alloc: Global) -> Result<Outs, AllocError>
+    fn take(&mut self, alloc: Global) -> Result<OutsPair, AllocError>
         requires { length self.old.link.wanted < MAX_WANTED }
         ensures outs { IfOk result (λ outs. outs ≡ taken_outs self.old) }
         ensures next { OnOk result (self.new ≡ taken_next self.old) }
         ensures err { OnErr result (self.new ≡ self.old) }
     {
         if !self.is_up {
-            return Ok(Outs::new(alloc));
+            return Ok(OutsPair::empty(alloc));
         }
         let outs = self.link.take(alloc, &self.policy)?;
         Ok(outs)

@@ -15,7 +15,7 @@ use crate::answers::code_of;
 use crate::messages::no_session;
 use crate::parts::Parts;
 use crate::verdict::{Judged, and_then, client_name, copy_name, may_ask, unread};
-use sng_book::{Address, Decision, Denial, Out, Outcome, Outs, Who};
+use sng_book::{Address, Decision, Denial, Out, Outcome, Outs, OutsPair, Who};
 use sng_frames::{
     FrameQos, Publish, ReturnCode, SnFrame, TopicAck, TopicIdType, write_publish_ack,
 };
@@ -33,7 +33,7 @@ impl Parts {
         alloc: Global,
         from: Address,
         publish: Publish,
-    ) -> Result<Outs, AllocError>
+    ) -> Result<OutsPair, AllocError>
         ensures outs { IfOk result (λ outs. outs
             ≡ found_outs (stranger_to from (ToPublish publish)) (carried_outs self.old publish)
             (at_place self.old.clients (place_at from self.old.clients))) }
@@ -140,7 +140,7 @@ fn noted(
     sessions: &Sessions,
     place: usize,
     judged: &Judged,
-) -> Result<Outs, AllocError>
+) -> Result<OutsPair, AllocError>
     requires { place < length sessions.now }
     ensures { IfOk result (λ outs. outs
         ≡ publish_noted publish.now (client_at sessions.now place) judged.now) }
@@ -157,6 +157,7 @@ fn noted(
         &judged.outcome,
         &mut outs,
     )?;
+    let outs = OutsPair::of(alloc, outs)?;
     Ok(outs)
 }
 

@@ -14,7 +14,7 @@ ghost use Rattle.sng_sessions.specs.Moving.{moved_at};
 use crate::answers::code_of;
 use crate::messages::no_session;
 use crate::verdict::{Judged, and_then, copy_name, may_ask, unread};
-use sng_book::{Address, Decision, Denial, Out, Outcome, Outs, Place, Who};
+use sng_book::{Address, Decision, Denial, Out, Outcome, Outs, OutsPair, Place, Who};
 use sng_frames::{Register, ReturnCode, SnFrame, TopicAck, write_register_ack};
 use sng_grants::Policy;
 use sng_ids::IdTable;
@@ -32,7 +32,7 @@ pub fn register(
     from: Address,
     register: Register,
     sessions: &mut Sessions,
-) -> Result<Outs, AllocError>
+) -> Result<OutsPair, AllocError>
     ensures outs { IfOk result (λ outs. outs
         ≡ found_outs (stranger_to from (ToRegister register))
         (register_outs policy.now register.msg_id register.name)
@@ -123,7 +123,7 @@ fn noted(
     sessions: &Sessions,
     place: usize,
     judged: &Judged,
-) -> Result<Outs, AllocError>
+) -> Result<OutsPair, AllocError>
     requires { place < length sessions.now }
     ensures { IfOk result (λ outs. outs ≡ register_noted msg_id (client_at sessions.now place) judged.now) }
 {
@@ -133,6 +133,7 @@ fn noted(
     let mut outs = Outs::with_capacity(alloc, 2)?;
     outs.push(Out::Note(Decision::Register(who, name, outcome)))?;
     reply(alloc, msg_id, sessions, place, judged, &mut outs)?;
+    let outs = OutsPair::of(alloc, outs)?;
     Ok(outs)
 }
 

@@ -11,27 +11,27 @@ ghost use Rattle.sng_core.specs.Replacing.{ending_of, endings_by, endings_from};
 
 use crate::parts::Parts;
 use crate::subscribe::coverage;
-use sng_book::{Decision, Out, Outcome, Outs, ReservedOuts};
+use sng_book::{Decision, NotePair, Out, Outcome, OutsPair, ReservedOuts};
 use sng_grants::Policy;
 use sng_policy::same_scope;
 use sng_sessions::Sessions;
 use sng_text::{ClientId, TopicFilter};
 use std::alloc::{AllocError, Global};
 
-/// A subscription that ends: of the client at the place, with the note of it, and the filter once more for
-/// what the broker is told.
+/// A subscription that ends: of the client at the place, with the note of it for both owners, and the filter
+/// once more for what the broker is told.
 #[derive(Debug, Drop)]
 pub struct Ending {
     pub place: usize,
     pub filter: TopicFilter,
-    pub note: Decision,
+    pub note: NotePair,
 }
 
 impl Parts {
     /// The policy is in force. The subscriptions end that it does not allow, each client's in order of first
     /// standing; of a filter that stands for nobody any more the broker is told where there is place. An
     /// `Err` is a failed allocation, and nothing changed.
-    pub fn replace(&mut self, alloc: Global, policy: Policy) -> Result<Outs, AllocError>
+    pub fn replace(&mut self, alloc: Global, policy: Policy) -> Result<OutsPair, AllocError>
         requires { Good self.old }
         ensures outs { IfOk result (λ outs. outs ≡ outs_by self.old (ByReplace policy)) }
         ensures next { OnOk result (self.new ≡ next_by self.old (ByReplace policy)) }
@@ -44,7 +44,7 @@ impl Parts {
         let mut outs = ReservedOuts::with_room(alloc, count)?;
         self.end_all(endings, &mut outs);
         self.policy = policy;
-        Ok(outs.into_outs())
+        Ok(outs.into_pair())
     }
 
     /// What ends under the policy. A client that has the same scope under both policies keeps all.
@@ -102,7 +102,8 @@ impl Parts {
             filter,
             note,
         } = ending;
-        outs.push(Out::Note(note));
+        let (note, again) = note.into_parts();
+        outs.push(Out::Note(note), Out::Note(again));
         self.sessions.end(place, &filter);
         if self.sessions.is_held(&filter) {
             return;
@@ -111,7 +112,7 @@ impl Parts {
         if self.link.has_place() {
             self.link.unsubscribe(filter);
         } else {
-            outs.push(Out::Note(Decision::Outbox));
+            outs.push(Out::Note(Decision::Outbox), Out::Note(Decision::Outbox));
         }
     }
 }
@@ -153,7 +154,8 @@ fn planned(
     match coverage(alloc, policy, client, filter)? {
         Outcome::Allowed => Ok(None),
         Outcome::Denied(rule) => {
-            let note = Decision::End(client.copy()?, filter.copy()?, Outcome::Denied(rule));
+            let denied = Outcome::Denied(rule);
+            let note = NotePair::of(Decision::End(client.copy()?, filter.copy()?, denied))?;
             let filter = filter.copy()?;
             Ok(Some(Ending {
                 place,

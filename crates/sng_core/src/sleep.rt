@@ -15,7 +15,7 @@ use crate::answers::{dismissed, only, pong};
 use crate::messages::{denied_frame, no_session_frame};
 use crate::serve::serve_plan;
 use crate::verdict::is_active;
-use sng_book::{Address, Denial, Outs};
+use sng_book::{Address, Decision, Denial, Out, Outcome, Outs, OutsPair, Who};
 use sng_grants::Policy;
 use sng_sessions::{Change, Sessions};
 use sng_states::ClientState;
@@ -30,7 +30,7 @@ pub fn sleep(
     from: Address,
     duration: u16,
     sessions: &mut Sessions,
-) -> Result<Outs, AllocError>
+) -> Result<OutsPair, AllocError>
     ensures outs { IfOk result (λ outs. outs
         ≡ found_outs (stranger_to from (ToSleep duration)) slept_outs
         (at_place sessions.old (place_at from sessions.old))) }
@@ -47,7 +47,7 @@ pub fn sleep(
     Ok(outs)
 }
 
-fn slept_outs(alloc: Global, sessions: &Sessions, place: usize) -> Result<Outs, AllocError>
+fn slept_outs(alloc: Global, sessions: &Sessions, place: usize) -> Result<OutsPair, AllocError>
     requires { place < length sessions.now }
     ensures { IfOk result (λ outs. outs ≡ slept_outs (client_at sessions.now place)) }
 {
@@ -66,7 +66,7 @@ pub fn ping(
     from: Address,
     client: Option<ClientId>,
     sessions: &mut Sessions,
-) -> Result<Outs, AllocError>
+) -> Result<OutsPair, AllocError>
     ensures outs { IfOk result (λ outs. outs
         ≡ found_outs (stranger_to from (ToPing client)) (ping_outs policy.now client)
         (at_place sessions.old (place_at from sessions.old))) }
@@ -90,7 +90,7 @@ fn ping_at(
     client: Option<ClientId>,
     sessions: &mut Sessions,
     place: usize,
-) -> Result<Outs, AllocError>
+) -> Result<OutsPair, AllocError>
     requires { place < length sessions.old }
     ensures outs { IfOk result (λ outs. outs ≡ ping_outs policy.now client (client_at sessions.old place)) }
     ensures next { OnOk result (sessions.new
@@ -111,7 +111,7 @@ fn named_ping(
     id: &ClientId,
     sessions: &mut Sessions,
     place: usize,
-) -> Result<Outs, AllocError>
+) -> Result<OutsPair, AllocError>
     requires { place < length sessions.old }
     ensures outs { IfOk result (λ outs. outs
         ≡ ping_outs policy.now (Some id.now) (client_at sessions.old place)) }
@@ -134,7 +134,7 @@ fn own_ping(
     clock: u64,
     sessions: &mut Sessions,
     place: usize,
-) -> Result<Outs, AllocError>
+) -> Result<OutsPair, AllocError>
     requires { place < length sessions.old }
     ensures outs { IfOk result (λ outs. outs ≡ own_ping_outs policy.now (client_at sessions.old place)) }
     ensures next { OnOk result (sessions.new ≡ moved_at place (own_ping_next policy.now clock) sessions.old) }
@@ -155,7 +155,7 @@ fn still_pinged(
     is_named: bool,
     sessions: &mut Sessions,
     place: usize,
-) -> Result<Outs, AllocError>
+) -> Result<OutsPair, AllocError>
     requires { place < length sessions.old }
     ensures outs { IfOk result (λ outs. outs ≡ pinged is_named (client_at sessions.old place)) }
     ensures next { OnOk result (sessions.new ≡ moved_at place (heard_at clock) sessions.old) }
@@ -172,7 +172,7 @@ fn pinged(
     is_named: bool,
     sessions: &Sessions,
     place: usize,
-) -> Result<Outs, AllocError>
+) -> Result<OutsPair, AllocError>
     requires { place < length sessions.now }
     ensures { IfOk result (λ outs. outs ≡ pinged is_named (client_at sessions.now place)) }
 {
@@ -180,7 +180,7 @@ fn pinged(
     if is_active(phase) {
         only(alloc, pong(alloc, sessions.address(place))?)
     } else if is_named && phase.is_due_messages() {
-        Ok(Outs::new(alloc))
+        Ok(OutsPair::empty(alloc))
     } else {
         denied_frame(alloc, sessions, place, Denial::OutOfTurn)
     }
@@ -192,14 +192,18 @@ fn dismiss(
     clock: u64,
     sessions: &mut Sessions,
     place: usize,
-) -> Result<Outs, AllocError>
+) -> Result<OutsPair, AllocError>
     requires { place < length sessions.old }
     ensures outs { IfOk result (λ outs. outs ≡ other_ping_outs (client_at sessions.old place)) }
     ensures next { OnOk result (sessions.new ≡ moved_at place (heard_at clock) sessions.old) }
     ensures err { OnErr result (sessions.new ≡ sessions.old) }
 {
-    let mut outs = denied_frame(alloc, sessions, place, Denial::NoSession)?;
+    let who = Who::Client(sessions.id(place).copy()?);
+    let denied = Outcome::Denied(Denial::NoSession);
+    let mut outs = Outs::with_capacity(alloc, 2)?;
+    outs.push(Out::Note(Decision::Frame(who, denied)))?;
     outs.push(dismissed(alloc, sessions.address(place))?)?;
+    let outs = OutsPair::of(alloc, outs)?;
     sessions.hear(place, clock);
     Ok(outs)
 }
@@ -212,7 +216,7 @@ fn wake(
     clock: u64,
     sessions: &mut Sessions,
     place: usize,
-) -> Result<Outs, AllocError>
+) -> Result<OutsPair, AllocError>
     requires { place < length sessions.old }
     ensures outs { IfOk result (λ outs. outs ≡ woken_outs policy.now (client_at sessions.old place)) }
     ensures next { OnOk result (sessions.new ≡ moved_at place (woken_next policy.now clock) sessions.old) }
@@ -221,6 +225,7 @@ fn wake(
     let mut outs = Outs::new(alloc);
     let phase = ClientState::Awake;
     let handed = serve_plan(alloc, policy, phase, sessions, place, 0, 0, &mut outs)?;
+    let outs = OutsPair::of(alloc, outs)?;
     sessions.change(place, Change::Wakes, clock);
     sessions.hand(place, handed, clock);
     sessions.change(place, Change::Drains, clock);

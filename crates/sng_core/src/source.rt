@@ -8,7 +8,7 @@ ghost use Rattle.sng_core.specs.Forms.{joined};
 use crate::answers::only;
 use crate::parts::Parts;
 use crate::verdict::source_name;
-use sng_book::{Decision, Denial, Out, Outcome, Outs, Who};
+use sng_book::{Decision, Denial, Out, Outcome, OutsPair, Who};
 use sng_frames::Publish;
 use sng_outbox::{Origin, Publication};
 use sng_policy::lists_source;
@@ -22,7 +22,7 @@ impl Parts {
         alloc: Global,
         source: [u8; 4],
         publish: Publish,
-    ) -> Result<Outs, AllocError>
+    ) -> Result<OutsPair, AllocError>
         ensures outs { IfOk result (λ outs. outs ≡ Out.Note (source_ask self.old source publish) ∷ []) }
         ensures next { OnOk result (self.new ≡ joined self.old
             (asked_by (Some publish) (source_ask self.old source publish))) }
@@ -44,7 +44,7 @@ impl Parts {
         source: [u8; 4],
         name: TopicName,
         publish: Publish,
-    ) -> Result<Outs, AllocError>
+    ) -> Result<OutsPair, AllocError>
         ensures outs { IfOk result (λ outs. outs ≡ Out.Note (named_ask self.old source (Ok name)) ∷ []) }
         ensures next { OnOk result (self.new ≡ joined self.old
             (asked_by (Some publish) (named_ask self.old source (Ok name)))) }
@@ -71,7 +71,7 @@ impl Parts {
 }
 
 /// An ask to publish is denied before a name was read.
-fn publish_denied(alloc: Global, who: Who, rule: Denial) -> Result<Outs, AllocError>
+fn publish_denied(alloc: Global, who: Who, rule: Denial) -> Result<OutsPair, AllocError>
     ensures { IfOk result (λ outs. outs ≡ Out.Note (Decision.Publish who None (Outcome.Denied rule)) ∷ []) }
 {
     only(

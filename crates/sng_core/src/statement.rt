@@ -18,7 +18,7 @@ use crate::hand_over::{all_gone, hand_over};
 use crate::messages::no_session;
 use crate::stating::{Statement, has_turn, judged, stating};
 use crate::verdict::{Judged, copy_name};
-use sng_book::{Address, Decision, Denial, Out, Outcome, Outs, Who};
+use sng_book::{Address, Decision, Denial, Out, Outcome, Outs, OutsPair, Who};
 use sng_frames::ReturnCode;
 use sng_grants::Policy;
 use sng_sessions::{Handed, Sessions};
@@ -32,7 +32,7 @@ pub fn state(
     from: Address,
     statement: Statement,
     sessions: &mut Sessions,
-) -> Result<Outs, AllocError>
+) -> Result<OutsPair, AllocError>
     ensures outs { IfOk result (λ outs. outs
         ≡ found_outs (stranger_to from (ToState (said statement)))
         (statement_outs policy.now (said statement))
@@ -63,7 +63,7 @@ fn state_at(
     statement: Statement,
     sessions: &mut Sessions,
     place: usize,
-) -> Result<Outs, AllocError>
+) -> Result<OutsPair, AllocError>
     requires { place < length sessions.old }
     ensures outs { IfOk result (λ outs. outs
         ≡ statement_outs policy.now (said statement) (client_at sessions.old place)) }
@@ -71,12 +71,12 @@ fn state_at(
         ≡ moved_at place (statement_next policy.now clock (said statement)) sessions.old) }
     ensures err { OnErr result (sessions.new ≡ sessions.old) }
 {
-    let mut outs = Outs::with_capacity(alloc, 2)?;
+    let none = Outs::with_capacity(alloc, 2)?;
     if !has_turn(sessions, place, &statement) {
-        out_of_turn(alloc, clock, &statement, sessions, place, &mut outs)?;
+        let outs = out_of_turn(alloc, clock, &statement, sessions, place, none)?;
         return Ok(outs);
     }
-    state_in_turn(alloc, policy, clock, statement, sessions, place, &mut outs)?;
+    let outs = state_in_turn(alloc, policy, clock, statement, sessions, place, none)?;
     Ok(outs)
 }
 
@@ -88,22 +88,22 @@ fn state_in_turn(
     statement: Statement,
     sessions: &mut Sessions,
     place: usize,
-    outs: &mut Outs,
-) -> Result<(), AllocError>
+    mut outs: Outs,
+) -> Result<OutsPair, AllocError>
     requires { place < length sessions.old }
-    ensures outs { OnOk result (let x = client_at sessions.old place in outs.new ≡ outs.old
+    ensures outs { IfOk result (λ pair. let x = client_at sessions.old place in pair ≡ outs
         ++ noted_outs policy.now (said statement) x (statement_judged policy.now (said statement) x)) }
     ensures next { OnOk result (sessions.new ≡ moved_at place (λ x. following_next policy.now clock
         (said statement) (statement_judged policy.now (said statement) x).outcome x) sessions.old) }
     ensures err { OnErr result (sessions.new ≡ sessions.old) }
 {
     let judged = judged(alloc, policy, sessions, place, &statement)?;
-    if noted(alloc, &statement, sessions, place, &judged, outs)? {
-        keep(alloc, policy, clock, statement, sessions, place, outs)?;
-        Ok(())
+    if noted(alloc, &statement, sessions, place, &judged, &mut outs)? {
+        let kept = keep(alloc, policy, clock, statement, sessions, place, outs)?;
+        Ok(kept)
     } else {
-        refuse(clock, &statement, sessions, place, outs)?;
-        Ok(())
+        let refused = refuse(alloc, clock, &statement, sessions, place, outs)?;
+        Ok(refused)
     }
 }
 
@@ -138,10 +138,10 @@ fn out_of_turn(
     statement: &Statement,
     sessions: &mut Sessions,
     place: usize,
-    outs: &mut Outs,
-) -> Result<(), AllocError>
+    mut outs: Outs,
+) -> Result<OutsPair, AllocError>
     requires { place < length sessions.old }
-    ensures outs { OnOk result (outs.new ≡ outs.old
+    ensures outs { IfOk result (λ pair. pair ≡ outs
         ++ untimely_outs (said statement.now) (client_at sessions.old place)) }
     ensures next { OnOk result (sessions.new ≡ moved_at place (heard_at clock) sessions.old) }
     ensures err { OnErr result (sessions.new ≡ sessions.old) }
@@ -154,8 +154,9 @@ fn out_of_turn(
         let answer = answer(alloc, sessions.address(place), statement, &denied)?;
         outs.push(answer)?;
     }
+    let pair = OutsPair::of(alloc, outs)?;
     sessions.hear(place, clock);
-    Ok(())
+    Ok(pair)
 }
 
 /// Whether it is of the dialogue behind a CONNECT.
@@ -226,20 +227,21 @@ fn keep(
     statement: Statement,
     sessions: &mut Sessions,
     place: usize,
-    outs: &mut Outs,
-) -> Result<(), AllocError>
+    mut outs: Outs,
+) -> Result<OutsPair, AllocError>
     requires place { place < length sessions.old }
     requires read { IsRead (said statement) }
-    ensures outs { OnOk result (outs.new ≡ outs.old
+    ensures outs { IfOk result (λ pair. pair ≡ outs
         ++ kept_outs policy.now (said statement) (client_at sessions.old place)) }
     ensures next { OnOk result (sessions.new
         ≡ moved_at place (kept_next policy.now clock (said statement)) sessions.old) }
     ensures err { OnErr result (sessions.new ≡ sessions.old) }
 {
-    let handed = handed(alloc, policy, &statement, sessions, place, outs)?;
+    let handed = handed(alloc, policy, &statement, sessions, place, &mut outs)?;
+    let pair = OutsPair::of(alloc, outs)?;
     sessions.state(place, stating(statement), clock);
     sessions.hand(place, handed, clock);
-    Ok(())
+    Ok(pair)
 }
 
 /// What is handed over where the dialogue ends by this statement.
@@ -292,25 +294,28 @@ fn is_last(statement: &Statement) -> bool
 /// A statement that is denied ends the dialogue, and its client leaves: what waits for it is gone. An update
 /// ends nothing.
 fn refuse(
+    alloc: Global,
     clock: u64,
     statement: &Statement,
     sessions: &mut Sessions,
     place: usize,
-    outs: &mut Outs,
-) -> Result<(), AllocError>
+    mut outs: Outs,
+) -> Result<OutsPair, AllocError>
     requires { place < length sessions.old }
-    ensures outs { OnOk result (outs.new ≡ outs.old
+    ensures outs { IfOk result (λ pair. pair ≡ outs
         ++ refused_outs (said statement.now) (client_at sessions.old place)) }
     ensures next { OnOk result (sessions.new
         ≡ moved_at place (refused_next clock (said statement.now)) sessions.old) }
     ensures err { OnErr result (sessions.new ≡ sessions.old) }
 {
     if !is_of_dialogue(statement) {
+        let pair = OutsPair::of(alloc, outs)?;
         sessions.hear(place, clock);
-        return Ok(());
+        return Ok(pair);
     }
     outs.push(Out::Note(Decision::Left(sessions.id(place).copy()?)))?;
-    all_gone(sessions.id(place), sessions.queue(place), outs)?;
+    all_gone(sessions.id(place), sessions.queue(place), &mut outs)?;
+    let pair = OutsPair::of(alloc, outs)?;
     sessions.leave(place, clock);
-    Ok(())
+    Ok(pair)
 }

@@ -21,7 +21,7 @@ use crate::filters::{
 use crate::messages::no_session;
 use crate::parts::Parts;
 use crate::verdict::{and_then, may_ask};
-use sng_book::{Address, Decision, Denial, Out, Outcome, Outs, Place, Who};
+use sng_book::{Address, Decision, Denial, Out, Outcome, Outs, OutsPair, Place, Who};
 use sng_fan::MAX_SUBSCRIPTIONS;
 use sng_frames::{
     Flags, FrameQos, ReturnCode, SnFrame, SubscribeAck, TopicIdType, TopicRequest,
@@ -41,7 +41,7 @@ impl Parts {
         alloc: Global,
         from: Address,
         request: TopicRequest,
-    ) -> Result<Outs, AllocError>
+    ) -> Result<OutsPair, AllocError>
         requires { length self.old.link.wanted < MAX_WANTED }
         ensures outs { IfOk result (λ outs. outs
             ≡ found_outs (stranger_to from (ToSubscribe request)) (subscribe_outs self.old request)
@@ -232,7 +232,7 @@ fn noted(
     sessions: &Sessions,
     place: usize,
     judged: &JudgedFilter,
-) -> Result<Outs, AllocError>
+) -> Result<OutsPair, AllocError>
     requires { place < length sessions.now }
     ensures { IfOk result (λ outs. outs
         ≡ subscribe_noted request.now (client_at sessions.now place) judged.now) }
@@ -243,6 +243,7 @@ fn noted(
     let mut outs = Outs::with_capacity(alloc, 2)?;
     outs.push(Out::Note(Decision::Subscribe(who, filter, outcome)))?;
     reply(alloc, request, sessions, place, judged, &mut outs)?;
+    let outs = OutsPair::of(alloc, outs)?;
     Ok(outs)
 }
 

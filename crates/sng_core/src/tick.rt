@@ -19,7 +19,7 @@ ghost use Rattle.sng_core.specs.Dues.{ticked_outs, ticked_next};
 use crate::again::{Retried, again, carry_again, is_repeating};
 use crate::hand_over::all_gone;
 use crate::parts::Parts;
-use sng_book::{Decision, Out, Outcome, Outs, Who};
+use sng_book::{Decision, Out, Outcome, Outs, OutsPair, Who};
 use sng_grants::Policy;
 use sng_link::{Link, Room};
 use sng_outbox::{Origin, Publication};
@@ -47,7 +47,7 @@ pub enum Due {
 impl Parts {
     /// The clock is at this time, in ms, where that is not before its own. An `Err` is a failed allocation,
     /// and nothing changed.
-    pub fn tick(&mut self, alloc: Global, clock: u64) -> Result<Outs, AllocError>
+    pub fn tick(&mut self, alloc: Global, clock: u64) -> Result<OutsPair, AllocError>
         requires { Good self.old }
         ensures outs { IfOk result (λ outs. outs ≡ outs_by self.old (ByTick clock)) }
         ensures next { OnOk result (self.new ≡ next_by self.old (ByTick clock)) }
@@ -58,7 +58,7 @@ impl Parts {
     }
 
     /// The clock is at this time then, or where it was.
-    fn tick_to(&mut self, alloc: Global, clock: u64) -> Result<Outs, AllocError>
+    fn tick_to(&mut self, alloc: Global, clock: u64) -> Result<OutsPair, AllocError>
         ensures outs { IfOk result (λ outs. outs ≡ ticked_outs self.old (later self.old.clock clock)) }
         ensures next { OnOk result (self.new ≡ ticked_next self.old (later self.old.clock clock)) }
         ensures err { OnErr result (self.new ≡ self.old) }
@@ -69,6 +69,7 @@ impl Parts {
         let sessions = &self.sessions;
         let dues = dues(alloc, &self.policy, clock, sessions, &mut room, &mut outs)?;
         note_ping(self.link.is_ping_due(self.is_up, clock), room, &mut outs)?;
+        let outs = OutsPair::of(alloc, outs)?;
         carry_out(dues, &mut self.sessions, &mut self.link, clock);
         self.link.ping(self.is_up, clock);
         self.clock = clock;

@@ -15,7 +15,7 @@ use crate::filters::{JudgedFilter, copy_filter, filter_read, unread_filter};
 use crate::messages::no_session;
 use crate::parts::Parts;
 use crate::verdict::is_active;
-use sng_book::{Address, Decision, Denial, Out, Outcome, Outs, Who};
+use sng_book::{Address, Decision, Denial, Out, Outcome, Outs, OutsPair, Who};
 use sng_frames::{TopicRequest, write_unsubscribe_ack};
 use sng_sessions::Sessions;
 use sng_text::{Octets, TopicFilter};
@@ -28,7 +28,7 @@ impl Parts {
         alloc: Global,
         from: Address,
         request: TopicRequest,
-    ) -> Result<Outs, AllocError>
+    ) -> Result<OutsPair, AllocError>
         ensures outs { IfOk result (λ outs. outs
             ≡ unsubscribe_outs self.old request (place_at from self.old.clients)
             (stranger_to from (ToUnsubscribe request))) }
@@ -77,7 +77,7 @@ impl Parts {
         request: &TopicRequest,
         place: usize,
         judged: &JudgedFilter,
-    ) -> Result<Outs, AllocError>
+    ) -> Result<OutsPair, AllocError>
         requires { place < length self.now.clients }
         ensures { IfOk result (λ outs. outs ≡ unsubscribe_noted self.now request.now place judged.now) }
     {
@@ -88,6 +88,7 @@ impl Parts {
         outs.push(Out::Note(Decision::Unsubscribe(who, filter, outcome)))?;
         self.note_dropped(place, judged, &mut outs)?;
         outs.push(unsuback(alloc, self.sessions.address(place), request)?)?;
+        let outs = OutsPair::of(alloc, outs)?;
         Ok(outs)
     }
 

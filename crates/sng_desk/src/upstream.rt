@@ -334,7 +334,7 @@ pub fn upstream_worker<R: Wait, U: Upstream, D: Datagrams, G: Gate>(
         sink: sender,
         stage: Stage::Away(0),
         stream: Stream::new(alloc),
-        hand: Hand { alloc, share, log },
+        hand: Hand { share, log },
     };
     for _ in rt.forever() {
         if let Next::Over(fault) = round.turn(rt, alloc, desk, gate, terms) {
@@ -346,11 +346,7 @@ pub fn upstream_worker<R: Wait, U: Upstream, D: Datagrams, G: Gate>(
                 stream: _,
                 hand,
             } = round;
-            let Hand {
-                alloc: _,
-                share,
-                log,
-            } = hand;
+            let Hand { share, log } = hand;
             return WorkerEnd {
                 trail: log.into_trail(),
                 share,

@@ -123,17 +123,13 @@ pub fn work<R: Wait, S: Source, G: Gate>(
     ensures { HasEnded S.tells S.gave S.failures S.has_ended S.told S.passed source source share (G.may_stop gate.now) result.source result.source result.trail result.share result.fault }
 {
     let log = Log::new(alloc, share.tag());
-    let hand = Hand { alloc, share, log };
+    let hand = Hand { share, log };
     let mut round = Round { source, hand };
     for _ in rt.forever() {
         if let Next::Over(fault) = round.turn(rt, desk, gate) {
             gate.over(round.hand.log.by(), fault);
             let Round { source, hand } = round;
-            let Hand {
-                alloc: _,
-                share,
-                log,
-            } = hand;
+            let Hand { share, log } = hand;
             return Left {
                 trail: log.into_trail(),
                 share,

@@ -23,7 +23,7 @@ use crate::exit::exit;
 use crate::leaving::{packet_of, subscribed};
 use crate::step::{Step, undo};
 use mqtt_frames::encode_subscribe;
-use sng_book::{Decision, Out, Outs, Who};
+use sng_book::{Decision, Out, Outs, OutsPair, Who};
 use sng_grants::Policy;
 use sng_outbox::{Outbox, PacketIds, Publication};
 use sng_text::{Qos, TopicFilter};
@@ -39,7 +39,7 @@ pub fn begin(
     outbox: &mut Outbox,
     ids: &mut PacketIds,
     wanted: &mut Wanted,
-) -> Result<Outs, AllocError>
+) -> Result<OutsPair, AllocError>
     requires marked { AreMarked (ids_in_use outbox.old.in_flight wanted.old) ids.old.marks }
     requires few { length wanted.old ≤ MAX_WANTED }
     ensures outs { IfOk result (λ outs. (clock pinged : ℕ) → outs
@@ -61,8 +61,8 @@ pub fn begin(
     let stays = judge(alloc, policy, outbox, &mut outs, &mut log)?;
     let filters = wanted.filters(alloc)?;
     free_all(ids, log.as_slice());
-    match subscribe_all(alloc, filters.as_slice(), ids, wanted, &mut outs, &mut log) {
-        Ok(()) => {
+    match subscribe_all(alloc, filters.as_slice(), ids, wanted, outs, &mut log) {
+        Ok(outs) => {
             forget_denied(outbox, stays.as_slice());
             Ok(outs)
         }
@@ -128,21 +128,22 @@ fn free_all(ids: &mut PacketIds, log: &[Step])
 }
 
 /// A SUBSCRIBE of each filter goes out, each with the next packet id, which is then the open one of the
-/// filter (3.8). An `Err` is a failed allocation: the log has the steps that were taken so far.
+/// filter (3.8). They come behind the outs, and the answer has all. An `Err` is a failed allocation: the log
+/// has the steps that were taken so far.
 fn subscribe_all(
     alloc: Global,
     filters: &[TopicFilter],
     ids: &mut PacketIds,
     wanted: &mut Wanted,
-    outs: &mut Outs,
+    mut outs: Outs,
     log: &mut Vec<Step>,
-) -> Result<(), AllocError>
+) -> Result<OutsPair, AllocError>
     requires stands { (from : List Bool) × (first : List Entry) × (link : Link)
         × Stands from first [] log.old.items ids.old wanted.old link }
     requires all { AllWanted wanted.old filters.now }
-    ensures subscribed { OnOk result ((from : List Bool) (first : List Entry) (link : Link)
+    ensures subscribed { IfOk result (λ pair. (from : List Bool) (first : List Entry) (link : Link)
         → Stands from first [] log.old.items ids.old wanted.old link
-        → (more : List out_type) × (outs.new ≡ outs.old ++ more)
+        → (more : List out_type) × (pair ≡ outs ++ more)
         × Resubscribed from first link filters.now [] more log.new.items ids.new wanted.new) }
     ensures logged { (from : List Bool) (first : List Entry) (link : Link)
         → Stands from first [] log.old.items ids.old wanted.old link
@@ -161,7 +162,8 @@ fn subscribe_all(
         ids.count_from(next);
         next = ids.next();
     }
-    Ok(())
+    let pair = OutsPair::of(alloc, outs)?;
+    Ok(pair)
 }
 
 /// A publish in flight under this packet id is judged, with a note, and behind the note of an allowed one its

@@ -21,45 +21,46 @@ use crate::step::Step;
 use mqtt_frames::{
     encode_ping_request, encode_publish_ack, encode_subscribe, encode_unsubscribe, write_publish,
 };
-use sng_book::{Decision, Out, Outs, Who};
+use sng_book::{Decision, Out, Outs, OutsPair, Who};
 use sng_grants::Policy;
 use sng_outbox::{Item, Outbox, PacketIds, Publication};
 use sng_text::{Octets, Qos, TopicFilter};
 use sng_wanted::Wanted;
 use std::alloc::{AllocError, Global};
 
-/// What all items let out as they leave in order, behind the outs, and for each the step by which it leaves.
-/// What the steps take into use is in use from then on. An `Err` is a failed allocation: the log has the
-/// steps that were taken so far.
+/// What all items let out as they leave in order, with room made ahead for it, and for each the step by which
+/// it leaves. What the steps take into use is in use from then on. An `Err` is a failed allocation: the log
+/// has the steps that were taken so far.
 pub fn plan(
     alloc: Global,
     policy: &Policy,
     outbox: &Outbox,
     ids: &mut PacketIds,
     wanted: &mut Wanted,
-    outs: &mut Outs,
+    mut outs: Outs,
     log: &mut Vec<Step>,
-) -> Result<(), AllocError>
+) -> Result<OutsPair, AllocError>
     requires marked { AreMarked (ids_in_use outbox.now.in_flight wanted.old) ids.old.marks }
     requires once { WantedOnce wanted.old }
     requires few_wanted { length wanted.old ≤ MAX_WANTED }
     requires small { ids.old.last ≤ 65535 }
     requires few { load outbox.now ≤ MAX_IN_FLIGHT }
-    requires no_outs { outs.old ≡ [] }
+    requires no_outs { outs ≡ [] }
     requires no_log { log.old.items ≡ [] }
-    ensures planned { OnOk result ((pinged : ℕ) → Planned policy.now ids.old.marks
-        (link_of outbox.now ids.old wanted.old pinged) outbox.now.waiting [] outs.new log.new.items ids.new
+    ensures planned { IfOk result (λ pair. (pinged : ℕ) → Planned policy.now ids.old.marks
+        (link_of outbox.now ids.old wanted.old pinged) outbox.now.waiting [] pair log.new.items ids.new
         wanted.new) }
     ensures logged { Logged ids.old.marks wanted.old log.new.items ids.new.marks wanted.new }
 {
     let mut next = ids.next();
     for item in outbox.iter() {
-        let step = leaves(alloc, policy, wanted, item, next, outs)?;
+        let step = leaves(alloc, policy, wanted, item, next, &mut outs)?;
         log.push(step)?;
         go(ids, wanted, item, step);
         next = ids.next();
     }
-    Ok(())
+    let pair = OutsPair::of(alloc, outs)?;
+    Ok(pair)
 }
 
 /// An item leaves by this step: its packet id is used up, and where an answer to it is waited for it is in

@@ -16,7 +16,7 @@ ghost use Rattle.sng_link.specs.Rooms.{room_of};
 use crate::again::begin;
 use crate::room::Room;
 use crate::taking::take;
-use sng_book::{Denial, Outcome, Outs, Place};
+use sng_book::{Denial, Outcome, OutsPair, Place};
 use sng_grants::Policy;
 use sng_history::PING_MS;
 use sng_outbox::{Item, MAX_IN_FLIGHT, MAX_OUTBOX_ITEMS, Outbox, PacketIds, Publication};
@@ -254,7 +254,7 @@ impl Link {
     /// judged by the policy, in order. Those that are still allowed are sent again under their packet ids
     /// (3.3.1.1 and 4.4), and the others are in flight no more. Then each filter that is wanted is subscribed
     /// anew (3.8). An `Err` is a failed allocation, and nothing changes.
-    pub fn begin(&mut self, alloc: Global, policy: &Policy, clock: u64) -> Result<Outs, AllocError>
+    pub fn begin(&mut self, alloc: Global, policy: &Policy, clock: u64) -> Result<OutsPair, AllocError>
         requires few { length self.old.wanted ≤ MAX_WANTED }
         ensures outs { IfOk result (λ outs. outs
             ≡ beginning self.old clock (agains_of policy.now self.old.in_flight)) }
@@ -278,7 +278,7 @@ impl Link {
     /// allowed one of QoS 1 is in flight then (3.3). A SUBSCRIBE goes out where its filter is wanted, and is
     /// its open one then (3.8); an UNSUBSCRIBE where its filter is not (3.10). Each of them has the next
     /// packet id. An `Err` is a failed allocation, and nothing changes.
-    pub fn take(&mut self, alloc: Global, policy: &Policy) -> Result<Outs, AllocError>
+    pub fn take(&mut self, alloc: Global, policy: &Policy) -> Result<OutsPair, AllocError>
         requires few { length self.old.wanted ≤ MAX_WANTED }
         ensures outs { IfOk result (λ outs. outs
             ≡ leaving self.old self.old.waiting (exits_of policy.now self.old.waiting)) }

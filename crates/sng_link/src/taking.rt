@@ -12,7 +12,7 @@ ghost use Rattle.sng_link.specs.Taking.{flight, flights};
 
 use crate::leaving::plan;
 use crate::step::{Step, undo};
-use sng_book::Outs;
+use sng_book::{Outs, OutsPair};
 use sng_grants::Policy;
 use sng_outbox::{Item, Outbox, PacketIds};
 use sng_text::Qos;
@@ -27,7 +27,7 @@ pub fn take(
     outbox: &mut Outbox,
     ids: &mut PacketIds,
     wanted: &mut Wanted,
-) -> Result<Outs, AllocError>
+) -> Result<OutsPair, AllocError>
     requires marked { AreMarked (ids_in_use outbox.old.in_flight wanted.old) ids.old.marks }
     requires few { length wanted.old ≤ MAX_WANTED }
     ensures outs { IfOk result (λ outs. (pinged : ℕ) → outs
@@ -44,10 +44,10 @@ pub fn take(
     // So few that a packet id is always free, and no filter stands twice.
     let _most = outbox.load();
     let _stand = wanted.len();
-    let mut outs = Outs::with_capacity(alloc, count.saturating_mul(2))?;
+    let outs = Outs::with_capacity(alloc, count.saturating_mul(2))?;
     let mut log = Vec::with_capacity(alloc, count)?;
-    match plan(alloc, policy, outbox, ids, wanted, &mut outs, &mut log) {
-        Ok(()) => {
+    match plan(alloc, policy, outbox, ids, wanted, outs, &mut log) {
+        Ok(outs) => {
             carry_out(outbox, log.as_slice());
             Ok(outs)
         }

@@ -8,7 +8,6 @@ use sng_desk::trail::{Log, Trail};
 use sng_desk::{ActFault, Desk, Share};
 use sng_grants::Policy;
 use std::alloc::Global;
-use std::sync::Wait;
 
 /// What is left of the first act, as a worker leaves it.
 #[derive(Drop)]
@@ -18,8 +17,7 @@ pub struct Beginning {
 }
 
 /// Acts on the first policy, where there is one. An `Err` leaves the rows as they were.
-pub fn begin<R: Wait>(
-    rt: &R,
+pub fn begin(
     alloc: Global,
     desk: &mut Desk,
     mut share: Share,
@@ -33,7 +31,7 @@ pub fn begin<R: Wait>(
         if log.room(1).is_err() {
             return Err(ActFault::Memory);
         }
-        log.accept(desk.act(rt, &mut share, Event::Replace(policy))?);
+        log.accept(desk.act(&mut share, Event::Replace(policy))?);
     }
     let trail = log.into_trail();
     Ok(Beginning { trail, share })

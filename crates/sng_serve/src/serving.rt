@@ -225,7 +225,7 @@ where
 }
 
 /// Brings the policy of the start into force, and tells it.
-fn begin_first<R: Wait + AllocGlobal>(
+fn begin_first<R: AllocGlobal>(
     rt: &R,
     hub: &Hub,
     desk: &mut Desk,
@@ -237,14 +237,14 @@ fn begin_first<R: Wait + AllocGlobal>(
     };
     let alloc = rt.alloc();
     let Some(text) = &ask.text else {
-        return Ok(begin(rt, alloc, desk, share, None)?);
+        return Ok(begin(alloc, desk, share, None)?);
     };
     // it was read before, so only memory can be wanting
     let Ok(policy) = read_policy(alloc, text.as_slice()) else {
         return Err(NotBegun::Memory);
     };
     let lists = Lists::of(&policy);
-    let beginning = begin(rt, alloc, desk, share, Some(policy))?;
+    let beginning = begin(alloc, desk, share, Some(policy))?;
     hub.tell(format_args!("policy in force: {lists}"));
     Ok(beginning)
 }

@@ -21,7 +21,7 @@ pub returns-clause-next : goal.returns-clause-next
 returns-clause-next c =
     let xs = c.args.sessions.now in
     let x = client_at xs c.args.place in
-    c.in_ok-serve.ensures.next
+    c.in_ok-outs-2.ensures.next
     ∙ moved-here (served_next c.args.policy.now c.args.clock 0 0)
     (acknowledge_next c.args.policy.now c.args.clock c.args.answer) xs c.args.place c.requires
     (sym (ap (λ b. if b then served_next c.args.policy.now c.args.clock 0 0 x else heard_at c.args.clock x)

@@ -28,12 +28,12 @@ pub returns-clause-outs : goal.returns-clause-outs
 returns-clause-outs c =
     let x = client_at c.args.sessions.now c.args.place in
     let policy = c.args.policy.now in
-    let outs = c.args.outs.now in
+    let outs = c.args.outs in
     let refused = Denied (ClientRefused c.args.code) in
     let there = one-waits x.buffer.waiting c.in-Some.front.now
     (ap (λ b. slice_get b.waiting 0) (sym c.queue.ensures)
     ∙ (sym c.at.ensures ∙ ap option_copied c.in-Some.is)) in
-    c.in_ok-serve.ensures.outs
+    c.in_ok-served.ensures.outs
     ∙ (ap (λ o. o ++ served_outs policy 0 1 x) (c.in_ok-note_hand.ensures
     ∙ (λ i. outs ++ Note (note.Hand (c.id.ensures i) (c.name.ensures.value i) refused) ∷ []))
     ∙ (append_assoc outs (Note (note.Hand x.id c.in-Some.front.now.name refused) ∷ [])
@@ -48,7 +48,7 @@ returns-clause-next c =
     let there = one-waits x.buffer.waiting c.in-Some.front.now
     (ap (λ b. slice_get b.waiting 0) (sym c.queue.ensures)
     ∙ (sym c.at.ensures ∙ ap option_copied c.in-Some.is)) in
-    c.in_ok-serve.ensures.next
+    c.in_ok-served.ensures.next
     ∙ moved-here (served_next policy c.args.clock 0 1)
     (λ y. refusing_next policy c.args.clock y y.buffer.waiting) xs c.args.place c.requires
     (sym (ap (refusing_next policy c.args.clock x) there))

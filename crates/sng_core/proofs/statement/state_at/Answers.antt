@@ -14,7 +14,7 @@ returns-then-not-has_turn-clause-next c =
     let clock = c.args.clock in
     let st = said c.args.statement in
     let x = client_at xs c.args.place in
-    c.in_ok-out_of_turn.ensures.next
+    c.in_ok-outs.ensures.next
     ∙ moved-here (heard_at clock) (statement_next policy clock st) xs c.args.place c.requires
     (sym (ap (λ b. if b then following_next policy clock st (statement_judged policy st x).outcome x
     else heard_at clock x) (sym c.has_turn.ensures ∙ c.if-not-has_turn.true)))
@@ -26,7 +26,7 @@ returns-clause-next c =
     let clock = c.args.clock in
     let st = said c.args.statement in
     let x = client_at xs c.args.place in
-    c.in_ok-state_in_turn.ensures.next
+    c.in_ok-outs-2.ensures.next
     ∙ moved-here (λ y. following_next policy clock st (statement_judged policy st y).outcome y)
     (statement_next policy clock st) xs c.args.place c.requires
     (sym (ap (λ b. if b then following_next policy clock st (statement_judged policy st x).outcome x

@@ -7,8 +7,8 @@ use Rattle.sng_core.proofs.ConfirmLemmas.{moved-here}
 use Rattle.sng_core.proofs.StatingLemmas.{kept-follows, refused-follows}
 use Rattle.sng_core.proofs.statement.state_in_turn.Goals as goal
 
-pub returns-in_ok-keep-clause-next : goal.returns-in_ok-keep-clause-next
-returns-in_ok-keep-clause-next c =
+pub returns-in_ok-kept-clause-next : goal.returns-in_ok-kept-clause-next
+returns-in_ok-kept-clause-next c =
     let xs = c.args.sessions.now in
     let policy = c.args.policy.now in
     let clock = c.args.clock in
@@ -17,14 +17,14 @@ returns-in_ok-keep-clause-next c =
     let may : is_allowed (statement_judged policy st x).outcome ≡ true =
     ap (λ j. is_allowed j.outcome) (sym c.in_ok-judged.ensures)
     ∙ (sym c.in_ok-noted.ensures.allowed ∙ c.if-branch.true) in
-    c.in_ok-keep.ensures.next
+    c.in_ok-kept.ensures.next
     ∙ moved-here (kept_next policy clock st)
     (λ y. following_next policy clock st (statement_judged policy st y).outcome y) xs c.args.place
     c.requires
     (kept-follows policy clock st (statement_judged policy st x).outcome x may)
 
-pub returns-in_ok-refuse-clause-next : goal.returns-in_ok-refuse-clause-next
-returns-in_ok-refuse-clause-next c =
+pub returns-in_ok-refused-clause-next : goal.returns-in_ok-refused-clause-next
+returns-in_ok-refused-clause-next c =
     let xs = c.args.sessions.now in
     let policy = c.args.policy.now in
     let clock = c.args.clock in
@@ -33,7 +33,7 @@ returns-in_ok-refuse-clause-next c =
     let may : is_allowed (statement_judged policy st x).outcome ≡ false =
     ap (λ j. is_allowed j.outcome) (sym c.in_ok-judged.ensures)
     ∙ (sym c.in_ok-noted.ensures.allowed ∙ c.if-branch.false) in
-    c.in_ok-refuse.ensures.next
+    c.in_ok-refused.ensures.next
     ∙ moved-here (refused_next clock st)
     (λ y. following_next policy clock st (statement_judged policy st y).outcome y) xs c.args.place
     c.requires

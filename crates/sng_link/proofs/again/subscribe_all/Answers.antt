@@ -15,7 +15,7 @@ loop-filter-init c = record {
   small = omega arith;
   so_far = λ from first link stands. (
     [],
-    sym (append-nil c.args.outs.now),
+    sym (append-nil c.args.outs),
     resubscribed_first from first link c.args.filters.now c.args.log.now.items c.args.ids.now
         c.args.wanted.now stands c.requires.all,
   );
@@ -38,7 +38,7 @@ loop-filter-preserved c =
           resubscribed_step from first link c.args.filters.now c.filter-item.result
           (drop (c.loop-filter.filter-index + 1) c.args.filters.now)
           (drop c.loop-filter.filter-index c.args.filters.now)
-          c.args.outs.now c.loop-filter.outs c.push.new.self before.0 c.loop-filter.log.items
+          c.args.outs c.loop-filter.outs c.push.new.self before.0 c.loop-filter.log.items
           c.push-in-loop-filter.new.self.items _ c.loop-filter.ids c.count_from.new.self
           c.loop-filter.wanted
           c.subscribed.new.wanted c.loop-filter.next c.loop-filter.invariant.next
@@ -83,6 +83,13 @@ returns-in_err-push-2-clause-logged c from first link stands =
     (drop c.loop-filter.filter-index c.args.filters.now) before.0 c.loop-filter.log.items
     c.loop-filter.ids c.loop-filter.wanted before.2)
 
+pub returns-in_err-pair-clause-logged : goal.returns-in_err-pair-clause-logged
+returns-in_err-pair-clause-logged c from first link stands =
+    let before = c.loop-filter.invariant.so_far from first link stands in
+    resubscribed_logged from first link c.args.filters.now
+    (drop c.loop-filter.filter-index c.args.filters.now) before.0 c.loop-filter.log.items
+    c.loop-filter.ids c.loop-filter.wanted before.2
+
 pub returns-clause-logged : goal.returns-clause-logged
 returns-clause-logged c from first link stands =
     let before = c.loop-filter.invariant.so_far from first link stands in
@@ -95,4 +102,4 @@ returns-clause-subscribed c from first link stands =
     let before = c.loop-filter.invariant.so_far from first link stands in
     let none : drop c.loop-filter.filter-index c.args.filters.now ≡ [] =
     drop_of_length-le c.args.filters.now (omega arith) in
-    (before.0, before.1, rw none at before.2)
+    (before.0, c.in_ok-pair.ensures ∙ before.1, rw none at before.2)

@@ -18,7 +18,7 @@ loop-item-init c =
       small = omega arith;
       so_far = λ pinged. rw all
           (planned_first c.args.policy.now c.args.outbox.now c.args.ids.now c.args.wanted.now pinged
-          c.args.outs.now c.args.log.now.items c.requires.marked c.requires.once c.requires.few_wanted
+          c.args.outs c.args.log.now.items c.requires.marked c.requires.once c.requires.few_wanted
           c.requires.small c.requires.few c.requires.no_outs c.requires.no_log);
     }
 
@@ -70,6 +70,13 @@ returns-in_err-push-clause-logged c =
     c.loop-item.outs c.loop-item.log.items c.loop-item.ids c.loop-item.wanted
     (c.loop-item.invariant.so_far 0))
 
+pub returns-in_err-pair-clause-logged : goal.returns-in_err-pair-clause-logged
+returns-in_err-pair-clause-logged c =
+    planned_logged c.args.policy.now c.args.ids.now.marks
+    (link_of c.args.outbox.now c.args.ids.now c.args.wanted.now 0) c.args.outbox.now.waiting
+    (deque_iter_rest c.loop-item.item-iterator)
+    c.loop-item.outs c.loop-item.log.items c.loop-item.ids c.loop-item.wanted (c.loop-item.invariant.so_far 0)
+
 none_left : (items : List Item) → length items ≡ 0 → items ≡ []
 none_left [] is = refl
 none_left (item ∷ items) is = cc
@@ -78,7 +85,7 @@ pub returns-clause-planned : goal.returns-clause-planned
 returns-clause-planned c pinged =
     let none : deque_iter_rest c.loop-item.item-iterator ≡ [] =
     none_left (deque_iter_rest c.loop-item.item-iterator) c.in-None.ensures.steps.0 in
-    rw none at (c.loop-item.invariant.so_far pinged)
+    rw c.in_ok-pair.ensures (rw none at (c.loop-item.invariant.so_far pinged))
 
 pub returns-clause-logged : goal.returns-clause-logged
 returns-clause-logged c =

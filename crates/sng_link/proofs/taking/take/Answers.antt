@@ -9,14 +9,14 @@ carry_out-requires c =
     rw c.as_slice.ensures.value
     (whole_plan c.args.policy.now c.args.ids.now.marks
     (link_of c.args.outbox.now c.args.ids.now c.args.wanted.now 0) c.args.outbox.now.waiting
-    c.plan.new.outs c.plan.new.log.items c.plan.new.ids
+    c.in-Ok.outs c.plan.new.log.items c.plan.new.ids
     c.plan.new.wanted (c.in-Ok.ensures.planned 0))
 
 pub returns-in-Ok-clause-outs : goal.returns-in-Ok-clause-outs
 returns-in-Ok-clause-outs c pinged =
     all_outs c.args.policy.now c.args.ids.now.marks
     (link_of c.args.outbox.now c.args.ids.now c.args.wanted.now pinged) c.args.outbox.now.waiting
-    c.plan.new.outs c.plan.new.log.items c.plan.new.ids
+    c.in-Ok.outs c.plan.new.log.items c.plan.new.ids
     c.plan.new.wanted (c.in-Ok.ensures.planned pinged)
 
 pub returns-in-Ok-clause-after : goal.returns-in-Ok-clause-after
@@ -26,7 +26,7 @@ returns-in-Ok-clause-after c pinged =
     ≡ record { waiting = []; in_flight = s.in_flight ++ flights s.waiting c.plan.new.log.items } =
     rw c.as_slice.ensures.value at c.carry_out.ensures in
     link_taken c.args.policy.now c.args.ids.now.marks s c.carry_out.new.outbox c.args.ids.now c.plan.new.ids
-    c.args.wanted.now c.plan.new.wanted pinged c.plan.new.outs c.plan.new.log.items
+    c.args.wanted.now c.plan.new.wanted pinged c.in-Ok.outs c.plan.new.log.items
     (c.in-Ok.ensures.planned pinged) left
 
 pub returns-in-Ok-clause-marked : goal.returns-in-Ok-clause-marked
@@ -36,5 +36,5 @@ returns-in-Ok-clause-marked c =
     ≡ record { waiting = []; in_flight = s.in_flight ++ flights s.waiting c.plan.new.log.items } =
     rw c.as_slice.ensures.value at c.carry_out.ensures in
     marked_taken c.args.policy.now c.args.ids.now.marks s c.carry_out.new.outbox c.args.ids.now c.plan.new.ids
-    c.args.wanted.now c.plan.new.wanted c.plan.new.outs c.plan.new.log.items
+    c.args.wanted.now c.plan.new.wanted c.in-Ok.outs c.plan.new.log.items
     (c.in-Ok.ensures.planned 0) left

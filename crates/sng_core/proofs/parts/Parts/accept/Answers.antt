@@ -35,9 +35,10 @@ returns-clause-outs c =
     let connect = c.args.connect in
     let count =
     c.unplaced-dropped.ensures ∙ ap (λ texts. length texts - places_left s.link) c.in_ok-alone.ensures in
-    c.in_ok-handed.ensures.outs
+    c.in_ok-outs-2.ensures
+    ∙ (c.in_ok-handed.ensures.outs
     ∙ (ap (λ outs. outs ++ own_outs s.policy from connect (at_place s.clients c.find-place.result))
     (c.in_ok-outs.ensures ∙ ap (accepted_outs from connect.client_id s.clients) count)
     ∙ (ap (λ place. accepted_outs from connect.client_id s.clients (dropped_by s connect)
     ++ own_outs s.policy from connect (at_place s.clients place)) c.find-place.ensures.place
-    ∙ ap (λ t. connect_outs t from connect Allowed) c.self.view_is))
+    ∙ ap (λ t. connect_outs t from connect Allowed) c.self.view_is)))

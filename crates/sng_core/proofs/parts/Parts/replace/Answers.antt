@@ -7,7 +7,7 @@ use Rattle.sng_core.proofs.parts.Parts.replace.Goals as goal
 pub returns-clause-outs : goal.returns-clause-outs
 returns-clause-outs c =
     let s : State = c.args.self.now in
-    c.into_outs.ensures
+    c.into_pair.ensures
     ∙ (c.end_all.ensures.outs
     ∙ (ap (λ outs. outs ++ all_outs s c.in_ok-endings.endings.items) c.in_ok-outs.ensures.outs
     ∙ (ap (all_outs s) c.in_ok-endings.ensures ∙ replaced_outs s c.args.policy c.requires)))
