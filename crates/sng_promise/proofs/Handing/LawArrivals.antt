@@ -1,6 +1,6 @@
 -- A message of the broker comes to each client that it concerns: it is refused at once, or handed over at
 -- once, or waits.
-use Rattle.std.proofs.Common.{◌≡◌, ℕ, ◌+◌, ◌≤◌, Bool, true, false, List, [], ◌∷◌, ◌++◌, length, refl, ap, sym}
+use Rattle.std.proofs.Common.{◌≡◌, ℕ, ◌≤◌, Bool, true, false, List, [], ◌∷◌, ◌++◌, length, refl, ap, sym}
 use Rattle.std.proofs.Common.{◌∙◌, if◌then◌else◌, arith}
 use Rattle.std.specs.Prelude.{◌&&◌, not, nat_lt, nat_le, is_none, slice_get, Option, Some, None}
 use Rattle.std.proofs.lemmas.Bool.Decides.{nat_tests}
