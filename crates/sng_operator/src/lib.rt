@@ -6,6 +6,7 @@ pub mod ask;
 pub mod commands;
 pub mod denials;
 pub mod ends;
+pub mod fate;
 pub mod in_force;
 pub mod lists;
 pub mod news;

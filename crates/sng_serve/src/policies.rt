@@ -1,11 +1,14 @@
 //! What an operator says while the gateway serves, a line of standard input each: policies, and the commands of
 //! `commands.rt`.
-ghost use Rattle.std.specs.Prelude.{◌≡◌, ◌≢◌, ◌⊎◌, [], false, true};
-ghost use Rattle.sng_serve.specs.Readings.{IsPolicyOf};
+ghost use Rattle.std.specs.Prelude.{◌≡◌, ◌≢◌, ◌≤◌, ◌<◌, ◌↔◌, ◌⊎◌, [], false, true};
+ghost use Rattle.sng_desk.specs.Acts.{Moves};
+ghost use Rattle.sng_desk.specs.Working.{given_by};
+ghost use Rattle.sng_operator.specs.Commands.{ForReload, asked_by};
+ghost use Rattle.sng_serve.specs.Readings.{CannotRead, IsAnswer, IsPolicyOf, IsTurn};
 ghost use Rattle.sng_desk.specs.declared.source.Got.TheVariants.{Ended as ended_answer, Failed as failed_answer};
 
 use crate::hub::Hub;
-use crate::patient::{InputWatch, PatientReader};
+use crate::patient::PatientInput;
 use crate::reports::tell_report;
 use sng_desk::{Got, Policies};
 use sng_gateway::input::read_line;
@@ -13,24 +16,20 @@ use sng_gateway::may::push_refused;
 use sng_grants::Policy;
 use sng_operator::ask::file_text;
 use sng_operator::commands::{Command, HELP, command_of, push_unknown};
+use sng_operator::fate::{Fate, fate_of};
 use sng_operator::in_force::InForce;
 use sng_operator::lists::Lists;
-use sng_scope::{PolicyFault, read_policy};
+use sng_scope::PolicyFault;
 use sng_text::Octets;
-use std::alloc::AllocError;
-use std::io::BufReader;
-use std::rt::{Clock, Files};
+use std::rt::Files;
 use std::str;
 
-/// How many bytes of standard input are read at a time.
-const BUFFER_BYTES: usize = 65536;
-
-/// The policies of an operator.
+/// The policies of an operator, whose lines are those of an input.
 #[derive(Drop)]
-pub struct OperatorPolicies<'a, R: Clock + Input + Print + Eprint + Files + AllocGlobal> {
+pub struct OperatorPolicies<'a, R: Files + AllocGlobal, I: PatientInput + Drop> {
     rt: &'a R,
     hub: &'a Hub,
-    input: BufReader<PatientReader<'a, R, R::Reader>>,
+    input: I,
     line: Vec<u8>,
     /// The file that is read again on `reload`. Where there is one, the end of the input stops nothing.
     file: Option<String>,
@@ -39,30 +38,27 @@ pub struct OperatorPolicies<'a, R: Clock + Input + Print + Eprint + Files + Allo
     lost_input: bool,
 }
 
-impl<'a, R: Clock + Input + Print + Eprint + Files + AllocGlobal> OperatorPolicies<'a, R> {
+impl<'a, R: Files + AllocGlobal, I: PatientInput + Drop> OperatorPolicies<'a, R, I> {
     /// The text is that of the policy in force, where there is one.
     pub fn new(
         rt: &'a R,
         hub: &'a Hub,
+        input: I,
         file: Option<String>,
         text: Option<Vec<u8>>,
-        watch: InputWatch,
-    ) -> Result<OperatorPolicies<'a, R>, AllocError> {
-        let alloc = rt.alloc();
-        let reader = PatientReader::new(rt, hub, watch, rt.reader());
-        let Ok(input) = BufReader::with_capacity(alloc, BUFFER_BYTES, reader) else {
-            return Err(AllocError);
-        };
-        Ok(OperatorPolicies {
+    ) -> OperatorPolicies<'a, R, I>
+        ensures { result.input ≡ input }
+    {
+        OperatorPolicies {
             rt,
             hub,
             input,
-            line: Vec::new(alloc),
+            line: Vec::new(rt.alloc()),
             file,
             in_force: InForce::new(text.map(Octets::from)),
             has_ended: false,
             lost_input: false,
-        })
+        }
     }
 
     /// Whether standard input could not be read.
@@ -72,8 +68,11 @@ impl<'a, R: Clock + Input + Print + Eprint + Files + AllocGlobal> OperatorPolici
         self.lost_input
     }
 
-    /// What the next line asks for. The end of the input stops all where no file has the policy.
+    /// What the next line asks for: it is taken whole, and exactly what stands behind it is left. The end of the
+    /// input stops all where no file has the policy, and so does an input that cannot be read.
     fn read(&mut self) -> Got<Policy>
+        ensures turn { IsTurn (I.remaining self.old.input) (I.remaining self.new.input)
+            (I.given_up self.new.input) self.old.lost_input self.new.lost_input result }
         ensures ended { result ≡ ended_answer → self.new.has_ended ≡ true }
         ensures going { result ≢ failed_answer }
         ensures ends { self.new.has_ended ≡ true → (result ≡ ended_answer) ⊎ (self.old.has_ended ≡ true) }
@@ -85,16 +84,27 @@ impl<'a, R: Clock + Input + Print + Eprint + Files + AllocGlobal> OperatorPolici
                 let stops = self.file.is_none();
                 self.end(stops)
             }
-            Err(_) => {
-                self.hub.tell("standard input cannot be read");
-                self.lost_input = true;
-                self.end(true)
-            }
+            Err(_) => self.lose_input(),
         }
+    }
+
+    /// The input cannot be read, or was given up.
+    fn lose_input(&mut self) -> Got<Policy>
+        ensures lost { CannotRead (I.given_up self.new.input) self.old.lost_input self.new.lost_input result }
+        ensures ended { self.new.has_ended ≡ true }
+    {
+        if !self.input.is_given_up() {
+            self.hub.tell("standard input cannot be read");
+            self.lost_input = true;
+        }
+        self.end(true)
     }
 
     /// Does what the line asks for.
     fn take_line(&mut self) -> Got<Policy>
+        ensures answer { IsAnswer (asked_by self.old.line.items) result }
+        ensures input { self.new.input ≡ self.old.input }
+        ensures lost { self.new.lost_input ≡ self.old.lost_input }
         ensures ended { result ≡ ended_answer → self.new.has_ended ≡ true }
         ensures going { result ≢ failed_answer }
         ensures ends { self.new.has_ended ≡ true → (result ≡ ended_answer) ⊎ (self.old.has_ended ≡ true) }
@@ -114,7 +124,9 @@ impl<'a, R: Clock + Input + Print + Eprint + Files + AllocGlobal> OperatorPolici
 
     /// The policy of the file, where there is one.
     fn reload(&mut self) -> Got<Policy>
-        ensures going { result ≢ ended_answer × result ≢ failed_answer }
+        ensures answer { IsAnswer ForReload result }
+        ensures input { self.new.input ≡ self.old.input }
+        ensures lost { self.new.lost_input ≡ self.old.lost_input }
         ensures same { self.new.has_ended ≡ self.old.has_ended }
     {
         let Some(path) = &self.file else {
@@ -134,6 +146,8 @@ impl<'a, R: Clock + Input + Print + Eprint + Files + AllocGlobal> OperatorPolici
     fn end(&mut self, stops: bool) -> Got<Policy>
         ensures ended { self.new.has_ended ≡ true }
         ensures answer { result ≡ ended_answer }
+        ensures input { self.new.input ≡ self.old.input }
+        ensures lost { self.new.lost_input ≡ self.old.lost_input }
     {
         if stops {
             self.hub.stop();
@@ -144,7 +158,9 @@ impl<'a, R: Clock + Input + Print + Eprint + Files + AllocGlobal> OperatorPolici
 
     /// Tells what came of the policy that was given last: the desk has acted on it since, or refused to.
     fn settle(&mut self)
-        ensures { self.new.has_ended ≡ self.old.has_ended }
+        ensures input { self.new.input ≡ self.old.input }
+        ensures lost { self.new.lost_input ≡ self.old.lost_input }
+        ensures ended { self.new.has_ended ≡ self.old.has_ended }
     {
         let is_refused = self.hub.takes_policy_refusal();
         let Some(lists) = self.in_force.settle(is_refused) else {
@@ -159,8 +175,7 @@ impl<'a, R: Clock + Input + Print + Eprint + Files + AllocGlobal> OperatorPolici
     }
 }
 
-impl<'a, R: Clock + Input + Print + Eprint + Files + AllocGlobal> Policies
-    for OperatorPolicies<'a, R> {
+impl<'a, R: Files + AllocGlobal, I: PatientInput + Drop> Policies for OperatorPolicies<'a, R, I> {
     ghost tells = { λ _. false };
 
     ghost gave = { λ _. [] };
@@ -169,7 +184,15 @@ impl<'a, R: Clock + Input + Print + Eprint + Files + AllocGlobal> Policies
 
     ghost has_ended = { λ p. p.has_ended };
 
-    fn next(&mut self) -> Got<Policy> {
+    fn next(&mut self) -> Got<Policy>
+        ensures turn { IsTurn (I.remaining self.old.input) (I.remaining self.new.input)
+            (I.given_up self.new.input) self.old.lost_input self.new.lost_input result }
+        ensures given { Moves (λ _. false) (λ _. []) self.old self.new (given_by result) }
+        ensures failures { 0 ≤ 0 }
+        ensures failed { (result ≡ failed_answer) ↔ (0 < 0) }
+        ensures ended { result ≡ ended_answer → self.new.has_ended ≡ true }
+        ensures ends { self.new.has_ended ≡ true → (result ≡ ended_answer) ⊎ (self.old.has_ended ≡ true) }
+    {
         self.settle();
         self.read()
     }
@@ -182,20 +205,19 @@ impl<'a, R: Clock + Input + Print + Eprint + Files + AllocGlobal> Policies
 /// The policy that the text is, with its warnings told. One that is refused is told, and replaces nothing; one
 /// that is in force already makes no event.
 fn give<R: AllocGlobal>(rt: &R, hub: &Hub, in_force: &mut InForce, text: &[u8]) -> Got<Policy>
-    ensures going { result ≢ ended_answer × result ≢ failed_answer }
-    ensures policy { IsPolicyOf text.now result }
+    ensures { IsPolicyOf text.now result }
 {
-    if in_force.is(text) {
-        hub.tell("policy unchanged: nothing to do");
-        return Got::Nothing;
-    }
-    match read_policy(rt.alloc(), text) {
-        Ok(policy) => {
+    match fate_of(rt.alloc(), in_force, text) {
+        Fate::Unchanged => {
+            hub.tell("policy unchanged: nothing to do");
+            Got::Nothing
+        }
+        Fate::Taken(policy) => {
             tell_report(rt, hub, text);
             in_force.propose(rt.alloc(), text, Lists::of(&policy));
             Got::Came(policy)
         }
-        Err(fault) => {
+        Fate::Refused(fault) => {
             refuse(rt, hub, text, fault);
             Got::Nothing
         }

@@ -9,6 +9,7 @@ use crate::hub::Hub;
 use crate::limits::FULL_ROWS;
 use crate::link::BrokerLink;
 use crate::opening::{Ears, NotBegun, ServingCrew, Shared, crew_of, make_shared, open, tell_open};
+use crate::patient::StandardInput;
 use crate::policies::OperatorPolicies;
 use crate::printing::{Printed, start_printer};
 use crate::socket::Socket;
@@ -40,7 +41,7 @@ type Left<'a, R> = Ended<
     Socket<'a, R>,
     BrokerLink<'a, R>,
     SystemBeats<'a, R>,
-    OperatorPolicies<'a, R>,
+    OperatorPolicies<'a, R, StandardInput<'a, R>>,
 >;
 
 /// Serves until `quit` or the end of standard input, or until the gateway cannot go on.
