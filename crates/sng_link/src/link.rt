@@ -254,7 +254,12 @@ impl Link {
     /// judged by the policy, in order. Those that are still allowed are sent again under their packet ids
     /// (3.3.1.1 and 4.4), and the others are in flight no more. Then each filter that is wanted is subscribed
     /// anew (3.8). An `Err` is a failed allocation, and nothing changes.
-    pub fn begin(&mut self, alloc: Global, policy: &Policy, clock: u64) -> Result<OutsPair, AllocError>
+    pub fn begin(
+        &mut self,
+        alloc: Global,
+        policy: &Policy,
+        clock: u64,
+    ) -> Result<OutsPair, AllocError>
         requires few { length self.old.wanted ≤ MAX_WANTED }
         ensures outs { IfOk result (λ outs. outs
             ≡ beginning self.old clock (agains_of policy.now self.old.in_flight)) }
