@@ -6,9 +6,9 @@ its whole output and exit status (NAME.expected; NAME.status, where it is not 0)
 tests/lines.table, which cannot be read; the scripts of full_places.py; the policy texts of policy_texts.py;
 the questions of tests/cover.table and tests/may.table; the reports on policy texts of policy_reports.py, with
 their warnings where the proved program runs; books of a script, its own and others; command lines, good and
-bad; output that cannot be written; a line without end under a limit of memory. A search over names
-(cover_search.py) answers the first table of questions too, and memory_errors.py reads which lines of the
-sources make an error of memory. Uses the proved program where one lies in crates/sng/out that is newer than
+bad; output that cannot be written; a line without end under a limit of memory. The numbers in the help have to
+be those of the constants. A search over names (cover_search.py) answers the first table of questions too, and
+memory_errors.py reads which lines of the sources make an error of memory. Uses the proved program where one lies in crates/sng/out that is newer than
 every source, and else one build without proof, which leaves out what it cannot run, and says what.
 """
 import collections
@@ -40,6 +40,14 @@ DATA = [word for name in (POLICY, 'cover.table', BOOK_SCRIPT)
 MAX_LINE = 64 * 1024 * 1024
 MEMORY = 512 * 1024 * 1024
 SHORT = 16 * 1024 * 1024
+# The texts of the help that have a number, with the constants that they tell of, and where these stand
+HELP_SOURCES = ('sng/src/command.rt', 'sng_serve/src/limits.rt')
+HELP_TEXTS = (
+    'How many workers read datagrams, from 1 to {MAX_WORKERS}',
+    'How many tries to connect may fail in a row: {USUAL_TRIES} where it is left out; 0 is no end',
+    'How many denied datagrams a second one stranger may send: {each} where it is left out',
+    'How many all strangers together may send: {all} where it is left out',
+)
 
 # A run of the program: standard input, the exit status, and standard output and standard error, where they
 # are compared
@@ -187,6 +195,29 @@ def command_lines():
         yield Case('-'.join(words).replace('--', ''), words, b'', 0, None)
 
 
+def constants():
+    """The numbers of the constants that the help tells of, and of the fields of such a constant, by name."""
+    found = {}
+    for source in HELP_SOURCES:
+        text = read(os.path.join(ROOT, 'crates', source)).decode()
+        for name, number in re.findall(r'(?:const |^ {4})(\w+): (?:\w+ = )?([\d_]+)[;,]$', text, re.MULTILINE):
+            found[name] = int(number)
+    return found
+
+
+def is_helped_right(proved):
+    """Whether each text of the help that has a number has that of its constant; printed, where the proved
+    program runs."""
+    wanted = sorted(text.format(**constants()) for text in HELP_TEXTS)
+    source = read(os.path.join(ROOT, 'crates', HELP_SOURCES[0])).decode()
+    told = sorted(text for text in re.findall(r'\.help\(\s*"([^"]*)"', source) if re.search(r'\b\d', text))
+    printed = run_proved(Case('', ['serve', '--help'], b'', 0, None))[1].decode() if proved else ''
+    if told == wanted and all(text in printed or not proved for text in wanted):
+        return True
+    print('  the help is to tell', wanted, '\n  found', told, printed)
+    return False
+
+
 def cases():
     yield from scripts()
     yield from questions()
@@ -284,6 +315,7 @@ def main():
     proved = is_current()
     print('end to end, by', 'the proved program' if proved else 'the build without proof')
     results = list(by_the_proved_program() if proved else by_the_build_without_proof())
+    results.append(('numbers-in-the-help', is_helped_right(proved)))
     search = subprocess.run([sys.executable, os.path.join(HERE, 'cover_search.py')], timeout=SECONDS)
     results.append(('cover.table-by-a-search-over-names', search.returncode == 0))
     errors = subprocess.run([sys.executable, os.path.join(HERE, 'memory_errors.py')], timeout=SECONDS)
