@@ -11,7 +11,7 @@ use sng_text::Octets;
 use std::alloc::{AllocError, Global};
 
 /// The version, and what `rt version` prints of the kit that proves it.
-const VERSION: &str = "0.1.0, proved by rattle-kit-13f logic dac8208d650f15bf";
+const VERSION: &str = "0.1.0, proved by rattle-kit-13b logic dac8208d650f15bf";
 
 /// How many tries to connect may fail, one after another, where nothing else is asked for.
 const USUAL_TRIES: u32 = 5;
