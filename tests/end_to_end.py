@@ -42,7 +42,8 @@ MAX_LINE = 64 * 1024 * 1024
 MEMORY = 512 * 1024 * 1024
 SHORT = 16 * 1024 * 1024
 # The texts of the help that have a number, with the constants that they tell of, and where these stand
-HELP_SOURCES = ('sng/src/command.rt', 'sng_serve/src/limits.rt')
+HELP_SOURCES = sorted(glob.glob(os.path.join(ROOT, 'crates/sng/src/command/*.rt')))
+LIMITS = os.path.join(ROOT, 'crates/sng_serve/src/limits.rt')
 HELP_TEXTS = (
     'How many workers read datagrams, from 1 to {MAX_WORKERS}',
     'How many tries to connect may fail in a row: {USUAL_TRIES} where it is left out; 0 is no end',
@@ -199,8 +200,8 @@ def command_lines():
 def constants():
     """The numbers of the constants that the help tells of, and of the fields of such a constant, by name."""
     found = {}
-    for source in HELP_SOURCES:
-        text = read(os.path.join(ROOT, 'crates', source)).decode()
+    for source in HELP_SOURCES + [LIMITS]:
+        text = read(source).decode()
         for name, number in re.findall(r'(?:const |^ {4})(\w+): (?:\w+ = )?([\d_]+)[;,]$', text, re.MULTILINE):
             found[name] = int(number)
     return found
@@ -210,7 +211,7 @@ def is_helped_right(proved):
     """Whether each text of the help that has a number has that of its constant; printed, where the proved
     program runs."""
     wanted = sorted(text.format(**constants()) for text in HELP_TEXTS)
-    source = read(os.path.join(ROOT, 'crates', HELP_SOURCES[0])).decode()
+    source = ''.join(read(source).decode() for source in HELP_SOURCES)
     told = sorted(text for text in re.findall(r'\.help\(\s*"([^"]*)"', source) if re.search(r'\b\d', text))
     printed = run_proved(Case('', ['serve', '--help'], b'', 0, None))[1].decode() if proved else ''
     if told == wanted and all(text in printed or not proved for text in wanted):

@@ -138,7 +138,7 @@ def the_version(room):
     status, came = room.run('--version')
     kit = subprocess.run(['rt', 'version'], stdin=subprocess.DEVNULL, stdout=subprocess.PIPE, timeout=60,
                          check=True, text=True)
-    printed = 'sng 0.1.0, proved by %s\n' % kit.stdout.strip()
+    printed = 'sng 0.1.0, proved by rattle logic %s\n' % kit.stdout.split()[-1]
     wanted((status, came) == (0, printed), '%r, and not %d: %r' % (printed, status, came))
 
 

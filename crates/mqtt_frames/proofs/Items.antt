@@ -45,11 +45,6 @@ items_of-next {A} item_at consumes (b ∷ bytes) x rest is =
     (items_within-room item_at consumes (length bytes) (length rest) rest (omega arith)
     (omega (arith, consumes (b ∷ bytes) x rest is))))
 
-pub items_of-fails : {A : Type 0} (item_at : List ℕ → Result (A × List ℕ) PacketFault) (bytes : List ℕ)
-    (e : PacketFault) → 0 < length bytes → item_at bytes ≡ Err e → items_of item_at bytes ≡ Err e
-items_of-fails item_at [] e some is = absurd (omega arith)
-items_of-fails item_at (b ∷ bytes) e some is = rw is refl
-
 pub regroup : {A : Type 0} (front : List A) (x : A) (read : Result (List A) PacketFault)
     → with_front front (read >>= λ items. Ok (x ∷ items)) ≡ with_front (front ++ x ∷ []) read
 regroup front x (Ok items) = ap Ok (simp append_assoc)

@@ -7,7 +7,6 @@ use Rattle.std.proofs.lemmas.Bool.{cases_lt, lt-ltb, le-ltb}
 use Rattle.std.proofs.lemmas.List.{take-append-drop, take_all, drop_all, drop-append-le, length-take-le}
 use Rattle.mqtt_frames.specs.declared.limits.TheConstants.{MAX_PACKET}
 use Rattle.mqtt_frames.specs.declared.fault.PacketFault.{PacketFault}
-use Rattle.mqtt_frames.specs.declared.fault.PacketFault.TheVariants.{TooLong}
 use Rattle.mqtt_frames.specs.declared.packet.Packet.{Packet}
 use Rattle.mqtt_frames.specs.declared.kind.Kind.{Kind}
 use Rattle.mqtt_frames.specs.declared.header.Length.{Length}
@@ -22,11 +21,11 @@ use Rattle.mqtt_frames.specs.Kinds.{kind_of}
 use Rattle.mqtt_frames.specs.Reading.{body_of}
 use Rattle.mqtt_frames.specs.Headers.{behind_group, length_at, with_kind, with_length, header_at}
 use Rattle.mqtt_frames.specs.Fronts.{sized, behind_header, decode}
-use Rattle.mqtt_frames.specs.Streams.{Rest, Fault, Read, read_all, behind_body, read_of}
+use Rattle.mqtt_frames.specs.Streams.{Read, read_all, behind_body, read_of}
 use Rattle.mqtt_frames.specs.Streams.{IsReady}
 use Rattle.mqtt_frames.proofs.ReadIsSpelled.{behind_group-told, with_length-told, behind_header-told}
 use Rattle.mqtt_frames.proofs.StreamLemmas.{header_at-more, header_at-positive, body-more, decode-within}
-use Rattle.mqtt_frames.proofs.StreamLemmas.{alone, not_sized}
+use Rattle.mqtt_frames.proofs.StreamLemmas.{not_sized}
 use Rattle.mqtt_frames.proofs.StreamLemmas.{read_all-waiting, read_all-faulty, read_all-whole, WaitsAt}
 use Rattle.mqtt_frames.proofs.StreamLemmas.{read_all-waits}
 
@@ -144,27 +143,6 @@ is_part held piece kind start rest waits told short =
     ]
 
 -- what is read then
-
-pub unfinished-read : (bytes : List ℕ) → header_at bytes ≡ headers.Unfinished
-    → read_all bytes ≡ alone (Rest bytes)
-unfinished-read bytes is = read_all-waiting bytes (rw is refl)
-
-pub faulty-read : (bytes : List ℕ) (fault : PacketFault) → header_at bytes ≡ headers.Faulty fault
-    → read_all bytes ≡ alone (Fault fault)
-faulty-read bytes fault is = read_all-faulty bytes fault (rw is refl)
-
-pub too_long-read : (bytes : List ℕ) (kind : Kind) (start rest : ℕ)
-    → header_at bytes ≡ headers.Known kind start rest → MAX_PACKET < start + rest
-    → read_all bytes ≡ alone (Fault TooLong)
-too_long-read bytes kind start rest told long =
-    read_all-faulty bytes TooLong (rw (told, lt-ltb MAX_PACKET (start + rest) long) refl)
-
-pub part-read : (bytes : List ℕ) (kind : Kind) (start rest : ℕ)
-    → header_at bytes ≡ headers.Known kind start rest → start + rest ≤ MAX_PACKET
-    → length bytes < start + rest → read_all bytes ≡ alone (Rest bytes)
-part-read bytes kind start rest told short part =
-    read_all-waiting bytes
-    (rw (told, le-ltb MAX_PACKET (start + rest) short, lt-ltb (length bytes) (start + rest) part) refl)
 
 sized-read : (bytes : List ℕ) (size : ℕ) (r : Result Packet PacketFault) → decode bytes ≡ sized size r
     → read_all bytes ≡ behind_body r (drop size bytes)

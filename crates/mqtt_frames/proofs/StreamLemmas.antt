@@ -261,8 +261,3 @@ read_all-append bytes more = read_all-append-within (length bytes) bytes more (o
 pub not_sized : (size : ℕ) (r : Result Packet PacketFault) → sized size r ≡ fronts.Waiting → ⊥
 not_sized size (Ok packet) is = cc
 not_sized size (Err fault) is = cc
-
--- what the code knows
-pub waits_after : (packets all : List Packet) (bytes : List ℕ) (e : End)
-    → with_packets packets (read_all bytes) ≡ record { packets = all; ending = e } → WaitsAt e
-waits_after packets all bytes e is = subst WaitsAt (ap (λ (r : Read). r.ending) is) (read_all-waits bytes)

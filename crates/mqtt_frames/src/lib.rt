@@ -34,7 +34,7 @@ pub use packet::{
     Connect, ConnectAck, Packet, Publish, Request, RequestedQos, Subscribe, SubscribeAck,
     SubscribeCode, Unsubscribe,
 };
-pub use publish::{encode_publish, write_publish};
+pub use publish::write_publish;
 pub use stream::Stream;
 pub use subscribe::encode_subscribe;
 pub use unsubscribe::encode_unsubscribe;

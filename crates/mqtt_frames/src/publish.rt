@@ -1,14 +1,13 @@
 //! PUBLISH at QoS 0 and 1 (MQTT 3.1.1, 3.3): reading, size and writing.
-ghost use Rattle.std.specs.Prelude.{◌≡◌, ◌≤◌, ◌<◌, ◌+◌, ◌^◌, ◌++◌, true, false, length, IfOk, OnOk, SomeIff};
+ghost use Rattle.std.specs.Prelude.{◌≡◌, ◌≤◌, ◌+◌, ◌++◌, false, length, IfOk, OnOk, SomeIff};
 ghost use Rattle.mqtt_frames.specs.Packets.{flag, qos_bits, publish_byte, body, text_bytes, id_bytes};
 ghost use Rattle.mqtt_frames.specs.Packets.{written};
-ghost use Rattle.mqtt_frames.specs.Spellable.{is_optional_id};
 ghost use Rattle.mqtt_frames.specs.Parts.{publish_of_parts};
 ghost use Rattle.mqtt_frames.specs.Reading.{Gives, publish_of};
 
 use crate::fields::{self, flag};
 use crate::kind::PublishFlags;
-use crate::limits::{MAX_PACKET, MAX_REMAINING};
+use crate::limits::MAX_PACKET;
 use crate::read_fault::ReadFault;
 use crate::{Packet, Publish, first, remaining};
 use sng_text::{Octets, TopicName};
@@ -93,28 +92,6 @@ fn push_parts(
         fields::push_number(bytes, usize::from(packet_id))?;
     }
     bytes.extend_from_slice(payload)
-}
-
-/// The PUBLISH of a message: at QoS 1 with a packet identifier, which is not 0, and else at QoS 0. Allocates
-/// once, and copies the name and the payload once.
-pub fn encode_publish(
-    alloc: Global,
-    name: &TopicName,
-    payload: &[u8],
-    retain: bool,
-    packet_id: Option<u16>,
-    dup: bool,
-) -> Result<Octets, AllocError>
-    requires identified { is_optional_id packet_id ≡ true }
-    requires short { length name.now + length payload.now + 4 ≤ MAX_REMAINING }
-    ensures { IfOk result (λ o.
-        o ≡ written (publish_of_parts name.now payload.now retain packet_id dup)) }
-{
-    let name = name.text();
-    let rest = 2 + name.len() + id_size(packet_id) + payload.len();
-    let mut bytes = remaining::front(alloc, flags_byte(dup, packet_id, retain), rest)?;
-    push_parts(&mut bytes, name, packet_id, payload)?;
-    Ok(Octets::from(bytes))
 }
 
 /// The PUBLISH of a message that is sent for the first time: at QoS 1 with a packet identifier, and else at

@@ -29,12 +29,12 @@ use Rattle.sng_history.proofs.Booleans.{and_no, left_holds}
 use Rattle.sng_sessions.specs.Handed.{handed_by}
 use Rattle.sng_sessions.specs.Sleeping.{changed}
 use Rattle.sng_sessions.specs.declared.sleeping.Change.TheVariants.{Repeats}
-use Rattle.sng_core.specs.Again.{register_again, announced_by, announced_to, announced_outs, announced_comes}
-use Rattle.sng_core.specs.Again.{handed_outs_by, handed_to, exchange_outs, exchange_comes}
+use Rattle.sng_turns.specs.Again.{register_again, announced_by, announced_to, announced_outs, announced_comes}
+use Rattle.sng_turns.specs.Again.{handed_outs_by, handed_to, exchange_outs, exchange_comes}
 use Rattle.sng_core.specs.Dues.{again_outs}
-use Rattle.sng_core.specs.Serving.{told_left, serving_outs}
-use Rattle.sng_core.specs.declared.again.Retried.{Retried}
-use Rattle.sng_core.specs.declared.again.Retried.TheVariants.{Nothing, Sent, Over}
+use Rattle.sng_turns.specs.Serving.{told_left, serving_outs}
+use Rattle.sng_turns.specs.declared.again.Retried.{Retried}
+use Rattle.sng_turns.specs.declared.again.Retried.TheVariants.{Nothing, Sent, Over}
 use Rattle.sng_core.proofs.HandingPlans.{plan_further, settled_first}
 use Rattle.sng_core.proofs.HandingRows.{free_row, free_moves}
 use Rattle.sng_core.proofs.ServingRows.{left_row}

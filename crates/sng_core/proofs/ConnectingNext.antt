@@ -21,7 +21,7 @@ use Rattle.sng_core.specs.Forms.{place_of, client_at, at_place, moved_if}
 use Rattle.sng_core.specs.Forms.{entered}
 use Rattle.sng_sessions.specs.Handed.{handed_by}
 use Rattle.sng_sessions.specs.Moving.{moved_at}
-use Rattle.sng_core.specs.HandingOver.{hand_plan}
+use Rattle.sng_turns.specs.HandingOver.{hand_plan}
 use Rattle.sng_core.specs.Connecting.{nothing_handed, own_plan}
 use Rattle.sng_core.proofs.Found.{read_at}
 use Rattle.sng_core.proofs.HandingRows.{free_moves}

@@ -25,7 +25,7 @@ use Rattle.sng_history.proofs.ClientIds.{ids_of}
 use Rattle.sng_history.proofs.ClientIds.{length_ids}
 use Rattle.sng_core.specs.Forms.{place_of, client_at, at_place}
 use Rattle.sng_grants.specs.declared.policy.Policy.{Policy}
-use Rattle.sng_core.specs.HandingOver.{gone_outs, hand_outs}
+use Rattle.sng_turns.specs.HandingOver.{gone_outs, hand_outs}
 use Rattle.sng_core.specs.Connecting.{behind_welcome, own_outs}
 use Rattle.sng_core.specs.Connecting.{returning}
 use Rattle.sng_core.proofs.Found.{read_at}

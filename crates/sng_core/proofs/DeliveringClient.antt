@@ -28,10 +28,10 @@ use Rattle.sng_history.specs.Good.{AtRest}
 use Rattle.sng_sessions.specs.Handed.{handed_by, delivered}
 use Rattle.sng_sessions.specs.declared.handing.Opens.{Opens}
 use Rattle.sng_sessions.specs.declared.handing.Opens.TheVariants.{Nothing, Announcing, Awaiting}
-use Rattle.sng_core.specs.declared.deliver.Incoming.{Incoming}
-use Rattle.sng_core.specs.declared.deliver.Kept.{Kept}
-use Rattle.sng_core.specs.HandingOver.{message_outs, message_opens, is_open, hand_outs, hand_plan}
-use Rattle.sng_core.specs.Delivering.{incoming, due_at, message_at, kept_opened, due_outs, due_kept}
+use Rattle.sng_turns.specs.declared.deliver.Incoming.{Incoming}
+use Rattle.sng_turns.specs.declared.deliver.Kept.{Kept}
+use Rattle.sng_turns.specs.HandingOver.{message_outs, message_opens, is_open, hand_outs, hand_plan}
+use Rattle.sng_turns.specs.Delivering.{incoming, due_at, message_at, kept_opened, due_outs, due_kept}
 use Rattle.sng_core.proofs.HandingPlans.{waits}
 use Rattle.sng_core.proofs.HandingRows.{free_closed, free_row, free_moves}
 

@@ -34,11 +34,11 @@ use Rattle.sng_sessions.specs.Moving.{moved_at}
 use Rattle.sng_sessions.specs.Handed.{delivered}
 use Rattle.sng_sessions.specs.declared.handing.Opens.{Opens}
 use Rattle.sng_sessions.specs.declared.handing.Opens.TheVariants.{Nothing}
-use Rattle.sng_core.specs.declared.deliver.Incoming.{Incoming}
-use Rattle.sng_core.specs.declared.deliver.Kept.{Kept}
-use Rattle.sng_core.specs.HandingOver.{message_opens, is_open}
-use Rattle.sng_core.specs.Delivering.{incoming, due_at, message_at, kept_opened, due_kept}
-use Rattle.sng_core.specs.Delivering.{deliver_outs, deliver_kept, all_outs, all_kept, keep_all}
+use Rattle.sng_turns.specs.declared.deliver.Incoming.{Incoming}
+use Rattle.sng_turns.specs.declared.deliver.Kept.{Kept}
+use Rattle.sng_turns.specs.HandingOver.{message_opens, is_open}
+use Rattle.sng_turns.specs.Delivering.{incoming, due_at, message_at, kept_opened, due_kept}
+use Rattle.sng_turns.specs.Delivering.{deliver_outs, deliver_kept, all_outs, all_kept, keep_all}
 use Rattle.sng_core.specs.Refusing.{named_outs, named_kept, packet_outs, packet_link, packet_next}
 use Rattle.sng_core.proofs.Plain.{Busy, plain_next, plain_part, plain_moves, plain_row}
 use Rattle.sng_core.proofs.DeliveringClient.{joined, kept_by, due_same, due_none, none_handed, due_spelled}

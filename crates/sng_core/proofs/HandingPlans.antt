@@ -28,10 +28,10 @@ use Rattle.sng_sessions.specs.Handed.{handed_by}
 use Rattle.sng_sessions.specs.declared.handing.Opens.{Opens}
 use Rattle.sng_sessions.specs.declared.handing.Opens.TheVariants.{Nothing, Announcing, Awaiting}
 use Rattle.sng_sessions.specs.declared.handing.Handed.{Handed}
-use Rattle.sng_core.specs.declared.known.KnownId.{KnownId}
-use Rattle.sng_core.specs.HandingOver.{known_of, predefined, fixed_id, normal, known_id, offer_outs}
-use Rattle.sng_core.specs.HandingOver.{turn_outs, awaiting, offer_opens, turn_opens}
-use Rattle.sng_core.specs.HandingOver.{message_opens, is_open, hand_outs, hand_plan}
+use Rattle.sng_turns.specs.declared.known.KnownId.{KnownId}
+use Rattle.sng_turns.specs.HandingOver.{known_of, predefined, fixed_id, normal, known_id, offer_outs}
+use Rattle.sng_turns.specs.HandingOver.{turn_outs, awaiting, offer_opens, turn_opens}
+use Rattle.sng_turns.specs.HandingOver.{message_opens, is_open, hand_outs, hand_plan}
 use Rattle.sng_history.proofs.Turns.{denied_settles}
 
 -- the client, where these wait and no exchange is open

@@ -23,11 +23,11 @@ use Rattle.sng_history.specs.Outgoing.{all_gone}
 use Rattle.sng_history.specs.Entering.{served}
 use Rattle.sng_history.specs.Whole.{spell}
 use Rattle.sng_sessions.specs.Handed.{handed_by, answered}
-use Rattle.sng_core.specs.declared.known.KnownId.{KnownId}
-use Rattle.sng_core.specs.HandingOver.{fixed_id, known_id, offer_outs}
-use Rattle.sng_core.specs.HandingOver.{turn_outs, offer_opens, turn_opens, message_outs}
-use Rattle.sng_core.specs.HandingOver.{message_opens, hand_outs, hand_plan, gone_outs}
-use Rattle.sng_core.proofs.KnownLemmas.{place-confirmed}
+use Rattle.sng_turns.specs.declared.known.KnownId.{KnownId}
+use Rattle.sng_turns.specs.HandingOver.{fixed_id, known_id, offer_outs}
+use Rattle.sng_turns.specs.HandingOver.{turn_outs, offer_opens, turn_opens, message_outs}
+use Rattle.sng_turns.specs.HandingOver.{message_opens, hand_outs, hand_plan, gone_outs}
+use Rattle.sng_turns.proofs.KnownLemmas.{place-confirmed}
 use Rattle.sng_core.proofs.HandingPlans.{waits, turns_spelled, settled_first, turns_moved}
 use Rattle.sng_history.proofs.Turns.{none_right}
 

@@ -1,11 +1,8 @@
-pub mod KnownLemmas
 pub mod HandingPlans
 pub mod HandingRows
 pub mod DeliveringClient
 pub mod DeliveringBusy
 pub mod DeliveringRows
-pub mod HandOverLemmas
-pub mod DeliverLemmas
 pub mod Plain
 pub mod Found
 pub mod ConfirmLemmas
@@ -27,7 +24,6 @@ pub mod ReplacingEnding
 pub mod ReplacingClient
 pub mod ReplacingLost
 pub mod Replacing
-pub mod Planning
 pub mod RefusedFilters
 pub mod Refusing
 pub mod Releasing

@@ -21,8 +21,9 @@ use Rattle.sng_history.specs.Standing.{Release, is_held}
 use Rattle.sng_history.specs.Standing.{places_left, unsubscribes, dropped_of, is_release, drop_note}
 use Rattle.sng_history.specs.Standing.{still_wanted}
 use Rattle.sng_history.specs.State.{State}
-use Rattle.sng_core.specs.declared.replace.Ending.{Ending}
-use Rattle.sng_core.specs.Replacing.{let_go, ended_clients, ended_link, ended_next}
+use Rattle.sng_endings.specs.declared.replacing.Ending.{Ending}
+use Rattle.sng_core.specs.Replacing.{ended_next}
+use Rattle.sng_endings.specs.Replacing.{let_go, ended_clients, ended_link}
 use Rattle.sng_history.proofs.Own.{same_self}
 use Rattle.sng_history.proofs.Booleans.{or_neither, or_yes}
 use Rattle.sng_core.proofs.ReplacingHeld.{Middle, stays_by, leaves_by}

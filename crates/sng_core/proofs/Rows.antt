@@ -19,7 +19,7 @@ use Rattle.sng_history.specs.Causes.{ByBroken}
 use Rattle.sng_queue.specs.Messages.{Message as Mail}
 use Rattle.sng_history.specs.Outgoing.{all_gone}
 use Rattle.sng_history.proofs.Hands.{gone_stays}
-use Rattle.sng_core.specs.HandingOver.{gone_outs}
+use Rattle.sng_turns.specs.HandingOver.{gone_outs}
 use Rattle.sng_history.specs.Clients.{Client, Around, is_here, is_from, note_by}
 use Rattle.sng_history.specs.State.{State, around}
 use Rattle.sng_history.specs.Standing.{Release}

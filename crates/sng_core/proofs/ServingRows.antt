@@ -15,8 +15,8 @@ use Rattle.sng_sessions.specs.Handed.{handed_by, answered}
 use Rattle.sng_sessions.specs.declared.handing.Opens.{Opens}
 use Rattle.sng_sessions.specs.declared.handing.Opens.TheVariants.{Nothing, Announcing, Awaiting}
 use Rattle.sng_sessions.proofs.HandedLemmas.{handed-keeps}
-use Rattle.sng_core.specs.HandingOver.{message_opens, is_open, hand_plan}
-use Rattle.sng_core.specs.Serving.{told_left}
+use Rattle.sng_turns.specs.HandingOver.{message_opens, is_open, hand_plan}
+use Rattle.sng_turns.specs.Serving.{told_left}
 use Rattle.sng_core.proofs.HandingPlans.{waits, hand_by, plan_further, settled_first}
 use Rattle.sng_core.proofs.HandingRows.{waits_self, free_closed}
 use Rattle.sng_core.proofs.HandingRows.{free_moves, plan_confirmed}

@@ -21,7 +21,7 @@ use Rattle.sng_history.proofs.SaysParts.{part_for}
 use Rattle.sng_sessions.specs.Handed.{handed_by}
 use Rattle.sng_sessions.specs.Sleeping.{slept}
 use Rattle.sng_core.specs.Forms.{place_at, at_place, moved_if, found_outs, heard_at}
-use Rattle.sng_core.specs.Serving.{over_plan}
+use Rattle.sng_turns.specs.Serving.{over_plan}
 use Rattle.sng_core.specs.Sleeping.{slept_outs, pinged, woken_outs, woken_next, own_ping_outs, own_ping_next}
 use Rattle.sng_core.specs.Sleeping.{other_ping_outs, ping_outs, ping_next}
 use Rattle.sng_core.proofs.HandingRows.{free_row, free_moves}

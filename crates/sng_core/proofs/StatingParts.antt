@@ -22,8 +22,8 @@ use Rattle.sng_history.specs.Whole.{spell, frames_of}
 use Rattle.sng_history.specs.WillAsks.{topic_at, statement_ask}
 use Rattle.sng_history.specs.WillAsks.{statement_follows}
 use Rattle.sng_history.specs.Good.{AtRest}
-use Rattle.sng_core.specs.Serving.{over_outs}
-use Rattle.sng_core.specs.HandingOver.{gone_outs}
+use Rattle.sng_turns.specs.Serving.{over_outs}
+use Rattle.sng_turns.specs.HandingOver.{gone_outs}
 use Rattle.sng_core.specs.Stating.{has_turn, statement_judged, kept_outs}
 use Rattle.sng_core.specs.Stating.{refused_outs}
 use Rattle.sng_core.specs.Stating.{following_outs, noted_outs, untimely_outs}

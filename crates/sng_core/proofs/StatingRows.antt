@@ -24,7 +24,7 @@ use Rattle.sng_history.proofs.Hands.{gone_stays}
 use Rattle.sng_history.proofs.Booleans.{left_holds}
 use Rattle.sng_sessions.specs.Handed.{handed_by}
 use Rattle.sng_sessions.specs.Willing.{phase_over, stating_at}
-use Rattle.sng_core.specs.Serving.{over_plan}
+use Rattle.sng_turns.specs.Serving.{over_plan}
 use Rattle.sng_core.specs.Connecting.{nothing_handed}
 use Rattle.sng_core.specs.Forms.{place_at, client_at, at_place, moved_if, found_outs}
 use Rattle.sng_core.specs.Stating.{stating_of, has_turn, statement_judged, kept_plan, kept_next}

@@ -31,7 +31,7 @@ use Rattle.sng_history.proofs.WillsPlaced.{placed_append}
 use Rattle.sng_history.proofs.WillsPlaced.{before_is}
 use Rattle.sng_history.proofs.WillsPlaced.{testaments_with}
 use Rattle.sng_link.specs.Rooms.{room_of}
-use Rattle.sng_core.specs.HandingOver.{gone_outs}
+use Rattle.sng_turns.specs.HandingOver.{gone_outs}
 use Rattle.sng_core.specs.Losing.{publication_of, turned_down, will_outs, kept_by, kept_will, room_behind}
 use Rattle.sng_core.specs.Losing.{lost_outs, placed_if}
 use Rattle.sng_core.specs.Dues.{again_outs, due_outs, room_after, dues_outs}

@@ -29,13 +29,13 @@ use Rattle.sng_sessions.specs.Moving.{moved_at}
 use Rattle.sng_link.specs.Rooms.{room_of}
 use Rattle.sng_link.specs.declared.room.Room.{Room}
 use Rattle.sng_core.specs.Losing.{loss_of}
-use Rattle.sng_core.specs.Again.{exchange_comes, retried_clients}
+use Rattle.sng_turns.specs.Again.{exchange_comes, retried_clients}
 use Rattle.sng_core.specs.Dues.{again_at, room_after, dues_plan, dues_room}
 use Rattle.sng_core.specs.Dues.{dues_clients, dues_link, ping_noted, ticked_outs, ticked_next}
 use Rattle.sng_core.specs.declared.tick.Due.{Due}
 use Rattle.sng_core.specs.declared.tick.Due.TheVariants.{Lost, Unanswered}
-use Rattle.sng_core.specs.declared.again.Retried.{Retried}
-use Rattle.sng_core.specs.declared.again.Retried.TheVariants.{Nothing, Sent, Over}
+use Rattle.sng_turns.specs.declared.again.Retried.{Retried}
+use Rattle.sng_turns.specs.declared.again.Retried.TheVariants.{Nothing, Sent, Over}
 use Rattle.sng_core.proofs.RoomLemmas.{place_left}
 use Rattle.sng_sessions.proofs.MovedLists.{moved_at-twice}
 use Rattle.sng_sessions.specs.Handed.{handed_by}

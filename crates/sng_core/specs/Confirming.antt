@@ -11,7 +11,7 @@ use Rattle.sng_book.specs.declared.out.Out.TheVariants.{Note}
 use Rattle.sng_history.specs.Clients.{Client, is_confirming, is_acknowledging, drained}
 use Rattle.sng_history.specs.Entering.{heard_at}
 use Rattle.sng_sessions.specs.Handed.{answered, handed_by}
-use Rattle.sng_core.specs.Serving.{over_plan, serving_outs}
+use Rattle.sng_turns.specs.Serving.{over_plan, serving_outs}
 use Rattle.sng_core.specs.Forms.{broken_outs}
 
 -- a client is served, once it has confirmed the id (0 is none), from this message on

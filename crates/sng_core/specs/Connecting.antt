@@ -27,7 +27,7 @@ use Rattle.sng_grants.specs.declared.policy.Policy.{Policy}
 use Rattle.sng_sessions.specs.Handed.{handed_by}
 use Rattle.sng_sessions.specs.declared.handing.Opens.TheVariants.{Nothing}
 use Rattle.sng_sessions.specs.declared.handing.Handed.{Handed}
-use Rattle.sng_core.specs.HandingOver.{gone_outs, hand_outs, hand_plan}
+use Rattle.sng_turns.specs.HandingOver.{gone_outs, hand_outs, hand_plan}
 use Rattle.sng_core.specs.Forms.{at_place, moved_if}
 
 -- as a CONNECT is accepted, the client is dismissed where it was before

@@ -12,7 +12,7 @@ use Rattle.sng_history.specs.Ticking.{is_repeating, is_lost_at, is_ping_due, pin
 use Rattle.sng_link.specs.Rooms.{room_of}
 use Rattle.sng_link.specs.declared.room.Room.{Room}
 use Rattle.sng_core.specs.Losing.{room_behind, lost_outs, loss_of, lost_clients, lost_link}
-use Rattle.sng_core.specs.Again.{exchange_outs, exchange_comes, retried_clients}
+use Rattle.sng_turns.specs.Again.{exchange_outs, exchange_comes, retried_clients}
 use Rattle.sng_core.specs.declared.tick.Due.{Due}
 use Rattle.sng_core.specs.declared.tick.Due.TheVariants.{Lost, Unanswered}
 

@@ -29,7 +29,7 @@ use Rattle.sng_history.specs.Links.{link_after, resumed, filters_wanted, subscri
 use Rattle.sng_history.specs.Verdicts.{exit, and_then, room, may_ask, name_given, id_room, name_in}
 use Rattle.sng_core.specs.declared.verdict.Judged.{Judged}
 use Rattle.sng_history.specs.Answers.{denied_note, refused, code_of, regack, puback, dismissed}
-use Rattle.sng_core.specs.HandingOver.{gone_outs}
+use Rattle.sng_turns.specs.HandingOver.{gone_outs}
 use Rattle.sng_sessions.specs.Moving.{moved_at}
 pub use Rattle.sng_history.specs.Entering.{heard_at, left_at, entering, entered, hearing}
 pub use Rattle.sng_sessions.specs.Standing.{place_at, place_of, client_at, told_at}

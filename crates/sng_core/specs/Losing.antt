@@ -16,7 +16,7 @@ use Rattle.sng_history.specs.Ticking.{placed}
 use Rattle.sng_sessions.specs.Moving.{moved_at}
 use Rattle.sng_link.specs.Rooms.{room_by, room_past}
 use Rattle.sng_link.specs.declared.room.Room.{Room}
-use Rattle.sng_core.specs.HandingOver.{gone_outs}
+use Rattle.sng_turns.specs.HandingOver.{gone_outs}
 use Rattle.sng_core.specs.declared.tick.Loss.{Loss}
 
 -- ---- one client

@@ -16,8 +16,8 @@ use Rattle.sng_history.specs.Standing.{holds}
 use Rattle.sng_history.specs.State.{State}
 use Rattle.sng_text.specs.Texts.{is_name}
 use Rattle.mqtt_frames.specs.declared.packet.Publish.{Publish}
-use Rattle.sng_core.specs.declared.deliver.Kept.{Kept}
-use Rattle.sng_core.specs.Delivering.{incoming, all_outs, all_kept, keep_all}
+use Rattle.sng_turns.specs.declared.deliver.Kept.{Kept}
+use Rattle.sng_turns.specs.Delivering.{incoming, all_outs, all_kept, keep_all}
 
 -- the end of a filter that the broker refuses, of a client for whom it stands
 abbrev pub end_note : List ℕ → Client → List Out

@@ -15,7 +15,7 @@ use Rattle.sng_history.specs.Verdicts.{is_active}
 use Rattle.sng_sessions.specs.Handed.{handed_by}
 use Rattle.sng_sessions.specs.Sleeping.{woken}
 use Rattle.sng_core.specs.Forms.{broken_outs}
-use Rattle.sng_core.specs.Serving.{over_plan, serving_outs}
+use Rattle.sng_turns.specs.Serving.{over_plan, serving_outs}
 
 -- ---- a DISCONNECT with Duration
 

@@ -29,8 +29,8 @@ use Rattle.sng_sessions.specs.declared.handing.Handed.{Handed}
 use Rattle.sng_sessions.specs.declared.wills.Stating.{Stating}
 use Rattle.sng_sessions.specs.declared.wills.Stating.TheVariants.{NoWill, Topic, Message, Deletion, NewTopic}
 use Rattle.sng_sessions.specs.declared.wills.Stating.TheVariants.{NewMessage}
-use Rattle.sng_core.specs.HandingOver.{gone_outs}
-use Rattle.sng_core.specs.Serving.{over_outs, over_plan}
+use Rattle.sng_turns.specs.HandingOver.{gone_outs}
+use Rattle.sng_turns.specs.Serving.{over_outs, over_plan}
 use Rattle.sng_core.specs.Connecting.{nothing_handed}
 use Rattle.sng_core.specs.Forms.{unread}
 use Rattle.sng_core.specs.declared.stating.Statement.{Statement as Given}

@@ -1,14 +1,14 @@
 //! What a denied message is noted as, and the datagrams that answer a client (MQTT-SN 1.2, 5.4 and 6.14).
 ghost use Rattle.std.specs.Prelude.{◌≡◌, ◌∷◌, ◌++◌, [], IfOk, OnOk};
-ghost use Rattle.sng_history.specs.Answers.{denied_note, code_of, refused, dismissed, connack, welcome, pong};
+ghost use Rattle.sng_history.specs.Answers.{denied_note, code_of, refused, dismissed, connack, welcome};
 ghost use Rattle.sng_history.specs.Answers.{no_flags};
 ghost use Rattle.sng_frames.specs.Writing.{written};
 
 use sng_book::{Address, Decision, Denial, Out, Outcome, Outs, OutsPair, Who};
 use sng_frames::{
     Connect, Flags, FrameQos, ReturnCode, SnFrame, SubscribeAck, TopicAck, TopicIdType,
-    write_connect_ack, write_disconnect, write_ping_response, write_publish_ack,
-    write_register_ack, write_subscribe_ack, write_unsubscribe_ack, write_will_message_request,
+    write_connect_ack, write_disconnect, write_publish_ack, write_register_ack,
+    write_subscribe_ack, write_unsubscribe_ack, write_will_message_request,
     write_will_message_response, write_will_topic_request, write_will_topic_response,
 };
 use sng_text::Octets;
@@ -211,14 +211,6 @@ pub fn message_response(alloc: Global, to: Address, code: ReturnCode) -> Result<
     ensures { IfOk result (λ out. out ≡ Out.Send to (written (SnFrame.WillMessageResponse code))) }
 {
     let datagram = write_will_message_response(alloc, code)?;
-    Ok(Out::Send(to, Octets::from(datagram)))
-}
-
-/// The PINGRESP (5.4.20).
-pub fn pong(alloc: Global, to: Address) -> Result<Out, AllocError>
-    ensures { IfOk result (λ out. out ≡ pong to) }
-{
-    let datagram = write_ping_response(alloc)?;
     Ok(Out::Send(to, Octets::from(datagram)))
 }
 

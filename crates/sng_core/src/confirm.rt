@@ -13,13 +13,13 @@ ghost use Rattle.sng_core.specs.Confirming.{confirming_outs, confirming_next, co
 ghost use Rattle.sng_core.specs.Confirming.{acknowledge_outs, acknowledge_next};
 
 use crate::messages::{denied_frame, no_session_frame};
-use crate::serve::serve_plan;
-use crate::turn::note_hand;
 use sng_book::{Address, Denial, Outcome, Outs, OutsPair};
 use sng_frames::TopicAck;
 use sng_grants::Policy;
 use sng_queue::{Exchange, Sending};
 use sng_sessions::{Change, Sessions};
+use sng_turns::serve::serve_plan;
+use sng_turns::turn::note_hand;
 use std::alloc::{AllocError, Global};
 
 /// A REGACK from this address.

@@ -13,7 +13,6 @@ ghost use Rattle.sng_core.specs.Connecting.{nothing_handed, alone_in, held_besid
 ghost use Rattle.sng_core.specs.Connecting.{let_go, accepted_outs, refused_outs, connect_outs, connect_next};
 
 use crate::answers::{code_of, connack, dismissed, welcome};
-use crate::hand_over::{all_gone, hand_over};
 use crate::parts::Parts;
 use crate::verdict::entry;
 use sng_book::{Address, Decision, Denial, Out, Outcome, Outs, OutsPair};
@@ -24,6 +23,7 @@ use sng_ids::IdTable;
 use sng_link::Link;
 use sng_sessions::{Handed, Opens, Sessions};
 use sng_text::{ClientId, TopicFilter};
+use sng_turns::hand_over::{all_gone, hand_over};
 use std::alloc::{AllocError, Global};
 
 impl Parts {

@@ -3,7 +3,7 @@
 ghost use Rattle.std.specs.Prelude.{◌≡◌, Some, None, Ok, Err, IfOk, if◌then◌else◌};
 ghost use Rattle.sng_text.specs.Texts.{is_name};
 ghost use Rattle.sng_policy.specs.Grants.{topic};
-ghost use Rattle.sng_history.specs.Requests.{granted, gets_id, id_in};
+ghost use Rattle.sng_history.specs.Requests.{granted, gets_id};
 ghost use Rattle.sng_history.specs.Verdicts.{as_filter, predefined_filter, filter_in};
 ghost use Rattle.sng_core.specs.Subscribing.{unread_filter};
 
@@ -12,6 +12,7 @@ use sng_frames::{FrameQos, TopicIdType, TopicRequest};
 use sng_grants::Policy;
 use sng_policy::topic;
 use sng_text::{Qos, TextFault, TopicFilter, TopicName};
+use sng_turns::known::id_in;
 use std::alloc::{AllocError, Global};
 
 /// How an ask about a filter came out, and the filter that was read, where one was.
@@ -79,16 +80,6 @@ fn short_filter(alloc: Global, text: &[u8]) -> Result<Result<TopicFilter, Denial
         Ok(_) => as_filter(alloc, text),
         Err(TextFault::Memory) => Err(AllocError),
         Err(_) => Ok(Err(Denial::BadName)),
-    }
-}
-
-/// The predefined id in the two octets of a topic, the high one first.
-pub fn id_in(topic: &[u8]) -> u16
-    ensures { result ≡ id_in topic.now }
-{
-    match topic {
-        [high, low, ..] => u16::from(*high) * 256 + u16::from(*low),
-        _ => 0,
     }
 }
 

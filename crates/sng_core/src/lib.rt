@@ -3,17 +3,13 @@
 //! allocation failed changes nothing.
 #![tactic(auto)]
 
-mod again;
 mod answers;
 pub mod census;
 mod confirm;
 mod datagram;
-mod deliver;
 mod entry;
 mod filters;
-mod hand_over;
 pub mod history;
-mod known;
 pub mod machine;
 mod messages;
 mod packets;
@@ -21,14 +17,12 @@ mod parts;
 mod publish;
 mod register;
 mod replace;
-mod serve;
 mod sleep;
 mod source;
 mod statement;
 mod stating;
 mod subscribe;
 mod tick;
-mod turn;
 mod unsubscribe;
 mod verdict;
 

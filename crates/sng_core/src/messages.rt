@@ -8,10 +8,10 @@ ghost use Rattle.sng_core.specs.Forms.{place_at, client_at, at_place, moved_if, 
 ghost use Rattle.sng_core.specs.Forms.{found_outs, left_outs, unsupported_outs, broken_outs};
 
 use crate::answers::{denied_note, dismissed, only, refused};
-use crate::hand_over::all_gone;
 use sng_book::{Address, Decision, Denial, Out, Outcome, Outs, OutsPair, Who};
 use sng_frames::SnFrame;
 use sng_sessions::Sessions;
+use sng_turns::hand_over::all_gone;
 use std::alloc::{AllocError, Global};
 
 /// A DISCONNECT without Duration: the client leaves, and what waits for it is gone.

@@ -14,13 +14,13 @@ ghost use Rattle.sng_core.specs.Refusing.{packet_next};
 ghost use Rattle.sng_history.specs.Arriving.{sent_at};
 
 use crate::answers::only;
-use crate::deliver::{Incoming, Kept, deliver, keep_all};
-use crate::known::fixed_id;
 use crate::parts::Parts;
 use mqtt_frames::{Packet, Publish, SubscribeAck, SubscribeCode};
 use sng_book::{Decision, Denial, Out, Outcome, Outs, OutsPair, Who};
 use sng_sessions::Sessions;
 use sng_text::{Qos, TopicFilter, TopicName};
+use sng_turns::deliver::{Incoming, Kept, deliver, keep_all};
+use sng_turns::known::fixed_id;
 use std::alloc::{AllocError, Global};
 
 impl Parts {

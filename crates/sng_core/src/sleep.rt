@@ -11,15 +11,15 @@ ghost use Rattle.sng_core.specs.Forms.{broken_outs};
 ghost use Rattle.sng_core.specs.Sleeping.{slept_outs, pinged, woken_outs, woken_next, own_ping_outs};
 ghost use Rattle.sng_core.specs.Sleeping.{own_ping_next, other_ping_outs, ping_outs, ping_next};
 
-use crate::answers::{dismissed, only, pong};
+use crate::answers::{dismissed, only};
 use crate::messages::{denied_frame, no_session_frame};
-use crate::serve::serve_plan;
 use crate::verdict::is_active;
 use sng_book::{Address, Decision, Denial, Out, Outcome, Outs, OutsPair, Who};
 use sng_grants::Policy;
 use sng_sessions::{Change, Sessions};
 use sng_states::ClientState;
 use sng_text::ClientId;
+use sng_turns::serve::{pong, serve_plan};
 use std::alloc::{AllocError, Global};
 
 /// A DISCONNECT with Duration, in seconds: where it has its turn the client falls asleep, and what waits

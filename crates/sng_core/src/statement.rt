@@ -14,7 +14,6 @@ ghost use Rattle.sng_core.specs.Stating.{statement_next};
 
 use crate::answers::{code_of, connack, message_request, message_response, topic_response};
 use crate::entry::nothing_handed;
-use crate::hand_over::{all_gone, hand_over};
 use crate::messages::no_session;
 use crate::stating::{Statement, has_turn, judged, stating};
 use crate::verdict::{Judged, copy_name};
@@ -22,6 +21,7 @@ use sng_book::{Address, Decision, Denial, Out, Outcome, Outs, OutsPair, Who};
 use sng_frames::ReturnCode;
 use sng_grants::Policy;
 use sng_sessions::{Handed, Sessions};
+use sng_turns::hand_over::{all_gone, hand_over};
 use std::alloc::{AllocError, Global};
 
 /// A statement from this address.

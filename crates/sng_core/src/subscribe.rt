@@ -15,23 +15,21 @@ ghost use Rattle.sng_core.specs.Subscribing.{subscribe_noted, subscribe_outs, st
 ghost use Rattle.sng_core.specs.Subscribing.{IsAllowed, HasRoom};
 
 use crate::answers::{code_of, no_flags};
-use crate::filters::{
-    JudgedFilter, copy_filter, filter_read, granted, id_in, name_told, unread_filter,
-};
+use crate::filters::{JudgedFilter, copy_filter, filter_read, granted, name_told, unread_filter};
 use crate::messages::no_session;
 use crate::parts::Parts;
 use crate::verdict::{and_then, may_ask};
 use sng_book::{Address, Decision, Denial, Out, Outcome, Outs, OutsPair, Place, Who};
+use sng_endings::coverage;
 use sng_fan::MAX_SUBSCRIPTIONS;
 use sng_frames::{
     Flags, FrameQos, ReturnCode, SnFrame, SubscribeAck, TopicIdType, TopicRequest,
     write_subscribe_ack,
 };
-use sng_grants::Policy;
 use sng_ids::IdTable;
-use sng_policy::{Grant, may_subscribe};
 use sng_sessions::Sessions;
-use sng_text::{ClientId, Octets, Qos, TopicFilter, TopicName};
+use sng_text::{Octets, Qos, TopicFilter, TopicName};
+use sng_turns::known::id_in;
 use std::alloc::{AllocError, Global};
 
 impl Parts {
@@ -203,25 +201,6 @@ impl Parts {
             .subscribe(place, name, filter, counted, qos, self.clock)?;
         self.link.subscribe(item, wanted);
         Ok(())
-    }
-}
-
-/// What the policy says to a subscription of the client by the filter. An `Err` is a failed allocation.
-pub fn coverage(
-    alloc: Global,
-    policy: &Policy,
-    client: &ClientId,
-    filter: &TopicFilter,
-) -> Result<Outcome, AllocError>
-    ensures { IfOk result (λ outcome. outcome ≡ coverage policy.now client.now filter.now) }
-{
-    match may_subscribe(alloc, policy, client, filter)? {
-        Grant::Allowed => Ok(Outcome::Allowed),
-        Grant::NoScope => Ok(Outcome::Denied(Denial::NoScope(client.copy()?))),
-        Grant::UnknownSource => Ok(Outcome::Denied(Denial::UnknownSource)),
-        Grant::MissingPub => unreachable!(),
-        Grant::MissingSub => unreachable!(),
-        Grant::Uncovered(gap) => Ok(Outcome::Denied(Denial::Uncovered(filter.copy()?, gap))),
     }
 }
 

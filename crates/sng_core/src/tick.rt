@@ -16,8 +16,6 @@ ghost use Rattle.sng_core.specs.Dues.{due_outs, due_at, room_after, dues_outs, d
 ghost use Rattle.sng_core.specs.Dues.{due_clients, due_link, dues_clients, dues_link, ping_noted};
 ghost use Rattle.sng_core.specs.Dues.{ticked_outs, ticked_next};
 
-use crate::again::{Retried, again, carry_again, is_repeating};
-use crate::hand_over::all_gone;
 use crate::parts::Parts;
 use sng_book::{Decision, Out, Outcome, Outs, OutsPair, Who};
 use sng_grants::Policy;
@@ -25,6 +23,8 @@ use sng_link::{Link, Room};
 use sng_outbox::{Origin, Publication};
 use sng_sessions::{Sessions, is_tried_out};
 use sng_text::ClientId;
+use sng_turns::again::{Retried, again, carry_again, is_repeating};
+use sng_turns::hand_over::all_gone;
 use sng_wills::{Will, WillDialogue};
 use std::alloc::{AllocError, Global};
 

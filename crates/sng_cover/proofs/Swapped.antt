@@ -68,12 +68,6 @@ all_plus (level ∷ granted) levels fit reach =
     all_plus_by level granted levels (is_hash level) refl
     (λ (levels : List (List ℕ)). all_plus granted levels) fit reach
 
--- a level of both filters fits what the asked one's fits
-same_fits : (level other found : List ℕ) (b : Bool) → is_plus level ≡ b → bytes_eq level other ≡ true
-    → fits (item_of other) found ≡ true → fits (item_of level) found ≡ true
-same_fits level other found b plus same fit =
-    let e : level ≡ other = (bytes_eq-Decides level other).0 same in rw e fit
-
 head_fits : (level other found : List ℕ) → (is_plus level || bytes_eq level other) ≡ true
     → fits (item_of other) found ≡ true → fits (item_of level) found ≡ true
 head_fits level other found either fit =

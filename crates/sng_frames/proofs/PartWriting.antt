@@ -177,30 +177,3 @@ SpellsPart-part_of (variants.WillTopicUpdate x) fits topic = will_topic-written 
 SpellsPart-part_of (variants.WillTopicResponse x) fits topic = refl
 SpellsPart-part_of (variants.WillMessageUpdate x) fits topic = refl
 SpellsPart-part_of (variants.WillMessageResponse x) fits topic = refl
-
--- what is spelled has a topic that fits
-pub TopicFits-spelled : (frame : SnFrame) (part : List ℕ) → SpellsPart frame part → TopicFits frame
-TopicFits-spelled (variants.Connect x) part s = tt
-TopicFits-spelled (variants.ConnectAck x) part s = tt
-TopicFits-spelled variants.WillTopicRequest part s = tt
-TopicFits-spelled (variants.WillTopic x) part s = tt
-TopicFits-spelled variants.WillMessageRequest part s = tt
-TopicFits-spelled (variants.WillMessage x) part s = tt
-TopicFits-spelled (variants.Register x) part s = tt
-TopicFits-spelled (variants.RegisterAck x) part s = tt
-TopicFits-spelled (variants.Publish x) part s = tt
-TopicFits-spelled (variants.PublishAck x) part s = tt
-TopicFits-spelled (variants.PublishComplete x) part s = tt
-TopicFits-spelled (variants.PublishReceived x) part s = tt
-TopicFits-spelled (variants.PublishRelease x) part s = tt
-TopicFits-spelled (variants.Subscribe x) part s = s.topic
-TopicFits-spelled (variants.SubscribeAck x) part s = tt
-TopicFits-spelled (variants.Unsubscribe x) part s = s.topic
-TopicFits-spelled (variants.UnsubscribeAck x) part s = tt
-TopicFits-spelled (variants.PingRequest x) part s = tt
-TopicFits-spelled variants.PingResponse part s = tt
-TopicFits-spelled (variants.Disconnect x) part s = tt
-TopicFits-spelled (variants.WillTopicUpdate x) part s = tt
-TopicFits-spelled (variants.WillTopicResponse x) part s = tt
-TopicFits-spelled (variants.WillMessageUpdate x) part s = tt
-TopicFits-spelled (variants.WillMessageResponse x) part s = tt

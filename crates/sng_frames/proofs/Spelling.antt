@@ -8,7 +8,7 @@ use Rattle.sng_frames.specs.declared.limits.TheConstants.{MAX_DATAGRAM, MAX_SHOR
 use Rattle.sng_frames.specs.MessageTypes.{octet_of}
 use Rattle.sng_frames.specs.Writing.{number_then, written, framed, part_of, HasNoSpelling}
 use Rattle.sng_frames.proofs.PartWriting.{IsNumber-halves, number_then-halves, part_of-only}
-use Rattle.sng_frames.proofs.PartWriting.{SpellsPart-part_of, TopicFits-spelled}
+use Rattle.sng_frames.proofs.PartWriting.{SpellsPart-part_of}
 
 framed-short : (kind : ℕ) (part : List ℕ) → length part + 2 ≤ MAX_SHORT_LENGTH
     → framed kind part ≡ (length part + 2) ∷ kind ∷ part
@@ -94,29 +94,6 @@ written-shortest frame b s =
     ⊎ (length (framed (octet_of (type_of frame)) part) < length b))
     (part_of-only frame s.part s.variable) (framed-shortest (octet_of (type_of frame)) s.part b s.message)
 
--- a frame whose topic does not fit has no spelling
-pub none-spelled : (frame : SnFrame) → length (written frame) ≤ MAX_DATAGRAM → (TopicFits frame → ⊥)
-    → HasNoSpelling frame
-none-spelled frame short unfit =
-    record { short = short; none = λ b s. unfit (TopicFits-spelled frame s.part s.variable) }
-
 -- one whose parts fit has one, unless it is too long
 pub some-spelled : (frame : SnFrame) → IsInRange frame → TopicFits frame → HasNoSpelling frame → ⊥
 some-spelled frame fits topic lacks = lacks.none (written frame) (Spells-written frame fits topic lacks.short)
-
-framed-fits : (kind : ℕ) (part : List ℕ) → length part + 4 ≤ MAX_DATAGRAM
-    → length (framed kind part) ≤ MAX_DATAGRAM
-framed-fits kind part fits =
-    elim (cases_lt MAX_SHORT_LENGTH (length part + 2)) [
-      | inr short ↦ (let two : length (framed kind part) ≡ length part + 2 =
-          ap length (framed-short kind part short) ∙ omega arith in
-          omega (arith, two))
-      | inl long ↦ (let four : length (framed kind part) ≡ length part + 4 =
-          ap length (framed-long kind part long) ∙ omega arith in
-          omega (arith, four))
-    ]
-
--- how many octets a frame is written as, by those of its variable part
-pub written-short : (frame : SnFrame) → length (part_of frame) + 4 ≤ MAX_DATAGRAM
-    → length (written frame) ≤ MAX_DATAGRAM
-written-short frame fits = framed-fits (octet_of (type_of frame)) (part_of frame) fits

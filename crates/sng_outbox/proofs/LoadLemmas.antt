@@ -1,7 +1,7 @@
 -- How many of the items that wait are publishes of QoS 1.
-use Rattle.std.proofs.Common.{◌≡◌, ◌+◌, List, [], ◌∷◌, ◌++◌, cond, refl, sym, ◌∙◌, ap, arith}
+use Rattle.std.proofs.Common.{◌≡◌, ◌+◌, List, [], ◌∷◌, cond, refl, sym, ◌∙◌, ap, arith}
 use Rattle.std.specs.List.{count_by}
-use Rattle.std.proofs.lemmas.List.Sums.{sum_by-cons, sum_by_push}
+use Rattle.std.proofs.lemmas.List.Sums.{sum_by-cons}
 use Rattle.sng_outbox.specs.declared.item.Item.{Item}
 use Rattle.sng_outbox.specs.declared.item.Item.TheVariants.{Publish, Subscribe, Unsubscribe, Acknowledge}
 use Rattle.sng_outbox.specs.declared.item.Item.TheVariants.{Ping}
@@ -10,11 +10,6 @@ use Rattle.sng_outbox.specs.Sending.{asks_for_ack, publishes}
 counted-cons : (item : Item) (items : List Item)
     → count_by asks_for_ack (item ∷ items) ≡ cond (asks_for_ack item) 1 0 + count_by asks_for_ack items
 counted-cons item items = sum_by-cons (λ i. cond (asks_for_ack i) 1 0) item items
-
--- one more at the end
-pub counted-push : (items : List Item) (item : Item)
-    → count_by asks_for_ack (items ++ item ∷ []) ≡ count_by asks_for_ack items + cond (asks_for_ack item) 1 0
-counted-push items item = sum_by_push (λ i. cond (asks_for_ack i) 1 0) items item
 
 -- one less at the front
 pub counted-front : (item : Item) (items : List Item)

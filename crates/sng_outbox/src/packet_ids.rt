@@ -1,6 +1,6 @@
 //! Packet ids to the broker, counted past those in use (MQTT 3.1.1, 2.3.1).
 ghost use Rattle.std.specs.Prelude.{◌≡◌, ◌≤◌, ℕ, List, [], false, true, length, IfOk};
-ghost use Rattle.sng_outbox.specs.PacketIds.{successor, next_id, is_marked, with_mark, AreInUse};
+ghost use Rattle.sng_outbox.specs.PacketIds.{successor, next_id, with_mark, AreInUse};
 
 use std::alloc::{AllocError, Global};
 use std::marker::Model;
@@ -38,14 +38,6 @@ impl PacketIds {
             marks: vec![in alloc; false; NUMBERS]?,
             last: 0,
         })
-    }
-
-    /// Whether the id is in use.
-    pub fn is_used(&self, packet_id: u16) -> bool
-        ensures used { result ≡ is_marked self.now.marks packet_id }
-        ensures whole { length self.now.marks ≡ 65536 }
-    {
-        self.marks[usize::from(packet_id)]
     }
 
     /// The id that was given last, 0 where none was.

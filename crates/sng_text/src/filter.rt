@@ -1,5 +1,5 @@
 //! Topic filters (MQTT 3.1.1, 4.7).
-ghost use Rattle.std.specs.Prelude.{◌≡◌, ◌<◌, ◌≤◌, ◌⊎◌, true, Some, None, IfOk, IfErr, length, if◌then◌else◌};
+ghost use Rattle.std.specs.Prelude.{◌≡◌, ◌<◌, ◌≤◌, ◌⊎◌, true, Some, None, IfOk, IfErr, length};
 ghost use Rattle.std.specs.Cmp.{partial_equiv_from_equiv};
 ghost use Rattle.std.specs.Cmp.Lexicographic.{nat_list_eq_equiv};
 ghost use Rattle.std.specs.Cmp.Rules.{hashing};
@@ -83,17 +83,6 @@ impl TopicFilter {
         ensures { result ≡ is_name self.now }
     {
         bytes::is_plain(self.text())
-    }
-
-    /// The name with the filter's text, where it is one. Only memory can fail.
-    pub fn to_name(&self) -> Result<Option<TopicName>, AllocError>
-        ensures { IfOk result (λ name. name ≡ (if is_name self.now then Some self.now else None)) }
-    {
-        if !self.is_name() {
-            return Ok(None);
-        }
-        let text = self.text.clone()?;
-        Ok(Some(TopicName::of_text(text)))
     }
 
     /// An equal filter, in memory of its own. Only memory can fail.

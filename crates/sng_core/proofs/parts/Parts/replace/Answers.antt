@@ -1,20 +1,22 @@
-use Rattle.std.proofs.Common.{◌++◌, ap, ◌∙◌}
+use Rattle.std.proofs.Common.{subst, sym, ap, ◌∙◌}
+use Rattle.sng_history.specs.Causes.{ByReplace}
 use Rattle.sng_history.specs.State.{State}
-use Rattle.sng_core.specs.Replacing.{all_next, all_outs}
-use Rattle.sng_core.proofs.Replacing.{replaced_outs, replaced_next}
+use Rattle.sng_history.specs.Steps.{outs_by, next_by}
+use Rattle.sng_history.specs.Good.{Good}
+use Rattle.sng_core.specs.contracts.parts.Parts.{the_view}
+use Rattle.sng_core.proofs.Replacing.{said_by, moved_by}
 use Rattle.sng_core.proofs.parts.Parts.replace.Goals as goal
 
 pub returns-clause-outs : goal.returns-clause-outs
 returns-clause-outs c =
-    let s : State = c.args.self.now in
-    c.into_pair.ensures
-    ∙ (c.end_all.ensures.outs
-    ∙ (ap (λ outs. outs ++ all_outs s c.in_ok-endings.endings.items) c.in_ok-outs.ensures.outs
-    ∙ (ap (all_outs s) c.in_ok-endings.ensures ∙ replaced_outs s c.args.policy c.requires)))
+    let s : State = the_view c.self.inside in
+    let good : Good s = subst Good (sym c.self.view_is) c.requires in
+    c.in_ok-outs.ensures.outs
+    ∙ (said_by s c.args.policy good ∙ ap (λ t. outs_by t (ByReplace c.args.policy)) c.self.view_is)
 
 pub returns-clause-next : goal.returns-clause-next
 returns-clause-next c =
-    let s : State = c.args.self.now in
-    ap (λ (t : State). let u : State = record t { policy = c.args.policy } in u)
-    (c.self.view_is ∙ (c.end_all.ensures.next ∙ ap (all_next s) c.in_ok-endings.ensures))
-    ∙ replaced_next s c.args.policy c.requires
+    let s : State = the_view c.self.inside in
+    let good : Good s = subst Good (sym c.self.view_is) c.requires in
+    moved_by s c.args.policy _ _ _ good c.in_ok-outs.ensures.policy c.in_ok-outs.ensures.moved
+    ∙ ap (λ t. next_by t (ByReplace c.args.policy)) c.self.view_is

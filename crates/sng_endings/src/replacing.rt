@@ -1,0 +1,223 @@
+//! Another policy comes into force: each subscription that it does not allow ends (MQTT-SN 1.2, 6.9). What
+//! ends is planned first, with all memory, and what changes cannot fail.
+ghost use Rattle.std.specs.Prelude.{◌≡◌, ◌≤◌, ◌<◌, ◌+◌, ◌*◌, ◌++◌, [], length, IfOk, OnOk, OnErr};
+ghost use Rattle.sng_grants.specs.Sources.{scope_of};
+ghost use Rattle.sng_history.specs.Good.{Each, AllCovered};
+ghost use Rattle.sng_history.specs.Verdicts.{coverage};
+ghost use Rattle.sng_sessions.specs.Standing.{client_at};
+ghost use Rattle.sng_endings.specs.Replacing.{moved, ended_next, ended_outs, all_next, all_outs, ending_list};
+ghost use Rattle.sng_endings.specs.Replacing.{ending_of, endings_by, endings_from};
+
+use crate::covering::coverage;
+use sng_book::{Decision, NotePair, Out, Outcome, OutsPair, ReservedOuts};
+use sng_grants::Policy;
+use sng_link::Link;
+use sng_policy::same_scope;
+use sng_sessions::Sessions;
+use sng_text::{ClientId, TopicFilter};
+use std::alloc::{AllocError, Global};
+
+/// A subscription that ends: of the client at the place, with the note of it for both owners, and the filter
+/// once more for what the broker is told.
+#[derive(Debug, Drop)]
+pub struct Ending {
+    pub place: usize,
+    pub filter: TopicFilter,
+    pub note: NotePair,
+}
+
+/// What ends, and room for all that this lets out.
+#[derive(Drop)]
+struct Plan {
+    endings: Vec<Ending>,
+    outs: ReservedOuts,
+}
+
+/// The policy comes into force. The subscriptions end that it does not allow, each client's in order of first
+/// standing; of a filter that stands for nobody any more the broker is told where there is place. Each that
+/// stands has to be allowed by the policy that was in force. An `Err` is a failed allocation, and nothing
+/// changed.
+pub fn replace(
+    alloc: Global,
+    in_force: &mut Policy,
+    policy: Policy,
+    sessions: &mut Sessions,
+    link: &mut Link,
+) -> Result<OutsPair, AllocError>
+    requires { Each (λ x. AllCovered in_force.old x.id x.filters) sessions.old }
+    ensures outs { IfOk result (λ outs. outs
+        ≡ all_outs (moved link.old sessions.old) (endings_from policy 0 sessions.old)) }
+    ensures policy { OnOk result (in_force.new ≡ policy) }
+    ensures moved { OnOk result (moved link.new sessions.new
+        ≡ all_next (moved link.old sessions.old) (endings_from policy 0 sessions.old)) }
+    ensures same_policy { OnErr result (in_force.new ≡ in_force.old) }
+    ensures same_clients { OnErr result (sessions.new ≡ sessions.old) }
+    ensures same_link { OnErr result (link.new ≡ link.old) }
+{
+    let Plan { endings, mut outs } = planned_all(alloc, in_force, &policy, sessions)?;
+    end_all(endings, sessions, link, &mut outs);
+    *in_force = policy;
+    Ok(outs.into_pair())
+}
+
+/// What ends under the policy is planned, with all memory that it takes to carry it out.
+fn planned_all(
+    alloc: Global,
+    in_force: &Policy,
+    policy: &Policy,
+    sessions: &Sessions,
+) -> Result<Plan, AllocError>
+    requires { Each (λ x. AllCovered in_force.now x.id x.filters) sessions.now }
+    ensures endings { IfOk result (λ plan. plan.endings.items ≡ endings_from policy.now 0 sessions.now) }
+    ensures outs { IfOk result (λ plan. plan.outs.outs ≡ []) }
+    ensures room { IfOk result (λ plan. length plan.endings.items * 2 ≤ plan.outs.spare) }
+{
+    let endings = endings(alloc, in_force, policy, sessions)?;
+    let outs = room_for(alloc, endings.len())?;
+    Ok(Plan { endings, outs })
+}
+
+/// Room for what so many endings let out: two outs each.
+fn room_for(alloc: Global, count: usize) -> Result<ReservedOuts, AllocError>
+    ensures outs { IfOk result (λ outs. outs.outs ≡ []) }
+    ensures room { IfOk result (λ outs. count * 2 ≤ outs.spare) }
+{
+    match count.checked_mul(2) {
+        Some(room) => ReservedOuts::with_room(alloc, room),
+        None => Err(AllocError),
+    }
+}
+
+/// What ends under the policy. A client that has the same scope under both policies keeps all.
+fn endings(
+    alloc: Global,
+    in_force: &Policy,
+    policy: &Policy,
+    sessions: &Sessions,
+) -> Result<Vec<Ending>, AllocError>
+    requires { Each (λ x. AllCovered in_force.now x.id x.filters) sessions.now }
+    ensures { IfOk result (λ endings. endings.items ≡ endings_from policy.now 0 sessions.now) }
+{
+    let mut endings = Vec::new(alloc);
+    for place in 0..sessions.len() {
+        add_changed(alloc, in_force, policy, sessions, place, &mut endings)?;
+    }
+    Ok(endings)
+}
+
+/// What ends for the client at this place comes behind the others. Where its scope is the same, all that
+/// stands for it is allowed still, and is not judged again.
+fn add_changed(
+    alloc: Global,
+    in_force: &Policy,
+    policy: &Policy,
+    sessions: &Sessions,
+    place: usize,
+    endings: &mut Vec<Ending>,
+) -> Result<(), AllocError>
+    requires covered { Each (λ x. AllCovered in_force.now x.id x.filters) sessions.now }
+    requires place { place < length sessions.now }
+    ensures { OnOk result (endings.new.items ≡ endings.old.items ++ endings_by policy.now place
+        (client_at sessions.now place).id (client_at sessions.now place).filters) }
+{
+    if same_scope(in_force, policy, sessions.id(place)) {
+        return Ok(());
+    }
+    add_endings(alloc, policy, sessions, place, endings)
+}
+
+/// These end, one after another. Takes no memory.
+fn end_all(endings: Vec<Ending>, sessions: &mut Sessions, link: &mut Link, outs: &mut ReservedOuts)
+    requires { length endings.items * 2 ≤ outs.old.spare }
+    ensures next { moved link.new sessions.new ≡ all_next (moved link.old sessions.old) endings.items }
+    ensures outs { outs.new.outs ≡ outs.old.outs ++ all_outs (moved link.old sessions.old) endings.items }
+{
+    for ending in endings {
+        end_one(ending, sessions, link, outs);
+    }
+}
+
+/// One ends. Takes no memory.
+fn end_one(ending: Ending, sessions: &mut Sessions, link: &mut Link, outs: &mut ReservedOuts)
+    requires { 2 ≤ outs.old.spare }
+    ensures next { moved link.new sessions.new ≡ ended_next (moved link.old sessions.old) ending }
+    ensures outs { outs.new.outs ≡ outs.old.outs ++ ended_outs (moved link.old sessions.old) ending }
+    ensures spare { outs.old.spare ≤ outs.new.spare + 2 }
+{
+    let Ending {
+        place,
+        filter,
+        note,
+    } = ending;
+    let (note, again) = note.into_parts();
+    outs.push(Out::Note(note), Out::Note(again));
+    sessions.end(place, &filter);
+    if sessions.is_held(&filter) {
+        return;
+    }
+    link.unwant(&filter);
+    if link.has_place() {
+        link.unsubscribe(filter);
+    } else {
+        outs.push(Out::Note(Decision::Outbox), Out::Note(Decision::Outbox));
+    }
+}
+
+/// Those of the filters of the client at this place that end under the policy come behind the others. An
+/// `Err` is a failed allocation.
+fn add_endings(
+    alloc: Global,
+    policy: &Policy,
+    sessions: &Sessions,
+    place: usize,
+    endings: &mut Vec<Ending>,
+) -> Result<(), AllocError>
+    requires { place < length sessions.now }
+    ensures { OnOk result (endings.new.items ≡ endings.old.items
+        ++ endings_by policy.now place (client_at sessions.now place).id
+        (client_at sessions.now place).filters) }
+{
+    let client = sessions.id(place);
+    for held in sessions.filters(place) {
+        let planned = planned(alloc, policy, place, client, &held.filter)?;
+        add(endings, planned)?;
+    }
+    Ok(())
+}
+
+/// The ending of the filter, where the policy does not allow it to the client. An `Err` is a failed
+/// allocation.
+fn planned(
+    alloc: Global,
+    policy: &Policy,
+    place: usize,
+    client: &ClientId,
+    filter: &TopicFilter,
+) -> Result<Option<Ending>, AllocError>
+    ensures { IfOk result (λ planned. ending_list planned
+        ≡ ending_of place client.now filter.now (coverage policy.now client.now filter.now)) }
+{
+    match coverage(alloc, policy, client, filter)? {
+        Outcome::Allowed => Ok(None),
+        Outcome::Denied(rule) => {
+            let denied = Outcome::Denied(rule);
+            let note = NotePair::of(Decision::End(client.copy()?, filter.copy()?, denied))?;
+            let filter = filter.copy()?;
+            Ok(Some(Ending {
+                place,
+                filter,
+                note,
+            }))
+        }
+    }
+}
+
+/// The ending, where there is one, comes behind the others. An `Err` is a failed allocation.
+fn add(endings: &mut Vec<Ending>, planned: Option<Ending>) -> Result<(), AllocError>
+    ensures { OnOk result (endings.new.items ≡ endings.old.items ++ ending_list planned) }
+{
+    if let Some(ending) = planned {
+        endings.push(ending)?;
+    }
+    Ok(())
+}

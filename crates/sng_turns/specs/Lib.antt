@@ -1,0 +1,4 @@
+pub mod HandingOver
+pub mod Delivering
+pub mod Serving
+pub mod Again

@@ -1,0 +1,245 @@
+//! A message of the broker goes to each client for whom a filter stands that matches its name (MQTT 3.1.1,
+//! 3.3 and 4.6; MQTT-SN 1.2, 6.6, 6.10 and 6.14). What it lets out is planned for one client after another,
+//! with all memory, and what changes cannot fail.
+ghost use Rattle.std.specs.Prelude.{◌≡◌, ◌<◌, ◌∷◌, ◌++◌, [], length, true, IfOk, OnOk};
+ghost use Rattle.sng_queue.specs.Messages.{is_sendable};
+ghost use Rattle.sng_history.specs.Arriving.{lesser};
+ghost use Rattle.sng_history.specs.Outgoing.{is_free};
+ghost use Rattle.sng_sessions.specs.Standing.{client_at};
+ghost use Rattle.sng_turns.specs.HandingOver.{fixed_id, message_outs, message_opens};
+ghost use Rattle.sng_turns.specs.Delivering.{due_at, message_at, arrive_outs, arrive_kept, kept_opened};
+ghost use Rattle.sng_turns.specs.Delivering.{deliver_outs, deliver_kept, all_outs, all_kept, keep_all};
+
+use crate::hand_over::is_open;
+use crate::known::{KnownId, known_id};
+use crate::turn::{note_hand, receive, take_turn};
+use sng_book::{Denial, Outcome, Outs, Place};
+use sng_grants::Policy;
+use sng_queue::Waiting;
+use sng_sessions::{Opens, Sessions};
+use sng_text::{Octets, Qos, TopicName};
+use std::alloc::{AllocError, Global};
+
+/// A message of the broker under a topic name.
+#[derive(Drop)]
+pub struct Incoming {
+    pub name: TopicName,
+    pub payload: Octets,
+    pub qos: Qos,
+    pub retain: bool,
+    /// The topic id that its name has for each client, where it has one.
+    pub fixed: Option<KnownId>,
+}
+
+/// What is kept of a message for the client at the place: it waits there, and an exchange begins.
+#[derive(Drop)]
+pub struct Kept {
+    pub place: usize,
+    pub message: Waiting,
+    pub opens: Opens,
+}
+
+/// The message goes to each client to whom it is due, in order. Answers what is kept of it.
+pub fn deliver(
+    alloc: Global,
+    policy: &Policy,
+    message: &Incoming,
+    sessions: &Sessions,
+    outs: &mut Outs,
+) -> Result<Vec<Kept>, AllocError>
+    requires { message.now.fixed ≡ fixed_id policy.now message.now.name }
+    ensures outs { OnOk result (outs.new ≡ outs.old ++ all_outs policy.now message.now sessions.now) }
+    ensures kept { IfOk result (λ kept. kept.items ≡ all_kept policy.now message.now 0 sessions.now) }
+{
+    let mut kept = Vec::new(alloc);
+    for place in 0..sessions.len() {
+        deliver_to(alloc, policy, message, sessions, place, outs, &mut kept)?;
+    }
+    Ok(kept)
+}
+
+/// The message goes to the client at this place, where it is due to it.
+fn deliver_to(
+    alloc: Global,
+    policy: &Policy,
+    message: &Incoming,
+    sessions: &Sessions,
+    place: usize,
+    outs: &mut Outs,
+    kept: &mut Vec<Kept>,
+) -> Result<(), AllocError>
+    requires fixed { message.now.fixed ≡ fixed_id policy.now message.now.name }
+    requires place { place < length sessions.now }
+    ensures outs { OnOk result (outs.new ≡ outs.old
+        ++ deliver_outs policy.now message.now (client_at sessions.now place)) }
+    ensures kept { OnOk result (kept.new.items ≡ kept.old.items
+        ++ deliver_kept policy.now message.now place (client_at sessions.now place)) }
+{
+    match due_at(message, sessions, place) {
+        Some(qos) => arrive(alloc, policy, message, qos, sessions, place, outs, kept),
+        None => Ok(()),
+    }
+}
+
+/// The QoS at which the message is due to the client at this place, where it is due: once, at the lesser of
+/// its own and the greatest that is granted among the filters that match. Takes no memory.
+fn due_at(message: &Incoming, sessions: &Sessions, place: usize) -> Option<Qos>
+    requires { place < length sessions.now }
+    ensures { result ≡ due_at message.now (client_at sessions.now place) }
+{
+    if !sessions.phase(place).is_due_messages() {
+        return None;
+    }
+    match sessions.greatest(place, &message.name) {
+        Some(granted) => Some(lesser(message.qos, granted)),
+        None => None,
+    }
+}
+
+/// The lesser of two levels of QoS.
+fn lesser(a: Qos, b: Qos) -> Qos
+    ensures { result ≡ lesser a b }
+{
+    match a {
+        Qos::AtMostOnce => Qos::AtMostOnce,
+        Qos::AtLeastOnce => b,
+    }
+}
+
+/// The message comes to the client at this place. One that may not wait is noted at once; else it takes its
+/// turn, where nothing is before it, or waits.
+fn arrive(
+    alloc: Global,
+    policy: &Policy,
+    message: &Incoming,
+    qos: Qos,
+    sessions: &Sessions,
+    place: usize,
+    outs: &mut Outs,
+    kept: &mut Vec<Kept>,
+) -> Result<(), AllocError>
+    requires fixed { message.now.fixed ≡ fixed_id policy.now message.now.name }
+    requires place { place < length sessions.now }
+    ensures outs { OnOk result (outs.new ≡ outs.old
+        ++ arrive_outs policy.now (message_at message.now qos) (client_at sessions.now place)) }
+    ensures kept { OnOk result (kept.new.items ≡ kept.old.items
+        ++ arrive_kept policy.now place (message_at message.now qos) (client_at sessions.now place)) }
+{
+    let id = sessions.id(place);
+    if !Waiting::is_sendable(&message.name, &message.payload) {
+        return note_hand(id, &message.name, Outcome::Denied(Denial::TooLong), outs);
+    }
+    if sessions.queue(place).is_full() {
+        let full = Outcome::Denied(Denial::Full(Place::Queue));
+        return note_hand(id, &message.name, full, outs);
+    }
+    if is_free(sessions, place) {
+        let opens = turn(alloc, policy, message, qos, sessions, place, outs)?;
+        keep_opened(message, qos, place, opens, kept)
+    } else {
+        keep(message, qos, place, Opens::Nothing, kept)
+    }
+}
+
+/// Whether the client at this place takes messages, and no exchange is open with it: then nothing waits.
+/// Takes no memory.
+fn is_free(sessions: &Sessions, place: usize) -> bool
+    requires { place < length sessions.now }
+    ensures { result ≡ is_free (client_at sessions.now place) }
+{
+    sessions.phase(place).takes_messages() && sessions.queue(place).exchange().is_none()
+}
+
+/// The turn of the message as it comes.
+fn turn(
+    alloc: Global,
+    policy: &Policy,
+    message: &Incoming,
+    qos: Qos,
+    sessions: &Sessions,
+    place: usize,
+    outs: &mut Outs,
+) -> Result<Opens, AllocError>
+    requires fixed { message.now.fixed ≡ fixed_id policy.now message.now.name }
+    requires place { place < length sessions.now }
+    requires sendable { is_sendable message.now.name message.now.payload ≡ true }
+    ensures outs { OnOk result (let x = client_at sessions.now place in outs.new ≡ outs.old
+        ++ message_outs policy.now x.id x.address x.ids 0 x.number (message_at message.now qos)) }
+    ensures opens { IfOk result (λ opens. let x = client_at sessions.now place in
+        opens ≡ message_opens policy.now x.id x.ids 0 (message_at message.now qos)) }
+{
+    let id = sessions.id(place);
+    let ids = sessions.ids(place);
+    let outcome = receive(policy, id, &message.name)?;
+    let known = known_id(message.fixed, ids, 0, &message.name);
+    take_turn(
+        alloc,
+        id,
+        sessions.address(place),
+        ids,
+        sessions.number(place),
+        &message.name,
+        &message.payload,
+        qos,
+        message.retain,
+        outcome,
+        known,
+        outs,
+    )
+}
+
+/// A message that took its turn is kept where an exchange begins by it.
+fn keep_opened(
+    message: &Incoming,
+    qos: Qos,
+    place: usize,
+    opens: Opens,
+    kept: &mut Vec<Kept>,
+) -> Result<(), AllocError>
+    requires { is_sendable message.now.name message.now.payload ≡ true }
+    ensures { OnOk result (kept.new.items
+        ≡ kept.old.items ++ kept_opened place (message_at message.now qos) opens) }
+{
+    if is_open(&opens) {
+        keep(message, qos, place, opens, kept)
+    } else {
+        Ok(())
+    }
+}
+
+/// The message is kept for the client at this place.
+fn keep(
+    message: &Incoming,
+    qos: Qos,
+    place: usize,
+    opens: Opens,
+    kept: &mut Vec<Kept>,
+) -> Result<(), AllocError>
+    requires { is_sendable message.now.name message.now.payload ≡ true }
+    ensures { OnOk result (kept.new.items ≡ kept.old.items
+        ++ (record { place = place; message = message_at message.now qos; opens = opens }) ∷ []) }
+{
+    let name = message.name.copy()?;
+    let payload = message.payload.copy()?;
+    let message = Waiting::new(name, payload, qos, message.retain);
+    kept.push(Kept {
+        place,
+        message,
+        opens,
+    })?;
+    Ok(())
+}
+
+/// All that is kept joins what waits for its client. Takes no memory.
+pub fn keep_all(kept: Vec<Kept>, sessions: &mut Sessions, clock: u64)
+    ensures { sessions.new ≡ keep_all clock kept.items sessions.old }
+{
+    for one in kept {
+        let Kept {
+            place,
+            message,
+            opens,
+        } = one;
+        sessions.deliver(place, message, opens, clock);
+    }
+}

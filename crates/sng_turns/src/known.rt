@@ -1,0 +1,81 @@
+//! The topic id by which a client knows a name (MQTT-SN 1.2, 5.3.11, 6.5 and 6.7).
+ghost use Rattle.std.specs.Prelude.{◌≡◌};
+ghost use Rattle.sng_ids.specs.Ids.{confirmed, id_of};
+ghost use Rattle.sng_history.specs.Requests.{id_in};
+ghost use Rattle.sng_turns.specs.HandingOver.{fixed_id, known_id};
+
+use sng_grants::Policy;
+use sng_ids::IdTable;
+use sng_policy::topic_id;
+use sng_queue::TopicIdKind;
+use sng_text::TopicName;
+
+/// A topic id, and of which kind it is.
+#[derive(Clone, Copy, Debug)]
+pub struct KnownId {
+    pub kind: TopicIdKind,
+    pub id: u16,
+}
+
+/// The topic id of a name that is the same for each client: a name of two octets is its own short name, and
+/// another one may have a predefined id, of which the least counts. Takes no memory.
+pub fn fixed_id(policy: &Policy, name: &TopicName) -> Option<KnownId>
+    ensures { result ≡ fixed_id policy.now name.now }
+{
+    let text = name.text();
+    if text.len() == 2 {
+        return Some(KnownId {
+            kind: TopicIdKind::Short,
+            id: id_in(text),
+        });
+    }
+    match topic_id(policy, name) {
+        Some(id) => Some(KnownId {
+            kind: TopicIdKind::Predefined,
+            id,
+        }),
+        None => None,
+    }
+}
+
+/// The topic id by which a client knows the name: that of each client, else the one that it was told, once it
+/// has confirmed this id (0 is none). Takes no memory.
+pub fn known_id(
+    fixed: Option<KnownId>,
+    ids: &IdTable,
+    confirming: u16,
+    name: &TopicName,
+) -> Option<KnownId>
+    ensures { result ≡ known_id fixed (confirmed confirming ids.now.ids) name.now }
+{
+    match fixed {
+        Some(known) => Some(known),
+        None => match told_id(ids, confirming, name) {
+            Some(id) => Some(KnownId {
+                kind: TopicIdKind::Normal,
+                id,
+            }),
+            None => None,
+        },
+    }
+}
+
+/// The id of the name that the client knows, once it has confirmed this id.
+fn told_id(ids: &IdTable, confirming: u16, name: &TopicName) -> Option<u16>
+    ensures { result ≡ id_of name.now (confirmed confirming ids.now.ids) }
+{
+    if ids.id_for(name) == confirming && ids.name_of(confirming).is_some() {
+        return Some(confirming);
+    }
+    ids.id_of(name)
+}
+
+/// The id in the two octets of a topic, the high one first.
+pub fn id_in(topic: &[u8]) -> u16
+    ensures { result ≡ id_in topic.now }
+{
+    match topic {
+        [high, low, ..] => u16::from(*high) * 256 + u16::from(*low),
+        _ => 0,
+    }
+}

@@ -1,0 +1,228 @@
+//! The turn of one message for a client (MQTT-SN 1.2, 5.4.10, 5.4.12, 6.5, 6.6 and 6.10; RFC 9431, 2.3): it
+//! is judged by the policy in force, and what comes of it goes out.
+ghost use Rattle.std.specs.Prelude.{◌≡◌, ◌≤◌, ◌∷◌, ◌++◌, [], length, IfOk, OnOk};
+ghost use Rattle.sng_queue.specs.Messages.{message};
+ghost use Rattle.sng_queue.specs.declared.limits.TheConstants.{MAX_WAITING_NAME, MAX_WAITING_PAYLOAD};
+ghost use Rattle.sng_history.specs.Handing.{handed_again, handed_out, msg_id_of, publish_flags, frame_qos};
+ghost use Rattle.sng_history.specs.Handing.{id_type_of};
+ghost use Rattle.sng_history.specs.Outgoing.{receive};
+ghost use Rattle.sng_turns.specs.Again.{register_again};
+ghost use Rattle.sng_turns.specs.HandingOver.{known_of, turn_outs, turn_opens, offer_outs, offer_opens};
+ghost use Rattle.sng_turns.specs.HandingOver.{awaiting};
+
+use crate::known::KnownId;
+use sng_book::{Address, Decision, Denial, Out, Outcome, Outs, Place};
+use sng_frames::{Flags, FrameQos, TopicIdType, write_publish, write_register};
+use sng_grants::Policy;
+use sng_ids::IdTable;
+use sng_policy::{Grant, may_receive};
+use sng_queue::{Sending, TopicIdKind, Waiting};
+use sng_sessions::{Opens, number_after};
+use sng_text::{ClientId, Octets, Qos, TopicName};
+use std::alloc::{AllocError, Global};
+
+/// What the policy says to a message for the client under the name. An `Err` is a failed allocation, for a
+/// denial that shows the client or the name.
+pub fn receive(policy: &Policy, client: &ClientId, name: &TopicName) -> Result<Outcome, AllocError>
+    ensures { IfOk result (λ outcome. outcome ≡ receive policy.now client.now name.now) }
+{
+    match may_receive(policy, client, name) {
+        Grant::Allowed => Ok(Outcome::Allowed),
+        Grant::NoScope => Ok(Outcome::Denied(Denial::NoScope(client.copy()?))),
+        Grant::MissingSub => Ok(Outcome::Denied(Denial::MissingSub(name.copy()?))),
+        // Nothing else is answered about receiving.
+        Grant::UnknownSource => unreachable!(),
+        Grant::MissingPub => unreachable!(),
+        Grant::Uncovered(_) => unreachable!(),
+    }
+}
+
+/// The turn of a message that comes out so, for a client that knows its name by this id. Answers the exchange
+/// that it begins.
+pub fn take_turn(
+    alloc: Global,
+    id: &ClientId,
+    to: Address,
+    ids: &IdTable,
+    number: u16,
+    name: &TopicName,
+    payload: &Octets,
+    qos: Qos,
+    retain: bool,
+    outcome: Outcome,
+    known: Option<KnownId>,
+    outs: &mut Outs,
+) -> Result<Opens, AllocError>
+    requires name { length name.now ≤ MAX_WAITING_NAME }
+    requires payload { length payload.now ≤ MAX_WAITING_PAYLOAD }
+    ensures outs { OnOk result (outs.new ≡ outs.old ++ turn_outs id.now to ids.now.ids number
+        (message name.now payload.now qos retain) outcome known) }
+    ensures opens { IfOk result (λ opens. opens
+        ≡ turn_opens ids.now.ids (message name.now payload.now qos retain) outcome known) }
+{
+    match outcome {
+        Outcome::Allowed => offer(
+            alloc, id, to, ids, number, name, payload, qos, retain, known, outs,
+        ),
+        Outcome::Denied(rule) => {
+            note_hand(id, name, Outcome::Denied(rule), outs)?;
+            Ok(Opens::Nothing)
+        }
+    }
+}
+
+/// The turn of a message that the client may receive: it is handed over where the client knows its name, else
+/// an id is announced while there is one.
+fn offer(
+    alloc: Global,
+    id: &ClientId,
+    to: Address,
+    ids: &IdTable,
+    number: u16,
+    name: &TopicName,
+    payload: &Octets,
+    qos: Qos,
+    retain: bool,
+    known: Option<KnownId>,
+    outs: &mut Outs,
+) -> Result<Opens, AllocError>
+    requires name { length name.now ≤ MAX_WAITING_NAME }
+    requires payload { length payload.now ≤ MAX_WAITING_PAYLOAD }
+    ensures outs { OnOk result (outs.new ≡ outs.old ++ offer_outs id.now to ids.now.ids number
+        (message name.now payload.now qos retain) known) }
+    ensures opens { IfOk result (λ opens. opens
+        ≡ offer_opens ids.now.ids (message name.now payload.now qos retain) known) }
+{
+    if let Some(known) = known {
+        note_hand(id, name, Outcome::Allowed, outs)?;
+        let out = publish(alloc, to, number, payload, qos, retain, known)?;
+        outs.push(out)?;
+        return Ok(awaiting(qos, known));
+    }
+    if ids.is_full_for(name) {
+        let full = Outcome::Denied(Denial::Full(Place::Ids));
+        note_hand(id, name, full, outs)?;
+        return Ok(Opens::Nothing);
+    }
+    outs.push(Out::Note(Decision::Announce(id.copy()?, name.copy()?)))?;
+    let datagram = write_register(alloc, ids.id_for(name), number_after(number), name.text())?;
+    outs.push(Out::Send(to, Octets::from(datagram)))?;
+    Ok(Opens::Announcing(name.copy()?))
+}
+
+/// A message at QoS 1 waits for its PUBACK.
+fn awaiting(qos: Qos, known: KnownId) -> Opens
+    ensures { result ≡ awaiting qos known }
+{
+    match qos {
+        Qos::AtMostOnce => Opens::Nothing,
+        Qos::AtLeastOnce => Opens::Awaiting(known.kind, known.id),
+    }
+}
+
+/// The note of how a message for the client came out.
+pub fn note_hand(
+    id: &ClientId,
+    name: &TopicName,
+    outcome: Outcome,
+    outs: &mut Outs,
+) -> Result<(), AllocError>
+    ensures { OnOk result (outs.new ≡ outs.old ++ Out.Note (Decision.Hand id.now name.now outcome) ∷ []) }
+{
+    let note = Decision::Hand(id.copy()?, name.copy()?, outcome);
+    outs.push(Out::Note(note))?;
+    Ok(())
+}
+
+/// The PUBLISH under the id, where the MsgId before was this one.
+fn publish(
+    alloc: Global,
+    to: Address,
+    number: u16,
+    payload: &Octets,
+    qos: Qos,
+    retain: bool,
+    known: KnownId,
+) -> Result<Out, AllocError>
+    requires { length payload.now ≤ MAX_WAITING_PAYLOAD }
+    ensures { IfOk result (λ out. out
+        ≡ handed_out to number (message [] payload.now qos retain) (known_of known)) }
+{
+    let flags = publish_flags(qos, retain, known.kind);
+    let msg_id = msg_id_of(qos, number);
+    let datagram = write_publish(alloc, flags, known.id, msg_id, payload.as_slice())?;
+    Ok(Out::Send(to, Octets::from(datagram)))
+}
+
+/// At QoS 0 it has no MsgId.
+fn msg_id_of(qos: Qos, number: u16) -> u16
+    ensures { result ≡ msg_id_of qos number }
+{
+    match qos {
+        Qos::AtMostOnce => 0,
+        Qos::AtLeastOnce => number_after(number),
+    }
+}
+
+fn publish_flags(qos: Qos, retain: bool, kind: TopicIdKind) -> Flags
+    ensures { result ≡ publish_flags (message [] [] qos retain) kind }
+{
+    Flags {
+        dup: false,
+        qos: frame_qos(qos),
+        retain,
+        will: false,
+        clean: false,
+        id_type: id_type_of(kind),
+    }
+}
+
+fn frame_qos(qos: Qos) -> FrameQos
+    ensures { result ≡ frame_qos qos }
+{
+    match qos {
+        Qos::AtMostOnce => FrameQos::AtMostOnce,
+        Qos::AtLeastOnce => FrameQos::AtLeastOnce,
+    }
+}
+
+fn id_type_of(kind: TopicIdKind) -> TopicIdType
+    ensures { result ≡ id_type_of kind }
+{
+    match kind {
+        TopicIdKind::Normal => TopicIdType::Normal,
+        TopicIdKind::Predefined => TopicIdType::Predefined,
+        TopicIdKind::Short => TopicIdType::Short,
+    }
+}
+
+/// The REGISTER of an announcement, sent again: it is the same (6.13).
+pub fn repeat_register(
+    alloc: Global,
+    to: Address,
+    sent: &Sending,
+    name: &TopicName,
+) -> Result<Out, AllocError>
+    requires { length name.now ≤ MAX_WAITING_NAME }
+    ensures { IfOk result (λ out. out ≡ register_again to sent.now name.now) }
+{
+    let datagram = write_register(alloc, sent.topic_id, sent.msg_id, name.text())?;
+    Ok(Out::Send(to, Octets::from(datagram)))
+}
+
+/// The PUBLISH of a hand-over, sent again: it says so by DUP (5.4.12).
+pub fn repeat_publish(
+    alloc: Global,
+    to: Address,
+    sent: &Sending,
+    kind: TopicIdKind,
+    message: &Waiting,
+) -> Result<Out, AllocError>
+    ensures { IfOk result (λ out. out ≡ handed_again to sent.now kind message.now) }
+{
+    let mut flags = publish_flags(message.qos(), message.retain(), kind);
+    flags.dup = true;
+    let payload = message.payload().as_slice();
+    let datagram = write_publish(alloc, flags, sent.topic_id, sent.msg_id, payload)?;
+    Ok(Out::Send(to, Octets::from(datagram)))
+}
