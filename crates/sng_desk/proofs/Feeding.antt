@@ -2,7 +2,8 @@
 use Rattle.std.proofs.Common.{◌≡◌, ◌≢◌, List, [], ◌∷◌, length, refl, arith}
 use Rattle.std.specs.Prelude.{Err}
 use Rattle.mqtt_frames.specs.declared.fault.StreamFault.{StreamFault}
-use Rattle.mqtt_frames.specs.declared.fault.StreamFault.TheVariants.{Malformed, NotSupported, TooLong, Failed, Memory}
+use Rattle.mqtt_frames.specs.declared.fault.StreamFault.TheVariants.{Malformed, NotSupported, TooLong, Failed}
+use Rattle.mqtt_frames.specs.declared.fault.StreamFault.TheVariants.{Memory}
 use Rattle.mqtt_frames.specs.Streams
 use Rattle.mqtt_frames.specs.Streams.{State, Reading, Kept, fed, TakesMemory}
 
@@ -12,7 +13,8 @@ takes_none (Kept fault) t = t
 takes_none Streams.Failed t = t
 
 -- an empty piece takes no memory, so its fault is one of the stream
-pub is_told : (s : State) (fault : StreamFault) (now : State) → (fault ≢ Memory → fed s [] ≡ (Err fault, now)) → (fault ≡ Memory → TakesMemory s []) → fed s [] ≡ (Err fault, now)
+pub is_told : (s : State) (fault : StreamFault) (now : State) → (fault ≢ Memory → fed s [] ≡ (Err fault, now))
+    → (fault ≡ Memory → TakesMemory s []) → fed s [] ≡ (Err fault, now)
 is_told s Malformed now e m = e (λ is. absurd cc)
 is_told s NotSupported now e m = e (λ is. absurd cc)
 is_told s TooLong now e m = e (λ is. absurd cc)

@@ -1,4 +1,5 @@
--- The packets in what a connection gives, piece by piece. A piece is fed to the stream, and then an empty one, so that a fault behind its
+-- The packets in what a connection gives, piece by piece. A piece is fed to the stream, and then an empty
+-- one, so that a fault behind its
 -- packets is told at once.
 use Rattle.std.specs.Prelude.{ℕ, Bool, true, false, ◌==◌, ◌||◌, List, [], Ok, Err}
 use Rattle.std.specs.declared.result.Result.{Result}

@@ -1,5 +1,7 @@
--- The turns of the worker at the connection to the broker, and what its trail says of them (MQTT 3.1.1, 3.1, 3.2 and 4.8).
-use Rattle.std.specs.Prelude.{ℕ, ◌+◌, ◌≡◌, ◌≤◌, ◌<◌, ◌⊎◌, Bool, true, false, not, ◌&&◌, if◌then◌else◌, nat_lt, Option, Some, None, List, [], ◌∷◌, ◌++◌, map}
+-- The turns of the worker at the connection to the broker, and what its trail says of them (MQTT 3.1.1, 3.1,
+-- 3.2 and 4.8).
+use Rattle.std.specs.Prelude.{ℕ, ◌+◌, ◌≡◌, ◌≤◌, ◌<◌, ◌⊎◌, Bool, true, false, not, ◌&&◌, if◌then◌else◌, nat_lt}
+use Rattle.std.specs.Prelude.{Option, Some, None, List, [], ◌∷◌, ◌++◌, map}
 use Rattle.std.specs.List.{flat_map}
 use Rattle.mqtt_frames.specs.declared.packet.Packet.{Packet}
 use Rattle.mqtt_frames.specs.Streams.{State, Reading}
@@ -10,7 +12,8 @@ use Rattle.sng_desk.specs.Sights.{Share, Receipt}
 use Rattle.sng_desk.specs.declared.trail.Trail.{Trail}
 use Rattle.sng_desk.specs.declared.connection.Terms.{Terms}
 use Rattle.sng_desk.specs.declared.connection.Call.{Call}
-use Rattle.sng_desk.specs.declared.connection.Call.TheVariants.{Opened, NotOpened, NoMore, Quiet, Read, Lost, Wrote, NotWritten, Shut}
+use Rattle.sng_desk.specs.declared.connection.Call.TheVariants.{Opened, NotOpened, NoMore, Quiet, Read, Lost}
+use Rattle.sng_desk.specs.declared.connection.Call.TheVariants.{Wrote, NotWritten, Shut}
 use Rattle.sng_desk.specs.declared.connection.Opening.{Opening}
 use Rattle.sng_desk.specs.declared.connection.Opening.TheVariants.{Made, Missed, NoneLeft}
 use Rattle.sng_desk.specs.declared.connection.ReadAnswer.{ReadAnswer}
@@ -24,7 +27,8 @@ use Rattle.sng_desk.specs.declared.ending.WorkerFault.TheVariants.{Device, GaveU
 use Rattle.sng_desk.specs.declared.ending.WorkerEnd.{WorkerEnd}
 use Rattle.sng_desk.specs.declared.working.Next.{Next}
 use Rattle.sng_desk.specs.declared.working.Next.TheVariants.{On, Over}
-use Rattle.sng_desk.specs.Acts.{Act, EndsRefused, Moves, Logs, no_trail, is_taken, events_of, receipts_of, all_taken, wires_of, sends_of}
+use Rattle.sng_desk.specs.Acts.{Act, EndsRefused, Moves, Logs, no_trail, is_taken, events_of, receipts_of}
+use Rattle.sng_desk.specs.Acts.{all_taken, wires_of, sends_of}
 use Rattle.sng_desk.specs.Streaming.{accepts, packets_in, broken_in, left_by}
 
 -- what a device's answer is in the list of its calls
@@ -158,9 +162,11 @@ downs Closes up = if up then Down ∷ [] else []
 -- what may happen in one turn
 pub record Turned (terms : Terms) (stage : Stage) (rest : State) (t : Turn) : Type 0 where
   pub asked : may_ask terms.tries stage t.asked ≡ true
-  pub events : events_of t.acts ≡ events_at stage (packets_of rest t.asked t.taken) (broken_of rest t.asked t.taken)
+  pub events : events_of t.acts ≡ events_at stage (packets_of rest t.asked t.taken)
+      (broken_of rest t.asked t.taken)
   -- the worker closes it before it writes, exactly where an answer ends it or an event was refused
-  pub closed : is_closing t.close ≡ not (goes_on stage (packets_of rest t.asked t.taken) (broken_of rest t.asked t.taken) && all_taken t.acts)
+  pub closed : is_closing t.close ≡ not (goes_on stage (packets_of rest t.asked t.taken)
+      (broken_of rest t.asked t.taken) && all_taken t.acts)
   pub passed : Passed t.close t.written (owed terms.greeting stage t.asked (receipts_of t.acts))
   pub down : events_of t.last ≡ downs t.close (was_up stage t.acts)
 
@@ -178,7 +184,8 @@ stage_on (Away n) opened greeting = if opened then Greeting n else Away n
 stage_on (Greeting n) opened greeting = if greeting then Open else Greeting n
 stage_on stage opened greeting = stage
 
--- how it stands after a turn that ends it: a try has failed, or a connection that was up is lost, and that was told or refused
+-- how it stands after a turn that ends it: a try has failed, or a connection that was up is lost, and that
+-- was told or refused
 abbrev pub stage_off : Stage → Bool → Bool → Stage
 stage_off stage true told = if told then Away 0 else Fallen
 stage_off (Away n) false told = Away (n + 1)
@@ -187,19 +194,23 @@ stage_off stage false told = stage
 
 abbrev pub stage_after : Stage → Turn → Stage
 stage_after stage t =
-    if is_staying t.close then stage_on stage (is_opened t.asked) (has_some t.acts) else stage_off stage (was_up stage t.acts) (all_taken t.last)
+    if is_staying t.close then stage_on stage (is_opened t.asked) (has_some t.acts) else stage_off stage
+    (was_up stage t.acts) (all_taken t.last)
 
 -- the turns may come one after another, from one stage to another
 abbrev pub Turns : Terms → Stage → State → List Turn → Stage → State → Type 0
 Turns terms stage rest [] last left = (stage ≡ last) × (rest ≡ left)
 Turns terms stage rest (t ∷ turns) last left =
-    Turned terms stage rest t × Turns terms (stage_after stage t) (rest_of rest t.asked t.taken) turns last left
+    Turned terms stage rest t × Turns terms (stage_after stage t) (rest_of rest t.asked t.taken) turns last
+    left
 
 abbrev pub all_acts : List Turn → List Act
 all_acts turns = flat_map acts_of turns
 
 -- What happened since a worker began with this connection, this sink and this share.
-pub record Worked {U D : Type 0} (tells : U → Bool) (did : U → List Call) (told : D → Bool) (passed : D → List (Address × List ℕ)) (terms : Terms) (up : U) (sink : D) (share : Share) (stage : Stage) (rest : State) (now : U) (emptied : D) (trail : Trail) (left : Share) : Type 0 where
+pub record Worked {U D : Type 0} (tells : U → Bool) (did : U → List Call) (told : D → Bool) (passed : D
+    → List (Address × List ℕ)) (terms : Terms) (up : U) (sink : D) (share : Share) (stage : Stage)
+    (rest : State) (now : U) (emptied : D) (trail : Trail) (left : Share) : Type 0 where
   pub turns : List Turn
   pub lawful : Turns terms (Away 0) (Reading []) turns stage rest
   -- the connection's calls are those of the turns
@@ -218,10 +229,13 @@ EndsFor tries (Some BookFull) stage ended stops trail = EndsRefused trail.refuse
 EndsFor tries (Some Device) stage ended stops trail = ⊥
 
 -- How a worker ended that began with these.
-pub record HasEnded {U D : Type 0} (tells : U → Bool) (did : U → List Call) (told : D → Bool) (passed : D → List (Address × List ℕ)) (has_ended : U → Bool) (terms : Terms) (up : U) (sink : D) (share : Share) (may_stop : Bool) (end : WorkerEnd U D) : Type 0 where
+pub record HasEnded {U D : Type 0} (tells : U → Bool) (did : U → List Call) (told : D → Bool) (passed : D
+    → List (Address × List ℕ)) (has_ended : U → Bool) (terms : Terms) (up : U) (sink : D) (share : Share)
+    (may_stop : Bool) (end : WorkerEnd U D) : Type 0 where
   pub stage : Stage
   pub rest : State
-  pub worked : Worked tells did told passed terms up sink share stage rest end.source end.sender end.trail end.share
+  pub worked : Worked tells did told passed terms up sink share stage rest end.source end.sender end.trail
+      end.share
   pub fault : EndsFor terms.tries end.fault stage (has_ended end.source) may_stop end.trail
 
 -- STEPS OF A TURN
@@ -249,7 +263,8 @@ IsGoing tries (Away n) = n < tries
 IsGoing tries _ = Unit {0}
 
 abbrev pub next_stage : Stage → Close → Bool → Bool → Bool → Bool → Stage
-next_stage stage close opened greeting up told = if is_staying close then stage_on stage opened greeting else stage_off stage up told
+next_stage stage close opened greeting up told = if is_staying close then stage_on stage opened greeting else
+    stage_off stage up told
 
 -- what a turn says of why it is the last
 abbrev pub NextFor : ℕ → Next → Stage → Bool → Bool → Trail → Type 0
@@ -261,15 +276,18 @@ fails true = []
 fails false = NotWritten ∷ []
 
 -- these bytes were written, or their beginning up to a failure
-pub record Writes {U : Type 0} (tells : U → Bool) (did : U → List Call) (before now : U) (bytes : List ℕ) (fine : Bool) : Type 0 where
+pub record Writes {U : Type 0} (tells : U → Bool) (did : U → List Call) (before now : U) (bytes : List ℕ)
+    (fine : Bool) : Type 0 where
   pub written : List (List ℕ)
   pub left : List ℕ
   pub calls : Moves tells did before now (map (λ b. Wrote b) written ++ fails fine)
   pub whole : flat_map (λ w. w) written ++ left ≡ bytes
   pub all : fine ≡ true → left ≡ []
 
--- these bytes were passed, if the connection was to stay, and it was closed where it was not or a write failed
-pub record Settled {U : Type 0} (tells : U → Bool) (did : U → List Call) (before now : U) (bytes : List ℕ) (stays : Bool) (close : Close) : Type 0 where
+-- these bytes were passed, if the connection was to stay, and it was closed where it was not or a write
+-- failed
+pub record Settled {U : Type 0} (tells : U → Bool) (did : U → List Call) (before now : U) (bytes : List ℕ)
+    (stays : Bool) (close : Close) : Type 0 where
   pub written : List (List ℕ)
   pub calls : Moves tells did before now (map (λ b. Wrote b) written ++ ends_of close)
   pub passed : Passed close written bytes
@@ -283,7 +301,8 @@ pub record Took (rest kept : State) (bytes : List ℕ) (came : List Packet) (end
   pub left : kept ≡ rest_of rest (Read bytes) taken
 
 -- the connection was asked once for a piece
-pub record Heard {U : Type 0} (tells : U → Bool) (did : U → List Call) (before now : U) (rest kept : State) (came : List Packet) (ended : Bool) : Type 0 where
+pub record Heard {U : Type 0} (tells : U → Bool) (did : U → List Call) (before now : U) (rest kept : State)
+    (came : List Packet) (ended : Bool) : Type 0 where
   pub got : ReadAnswer
   pub taken : Bool
   pub calls : Moves tells did before now (got_call got ∷ [])
@@ -292,7 +311,8 @@ pub record Heard {U : Type 0} (tells : U → Bool) (did : U → List Call) (befo
   pub left : kept ≡ rest_of rest (got_call got) taken
 
 -- the desk was asked about what was heard
-pub record Answered (stage : Stage) (packets : List Packet) (broken : Bool) (trail : Trail) (share : Share) (grown : Trail) (left : Share) (is_up does_stay is_greeted : Bool) : Type 0 where
+pub record Answered (stage : Stage) (packets : List Packet) (broken : Bool) (trail : Trail) (share : Share)
+    (grown : Trail) (left : Share) (is_up does_stay is_greeted : Bool) : Type 0 where
   pub acts : List Act
   pub events : events_of acts ≡ events_at stage packets broken
   pub logs : Logs trail share acts grown left
@@ -301,7 +321,10 @@ pub record Answered (stage : Stage) (packets : List Packet) (broken : Bool) (tra
   pub greeted : (opened : Bool) → stage_on stage opened is_greeted ≡ stage_on stage opened (has_some acts)
 
 -- one turn was done
-pub record Taken {U D : Type 0} (tells : U → Bool) (did : U → List Call) (told : D → Bool) (passed : D → List (Address × List ℕ)) (terms : Terms) (up : U) (sink : D) (stage : Stage) (rest : State) (trail : Trail) (share : Share) (now : U) (emptied : D) (reached : Stage) (kept : State) (grown : Trail) (after : Share) : Type 0 where
+pub record Taken {U D : Type 0} (tells : U → Bool) (did : U → List Call) (told : D → Bool) (passed : D
+    → List (Address × List ℕ)) (terms : Terms) (up : U) (sink : D) (stage : Stage) (rest : State)
+    (trail : Trail) (share : Share) (now : U) (emptied : D) (reached : Stage) (kept : State) (grown : Trail)
+    (after : Share) : Type 0 where
   pub turn : Turn
   pub lawful : Turned terms stage rest turn
   pub next : reached ≡ stage_after stage turn

@@ -7,10 +7,11 @@ ghost use Rattle.sng_desk.specs.Acts.{Moves};
 ghost use Rattle.sng_desk.specs.Turning.{got_call, opening_call};
 ghost use Rattle.sng_desk.specs.Devices.{IsShort, IsTaken, written_call};
 
+use crate::limits::MAX_READ;
 use sng_text::Octets;
 
 /// A call of a connection, with what came of it.
-#[derive(Drop)]
+#[derive(Debug, Drop)]
 pub enum Call {
     /// A connection was made.
     Opened,
@@ -33,50 +34,62 @@ pub enum Call {
 }
 
 /// What came of a try to connect.
-#[derive(Clone, Copy, Drop)]
+#[derive(Clone, Copy, Debug, PartialEq, Eq)]
 pub enum Opening {
+    /// There is a connection, which the broker has still to accept.
     Made,
+    /// The try failed.
     Missed,
+    /// No further connection comes.
     NoneLeft,
 }
 
 /// What a connection gave.
-#[derive(Drop)]
+#[derive(Debug, Drop)]
 pub enum ReadAnswer {
     /// Nothing came in a while.
     Nothing,
+    /// These bytes came.
     Piece(Octets),
     /// It is lost.
     Gone,
 }
 
 /// How many bytes a connection took.
-#[derive(Clone, Copy, Drop)]
+#[derive(Clone, Copy, Debug, PartialEq, Eq)]
 pub enum Written {
+    /// So many of those that were to be written, from the first on; one at least.
     Took(usize),
+    /// The connection takes nothing any more.
     Failed,
 }
 
-/// What a turn does to the connection: it stays, a write to it failed, or it is closed before any write.
-#[derive(Clone, Copy, Drop)]
+/// What a turn does to the connection.
+#[derive(Clone, Copy, Debug, PartialEq, Eq)]
 pub enum Close {
+    /// It stays.
     Stays,
+    /// A write to it failed, and it was closed.
     Breaks,
+    /// It was closed before any write.
     Closes,
 }
 
-/// How a worker stands: without a connection, after so many failed tries; with one that is not accepted yet;
-/// with one that is; or with one that is lost, which the desk refused to hear.
-#[derive(Clone, Copy, Drop)]
+/// How a worker stands.
+#[derive(Clone, Copy, Debug, PartialEq, Eq)]
 pub enum Stage {
+    /// Without a connection, after so many failed tries in a row.
     Away(u32),
+    /// With one that the broker has not accepted yet, after so many failed tries before it.
     Greeting(u32),
+    /// With one that the broker accepted.
     Open,
+    /// With one that is lost, which the desk refused to hear.
     Fallen,
 }
 
 /// How a worker connects.
-#[derive(Drop)]
+#[derive(Debug, Drop)]
 pub struct Terms {
     /// How many tries may fail, one after another.
     pub tries: u32,
@@ -95,14 +108,16 @@ pub trait Upstream: Drop {
     /// It answered that no further connection comes.
     ghost has_ended: { Self → Bool };
 
+    /// Tries to connect. It may wait first, as after a try that failed.
     fn connect(&mut self) -> Opening
         ensures did { Moves tells did self.old self.new (opening_call result ∷ []) }
         ensures ended { result ≡ NoneLeft → has_ended self.new ≡ true };
 
-    /// At most 4,096 bytes. Where the broker has not accepted the connection in good time, it is lost.
+    /// What came, `MAX_READ` bytes at most. Where the broker has not accepted the connection in good time, it
+    /// is lost.
     fn read(&mut self) -> ReadAnswer
         ensures did { Moves tells did self.old self.new (got_call result ∷ []) }
-        ensures short { IsShort 4096 result };
+        ensures short { IsShort MAX_READ result };
 
     /// Writes a beginning of the bytes, of one byte at least.
     fn write(&mut self, bytes: &[u8]) -> Written
@@ -110,6 +125,7 @@ pub trait Upstream: Drop {
         ensures did { Moves tells did self.old self.new (written_call bytes.now result ∷ []) }
         ensures taken { IsTaken result (length bytes.now) };
 
+    /// Lets the connection go.
     fn close(&mut self)
         ensures did { Moves tells did self.old self.new (Shut ∷ []) };
 

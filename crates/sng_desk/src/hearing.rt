@@ -5,21 +5,22 @@ ghost use Rattle.sng_desk.specs.Streaming.{accepts, is_fault};
 ghost use Rattle.sng_desk.specs.Turning.{Heard, Took};
 
 use crate::connection::{ReadAnswer, Upstream};
+use crate::limits::MAX_PACKETS;
 use mqtt_frames::{Packet, Stream, StreamFault};
 use std::alloc::Global;
 
 /// The packets that were heard, and whether the connection is lost behind them.
-#[derive(Drop)]
+#[derive(Debug, Drop)]
 pub struct Fed {
     pub packets: Vec<Packet>,
     pub broken: bool,
 }
 
-/// Asks a connection for a piece, and the stream for its packets. Where the connection is lost, or there is no
-/// memory for the piece, it is broken.
+/// Asks a connection for a piece, and the stream for its packets. Where the connection is lost, or there is
+/// no memory for the piece, it is broken.
 pub fn hear<U: Upstream>(alloc: Global, up: &mut U, stream: &mut Stream) -> Fed
     ensures heard { Heard U.tells U.did up.old up.new stream.old stream.new result.packets.items result.broken }
-    ensures few { length result.packets.items ≤ 2049 }
+    ensures few { length result.packets.items ≤ MAX_PACKETS }
 {
     match up.read() {
         ReadAnswer::Nothing => nothing(alloc, false),

@@ -1,6 +1,7 @@
 //! The locked desk: one gateway and one book under many workers.
 #![tactic(auto)]
 
+mod answering;
 pub mod closing;
 pub mod connection;
 pub mod desk;
@@ -11,9 +12,13 @@ pub mod gate;
 mod hand;
 mod hearing;
 pub mod items;
+pub mod laws;
+pub mod limits;
 pub mod memory;
 mod passing;
 pub mod source;
+mod stages;
+mod starting;
 pub mod threads;
 pub mod trail;
 mod upstream;
@@ -27,6 +32,7 @@ pub use ending::{NoSender, WorkerEnd, WorkerFault};
 pub use fault::{ActFault, NotActed};
 pub use gate::Gate;
 pub use items::Items;
+pub use limits::{MAX_READ, MAX_TURN_EVENTS};
 pub use source::{Beats, Datagrams, Got, Policies};
 pub use threads::{Crew, Ended, NotStarted, Post, SendingPost, run_workers};
 pub use trail::{Refusal, Trail};

@@ -16,9 +16,11 @@ use std::alloc::Global;
 use std::sync::{Mutex, Wait};
 
 /// What a turn leads to.
-#[derive(Drop)]
+#[derive(Clone, Copy, Debug, PartialEq, Eq)]
 pub enum Next {
+    /// Another turn.
     On,
+    /// It was the last: why, where that is a fault.
     Over(Option<WorkerFault>),
 }
 
@@ -33,9 +35,12 @@ impl<S: Source> Round<S> {
     /// Asks the source once, and acts on what it gives.
     fn turn<R: Wait, G: Gate>(&mut self, rt: &R, desk: &Mutex<Desk>, gate: &G) -> Next
         ensures worked { (source : S) (share : share_sight)
-            → Worked S.tells S.gave S.failures S.told S.passed source source share self.old.source self.old.source self.old.hand.log.trail self.old.hand.share
-            → Worked S.tells S.gave S.failures S.told S.passed source source share self.new.source self.new.source self.new.hand.log.trail self.new.hand.share }
-        ensures over { NextFor result (S.failures self.old.source) (S.failures self.new.source) (S.has_ended self.new.source) (G.may_stop gate.now) self.new.hand.log.trail }
+            → Worked S.tells S.gave S.failures S.told S.passed source source share self.old.source
+            self.old.source self.old.hand.log.trail self.old.hand.share
+            → Worked S.tells S.gave S.failures S.told S.passed source source share self.new.source
+            self.new.source self.new.hand.log.trail self.new.hand.share }
+        ensures over { NextFor result (S.failures self.old.source) (S.failures self.new.source)
+            (S.has_ended self.new.source) (G.may_stop gate.now) self.new.hand.log.trail }
     {
         if self.hand.log.is_full() {
             return Next::Over(Some(WorkerFault::BookFull));
@@ -61,7 +66,9 @@ impl<S: Source> Round<S> {
     /// Acts on an event, and sends what comes of it.
     fn serve<R: Wait, G: Gate>(&mut self, rt: &R, desk: &Mutex<Desk>, gate: &G, event: Event)
         requires { 1 ≤ self.old.hand.log.spare }
-        ensures { Served S.tells S.gave S.failures S.told S.passed event self.old.source self.old.hand.log.trail self.old.hand.share self.new.source self.new.hand.log.trail self.new.hand.share }
+        ensures { Served S.tells S.gave S.failures S.told S.passed event self.old.source
+            self.old.hand.log.trail self.old.hand.share self.new.source self.new.hand.log.trail
+            self.new.hand.share }
     {
         let from = self.hand.log.count();
         let _taken = self.hand.act(rt, desk, gate, event);
@@ -120,7 +127,8 @@ pub fn work<R: Wait, S: Source, G: Gate>(
     source: S,
     gate: &G,
 ) -> Left<S>
-    ensures { HasEnded S.tells S.gave S.failures S.has_ended S.told S.passed source source share (G.may_stop gate.now) result.source result.source result.trail result.share result.fault }
+    ensures { HasEnded S.tells S.gave S.failures S.has_ended S.told S.passed source source share
+        (G.may_stop gate.now) result.source result.source result.trail result.share result.fault }
 {
     let log = Log::new(alloc, share.tag());
     let hand = Hand { share, log };

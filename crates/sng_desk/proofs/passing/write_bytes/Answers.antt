@@ -13,7 +13,9 @@ loop-at-preserved g c =
     let e = c.in-Took.ensures in
     record {
       within = omega (arith, e.taken);
-      writes = rw (take_join at c.in-Took.n bytes) (writes_on u.tells u.did c.args.up.now c.loop-at.up c.write.new.self (take at bytes) piece true c.loop-at.invariant.writes (writes_one u.tells u.did c.loop-at.up c.write.new.self piece (rw (take_rest bytes at) at e.did)));
+      writes = rw (take_join at c.in-Took.n bytes) (writes_on u.tells u.did c.args.up.now c.loop-at.up
+          c.write.new.self (take at bytes) piece true c.loop-at.invariant.writes
+          (writes_one u.tells u.did c.loop-at.up c.write.new.self piece (rw (take_rest bytes at) at e.did)));
     }
 
 pub returns-in_default : goal.returns-in_default
@@ -22,5 +24,7 @@ returns-in_default g c =
     let at = c.loop-at.at in
     let bytes = c.args.bytes.now in
     let e = c.in_default.ensures in
-    writes_less u.tells u.did c.args.up.now c.write.new.self (take at bytes ++ []) (drop at bytes) bytes (rw (append-nil (take at bytes)) (sym (take-append-drop at bytes)))
-    (writes_on u.tells u.did c.args.up.now c.loop-at.up c.write.new.self (take at bytes) [] false c.loop-at.invariant.writes (writes_fail u.tells u.did c.loop-at.up c.write.new.self e.did))
+    writes_less u.tells u.did c.args.up.now c.write.new.self (take at bytes
+    ++ []) (drop at bytes) bytes (rw (append-nil (take at bytes)) (sym (take-append-drop at bytes)))
+    (writes_on u.tells u.did c.args.up.now c.loop-at.up c.write.new.self (take at bytes) [] false
+    c.loop-at.invariant.writes (writes_fail u.tells u.did c.loop-at.up c.write.new.self e.did))

@@ -12,8 +12,11 @@ loop-out-preserved g c =
     let i = c.loop-out.out-index in
     let outs = c.args.outs.now in
     let out = c.out-item.result in
-    let step : take (i + 1) outs ≡ take i outs ++ out ∷ [] = take_more outs i out c.loop-out-test.true ∙ ap (λ x. take i outs ++ x ∷ []) (sym c.out-item.is) in
-    rw (step, wires_on (take i outs) (out ∷ [])) (writes_on u.tells u.did c.args.up.now c.loop-out.up c.write_out.new.up (wires_in (take i outs)) (wires_in (out ∷ [])) true c.loop-out.invariant (c.if-not-write_out.ensures))
+    let step : take (i + 1) outs ≡ take i outs ++ out ∷ [] = take_more outs i out c.loop-out-test.true
+    ∙ ap (λ x. take i outs ++ x ∷ []) (sym c.out-item.is) in
+    rw (step, wires_on (take i outs) (out ∷ [])) (writes_on u.tells u.did c.args.up.now c.loop-out.up
+    c.write_out.new.up (wires_in (take i outs)) (wires_in (out
+    ∷ [])) true c.loop-out.invariant (c.if-not-write_out.ensures))
 
 pub returns-then-not-write_out : goal.returns-then-not-write_out
 returns-then-not-write_out g c =
@@ -21,8 +24,15 @@ returns-then-not-write_out g c =
     let i = c.loop-out.out-index in
     let outs = c.args.outs.now in
     let out = c.out-item.result in
-    let step : take (i + 1) outs ≡ take i outs ++ out ∷ [] = take_more outs i out c.loop-out-test.true ∙ ap (λ x. take i outs ++ x ∷ []) (sym c.out-item.is) in
-    let all : wires_in outs ≡ (wires_in (take i outs) ++ wires_in (out ∷ [])) ++ wires_in (drop (i + 1) outs) =
-    ap (λ x. wires_in x) (sym (take-append-drop (i + 1) outs)) ∙ wires_on (take (i + 1) outs) (drop (i + 1) outs) ∙ ap (λ x. wires_in x ++ wires_in (drop (i + 1) outs)) step ∙ ap (λ x. x ++ wires_in (drop (i + 1) outs)) (wires_on (take i outs) (out ∷ [])) in
-    writes_less u.tells u.did c.args.up.now c.write_out.new.up (wires_in (take i outs) ++ wires_in (out ∷ [])) (wires_in (drop (i + 1) outs)) (wires_in outs) all
-    (writes_on u.tells u.did c.args.up.now c.loop-out.up c.write_out.new.up (wires_in (take i outs)) (wires_in (out ∷ [])) false c.loop-out.invariant (c.if-not-write_out.ensures))
+    let step : take (i + 1) outs ≡ take i outs ++ out ∷ [] = take_more outs i out c.loop-out-test.true
+    ∙ ap (λ x. take i outs ++ x ∷ []) (sym c.out-item.is) in
+    let all : wires_in outs ≡ (wires_in (take i outs) ++ wires_in (out ∷ []))
+    ++ wires_in (drop (i + 1) outs) =
+    ap (λ x. wires_in x) (sym (take-append-drop (i + 1) outs))
+    ∙ wires_on (take (i + 1) outs) (drop (i + 1) outs) ∙ ap (λ x. wires_in x
+    ++ wires_in (drop (i + 1) outs)) step ∙ ap (λ x. x ++ wires_in (drop (i + 1) outs))
+    (wires_on (take i outs) (out ∷ [])) in
+    writes_less u.tells u.did c.args.up.now c.write_out.new.up (wires_in (take i outs)
+    ++ wires_in (out ∷ [])) (wires_in (drop (i + 1) outs)) (wires_in outs) all
+    (writes_on u.tells u.did c.args.up.now c.loop-out.up c.write_out.new.up (wires_in (take i outs))
+    (wires_in (out ∷ [])) false c.loop-out.invariant (c.if-not-write_out.ensures))

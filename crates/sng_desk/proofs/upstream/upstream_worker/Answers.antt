@@ -10,7 +10,8 @@ loop-init g c =
       can = tt;
       finite = tt;
       below = omega arith;
-      worked = rw (c.new-log.ensures, c.tag.ensures, c.new.ensures) (worked_none u.tells u.did d.tells d.passed c.args.terms.now c.args.source c.args.sender c.args.share);
+      worked = rw (c.new-log.ensures, c.tag.ensures, c.new.ensures) (worked_none u.tells u.did d.tells
+          d.passed c.args.terms.now c.args.source c.args.sender c.args.share);
     }
 
 pub loop-preserved : goal.loop-preserved
@@ -25,6 +26,7 @@ pub returns-in-Over : goal.returns-in-Over
 returns-in-Over g c = record {
   stage = c.turn.new.self.stage;
   rest = c.turn.new.self.stream;
-  worked = rw c.into_trail.ensures (c.turn.ensures.worked c.args.source c.args.sender c.args.share c.loop.invariant.worked);
+  worked = rw c.into_trail.ensures (c.turn.ensures.worked c.args.source c.args.sender c.args.share
+      c.loop.invariant.worked);
   fault = rw c.into_trail.ensures c.in-Over.ensures.over;
 }

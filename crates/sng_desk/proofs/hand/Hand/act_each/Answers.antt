@@ -28,8 +28,10 @@ loop-packet-preserved g c =
       acted = (
         done ++ p ∷ [],
         append_assoc done (p ∷ []) rest ∙ ap (λ x. done ++ x) (sym c.in-Some.ensures.steps.0) ∙ inv.1,
-        rw (map-append (λ (q : Packet). Broker q) done (p ∷ []), c.both-fine.ensures)
-            (acted_on (map (λ (q : Packet). Broker q) done) (Broker p ∷ []) old.log.trail old.share mid.log.trail mid.share new.log.trail new.share c.loop-packet.fine c.act-taken.result inv.2 c.act-taken.ensures.acted),
+        rw (map-append (λ (q : Packet). Broker q) done (p ∷ []))
+            (acted_on (map (λ (q : Packet). Broker q) done) (Broker p
+            ∷ []) old.log.trail old.share mid.log.trail mid.share new.log.trail new.share
+            c.loop-packet.fine c.act-taken.result inv.2 c.act-taken.ensures.acted),
         omega (arith, inv.3, c.act-taken.ensures.spare, length-append done (p ∷ [])),
       );
     }

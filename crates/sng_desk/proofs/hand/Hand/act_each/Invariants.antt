@@ -10,6 +10,7 @@ invariant-loop-packet g l = record {
   can : (goal.iterator-loop-packet g).can_next l.packet-iterator;
   finite : (goal.iterator-loop-packet g).is_finite l.packet-iterator;
   acted : (done : List Packet) × (done ++ into_iter_items l.packet-iterator ≡ l.fn.packets.items)
-      × Acted (map (λ p. Broker p) done) l.fn.self.log.trail l.fn.self.share l.self.log.trail l.self.share l.fine
+      × Acted (map (λ p. Broker p) done) l.fn.self.log.trail l.fn.self.share l.self.log.trail l.self.share
+      l.fine
       × (l.fn.self.log.spare ≤ l.self.log.spare + length done);
 }

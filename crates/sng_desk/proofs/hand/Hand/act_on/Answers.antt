@@ -6,5 +6,8 @@ use Rattle.sng_desk.proofs.hand.Hand.act_on.Goals as goal
 
 pub returns-clause-acted : goal.returns-clause-acted
 returns-clause-acted g c =
-    rw (c.if-broken.false, c.both.ensures)
-    (acted_on (map (λ (p : Packet). Broker p) c.args.packets.items) (Take ∷ []) c.args.self.now.log.trail c.args.self.now.share c.act_each-fine.new.self.log.trail c.act_each-fine.new.self.share c.act-taken.new.self.log.trail c.act-taken.new.self.share c.act_each-fine.result c.act-taken.result c.act_each-fine.ensures.acted c.act-taken.ensures.acted)
+    rw c.if-broken.false
+    (acted_on (map (λ (p : Packet). Broker p) c.args.packets.items) (Take
+    ∷ []) c.args.self.now.log.trail c.args.self.now.share c.act_each-fine.new.self.log.trail
+    c.act_each-fine.new.self.share c.act-taken.new.self.log.trail c.act-taken.new.self.share
+    c.act_each-fine.result c.act-taken.result c.act_each-fine.ensures.acted c.act-taken.ensures.acted)

@@ -1,4 +1,4 @@
-use Rattle.std.proofs.Common.{rules}
+use Rattle.std.proofs.Common.{not, ◌&&◌, refl, rules}
 use Rattle.sng_desk.proofs.Feeding.{empty_list}
 use Rattle.sng_desk.proofs.Turns.{greeted_on, greeted_none}
 use Rattle.sng_desk.proofs.hand.Hand.greet.Goals as goal
@@ -8,8 +8,13 @@ returns-clause-answered g c n =
     let self = c.args.self.now in
     let mid = c.act-up.new.self in
     let end = c.act_on-fine.new.self in
-    greeted_on n c.args.packets.items c.in-Some.first.now c.remove-first.new.self.items c.args.broken self.log.trail self.share mid.log.trail mid.share end.log.trail end.share c.act-up.result c.act_on-fine.result c.both-2.result (search rules) (search rules) c.act-up.ensures.acted c.act_on-fine.ensures.acted (rw c.both.ensures at c.both-2.ensures)
+    greeted_on n c.args.packets.items c.in-Some.first.now c.remove-first.new.self.items c.args.broken
+    self.log.trail self.share mid.log.trail mid.share end.log.trail end.share c.act-up.result
+    c.act_on-fine.result (not c.args.broken && (c.act-up.result && c.act_on-fine.result)) (search rules)
+    (search rules) c.act-up.ensures.acted
+    c.act_on-fine.ensures.acted refl
 
 pub returns-in_default-clause-answered : goal.returns-in_default-clause-answered
 returns-in_default-clause-answered g c n =
-    greeted_none n c.args.packets.items c.args.broken c.args.self.now.log.trail c.args.self.now.share (empty_list c.args.packets.items (search rules))
+    greeted_none n c.args.packets.items c.args.broken c.args.self.now.log.trail c.args.self.now.share
+    (empty_list c.args.packets.items (search rules))

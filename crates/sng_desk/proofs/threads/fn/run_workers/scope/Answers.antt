@@ -11,16 +11,23 @@ returns-in-Ok g c =
     let hs = c.in_ok-handles.handles.items in
     let ps = c.captures.udp.items in
     let made = c.in_ok-handles.ensures in
-    let many : length hs ≡ length ps = same_length (λ h. h.promise.source.value) (λ p. p.source) hs ps made.sources in
+    let many : length hs ≡ length ps = same_length (λ h. h.promise.source.value) (λ p. p.source) hs ps
+    made.sources in
     let joined : vec_len c.in-Ok.udp ≡ vec_len c.in_ok-handles.handles = c.in-Ok.ensures.len in
     record {
       len = search rules;
       udp = λ k p e below.
           let within : k < vec_len c.in_ok-handles.handles = search rules in
           let keeps = (c.in-Ok.ensures.each k e within).1 in
-          let source = ap (λ h. h.promise.source.value) keeps.handle_is ∙ same_at (λ h. h.promise.source.value) (λ p. p.source) hs ps k keeps.handle p made.sources below in
-          let share = ap (λ h. h.promise.share.value) keeps.handle_is ∙ same_at (λ h. h.promise.share.value) (λ p. p.share) hs ps k keeps.handle p made.shares below in
-          let stop = ap (λ h. h.promise.may_stop) keeps.handle_is ∙ same_at (λ h. h.promise.may_stop) (λ p. c.captures.may_stop) hs ps k keeps.handle p made.stops below in
+          let source = ap (λ h. h.promise.source.value) keeps.handle_is
+          ∙ same_at (λ h. h.promise.source.value) (λ p. p.source) hs ps k keeps.handle p made.sources
+          below in
+          let share = ap (λ h. h.promise.share.value) keeps.handle_is
+          ∙ same_at (λ h. h.promise.share.value) (λ p. p.share) hs ps k keeps.handle p made.shares below
+          in
+          let stop = ap (λ h. h.promise.may_stop) keeps.handle_is
+          ∙ same_at (λ h. h.promise.may_stop) (λ p. c.captures.may_stop) hs ps k keeps.handle p made.stops
+          below in
           rw (sym source, sym share, sym stop) keeps.kept;
       upstream = search rules;
       ticker = search rules;
