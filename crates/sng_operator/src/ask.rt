@@ -100,7 +100,10 @@ impl<'a> Display for Fault<'a> {
                 "{option} {word}: not an IPv4 address with a port, as 0.0.0.0:1884"
             ),
             Fault::Id(word) => {
-                write!(f, "--id {word}: not a client id of 1 to {MAX_CLIENT_ID} characters")
+                write!(
+                    f,
+                    "--id {word}: not a client id of 1 to {MAX_CLIENT_ID} characters"
+                )
             }
             Fault::File(path, error) => write!(f, "--policy {path}: cannot be read: {error}"),
             Fault::Policy(path, fault, _) => {
