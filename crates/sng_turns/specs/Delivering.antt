@@ -22,6 +22,7 @@ use Rattle.sng_sessions.specs.Moving.{moved_at}
 use Rattle.sng_sessions.specs.Handed.{delivered}
 use Rattle.sng_sessions.specs.declared.handing.Opens.{Opens}
 use Rattle.sng_sessions.specs.declared.handing.Opens.TheVariants.{Nothing}
+use Rattle.sng_turns.specs.declared.deliver.Arrival.{Arrival}
 use Rattle.sng_turns.specs.declared.deliver.Incoming.{Incoming}
 use Rattle.sng_turns.specs.declared.deliver.Kept.{Kept}
 use Rattle.sng_turns.specs.HandingOver.{fixed_id, is_open, message_outs, message_opens}
@@ -44,6 +45,10 @@ due_at i x =
 
 abbrev pub message_at : Incoming → Qos → Message
 message_at i qos = message i.name i.payload qos i.retain
+
+-- as it is due to a client
+abbrev pub arrived : Arrival → Message
+arrived a = message_at a.message.now a.qos
 
 -- what is let out as it comes
 abbrev pub arrive_outs : Policy → Message → Client → List Out

@@ -6,7 +6,7 @@ use Rattle.sng_text.specs.declared.qos.Qos.TheVariants.{AtMostOnce, AtLeastOnce}
 use Rattle.sng_grants.specs.declared.policy.Policy.{Policy}
 use Rattle.sng_policy.specs.Grants.{topic_id}
 use Rattle.sng_ids.specs.Ids.{Ids, id_of, is_full_for, confirmed}
-use Rattle.sng_queue.specs.Messages.{Message}
+use Rattle.sng_queue.specs.Messages.{Message, message}
 use Rattle.sng_queue.specs.declared.kind.TopicIdKind.TheVariants as kind
 use Rattle.sng_book.specs.declared.address.Address.{Address}
 use Rattle.sng_book.specs.declared.decision.Decision.TheVariants as note
@@ -23,6 +23,7 @@ use Rattle.sng_sessions.specs.declared.handing.Opens.{Opens}
 use Rattle.sng_sessions.specs.declared.handing.Opens.TheVariants.{Nothing, Announcing, Awaiting}
 use Rattle.sng_sessions.specs.declared.handing.Handed.{Handed}
 use Rattle.sng_turns.specs.declared.known.KnownId.{KnownId}
+use Rattle.sng_turns.specs.declared.turn.Mail.{Mail}
 
 -- ---- by which topic id
 
@@ -48,7 +49,16 @@ abbrev pub known_id : Option KnownId → Ids → List ℕ → Option KnownId
 known_id (Some k) ids name = Some k
 known_id None ids name = normal (id_of name ids)
 
+-- the id that was confirmed, where 0 is none
+abbrev pub id_or_none : Option ℕ → ℕ
+id_or_none None = 0
+id_or_none (Some id) = id
+
 -- ---- the turn of one message
+
+-- the message that has its turn
+abbrev pub mail_of : Mail → Message
+mail_of m = message m.name.now m.payload.now m.qos m.retain
 
 abbrev pub offer_outs : List ℕ → Address → Ids → ℕ → Message → Option KnownId → List Out
 offer_outs id to ids number m (Some k) =

@@ -5,7 +5,7 @@ use Rattle.sng_history.specs.Entering.{heard_at}
 use Rattle.sng_sessions.specs.Standing.{client_at}
 use Rattle.sng_core.specs.Stating.{said, statement_judged, following_next, statement_next}
 use Rattle.sng_core.proofs.ConfirmLemmas.{moved-here}
-use Rattle.sng_core.proofs.statement.state_at.Goals as goal
+use Rattle.sng_core.proofs.statement.state.Goals as goal
 
 pub returns-then-not-has_turn-clause-next : goal.returns-then-not-has_turn-clause-next
 returns-then-not-has_turn-clause-next c =

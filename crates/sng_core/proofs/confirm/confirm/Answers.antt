@@ -5,7 +5,7 @@ use Rattle.sng_history.specs.Entering.{heard_at}
 use Rattle.sng_sessions.specs.Standing.{client_at}
 use Rattle.sng_core.specs.Confirming.{confirming_next, confirm_next}
 use Rattle.sng_core.proofs.ConfirmLemmas.{moved-here}
-use Rattle.sng_core.proofs.confirm.confirm_at.Goals as goal
+use Rattle.sng_core.proofs.confirm.confirm.Goals as goal
 
 pub returns-then-not-is_confirming-clause-next : goal.returns-then-not-is_confirming-clause-next
 returns-then-not-is_confirming-clause-next c =

@@ -5,7 +5,7 @@ use Rattle.sng_history.specs.Entering.{heard_at}
 use Rattle.sng_sessions.specs.Standing.{client_at}
 use Rattle.sng_core.specs.Confirming.{served_next, acknowledge_next}
 use Rattle.sng_core.proofs.ConfirmLemmas.{moved-here}
-use Rattle.sng_core.proofs.confirm.acknowledge_at.Goals as goal
+use Rattle.sng_core.proofs.confirm.acknowledge.Goals as goal
 
 pub returns-then-not-is_acknowledging-clause-next : goal.returns-then-not-is_acknowledging-clause-next
 returns-then-not-is_acknowledging-clause-next c =
