@@ -19,7 +19,6 @@ ghost use Rattle.sng_link.specs.Resending.{AllWanted, Resubscribed};
 ghost use Rattle.sng_link.specs.Steps.{Logged};
 ghost use Rattle.sng_link.specs.Taking.{Stands};
 
-use crate::exit::exit;
 use crate::leaving::{packet_of, subscribed};
 use crate::step::{Step, undo};
 use mqtt_frames::encode_subscribe;

@@ -16,7 +16,9 @@ use Rattle.sng_policy.specs.declared.grant.Grant.TheVariants as grant
 use Rattle.sng_policy.proofs.SubscriptionLemmas.{subscribing_is_receiving}
 use Rattle.sng_frames.specs.declared.messages.subscribe.TopicRequest.{TopicRequest}
 use Rattle.sng_book.specs.declared.outcome.Denial.{Denial}
-use Rattle.sng_book.specs.declared.outcome.Denial.TheVariants.{NoScope, OutOfTurn}
+use Rattle.sng_book.specs.declared.outcome.Denial.TheVariants.{Form, Grant}
+use Rattle.sng_book.specs.declared.outcome.FormDenial.TheVariants.{OutOfTurn}
+use Rattle.sng_book.specs.declared.outcome.GrantDenial.TheVariants.{NoScope}
 use Rattle.sng_book.specs.declared.outcome.Outcome.TheVariants.{Allowed}
 use Rattle.sng_book.specs.declared.row.Row.{Row}
 use Rattle.sng_laws.specs.Views.{policy_in_force}
@@ -61,10 +63,10 @@ covered_exactly h id r text may meant have =
     let more = gap_rule policy id text ∷ room_rules h id r.flags.id_type text in
     let same : or_empty (filter_meant policy r.flags.id_type r.topic) ≡ text = ap or_empty meant in
     let outcome : judged (subscribe_rules h id r) ≡ judged more =
-    ap (λ t. judged ((not (is_active (phase_of id h)), OutOfTurn) ∷ (not (lists policy id), NoScope id)
+    ap (λ t. judged ((not (is_active (phase_of id h)), Form OutOfTurn) ∷ (not (lists policy id), Grant (NoScope id))
     ∷ (form_rules policy r ++ gap_rule policy id t ∷ room_rules h id r.flags.id_type t))) same
-    ∙ outcome_of (is_active (phase_of id h)) (lists policy id) (form_rules policy r) more OutOfTurn
-    (NoScope id) both.0 both.1 (meant_form policy r text meant)
+    ∙ outcome_of (is_active (phase_of id h)) (lists policy id) (form_rules policy r) more (Form OutOfTurn)
+    (Grant (NoScope id)) both.0 both.1 (meant_form policy r text meant)
     in
     let joins : JoinsReceiving policy id text (subscribe_grant policy id text) =
     subscribing_is_receiving policy id text is have in

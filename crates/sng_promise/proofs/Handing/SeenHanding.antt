@@ -18,7 +18,9 @@ use Rattle.sng_grants.specs.declared.policy.Policy.{Policy}
 use Rattle.sng_book.specs.declared.decision.Decision.{Decision}
 use Rattle.sng_book.specs.declared.decision.Decision.TheVariants as note
 use Rattle.sng_book.specs.declared.outcome.Place.TheVariants as place
-use Rattle.sng_book.specs.declared.outcome.Denial.TheVariants.{Full, Gone}
+use Rattle.sng_book.specs.declared.outcome.Denial.TheVariants.{Room, Peer}
+use Rattle.sng_book.specs.declared.outcome.RoomDenial.TheVariants.{Full}
+use Rattle.sng_book.specs.declared.outcome.PeerDenial.TheVariants.{Gone}
 use Rattle.sng_book.specs.declared.outcome.Outcome.{Outcome}
 use Rattle.sng_book.specs.declared.outcome.Outcome.TheVariants.{Allowed, Denied}
 use Rattle.sng_history.specs.Handing.{Known, known_as}
@@ -79,9 +81,9 @@ offered_moved : (a : Around) (id : List ℕ) (due : List Message) (m : Message) 
 offered_moved a id due m more notes v x (Some known) full knows t =
     known_moved a id due m more notes v x known m.qos knows refl t
 offered_moved a id due m more notes v x None true knows t =
-    denied_moved a id due notes v x m more None (Full place.Ids) refl
+    denied_moved a id due notes v x m more None (Room (Full place.Ids)) refl
     (free_may (occasion_by a.cause) (at v x) (turn_free a id due m more notes v x t)) t.is refl t.shown
-    (t.rest (come_out v m.name (Denied (Full place.Ids))) x.number)
+    (t.rest (come_out v m.name (Denied (Room (Full place.Ids)))) x.number)
 offered_moved a id due m more notes v x None false knows t = announced_moved a id due m more notes v x knows t
 
 -- what the policy denies as a message has its turn
@@ -163,7 +165,7 @@ handed_moved a due v x shown = free_moved a due v x (is_free x) refl shown
 -- ---- what waits is gone
 
 gone_client : (a : Around) (name : List ℕ) (x : Client) → x.buffer ≡ nothing
-    → handed a name (Denied Gone) x ≡ record x { buffer = nothing }
+    → handed a name (Denied (Peer Gone)) x ≡ record x { buffer = nothing }
 gone_client a name x empty = ap (λ b. let y : Client = record x { buffer = settle b } in y) empty
 
 pub gone_moved : (a : Around) (id : List ℕ) (due waiting : List Message) (v : View) (x : Client)
@@ -182,11 +184,11 @@ gone_moved a id due [] v x empty none settling telling given =
       front = rw none tt;
     })
 gone_moved a id due (m ∷ more) v x empty none settling telling given = (
-  denied_step a id m.name Gone v x (ap is_idle none),
-  moved_so a id due (all_gone id more) (view_by a id due (note.Hand id m.name (Denied Gone)) v)
-      (come_out v m.name (Denied Gone))
-      (note_by a (note.Hand id m.name (Denied Gone)) x) (record x { buffer = nothing })
-      (view_denied a id due m.name Gone v refl) (gone_client a m.name x empty)
-      (gone_moved a id due more (come_out v m.name (Denied Gone)) (record x { buffer = nothing }) refl refl
-      (settling_next due v.progress.settled v.settled m more (Denied Gone) settling) telling given),
+  denied_step a id m.name (Peer Gone) v x (ap is_idle none),
+  moved_so a id due (all_gone id more) (view_by a id due (note.Hand id m.name (Denied (Peer Gone))) v)
+      (come_out v m.name (Denied (Peer Gone)))
+      (note_by a (note.Hand id m.name (Denied (Peer Gone))) x) (record x { buffer = nothing })
+      (view_denied a id due m.name (Peer Gone) v refl) (gone_client a m.name x empty)
+      (gone_moved a id due more (come_out v m.name (Denied (Peer Gone))) (record x { buffer = nothing }) refl refl
+      (settling_next due v.progress.settled v.settled m more (Denied (Peer Gone)) settling) telling given),
 )

@@ -17,7 +17,9 @@ use Rattle.sng_policy.specs.declared.grant.Grant.TheVariants as grant
 use Rattle.sng_policy.proofs.SubscriptionLemmas.{subscribing_is_receiving}
 use Rattle.sng_book.specs.declared.decision.Who.TheVariants as who
 use Rattle.sng_book.specs.declared.outcome.Place.TheVariants as place
-use Rattle.sng_book.specs.declared.outcome.Denial.TheVariants.{NoScope, Uncovered, UpstreamDown, Full}
+use Rattle.sng_book.specs.declared.outcome.Denial.TheVariants.{Grant, Room}
+use Rattle.sng_book.specs.declared.outcome.GrantDenial.TheVariants.{NoScope, Uncovered}
+use Rattle.sng_book.specs.declared.outcome.RoomDenial.TheVariants.{UpstreamDown, Full}
 use Rattle.sng_book.specs.declared.outcome.Outcome.{Outcome}
 use Rattle.sng_book.specs.declared.outcome.Outcome.TheVariants.{Allowed, Denied}
 use Rattle.sng_history.specs.Verdicts.{and_then, filter_outcome, coverage}
@@ -51,9 +53,9 @@ unreceived (Some pairs) name is = missing_name (is_granted Subscribe pairs name)
 -- it allows what is included, and denies for want of a scope, or with a gap
 record Answers (policy : Policy) (id text : List ℕ) (P : Outcome → Type 0) : Type 0 where
   included : IsIncluded policy id text → P Allowed
-  unlisted : lists policy id ≡ false → P (Denied (NoScope id))
+  unlisted : lists policy id ≡ false → P (Denied (Grant (NoScope id)))
   uncovered : (gap : List ℕ) → (HasFilters (scope_of policy.clients id) → IsGap policy id text gap)
-      → P (Denied (Uncovered text gap))
+      → P (Denied (Grant (Uncovered text gap)))
 
 -- what the client's scope covers, where it has one
 by_cover : (policy : Policy) (id text : List ℕ) (P : Outcome → Type 0) (pairs : List Pair) (answer : Cover)
@@ -122,10 +124,10 @@ ends policy id text is =
 room_kept : (policy : Policy) (id text : List ℕ) (up ids full fits : Bool) → IsIncluded policy id text
     → Says policy id text
     (if up then
-    (if ids then Denied (Full place.Ids) else
-    (if full then Denied (Full place.Subscriptions)
-    else (if fits then Allowed else Denied (Full place.Outbox))))
-    else Denied UpstreamDown)
+    (if ids then Denied (Room (Full place.Ids)) else
+    (if full then Denied (Room (Full place.Subscriptions))
+    else (if fits then Allowed else Denied (Room (Full place.Outbox)))))
+    else Denied (Room UpstreamDown))
 room_kept policy id text false ids full fits included = included
 room_kept policy id text true true full fits included = included
 room_kept policy id text true false true fits included = included
@@ -137,9 +139,9 @@ pub covers_first : (policy : Policy) (id text : List ℕ) (verdict : Outcome) (u
     → Says policy id text
     (and_then verdict
     (if up then
-    (if ids then Denied (Full place.Ids) else
-    (if full then Denied (Full place.Subscriptions)
-    else (if fits then Allowed else Denied (Full place.Outbox))))
-    else Denied UpstreamDown))
+    (if ids then Denied (Room (Full place.Ids)) else
+    (if full then Denied (Room (Full place.Subscriptions))
+    else (if fits then Allowed else Denied (Room (Full place.Outbox)))))
+    else Denied (Room UpstreamDown)))
 covers_first policy id text Allowed up ids full fits says = room_kept policy id text up ids full fits says
 covers_first policy id text (Denied rule) up ids full fits says = says
