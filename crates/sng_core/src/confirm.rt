@@ -12,7 +12,7 @@ ghost use Rattle.sng_core.specs.Confirming.{confirming_outs, confirming_next, co
 ghost use Rattle.sng_core.specs.Confirming.{acknowledge_outs, acknowledge_next};
 
 use crate::messages::denied_frame;
-use sng_book::{Denial, Outcome, Outs, OutsPair};
+use sng_book::{Denial, FormDenial, Outcome, Outs, OutsPair, PeerDenial};
 use sng_frames::TopicAck;
 use sng_grants::Policy;
 use sng_queue::{Exchange, Sending};
@@ -168,7 +168,7 @@ fn refuse(
         sessions.hear(place, clock);
         return Ok(pair);
     };
-    let denied = Outcome::Denied(Denial::ClientRefused(code));
+    let denied = Outcome::Denied(Denial::Peer(PeerDenial::ClientRefused(code)));
     note_hand(sessions.id(place), front.name(), denied, &mut outs)?;
     let served = serve(alloc, policy, clock, sessions, place, Settled::Front, outs)?;
     Ok(served)
@@ -182,11 +182,11 @@ fn out_of_turn(
     place: usize,
 ) -> Result<OutsPair, AllocError>
     requires { place < length sessions.old }
-    ensures outs { IfOk result (λ outs. outs ≡ broken_outs Denial.OutOfTurn (client_at sessions.old place)) }
+    ensures outs { IfOk result (λ outs. outs ≡ broken_outs (Denial.Form FormDenial.OutOfTurn) (client_at sessions.old place)) }
     ensures next { OnOk result (sessions.new ≡ moved_at place (heard_at clock) sessions.old) }
     ensures err { OnErr result (sessions.new ≡ sessions.old) }
 {
-    let outs = denied_frame(alloc, sessions, place, Denial::OutOfTurn)?;
+    let outs = denied_frame(alloc, sessions, place, Denial::Form(FormDenial::OutOfTurn))?;
     sessions.hear(place, clock);
     Ok(outs)
 }

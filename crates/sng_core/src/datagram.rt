@@ -17,7 +17,7 @@ use crate::request::{Asked, Request, asked};
 use crate::sleep::{ping, sleep};
 use crate::statement::state;
 use crate::stranger::stranger;
-use sng_book::{Address, Denial, OutsPair};
+use sng_book::{Address, Denial, FormDenial, OutsPair};
 use sng_frames::{FrameFault, Publish, SnFrame, decode};
 use std::alloc::{AllocError, Global};
 
@@ -39,9 +39,24 @@ impl Parts {
         let at = self.sessions.at(from);
         match decode(alloc, datagram) {
             Ok(frame) => self.message(alloc, from, at, frame),
-            Err(FrameFault::NotSupported) => self.broken(alloc, from, at, Denial::NotSupported),
-            Err(FrameFault::Malformed) => self.broken(alloc, from, at, Denial::Malformed),
-            Err(FrameFault::TooLong) => self.broken(alloc, from, at, Denial::Malformed),
+            Err(FrameFault::NotSupported) => self.broken(
+                alloc,
+                from,
+                at,
+                Denial::Form(FormDenial::NotSupported),
+            ),
+            Err(FrameFault::Malformed) => self.broken(
+                alloc,
+                from,
+                at,
+                Denial::Form(FormDenial::Malformed),
+            ),
+            Err(FrameFault::TooLong) => self.broken(
+                alloc,
+                from,
+                at,
+                Denial::Form(FormDenial::Malformed),
+            ),
             Err(FrameFault::Memory) => Err(AllocError),
         }
     }

@@ -6,7 +6,7 @@ ghost use Rattle.sng_core.specs.Forms.{client_at, at_place, heard_at, left_at, f
 ghost use Rattle.sng_core.specs.Forms.{unsupported_outs, broken_outs};
 
 use crate::answers::{denied_note, dismissed, only, refused};
-use sng_book::{Address, Decision, Denial, Out, Outcome, Outs, OutsPair, Who};
+use sng_book::{Address, Decision, Denial, FormDenial, Out, Outcome, Outs, OutsPair, Who};
 use sng_frames::SnFrame;
 use sng_sessions::Sessions;
 use sng_turns::hand_over::all_gone;
@@ -87,12 +87,12 @@ fn unsupported_outs(
 {
     let who = Who::Client(sessions.id(place).copy()?);
     let mut outs = Outs::with_capacity(alloc, 2)?;
-    outs.push(Out::Note(denied_note(message, who, Denial::NotSupported)))?;
+    outs.push(Out::Note(denied_note(message, who, Denial::Form(FormDenial::NotSupported))))?;
     refused(
         alloc,
         sessions.address(place),
         message,
-        &Denial::NotSupported,
+        &Denial::Form(FormDenial::NotSupported),
         &mut outs,
     )?;
     let outs = OutsPair::of(alloc, outs)?;

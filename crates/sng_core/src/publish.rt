@@ -17,7 +17,7 @@ use sng_frames::{
     FrameQos, Publish, ReturnCode, SnFrame, TopicAck, TopicIdType, write_publish_ack,
 };
 use sng_grants::Policy;
-use sng_link::exit::exit;
+use sng_history::exit;
 use sng_outbox::{Origin, Publication};
 use sng_sessions::Sessions;
 use sng_text::{ClientId, Octets, Qos, TopicName};

@@ -11,11 +11,13 @@ ghost use Rattle.sng_sessions.specs.Moving.{moved_at};
 
 use crate::answers::code_of;
 use crate::verdict::{Judged, and_then, copy_name, may_ask, unread};
-use sng_book::{Address, Decision, Denial, Out, Outcome, Outs, OutsPair, Place, Who};
+use sng_book::{
+    Address, Decision, Denial, FormDenial, Out, Outcome, Outs, OutsPair, Place, RoomDenial, Who,
+};
 use sng_frames::{Register, ReturnCode, SnFrame, TopicAck, write_register_ack};
 use sng_grants::Policy;
+use sng_history::exit;
 use sng_ids::IdTable;
-use sng_link::exit::exit;
 use sng_outbox::Origin;
 use sng_sessions::Sessions;
 use sng_text::{Octets, TopicName};
@@ -66,7 +68,7 @@ fn name_given(text: Octets) -> Result<TopicName, Denial>
 {
     match TopicName::of_octets(text) {
         Ok(name) => Ok(name),
-        Err(_) => Err(Denial::BadName),
+        Err(_) => Err(Denial::Form(FormDenial::BadName)),
     }
 }
 
@@ -99,7 +101,7 @@ fn id_room(name: &TopicName, ids: &IdTable) -> Outcome
     ensures { result ≡ id_room name.now ids.now.ids }
 {
     if ids.is_full_for(name) {
-        Outcome::Denied(Denial::Full(Place::Ids))
+        Outcome::Denied(Denial::Room(RoomDenial::Full(Place::Ids)))
     } else {
         Outcome::Allowed
     }

@@ -11,7 +11,7 @@ ghost use Rattle.sng_core.specs.Sleeping.{own_ping_next, other_ping_outs, ping_o
 use crate::answers::{dismissed, only};
 use crate::messages::denied_frame;
 use crate::verdict::is_active;
-use sng_book::{Decision, Denial, Out, Outcome, Outs, OutsPair, Who};
+use sng_book::{Decision, Denial, FormDenial, Out, Outcome, Outs, OutsPair, Who};
 use sng_grants::Policy;
 use sng_sessions::{Change, Sessions};
 use sng_states::ClientState;
@@ -45,7 +45,7 @@ fn slept_outs(alloc: Global, sessions: &Sessions, place: usize) -> Result<OutsPa
     if sessions.phase(place).is_due_messages() {
         only(alloc, dismissed(alloc, sessions.address(place))?)
     } else {
-        denied_frame(alloc, sessions, place, Denial::OutOfTurn)
+        denied_frame(alloc, sessions, place, Denial::Form(FormDenial::OutOfTurn))
     }
 }
 
@@ -149,7 +149,7 @@ fn pinged(
     } else if is_named && phase.is_due_messages() {
         Ok(OutsPair::empty(alloc))
     } else {
-        denied_frame(alloc, sessions, place, Denial::OutOfTurn)
+        denied_frame(alloc, sessions, place, Denial::Form(FormDenial::OutOfTurn))
     }
 }
 
@@ -166,7 +166,7 @@ fn dismiss(
     ensures err { OnErr result (sessions.new ≡ sessions.old) }
 {
     let who = Who::Client(sessions.id(place).copy()?);
-    let denied = Outcome::Denied(Denial::NoSession);
+    let denied = Outcome::Denied(Denial::Form(FormDenial::NoSession));
     let mut outs = Outs::with_capacity(alloc, 2)?;
     outs.push(Out::Note(Decision::Frame(who, denied)))?;
     outs.push(dismissed(alloc, sessions.address(place))?)?;

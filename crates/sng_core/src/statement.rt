@@ -14,7 +14,7 @@ use crate::answers::{code_of, connack, message_request, message_response, topic_
 use crate::entry::nothing_handed;
 use crate::stating::{Statement, has_turn, judged, stating};
 use crate::verdict::{Judged, copy_name};
-use sng_book::{Address, Decision, Denial, Out, Outcome, Outs, OutsPair, Who};
+use sng_book::{Address, Decision, Denial, FormDenial, Out, Outcome, Outs, OutsPair, Who};
 use sng_frames::ReturnCode;
 use sng_grants::Policy;
 use sng_sessions::{Handed, Sessions};
@@ -114,10 +114,10 @@ fn out_of_turn(
     ensures err { OnErr result (sessions.new ≡ sessions.old) }
 {
     let who = Who::Client(sessions.id(place).copy()?);
-    let denied = Outcome::Denied(Denial::OutOfTurn);
+    let denied = Outcome::Denied(Denial::Form(FormDenial::OutOfTurn));
     outs.push(Out::Note(Decision::Will(who, None, denied)))?;
     if !is_of_dialogue(statement) {
-        let denied = Outcome::Denied(Denial::OutOfTurn);
+        let denied = Outcome::Denied(Denial::Form(FormDenial::OutOfTurn));
         let answer = answer(alloc, sessions.address(place), statement, &denied)?;
         outs.push(answer)?;
     }

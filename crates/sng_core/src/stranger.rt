@@ -6,7 +6,7 @@ ghost use Rattle.sng_core.specs.Requesting.{asked};
 
 use crate::answers::{denied_note, dismissed, only};
 use crate::request::Request;
-use sng_book::{Address, Decision, Denial, Out, Outcome, Outs, OutsPair, Who};
+use sng_book::{Address, Decision, Denial, FormDenial, Out, Outcome, Outs, OutsPair, Who};
 use std::alloc::{AllocError, Global};
 
 /// It is noted as what it asks for, and answered by DISCONNECT. One that is not taken is noted alone.
@@ -14,7 +14,7 @@ pub fn stranger(alloc: Global, from: Address, request: &Request) -> Result<OutsP
     ensures { IfOk result (λ outs. outs ≡ stranger_to from (asked request.now)) }
 {
     let who = Who::Address(from);
-    let denied = Outcome::Denied(Denial::NoSession);
+    let denied = Outcome::Denied(Denial::Form(FormDenial::NoSession));
     match request {
         Request::Ping(_) => dismiss(alloc, from, Decision::Frame(who, denied)),
         Request::Leave => dismiss(alloc, from, Decision::Frame(who, denied)),
@@ -28,7 +28,7 @@ pub fn stranger(alloc: Global, from: Address, request: &Request) -> Result<OutsP
         Request::State(_) => dismiss(alloc, from, Decision::Will(who, None, denied)),
         Request::Untaken(message) => only(
             alloc,
-            Out::Note(denied_note(message, who, Denial::NotSupported)),
+            Out::Note(denied_note(message, who, Denial::Form(FormDenial::NotSupported))),
         ),
     }
 }

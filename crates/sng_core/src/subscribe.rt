@@ -16,13 +16,13 @@ use crate::answers::{code_of, no_flags};
 use crate::filters::{JudgedFilter, copy_filter, filter_read, granted, name_told, unread_filter};
 use crate::parts::Parts;
 use crate::verdict::{and_then, may_ask};
-use sng_book::{Address, Decision, Denial, Out, Outcome, Outs, OutsPair, Place, Who};
-use sng_endings::coverage;
+use sng_book::{Address, Decision, Denial, Out, Outcome, Outs, OutsPair, Place, RoomDenial, Who};
 use sng_fan::MAX_SUBSCRIPTIONS;
 use sng_frames::{
     Flags, FrameQos, ReturnCode, SnFrame, SubscribeAck, TopicIdType, TopicRequest,
     write_subscribe_ack,
 };
+use sng_history::coverage;
 use sng_ids::IdTable;
 use sng_sessions::Sessions;
 use sng_text::{Octets, Qos, TopicFilter, TopicName};
@@ -108,7 +108,7 @@ impl Parts {
             ≡ subscribe_room self.now (client_at self.now.clients place) request.now filter.now) }
     {
         if !self.is_up {
-            return Ok(Outcome::Denied(Denial::UpstreamDown));
+            return Ok(Outcome::Denied(Denial::Room(RoomDenial::UpstreamDown)));
         }
         let name = name_told(alloc, request.flags.id_type, filter)?;
         Ok(self.room_for(place, request, filter, &name))
@@ -130,15 +130,15 @@ impl Parts {
             ≡ subscribe_room_in self.now (client_at self.now.clients place) request.now filter.now }
     {
         if is_full_for(self.sessions.ids(place), name) {
-            return Outcome::Denied(Denial::Full(Place::Ids));
+            return Outcome::Denied(Denial::Room(RoomDenial::Full(Place::Ids)));
         }
         if is_full(&self.sessions, place, filter) {
-            return Outcome::Denied(Denial::Full(Place::Subscriptions));
+            return Outcome::Denied(Denial::Room(RoomDenial::Full(Place::Subscriptions)));
         }
         if self.link.has_place() {
             Outcome::Allowed
         } else {
-            Outcome::Denied(Denial::Full(Place::Outbox))
+            Outcome::Denied(Denial::Room(RoomDenial::Full(Place::Outbox)))
         }
     }
 

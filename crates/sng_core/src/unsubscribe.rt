@@ -12,7 +12,7 @@ ghost use Rattle.sng_core.specs.Subscribing.{ended};
 use crate::filters::{JudgedFilter, copy_filter, filter_read, unread_filter};
 use crate::parts::Parts;
 use crate::verdict::is_active;
-use sng_book::{Address, Decision, Denial, Out, Outcome, Outs, OutsPair, Who};
+use sng_book::{Address, Decision, Denial, FormDenial, Out, Outcome, Outs, OutsPair, Who};
 use sng_frames::{TopicRequest, write_unsubscribe_ack};
 use sng_sessions::Sessions;
 use sng_text::{Octets, TopicFilter};
@@ -52,7 +52,7 @@ impl Parts {
             ≡ unsubscribe_judged self.now.policy request.now (client_at self.now.clients place)) }
     {
         if !is_active(self.sessions.phase(place)) {
-            return Ok(unread_filter(Denial::OutOfTurn));
+            return Ok(unread_filter(Denial::Form(FormDenial::OutOfTurn)));
         }
         match filter_read(alloc, &self.policy, request)? {
             Ok(filter) => Ok(JudgedFilter {

@@ -2,8 +2,6 @@
 //! memory, and carried out without any.
 #![tactic(auto)]
 
-mod covering;
 mod replacing;
 
-pub use covering::coverage;
 pub use replacing::replace;

@@ -8,9 +8,9 @@ ghost use Rattle.sng_sessions.specs.Standing.{client_at};
 ghost use Rattle.sng_endings.specs.Replacing.{moved, ended_next, ended_outs, all_next, all_outs, ending_list};
 ghost use Rattle.sng_endings.specs.Replacing.{ending_of, endings_by, endings_from};
 
-use crate::covering::coverage;
 use sng_book::{Decision, NotePair, Out, Outcome, OutsPair, ReservedOuts};
 use sng_grants::Policy;
+use sng_history::coverage;
 use sng_link::Link;
 use sng_policy::same_scope;
 use sng_sessions::Sessions;

@@ -8,7 +8,8 @@ use Rattle.sng_ids.specs.Ids.{Ids}
 use Rattle.sng_queue.specs.Messages.{Message}
 use Rattle.sng_book.specs.declared.address.Address.{Address}
 use Rattle.sng_book.specs.declared.decision.Decision.TheVariants as note
-use Rattle.sng_book.specs.declared.outcome.Denial.TheVariants.{Gone}
+use Rattle.sng_book.specs.declared.outcome.Denial.TheVariants.{Peer}
+use Rattle.sng_book.specs.declared.outcome.PeerDenial.TheVariants.{Gone}
 use Rattle.sng_book.specs.declared.outcome.Outcome.TheVariants.{Denied}
 use Rattle.sng_book.specs.declared.out.Out.{Out}
 use Rattle.sng_book.specs.declared.out.Out.TheVariants.{Note}
@@ -87,16 +88,16 @@ module _ (policy : Policy) (id : List ℕ) (to : Address) (ids : Ids) (more numb
 
 -- and one more is gone
 gone-behind : (id : List ℕ) (gone : List Message) (m : Message)
-    → gone_outs id gone ++ Note (note.Hand id m.name (Denied Gone)) ∷ [] ≡ gone_outs id (gone ++ m ∷ [])
+    → gone_outs id gone ++ Note (note.Hand id m.name (Denied (Peer Gone))) ∷ [] ≡ gone_outs id (gone ++ m ∷ [])
 gone-behind id [] m = refl
 gone-behind id (one ∷ gone) m =
-    ap (λ outs. Note (note.Hand id one.name (Denied Gone)) ∷ outs) (gone-behind id gone m)
+    ap (λ outs. Note (note.Hand id one.name (Denied (Peer Gone))) ∷ outs) (gone-behind id gone m)
 
 pub gone-more : (id : List ℕ) (gone : List Message) (m : Message) (initial outs now : List Out)
     → outs ≡ initial ++ gone_outs id gone
-    → now ≡ outs ++ Note (note.Hand id m.name (Denied Gone)) ∷ []
+    → now ≡ outs ++ Note (note.Hand id m.name (Denied (Peer Gone))) ∷ []
     → now ≡ initial ++ gone_outs id (gone ++ m ∷ [])
 gone-more id gone m initial outs now so_far is =
-    is ∙ (ap (λ o. o ++ Note (note.Hand id m.name (Denied Gone)) ∷ []) so_far
-    ∙ (append_assoc initial (gone_outs id gone) (Note (note.Hand id m.name (Denied Gone)) ∷ [])
+    is ∙ (ap (λ o. o ++ Note (note.Hand id m.name (Denied (Peer Gone))) ∷ []) so_far
+    ∙ (append_assoc initial (gone_outs id gone) (Note (note.Hand id m.name (Denied (Peer Gone))) ∷ [])
     ∙ ap (λ o. initial ++ o) (gone-behind id gone m)))

@@ -11,7 +11,9 @@ use Rattle.sng_queue.specs.declared.kind.TopicIdKind.TheVariants as kind
 use Rattle.sng_book.specs.declared.address.Address.{Address}
 use Rattle.sng_book.specs.declared.decision.Decision.TheVariants as note
 use Rattle.sng_book.specs.declared.outcome.Place.TheVariants as place
-use Rattle.sng_book.specs.declared.outcome.Denial.TheVariants.{Full, Gone}
+use Rattle.sng_book.specs.declared.outcome.Denial.TheVariants.{Room, Peer}
+use Rattle.sng_book.specs.declared.outcome.RoomDenial.TheVariants.{Full}
+use Rattle.sng_book.specs.declared.outcome.PeerDenial.TheVariants.{Gone}
 use Rattle.sng_book.specs.declared.outcome.Outcome.{Outcome}
 use Rattle.sng_book.specs.declared.outcome.Outcome.TheVariants.{Allowed, Denied}
 use Rattle.sng_book.specs.declared.out.Out.{Out}
@@ -65,7 +67,7 @@ offer_outs id to ids number m (Some k) =
     Note (note.Hand id m.name Allowed) ∷ handed_out to number m (known_of k) ∷ []
 offer_outs id to ids number m None =
     if is_full_for m.name ids
-    then Note (note.Hand id m.name (Denied (Full place.Ids))) ∷ []
+    then Note (note.Hand id m.name (Denied (Room (Full place.Ids)))) ∷ []
     else Note (note.Announce id m.name) ∷ announced_out to number ids m.name ∷ []
 
 -- what is let out for a message that comes out so
@@ -124,4 +126,4 @@ hand_plan policy id ids more place (m ∷ waiting) =
 
 abbrev pub gone_outs : List ℕ → List Message → List Out
 gone_outs id [] = []
-gone_outs id (m ∷ waiting) = Note (note.Hand id m.name (Denied Gone)) ∷ gone_outs id waiting
+gone_outs id (m ∷ waiting) = Note (note.Hand id m.name (Denied (Peer Gone))) ∷ gone_outs id waiting

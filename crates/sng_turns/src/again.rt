@@ -8,9 +8,10 @@ ghost use Rattle.sng_turns.specs.Again.{announced_by, announced_to, handed_outs_
 ghost use Rattle.sng_turns.specs.Again.{handed_again_outs, handed_again_comes, retried_clients};
 
 use crate::serve::{Settled, serve_plan};
-use crate::turn::{note_hand, receive, repeat_publish, repeat_register};
+use crate::turn::{note_hand, repeat_publish, repeat_register};
 use sng_book::{Decision, Out, Outcome, Outs};
 use sng_grants::Policy;
+use sng_history::receive;
 use sng_queue::{Exchange, Sending, TopicIdKind, Waiting};
 use sng_sessions::{Change, Handed, Sessions, is_unanswered};
 use sng_text::TopicName;

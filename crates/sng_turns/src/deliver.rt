@@ -12,9 +12,10 @@ ghost use Rattle.sng_turns.specs.Delivering.{deliver_outs, deliver_kept, all_out
 
 use crate::hand_over::is_open;
 use crate::known::{KnownId, known_id};
-use crate::turn::{Mail, Recipient, note_hand, receive, take_turn};
-use sng_book::{Denial, Outcome, Outs, Place};
+use crate::turn::{Mail, Recipient, note_hand, take_turn};
+use sng_book::{Denial, Outcome, Outs, Place, RoomDenial};
 use sng_grants::Policy;
+use sng_history::receive;
 use sng_queue::Waiting;
 use sng_sessions::{Opens, Sessions};
 use sng_text::{Octets, Qos, TopicName};
@@ -137,10 +138,15 @@ fn arrive(
     let id = sessions.id(place);
     let message = arrival.message;
     if !Waiting::is_sendable(&message.name, &message.payload) {
-        return note_hand(id, &message.name, Outcome::Denied(Denial::TooLong), outs);
+        return note_hand(
+            id,
+            &message.name,
+            Outcome::Denied(Denial::Room(RoomDenial::TooLong)),
+            outs,
+        );
     }
     if sessions.queue(place).is_full() {
-        let full = Outcome::Denied(Denial::Full(Place::Queue));
+        let full = Outcome::Denied(Denial::Room(RoomDenial::Full(Place::Queue)));
         return note_hand(id, &message.name, full, outs);
     }
     if is_free(sessions, place) {

@@ -6,9 +6,10 @@ ghost use Rattle.sng_turns.specs.HandingOver.{message_outs, message_opens, is_op
 ghost use Rattle.sng_turns.specs.HandingOver.{gone_outs, id_or_none};
 
 use crate::known::{fixed_id, known_id};
-use crate::turn::{Mail, Recipient, note_hand, receive, take_turn};
-use sng_book::{Denial, Outcome, Outs};
+use crate::turn::{Mail, Recipient, note_hand, take_turn};
+use sng_book::{Denial, Outcome, Outs, PeerDenial};
 use sng_grants::Policy;
+use sng_history::receive;
 use sng_queue::{Queue, Waiting};
 use sng_sessions::{Handed, Opens};
 use sng_text::ClientId;
@@ -89,7 +90,12 @@ pub fn all_gone(id: &ClientId, queue: &Queue, outs: &mut Outs) -> Result<(), All
     ensures { OnOk result (outs.new ≡ outs.old ++ gone_outs id.now queue.now.waiting) }
 {
     for message in queue.iter() {
-        note_hand(id, message.name(), Outcome::Denied(Denial::Gone), outs)?;
+        note_hand(
+            id,
+            message.name(),
+            Outcome::Denied(Denial::Peer(PeerDenial::Gone)),
+            outs,
+        )?;
     }
     Ok(())
 }

@@ -5,37 +5,18 @@ ghost use Rattle.sng_queue.specs.Messages.{message};
 ghost use Rattle.sng_queue.specs.declared.limits.TheConstants.{MAX_WAITING_NAME, MAX_WAITING_PAYLOAD};
 ghost use Rattle.sng_history.specs.Handing.{handed_again, handed_out, msg_id_of, publish_flags, frame_qos};
 ghost use Rattle.sng_history.specs.Handing.{id_type_of};
-ghost use Rattle.sng_history.specs.Outgoing.{receive};
 ghost use Rattle.sng_turns.specs.Again.{register_again};
 ghost use Rattle.sng_turns.specs.HandingOver.{known_of, turn_outs, turn_opens, offer_outs, offer_opens};
 ghost use Rattle.sng_turns.specs.HandingOver.{awaiting, mail_of};
 
 use crate::known::KnownId;
-use sng_book::{Address, Decision, Denial, Out, Outcome, Outs, Place};
+use sng_book::{Address, Decision, Denial, GrantDenial, Out, Outcome, Outs, Place, RoomDenial};
 use sng_frames::{Flags, FrameQos, TopicIdType, write_publish, write_register};
-use sng_grants::Policy;
 use sng_ids::IdTable;
-use sng_policy::{Grant, may_receive};
 use sng_queue::{Sending, TopicIdKind, Waiting};
 use sng_sessions::{Opens, number_after};
 use sng_text::{ClientId, Octets, Qos, TopicName};
 use std::alloc::{AllocError, Global};
-
-/// What the policy says to a message for the client under the name. An `Err` is a failed allocation, for a
-/// denial that shows the client or the name.
-pub fn receive(policy: &Policy, client: &ClientId, name: &TopicName) -> Result<Outcome, AllocError>
-    ensures { IfOk result (λ outcome. outcome ≡ receive policy.now client.now name.now) }
-{
-    match may_receive(policy, client, name) {
-        Grant::Allowed => Ok(Outcome::Allowed),
-        Grant::NoScope => Ok(Outcome::Denied(Denial::NoScope(client.copy()?))),
-        Grant::MissingSub => Ok(Outcome::Denied(Denial::MissingSub(name.copy()?))),
-        // Nothing else is answered about receiving.
-        Grant::UnknownSource => unreachable!(),
-        Grant::MissingPub => unreachable!(),
-        Grant::Uncovered(_) => unreachable!(),
-    }
-}
 
 /// The client to whom messages go.
 #[derive(Clone, Copy)]
@@ -106,7 +87,7 @@ fn offer(
         return Ok(awaiting(mail.qos, known));
     }
     if to.ids.is_full_for(mail.name) {
-        let full = Outcome::Denied(Denial::Full(Place::Ids));
+        let full = Outcome::Denied(Denial::Room(RoomDenial::Full(Place::Ids)));
         note_hand(to.id, mail.name, full, outs)?;
         return Ok(Opens::Nothing);
     }
