@@ -6,6 +6,7 @@
 mod answers;
 pub mod census;
 mod confirm;
+mod connection;
 mod datagram;
 mod entry;
 mod filters;
@@ -22,6 +23,7 @@ mod sleep;
 mod source;
 mod statement;
 mod stating;
+mod step;
 mod stranger;
 mod subscribe;
 mod tick;
