@@ -1,5 +1,5 @@
-//! The connection to the broker: how it begins and ends, and how what waits leaves by it (MQTT 3.1.1, 3.1, 4.4
-//! and 4.8).
+//! The connection to the broker: how it begins and ends, and how what waits leaves by it (MQTT 3.1.1, 3.1
+//! and 4.4).
 ghost use Rattle.std.specs.Prelude.{◌≡◌, ◌<◌, false, length, if◌then◌else◌, IfOk, OnOk, OnErr};
 ghost use Rattle.sng_wanted.specs.declared.limits.TheConstants.{MAX_WANTED};
 ghost use Rattle.sng_outbox.specs.Sending.{publishes};

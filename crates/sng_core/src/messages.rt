@@ -1,5 +1,5 @@
-//! Messages of one client that ask for nothing (MQTT-SN 1.2, 6.11 and 6.14): what is let out is planned first,
-//! and what changes cannot fail.
+//! Messages of one client that ask for nothing (MQTT-SN 1.2, 6.11 and 6.14): what is let out is planned
+//! first, and what changes cannot fail.
 ghost use Rattle.std.specs.Prelude.{◌≡◌, ◌<◌, ◌∷◌, [], length, IfSome, IfOk, OnOk, OnErr};
 ghost use Rattle.sng_sessions.specs.Moving.{moved_at};
 ghost use Rattle.sng_core.specs.Forms.{client_at, at_place, heard_at, left_at, found_outs, left_outs};

@@ -19,8 +19,8 @@ use sng_text::ClientId;
 use sng_turns::serve::{Settled, pong, serve_plan};
 use std::alloc::{AllocError, Global};
 
-/// A DISCONNECT with Duration, in seconds, of the client at this place: where it has its turn the client falls
-/// asleep, and what waits stays.
+/// A DISCONNECT with Duration, in seconds, of the client at this place: where it has its turn the client
+/// falls asleep, and what waits stays.
 pub fn sleep(
     alloc: Global,
     clock: u64,

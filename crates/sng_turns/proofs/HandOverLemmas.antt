@@ -1,6 +1,6 @@
 -- One message more had its turn.
 use Rattle.std.proofs.Common.{◌≡◌, ℕ, zero, suc, ◌+◌, Bool, true, false, List, [], ◌∷◌, ◌++◌, drop, slice_get}
-use Rattle.std.proofs.Common.{Some, add-one, refl, ap, sym, ◌∙◌}
+use Rattle.std.proofs.Common.{Some, add-one, ap, sym, ◌∙◌}
 use Rattle.std.specs.Prelude.{if◌then◌else◌}
 use Rattle.std.proofs.lemmas.List.{append-nil, append_assoc}
 use Rattle.sng_grants.specs.declared.policy.Policy.{Policy}
@@ -87,17 +87,14 @@ module _ (policy : Policy) (id : List ℕ) (to : Address) (ids : Ids) (more numb
       )
 
 -- and one more is gone
-gone-behind : (id : List ℕ) (gone : List Message) (m : Message)
-    → gone_outs id gone ++ Note (note.Hand id m.name (Denied (Peer Gone))) ∷ [] ≡ gone_outs id (gone ++ m ∷ [])
-gone-behind id [] m = refl
-gone-behind id (one ∷ gone) m =
-    ap (λ outs. Note (note.Hand id one.name (Denied (Peer Gone))) ∷ outs) (gone-behind id gone m)
-
-pub gone-more : (id : List ℕ) (gone : List Message) (m : Message) (initial outs now : List Out)
-    → outs ≡ initial ++ gone_outs id gone
+pub gone-more : (id : List ℕ) (waiting : List Message) (place : ℕ) (m : Message) (outs now all : List Out)
+    → slice_get waiting place ≡ Some m
+    → outs ++ gone_outs id (drop place waiting) ≡ all
     → now ≡ outs ++ Note (note.Hand id m.name (Denied (Peer Gone))) ∷ []
-    → now ≡ initial ++ gone_outs id (gone ++ m ∷ [])
-gone-more id gone m initial outs now so_far is =
-    is ∙ (ap (λ o. o ++ Note (note.Hand id m.name (Denied (Peer Gone))) ∷ []) so_far
-    ∙ (append_assoc initial (gone_outs id gone) (Note (note.Hand id m.name (Denied (Peer Gone))) ∷ [])
-    ∙ ap (λ o. initial ++ o) (gone-behind id gone m)))
+    → now ++ gone_outs id (drop (place + 1) waiting) ≡ all
+gone-more id waiting place m outs now all found so_far is =
+    rw (add-one place, is) (
+    append_assoc outs (Note (note.Hand id m.name (Denied (Peer Gone))) ∷ [])
+    (gone_outs id (drop (suc place) waiting))
+    ∙ (ap (λ ms. outs ++ gone_outs id ms) (sym (cut waiting place m found)) ∙ so_far)
+    )

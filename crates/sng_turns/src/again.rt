@@ -119,7 +119,7 @@ fn announced_judged(
     requires place { place < length sessions.now }
     requires first { 1 ≤ length (client_at sessions.now place).buffer.waiting }
     ensures outs { OnOk result (outs.new ≡ outs.old ++ announced_by policy.now
-        (client_at sessions.now place) open.sent.now open.front.now outcome) }
+        (client_at sessions.now place) open.entry.sent.now open.entry.front.now outcome) }
     ensures comes { IfOk result (λ retried. retried
         ≡ announced_to policy.now (client_at sessions.now place) outcome) }
 {
@@ -150,9 +150,9 @@ fn handed_again(
 ) -> Result<Retried, AllocError>
     requires { place < length sessions.now }
     ensures outs { OnOk result (outs.new ≡ outs.old ++ handed_again_outs policy.now
-        (client_at sessions.now place) open.sent.now open.kind open.message.now) }
+        (client_at sessions.now place) open.entry.sent.now open.entry.kind open.entry.message.now) }
     ensures comes { IfOk result (λ retried. retried
-        ≡ handed_again_comes policy.now (client_at sessions.now place) open.message.now) }
+        ≡ handed_again_comes policy.now (client_at sessions.now place) open.entry.message.now) }
 {
     let outcome = receive(policy, sessions.id(place), open.message.name())?;
     handed_judged(alloc, policy, sessions, place, open, outcome, outs)
@@ -170,7 +170,7 @@ fn handed_judged(
 ) -> Result<Retried, AllocError>
     requires { place < length sessions.now }
     ensures outs { OnOk result (outs.new ≡ outs.old ++ handed_outs_by policy.now
-        (client_at sessions.now place) open.sent.now open.kind open.message.now outcome) }
+        (client_at sessions.now place) open.entry.sent.now open.entry.kind open.entry.message.now outcome) }
     ensures comes { IfOk result (λ retried. retried
         ≡ handed_to policy.now (client_at sessions.now place) outcome) }
 {

@@ -131,9 +131,9 @@ fn arrive(
     requires fixed { arrival.message.now.fixed ≡ fixed_id policy.now arrival.message.now.name }
     requires place { place < length sessions.now }
     ensures outs { OnOk result (outs.new ≡ outs.old
-        ++ arrive_outs policy.now (arrived arrival) (client_at sessions.now place)) }
+        ++ arrive_outs policy.now (arrived arrival.entry) (client_at sessions.now place)) }
     ensures kept { OnOk result (kept.new.items ≡ kept.old.items
-        ++ arrive_kept policy.now place (arrived arrival) (client_at sessions.now place)) }
+        ++ arrive_kept policy.now place (arrived arrival.entry) (client_at sessions.now place)) }
 {
     let id = sessions.id(place);
     let message = arrival.message;
@@ -179,9 +179,9 @@ fn turn(
     requires place { place < length sessions.now }
     requires sendable { is_sendable arrival.message.now.name arrival.message.now.payload ≡ true }
     ensures outs { OnOk result (let x = client_at sessions.now place in outs.new ≡ outs.old
-        ++ message_outs policy.now x.id x.address x.ids 0 x.number (arrived arrival)) }
+        ++ message_outs policy.now x.id x.address x.ids 0 x.number (arrived arrival.entry)) }
     ensures opens { IfOk result (λ opens. let x = client_at sessions.now place in
-        opens ≡ message_opens policy.now x.id x.ids 0 (arrived arrival)) }
+        opens ≡ message_opens policy.now x.id x.ids 0 (arrived arrival.entry)) }
 {
     let to = Recipient {
         id: sessions.id(place),
@@ -210,7 +210,8 @@ fn keep_opened(
     kept: &mut Vec<Kept>,
 ) -> Result<(), AllocError>
     requires { is_sendable arrival.message.now.name arrival.message.now.payload ≡ true }
-    ensures { OnOk result (kept.new.items ≡ kept.old.items ++ kept_opened place (arrived arrival) opens) }
+    ensures { OnOk result (kept.new.items
+        ≡ kept.old.items ++ kept_opened place (arrived arrival.entry) opens) }
 {
     if is_open(&opens) {
         keep(arrival, place, opens, kept)
@@ -228,7 +229,7 @@ fn keep(
 ) -> Result<(), AllocError>
     requires { is_sendable arrival.message.now.name arrival.message.now.payload ≡ true }
     ensures { OnOk result (kept.new.items ≡ kept.old.items
-        ++ (record { place = place; message = arrived arrival; opens = opens }) ∷ []) }
+        ++ (record { place = place; message = arrived arrival.entry; opens = opens }) ∷ []) }
 {
     let Arrival { message, qos } = arrival;
     let name = message.name.copy()?;

@@ -26,10 +26,11 @@ pub fn hand_over(
     outs: &mut Outs,
 ) -> Result<Handed, AllocError>
     requires { first ≤ length queue.now.waiting }
-    ensures outs { OnOk result (outs.new ≡ outs.old ++ hand_outs policy.now to.id.now to.address
-        to.ids.now.ids (id_or_none to.confirming) to.number (drop first queue.now.waiting)) }
-    ensures plan { IfOk result (λ handed. handed ≡ hand_plan policy.now to.id.now to.ids.now.ids
-        (id_or_none to.confirming) first (drop first queue.now.waiting)) }
+    ensures outs { OnOk result (outs.new ≡ outs.old ++ hand_outs policy.now to.entry.id.now to.entry.address
+        to.entry.ids.now.ids (id_or_none to.entry.confirming) to.entry.number (drop first queue.now.waiting)) }
+    ensures plan { IfOk result (λ handed. handed
+        ≡ hand_plan policy.now to.entry.id.now to.entry.ids.now.ids (id_or_none to.entry.confirming) first
+        (drop first queue.now.waiting)) }
 {
     for place in first..queue.len() {
         let Some(message) = queue.at(place) else {
@@ -68,10 +69,12 @@ fn turn(
     message: &Waiting,
     outs: &mut Outs,
 ) -> Result<Opens, AllocError>
-    ensures outs { OnOk result (outs.new ≡ outs.old ++ message_outs policy.now to.id.now to.address
-        to.ids.now.ids (id_or_none to.confirming) to.number message.now) }
-    ensures opens { IfOk result (λ opens. opens ≡ message_opens policy.now to.id.now to.ids.now.ids
-        (id_or_none to.confirming) message.now) }
+    ensures outs { OnOk result (outs.new ≡ outs.old
+        ++ message_outs policy.now to.entry.id.now to.entry.address to.entry.ids.now.ids
+        (id_or_none to.entry.confirming) to.entry.number message.now) }
+    ensures opens { IfOk result (λ opens. opens
+        ≡ message_opens policy.now to.entry.id.now to.entry.ids.now.ids (id_or_none to.entry.confirming)
+        message.now) }
 {
     let name = message.name();
     let outcome = receive(policy, to.id, name)?;
@@ -89,7 +92,10 @@ fn turn(
 pub fn all_gone(id: &ClientId, queue: &Queue, outs: &mut Outs) -> Result<(), AllocError>
     ensures { OnOk result (outs.new ≡ outs.old ++ gone_outs id.now queue.now.waiting) }
 {
-    for message in queue.iter() {
+    for place in 0..queue.len() {
+        let Some(message) = queue.at(place) else {
+            unreachable!();
+        };
         note_hand(
             id,
             message.name(),

@@ -53,8 +53,10 @@ pub fn take_turn(
     requires name { length mail.name.now ≤ MAX_WAITING_NAME }
     requires payload { length mail.payload.now ≤ MAX_WAITING_PAYLOAD }
     ensures outs { OnOk result (outs.new ≡ outs.old
-        ++ turn_outs to.id.now to.address to.ids.now.ids to.number (mail_of mail) outcome known) }
-    ensures opens { IfOk result (λ opens. opens ≡ turn_opens to.ids.now.ids (mail_of mail) outcome known) }
+        ++ turn_outs to.entry.id.now to.entry.address to.entry.ids.now.ids to.entry.number
+        (mail_of mail.entry) outcome known) }
+    ensures opens { IfOk result (λ opens. opens
+        ≡ turn_opens to.entry.ids.now.ids (mail_of mail.entry) outcome known) }
 {
     match outcome {
         Outcome::Allowed => offer(alloc, to, mail, known, outs),
@@ -77,8 +79,10 @@ fn offer(
     requires name { length mail.name.now ≤ MAX_WAITING_NAME }
     requires payload { length mail.payload.now ≤ MAX_WAITING_PAYLOAD }
     ensures outs { OnOk result (outs.new ≡ outs.old
-        ++ offer_outs to.id.now to.address to.ids.now.ids to.number (mail_of mail) known) }
-    ensures opens { IfOk result (λ opens. opens ≡ offer_opens to.ids.now.ids (mail_of mail) known) }
+        ++ offer_outs to.entry.id.now to.entry.address to.entry.ids.now.ids to.entry.number
+        (mail_of mail.entry) known) }
+    ensures opens { IfOk result (λ opens. opens
+        ≡ offer_opens to.entry.ids.now.ids (mail_of mail.entry) known) }
 {
     if let Some(known) = known {
         note_hand(to.id, mail.name, Outcome::Allowed, outs)?;
@@ -130,7 +134,8 @@ fn publish(
     known: KnownId,
 ) -> Result<Out, AllocError>
     requires { length mail.payload.now ≤ MAX_WAITING_PAYLOAD }
-    ensures { IfOk result (λ out. out ≡ handed_out to.address to.number (mail_of mail) (known_of known)) }
+    ensures { IfOk result (λ out. out
+        ≡ handed_out to.entry.address to.entry.number (mail_of mail.entry) (known_of known)) }
 {
     let flags = publish_flags(mail.qos, mail.retain, known.kind);
     let msg_id = msg_id_of(mail.qos, to.number);
