@@ -77,7 +77,8 @@ topic_rules policy id (Some text) =
 
 abbrev pub will_rules : List Row → List ℕ → Statement → List Rule
 will_rules h id statement =
-    (not (has_turn h id statement), Form OutOfTurn) ∷ topic_rules (policy_in_force h) id (topic_of h id statement)
+    (not (has_turn h id statement), Form OutOfTurn)
+    ∷ topic_rules (policy_in_force h) id (topic_of h id statement)
 
 -- the note names the topic where it was read: the client may ask, and it is a topic name
 abbrev pub is_read : Policy → List ℕ → Option (List ℕ) → Bool

@@ -152,7 +152,8 @@ read_shown policy id (Some text) = both_read id (lists policy id) (is_name text)
 
 verdict_by : (policy : Policy) (x : Client) (statement : Statement) (has : Bool) (topic : Option (List ℕ))
     → statement_turn statement x ≡ turn has → (has ≡ true → topic_at statement x ≡ topic)
-    → statement_verdict policy statement x ≡ judged ((not has, Form OutOfTurn) ∷ topic_rules policy x.id topic)
+    → statement_verdict policy statement x
+    ≡ judged ((not has, Form OutOfTurn) ∷ topic_rules policy x.id topic)
 verdict_by policy x statement false topic is same = rw is refl
 verdict_by policy x statement true topic is same = rw (is, same refl) (topic_judged policy x.id topic)
 
