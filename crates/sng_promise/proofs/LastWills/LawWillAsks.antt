@@ -204,7 +204,7 @@ ask_shown h s x statement state shown =
 ended_same : (to : Address) (rule : Denial)
     → dialogue_ended to rule ≡ (if is_out_of_turn rule then [] else connack_to to (code_for rule) ∷ [])
 ended_same to (Form OutOfTurn) = refl
-ended_same to rule = refl
+ended_same to rule = ap (λ code. connack_to to code ∷ []) (code_same rule)
 
 pub replied_same : (from : Address) (statement : Statement) (y : Client) (name : Option (List ℕ))
     (o : Outcome)
