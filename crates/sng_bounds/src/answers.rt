@@ -9,8 +9,8 @@ use std::alloc::{AllocError, Global};
 /// So many answers at most leave for one address in a second.
 pub const ANSWERS_A_SECOND: u8 = 5;
 
-/// Addresses are counted at so many places: two that share one share its answers.
-pub const PLACES: usize = 4096;
+/// Addresses are counted at so many slots: two that share one share its answers.
+pub const SLOTS: usize = 4096;
 
 /// What left in one second.
 #[derive(Drop)]
@@ -23,7 +23,7 @@ impl Answers {
     pub fn new(alloc: Global) -> Result<Answers, AllocError> {
         Ok(Answers {
             second: 0,
-            counts: vec![in alloc; 0; PLACES]?,
+            counts: vec![in alloc; 0; SLOTS]?,
         })
     }
 
@@ -33,7 +33,7 @@ impl Answers {
             self.second = second;
             self.counts.as_mut_slice().fill(0);
         }
-        let Some(count) = self.counts.as_mut_slice().get_mut(place_of(to)) else {
+        let Some(count) = self.counts.as_mut_slice().get_mut(slot_of(to)) else {
             return false;
         };
         let may = *count < ANSWERS_A_SECOND;
@@ -44,8 +44,8 @@ impl Answers {
     }
 }
 
-/// Where an address is counted. Addresses side by side are counted at places apart.
-pub fn place_of(address: Address) -> usize
+/// Where an address is counted. Addresses side by side are counted in slots apart.
+pub fn slot_of(address: Address) -> usize
     ensures { result ≤ 4095 }
 {
     let [a, b, c, d] = address.ip;
