@@ -3,7 +3,8 @@
 //! remembered, which the last four of each slot are.
 ghost use Rattle.std.specs.Prelude.{◌≡◌, ◌≢◌, ◌+◌, ◌<◌, ◌≤◌, ◌↔◌, ◌⊎◌, length, min, IfOk, IsTrue, None, Some};
 ghost use Rattle.sng_book.specs.declared.address.Address.{Address};
-ghost use Rattle.sng_bounds.specs.Floods.{Adds, IsKnown, Knows, count_at, denied_at, nobody, nothing, slot_in, slot_of};
+ghost use Rattle.sng_bounds.specs.Floods.{Adds, IsKnown, Knows, count_at, denied_at, nobody, nothing};
+ghost use Rattle.sng_bounds.specs.Floods.{slot_in, slot_of};
 
 use sng_book::Address;
 use std::alloc::{AllocError, Global};
@@ -147,8 +148,7 @@ impl Flood {
     {
         let slot = self.slots[slot_of(from)];
         slot.known.has(from)
-            || slot.denied.at(second) < self.limits.each
-                && self.denied.at(second) < self.limits.all
+            || slot.denied.at(second) < self.limits.each && self.denied.at(second) < self.limits.all
     }
 
     /// A datagram of the address led to something else than denials: from now on the address is known. Where

@@ -1,5 +1,5 @@
-//! What bounds a running gateway, as plain values: what is passed over, held back or not sent, how long it waits
-//! for the broker, and why it gives a connection up.
+//! What bounds a running gateway, as plain values: what is passed over, held back or not sent, how long it
+//! waits for the broker, and why it gives a connection up.
 #![tactic(auto)]
 
 pub mod answers;

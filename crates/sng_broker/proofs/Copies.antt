@@ -1,6 +1,7 @@
 -- What one connection gets of a message.
 use Rattle.std.proofs.Common.{◌≡◌, ℕ, ◌+◌, ◌==◌, ◌≤◌, Bool, true, false, true≢false, ◌||◌, List, [], ◌∷◌}
-use Rattle.std.proofs.Common.{◌++◌, if◌then◌else◌, cond, is_some, Option, Some, None, refl, sym, subst, ◌∙◌, ap}
+use Rattle.std.proofs.Common.{◌++◌, if◌then◌else◌, cond, is_some, Option, Some, None, refl, sym, subst, ◌∙◌}
+use Rattle.std.proofs.Common.{ap}
 use Rattle.std.proofs.Common.{arith}
 use Rattle.std.specs.List.{Any, count_by, list_any}
 use Rattle.std.proofs.lemmas.Bool.{eqb-true, eq-eqb, and_parts, and_from}
@@ -18,7 +19,8 @@ use Rattle.sng_broker.specs.declared.parts.Message.{Message}
 use Rattle.sng_broker.specs.declared.parts.Peer.{Peer}
 use Rattle.sng_broker.specs.declared.parts.Subscription.{Subscription}
 use Rattle.sng_broker.specs.Brokers.{Broker, is_peer, is_open, is_at_least_once, fits, fits_surely, EachOnce}
-use Rattle.sng_broker.specs.Steps.{Stepped, id_for, packet_of, gets, gets_surely, copy_for, fan_out, message_of}
+use Rattle.sng_broker.specs.Steps.{Stepped, id_for, packet_of, gets, gets_surely, copy_for, fan_out}
+use Rattle.sng_broker.specs.Steps.{message_of}
 use Rattle.sng_broker.specs.Steps.{delivered, dropped, greeted, published, step, taken}
 use Rattle.sng_broker.specs.Laws.{sent_to, Fits, IsSure, IsOneCopy, OneCopyEach, PublishGoesOnce}
 use Rattle.sng_broker.proofs.Peers.{or_false}
@@ -60,7 +62,8 @@ own standing m peer conn is some =
     let same : peer.conn ≡ conn = eqb-true peer.conn conn is in
     rw (same, some, rw same at is) refl
 
-nobody : (standing : List Subscription) (m : Message) (peers : List Peer) (conn : ℕ) → is_open peers conn ≡ false
+nobody : (standing : List Subscription) (m : Message) (peers : List Peer) (conn : ℕ)
+    → is_open peers conn ≡ false
     → sent_to conn (fan_out standing m peers) ≡ []
 nobody standing m [] conn absent = refl
 nobody standing m (peer ∷ peers) conn absent =
@@ -166,12 +169,14 @@ id_is false last = refl
 abbrev Surely : ℕ → List ℕ → Subscription → Type 0
 Surely conn name s = Fits conn name s × (s.qos ≡ AtLeastOnce)
 
-surely_is : (conn : ℕ) (name : List ℕ) (s : Subscription) → fits_surely conn name s ≡ true → Surely conn name s
+surely_is : (conn : ℕ) (name : List ℕ) (s : Subscription) → fits_surely conn name s ≡ true
+    → Surely conn name s
 surely_is conn name s is =
     let both = and_parts (is_at_least_once s.qos) (fits conn name s) is in
     (fitted conn name s both.1, sure_is s.qos both.0)
 
-is_surely : (conn : ℕ) (name : List ℕ) (s : Subscription) → Surely conn name s → fits_surely conn name s ≡ true
+is_surely : (conn : ℕ) (name : List ℕ) (s : Subscription) → Surely conn name s
+    → fits_surely conn name s ≡ true
 is_surely conn name s (fit, sure) =
     and_from (is_at_least_once s.qos) (fits conn name s) (ap is_at_least_once sure) (fitting conn name s fit)
 

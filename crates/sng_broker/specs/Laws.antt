@@ -66,6 +66,7 @@ AreCopies s (m ∷ messages) (out ∷ outs) =
 -- who subscribes gets each retained message whose name the filter matches, once and in order, at the smaller
 -- QoS
 abbrev pub RetainedAreReplayed : Type 0
-RetainedAreReplayed = (s : Subscription) (sending : Replay) (kept : List Message) → (copies : List (ℕ × Packet))
+RetainedAreReplayed = (s : Subscription) (sending : Replay) (kept : List Message)
+    → (copies : List (ℕ × Packet))
     × ((replay s sending kept).outs ≡ sending.outs ++ copies)
     × AreCopies s (filter (λ m. matches s.filter m.name) kept) copies
