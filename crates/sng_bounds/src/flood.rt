@@ -3,15 +3,13 @@
 //! remembered, which the last four of each slot are.
 ghost use Rattle.std.specs.Prelude.{◌≡◌, ◌≢◌, ◌+◌, ◌<◌, ◌≤◌, ◌↔◌, ◌⊎◌, length, min, IfOk, IsTrue, None, Some};
 ghost use Rattle.sng_book.specs.declared.address.Address.{Address};
-ghost use Rattle.sng_bounds.specs.Floods.{Adds, IsKnown, Knows, count_at, denied_at, nobody, nothing};
-ghost use Rattle.sng_bounds.specs.Floods.{slot_in, slot_of};
+ghost use Rattle.sng_bounds.specs.Counts.{count_at, slot_of};
+ghost use Rattle.sng_bounds.specs.Floods.{Adds, IsKnown, Knows, denied_at, nobody, nothing, slot_in};
+ghost use Rattle.sng_bounds.specs.declared.counts.TheConstants.{SLOTS};
 
+use crate::counts::{Count, SLOTS, slot_of};
 use sng_book::Address;
 use std::alloc::{AllocError, Global};
-
-/// Addresses have so many slots: strangers that share one share its count. It is a prime number, so that
-/// addresses and ports side by side have slots apart.
-pub const SLOTS: usize = 4093;
 
 /// How many datagrams that make nothing but denials are acted on in a second.
 #[derive(Clone, Copy, Debug, PartialEq, Eq)]
@@ -20,39 +18,6 @@ pub struct FloodLimits {
     pub each: u32,
     /// Of all such addresses together.
     pub all: u32,
-}
-
-/// A count of one second, which is told by its number.
-#[derive(Clone, Copy, Debug, PartialEq, Eq)]
-pub struct Count {
-    second: u64,
-    count: u32,
-}
-
-impl Count {
-    fn new() -> Count
-        ensures { result ≡ record { second = 0; count = 0 } }
-    {
-        Count {
-            second: 0,
-            count: 0,
-        }
-    }
-
-    /// What was counted in that second.
-    fn at(self, second: u64) -> u32
-        ensures { result ≡ count_at self second }
-    {
-        if self.second == second { self.count } else { 0 }
-    }
-
-    /// Counts one in that second, up to 2^32 - 1.
-    fn add(&mut self, second: u64)
-        ensures { self.new ≡ record { second = second; count = min (count_at self.old second + 1) u32.MAX } }
-    {
-        let count = self.at(second).saturating_add(1);
-        *self = Count { second, count };
-    }
 }
 
 /// The last four addresses at a slot from which something was allowed, the last one first.
@@ -189,13 +154,4 @@ impl Flood {
         self.slots[slot_of(from)].denied.add(second);
         self.denied.add(second);
     }
-}
-
-/// Where an address has its slot.
-fn slot_of(address: Address) -> usize
-    ensures slot { result ≡ slot_of address }
-    ensures below { result < SLOTS }
-{
-    let ip = u64::from(u32::from_be_bytes(address.ip));
-    ((ip * 65536 + u64::from(address.port)) % SLOTS as u64) as usize
 }

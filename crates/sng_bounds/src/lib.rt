@@ -3,6 +3,7 @@
 #![tactic(auto)]
 
 pub mod answers;
+pub mod counts;
 pub mod flood;
 pub mod loss;
 pub mod paths;
