@@ -1,9 +1,9 @@
 //! How many answers may leave for an address that nobody has: a DISCONNECT that answers a DISCONNECT of
 //! another gateway is answered by one more (MQTT-SN 1.2, 6.12), so a forged source would set two gateways to
 //! write to one another without end.
-ghost use Rattle.std.specs.Prelude.{◌≡◌, ◌≢◌, ◌+◌, ◌<◌, ◌↔◌, length, min, false, IfOk, IsTrue};
+ghost use Rattle.std.specs.Prelude.{◌≡◌, ◌≢◌, ◌+◌, ◌<◌, ◌↔◌, ℕ, length, min, false, IfOk, IsTrue};
 ghost use Rattle.sng_book.specs.declared.address.Address.{Address};
-ghost use Rattle.sng_bounds.specs.Counts.{count_in, slot_of};
+ghost use Rattle.sng_bounds.specs.Counts.{count_in, kept_in, nothing_counted, slot_of};
 ghost use Rattle.sng_bounds.specs.declared.counts.TheConstants.{SLOTS};
 
 use crate::counts::{Count, SLOTS, slot_of};
@@ -23,7 +23,7 @@ pub struct Answers {
 impl Answers {
     /// Nothing left.
     pub fn new(alloc: Global) -> Result<Answers, AllocError>
-        ensures { IfOk result (λ answers. (to : Address) → count_in answers.counts.items to ≡ λ second. 0) }
+        ensures { IfOk result (λ answers. (to : Address) → kept_in answers.counts.items to ≡ nothing_counted) }
     {
         Ok(Answers {
             counts: vec![in alloc; Count::new(); SLOTS]?,
