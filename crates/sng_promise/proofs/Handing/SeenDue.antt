@@ -145,7 +145,7 @@ end_back x None = refl
 end_back x (Some text) = by_holding (holds text x)
   where
     by_holding : (b : Bool)
-    → is_back x.id (if b then note.End x.id text (Denied (Peer BrokerRefused)) ∷ [] else [])
+        → is_back x.id (if b then note.End x.id text (Denied (Peer BrokerRefused)) ∷ [] else [])
         ≡ false
     by_holding true = refl
     by_holding false = refl
