@@ -1,6 +1,6 @@
-//! What the policy says, as an outcome: to a publish, to a message for a client, and to a subscription (RFC 9431,
-//! 2.3). Each judgement of a policy becomes a denial here. An `Err` is a failed allocation, for a denial that
-//! shows who asks, a name or a filter.
+//! What the policy says, as an outcome: to a publish, to a message for a client, and to a subscription (RFC
+//! 9431, 2.3). What a policy answers becomes a denial here alone. An `Err` is a failed allocation, for a
+//! denial that shows who asks, a name or a filter.
 ghost use Rattle.std.specs.Prelude.{◌≡◌, IfOk};
 ghost use Rattle.std.specs.Option.{option_copied};
 ghost use Rattle.sng_history.specs.Verdicts.{exit, coverage, name_outcome, filter_outcome, unlisted, missing};
@@ -9,8 +9,9 @@ ghost use Rattle.sng_history.specs.Outgoing.{receive};
 use sng_book::{Denial, GrantDenial, Outcome};
 use sng_grants::Policy;
 use sng_outbox::Origin;
-use sng_policy::{FilterGrant, NameGrant, Permission};
-use sng_policy::{may_publish, may_receive, may_subscribe, source_may_publish};
+use sng_policy::{
+    FilterGrant, NameGrant, Permission, may_publish, may_receive, may_subscribe, source_may_publish,
+};
 use sng_text::{ClientId, TopicFilter, TopicName};
 use std::alloc::{AllocError, Global};
 
@@ -78,7 +79,9 @@ fn filter_outcome(
 {
     match grant {
         FilterGrant::Allowed => Ok(Outcome::Allowed),
-        FilterGrant::Unlisted => Ok(Outcome::Denied(Denial::Grant(GrantDenial::NoScope(client.copy()?)))),
+        FilterGrant::Unlisted => Ok(Outcome::Denied(Denial::Grant(GrantDenial::NoScope(
+            client.copy()?,
+        )))),
         FilterGrant::Uncovered(gap) => {
             Ok(Outcome::Denied(Denial::Grant(GrantDenial::Uncovered(filter.copy()?, gap))))
         }

@@ -24,6 +24,7 @@ use crate::step::{Step, undo};
 use mqtt_frames::encode_subscribe;
 use sng_book::{Decision, Out, Outs, OutsPair, Who};
 use sng_grants::Policy;
+use sng_history::exit;
 use sng_outbox::{Outbox, PacketIds, Publication};
 use sng_text::{Qos, TopicFilter};
 use sng_wanted::Wanted;

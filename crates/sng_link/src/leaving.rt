@@ -22,6 +22,7 @@ use mqtt_frames::{
 };
 use sng_book::{Decision, Out, Outs, OutsPair, Who};
 use sng_grants::Policy;
+use sng_history::exit;
 use sng_outbox::{Item, Outbox, PacketIds, Publication};
 use sng_text::{Octets, Qos, TopicFilter};
 use sng_wanted::Wanted;

@@ -13,7 +13,7 @@ use Rattle.sng_cover.specs.declared.answer.Cover.TheVariants as cover
 use Rattle.sng_policy.specs.Grants.{lists, is_granted, grant_by, grant_of_cover, subscribe_grant}
 use Rattle.sng_policy.specs.Laws.{HasFilters}
 use Rattle.sng_policy.specs.declared.permission.Permission.TheVariants.{Subscribe}
-use Rattle.sng_policy.specs.declared.grant.Grant.TheVariants as grant
+use Rattle.sng_policy.specs.declared.grant.NameGrant.TheVariants as on_name
 use Rattle.sng_policy.proofs.SubscriptionLemmas.{subscribing_is_receiving}
 use Rattle.sng_book.specs.declared.decision.Who.TheVariants as who
 use Rattle.sng_book.specs.declared.outcome.Place.TheVariants as place
@@ -28,22 +28,22 @@ use Rattle.sng_laws.specs.LawsPromise.{IsIncluded, IsGap, MaySubscribe, MayEnd}
 
 -- ---- what may be received
 
-granted_name : (b : Bool) → (if b then grant.Allowed else grant.MissingSub) ≡ grant.Allowed → b ≡ true
+granted_name : (b : Bool) → (if b then on_name.Allowed else on_name.Missing) ≡ on_name.Allowed → b ≡ true
 granted_name true is = refl
 granted_name false is = absurd cc
 
-missing_name : (b : Bool) → (if b then grant.Allowed else grant.MissingSub) ≡ grant.MissingSub → b ≡ false
+missing_name : (b : Bool) → (if b then on_name.Allowed else on_name.Missing) ≡ on_name.Missing → b ≡ false
 missing_name true is = absurd cc
 missing_name false is = refl
 
 received : (scope : Option (List Pair)) (name : List ℕ)
-    → grant_by Subscribe grant.NoScope grant.MissingSub scope name ≡ grant.Allowed
+    → grant_by Subscribe scope name ≡ on_name.Allowed
     → may_receive scope name ≡ true
 received None name is = absurd cc
 received (Some pairs) name is = granted_name (is_granted Subscribe pairs name) is
 
 unreceived : (scope : Option (List Pair)) (name : List ℕ)
-    → grant_by Subscribe grant.NoScope grant.MissingSub scope name ≡ grant.MissingSub
+    → grant_by Subscribe scope name ≡ on_name.Missing
     → may_receive scope name ≡ false
 unreceived None name is = refl
 unreceived (Some pairs) name is = missing_name (is_granted Subscribe pairs name) is
