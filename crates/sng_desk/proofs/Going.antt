@@ -12,7 +12,7 @@ use Rattle.sng_book.specs.declared.out.Out.TheVariants.{Send, Wire, Note}
 use Rattle.sng_desk.specs.Sights.{Share, Receipt}
 use Rattle.sng_desk.specs.declared.trail.Trail.{Trail}
 use Rattle.sng_desk.specs.Acts.{Moves, Act, Acted, no_trail, events_of, receipts_of, receipt_in, sends_in}
-use Rattle.sng_desk.specs.Acts.{sends_of, wires_in}
+use Rattle.sng_desk.specs.Acts.{sends_of}
 use Rattle.std.specs.Prelude.{Option, Some, None}
 use Rattle.sng_desk.specs.declared.ending.WorkerFault.{WorkerFault}
 use Rattle.sng_desk.specs.declared.ending.WorkerFault.TheVariants.{Device, GaveUp, Refused, BookFull}
@@ -28,13 +28,6 @@ moves_on tells did a b c xs ys m n = record {
   told = λ t. m.told (n.told t);
   done = λ t. rw (n.done t, m.done (n.told t)) (append_assoc (did a) xs ys);
 }
-
-pub wires_on : (outs more : List Out) → wires_in (outs ++ more) ≡ wires_in outs ++ wires_in more
-wires_on [] more = refl
-wires_on (Wire bytes ∷ outs) more = ap (λ w. bytes ++ w) (wires_on outs more)
-    ∙ sym (append_assoc bytes (wires_in outs) (wires_in more))
-wires_on (Send to bytes ∷ outs) more = wires_on outs more
-wires_on (Note note ∷ outs) more = wires_on outs more
 
 pub sends_on : (outs more : List Out) → sends_in (outs ++ more) ≡ sends_in outs ++ sends_in more
 sends_on [] more = refl

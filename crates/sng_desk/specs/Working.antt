@@ -9,8 +9,8 @@ use Rattle.sng_desk.specs.declared.source.Got.{Got}
 use Rattle.sng_desk.specs.declared.source.Got.TheVariants.{Came, Nothing, Ended, Failed}
 use Rattle.sng_desk.specs.declared.ending.WorkerFault.{WorkerFault}
 use Rattle.sng_desk.specs.declared.ending.WorkerFault.TheVariants.{Device, GaveUp, Refused, BookFull}
-use Rattle.sng_desk.specs.declared.working.Next.{Next}
-use Rattle.sng_desk.specs.declared.working.Next.TheVariants.{On, Over}
+use Rattle.sng_desk.specs.declared.ending.Next.{Next}
+use Rattle.sng_desk.specs.declared.ending.Next.TheVariants.{On, Over}
 
 -- what a source's answer gave
 abbrev pub given_by : {X : Type 0} → Got X → List X

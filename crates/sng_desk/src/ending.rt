@@ -1,4 +1,4 @@
-//! What a worker leaves.
+//! What a turn of a worker leads to, and what a worker leaves.
 use crate::desk::Share;
 use crate::trail::Trail;
 use thiserror::Error;
@@ -18,6 +18,15 @@ pub enum WorkerFault {
     /// The desk refused the last event, since the book is full.
     #[error("the book is full")]
     BookFull,
+}
+
+/// What a turn leads to.
+#[derive(Clone, Copy, Debug, PartialEq, Eq)]
+pub enum Next {
+    /// Another turn.
+    On,
+    /// It was the last: why, where that is a fault.
+    Over(Option<WorkerFault>),
 }
 
 /// What a worker leaves.

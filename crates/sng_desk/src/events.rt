@@ -50,11 +50,11 @@ pub trait Source: Drop {
 
 /// Datagrams, sent by what they came from.
 #[derive(Debug, Drop)]
-pub struct Socket<D> {
+pub struct Devices<D> {
     pub datagrams: D,
 }
 
-impl<D: Datagrams> Source for Socket<D> {
+impl<D: Datagrams> Source for Devices<D> {
     ghost tells = { λ s. D.tells s.datagrams };
 
     ghost gave = { λ s. datagram_events (D.gave s.datagrams) };

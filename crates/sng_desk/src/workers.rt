@@ -6,7 +6,7 @@ ghost use Rattle.sng_desk.specs.Working.{HasEnded};
 
 use crate::desk::{Desk, Share};
 use crate::ending::{NoSender, WorkerEnd};
-use crate::events::{Clock, Loader, Socket};
+use crate::events::{Clock, Devices, Loader};
 use crate::gate::Gate;
 use crate::source::{Beats, Datagrams, Policies};
 use crate::working::{Left, work};
@@ -26,14 +26,14 @@ pub fn udp_worker<R: Wait, D: Datagrams, G: Gate>(
         source source share (G.may_stop gate.now) result.source result.source result.trail result.share
         result.fault }
 {
-    let source = Socket { datagrams: source };
+    let source = Devices { datagrams: source };
     let Left {
         trail,
         share,
         source,
         fault,
     } = work(rt, alloc, desk, share, source, gate);
-    let Socket { datagrams } = source;
+    let Devices { datagrams } = source;
     WorkerEnd {
         trail,
         share,

@@ -5,7 +5,7 @@ ghost use Rattle.sng_desk.specs.Acts.{Moves, sends_in, sends_of};
 ghost use Rattle.sng_desk.specs.Working.{HasEnded, NextFor, Served, Worked};
 
 use crate::desk::{Desk, Receipt, Share};
-use crate::ending::WorkerFault;
+use crate::ending::{Next, WorkerFault};
 use crate::events::Source;
 use crate::gate::Gate;
 use crate::hand::Hand;
@@ -15,23 +15,14 @@ use sng_book::{Event, Out};
 use std::alloc::Global;
 use std::sync::{Mutex, Wait};
 
-/// What a turn leads to.
-#[derive(Clone, Copy, Debug, PartialEq, Eq)]
-pub enum Next {
-    /// Another turn.
-    On,
-    /// It was the last: why, where that is a fault.
-    Over(Option<WorkerFault>),
-}
-
-/// A worker between two turns.
+/// A worker at a source of events, between two turns.
 #[derive(Drop)]
-struct Round<S> {
+struct SourceWorker<S> {
     source: S,
     hand: Hand,
 }
 
-impl<S: Source> Round<S> {
+impl<S: Source> SourceWorker<S> {
     /// Asks the source once, and acts on what it gives.
     fn turn<R: Wait, G: Gate>(&mut self, rt: &R, desk: &Mutex<Desk>, gate: &G) -> Next
         ensures worked { (source : S) (share : share_sight)
@@ -132,11 +123,11 @@ pub fn work<R: Wait, S: Source, G: Gate>(
 {
     let log = Log::new(alloc, share.tag());
     let hand = Hand { share, log };
-    let mut round = Round { source, hand };
+    let mut worker = SourceWorker { source, hand };
     for _ in rt.forever() {
-        if let Next::Over(fault) = round.turn(rt, desk, gate) {
-            gate.over(round.hand.log.by(), fault);
-            let Round { source, hand } = round;
+        if let Next::Over(fault) = worker.turn(rt, desk, gate) {
+            gate.over(worker.hand.log.by(), fault);
+            let SourceWorker { source, hand } = worker;
             let Hand { share, log } = hand;
             return Left {
                 trail: log.into_trail(),

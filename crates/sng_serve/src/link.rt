@@ -1,8 +1,8 @@
 //! The connection to the broker over TCP (MQTT 3.1.1, 4.2): it is made anew after pauses that grow, and what
 //! a turn of its worker writes is one write.
 ghost use Rattle.std.specs.Prelude.{◌≡◌, [], true, false, IfSome};
-ghost use Rattle.sng_desk.specs.Devices.{IsShort};
-ghost use Rattle.sng_desk.specs.declared.connection.ReadAnswer.TheVariants.{Gone as gone_answer};
+ghost use Rattle.sng_crew.specs.Devices.{IsShort};
+ghost use Rattle.sng_crew.specs.declared.connection.ReadAnswer.TheVariants.{Gone as gone_answer};
 
 use crate::bell::Ear;
 use crate::hub::Hub;
@@ -13,7 +13,7 @@ use sng_bounds::loss::{Loss, Parting};
 use sng_bounds::patience::Patience;
 use sng_bounds::refusal::{CONNACK_BYTES, Refusal, connack_code};
 use sng_bounds::tries::Tries;
-use sng_desk::{MAX_READ, Opening, ReadAnswer, Upstream, Written};
+use sng_crew::{MAX_READ, Opening, ReadAnswer, Upstream, Written};
 use sng_operator::ends::Halt;
 use sng_text::Octets;
 use std::alloc::AllocError;

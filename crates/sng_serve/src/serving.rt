@@ -16,10 +16,8 @@ use crate::socket::Socket;
 use crate::switch::Switch;
 use crate::tell::tell;
 use crate::writers::{ERRORS_PATIENCE_MS, OUTPUT_PATIENCE_MS, wait_for};
-use sng_desk::{
-    Beats, Crew, Datagrams, Desk, Ended, Gate, NotStarted, Policies, Share, Terms, Upstream,
-    run_workers,
-};
+use sng_crew::{Crew, Ended, NotStarted, Terms, Upstream, run_workers};
+use sng_desk::{Beats, Datagrams, Desk, Gate, Policies, Share};
 use sng_gateway::Status;
 use sng_gateway::ending::ended;
 use sng_operator::ask::{Ask, Fault, Words, ask_of};

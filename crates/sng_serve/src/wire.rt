@@ -1,10 +1,10 @@
 //! The stream of a connection to the broker, with what is kept for it in both directions: bytes that are
 //! still to be written, and bytes that were read and not yet given. No call waits.
 ghost use Rattle.std.specs.Prelude.{◌≡◌, ◌≤◌, ◌∷◌, [], length, IfOk, IsTrue, ◌↔◌};
-ghost use Rattle.sng_desk.specs.Devices.{IsTaken};
+ghost use Rattle.sng_crew.specs.Devices.{IsTaken};
 
 use mio::net::TcpStream;
-use sng_desk::{MAX_READ, Written};
+use sng_crew::{MAX_READ, Written};
 use std::alloc::{AllocError, Global};
 use std::io;
 use std::io::{Error, ErrorKind, Read, Write};

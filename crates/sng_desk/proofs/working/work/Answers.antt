@@ -27,7 +27,7 @@ returns-in-Over g c =
       worked = rw c.into_trail.ensures (c.turn.ensures.worked c.args.source c.args.share
           c.loop.invariant.worked);
       ends = rw c.into_trail.ensures
-          (ends_since c.in-Over.fault (s.failures c.args.source) (s.failures c.loop.round.source)
+          (ends_since c.in-Over.fault (s.failures c.args.source) (s.failures c.loop.worker.source)
           (s.failures now) (s.has_ended now) (g.G.Gate.may_stop c.args.gate.now)
           c.turn.new.self.hand.log.trail c.loop.invariant.worked.failures c.in-Over.ensures.over);
     }
