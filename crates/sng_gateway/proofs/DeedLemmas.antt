@@ -6,7 +6,7 @@ use Rattle.sng_book.specs.declared.event.Event.{Event}
 use Rattle.sng_book.specs.declared.event.Event.TheVariants as events
 use Rattle.sng_gateway.specs.Deeds.{Arrival, Deed, Step, Tell, arrival, fault_deeds, packet_deeds}
 use Rattle.sng_gateway.specs.Playing.{Standing, IsStep, Does, Comes, Adds}
-use Rattle.sng_gateway.specs.declared.script.Line.TheVariants.{Broker}
+use Rattle.sng_script.specs.declared.script.Line.TheVariants.{Broker}
 
 Does-then : (deeds more : List Deed) (text others : List ℕ) (before between after : Standing)
     → Does before deeds text between → Does between more others after → Does before (deeds ++ more) (text ++ others) after

@@ -3,7 +3,7 @@ use Rattle.std.specs.Prelude.{ℕ, Bool, true, false, List, ◌++◌, ◌-◌, c
 use Rattle.sng_core.specs.declared.census.Census.{Census}
 use Rattle.sng_core.specs.declared.census.ClientCounts.{ClientCounts}
 use Rattle.sng_core.specs.declared.census.ListedCounts.{ListedCounts}
-use Rattle.sng_gateway.specs.Places.{count_text}
+use Rattle.sng_questions.specs.Places.{count_text}
 use Rattle.sng_operator.specs.declared.status.Standing.{Standing}
 
 -- words, and a number at the end of the line

@@ -4,8 +4,8 @@ ghost use Rattle.sng_operator.specs.Commands.{asked_by, front_of, request_of, un
 
 use crate::verbosity::Verbosity;
 use sng_book::print::push_name;
-use sng_gateway::MAX_SHOWN;
-use sng_gateway::sender::parted;
+use sng_questions::MAX_SHOWN;
+use sng_script::sender::parted;
 use std::alloc::AllocError;
 
 /// What a line asks for.

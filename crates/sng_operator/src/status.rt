@@ -1,6 +1,6 @@
 //! What `status` prints: how a running gateway stands.
 ghost use Rattle.std.specs.Prelude.{◌≡◌, ◌++◌, OnOk};
-ghost use Rattle.sng_gateway.specs.Places.{count_text};
+ghost use Rattle.sng_questions.specs.Places.{count_text};
 ghost use Rattle.sng_operator.specs.Standings.{absent_text, broker_text, clients_text, last_text, present_text, up_text, waiting_text, policy_text, rows_text, status_text};
 
 use sng_book::print::push_decimal;
