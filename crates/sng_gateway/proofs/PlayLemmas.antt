@@ -18,8 +18,8 @@ use Rattle.sng_gateway.specs.Scripts.{WritesRow, Writes, AllWrite, ArePlayed, St
 use Rattle.sng_script.specs.declared.status.Status.{Status}
 use Rattle.sng_script.specs.declared.status.Status.TheVariants as statuses
 use Rattle.sng_script.specs.Input.{lines_of, IsFirstLine, BeginsTooLong}
-use Rattle.sng_script.specs.declared.halt.Halt.{Halt}
-use Rattle.sng_script.specs.declared.halt.Halt.TheVariants.{Unreadable, OutOfMemory, Failed}
+use Rattle.sng_script.specs.declared.obstacle.Obstacle.{Obstacle}
+use Rattle.sng_script.specs.declared.obstacle.Obstacle.TheVariants.{Unreadable, OutOfMemory, Failed}
 use Rattle.sng_script.specs.declared.script.Line.{Line}
 
 -- the gateway stands so after these rows, the newest first
@@ -185,7 +185,7 @@ GoesOn (Some bytes) None held holds number standing = ⊥
 GoesOn (Some bytes) (Some rest) held holds number standing = UnderWay (lines_of bytes) (lines_of rest) held holds number standing
 
 -- what has to be shown of the end, as far as the bytes are known
-abbrev pub Halts : Option (List ℕ) → Result (Unit {0}) Halt → ℕ → (held holds : Option (List ℕ)) → Type 0
+abbrev pub Halts : Option (List ℕ) → Result (Unit {0}) Obstacle → ℕ → (held holds : Option (List ℕ)) → Type 0
 Halts input result number held holds = IfSome input (λ script. IsHalt result number (lines_of script) held holds)
 
 pub GoesOn-start : (input held : Option (List ℕ)) (standing : Standing) → Leads opening [] standing.state → standing.rows ≡ 0
@@ -246,7 +246,7 @@ Halts-first (Some bytes) held told =
     ([], [], record { rest = lines_of bytes; split = refl; played = record { rows = []; stream = Reading []; lawful = tt; written = (refl, refl, refl) } }, Appends-nil held)
 
 -- a line could not be read for one of these reasons
-pub Halts-read : (input left held holds : Option (List ℕ)) (number : ℕ) (standing : Standing) (stop : Halt)
+pub Halts-read : (input left held holds : Option (List ℕ)) (number : ℕ) (standing : Standing) (stop : Obstacle)
     → GoesOn input left held holds number standing → (stop ≡ Unreadable → BeginsTooLong left) → Halts input (Err stop) number held holds
 Halts-read input left held holds number standing Unreadable way long = Halts-long input left held holds number standing way (long refl)
 Halts-read input left held holds number standing OutOfMemory way long = Halts-memory input left held holds holds number number standing way (Keeps-refl holds)
@@ -254,7 +254,7 @@ Halts-read None left held holds number standing Failed way long = tt
 Halts-read (Some bytes) left held holds number standing Failed way long = tt
 
 -- a line could not be played for one of these reasons
-pub Halts-play : (input left rest held between holds : Option (List ℕ)) (line : List ℕ) (number : ℕ) (standing : Standing) (stop : Halt)
+pub Halts-play : (input left rest held between holds : Option (List ℕ)) (line : List ℕ) (number : ℕ) (standing : Standing) (stop : Obstacle)
     → GoesOn input left held between number standing → IsFirstLine left rest line
     → (stop ≡ Unreadable → line_of line ≡ None) → (stop ≢ Failed → Keeps between holds) → Halts input (Err stop) number held holds
 Halts-play input left rest held between holds line number standing Unreadable way first unreadable keeps =
@@ -265,7 +265,7 @@ Halts-play None left rest held between holds line number standing Failed way fir
 Halts-play (Some bytes) left rest held between holds line number standing Failed way first unreadable keeps = tt
 
 -- how a script comes out whose lines came to an end so
-pub outcome : (input held between holds : Option (List ℕ)) (status : Status) (played : Result (Unit {0}) Halt) (number : ℕ)
+pub outcome : (input held between holds : Option (List ℕ)) (status : Status) (played : Result (Unit {0}) Obstacle) (number : ℕ)
     → Halts input played number held between → Finishes status played number between holds
     → IfSome input (λ script. IsOutcome status (lines_of script) held holds)
 outcome None held between holds status played number halts finishes = tt

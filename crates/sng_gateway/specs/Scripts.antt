@@ -14,8 +14,8 @@ use Rattle.sng_script.specs.declared.limits.TheConstants.{MAX_LINE}
 use Rattle.sng_gateway.specs.Deeds.{Deed, Step, Tell, deeds_of, stream_by}
 use Rattle.sng_script.specs.Lines.{line_of}
 use Rattle.sng_script.specs.declared.script.Line.{Line}
-use Rattle.sng_script.specs.declared.halt.Halt.{Halt}
-use Rattle.sng_script.specs.declared.halt.Halt.TheVariants as halts
+use Rattle.sng_script.specs.declared.obstacle.Obstacle.{Obstacle}
+use Rattle.sng_script.specs.declared.obstacle.Obstacle.TheVariants as obstacles
 use Rattle.sng_script.specs.declared.status.Status.{Status}
 use Rattle.sng_script.specs.declared.status.Status.TheVariants as statuses
 
@@ -79,23 +79,23 @@ unreadable_text number = codes "line " ++ (decimal number ++ codes ": unreadable
 
 -- how the lines come to an end, by `Ok` or why they are not played on, with the number of the last that was
 -- begun
-abbrev pub IsHalt : Result (Unit {0}) Halt → ℕ → List (List ℕ) → (held holds : Option (List ℕ)) → Type 0
+abbrev pub IsHalt : Result (Unit {0}) Obstacle → ℕ → List (List ℕ) → (held holds : Option (List ℕ)) → Type 0
 IsHalt (Ok done) number script held holds = (text : List ℕ) × ArePlayed script text × Appends held holds text
-IsHalt (Err halts.Unreadable) number script held holds =
+IsHalt (Err obstacles.Unreadable) number script held holds =
     (before : List (List ℕ)) × (text : List ℕ) × StopsAt script before text × Appends held holds text
     × (number ≡ length before + 1)
-IsHalt (Err halts.OutOfMemory) number script held holds =
+IsHalt (Err obstacles.OutOfMemory) number script held holds =
     (before : List (List ℕ)) × (text : List ℕ) × BreaksOff script before text × Appends held holds text
-IsHalt (Err halts.Failed) number script held holds = ⊤
+IsHalt (Err obstacles.Failed) number script held holds = ⊤
 
 -- what is written last, behind what the writer held, and how the command comes out: as the lines came to an
 -- end, with why they are not played on; or as a failure, of which nothing is known
-abbrev pub Finishes : Status → Result (Unit {0}) Halt → ℕ → (held holds : Option (List ℕ)) → Type 0
+abbrev pub Finishes : Status → Result (Unit {0}) Obstacle → ℕ → (held holds : Option (List ℕ)) → Type 0
 Finishes statuses.Done played number held holds = (played ≡ Ok tt) × Keeps held holds
 Finishes statuses.Unreadable played number held holds =
-    (played ≡ Err halts.Unreadable) × Appends held holds (unreadable_text number)
+    (played ≡ Err obstacles.Unreadable) × Appends held holds (unreadable_text number)
 Finishes statuses.OutOfMemory played number held holds =
-    (played ≡ Err halts.OutOfMemory) × Appends held holds (codes "out of memory\n")
+    (played ≡ Err obstacles.OutOfMemory) × Appends held holds (codes "out of memory\n")
 Finishes statuses.Failed played number held holds = ⊤
 Finishes statuses.Uncovered played number held holds = ⊥
 Finishes statuses.Denied played number held holds = ⊥

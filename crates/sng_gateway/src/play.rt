@@ -10,7 +10,7 @@ use crate::player::Player;
 use sng_script::ending::end;
 use sng_script::input::read_line;
 use sng_script::reader::CountedReader;
-use sng_script::{Halt, Status};
+use sng_script::{Obstacle, Status};
 use std::alloc::Global;
 use std::io::{BufRead, BufReader, BufWriter, Read, Write};
 
@@ -28,7 +28,7 @@ const BUFFER_BYTES: usize = 65536;
 pub fn play<R: Read + Drop, W: Write + Drop>(alloc: Global, input: R, mut output: W) -> Status {
     match play_buffered(alloc, input, &mut output) {
         Some(status) => status,
-        None => finish(Err(Halt::OutOfMemory), 0, &mut output),
+        None => finish(Err(Obstacle::OutOfMemory), 0, &mut output),
     }
 }
 
@@ -59,14 +59,14 @@ fn play_input<R: Read + Drop, W: Write>(
     input: R,
     output: &mut W,
     line: &mut u64,
-) -> Result<(), Halt>
+) -> Result<(), Obstacle>
     ensures { IfSome (R.remaining input) (λ script. IsHalt result line.new (lines_of script)
         (W.contents output.old) (W.contents output.new)) }
 {
     let reader = CountedReader::new(input);
     match BufReader::with_capacity(alloc, BUFFER_BYTES, reader) {
         Ok(mut reader) => play_lines(alloc, &mut reader, output, line),
-        Err(_) => Err(Halt::OutOfMemory),
+        Err(_) => Err(Obstacle::OutOfMemory),
     }
 }
 
@@ -76,13 +76,13 @@ fn play_lines<R: BufRead, W: Write>(
     reader: &mut R,
     output: &mut W,
     line: &mut u64,
-) -> Result<(), Halt>
+) -> Result<(), Obstacle>
     ensures { IfSome (R.remaining reader.old) (λ script. IsHalt result line.new (lines_of script)
         (W.contents output.old) (W.contents output.new)) }
 {
     match Player::new(alloc) {
         Ok(mut player) => play_on(&mut player, alloc, reader, output, line),
-        Err(_) => Err(Halt::OutOfMemory),
+        Err(_) => Err(Obstacle::OutOfMemory),
     }
 }
 
@@ -94,7 +94,7 @@ fn play_on<R: BufRead, W: Write>(
     reader: &mut R,
     output: &mut W,
     line: &mut u64,
-) -> Result<(), Halt>
+) -> Result<(), Obstacle>
     requires state { Leads opening [] (standing player.old).state }
     requires rows { (standing player.old).rows ≡ 0 }
     requires stream { (standing player.old).stream ≡ Reading [] }
@@ -109,23 +109,23 @@ fn play_on<R: BufRead, W: Write>(
         }
         player.play(text.as_slice(), output)?;
     }
-    Err(Halt::Failed)
+    Err(Obstacle::Failed)
 }
 
 /// Prints why the script ended, where that is printed, and ends the command.
-fn finish<W: Write>(played: Result<(), Halt>, line: u64, output: &mut W) -> Status
+fn finish<W: Write>(played: Result<(), Obstacle>, line: u64, output: &mut W) -> Status
     ensures { Finishes result played line (W.contents output.old) (W.contents output.new) }
 {
     match played {
         Ok(()) => end(Status::Done, Ok(()), output),
-        Err(Halt::Unreadable) => {
+        Err(Obstacle::Unreadable) => {
             let printed = writeln!(output, "line {line}: unreadable");
             end(Status::Unreadable, printed, output)
         }
-        Err(Halt::OutOfMemory) => {
+        Err(Obstacle::OutOfMemory) => {
             let printed = output.write_all(b"out of memory\n");
             end(Status::OutOfMemory, printed, output)
         }
-        Err(Halt::Failed) => end(Status::Failed, Ok(()), output),
+        Err(Obstacle::Failed) => end(Status::Failed, Ok(()), output),
     }
 }

@@ -6,7 +6,7 @@ use Rattle.hex.specs.Hex.{decode_of, is_hex_digit}
 use Rattle.hex.specs.declared.error.FromHexError.{FromHexError}
 use Rattle.hex.proofs.HexLemmas.{decode_of-digits, decode_of-odd, decode_of-ok}
 use Rattle.sng_script.specs.Lines.{piece_of}
-use Rattle.sng_script.specs.Halts.{fault_of}
+use Rattle.sng_script.specs.Obstacles.{fault_of}
 use Rattle.sng_script.specs.declared.script.LineFault.TheVariants.{Memory, Unreadable}
 
 odd_by : (text : List ℕ) (empty : Bool) → bytes_eq text [] ≡ empty → length text % 2 ≡ 1

@@ -1,6 +1,6 @@
 pub mod Statuses
 pub mod Lines
-pub mod Halts
+pub mod Obstacles
 pub mod Refused
 pub mod Input
 pub mod Laws

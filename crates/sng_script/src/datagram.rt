@@ -3,7 +3,7 @@ ghost use Rattle.hex.specs.Hex.{is_hex_digit};
 ghost use Rattle.std.specs.List.{AllPass};
 ghost use Rattle.std.specs.Prelude.{◌≡◌, ◌↔◌, Some, IfOk, IfErr, IsTrue};
 ghost use Rattle.sng_script.specs.Lines.{datagram_of, piece_of};
-ghost use Rattle.sng_script.specs.Halts.{fault_of};
+ghost use Rattle.sng_script.specs.Obstacles.{fault_of};
 
 use crate::script::LineFault;
 use sng_text::Octets;

@@ -3,8 +3,8 @@ ghost use Rattle.std.specs.Prelude.{◌≡◌, ◌≢◌, ◌++◌, ◌≤◌, �
 ghost use Rattle.sng_script.specs.Input.{BeginsTooLong, Ends, IsNextLine, IsTooLong, IsWithinLine, Takes};
 ghost use Rattle.sng_script.specs.declared.limits.TheConstants.{MAX_LINE};
 
-use crate::halt::Halt;
 use crate::limits::MAX_LINE;
+use crate::obstacle::Obstacle;
 use std::io::{BufRead, Error, ErrorKind};
 
 /// What a piece of the input leaves of its line.
@@ -28,11 +28,11 @@ pub enum LineEnd {
 
 /// Puts the next line in `text`, without its line feed. Whether there was a line: the last one may lack its
 /// line feed. A longer line than `MAX_LINE` is unreadable, and nothing past the limit is kept.
-pub fn read_line<R: BufRead>(reader: &mut R, text: &mut Vec<u8>) -> Result<bool, Halt>
+pub fn read_line<R: BufRead>(reader: &mut R, text: &mut Vec<u8>) -> Result<bool, Obstacle>
     ensures within { vec_len text.new ≤ MAX_LINE }
     ensures ok { IfOk result (λ is_line.
         IsNextLine is_line (R.remaining reader.old) (R.remaining reader.new) text.new.items) }
-    ensures long { result ≡ Err Halt.Unreadable → BeginsTooLong (R.remaining reader.old) }
+    ensures long { result ≡ Err Obstacle.Unreadable → BeginsTooLong (R.remaining reader.old) }
 {
     match read_to_end_of_line(reader, text)? {
         LineEnd::Feed => Ok(true),
@@ -42,11 +42,14 @@ pub fn read_line<R: BufRead>(reader: &mut R, text: &mut Vec<u8>) -> Result<bool,
 
 /// Puts what the input has up to the end of a line in `text`, without a line feed, and tells which end that
 /// was. A longer line than `MAX_LINE` is unreadable, and nothing past the limit is kept.
-pub fn read_to_end_of_line<R: BufRead>(reader: &mut R, text: &mut Vec<u8>) -> Result<LineEnd, Halt>
+pub fn read_to_end_of_line<R: BufRead>(
+    reader: &mut R,
+    text: &mut Vec<u8>,
+) -> Result<LineEnd, Obstacle>
     ensures within { vec_len text.new ≤ MAX_LINE }
     ensures ok { IfOk result (λ end.
         Ends end (R.remaining reader.old) (R.remaining reader.new) text.new.items) }
-    ensures long { result ≡ Err Halt.Unreadable → BeginsTooLong (R.remaining reader.old) }
+    ensures long { result ≡ Err Obstacle.Unreadable → BeginsTooLong (R.remaining reader.old) }
 {
     text.clear();
     for _ in 0..u64::MAX {
@@ -56,21 +59,21 @@ pub fn read_to_end_of_line<R: BufRead>(reader: &mut R, text: &mut Vec<u8>) -> Re
             Piece::End => return Ok(LineEnd::Input),
         }
     }
-    Err(Halt::Failed)
+    Err(Obstacle::Failed)
 }
 
 /// Appends what the reader has of the line.
-fn read_piece<R: BufRead>(reader: &mut R, text: &mut Vec<u8>) -> Result<Piece, Halt>
+fn read_piece<R: BufRead>(reader: &mut R, text: &mut Vec<u8>) -> Result<Piece, Obstacle>
     requires { vec_len text.old ≤ MAX_LINE }
     ensures within { vec_len text.new ≤ MAX_LINE }
     ensures ok { IfOk result (λ piece. Takes piece
         (R.remaining reader.old) (R.remaining reader.new) text.old.items text.new.items) }
-    ensures long { result ≡ Err Halt.Unreadable
+    ensures long { result ≡ Err Obstacle.Unreadable
         → IsTooLong (R.remaining reader.old) text.old.items }
 {
     let bytes = match reader.fill_buf() {
         Ok(bytes) => bytes,
-        Err(error) => return halt_of(&error),
+        Err(error) => return obstacle_of(&error),
     };
     let count = bytes.len();
     if count == 0 {
@@ -101,27 +104,27 @@ pub fn line_feed_in(bytes: &[u8]) -> Option<usize>
 }
 
 /// Why a read that failed ends the script, unless it is to be tried again.
-fn halt_of(error: &Error) -> Result<Piece, Halt>
+fn obstacle_of(error: &Error) -> Result<Piece, Obstacle>
     ensures ok { IfOk result (λ piece. piece ≡ Piece.Front) }
-    ensures err { result ≢ Err Halt.Unreadable }
+    ensures err { result ≢ Err Obstacle.Unreadable }
 {
     match error.kind() {
         ErrorKind::Interrupted => Ok(Piece::Front),
-        ErrorKind::OutOfMemory => Err(Halt::OutOfMemory),
-        _ => Err(Halt::Failed),
+        ErrorKind::OutOfMemory => Err(Obstacle::OutOfMemory),
+        _ => Err(Obstacle::Failed),
     }
 }
 
 /// Appends a piece of a line that stays within its limit.
-fn keep(text: &mut Vec<u8>, piece: &[u8]) -> Result<(), Halt>
+fn keep(text: &mut Vec<u8>, piece: &[u8]) -> Result<(), Obstacle>
     requires { vec_len text.old ≤ MAX_LINE }
     ensures ok { OnOk result (text.new.items ≡ text.old.items ++ piece.now) }
     ensures err { OnErr result (text.new.items ≡ text.old.items) }
-    ensures long { result ≡ Err Halt.Unreadable → MAX_LINE < vec_len text.old + length piece.now }
+    ensures long { result ≡ Err Obstacle.Unreadable → MAX_LINE < vec_len text.old + length piece.now }
     ensures within { vec_len text.new ≤ MAX_LINE }
 {
     if piece.len() > MAX_LINE - text.len() {
-        return Err(Halt::Unreadable);
+        return Err(Obstacle::Unreadable);
     }
     text.extend_from_slice(piece)?;
     Ok(())

@@ -1,6 +1,6 @@
 use Rattle.std.proofs.Common.{◌≡◌, ◌<◌, ◌+◌, length, take, drop, take-append-drop, append-nil, sym, Err, rules}
 use Rattle.sng_script.specs.declared.limits.TheConstants.{MAX_LINE}
-use Rattle.sng_script.specs.declared.halt.Halt.TheVariants.{Unreadable}
+use Rattle.sng_script.specs.declared.obstacle.Obstacle.TheVariants.{Unreadable}
 use Rattle.sng_script.specs.Input.{IsWithinLine}
 use Rattle.sng_script.proofs.InputLemmas.{is_front}
 use Rattle.sng_script.proofs.input.read_piece.Goals as goal

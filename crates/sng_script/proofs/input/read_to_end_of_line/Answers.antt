@@ -1,5 +1,5 @@
 use Rattle.std.proofs.Common.{◌≡◌, Err, rules}
-use Rattle.sng_script.specs.declared.halt.Halt.TheVariants.{Unreadable}
+use Rattle.sng_script.specs.declared.obstacle.Obstacle.TheVariants.{Unreadable}
 use Rattle.sng_script.proofs.InputLemmas.{is_too_long, last_line, whole_line}
 use Rattle.sng_script.proofs.input.read_to_end_of_line.Goals as goal
 

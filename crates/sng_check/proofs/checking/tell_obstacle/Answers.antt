@@ -1,5 +1,5 @@
 use Rattle.sng_check.proofs.Checked.{told_failure, told_memory, told_unreadable}
-use Rattle.sng_check.proofs.checking.tell_halt.Goals as goal
+use Rattle.sng_check.proofs.checking.tell_obstacle.Goals as goal
 
 pub returns-in-Unreadable : goal.returns-in-Unreadable
 returns-in-Unreadable g c = told_unreadable _ _ _ c.tell.ensures
