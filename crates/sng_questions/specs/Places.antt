@@ -8,14 +8,14 @@ use Rattle.sng_text.specs.declared.fault.TextFault.TheVariants as texts
 use Rattle.sng_text.specs.declared.limits.TheConstants.{MAX_CLIENT_ID, MAX_FILTER, MAX_NAME}
 use Rattle.sng_places.specs.declared.flaw.Flaw.{Flaw}
 use Rattle.sng_places.specs.declared.flaw.Flaw.TheVariants as flaws
-use Rattle.sng_places.specs.declared.place.Form.{Form}
-use Rattle.sng_places.specs.declared.place.Form.TheVariants.{Plain, Encoded}
-use Rattle.sng_places.specs.declared.place.Part.{Part}
-use Rattle.sng_places.specs.declared.place.Part.TheVariants.{Clients, Sources, Topics}
-use Rattle.sng_places.specs.declared.place.Place.{Place}
-use Rattle.sng_places.specs.declared.place.Place.TheVariants as places
-use Rattle.sng_places.specs.declared.place.Spot.{Spot}
-use Rattle.sng_places.specs.declared.place.Spot.TheVariants as spots
+use Rattle.sng_places.specs.declared.location.Form.{Form}
+use Rattle.sng_places.specs.declared.location.Form.TheVariants.{Plain, Encoded}
+use Rattle.sng_places.specs.declared.location.Part.{Part}
+use Rattle.sng_places.specs.declared.location.Part.TheVariants.{Clients, Sources, Topics}
+use Rattle.sng_places.specs.declared.location.Location.{Location}
+use Rattle.sng_places.specs.declared.location.Location.TheVariants as places
+use Rattle.sng_places.specs.declared.location.Spot.{Spot}
+use Rattle.sng_places.specs.declared.location.Spot.TheVariants as spots
 use Rattle.sng_places.specs.declared.position.Position.{Position}
 use Rattle.sng_places.specs.declared.stop.Found.{Found}
 use Rattle.sng_book.specs.Printing.{name_text}
@@ -47,7 +47,7 @@ form_text Encoded = codes " (decoded)"
 abbrev pub member_text : Part → List ℕ → List ℕ
 member_text part name = part_text part ++ (codes "." ++ name_text name)
 
-abbrev pub place_text : Place → List ℕ
+abbrev pub place_text : Location → List ℕ
 place_text places.Whole = codes "the policy"
 place_text places.Version = codes "version"
 place_text (places.Member name) = name_text name
@@ -116,7 +116,7 @@ client_text texts.Wildcard = codes "a wildcard"
 client_text texts.Memory = codes "out of memory"
 
 -- what is counted at a place
-abbrev pub unit_text : Place → List ℕ
+abbrev pub unit_text : Location → List ℕ
 unit_text places.Whole = codes "members"
 unit_text places.Version = codes "members"
 unit_text (places.Member name) = codes "members"
@@ -145,10 +145,10 @@ words_of flaws.TopicId = codes "not a topic id from 1 to 65534 in decimal withou
 words_of (flaws.TopicName text fault) = codes "not a topic name"
 words_of (flaws.TooMany count most) = codes "too many"
 
-abbrev pub many_text : Place → ℕ → ℕ → List ℕ
+abbrev pub many_text : Location → ℕ → ℕ → List ℕ
 many_text place count most = decimal count ++ (codes " " ++ (unit_text place ++ (codes ", at most " ++ decimal most)))
 
-abbrev pub flaw_text : Place → Flaw → List ℕ
+abbrev pub flaw_text : Location → Flaw → List ℕ
 flaw_text place flaws.NotJson = words_of flaws.NotJson
 flaw_text place flaws.NotObject = words_of flaws.NotObject
 flaw_text place flaws.NoVersion = words_of flaws.NoVersion
@@ -175,7 +175,7 @@ abbrev pub position_text : Position → List ℕ
 position_text position = codes "line " ++ (decimal position.line ++ (codes ", column " ++ decimal position.column))
 
 -- of the text as a whole the position is shown where it is not JSON
-abbrev pub where_text : Position → Place → Flaw → List ℕ
+abbrev pub where_text : Position → Location → Flaw → List ℕ
 where_text position places.Whole flaws.NotJson = position_text position
 where_text position place flaw = place_text place
 

@@ -7,8 +7,8 @@ use Rattle.sng_book.specs.Printing.{ip_text}
 use Rattle.sng_grants.specs.Topics.{id_of}
 use Rattle.sng_grants.specs.declared.policy.Policy.{Policy}
 use Rattle.sng_grants.specs.declared.scope.Pair.{Pair}
-use Rattle.sng_places.specs.declared.place.Part.TheVariants.{Clients}
-use Rattle.sng_places.specs.declared.place.Place.{Place}
+use Rattle.sng_places.specs.declared.location.Part.TheVariants.{Clients}
+use Rattle.sng_places.specs.declared.location.Location.{Location}
 use Rattle.sng_scope.specs.declared.fault.PolicyFault.{PolicyFault}
 use Rattle.sng_questions.specs.Places.{index_text, member_text, place_text}
 use Rattle.sng_questions.specs.Publishing.{may_publish}
@@ -17,10 +17,10 @@ use Rattle.sng_questions.specs.Redundant.{says_nothing_new}
 -- ---- lines
 
 -- the line of a member that stands more than once
-abbrev pub repeated_text : Place → List ℕ
+abbrev pub repeated_text : Location → List ℕ
 repeated_text place = codes "warning: " ++ (place_text place ++ (codes " stands more than once: " ++ codes "the last counts\n"))
 
-abbrev pub repeated_lines : List Place → List ℕ
+abbrev pub repeated_lines : List Location → List ℕ
 repeated_lines [] = []
 repeated_lines (place ∷ places) = repeated_text place ++ repeated_lines places
 
@@ -112,7 +112,7 @@ policy_lines policy =
 -- the lines are those of some members that stand more than once, of which a policy does not tell, and then
 -- those of the policy
 pub record AreWarnings (policy : Policy) (lines : List ℕ) : Type 0 where
-  pub repeated : List Place
+  pub repeated : List Location
   pub printed : lines ≡ repeated_lines repeated ++ policy_lines policy
 
 -- the lines are those of what was read of a text: of one that is refused there are none

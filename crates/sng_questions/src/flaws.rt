@@ -6,13 +6,13 @@ ghost use Rattle.sng_questions.specs.Places.{shown_text, quoted_text, level_text
 use crate::limits::MAX_SHOWN;
 use crate::places::push_part;
 use sng_book::print::{push_decimal, push_name};
-use sng_places::{Flaw, Place};
+use sng_places::{Flaw, Location};
 use sng_text::bytes::{has_byte, is_hash, is_ordinary};
 use sng_text::{Levels, MAX_CLIENT_ID, MAX_FILTER, MAX_NAME, TextFault};
 use std::alloc::AllocError;
 
 /// Appends what is wrong at the place.
-pub fn push_flaw(line: &mut Vec<u8>, place: &Place, flaw: &Flaw) -> Result<(), AllocError>
+pub fn push_flaw(line: &mut Vec<u8>, place: &Location, flaw: &Flaw) -> Result<(), AllocError>
     ensures { OnOk result (line.new.items ≡ line.old.items ++ flaw_text place.now flaw.now) }
 {
     match flaw {
@@ -73,7 +73,12 @@ fn words_of(flaw: &Flaw) -> &'static str
     }
 }
 
-fn push_many(line: &mut Vec<u8>, place: &Place, count: usize, most: usize) -> Result<(), AllocError>
+fn push_many(
+    line: &mut Vec<u8>,
+    place: &Location,
+    count: usize,
+    most: usize,
+) -> Result<(), AllocError>
     ensures { OnOk result (line.new.items ≡ line.old.items ++ many_text place.now count most) }
 {
     push_decimal(line, count as u64)?;
@@ -83,13 +88,15 @@ fn push_many(line: &mut Vec<u8>, place: &Place, count: usize, most: usize) -> Re
     push_decimal(line, most as u64)
 }
 
-fn push_unit(line: &mut Vec<u8>, place: &Place) -> Result<(), AllocError>
+fn push_unit(line: &mut Vec<u8>, place: &Location) -> Result<(), AllocError>
     ensures { OnOk result (line.new.items ≡ line.old.items ++ unit_text place.now) }
 {
     match place {
-        Place::Whole | Place::Version | Place::Member(_) => line.extend_from_slice(b"members"),
-        Place::Part(part) => push_part(line, *part),
-        Place::Name(_, _) | Place::Value(_, _, _, _) => line.extend_from_slice(b"pairs"),
+        Location::Whole | Location::Version | Location::Member(_) => line.extend_from_slice(
+            b"members",
+        ),
+        Location::Part(part) => push_part(line, *part),
+        Location::Name(_, _) | Location::Value(_, _, _, _) => line.extend_from_slice(b"pairs"),
     }
 }
 

@@ -4,7 +4,7 @@ ghost use Rattle.sng_questions.specs.Places.{part_text, index_text, spot_text, f
 
 use crate::flaws::push_flaw;
 use sng_book::print::{push_decimal, push_name};
-use sng_places::{Flaw, Form, Found, Part, Place, Position, Spot};
+use sng_places::{Flaw, Form, Found, Location, Part, Position, Spot};
 use std::alloc::AllocError;
 
 /// Appends the line of a fault. A text that is not JSON has it at this position.
@@ -21,13 +21,13 @@ pub fn push_found(line: &mut Vec<u8>, position: Position, found: &Found) -> Resu
 fn push_where(
     line: &mut Vec<u8>,
     position: Position,
-    place: &Place,
+    place: &Location,
     flaw: &Flaw,
 ) -> Result<(), AllocError>
     ensures { OnOk result (line.new.items ≡ line.old.items ++ where_text position place.now flaw.now) }
 {
     match (place, flaw) {
-        (Place::Whole, Flaw::NotJson) => push_position(line, position),
+        (Location::Whole, Flaw::NotJson) => push_position(line, position),
         (place, _) => push_place(line, place),
     }
 }
@@ -42,16 +42,16 @@ fn push_position(line: &mut Vec<u8>, position: Position) -> Result<(), AllocErro
 }
 
 /// Appends the place.
-pub fn push_place(line: &mut Vec<u8>, place: &Place) -> Result<(), AllocError>
+pub fn push_place(line: &mut Vec<u8>, place: &Location) -> Result<(), AllocError>
     ensures { OnOk result (line.new.items ≡ line.old.items ++ place_text place.now) }
 {
     match place {
-        Place::Whole => line.extend_from_slice(b"the policy"),
-        Place::Version => line.extend_from_slice(b"version"),
-        Place::Member(name) => push_name(line, name.as_slice()),
-        Place::Part(part) => push_part(line, *part),
-        Place::Name(part, name) => push_member(line, *part, name.as_slice()),
-        Place::Value(part, name, form, spot) => {
+        Location::Whole => line.extend_from_slice(b"the policy"),
+        Location::Version => line.extend_from_slice(b"version"),
+        Location::Member(name) => push_name(line, name.as_slice()),
+        Location::Part(part) => push_part(line, *part),
+        Location::Name(part, name) => push_member(line, *part, name.as_slice()),
+        Location::Value(part, name, form, spot) => {
             push_member(line, *part, name.as_slice())?;
             push_form(line, *form)?;
             push_spot(line, *spot)

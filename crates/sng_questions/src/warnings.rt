@@ -13,7 +13,7 @@ use crate::publishing::may_publish;
 use crate::redundant::says_nothing_new;
 use sng_book::print::push_decimal;
 use sng_grants::{Clients, Pair, Policy, Sources, Topics};
-use sng_places::{Part, Place, repeated_members};
+use sng_places::{Location, Part, repeated_members};
 use sng_script::policy_text::push_ip;
 use sng_text::TopicName;
 use std::alloc::{AllocError, Global};
@@ -35,7 +35,7 @@ pub fn warning_lines(alloc: Global, text: &[u8], policy: &Policy) -> Result<Vec<
 }
 
 /// Appends a line for each member that stands more than once.
-fn push_repeated(lines: &mut Vec<u8>, places: &[Place]) -> Result<(), AllocError>
+fn push_repeated(lines: &mut Vec<u8>, places: &[Location]) -> Result<(), AllocError>
     ensures { OnOk result (lines.new.items ≡ lines.old.items ++ repeated_lines places.now) }
 {
     for place in places {
@@ -44,7 +44,7 @@ fn push_repeated(lines: &mut Vec<u8>, places: &[Place]) -> Result<(), AllocError
     Ok(())
 }
 
-fn push_repeated_at(lines: &mut Vec<u8>, place: &Place) -> Result<(), AllocError>
+fn push_repeated_at(lines: &mut Vec<u8>, place: &Location) -> Result<(), AllocError>
     ensures { OnOk result (lines.new.items ≡ lines.old.items ++ repeated_text place.now) }
 {
     lines.extend_from_slice(b"warning: ")?;

@@ -35,7 +35,7 @@ pub enum Spot {
 
 /// A place in a policy text.
 #[derive(Debug, Drop)]
-pub enum Place {
+pub enum Location {
     /// The text as a whole.
     Whole,
     /// The version.
