@@ -4,7 +4,7 @@ use Rattle.sng_core.specs.declared.census.Census.{Census}
 use Rattle.sng_core.specs.declared.census.ClientCounts.{ClientCounts}
 use Rattle.sng_core.specs.declared.census.ListedCounts.{ListedCounts}
 use Rattle.sng_questions.specs.Places.{count_text}
-use Rattle.sng_operator.specs.declared.status.Standing.{Standing}
+use Rattle.sng_operator.specs.declared.status.Overview.{Overview}
 
 -- words, and a number at the end of the line
 abbrev pub last_text : List ℕ → ℕ → List ℕ
@@ -42,13 +42,13 @@ policy_text policy =
     count_text (codes "status policy: clients ") policy.clients
     ++ (count_text (codes ", sources ") policy.sources ++ last_text (codes ", topics ") policy.topics)
 
-abbrev pub rows_text : Standing → List ℕ
-rows_text standing =
-    count_text (codes "status rows: ") standing.rows
-    ++ last_text (codes ", left: ") (standing.limit - standing.rows)
+abbrev pub rows_text : Overview → List ℕ
+rows_text overview =
+    count_text (codes "status rows: ") overview.rows
+    ++ last_text (codes ", left: ") (overview.limit - overview.rows)
 
 -- the broker, the clients, what stands and waits for them, the policy, and the book: a line each
-abbrev pub status_text : Standing → List ℕ
-status_text standing =
-    broker_text standing.census ++ (clients_text standing.census.clients
-    ++ (waiting_text standing.census.clients ++ (policy_text standing.census.policy ++ rows_text standing)))
+abbrev pub status_text : Overview → List ℕ
+status_text overview =
+    broker_text overview.census ++ (clients_text overview.census.clients
+    ++ (waiting_text overview.census.clients ++ (policy_text overview.census.policy ++ rows_text overview)))
