@@ -2,7 +2,9 @@
 use crate::jobs::{NotDone, done};
 use crate::policies::{self, Edition};
 use sng_grants::{Clients, Policy, Sources};
-use sng_policy::{Grant, may_publish, may_receive, may_subscribe, same_scope, source_may_publish};
+use sng_policy::{
+    FilterGrant, NameGrant, may_publish, may_receive, may_subscribe, same_scope, source_may_publish,
+};
 use sng_scope::read_policy;
 use sng_text::{ClientId, TopicFilter, TopicName};
 use std::alloc::Global;
@@ -43,7 +45,7 @@ pub fn judge_times(alloc: Global, standing: Standing, times: u32) -> Result<u64,
         for (client, filters) in clients.iter().zip(&standing) {
             for filter in filters {
                 let grant = done(may_subscribe(alloc, &policy, client, filter))?;
-                total = total.wrapping_add(weight(&grant));
+                total = total.wrapping_add(filter_weight(&grant));
             }
         }
     }
@@ -73,12 +75,20 @@ fn policy(alloc: Global, edition: Edition) -> Result<Policy, NotDone> {
     done(read_policy(alloc, text.as_str().as_bytes()))
 }
 
-/// A number of the answer.
-fn weight(grant: &Grant) -> u64 {
+/// A number of the answer on a name.
+fn name_weight(grant: NameGrant) -> u64 {
     match grant {
-        Grant::Allowed => 1,
-        Grant::NoScope | Grant::UnknownSource | Grant::MissingPub | Grant::MissingSub => 2,
-        Grant::Uncovered(gap) => gap.text().len() as u64,
+        NameGrant::Allowed => 1,
+        NameGrant::Unlisted | NameGrant::Missing => 2,
+    }
+}
+
+/// A number of the answer on a filter.
+fn filter_weight(grant: &FilterGrant) -> u64 {
+    match grant {
+        FilterGrant::Allowed => 1,
+        FilterGrant::Unlisted => 2,
+        FilterGrant::Uncovered(gap) => gap.text().len() as u64,
     }
 }
 
@@ -149,7 +159,7 @@ pub fn publish_times(alloc: Global, times: u32) -> Result<u64, NotDone> {
     let policy = one_client(alloc, done(client.copy())?)?;
     let mut total: u64 = 0;
     for _ in 0..times {
-        total = total.wrapping_add(weight(&may_publish(&policy, &client, &name)));
+        total = total.wrapping_add(name_weight(may_publish(&policy, &client, &name)));
     }
     Ok(total)
 }
@@ -159,7 +169,7 @@ pub fn source_times(alloc: Global, times: u32) -> Result<u64, NotDone> {
     let policy = one_client(alloc, client(alloc)?)?;
     let mut total: u64 = 0;
     for _ in 0..times {
-        total = total.wrapping_add(weight(&source_may_publish(&policy, [10, 0, 0, 7], &name)));
+        total = total.wrapping_add(name_weight(source_may_publish(&policy, [10, 0, 0, 7], &name)));
     }
     Ok(total)
 }
@@ -170,7 +180,7 @@ pub fn receive_times(alloc: Global, times: u32) -> Result<u64, NotDone> {
     let policy = one_client(alloc, done(client.copy())?)?;
     let mut total: u64 = 0;
     for _ in 0..times {
-        total = total.wrapping_add(weight(&may_receive(&policy, &client, &name)));
+        total = total.wrapping_add(name_weight(may_receive(&policy, &client, &name)));
     }
     Ok(total)
 }
@@ -182,7 +192,7 @@ pub fn subscribe_times(alloc: Global, times: u32) -> Result<u64, NotDone> {
     let mut total: u64 = 0;
     for _ in 0..times {
         let grant = done(may_subscribe(alloc, &policy, &client, &filter))?;
-        total = total.wrapping_add(weight(&grant));
+        total = total.wrapping_add(filter_weight(&grant));
     }
     Ok(total)
 }
