@@ -12,6 +12,7 @@ mod places;
 mod publishing;
 mod redundant;
 pub mod report;
+mod ruling;
 pub mod short_name;
 mod warnings;
 

@@ -1,12 +1,13 @@
 //! What a policy text says to a question, for whoever writes policies.
 ghost use Rattle.std.specs.Prelude.{◌≡◌, ◌++◌, codes, IfOk, OnOk};
 ghost use Rattle.sng_scope.specs.Policies.{policy_of};
-ghost use Rattle.sng_questions.specs.Answers.{gap_text, grant_of, grant_status, grant_text, may_status, may_text};
+ghost use Rattle.sng_questions.specs.Answers.{gap_text, may_status, may_text, ruling_of, ruling_text};
 
 use crate::inquiry::Inquiry;
+use crate::ruling::{Ruling, publish_ruling, receive_ruling, source_ruling, subscribe_ruling};
 use sng_book::print::push_name;
 use sng_grants::Policy;
-use sng_policy::{Grant, may_publish, may_receive, may_subscribe, source_may_publish};
+use sng_policy::{may_publish, may_receive, may_subscribe, source_may_publish};
 use sng_scope::{PolicyFault, read_policy};
 use sng_script::Status;
 use sng_script::ending::end;
@@ -42,9 +43,9 @@ pub fn may_line(
     let mut line = Vec::new(alloc);
     match read_policy(alloc, text) {
         Ok(policy) => {
-            let grant = grant_of(alloc, &policy, inquiry)?;
-            push_grant(&mut line, &grant)?;
-            Ok((line, status_of(&grant)))
+            let ruling = ruling_of(alloc, &policy, inquiry)?;
+            push_ruling(&mut line, &ruling)?;
+            Ok((line, ruling.status()))
         }
         Err(PolicyFault::Memory) => Err(AllocError),
         Err(fault) => {
@@ -55,28 +56,32 @@ pub fn may_line(
 }
 
 /// What the policy says to the question. Only memory can fail.
-fn grant_of(alloc: Global, policy: &Policy, inquiry: &Inquiry) -> Result<Grant, AllocError>
-    ensures { IfOk result (λ grant. grant ≡ grant_of policy.now inquiry.now) }
+fn ruling_of(alloc: Global, policy: &Policy, inquiry: &Inquiry) -> Result<Ruling, AllocError>
+    ensures { IfOk result (λ ruling. ruling ≡ ruling_of policy.now inquiry.now) }
 {
     match inquiry {
-        Inquiry::Publish(client, name) => Ok(may_publish(policy, client, name)),
-        Inquiry::Receive(client, name) => Ok(may_receive(policy, client, name)),
-        Inquiry::Subscribe(client, filter) => may_subscribe(alloc, policy, client, filter),
-        Inquiry::SourcePublish(source, name) => Ok(source_may_publish(policy, *source, name)),
+        Inquiry::Publish(client, name) => Ok(publish_ruling(may_publish(policy, client, name))),
+        Inquiry::Receive(client, name) => Ok(receive_ruling(may_receive(policy, client, name))),
+        Inquiry::Subscribe(client, filter) => {
+            Ok(subscribe_ruling(may_subscribe(alloc, policy, client, filter)?))
+        }
+        Inquiry::SourcePublish(source, name) => {
+            Ok(source_ruling(source_may_publish(policy, *source, name)))
+        }
     }
 }
 
-/// Appends the line of a grant.
-fn push_grant(line: &mut Vec<u8>, grant: &Grant) -> Result<(), AllocError>
-    ensures { OnOk result (line.new.items ≡ line.old.items ++ grant_text grant.now) }
+/// Appends the line of what is said.
+fn push_ruling(line: &mut Vec<u8>, ruling: &Ruling) -> Result<(), AllocError>
+    ensures { OnOk result (line.new.items ≡ line.old.items ++ ruling_text ruling.now) }
 {
-    match grant {
-        Grant::Allowed => line.extend_from_slice(b"allowed\n"),
-        Grant::NoScope => line.extend_from_slice(b"denied NoScope\n"),
-        Grant::UnknownSource => line.extend_from_slice(b"denied UnknownSource\n"),
-        Grant::MissingPub => line.extend_from_slice(b"denied MissingPub\n"),
-        Grant::MissingSub => line.extend_from_slice(b"denied MissingSub\n"),
-        Grant::Uncovered(gap) => push_gap(line, gap.text()),
+    match ruling {
+        Ruling::Allowed => line.extend_from_slice(b"allowed\n"),
+        Ruling::NoScope => line.extend_from_slice(b"denied NoScope\n"),
+        Ruling::UnknownSource => line.extend_from_slice(b"denied UnknownSource\n"),
+        Ruling::MissingPub => line.extend_from_slice(b"denied MissingPub\n"),
+        Ruling::MissingSub => line.extend_from_slice(b"denied MissingSub\n"),
+        Ruling::Uncovered(gap) => push_gap(line, gap.text()),
     }
 }
 
@@ -93,18 +98,4 @@ fn push_line_feed(line: &mut Vec<u8>) -> Result<(), AllocError>
     ensures { OnOk result (line.new.items ≡ line.old.items ++ codes "\n") }
 {
     line.extend_from_slice(b"\n")
-}
-
-/// How the command comes out with this grant.
-fn status_of(grant: &Grant) -> Status
-    ensures { result ≡ grant_status grant.now }
-{
-    match grant {
-        Grant::Allowed => Status::Done,
-        Grant::NoScope
-        | Grant::UnknownSource
-        | Grant::MissingPub
-        | Grant::MissingSub
-        | Grant::Uncovered(_) => Status::Denied,
-    }
 }
