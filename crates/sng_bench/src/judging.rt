@@ -11,7 +11,7 @@ use std::alloc::Global;
 
 /// Filters that stand for a client when its policy is replaced.
 #[derive(Clone, Copy, Debug, PartialEq, Eq)]
-pub enum Standing {
+pub enum Coverage {
     /// Each is the filter of a pair itself, the K-th that of the 2K-th.
     Own,
     /// One pair grants each, with a wider filter: the K-th filter's is the 2K-th.
@@ -36,7 +36,7 @@ pub fn read_times(alloc: Global, times: u32) -> Result<u64, NotDone> {
 }
 
 /// Judges all filters that stand for the clients of the policy.
-pub fn judge_times(alloc: Global, standing: Standing, times: u32) -> Result<u64, NotDone> {
+pub fn judge_times(alloc: Global, standing: Coverage, times: u32) -> Result<u64, NotDone> {
     let policy = policy(alloc, Edition::First)?;
     let clients = clients(alloc)?;
     let standing = all_standing(alloc, standing)?;
@@ -104,7 +104,7 @@ fn clients(alloc: Global) -> Result<Vec<ClientId>, NotDone> {
 }
 
 /// The filters that stand for each client.
-fn all_standing(alloc: Global, standing: Standing) -> Result<Vec<Vec<TopicFilter>>, NotDone> {
+fn all_standing(alloc: Global, standing: Coverage) -> Result<Vec<Vec<TopicFilter>>, NotDone> {
     let mut all = Vec::new(alloc);
     for client in 0..policies::CLIENTS {
         done(all.push(standing_of(alloc, standing, client)?))?;
@@ -115,16 +115,16 @@ fn all_standing(alloc: Global, standing: Standing) -> Result<Vec<Vec<TopicFilter
 /// The filters that stand for one of them.
 fn standing_of(
     alloc: Global,
-    standing: Standing,
+    standing: Coverage,
     client: u32,
 ) -> Result<Vec<TopicFilter>, NotDone> {
     let mut filters = Vec::new(alloc);
     for number in 0..STANDING {
         let pair = 2 * number;
         let text = done(match standing {
-            Standing::Own => format!(in alloc; "plant/a{client}/d{pair}/+"),
-            Standing::Granted => format!(in alloc; "plant/a{client}/d{pair}/t"),
-            Standing::Denied => format!(in alloc; "plant/a{client}/e{number}/t"),
+            Coverage::Own => format!(in alloc; "plant/a{client}/d{pair}/+"),
+            Coverage::Granted => format!(in alloc; "plant/a{client}/d{pair}/t"),
+            Coverage::Denied => format!(in alloc; "plant/a{client}/e{number}/t"),
         })?;
         let filter = policies::filter(alloc, text.as_str())?;
         done(filters.push(filter))?;

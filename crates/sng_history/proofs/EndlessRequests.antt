@@ -63,7 +63,8 @@ denied_stays a x id (frame.PublishAck answer) = refl
 denied_stays a x id (frame.PublishComplete packet) = refl
 denied_stays a x id (frame.PublishReceived packet) = refl
 denied_stays a x id (frame.PublishRelease packet) = refl
-denied_stays a x id (frame.Subscribe request) = none_subscribed (subscribe_of a.cause) (Denied (Form NotSupported)) x
+denied_stays a x id (frame.Subscribe request) =
+    none_subscribed (subscribe_of a.cause) (Denied (Form NotSupported)) x
 denied_stays a x id (frame.SubscribeAck answer) = refl
 denied_stays a x id (frame.Unsubscribe request) = refl
 denied_stays a x id (frame.UnsubscribeAck packet) = refl
@@ -72,7 +73,8 @@ denied_stays a x id frame.PingResponse = refl
 denied_stays a x id (frame.Disconnect duration) = refl
 denied_stays a x id (frame.WillTopicUpdate topic) = denied_stated (statement_of a.cause) (Form NotSupported) x
 denied_stays a x id (frame.WillTopicResponse code) = refl
-denied_stays a x id (frame.WillMessageUpdate message) = denied_stated (statement_of a.cause) (Form NotSupported) x
+denied_stays a x id (frame.WillMessageUpdate message) =
+    denied_stated (statement_of a.cause) (Form NotSupported) x
 denied_stays a x id (frame.WillMessageResponse code) = refl
 
 -- one note of a client that was heard

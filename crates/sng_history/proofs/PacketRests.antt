@@ -71,7 +71,8 @@ not_free policy x is = let off : takes_messages x.phase ≡ false = takes_none x
 -- what is turned away moves nothing
 arrival_stays : (a : Around) (client name : List ℕ) (sendable full : Bool) (x : Client)
     → notes_by a (turned_away_by client name
-    (if sendable then (if full then Denied (Room (Full place.Queue)) else Allowed) else Denied (Room TooLong))) x ≡ x
+    (if sendable then (if full then Denied (Room (Full place.Queue)) else Allowed)
+    else Denied (Room TooLong))) x ≡ x
 arrival_stays a client name true true x = refl
 arrival_stays a client name true false x = refl
 arrival_stays a client name false full x = refl

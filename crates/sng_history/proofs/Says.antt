@@ -123,7 +123,9 @@ mute_unsupported from (frame.WillMessageResponse code) =
     record { notes = λ c. refl; exits = refl; asks = λ q. refl }
 
 unasked_bye : (from : Address) (p : Option Publish)
-    → asked_all p (Note (note.Publish (who.Address from) None (Denied (Form NoSession))) ∷ dismissed from ∷ []) ≡ []
+    → asked_all p
+    (Note (note.Publish (who.Address from) None (Denied (Form NoSession))) ∷ dismissed from ∷ [])
+    ≡ []
 unasked_bye from None = refl
 unasked_bye from (Some p) = refl
 

@@ -88,7 +88,8 @@ has_it true fits is = refl
 has_it false fits is = absurd cc
 
 -- and so does the room of a connection that is up
-pub up_room : (up : Bool) (o : Outcome) → (if up then o else Denied (Room UpstreamDown)) ≡ Allowed → o ≡ Allowed
+pub up_room : (up : Bool) (o : Outcome) → (if up then o else Denied (Room UpstreamDown)) ≡ Allowed
+    → o ≡ Allowed
 up_room true o is = is
 up_room false o is = absurd cc
 

@@ -24,8 +24,9 @@ use Rattle.sng_book.specs.declared.decision.Who.{Who}
 use Rattle.sng_book.specs.declared.outcome.Denial.{Denial}
 use Rattle.sng_book.specs.declared.outcome.Denial.TheVariants.{Form, Grant, Room, Peer}
 use Rattle.sng_book.specs.declared.outcome.FormDenial.{FormDenial}
-use Rattle.sng_book.specs.declared.outcome.FormDenial.TheVariants.{Malformed, NotSupported, NoSession, BadName}
-use Rattle.sng_book.specs.declared.outcome.FormDenial.TheVariants.{BadFilter, IdType, UnknownId, OutOfTurn}
+use Rattle.sng_book.specs.declared.outcome.FormDenial.TheVariants.{Malformed, NotSupported, NoSession}
+use Rattle.sng_book.specs.declared.outcome.FormDenial.TheVariants.{BadName, BadFilter, IdType}
+use Rattle.sng_book.specs.declared.outcome.FormDenial.TheVariants.{UnknownId, OutOfTurn}
 use Rattle.sng_book.specs.declared.outcome.RoomDenial.{RoomDenial}
 use Rattle.sng_book.specs.declared.outcome.RoomDenial.TheVariants.{UpstreamDown, Full, TooLong}
 use Rattle.sng_book.specs.declared.outcome.Outcome.TheVariants.{Denied}

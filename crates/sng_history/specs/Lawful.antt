@@ -101,7 +101,8 @@ ends_under policy client (h ∷ held) =
 -- the filter that the broker refuses ends for each client for whom it stands
 abbrev pub refused_end : Client → Option (List ℕ) → List Decision
 refused_end x None = []
-refused_end x (Some filter) = if holds filter x then note.End x.id filter (Denied (Peer BrokerRefused)) ∷ [] else []
+refused_end x (Some filter) =
+    if holds filter x then note.End x.id filter (Denied (Peer BrokerRefused)) ∷ [] else []
 
 -- what a CONNECT that is accepted makes of what waits for the client: a clean one drops it, and after any
 -- other it is handed over

@@ -205,7 +205,8 @@ stranger_to from (ToPing client) =
     Note (note.Frame (who.Address from) (Denied (Form NoSession))) ∷ dismissed from ∷ []
 stranger_to from (ToSleep duration) =
     Note (note.Frame (who.Address from) (Denied (Form NoSession))) ∷ dismissed from ∷ []
-stranger_to from ToLeave = Note (note.Frame (who.Address from) (Denied (Form NoSession))) ∷ dismissed from ∷ []
+stranger_to from ToLeave =
+    Note (note.Frame (who.Address from) (Denied (Form NoSession))) ∷ dismissed from ∷ []
 stranger_to from (ToRegister r) =
     Note (note.Register (who.Address from) None (Denied (Form NoSession))) ∷ dismissed from ∷ []
 stranger_to from (ToPublish p) =
@@ -214,7 +215,8 @@ stranger_to from (ToSubscribe r) =
     Note (note.Subscribe (who.Address from) None (Denied (Form NoSession))) ∷ dismissed from ∷ []
 stranger_to from (ToUnsubscribe r) =
     Note (note.Unsubscribe (who.Address from) None (Denied (Form NoSession))) ∷ dismissed from ∷ []
-stranger_to from (ToConfirm r) = Note (note.Frame (who.Address from) (Denied (Form NoSession))) ∷ dismissed from ∷ []
+stranger_to from (ToConfirm r) =
+    Note (note.Frame (who.Address from) (Denied (Form NoSession))) ∷ dismissed from ∷ []
 stranger_to from (ToAcknowledge r) =
     Note (note.Frame (who.Address from) (Denied (Form NoSession))) ∷ dismissed from ∷ []
 stranger_to from (ToState statement) =

@@ -1,6 +1,6 @@
-//! What the policy says, as an outcome: to a publish, to a message for a client, and to a subscription (RFC 9431,
-//! 2.3). Each judgement of a policy becomes a denial here. An `Err` is a failed allocation, for a denial that
-//! shows who asks, a name or a filter.
+//! What the policy says, as an outcome: to a publish, to a message for a client, and to a subscription (RFC
+//! 9431, 2.3). What a policy answers becomes a denial here alone. An `Err` is a failed allocation, for a
+//! denial that shows who asks, a name or a filter.
 ghost use Rattle.std.specs.Prelude.{◌≡◌, IfOk};
 ghost use Rattle.std.specs.Option.{option_copied};
 ghost use Rattle.sng_history.specs.Verdicts.{exit, coverage, name_outcome, filter_outcome, unlisted, missing};

@@ -1,5 +1,5 @@
 -- How each datagram is judged, noted and answered in a lawful history, in the views' words.
-use Rattle.std.specs.Prelude.{ℕ, ◌/◌, ◌%◌, ◌≡◌, ◌==◌, nat_lt, Bool, true, false, ◌&&◌, ◌||◌, not, List, []}
+use Rattle.std.specs.Prelude.{ℕ, ◌/◌, ◌%◌, ◌≡◌, ◌==◌, nat_lt, Bool, true, false, ◌&&◌, not, List, []}
 use Rattle.std.specs.Prelude.{◌∷◌, ◌++◌, filter, length, if◌then◌else◌, Option, Some, None, is_some, Ok, Err}
 use Rattle.std.specs.List.{flat_map}
 use Rattle.std.specs.Str.{bytes_eq}
@@ -23,7 +23,6 @@ use Rattle.sng_frames.specs.declared.return_code.TheConstants.ReturnCode.{ACCEPT
 use Rattle.sng_frames.specs.declared.return_code.TheConstants.ReturnCode.{INVALID_TOPIC_ID, NOT_SUPPORTED}
 use Rattle.sng_frames.specs.declared.frame.SnFrame.{SnFrame}
 use Rattle.sng_frames.specs.declared.frame.SnFrame.TheVariants as frame
-use Rattle.sng_book.specs.Denials.{number_of}
 use Rattle.sng_book.specs.declared.address.Address.{Address}
 use Rattle.sng_book.specs.declared.decision.Decision.TheVariants as note
 use Rattle.sng_book.specs.declared.decision.Who.TheVariants as who
@@ -91,12 +90,13 @@ welcome_to c to = if c.flags.will then Send to (written frame.WillTopicRequest) 
 abbrev pub bye : Address → Out
 bye to = Send to (written (frame.Disconnect None))
 
--- the ReturnCode of a rule, by its number: an id without a name is invalid, a connection that is down or a
--- full place is congestion, and any other rule is not supported (5.3.10)
+-- the ReturnCode of a rule: an id without a name is invalid, a connection that is down or a full place is
+-- congestion, and any other rule is not supported (5.3.10)
 abbrev pub code_for : Denial → ReturnCode
-code_for rule =
-    if number_of rule == 9 then INVALID_TOPIC_ID
-    else (if (number_of rule == 21) || (number_of rule == 22) then CONGESTION else NOT_SUPPORTED)
+code_for (Form (UnknownId kind id)) = INVALID_TOPIC_ID
+code_for (Room UpstreamDown) = CONGESTION
+code_for (Room (Full place)) = CONGESTION
+code_for other = NOT_SUPPORTED
 
 abbrev pub bye_at : Option ClientState → Option Address → Address → List Out
 bye_at None place from = []

@@ -80,7 +80,8 @@ regack to id r (Denied rule) = regack_to to 0 r (code_for rule)
 
 -- by nobody there is no session
 abbrev pub register_stranger : Address → List Out
-register_stranger from = Note (note.Register (who.Address from) None (Denied (Form NoSession))) ∷ bye from ∷ []
+register_stranger from =
+    Note (note.Register (who.Address from) None (Denied (Form NoSession))) ∷ bye from ∷ []
 
 -- of a client it is noted, with the name where the client may ask and names one, and REGACK answers
 abbrev pub register_answer : List Row → Address → Register → List ℕ → List Out
@@ -147,7 +148,10 @@ session_rules h id p =
     ∷ (is_untold told type p.topic_id, Form (UnknownId kind.Normal p.topic_id))
     ∷ (not (may_publish (scope_of policy.clients id) name), Grant (MissingPub name))
     ∷ (not (is_up h), Room UpstreamDown)
-    ∷ (is_acknowledged p.flags.qos && not (nat_lt (unacknowledged h) MAX_IN_FLIGHT), Room (Full place.InFlight))
+    ∷ (
+      is_acknowledged p.flags.qos && not (nat_lt (unacknowledged h) MAX_IN_FLIGHT),
+      Room (Full place.InFlight),
+    )
     ∷ (not (nat_lt (length (waiting h)) MAX_OUTBOX_ITEMS), Room (Full place.Outbox))
     ∷ []
 

@@ -82,5 +82,6 @@ clean_answer h c = map (λ end. Note note.Outbox) (untold h (stays_by c))
 -- the filter that it refuses ends for each client for whom it stands, in order
 abbrev pub refused_answer : List Row → List ℕ → List Out
 refused_answer h text =
-    flat_map (λ id. if stands (standing_of id h) text then Note (note.End id text (Denied (Peer BrokerRefused))) ∷ []
+    flat_map (λ id. if stands (standing_of id h) text
+    then Note (note.End id text (Denied (Peer BrokerRefused))) ∷ []
     else []) (accepted h)

@@ -120,7 +120,10 @@ room_rules h id type text =
       tells_id type text && (not (is_among text told) && not (nat_lt (length told) MAX_TOPIC_IDS)),
       Room (Full place.Ids),
     )
-    ∷ (not (stands held text) && not (nat_lt (length held) MAX_SUBSCRIPTIONS), Room (Full place.Subscriptions))
+    ∷ (
+      not (stands held text) && not (nat_lt (length held) MAX_SUBSCRIPTIONS),
+      Room (Full place.Subscriptions),
+    )
     ∷ (not (nat_lt (length (waiting h)) MAX_OUTBOX_ITEMS), Room (Full place.Outbox))
     ∷ []
 
@@ -163,7 +166,8 @@ suback to topic_id r (Denied rule) =
 
 -- by nobody it has no session
 abbrev pub subscribe_stranger : Address → List Out
-subscribe_stranger from = Note (note.Subscribe (who.Address from) None (Denied (Form NoSession))) ∷ bye from ∷ []
+subscribe_stranger from =
+    Note (note.Subscribe (who.Address from) None (Denied (Form NoSession))) ∷ bye from ∷ []
 
 -- of a client it is noted, with the filter where the client may ask and it names one, and answered
 abbrev pub subscribe_answer : List Row → Address → TopicRequest → List ℕ → List Out
@@ -178,7 +182,8 @@ subscribe_answer h from r id =
 
 -- what forbids an UNSUBSCRIBE of a client, in order: it needs no grant
 abbrev pub unsubscribe_rules : List Row → List ℕ → TopicRequest → List Rule
-unsubscribe_rules h id r = (not (is_active (phase_of id h)), Form OutOfTurn) ∷ form_rules (policy_in_force h) r
+unsubscribe_rules h id r =
+    (not (is_active (phase_of id h)), Form OutOfTurn) ∷ form_rules (policy_in_force h) r
 
 -- the filter ends for the active client at the address
 abbrev pub stays_without : List Row → Address → List ℕ → Stays
@@ -191,7 +196,8 @@ unsubscribed_note h from id (Some text) (Denied rule) = []
 unsubscribed_note h from id None outcome = []
 
 abbrev pub unsubscribe_stranger : Address → List Out
-unsubscribe_stranger from = Note (note.Unsubscribe (who.Address from) None (Denied (Form NoSession))) ∷ bye from ∷ []
+unsubscribe_stranger from =
+    Note (note.Unsubscribe (who.Address from) None (Denied (Form NoSession))) ∷ bye from ∷ []
 
 -- it is noted, and behind it where the broker is not told that its filter stands for nobody any more; and
 -- UNSUBACK answers

@@ -1,6 +1,6 @@
 -- What a client states of its will, as it is judged and answered, in the views' words (MQTT-SN 1.2, 5.4.6 to
 -- 5.4.9, 5.4.22 to 5.4.25, 6.3 and 6.4).
-use Rattle.std.specs.Prelude.{ℕ, ◌==◌, Bool, true, false, ◌&&◌, not, List, [], ◌∷◌, ◌++◌, is_some}
+use Rattle.std.specs.Prelude.{ℕ, Bool, true, false, ◌&&◌, not, List, [], ◌∷◌, ◌++◌, is_some}
 use Rattle.std.specs.Prelude.{if◌then◌else◌, Option, Some, None}
 use Rattle.std.specs.Option.{option_map}
 use Rattle.sng_text.specs.Texts.{is_name}
@@ -13,7 +13,6 @@ use Rattle.sng_frames.specs.Writing.{written}
 use Rattle.sng_frames.specs.declared.return_code.TheConstants.ReturnCode.{ACCEPTED}
 use Rattle.sng_frames.specs.declared.frame.SnFrame.{SnFrame}
 use Rattle.sng_frames.specs.declared.frame.SnFrame.TheVariants as frame
-use Rattle.sng_book.specs.Denials.{number_of}
 use Rattle.sng_book.specs.declared.address.Address.{Address}
 use Rattle.sng_book.specs.declared.decision.Decision.TheVariants as note
 use Rattle.sng_book.specs.declared.decision.Who.TheVariants as who
@@ -77,7 +76,8 @@ topic_rules policy id (Some text) =
 
 abbrev pub will_rules : List Row → List ℕ → Statement → List Rule
 will_rules h id statement =
-    (not (has_turn h id statement), Form OutOfTurn) ∷ topic_rules (policy_in_force h) id (topic_of h id statement)
+    (not (has_turn h id statement), Form OutOfTurn)
+    ∷ topic_rules (policy_in_force h) id (topic_of h id statement)
 
 -- the note names the topic where it was read: the client may ask, and it is a topic name
 abbrev pub is_read : Policy → List ℕ → Option (List ℕ) → Bool
@@ -92,7 +92,8 @@ topic_noted h id statement =
 -- ---- the row
 
 abbrev pub is_out_of_turn : Denial → Bool
-is_out_of_turn rule = number_of rule == 15
+is_out_of_turn (Form OutOfTurn) = true
+is_out_of_turn other = false
 
 -- in the dialogue a topic is answered by WILLMSGREQ and its end by CONNACK, with the code of the rule where
 -- one forbids it; what is out of turn is not answered. An update is answered by its own acknowledgement, also

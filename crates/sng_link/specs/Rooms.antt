@@ -26,7 +26,8 @@ place_by places = if places == 0 then Denied (denial.Room (Full place.Outbox)) e
 -- whether there is room for one more publish at this QoS
 abbrev pub room_by : Room → Qos → Outcome
 room_by room AtMostOnce = place_by room.places
-room_by room AtLeastOnce = if room.flights == 0 then Denied (denial.Room (Full place.InFlight)) else place_by room.places
+room_by room AtLeastOnce =
+    if room.flights == 0 then Denied (denial.Room (Full place.InFlight)) else place_by room.places
 
 -- the room that a publish takes which finds its place
 abbrev pub less : Room → Qos → Room

@@ -21,8 +21,8 @@ use std::{fmt, fs, io};
 /// More bytes than this no client id has: a character has four at most (RFC 3629).
 const MAX_ID_BYTES: usize = 4 * MAX_CLIENT_ID;
 
-/// The keep alive of the connection to the broker, in seconds (MQTT 3.1.1, 3.1.2.10): twice the time after which
-/// a PINGREQ is due, so that one that was lost is noticed in time.
+/// The keep alive of the connection to the broker, in seconds (MQTT 3.1.1, 3.1.2.10): twice the time after
+/// which a PINGREQ is due, so that one that was lost is noticed in time.
 const KEEP_ALIVE: u16 = (2 * PING_MS / 1000) as u16;
 
 /// The words of the command line.

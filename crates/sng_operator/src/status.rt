@@ -1,7 +1,9 @@
 //! What `status` prints: how a running gateway stands.
 ghost use Rattle.std.specs.Prelude.{◌≡◌, ◌++◌, OnOk};
 ghost use Rattle.sng_questions.specs.Places.{count_text};
-ghost use Rattle.sng_operator.specs.Overviews.{absent_text, broker_text, clients_text, last_text, present_text, up_text, waiting_text, policy_text, rows_text, status_text};
+ghost use Rattle.sng_operator.specs.Overviews.{absent_text, broker_text, clients_text, last_text};
+ghost use Rattle.sng_operator.specs.Overviews.{present_text, up_text, waiting_text, policy_text, rows_text};
+ghost use Rattle.sng_operator.specs.Overviews.{status_text};
 
 use sng_book::print::push_decimal;
 use sng_core::census::{Census, ClientCounts, ListedCounts};

@@ -10,7 +10,8 @@ use Rattle.sng_text.specs.ClientIds.{client_id_fault}
 use Rattle.sng_text.specs.Ipv4.{ipv4_of}
 use Rattle.sng_text.specs.Texts.{filter_fault, name_fault}
 use Rattle.sng_text.specs.declared.fault.TextFault.{TextFault}
-use Rattle.sng_grants.specs.declared.limits.TheConstants.{MAX_CLIENTS, MAX_PAIRS, MAX_SOURCES, MAX_TOPICS}
+use Rattle.sng_grants.specs.declared.limits.TheConstants.{MAX_POLICY_CLIENTS, MAX_PAIRS, MAX_SOURCES}
+use Rattle.sng_grants.specs.declared.limits.TheConstants.{MAX_TOPICS}
 use Rattle.sng_scope.specs.Numerals.{topic_id_of}
 use Rattle.sng_scope.specs.Policies.{is_known}
 use Rattle.sng_scope.specs.Scopes.{says}
@@ -296,9 +297,9 @@ part_by part most rule tests check (string text) are = refl
 part_by part most rule tests check (array ds) are = refl
 
 clients_part : (o : Option Data)
-    → clients_in o ≡ first (part_tests Clients MAX_CLIENTS IsClient scope_tests o)
+    → clients_in o ≡ first (part_tests Clients MAX_POLICY_CLIENTS IsClient scope_tests o)
 clients_part None = refl
-clients_part (Some d) = part_by Clients MAX_CLIENTS IsClient scope_tests clients_check d clients
+clients_part (Some d) = part_by Clients MAX_POLICY_CLIENTS IsClient scope_tests clients_check d clients
 
 sources_part : (o : Option Data)
     → sources_in o ≡ first (part_tests Sources MAX_SOURCES IsSource scope_tests o)
@@ -347,11 +348,11 @@ nested (Err stop) b c = refl
 all_parts : (d : Data)
     → clients_in (get (codes "clients") d) >>=
     (λ a. sources_in (get (codes "sources") d) >>= (λ b. topics_in (get (codes "topics") d)))
-    ≡ first (part_tests Clients MAX_CLIENTS IsClient scope_tests (get (codes "clients") d)
+    ≡ first (part_tests Clients MAX_POLICY_CLIENTS IsClient scope_tests (get (codes "clients") d)
     ++ (part_tests Sources MAX_SOURCES IsSource scope_tests (get (codes "sources") d)
     ++ part_tests Topics MAX_TOPICS IsTopicId topic_tests (get (codes "topics") d)))
 all_parts d =
-    joined _ _ (part_tests Clients MAX_CLIENTS IsClient scope_tests (get (codes "clients") d)) _
+    joined _ _ (part_tests Clients MAX_POLICY_CLIENTS IsClient scope_tests (get (codes "clients") d)) _
     (clients_part (get (codes "clients") d))
     (joined _ _ (part_tests Sources MAX_SOURCES IsSource scope_tests (get (codes "sources") d)) _
     (sources_part (get (codes "sources") d))

@@ -5,7 +5,8 @@ use Rattle.std.proofs.lemmas.List.Elements.{All-nil, All-cons, All-append}
 use Rattle.serde_json.specs.Data.{Data, null, boolean, number, string, array, object, Items, no_items, item}
 use Rattle.serde_json.specs.Data.{Members, no_members, member}
 use Rattle.serde_json.specs.Find.{at, get, get_item}
-use Rattle.sng_grants.specs.declared.limits.TheConstants.{MAX_CLIENTS, MAX_PAIRS, MAX_SOURCES, MAX_TOPICS}
+use Rattle.sng_grants.specs.declared.limits.TheConstants.{MAX_POLICY_CLIENTS, MAX_PAIRS, MAX_SOURCES}
+use Rattle.sng_grants.specs.declared.limits.TheConstants.{MAX_TOPICS}
 use Rattle.sng_scope.specs.declared.fault.PolicyFault.{PolicyFault}
 use Rattle.sng_places.specs.Order.{Rule, HasVersion, HoldsJson, IsArray, IsAtMost, IsClient, IsEncoded}
 use Rattle.sng_places.specs.Order.{IsFilter, IsKnown, IsObject, IsOne, IsPair, IsPermission, IsScope}
@@ -213,7 +214,8 @@ known d (member name e ms) has =
 
 pub values_stand : ValuesStand
 values_stand d =
-    let clients : List Test = part_tests Clients MAX_CLIENTS IsClient scope_tests (get (codes "clients") d) in
+    let clients : List Test = part_tests Clients MAX_POLICY_CLIENTS IsClient scope_tests (get
+    (codes "clients") d) in
     let sources : List Test = part_tests Sources MAX_SOURCES IsSource scope_tests (get (codes "sources") d) in
     let topics : List Test = part_tests Topics MAX_TOPICS IsTopicId topic_tests (get (codes "topics") d) in
     let versions : List Test = version_tests (get (codes "version") d) in
@@ -224,7 +226,7 @@ values_stand d =
     (both d versions (names ++ (clients ++ (sources ++ topics))) (version d (get (codes "version") d) refl)
     (both d names (clients ++ (sources ++ topics)) (known d (members_in d) (λ name e has. has))
     (both d clients (sources ++ topics)
-    (in_part d Clients MAX_CLIENTS IsClient scope_tests (scope d) (get (codes "clients") d) refl)
+    (in_part d Clients MAX_POLICY_CLIENTS IsClient scope_tests (scope d) (get (codes "clients") d) refl)
     (both d sources topics (in_part d Sources MAX_SOURCES IsSource scope_tests (scope d)
     (get (codes "sources") d) refl)
     (in_part d Topics MAX_TOPICS IsTopicId topic_tests (topic d) (get (codes "topics") d) refl))))))

@@ -10,7 +10,8 @@ use Rattle.serde_json.specs.Find.{get, as_array, as_number, as_object, as_str, a
 use Rattle.sng_text.specs.ClientIds.{client_id_fault}
 use Rattle.sng_text.specs.Ipv4.{ipv4_of}
 use Rattle.sng_text.specs.Texts.{filter_fault, name_fault}
-use Rattle.sng_grants.specs.declared.limits.TheConstants.{MAX_CLIENTS, MAX_PAIRS, MAX_SOURCES, MAX_TOPICS}
+use Rattle.sng_grants.specs.declared.limits.TheConstants.{MAX_POLICY_CLIENTS, MAX_PAIRS, MAX_SOURCES}
+use Rattle.sng_grants.specs.declared.limits.TheConstants.{MAX_TOPICS}
 use Rattle.sng_scope.specs.Numerals.{topic_id_of}
 use Rattle.sng_scope.specs.Policies.{is_known}
 use Rattle.sng_scope.specs.Scopes.{says}
@@ -223,6 +224,6 @@ tests_of d =
     ∷ test places.Whole HasVersion d
     ∷ (version_tests (get (codes "version") d)
     ++ (known_tests (members_in d)
-    ++ (part_tests Clients MAX_CLIENTS IsClient scope_tests (get (codes "clients") d)
+    ++ (part_tests Clients MAX_POLICY_CLIENTS IsClient scope_tests (get (codes "clients") d)
     ++ (part_tests Sources MAX_SOURCES IsSource scope_tests (get (codes "sources") d)
     ++ part_tests Topics MAX_TOPICS IsTopicId topic_tests (get (codes "topics") d)))))

@@ -8,7 +8,7 @@ use Rattle.serde_json.specs.Find.{get, as_object, as_str}
 use Rattle.sng_text.specs.ClientIds.{client_id_fault}
 use Rattle.sng_text.specs.Ipv4.{ipv4_of}
 use Rattle.sng_text.specs.Texts.{name_fault}
-use Rattle.sng_grants.specs.declared.limits.TheConstants.{MAX_CLIENTS, MAX_SOURCES, MAX_TOPICS}
+use Rattle.sng_grants.specs.declared.limits.TheConstants.{MAX_POLICY_CLIENTS, MAX_SOURCES, MAX_TOPICS}
 use Rattle.sng_scope.specs.Numerals.{topic_id_of}
 use Rattle.sng_scope.specs.Policies.{is_known, is_version_one}
 use Rattle.sng_scope.specs.Steps.{◌>>=◌}
@@ -91,7 +91,7 @@ part_within part most d =
 -- what is absent is empty
 abbrev pub clients_in : Option Data → Result Unit Stop
 clients_in None = Ok tt
-clients_in (Some d) = part_within Clients MAX_CLIENTS d >>= clients_check
+clients_in (Some d) = part_within Clients MAX_POLICY_CLIENTS d >>= clients_check
 
 abbrev pub sources_in : Option Data → Result Unit Stop
 sources_in None = Ok tt

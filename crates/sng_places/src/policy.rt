@@ -10,7 +10,7 @@ use crate::entries::{check_clients, check_sources, check_topics};
 use crate::text::octets;
 use crate::{Flaw, Location, Part, Stop};
 use serde_json::{Map, Value};
-use sng_grants::{MAX_CLIENTS, MAX_SOURCES, MAX_TOPICS};
+use sng_grants::{MAX_POLICY_CLIENTS, MAX_SOURCES, MAX_TOPICS};
 use sng_scope::{PolicyFault, is_known, is_version_one, value_from};
 use std::alloc::Global;
 
@@ -96,7 +96,7 @@ fn check_clients_in(alloc: Global, policy: &Value) -> Result<(), Stop>
 {
     match policy.get("clients") {
         None => Ok(()),
-        Some(part) => check_clients(alloc, part_within(Part::Clients, MAX_CLIENTS, part)?),
+        Some(part) => check_clients(alloc, part_within(Part::Clients, MAX_POLICY_CLIENTS, part)?),
     }
 }
 

@@ -152,7 +152,8 @@ each pairs filter (inr uncovered) = let no : Allowed ≡ Uncovered uncovered.0 =
 
 allowed_names : (scope : Option (List Pair)) (filter : List ℕ) → is_filter filter ≡ true → HasFilters scope
     → subscribe_by scope filter ≡ Allowed
-    → (name : List ℕ) → is_name name ≡ true → matches filter name ≡ true → received scope name ≡ on_name.Allowed
+    → (name : List ℕ) → is_name name ≡ true → matches filter name ≡ true → received scope name
+    ≡ on_name.Allowed
 allowed_names None filter is have allowed name named matching = absurd (cc)
 allowed_names (Some pairs) filter is have allowed name named matching =
     let says : SaysOfFilter (Some pairs) filter Allowed =

@@ -55,7 +55,8 @@ HasFilters (Some pairs) = All (λ filter. is_filter filter ≡ true) (subscribed
 
 -- the answers on subscriptions
 abbrev pub SubscriptionsAreExact : Type 0
-SubscriptionsAreExact = (policy : Policy) (client filter : List ℕ) (grant : FilterGrant) → is_filter filter ≡ true
+SubscriptionsAreExact =
+    (policy : Policy) (client filter : List ℕ) (grant : FilterGrant) → is_filter filter ≡ true
     → HasFilters (scope_of policy.clients client)
     → (subscribe_grant policy client filter ≡ grant)
     ↔ SaysOfFilter (scope_of policy.clients client) filter grant
@@ -65,7 +66,8 @@ SubscriptionsAreExact = (policy : Policy) (client filter : List ℕ) (grant : Fi
 pub record JoinsReceiving (policy : Policy) (client filter : List ℕ) (grant : FilterGrant) : Type 0 where
   pub allowed : grant ≡ on_filter.Allowed → (name : List ℕ) → is_name name ≡ true → matches filter name ≡ true
       → receive_grant policy client name ≡ on_name.Allowed
-  pub uncovered : (gap : List ℕ) → grant ≡ on_filter.Uncovered gap → (is_name gap ≡ true) × (matches filter gap ≡ true)
+  pub uncovered : (gap : List ℕ) → grant ≡ on_filter.Uncovered gap
+      → (is_name gap ≡ true) × (matches filter gap ≡ true)
       × (receive_grant policy client gap ≡ on_name.Missing)
 
 abbrev pub SubscribingIsReceiving : Type 0

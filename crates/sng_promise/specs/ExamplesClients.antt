@@ -193,7 +193,8 @@ abbrev pub untold : List Row
 untold =
     row (Datagram home publish_9)
     (Note (Publish (who.Client s1) None (Denied (Form (UnknownId Normal 9)))) ∷ refused_9 ∷ [])
-    ∷ row (Datagram home register_t2) (registers t2 (Denied (Grant (MissingPub t2))) ∷ unregistered_t2 ∷ []) ∷ told_t1
+    ∷ row (Datagram home register_t2) (registers t2 (Denied (Grant (MissingPub t2))) ∷ unregistered_t2
+    ∷ []) ∷ told_t1
 
 -- it publishes, and the publish leaves and is in flight
 abbrev pub asked_t1 : List Row

@@ -57,7 +57,8 @@ will_asked =
 -- a topic that is not granted ends the dialogue, and the client leaves
 abbrev pub will_refused : List Row
 will_refused =
-    row (Datagram home topic_t2) (states t2 (Denied (Grant (MissingPub t2))) ∷ refusal home ∷ Note (Left s1) ∷ [])
+    row (Datagram home topic_t2) (states t2 (Denied (Grant (MissingPub t2))) ∷ refusal home
+    ∷ Note (Left s1) ∷ [])
     ∷ will_asked
 
 -- one that is granted lets the message be asked for, and with that the client is let in

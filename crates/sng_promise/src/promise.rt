@@ -61,7 +61,8 @@ pub fn the_unlisted_are_refused()
         → Stands opening.policy (note.Subscribe (who.Client id) (Some text) Allowed) → ⊥ }
     ensures connects { (id : List ℕ) → Stands opening.policy (note.Connect id Allowed) → ⊥ }
     ensures rule { (id : List ℕ) → (name : List ℕ)
-        → Stands opening.policy (note.Publish (who.Client id) (Some name) (Denied (Grant (MissingPub name)))) → ⊥ }
+        → Stands opening.policy
+        (note.Publish (who.Client id) (Some name) (Denied (Grant (MissingPub name)))) → ⊥ }
     ensures room { (id : List ℕ) → (name : List ℕ)
         → Stands opening.policy (note.Publish (who.Client id) (Some name) (Denied (Room UpstreamDown))) → ⊥ }
     ensures unnoted { (to : Address) → (message : SnFrame) → is_topical message ≡ true

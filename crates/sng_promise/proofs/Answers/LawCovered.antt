@@ -63,7 +63,8 @@ covered_exactly h id r text may meant have =
     let more = gap_rule policy id text ∷ room_rules h id r.flags.id_type text in
     let same : or_empty (filter_meant policy r.flags.id_type r.topic) ≡ text = ap or_empty meant in
     let outcome : judged (subscribe_rules h id r) ≡ judged more =
-    ap (λ t. judged ((not (is_active (phase_of id h)), Form OutOfTurn) ∷ (not (lists policy id), Grant (NoScope id))
+    ap (λ t. judged ((not (is_active (phase_of id h)), Form OutOfTurn)
+    ∷ (not (lists policy id), Grant (NoScope id))
     ∷ (form_rules policy r ++ gap_rule policy id t ∷ room_rules h id r.flags.id_type t))) same
     ∙ outcome_of (is_active (phase_of id h)) (lists policy id) (form_rules policy r) more (Form OutOfTurn)
     (Grant (NoScope id)) both.0 both.1 (meant_form policy r text meant)

@@ -97,7 +97,8 @@ sleep_row h s from duration st =
 
 -- what waits for a client is gone
 pub gone_spelled : (a : Around) (dropped : List Release) (id : List ℕ) (waiting : List Message) (x : Client)
-    → spell a dropped x (all_gone id waiting) ≡ map (λ m. Note (note.Hand id m.name (Denied (Peer Gone)))) waiting
+    → spell a dropped x (all_gone id waiting)
+    ≡ map (λ m. Note (note.Hand id m.name (Denied (Peer Gone)))) waiting
 gone_spelled a dropped id [] x = refl
 gone_spelled a dropped id (m ∷ more) x =
     ap (λ outs. Note (note.Hand id m.name (Denied (Peer Gone))) ∷ outs)

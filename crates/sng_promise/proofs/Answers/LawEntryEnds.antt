@@ -65,7 +65,8 @@ ruled : (id : List ℕ) (p l k r : Bool)
     → and_then (if p then Allowed else Denied (Form NotSupported))
     (and_then (if l then Allowed else Denied (Grant (NoScope id)))
     (if k || r then Allowed else Denied (Room (Full place.Clients))))
-    ≡ judged ((not p, Form NotSupported) ∷ (not l, Grant (NoScope id)) ∷ (not k && not r, Room (Full place.Clients)) ∷ [])
+    ≡ judged ((not p, Form NotSupported) ∷ (not l, Grant (NoScope id))
+    ∷ (not k && not r, Room (Full place.Clients)) ∷ [])
 ruled id false l k r = refl
 ruled id true false k r = refl
 ruled id true true true r = refl
@@ -91,7 +92,8 @@ gone_by : (h : List Row) (s : State) (from : Address) (c : Connect) (x : Client)
 gone_by h s from c x shown =
     ap (λ outs. Note (note.Left x.id) ∷ outs)
     (gone_spelled (around s (ByConnect from c)) [] x.id x.buffer.waiting (gone (heard_if true s.clock x)))
-    ∙ ap (λ waiting. Note (note.Left x.id) ∷ map (λ m. Note (note.Hand x.id m.name (Denied (Peer Gone)))) waiting)
+    ∙ ap (λ waiting. Note (note.Left x.id)
+    ∷ map (λ m. Note (note.Hand x.id m.name (Denied (Peer Gone)))) waiting)
     shown.waiting
 
 other_by : (h : List Row) (s : State) (from : Address) (c : Connect) (x : Client) (own here : Bool)

@@ -116,17 +116,20 @@ none_out s sent [] = refl
 none_out s sent (x ∷ xs) = none_out s sent xs
 
 end_if : (s : State) (sent : Packet) (x : Client) (text : List ℕ) (b : Bool)
-    → spell (around s (ByPacket sent)) [] x (if b then note.End x.id text (Denied (Peer BrokerRefused)) ∷ [] else [])
+    → spell (around s (ByPacket sent)) [] x (if b then note.End x.id text (Denied (Peer BrokerRefused))
+    ∷ [] else [])
     ≡ (if b then Note (note.End x.id text (Denied (Peer BrokerRefused))) ∷ [] else [])
 end_if s sent x text true = refl
 end_if s sent x text false = refl
 
 end_out : (h : List Row) (s : State) (sent : Packet) (text : List ℕ) (x : Client) → ClientShown h x
     → ends_out s sent (Some text) x
-    ≡ (if stands (standing_of x.id h) text then Note (note.End x.id text (Denied (Peer BrokerRefused))) ∷ [] else [])
+    ≡ (if stands (standing_of x.id h) text then Note (note.End x.id text (Denied (Peer BrokerRefused)))
+    ∷ [] else [])
 end_out h s sent text x shown =
     end_if s sent x text (holds text x)
-    ∙ ap (λ held. if stands held text then Note (note.End x.id text (Denied (Peer BrokerRefused))) ∷ [] else [])
+    ∙ ap (λ held. if stands held text then Note (note.End x.id text (Denied (Peer BrokerRefused))) ∷ []
+    else [])
     shown.filters
 
 refused_out : (h : List Row) (s : State) (sent : Packet) (text : Option (List ℕ)) → StateShown h s

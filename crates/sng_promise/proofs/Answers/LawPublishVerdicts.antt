@@ -45,7 +45,8 @@ use Rattle.sng_promise.proofs.Answers.LawRules.{listed_exit}
 -- what forbids a publish under a name
 abbrev name_table : List ℕ → Bool → Bool → Bool → Bool → List Rule
 name_table name g u f r =
-    (not g, Grant (MissingPub name)) ∷ (not u, Room UpstreamDown) ∷ (f, Room (Full place.InFlight)) ∷ (not r, Room (Full place.Outbox))
+    (not g, Grant (MissingPub name)) ∷ (not u, Room UpstreamDown) ∷ (f, Room (Full place.InFlight))
+    ∷ (not r, Room (Full place.Outbox))
     ∷ []
 
 name_judged : (name : List ℕ) (g u f r : Bool)

@@ -56,7 +56,8 @@ most_by n m = grind (arith, nat_tests)
 -- the note of a REGISTER, by what the rules ask
 abbrev register_table : List ℕ → List ℕ → Bool → Bool → Bool → Bool → Bool → List Rule
 register_table id name a l n g f =
-    (not a, Form OutOfTurn) ∷ (not l, Grant (NoScope id)) ∷ (not n, Form BadName) ∷ (not g, Grant (MissingPub name))
+    (not a, Form OutOfTurn) ∷ (not l, Grant (NoScope id)) ∷ (not n, Form BadName)
+    ∷ (not g, Grant (MissingPub name))
     ∷ (f, Room (Full place.Ids)) ∷ []
 
 register_said : (policy : Policy) (x : Client) (text : List ℕ) (a l n g f : Bool) → is_active x.phase ≡ a

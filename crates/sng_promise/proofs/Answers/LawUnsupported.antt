@@ -59,7 +59,8 @@ unsupported_part : (s : State) (from : Address) (message : SnFrame) (dropped : L
     → is_unsupported message ≡ true → (b ≡ true → x.address ≡ from)
     → is_drained x ≡ false
     → let a = by_cause s (ByMessage from (Untaken message)) in
-    let notes : List Decision = if b then denied_note message (who.Client x.id) (Form NotSupported) ∷ [] else [] in
+    let notes : List Decision = if b then denied_note message (who.Client x.id) (Form NotSupported) ∷ []
+    else [] in
     (if b then [] else []) ++ (spell a dropped (heard_if b s.clock x) notes
     ++ drained_outs (notes_by a notes (heard_if b s.clock x)))
     ≡ (if b then unsupported_answer from message x.id else [])

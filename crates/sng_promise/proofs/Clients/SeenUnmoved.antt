@@ -156,7 +156,8 @@ refused_unseen : (a : Around) (x : Client) (text : Option (List ℕ)) → Every 
 refused_unseen a x None = tt
 refused_unseen a x (Some text) = by_held (holds text x)
   where
-    by_held : (b : Bool) → Every (Unseen a) (if b then note.End x.id text (Denied (Peer BrokerRefused)) ∷ [] else [])
+    by_held : (b : Bool)
+        → Every (Unseen a) (if b then note.End x.id text (Denied (Peer BrokerRefused)) ∷ [] else [])
     by_held true = (
       record {
         phase = λ m id before. refl;

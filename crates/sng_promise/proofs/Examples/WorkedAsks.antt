@@ -64,7 +64,8 @@ knowing_is =
     ap (λ s. then s (Datagram home register_t1) (registers t1 Allowed ∷ registered_t1 ∷ [])) inside_is
 
 abbrev refusing : State → State
-refusing s = then s (Datagram home register_t2) (registers t2 (Denied (Grant (MissingPub t2))) ∷ unregistered_t2 ∷ [])
+refusing s =
+    then s (Datagram home register_t2) (registers t2 (Denied (Grant (MissingPub t2))) ∷ unregistered_t2 ∷ [])
 
 abbrev asking : State → State
 asking s = then s (Datagram home publish_t1) (asks_t1 Allowed ∷ accepted_t1 ∷ [])

@@ -126,8 +126,10 @@ full_by : (n m : ℕ) → nat_le m n ≡ not (nat_lt n m)
 full_by n m = grind (arith, nat_tests)
 
 arrival_if : (sendable room : Bool)
-    → (if sendable then (if not room then Denied (Room (Full place.Queue)) else Allowed) else Denied (Room TooLong))
-    ≡ (if not sendable then Denied (Room TooLong) else (if not room then Denied (Room (Full place.Queue)) else Allowed))
+    → (if sendable then (if not room then Denied (Room (Full place.Queue)) else Allowed)
+    else Denied (Room TooLong))
+    ≡ (if not sendable then Denied (Room TooLong)
+    else (if not room then Denied (Room (Full place.Queue)) else Allowed))
 arrival_if true room = refl
 arrival_if false room = refl
 

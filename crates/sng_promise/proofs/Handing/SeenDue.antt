@@ -144,7 +144,8 @@ end_back : (x : Client) (f : Option (List ℕ)) → is_back x.id (refused_end x 
 end_back x None = refl
 end_back x (Some text) = by_holding (holds text x)
   where
-    by_holding : (b : Bool) → is_back x.id (if b then note.End x.id text (Denied (Peer BrokerRefused)) ∷ [] else [])
+    by_holding : (b : Bool)
+        → is_back x.id (if b then note.End x.id text (Denied (Peer BrokerRefused)) ∷ [] else [])
         ≡ false
     by_holding true = refl
     by_holding false = refl

@@ -184,6 +184,7 @@ gone_moved a id due (m ∷ more) v x empty none settling telling given = (
       (come_out v m.name (Denied (Peer Gone)))
       (note_by a (note.Hand id m.name (Denied (Peer Gone))) x) (record x { buffer = nothing })
       (view_denied a id due m.name (Peer Gone) v refl) (gone_client a m.name x empty)
-      (gone_moved a id due more (come_out v m.name (Denied (Peer Gone))) (record x { buffer = nothing }) refl refl
+      (gone_moved a id due more (come_out v m.name (Denied (Peer Gone))) (record x { buffer = nothing })
+      refl refl
       (settling_next due v.progress.settled v.settled m more (Denied (Peer Gone)) settling) telling given),
 )

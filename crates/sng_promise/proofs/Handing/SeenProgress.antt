@@ -61,7 +61,8 @@ sendable_by : (full sendable : Bool) (rule : Denial)
 sendable_by true true rule is =
     let e : Room (Full place.Queue) ≡ rule = cc in subst (λ r. is_turned_away r ≡ true) e refl
 sendable_by false true rule is = absurd cc
-sendable_by full false rule is = let e : Room TooLong ≡ rule = cc in subst (λ r. is_turned_away r ≡ true) e refl
+sendable_by full false rule is =
+    let e : Room TooLong ≡ rule = cc in subst (λ r. is_turned_away r ≡ true) e refl
 
 pub refused_rule : (b : Buffer) (m : Message) (rule : Denial) → arrival b m ≡ Denied rule
     → is_turned_away rule ≡ true

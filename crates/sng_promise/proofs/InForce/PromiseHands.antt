@@ -46,7 +46,8 @@ AsDenied policy id name (Denied rule) = IsDenial policy id name rule
 denial_by : (policy : Policy) (id name : List ℕ) (unlisted unmatched : Bool)
     → judged (receive_rules policy id name)
     ≡ judged ((unlisted, Grant (NoScope id)) ∷ (unmatched, Grant (MissingSub name)) ∷ [])
-    → AsDenied policy id name (judged ((unlisted, Grant (NoScope id)) ∷ (unmatched, Grant (MissingSub name)) ∷ []))
+    → AsDenied policy id name (judged ((unlisted, Grant (NoScope id))
+    ∷ (unmatched, Grant (MissingSub name)) ∷ []))
 denial_by policy id name true unmatched is = is
 denial_by policy id name false true is = is
 denial_by policy id name false false is = tt
@@ -111,7 +112,8 @@ every_away policy id (Some m) b =
   where
     away_by : (sendable full : Bool)
         → Every (Stands policy)
-        (turned_away_by id m.name (if sendable then (if full then Denied (Room (Full place.Queue)) else Allowed)
+        (turned_away_by id m.name (if sendable
+        then (if full then Denied (Room (Full place.Queue)) else Allowed)
         else Denied (Room TooLong)))
     away_by true true = (tt, tt)
     away_by true false = tt

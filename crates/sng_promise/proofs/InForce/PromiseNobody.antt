@@ -156,7 +156,8 @@ each_dropped policy true (Some packet_id) = tt
 each_dropped policy false (Some packet_id) = (tt, tt)
 
 each_delivered : (policy : Policy) (named place : Bool) (packet_id : Option ℕ)
-    → EachNote (Stands policy) ((if named then [] else Note (note.Frame who.Broker (Denied (Form BadName))) ∷ [])
+    → EachNote (Stands policy) ((if named then [] else Note (note.Frame who.Broker (Denied (Form BadName)))
+    ∷ [])
     ++ dropped place packet_id)
 each_delivered policy true place packet_id = each_dropped policy place packet_id
 each_delivered policy false place packet_id = ((refl, refl), each_dropped policy place packet_id)

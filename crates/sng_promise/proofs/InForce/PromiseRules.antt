@@ -46,10 +46,12 @@ pub publish_own : (policy : Policy) (asker : Origin) (name : List ℕ)
     → IsOwn (judged (publish_rules policy asker name))
 publish_own policy (origin.Client id) name =
     let scope = scope_of policy.clients id in
-    two_own (not (is_some scope)) (not (may_publish scope name)) (Grant (NoScope id)) (Grant (MissingPub name)) refl refl
+    two_own (not (is_some scope)) (not (may_publish scope name)) (Grant (NoScope id))
+    (Grant (MissingPub name)) refl refl
 publish_own policy (origin.Source ip) name =
     let scope = scope_of policy.sources ip in
-    two_own (not (is_some scope)) (not (may_publish scope name)) (Grant UnknownSource) (Grant (MissingPub name)) refl refl
+    two_own (not (is_some scope)) (not (may_publish scope name)) (Grant UnknownSource)
+    (Grant (MissingPub name)) refl refl
 
 -- ---- room
 

@@ -73,7 +73,8 @@ place_by true = refl
 place_by false = refl
 
 room_both : (f r : Bool)
-    → (if f then (if r then Allowed else Denied (Room (Full place.Outbox))) else Denied (Room (Full place.InFlight)))
+    → (if f then (if r then Allowed else Denied (Room (Full place.Outbox)))
+    else Denied (Room (Full place.InFlight)))
     ≡ judged ((not f, Room (Full place.InFlight)) ∷ (not r, Room (Full place.Outbox)) ∷ [])
 room_both true true = refl
 room_both true false = refl

@@ -152,7 +152,8 @@ read_shown policy id (Some text) = both_read id (lists policy id) (is_name text)
 
 verdict_by : (policy : Policy) (x : Client) (statement : Statement) (has : Bool) (topic : Option (List ℕ))
     → statement_turn statement x ≡ turn has → (has ≡ true → topic_at statement x ≡ topic)
-    → statement_verdict policy statement x ≡ judged ((not has, Form OutOfTurn) ∷ topic_rules policy x.id topic)
+    → statement_verdict policy statement x
+    ≡ judged ((not has, Form OutOfTurn) ∷ topic_rules policy x.id topic)
 verdict_by policy x statement false topic is same = rw is refl
 verdict_by policy x statement true topic is same = rw (is, same refl) (topic_judged policy x.id topic)
 
@@ -203,7 +204,7 @@ ask_shown h s x statement state shown =
 ended_same : (to : Address) (rule : Denial)
     → dialogue_ended to rule ≡ (if is_out_of_turn rule then [] else connack_to to (code_for rule) ∷ [])
 ended_same to (Form OutOfTurn) = refl
-ended_same to rule = refl
+ended_same to rule = ap (λ code. connack_to to code ∷ []) (code_same rule)
 
 pub replied_same : (from : Address) (statement : Statement) (y : Client) (name : Option (List ℕ))
     (o : Outcome)

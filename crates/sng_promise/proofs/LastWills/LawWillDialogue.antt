@@ -83,11 +83,13 @@ gone_notes id waiting = map (λ m. Note (note.Hand id m.name (Denied (Peer Gone)
 
 -- no rule about the topic is one of turn
 rule_by : (l n g : Bool) (id text : List ℕ) (rule : Denial)
-    → judged ((not l, Grant (NoScope id)) ∷ (not n, Form BadName) ∷ (not g, Grant (MissingPub text)) ∷ []) ≡ Denied rule
+    → judged ((not l, Grant (NoScope id)) ∷ (not n, Form BadName) ∷ (not g, Grant (MissingPub text)) ∷ [])
+    ≡ Denied rule
     → is_out_of_turn rule ≡ false
 rule_by false n g id text rule is = (let e : Grant (NoScope id) ≡ rule = cc in ap is_out_of_turn (sym e))
 rule_by true false g id text rule is = (let e : Form BadName ≡ rule = cc in ap is_out_of_turn (sym e))
-rule_by true true false id text rule is = (let e : Grant (MissingPub text) ≡ rule = cc in ap is_out_of_turn (sym e))
+rule_by true true false id text rule is =
+    (let e : Grant (MissingPub text) ≡ rule = cc in ap is_out_of_turn (sym e))
 rule_by true true true id text rule is = absurd cc
 
 rule_in_turn : (policy : Policy) (id : List ℕ) (topic : Option (List ℕ)) (rule : Denial)

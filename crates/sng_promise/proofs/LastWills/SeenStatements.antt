@@ -221,7 +221,8 @@ keeps_to s a m (ToAcknowledge r) x none =
     keeps_answered a m x.id (handed_over s.policy (closed x)) (is_acknowledging r x)
     (every_handed (Keeps a m x.id) s.policy (closed x) (keeps_messages a m x.id x.id))
 keeps_to s a m (ToState statement) x none = absurd cc
-keeps_to s a m (Untaken message) x none = (keeps_still a m x.id message (who.Client x.id) (Form NotSupported), tt)
+keeps_to s a m (Untaken message) x none =
+    (keeps_still a m x.id message (who.Client x.id) (Form NotSupported), tt)
 
 keeps_entering : (s : State) (a : Around) (m : Option Spoken) (from : Address) (connect : Connect)
     (x : Client) (o : Outcome)

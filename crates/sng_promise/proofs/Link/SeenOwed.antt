@@ -56,7 +56,8 @@ owed_waits false place packet_id = refl
 
 -- whether the name is one or not
 named_waits : (good : Bool) (outs : List Out)
-    → is_outbox_noted ((if good then [] else Note (note.Frame who.Broker (Denied (Form BadName))) ∷ []) ++ outs)
+    → is_outbox_noted ((if good then [] else Note (note.Frame who.Broker (Denied (Form BadName))) ∷ [])
+    ++ outs)
     ≡ is_outbox_noted outs
 named_waits true outs = refl
 named_waits false outs = refl

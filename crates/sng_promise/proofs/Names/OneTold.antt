@@ -149,7 +149,8 @@ request_told s (ToAcknowledge r) x id =
     turn_told id x.id (is_acknowledging r x) (handed_over s.policy (closed x))
     (handed_told id s.policy (closed x))
 request_told s (ToState statement) x id = statement_told s.policy statement x id
-request_told s (Untaken message) x id = one_told id (denied_note message (who.Client x.id) (Form NotSupported))
+request_told s (Untaken message) x id =
+    one_told id (denied_note message (who.Client x.id) (Form NotSupported))
 
 -- subscriptions end, of which no note tells an id
 refused_mute : (id : List ℕ) (x : Client) (text : Option (List ℕ)) → Every (Mute id) (refused_end x text)

@@ -150,7 +150,8 @@ every_ends policy client (h ∷ held) =
 every_refused : (x : Client) (filter : Option (List ℕ)) → Every Unlosing (refused_end x filter)
 every_refused x None = tt
 every_refused x (Some filter) =
-    every_if Unlosing (holds filter x) (note.End x.id filter (Denied (Peer BrokerRefused)) ∷ []) (λ id. refl, tt)
+    every_if Unlosing (holds filter x) (note.End x.id filter (Denied (Peer BrokerRefused)) ∷ [])
+    (λ id. refl, tt)
 
 abbrev pub is_tick : Cause → Bool
 is_tick (ByTick clock) = true

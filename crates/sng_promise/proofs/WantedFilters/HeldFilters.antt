@@ -66,14 +66,16 @@ predefined_is id None text is = absurd cc
 predefined_is id (Some name) text is = given_filter name text (Form BadFilter) (is_filter name) (λ is. is) is
 
 short_is : (given text : List ℕ) (b : Bool)
-    → (let read : Result (List ℕ) Denial = if b then as_filter given else Err (Form BadName) in read) ≡ Ok text
+    → (let read : Result (List ℕ) Denial = if b then as_filter given else Err (Form BadName) in read)
+    ≡ Ok text
     → is_filter text ≡ true
 short_is given text true is = given_filter given text (Form BadFilter) (is_filter given) (λ is. is) is
 short_is given text false is = absurd cc
 
 pub named_filter : (policy : Policy) (type : TopicIdType) (given text : List ℕ)
     → filter_in policy type given ≡ Ok text → is_filter text ≡ true
-named_filter policy Normal given text is = given_filter given text (Form BadFilter) (is_filter given) (λ is. is) is
+named_filter policy Normal given text is =
+    given_filter given text (Form BadFilter) (is_filter given) (λ is. is) is
 named_filter policy Short given text is = short_is given text (is_name given) is
 named_filter policy Predefined given text is =
     predefined_is (id_in given) (topic policy (id_in given)) text is
