@@ -1,5 +1,7 @@
 -- A script that is played line by line: what is known between two lines, and how it ends.
-use Rattle.std.proofs.Common.{◌≡◌, ◌≢◌, ◌≤◌, ℕ, ◌+◌, List, [], ◌∷◌, ◌++◌, length, Option, Some, None, IfSome, Result, Ok, Err, refl, sym, ap, subst, ◌∙◌, append_assoc, append-nil, length-append, inl, inr, arith}
+use Rattle.std.proofs.Common.{◌≡◌, ◌≢◌, ◌≤◌, ℕ, ◌+◌, List, [], ◌∷◌, ◌++◌, length, Option, Some, None, IfSome}
+use Rattle.std.proofs.Common.{Result, Ok, Err, refl, sym, ap, subst, ◌∙◌, append_assoc, append-nil}
+use Rattle.std.proofs.Common.{length-append, inl, inr, arith}
 use Rattle.std.specs.Prelude.{⊤}
 use Rattle.std.proofs.KnownBytes.{Appends-nil, Appends-trans, Appends-kept, Keeps-refl}
 use Rattle.std.specs.Io.KnownBytes.{Appends, Keeps, IsAtEnd}
@@ -14,7 +16,8 @@ use Rattle.sng_script.specs.declared.limits.TheConstants.{MAX_LINE}
 use Rattle.sng_gateway.specs.Deeds.{Deed, Step, Tell, deeds_of, stream_by}
 use Rattle.sng_script.specs.Lines.{line_of}
 use Rattle.sng_gateway.specs.Playing.{Standing, IsStep, Does, IsPlayed}
-use Rattle.sng_gateway.specs.Scripts.{WritesRow, Writes, AllWrite, ArePlayed, StopsAt, BreaksOff, IsUnreadable, Finishes, IsHalt, IsOutcome, unreadable_text}
+use Rattle.sng_gateway.specs.Scripts.{WritesRow, Writes, AllWrite, ArePlayed, StopsAt, BreaksOff}
+use Rattle.sng_gateway.specs.Scripts.{IsUnreadable, Finishes, IsHalt, IsOutcome, unreadable_text}
 use Rattle.sng_script.specs.declared.status.Status.{Status}
 use Rattle.sng_script.specs.declared.status.Status.TheVariants as statuses
 use Rattle.sng_script.specs.Input.{lines_of, IsFirstLine, BeginsTooLong}

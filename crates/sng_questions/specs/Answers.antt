@@ -12,7 +12,8 @@ use Rattle.sng_script.specs.Refused.{refused_text}
 use Rattle.sng_questions.specs.declared.inquiry.Inquiry.{Inquiry}
 use Rattle.sng_questions.specs.declared.inquiry.Inquiry.TheVariants as inquiries
 use Rattle.sng_questions.specs.declared.ruling.Ruling.{Ruling}
-use Rattle.sng_questions.specs.declared.ruling.Ruling.TheVariants.{Allowed, NoScope, UnknownSource, MissingPub, MissingSub, Uncovered}
+use Rattle.sng_questions.specs.declared.ruling.Ruling.TheVariants.{Allowed, NoScope, UnknownSource}
+use Rattle.sng_questions.specs.declared.ruling.Ruling.TheVariants.{MissingPub, MissingSub, Uncovered}
 use Rattle.sng_script.specs.declared.status.Status.{Status}
 use Rattle.sng_script.specs.declared.status.Status.TheVariants as statuses
 

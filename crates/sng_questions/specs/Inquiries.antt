@@ -33,7 +33,8 @@ filter_of text = if is_filter text then Ok text else Err faults.Filter
 abbrev pub inquiry_by : Action → List ℕ → List ℕ → Result Inquiry InquiryFault
 inquiry_by actions.Publish client object = name_of object >>= (λ name. Ok (inquiries.Publish client name))
 inquiry_by actions.Receive client object = name_of object >>= (λ name. Ok (inquiries.Receive client name))
-inquiry_by actions.Subscribe client object = filter_of object >>= (λ filter. Ok (inquiries.Subscribe client filter))
+inquiry_by actions.Subscribe client object =
+    filter_of object >>= (λ filter. Ok (inquiries.Subscribe client filter))
 
 -- the question of `CLIENT ACTION NAME`
 abbrev pub client_inquiry : List ℕ → List ℕ → List ℕ → Result Inquiry InquiryFault

@@ -1,5 +1,6 @@
 -- How the place of a fault of a policy text is printed, and what is wrong there.
-use Rattle.std.specs.Prelude.{ℕ, List, [], ◌∷◌, ◌++◌, take, length, nat_lt, if◌then◌else◌, Option, Some, None, codes}
+use Rattle.std.specs.Prelude.{ℕ, List, [], ◌∷◌, ◌++◌, take, length, nat_lt, if◌then◌else◌, Option, Some, None}
+use Rattle.std.specs.Prelude.{codes}
 use Rattle.std.specs.Fmt.{decimal}
 use Rattle.sng_text.specs.Levels.{levels_of}
 use Rattle.sng_text.specs.Texts.{has_byte, is_hash, is_ordinary}
@@ -72,7 +73,8 @@ abbrev pub level_text : List ℕ → List ℕ
 level_text level =
     if is_hash level
     then codes "wildcard '#' before the last level"
-    else (if has_byte 43 level then codes "wildcard '+' inside a level" else codes "wildcard '#' inside a level")
+    else (if has_byte 43 level then codes "wildcard '+' inside a level"
+    else codes "wildcard '#' inside a level")
 
 -- the first level of a filter that may not stand anywhere
 abbrev pub first_misplaced : List (List ℕ) → Option (List ℕ)
@@ -146,7 +148,8 @@ words_of (flaws.TopicName text fault) = codes "not a topic name"
 words_of (flaws.TooMany count most) = codes "too many"
 
 abbrev pub many_text : Location → ℕ → ℕ → List ℕ
-many_text place count most = decimal count ++ (codes " " ++ (unit_text place ++ (codes ", at most " ++ decimal most)))
+many_text place count most = decimal count
+    ++ (codes " " ++ (unit_text place ++ (codes ", at most " ++ decimal most)))
 
 abbrev pub flaw_text : Location → Flaw → List ℕ
 flaw_text place flaws.NotJson = words_of flaws.NotJson
@@ -172,7 +175,8 @@ flaw_text place (flaws.TooMany count most) = many_text place count most
 
 -- the line of a text that is not JSON, and the column there
 abbrev pub position_text : Position → List ℕ
-position_text position = codes "line " ++ (decimal position.line ++ (codes ", column " ++ decimal position.column))
+position_text position = codes "line "
+    ++ (decimal position.line ++ (codes ", column " ++ decimal position.column))
 
 -- of the text as a whole the position is shown where it is not JSON
 abbrev pub where_text : Position → Location → Flaw → List ℕ
@@ -181,4 +185,5 @@ where_text position place flaw = place_text place
 
 abbrev pub found_text : Position → Found → List ℕ
 found_text position found =
-    codes "at " ++ (where_text position found.place found.flaw ++ (codes ": " ++ (flaw_text found.place found.flaw ++ codes "\n")))
+    codes "at " ++ (where_text position found.place found.flaw
+    ++ (codes ": " ++ (flaw_text found.place found.flaw ++ codes "\n")))

@@ -14,7 +14,8 @@ use Rattle.sng_script.specs.declared.status.Status.TheVariants as statuses
 -- the line of a policy that is accepted
 abbrev pub accepted_text : Policy → List ℕ
 accepted_text policy =
-    count_text (codes "policy ok: ") (length policy.clients) ++ (count_text (codes " clients, ") (length policy.sources)
+    count_text (codes "policy ok: ") (length policy.clients)
+    ++ (count_text (codes " clients, ") (length policy.sources)
     ++ (count_text (codes " sources, ") (length policy.topics) ++ codes " topics\n"))
 
 -- the line of the place
@@ -25,7 +26,8 @@ stop_text position (Err Memory) = []
 
 -- the fault by its name and its sentence, and its place
 abbrev pub fault_report : Position → PolicyFault → Result Unit Stop → List ℕ
-fault_report position fault check = refused_text fault ++ (sentence_of fault ++ (codes "\n" ++ stop_text position check))
+fault_report position fault check = refused_text fault
+    ++ (sentence_of fault ++ (codes "\n" ++ stop_text position check))
 
 -- what is printed of a text, of which this was read, and where the first fault stands
 abbrev pub report_text : Position → Result Policy PolicyFault → Result Unit Stop → List ℕ

@@ -18,7 +18,8 @@ use Rattle.sng_questions.specs.Redundant.{says_nothing_new}
 
 -- the line of a member that stands more than once
 abbrev pub repeated_text : Location → List ℕ
-repeated_text place = codes "warning: " ++ (place_text place ++ (codes " stands more than once: " ++ codes "the last counts\n"))
+repeated_text place = codes "warning: "
+    ++ (place_text place ++ (codes " stands more than once: " ++ codes "the last counts\n"))
 
 abbrev pub repeated_lines : List Location → List ℕ
 repeated_lines [] = []

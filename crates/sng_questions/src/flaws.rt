@@ -1,7 +1,9 @@
 //! How what is wrong in a policy text is printed.
 ghost use Rattle.std.specs.Prelude.{◌≡◌, ◌++◌, OnOk, option_map, length};
 ghost use Rattle.sng_text.specs.Levels.{levels_of};
-ghost use Rattle.sng_questions.specs.Places.{shown_text, quoted_text, level_text, first_misplaced, misplaced_text, bytes_text, count_text, filter_text, topic_text, client_text, unit_text, words_of, many_text, flaw_text};
+ghost use Rattle.sng_questions.specs.Places.{shown_text, quoted_text, level_text, first_misplaced};
+ghost use Rattle.sng_questions.specs.Places.{misplaced_text, bytes_text, count_text, filter_text, topic_text};
+ghost use Rattle.sng_questions.specs.Places.{client_text, unit_text, words_of, many_text, flaw_text};
 
 use crate::limits::MAX_SHOWN;
 use crate::places::push_part;

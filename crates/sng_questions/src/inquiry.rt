@@ -1,6 +1,7 @@
 //! Questions to a policy, read from words.
 ghost use Rattle.std.specs.Prelude.{◌≡◌, ◌⊎◌, Ok, Err, IfOk, IfErr};
-ghost use Rattle.sng_questions.specs.Inquiries.{action_of, client_inquiry, source_inquiry, client_of, name_of, filter_of};
+ghost use Rattle.sng_questions.specs.Inquiries.{action_of, client_inquiry, source_inquiry, client_of};
+ghost use Rattle.sng_questions.specs.Inquiries.{name_of, filter_of};
 
 use sng_text::{ClientId, TextFault, TopicFilter, TopicName, read_ipv4};
 use std::alloc::Global;

@@ -1,5 +1,5 @@
-//! Answers for whoever writes policies, without a gateway: on inclusion, on what a policy allows, and on what is
-//! wrong in its text or surely not meant.
+//! Answers for whoever writes policies, without a gateway: on inclusion, on what a policy allows, and on what
+//! is wrong in its text or surely not meant.
 #![tactic(auto)]
 
 pub mod covering;

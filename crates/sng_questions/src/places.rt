@@ -1,6 +1,7 @@
 //! How the place of a fault of a policy text is printed, and what is wrong there.
 ghost use Rattle.std.specs.Prelude.{◌≡◌, ◌++◌, OnOk};
-ghost use Rattle.sng_questions.specs.Places.{part_text, index_text, spot_text, form_text, member_text, place_text, position_text, where_text, found_text};
+ghost use Rattle.sng_questions.specs.Places.{part_text, index_text, spot_text, form_text, member_text};
+ghost use Rattle.sng_questions.specs.Places.{place_text, position_text, where_text, found_text};
 
 use crate::flaws::push_flaw;
 use sng_book::print::{push_decimal, push_name};

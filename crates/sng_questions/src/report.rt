@@ -4,7 +4,8 @@ ghost use Rattle.sng_scope.specs.Policies.{policy_of};
 ghost use Rattle.sng_places.specs.Places.{text_check};
 ghost use Rattle.sng_places.specs.declared.position.Position.{Position};
 ghost use Rattle.sng_questions.specs.Warnings.{AreWarningsOf};
-ghost use Rattle.sng_questions.specs.Reports.{accepted_text, fault_report, stop_text, report_text, report_status};
+ghost use Rattle.sng_questions.specs.Reports.{accepted_text, fault_report, stop_text, report_text};
+ghost use Rattle.sng_questions.specs.Reports.{report_status};
 
 use crate::flaws::push_count;
 use crate::places::push_found;

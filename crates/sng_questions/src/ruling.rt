@@ -1,6 +1,7 @@
 //! What a policy says to a question, with what is missing where it does not allow it.
 ghost use Rattle.std.specs.Prelude.{◌≡◌};
-ghost use Rattle.sng_questions.specs.Answers.{publish_ruling, receive_ruling, ruling_status, source_ruling, subscribe_ruling};
+ghost use Rattle.sng_questions.specs.Answers.{publish_ruling, receive_ruling, ruling_status, source_ruling};
+ghost use Rattle.sng_questions.specs.Answers.{subscribe_ruling};
 
 use sng_policy::{FilterGrant, NameGrant};
 use sng_script::Status;

@@ -1,10 +1,13 @@
 -- The lines of an input whose bytes are known.
-use Rattle.std.proofs.Common.{◌≡◌, ◌≢◌, Bool, true, false, not, ℕ, suc, ◌≤◌, ◌==◌, ◌⊎◌, List, [], ◌∷◌, ◌++◌, length, drop, if◌then◌else◌, Option, Some, None, IfSome, refl, sym, ap, subst, ◌∙◌, append_assoc, append-nil, length-append, ne_eqb, inl, inr, arith}
+use Rattle.std.proofs.Common.{◌≡◌, ◌≢◌, Bool, true, false, not, ℕ, suc, ◌≤◌, ◌==◌, ◌⊎◌, List, [], ◌∷◌, ◌++◌}
+use Rattle.std.proofs.Common.{length, drop, if◌then◌else◌, Option, Some, None, IfSome, refl, sym, ap, subst}
+use Rattle.std.proofs.Common.{◌∙◌, append_assoc, append-nil, length-append, ne_eqb, inl, inr, arith}
 use Rattle.std.proofs.lemmas.List.Elements.{All-head, All-tail, All-append}
 use Rattle.std.proofs.KnownBytes.{starts_with_rest, Consumes-trans}
 use Rattle.std.specs.Io.{StartsWith}
 use Rattle.std.specs.Io.KnownBytes.{Consumes, IsAtEnd, Keeps}
-use Rattle.sng_script.specs.Input.{lines_of, onto_first, IsWithinLine, IsTooLong, IsFirstLine, IsNextLine, IsRest, BeginsTooLong, Takes, Ends}
+use Rattle.sng_script.specs.Input.{lines_of, onto_first, IsWithinLine, IsTooLong, IsFirstLine, IsNextLine}
+use Rattle.sng_script.specs.Input.{IsRest, BeginsTooLong, Takes, Ends}
 use Rattle.sng_script.specs.declared.input.LineEnd.TheVariants.{Feed, Input}
 use Rattle.sng_script.specs.declared.input.Piece.TheVariants.{Whole, End}
 

@@ -1,5 +1,6 @@
 -- Which texts spell bytes in hex digits.
-use Rattle.std.proofs.Common.{◌≡◌, ℕ, ◌%◌, Bool, true, false, List, [], ◌∷◌, length, Result, Ok, Err, None, refl}
+use Rattle.std.proofs.Common.{◌≡◌, ℕ, ◌%◌, Bool, true, false, List, [], ◌∷◌, length, Result, Ok, Err, None}
+use Rattle.std.proofs.Common.{refl}
 use Rattle.std.specs.List.{AllPass}
 use Rattle.std.specs.Str.{bytes_eq}
 use Rattle.hex.specs.Hex.{decode_of, is_hex_digit}

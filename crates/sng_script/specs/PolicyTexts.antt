@@ -1,5 +1,6 @@
 -- A policy as a text that says it: JSON on one line (RFC 8259).
-use Rattle.std.specs.Prelude.{ℕ, Bool, true, false, ◌/◌, ◌%◌, ◌==◌, ◌||◌, nat_lt, List, [], ◌∷◌, ◌++◌, if◌then◌else◌, codes}
+use Rattle.std.specs.Prelude.{ℕ, Bool, true, false, ◌/◌, ◌%◌, ◌==◌, ◌||◌, nat_lt, List, [], ◌∷◌, ◌++◌}
+use Rattle.std.specs.Prelude.{if◌then◌else◌, codes}
 use Rattle.std.specs.Fmt.{decimal, digit_glyph}
 use Rattle.sng_book.specs.Printing.{ip_text}
 use Rattle.sng_grants.specs.declared.policy.Policy.{Policy}

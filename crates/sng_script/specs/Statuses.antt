@@ -1,7 +1,8 @@
 -- The exit status of a command, and what ends one.
 use Rattle.std.specs.Prelude.{ℕ, Bool, true, false}
 use Rattle.sng_script.specs.declared.status.Status.{Status}
-use Rattle.sng_script.specs.declared.status.Status.TheVariants.{Done, Uncovered, Denied, Unlawful, Unreadable, BadCommandLine, OutOfMemory, Failed}
+use Rattle.sng_script.specs.declared.status.Status.TheVariants.{Done, Uncovered, Denied, Unlawful, Unreadable}
+use Rattle.sng_script.specs.declared.status.Status.TheVariants.{BadCommandLine, OutOfMemory, Failed}
 
 abbrev pub code_of : Status → ℕ
 code_of Done = 0

@@ -1,5 +1,6 @@
 //! Reads lines of at most `MAX_LINE` bytes.
-ghost use Rattle.std.specs.Prelude.{◌≡◌, ◌≢◌, ◌++◌, ◌≤◌, ◌<◌, ◌+◌, length, slice_index, take, vec_len, OnOk, OnErr, IfOk, IfNone, IfSome};
+ghost use Rattle.std.specs.Prelude.{◌≡◌, ◌≢◌, ◌++◌, ◌≤◌, ◌<◌, ◌+◌, length, slice_index, take, vec_len, OnOk};
+ghost use Rattle.std.specs.Prelude.{OnErr, IfOk, IfNone, IfSome};
 ghost use Rattle.sng_script.specs.Input.{BeginsTooLong, Ends, IsNextLine, IsTooLong, IsWithinLine, Takes};
 ghost use Rattle.sng_script.specs.declared.limits.TheConstants.{MAX_LINE};
 

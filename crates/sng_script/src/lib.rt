@@ -1,5 +1,5 @@
-//! Scripts as lines: what a line says, and the line that says an event. Beside it, what each command does with
-//! its input and as it ends.
+//! Scripts as lines: what a line says, and the line that says an event. Beside it, what each command does
+//! with its input and as it ends.
 #![tactic(auto)]
 
 mod datagram;

@@ -1,6 +1,7 @@
 //! The lines of a script. Words are parted by one space.
 ghost use Rattle.std.specs.Prelude.{◌≡◌, Some, IfOk, IfErr};
-ghost use Rattle.sng_script.specs.Lines.{line_of, word_line, words_line, policy_line, from_line, broker_line, tick_line};
+ghost use Rattle.sng_script.specs.Lines.{line_of, word_line, words_line, policy_line, from_line, broker_line};
+ghost use Rattle.sng_script.specs.Lines.{tick_line};
 ghost use Rattle.sng_script.specs.Obstacles.{fault_of};
 ghost use Rattle.sng_scope.specs.Policies.{policy_of};
 

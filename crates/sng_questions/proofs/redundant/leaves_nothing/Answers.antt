@@ -2,7 +2,8 @@ use Rattle.std.proofs.Common.{◌≡◌, ◌==◌, ◌&&◌, ◌||◌, not, nat_
 use borrow.Author.Tests.{eq-eqb, ne_eqb, lt-ltb, le-ltb}
 use Rattle.sng_questions.specs.Redundant.{includes, leaves_nothing}
 use Rattle.sng_questions.proofs.redundant.leaves_nothing.Goals as goal
-use Rattle.sng_questions.proofs.redundant.leaves_nothing.Goals.{then-place-index-via-then-place-index, then-place-index-via-else-place-index+in_ok-includes+then-not-branch}
+use Rattle.sng_questions.proofs.redundant.leaves_nothing.Goals.{then-place-index-via-then-place-index}
+use Rattle.sng_questions.proofs.redundant.leaves_nothing.Goals.{then-place-index-via-else-place-index+in_ok-includes+then-not-branch}
 
 -- whether the places are the same, the other pair includes this one, stands before it, and is included in it
 same_place : (same included earlier back : Bool) → same ≡ true

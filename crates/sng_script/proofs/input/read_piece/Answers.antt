@@ -1,4 +1,5 @@
-use Rattle.std.proofs.Common.{◌≡◌, ◌<◌, ◌+◌, length, take, drop, take-append-drop, append-nil, sym, Err, rules}
+use Rattle.std.proofs.Common.{◌≡◌, ◌<◌, ◌+◌, length, take, drop, take-append-drop, append-nil, sym, Err}
+use Rattle.std.proofs.Common.{rules}
 use Rattle.sng_script.specs.declared.limits.TheConstants.{MAX_LINE}
 use Rattle.sng_script.specs.declared.obstacle.Obstacle.TheVariants.{Unreadable}
 use Rattle.sng_script.specs.Input.{IsWithinLine}
