@@ -15,8 +15,8 @@ use Rattle.sng_script.specs.Lines.{line_of}
 use Rattle.sng_script.specs.PolicyTexts.{policy_text}
 use Rattle.sng_script.specs.declared.script.Line.{Line}
 
--- numbers are in the ranges of their types, a packet is spelled by its bytes, and the text of a policy says
--- it
+-- numbers are in the ranges of their types, a packet is spelled by its bytes, and the text of a policy
+-- says it
 abbrev pub CanBeSaid : Event → Type 0
 CanBeSaid (events.Datagram from datagram) = IsAddress from.ip × (from.port < 2 ^ 16) × IsBytes datagram
 CanBeSaid (events.Broker packet) =
