@@ -11,7 +11,7 @@ mod services;
 use clap::{ArgMatches, Command, Error};
 pub use escape::filters_among;
 pub use questions::MayWords;
-use sng_gateway::Status;
+use sng_script::Status;
 use sng_serve::Words as ServeWords;
 use std::alloc::{AllocError, Global};
 

@@ -5,8 +5,8 @@ ghost use Rattle.sng_operator.specs.Commands.{without_return, word_request, word
 
 use crate::verbosity::Verbosity;
 use sng_book::print::push_name;
-use sng_gateway::MAX_SHOWN;
-use sng_gateway::sender::parted;
+use sng_questions::MAX_SHOWN;
+use sng_script::sender::parted;
 use std::alloc::AllocError;
 
 /// What a line asks for.

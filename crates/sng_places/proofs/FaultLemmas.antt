@@ -39,12 +39,12 @@ use Rattle.sng_places.specs.ScopePlaces.{encoded_check, filter_by, items_check, 
 use Rattle.sng_places.specs.ScopePlaces.{other_from, pair_check, pairs_check, parts_check, permissions_by}
 use Rattle.sng_places.specs.ScopePlaces.{scope_check, stop_at, texts_by, two_check, two_of}
 use Rattle.sng_places.specs.declared.flaw.Flaw.TheVariants as flaws
-use Rattle.sng_places.specs.declared.place.Form.{Form}
-use Rattle.sng_places.specs.declared.place.Form.TheVariants as forms
-use Rattle.sng_places.specs.declared.place.Part.{Part}
-use Rattle.sng_places.specs.declared.place.Part.TheVariants as parts_of_a_policy
-use Rattle.sng_places.specs.declared.place.Place.TheVariants as all_places
-use Rattle.sng_places.specs.declared.place.Spot.TheVariants as spots
+use Rattle.sng_places.specs.declared.location.Form.{Form}
+use Rattle.sng_places.specs.declared.location.Form.TheVariants as forms
+use Rattle.sng_places.specs.declared.location.Part.{Part}
+use Rattle.sng_places.specs.declared.location.Part.TheVariants as parts_of_a_policy
+use Rattle.sng_places.specs.declared.location.Location.TheVariants as all_places
+use Rattle.sng_places.specs.declared.location.Spot.TheVariants as spots
 use Rattle.sng_places.specs.declared.stop.ScopeStop.{ScopeStop}
 use Rattle.sng_places.specs.declared.stop.ScopeStop.TheVariants as scope_stops
 use Rattle.sng_places.specs.declared.stop.Stop.{Stop}

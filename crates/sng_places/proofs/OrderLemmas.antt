@@ -33,20 +33,20 @@ use Rattle.sng_places.specs.ScopePlaces.{other_from, pair_check, pairs_check, pa
 use Rattle.sng_places.specs.ScopePlaces.{scope_check, texts_by, two_check, two_of}
 use Rattle.sng_places.specs.declared.flaw.Flaw.{Flaw}
 use Rattle.sng_places.specs.declared.flaw.Flaw.TheVariants as flaws
-use Rattle.sng_places.specs.declared.place.Form.{Form}
-use Rattle.sng_places.specs.declared.place.Form.TheVariants.{Plain, Encoded}
-use Rattle.sng_places.specs.declared.place.Part.{Part}
-use Rattle.sng_places.specs.declared.place.Part.TheVariants.{Clients, Sources, Topics}
-use Rattle.sng_places.specs.declared.place.Place.{Place}
-use Rattle.sng_places.specs.declared.place.Place.TheVariants as places
-use Rattle.sng_places.specs.declared.place.Spot.{Spot}
-use Rattle.sng_places.specs.declared.place.Spot.TheVariants.{Whole, Pair, Filter, Permissions, Permission}
+use Rattle.sng_places.specs.declared.location.Form.{Form}
+use Rattle.sng_places.specs.declared.location.Form.TheVariants.{Plain, Encoded}
+use Rattle.sng_places.specs.declared.location.Part.{Part}
+use Rattle.sng_places.specs.declared.location.Part.TheVariants.{Clients, Sources, Topics}
+use Rattle.sng_places.specs.declared.location.Location.{Location}
+use Rattle.sng_places.specs.declared.location.Location.TheVariants as places
+use Rattle.sng_places.specs.declared.location.Spot.{Spot}
+use Rattle.sng_places.specs.declared.location.Spot.TheVariants.{Whole, Pair, Filter, Permissions, Permission}
 use Rattle.sng_places.specs.declared.stop.ScopeStop.{ScopeStop}
 use Rattle.sng_places.specs.declared.stop.Stop.{Stop}
 
 -- ---- lists of tests
 
-then_first : (place : Place) (flaw : Option Flaw) (c rest : Result Unit Stop)
+then_first : (place : Location) (flaw : Option Flaw) (c rest : Result Unit Stop)
     → ends_at place flaw c >>= (λ checked. rest) ≡ ends_at place flaw (c >>= (λ checked. rest))
 then_first place None c rest = refl
 then_first place (Some flaw) c rest = refl
@@ -229,13 +229,13 @@ scope part name (object ms) = refl
 -- ---- members
 
 -- one test, and what follows it
-tested : {F : Type 0} (place : Place) (o : Option F) (flaw : F → Flaw) (c rest : Result Unit Stop) → c ≡ rest
+tested : {F : Type 0} (place : Location) (o : Option F) (flaw : F → Flaw) (c rest : Result Unit Stop) → c ≡ rest
     → unless o (λ fault. stop_at place (flaw fault)) >>= (λ checked. c)
     ≡ ends_at place (option_map flaw o) rest
 tested place None flaw c rest is = is
 tested place (Some fault) flaw c rest is = refl
 
-there : {A : Type 0} (place : Place) (o : Option A) (flaw : Flaw) (c rest : Result Unit Stop) → c ≡ rest
+there : {A : Type 0} (place : Location) (o : Option A) (flaw : Flaw) (c rest : Result Unit Stop) → c ≡ rest
     → ok_or o (stop_at place flaw) >>= (λ found. c) ≡ ends_at place (unless_some o flaw) rest
 there place None flaw c rest is = refl
 there place (Some a) flaw c rest is = is
@@ -254,7 +254,7 @@ sources (member name d ms) =
     (joined _ _ (scope_tests (places.Value Sources name) d) (members_tests Sources IsSource scope_tests ms)
     (scope Sources name d) (sources ms))
 
-topic_by : (place : Place) (o : Option (List ℕ))
+topic_by : (place : Location) (o : Option (List ℕ))
     → ok_or o (stop_at place flaws.NotText) >>=
     (λ text. unless (name_fault text) (λ fault. stop_at place (flaws.TopicName text fault)))
     ≡ ends_at place (unless_some o flaws.NotText)
@@ -262,7 +262,7 @@ topic_by : (place : Place) (o : Option (List ℕ))
 topic_by place None = refl
 topic_by place (Some text) = named place text (name_fault text)
   where
-    named : (place : Place) (text : List ℕ) (fault : Option TextFault)
+    named : (place : Location) (text : List ℕ) (fault : Option TextFault)
         → unless fault (λ f. stop_at place (flaws.TopicName text f))
         ≡ ends_at place (option_map (flaws.TopicName text) fault) (Ok tt)
     named place text None = refl
@@ -284,7 +284,7 @@ many : (part : Part) (b : Bool) (flaw : Flaw) (ms : Members) (check : Members �
 many part true flaw ms check rest is = refl
 many part false flaw ms check rest is = is
 
-part_by : (part : Part) (most : ℕ) (rule : Rule) (tests : (Form → Spot → Place) → Data → List Test)
+part_by : (part : Part) (most : ℕ) (rule : Rule) (tests : (Form → Spot → Location) → Data → List Test)
     (check : Members → Result Unit Stop) (d : Data)
     → ((ms : Members) → check ms ≡ first (members_tests part rule tests ms))
     → part_within part most d >>= check ≡ first (part_tests part most rule tests (Some d))

@@ -14,12 +14,12 @@ use Rattle.sng_scope.specs.Policies.{is_known, is_version_one}
 use Rattle.sng_scope.specs.Steps.{◌>>=◌}
 use Rattle.sng_scope.specs.Texts.{value_of}
 use Rattle.sng_places.specs.ScopePlaces.{or_stop, scope_check}
-use Rattle.sng_places.specs.declared.place.Form.TheVariants.{Plain}
-use Rattle.sng_places.specs.declared.place.Part.{Part}
-use Rattle.sng_places.specs.declared.place.Part.TheVariants.{Clients, Sources, Topics}
-use Rattle.sng_places.specs.declared.place.Place.{Place}
-use Rattle.sng_places.specs.declared.place.Place.TheVariants as places
-use Rattle.sng_places.specs.declared.place.Spot.TheVariants as spots
+use Rattle.sng_places.specs.declared.location.Form.TheVariants.{Plain}
+use Rattle.sng_places.specs.declared.location.Part.{Part}
+use Rattle.sng_places.specs.declared.location.Part.TheVariants.{Clients, Sources, Topics}
+use Rattle.sng_places.specs.declared.location.Location.{Location}
+use Rattle.sng_places.specs.declared.location.Location.TheVariants as places
+use Rattle.sng_places.specs.declared.location.Spot.TheVariants as spots
 use Rattle.sng_places.specs.declared.flaw.Flaw.{Flaw}
 use Rattle.sng_places.specs.declared.flaw.Flaw.TheVariants as flaws
 use Rattle.sng_places.specs.declared.stop.ScopeStop.{ScopeStop}
@@ -28,7 +28,7 @@ use Rattle.sng_places.specs.declared.stop.Stop.{Stop}
 use Rattle.sng_places.specs.declared.stop.Stop.TheVariants.{At, Memory}
 
 -- the fault at this place
-abbrev pub stop_at : Place → Flaw → Stop
+abbrev pub stop_at : Location → Flaw → Stop
 stop_at place flaw = At (record { place = place; flaw = flaw })
 
 -- the fault of a text, or none
