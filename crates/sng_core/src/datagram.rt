@@ -13,7 +13,7 @@ use crate::confirm::{acknowledge, confirm};
 use crate::messages::{broken, leave, unsupported};
 use crate::parts::Parts;
 use crate::register::register;
-use crate::request::{Asked, SessionRequest, asked};
+use crate::request::{Asked, SessionRequest, ask_of};
 use crate::sleep::{ping, sleep};
 use crate::statement::state;
 use crate::stranger::stranger;
@@ -60,7 +60,7 @@ impl Parts {
         ensures next { OnOk result (self.new ≡ next_by self.old (frame_cause from frame)) }
         ensures err { OnErr result (self.new ≡ self.old) }
     {
-        match asked(frame) {
+        match ask_of(frame) {
             Asked::Entry(connect) => self.connect(alloc, from, at, connect),
             Asked::Source(publish) => self.source(alloc, from, publish),
             Asked::Request(request) => self.request(alloc, from, at, request),

@@ -48,7 +48,7 @@ pub enum Asked {
 }
 
 /// What the message asks. Takes no memory.
-pub fn asked(frame: SnFrame) -> Asked
+pub fn ask_of(frame: SnFrame) -> Asked
     ensures { (from : Address) → frame_cause from frame ≡ caused from result }
 {
     // An arm for each message: a new one is not passed over.

@@ -110,7 +110,7 @@ fn dues(
 {
     let mut dues = Vec::new(alloc);
     for place in 0..sessions.len() {
-        let due = due(alloc, policy, clock, sessions, place, room, outs)?;
+        let due = due_with(alloc, policy, clock, sessions, place, room, outs)?;
         add(&mut dues, due)?;
     }
     Ok(dues)
@@ -127,7 +127,7 @@ fn add(dues: &mut Vec<Due>, due: Option<Due>) -> Result<(), AllocError>
 }
 
 /// What is due with the client at this place.
-fn due(
+fn due_with(
     alloc: Global,
     policy: &Policy,
     clock: u64,
