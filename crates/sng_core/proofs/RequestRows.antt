@@ -13,8 +13,8 @@ use Rattle.sng_history.specs.Good.{Good}
 use Rattle.sng_history.specs.State.{State}
 use Rattle.sng_history.specs.Whole.{stranger_to}
 use Rattle.sng_sessions.specs.Sleeping.{slept}
-use Rattle.sng_core.specs.declared.request.Request.{Request}
-use Rattle.sng_core.specs.declared.request.Request.TheVariants as asks
+use Rattle.sng_core.specs.declared.request.SessionRequest.{SessionRequest}
+use Rattle.sng_core.specs.declared.request.SessionRequest.TheVariants as asks
 use Rattle.sng_core.specs.Confirming.{confirm_outs, confirm_next, acknowledge_outs, acknowledge_next}
 use Rattle.sng_core.specs.Forms.{place_at, at_place, moved_if, found_outs, heard_at, left_at, left_outs}
 use Rattle.sng_core.specs.Forms.{unsupported_outs, register_outs, register_next, carried_outs, carried}
@@ -38,7 +38,7 @@ Found s from request f g place =
     (record s { clients = moved_if place g s.clients })
 
 -- that of a PUBLISH, a SUBSCRIBE and an UNSUBSCRIBE
-abbrev Carries : State → Address → Request → Option ℕ → Type 0
+abbrev Carries : State → Address → SessionRequest → Option ℕ → Type 0
 Carries s from request place =
     Makes s (ByMessage from (asked request)) (requested_outs s from request place)
     (requested_next s request place)
@@ -65,7 +65,7 @@ unsubscribes s from r None makes = makes
 unsubscribes s from r (Some place) makes = makes
 
 -- whoever is at the address
-here : (s : State) (from : Address) (request : Request) (place : Option ℕ) → Good s
+here : (s : State) (from : Address) (request : SessionRequest) (place : Option ℕ) → Good s
     → place_at from s.clients ≡ place → Carries s from request place
 here s from (asks.Publish p) place good at =
     subst (Carries s from (asks.Publish p)) at
@@ -110,7 +110,7 @@ here s from (asks.Untaken message) (Some place) good at =
     subst (Found s from (Untaken message) (unsupported_outs message) (heard_at s.clock)) at (unsupported_row s from message good)
 
 -- what a request makes, where the place is that of the client at the address
-pub request_row : (s : State) (from : Address) (request : Request) (place : Option ℕ) → Good s
+pub request_row : (s : State) (from : Address) (request : SessionRequest) (place : Option ℕ) → Good s
     → place ≡ place_at from s.clients
     → Makes s (ByMessage from (asked request)) (requested_outs s from request place)
     (requested_next s request place)

@@ -12,8 +12,8 @@ use Rattle.sng_sessions.specs.Moving.{moved_at}
 use Rattle.sng_sessions.specs.Sleeping.{slept}
 use Rattle.sng_core.specs.declared.request.Asked.{Asked}
 use Rattle.sng_core.specs.declared.request.Asked.TheVariants as is
-use Rattle.sng_core.specs.declared.request.Request.{Request}
-use Rattle.sng_core.specs.declared.request.Request.TheVariants as asks
+use Rattle.sng_core.specs.declared.request.SessionRequest.{SessionRequest}
+use Rattle.sng_core.specs.declared.request.SessionRequest.TheVariants as asks
 use Rattle.sng_core.specs.Forms.{client_at, heard_at, left_at, left_outs, unsupported_outs, register_outs}
 use Rattle.sng_core.specs.Forms.{register_next, carried_outs, carried}
 use Rattle.sng_core.specs.Confirming.{confirm_outs, confirm_next, acknowledge_outs, acknowledge_next}
@@ -22,7 +22,7 @@ use Rattle.sng_core.specs.Stating.{said, statement_outs, statement_next}
 use Rattle.sng_core.specs.Subscribing.{subscribe_outs, stood, unsubscribe_judged, unsubscribe_noted, ended}
 
 -- the request as the machine's definitions have it
-abbrev pub asked : Request → Asking
+abbrev pub asked : SessionRequest → Asking
 asked (asks.Ping client) = ToPing client
 asked asks.Leave = ToLeave
 asked (asks.Sleep duration) = ToSleep duration
@@ -42,7 +42,7 @@ caused from (is.Source p) = BySource from p
 caused from (is.Request request) = ByMessage from (asked request)
 
 -- what a request of the client at the place lets out
-abbrev pub request_outs : State → ℕ → Request → List Out
+abbrev pub request_outs : State → ℕ → SessionRequest → List Out
 request_outs s place (asks.Ping client) = ping_outs s.policy client (client_at s.clients place)
 request_outs s place asks.Leave = left_outs (client_at s.clients place)
 request_outs s place (asks.Sleep duration) = slept_outs (client_at s.clients place)
@@ -62,7 +62,7 @@ abbrev pub moved_in : State → ℕ → (Client → Client) → State
 moved_in s place f = record s { clients = moved_at place f s.clients }
 
 -- and leads to
-abbrev pub request_next : State → ℕ → Request → State
+abbrev pub request_next : State → ℕ → SessionRequest → State
 request_next s place (asks.Ping client) = moved_in s place (ping_next s.policy s.clock client)
 request_next s place asks.Leave = moved_in s place (left_at s.clock)
 request_next s place (asks.Sleep duration) = moved_in s place (slept s.clock duration)
@@ -76,10 +76,10 @@ request_next s place (asks.State statement) = moved_in s place (statement_next s
 request_next s place (asks.Untaken message) = moved_in s place (heard_at s.clock)
 
 -- from an address at which the client at the place is, or nobody
-abbrev pub requested_outs : State → Address → Request → Option ℕ → List Out
+abbrev pub requested_outs : State → Address → SessionRequest → Option ℕ → List Out
 requested_outs s from request None = stranger_to from (asked request)
 requested_outs s from request (Some place) = request_outs s place request
 
-abbrev pub requested_next : State → Request → Option ℕ → State
+abbrev pub requested_next : State → SessionRequest → Option ℕ → State
 requested_next s request None = s
 requested_next s request (Some place) = request_next s place request

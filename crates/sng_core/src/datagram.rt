@@ -13,7 +13,7 @@ use crate::confirm::{acknowledge, confirm};
 use crate::messages::{broken, leave, unsupported};
 use crate::parts::Parts;
 use crate::register::register;
-use crate::request::{Asked, Request, asked};
+use crate::request::{Asked, SessionRequest, ask_of};
 use crate::sleep::{ping, sleep};
 use crate::statement::state;
 use crate::stranger::stranger;
@@ -75,7 +75,7 @@ impl Parts {
         ensures next { OnOk result (self.new ≡ next_by self.old (frame_cause from frame)) }
         ensures err { OnErr result (self.new ≡ self.old) }
     {
-        match asked(frame) {
+        match ask_of(frame) {
             Asked::Entry(connect) => self.connect(alloc, from, at, connect),
             Asked::Source(publish) => self.source(alloc, from, publish),
             Asked::Request(request) => self.request(alloc, from, at, request),
@@ -104,7 +104,7 @@ impl Parts {
         alloc: Global,
         from: Address,
         at: Option<usize>,
-        request: Request,
+        request: SessionRequest,
     ) -> Result<OutsPair, AllocError>
         requires good { Good self.old }
         requires at { at ≡ place_at from self.old.clients }
@@ -125,7 +125,7 @@ impl Parts {
         &mut self,
         alloc: Global,
         place: usize,
-        request: Request,
+        request: SessionRequest,
     ) -> Result<OutsPair, AllocError>
         requires few { length self.old.link.wanted < MAX_WANTED }
         requires place { place < length self.old.clients }
@@ -140,19 +140,27 @@ impl Parts {
             ..
         } = self;
         match request {
-            Request::Publish(publish) => self.carry(alloc, place, publish),
-            Request::Subscribe(request) => self.subscribe(alloc, place, request),
-            Request::Unsubscribe(request) => self.unsubscribe(alloc, place, request),
-            Request::Ping(client) => ping(alloc, policy, *clock, client, sessions, place),
-            Request::Leave => leave(alloc, *clock, sessions, place),
-            Request::Sleep(duration) => sleep(alloc, *clock, duration, sessions, place),
-            Request::Register(asked) => register(alloc, policy, *clock, asked, sessions, place),
-            Request::Confirm(answer) => confirm(alloc, policy, *clock, answer, sessions, place),
-            Request::Acknowledge(answer) => {
+            SessionRequest::Publish(publish) => self.carry(alloc, place, publish),
+            SessionRequest::Subscribe(request) => self.subscribe(alloc, place, request),
+            SessionRequest::Unsubscribe(request) => self.unsubscribe(alloc, place, request),
+            SessionRequest::Ping(client) => ping(alloc, policy, *clock, client, sessions, place),
+            SessionRequest::Leave => leave(alloc, *clock, sessions, place),
+            SessionRequest::Sleep(duration) => sleep(alloc, *clock, duration, sessions, place),
+            SessionRequest::Register(asked) => register(
+                alloc, policy, *clock, asked, sessions, place,
+            ),
+            SessionRequest::Confirm(answer) => confirm(
+                alloc, policy, *clock, answer, sessions, place,
+            ),
+            SessionRequest::Acknowledge(answer) => {
                 acknowledge(alloc, policy, *clock, answer, sessions, place)
             }
-            Request::State(statement) => state(alloc, policy, *clock, statement, sessions, place),
-            Request::Untaken(message) => unsupported(alloc, *clock, &message, sessions, place),
+            SessionRequest::State(statement) => state(
+                alloc, policy, *clock, statement, sessions, place,
+            ),
+            SessionRequest::Untaken(message) => unsupported(
+                alloc, *clock, &message, sessions, place,
+            ),
         }
     }
 

@@ -11,7 +11,7 @@ use sng_text::ClientId;
 
 /// What a message of a session is about, where it is no CONNECT.
 #[derive(Debug, Drop)]
-pub enum Request {
+pub enum SessionRequest {
     /// A PINGREQ, with the client's id where it has one.
     Ping(Option<ClientId>),
     /// A DISCONNECT without Duration.
@@ -44,33 +44,33 @@ pub enum Asked {
     /// A PUBLISH without a session.
     Source(Publish),
     /// Any other message.
-    Request(Request),
+    Request(SessionRequest),
 }
 
 /// What the message asks. Takes no memory.
-pub fn asked(frame: SnFrame) -> Asked
+pub fn ask_of(frame: SnFrame) -> Asked
     ensures { (from : Address) → frame_cause from frame ≡ caused from result }
 {
     // An arm for each message: a new one is not passed over.
     match frame {
         SnFrame::Connect(connect) => Asked::Entry(connect),
         SnFrame::Publish(publish) => published(publish),
-        SnFrame::PingRequest(client) => Asked::Request(Request::Ping(client)),
+        SnFrame::PingRequest(client) => Asked::Request(SessionRequest::Ping(client)),
         SnFrame::Disconnect(duration) => Asked::Request(disconnected(duration)),
         SnFrame::ConnectAck(code) => untaken(SnFrame::ConnectAck(code)),
         SnFrame::WillTopicRequest => untaken(SnFrame::WillTopicRequest),
         SnFrame::WillTopic(topic) => stated(Statement::Topic(topic)),
         SnFrame::WillMessageRequest => untaken(SnFrame::WillMessageRequest),
         SnFrame::WillMessage(message) => stated(Statement::Message(message)),
-        SnFrame::Register(register) => Asked::Request(Request::Register(register)),
-        SnFrame::RegisterAck(answer) => Asked::Request(Request::Confirm(answer)),
-        SnFrame::PublishAck(answer) => Asked::Request(Request::Acknowledge(answer)),
+        SnFrame::Register(register) => Asked::Request(SessionRequest::Register(register)),
+        SnFrame::RegisterAck(answer) => Asked::Request(SessionRequest::Confirm(answer)),
+        SnFrame::PublishAck(answer) => Asked::Request(SessionRequest::Acknowledge(answer)),
         SnFrame::PublishComplete(id) => untaken(SnFrame::PublishComplete(id)),
         SnFrame::PublishReceived(id) => untaken(SnFrame::PublishReceived(id)),
         SnFrame::PublishRelease(id) => untaken(SnFrame::PublishRelease(id)),
-        SnFrame::Subscribe(request) => Asked::Request(Request::Subscribe(request)),
+        SnFrame::Subscribe(request) => Asked::Request(SessionRequest::Subscribe(request)),
         SnFrame::SubscribeAck(answer) => untaken(SnFrame::SubscribeAck(answer)),
-        SnFrame::Unsubscribe(request) => Asked::Request(Request::Unsubscribe(request)),
+        SnFrame::Unsubscribe(request) => Asked::Request(SessionRequest::Unsubscribe(request)),
         SnFrame::UnsubscribeAck(id) => untaken(SnFrame::UnsubscribeAck(id)),
         SnFrame::PingResponse => untaken(SnFrame::PingResponse),
         SnFrame::WillTopicUpdate(topic) => stated(Statement::TopicUpdate(topic)),
@@ -86,32 +86,32 @@ fn published(publish: Publish) -> Asked
 {
     match publish.flags.qos {
         FrameQos::WithoutSession => Asked::Source(publish),
-        FrameQos::AtMostOnce => Asked::Request(Request::Publish(publish)),
-        FrameQos::AtLeastOnce => Asked::Request(Request::Publish(publish)),
+        FrameQos::AtMostOnce => Asked::Request(SessionRequest::Publish(publish)),
+        FrameQos::AtLeastOnce => Asked::Request(SessionRequest::Publish(publish)),
         FrameQos::ExactlyOnce => untaken(SnFrame::Publish(publish)),
     }
 }
 
 /// A DISCONNECT: by one with Duration the client falls asleep, and by any other it leaves.
-fn disconnected(duration: Option<u16>) -> Request
+fn disconnected(duration: Option<u16>) -> SessionRequest
     ensures { (from : Address) → disconnect_cause from duration ≡ caused from (Asked.Request result) }
 {
     match duration {
-        None => Request::Leave,
-        Some(duration) => Request::Sleep(duration),
+        None => SessionRequest::Leave,
+        Some(duration) => SessionRequest::Sleep(duration),
     }
 }
 
 /// What a client states of its will.
 fn stated(statement: Statement) -> Asked
-    ensures { result ≡ Asked.Request (Request.State statement) }
+    ensures { result ≡ Asked.Request (SessionRequest.State statement) }
 {
-    Asked::Request(Request::State(statement))
+    Asked::Request(SessionRequest::State(statement))
 }
 
 /// A message of a type or form that is not taken.
 fn untaken(message: SnFrame) -> Asked
-    ensures { result ≡ Asked.Request (Request.Untaken message) }
+    ensures { result ≡ Asked.Request (SessionRequest.Untaken message) }
 {
-    Asked::Request(Request::Untaken(message))
+    Asked::Request(SessionRequest::Untaken(message))
 }

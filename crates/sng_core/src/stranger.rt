@@ -5,28 +5,40 @@ ghost use Rattle.sng_history.specs.Whole.{stranger_to};
 ghost use Rattle.sng_core.specs.Requesting.{asked};
 
 use crate::answers::{denied_note, dismissed, only};
-use crate::request::Request;
+use crate::request::SessionRequest;
 use sng_book::{Address, Decision, Denial, FormDenial, Out, Outcome, Outs, OutsPair, Who};
 use std::alloc::{AllocError, Global};
 
 /// It is noted as what it asks for, and answered by DISCONNECT. One that is not taken is noted alone.
-pub fn stranger(alloc: Global, from: Address, request: &Request) -> Result<OutsPair, AllocError>
+pub fn stranger(
+    alloc: Global,
+    from: Address,
+    request: &SessionRequest,
+) -> Result<OutsPair, AllocError>
     ensures { IfOk result (λ outs. outs ≡ stranger_to from (asked request.now)) }
 {
     let who = Who::Address(from);
     let denied = Outcome::Denied(Denial::Form(FormDenial::NoSession));
     match request {
-        Request::Ping(_) => dismiss(alloc, from, Decision::Frame(who, denied)),
-        Request::Leave => dismiss(alloc, from, Decision::Frame(who, denied)),
-        Request::Sleep(_) => dismiss(alloc, from, Decision::Frame(who, denied)),
-        Request::Register(_) => dismiss(alloc, from, Decision::Register(who, None, denied)),
-        Request::Publish(_) => dismiss(alloc, from, Decision::Publish(who, None, denied)),
-        Request::Subscribe(_) => dismiss(alloc, from, Decision::Subscribe(who, None, denied)),
-        Request::Unsubscribe(_) => dismiss(alloc, from, Decision::Unsubscribe(who, None, denied)),
-        Request::Confirm(_) => dismiss(alloc, from, Decision::Frame(who, denied)),
-        Request::Acknowledge(_) => dismiss(alloc, from, Decision::Frame(who, denied)),
-        Request::State(_) => dismiss(alloc, from, Decision::Will(who, None, denied)),
-        Request::Untaken(message) => only(
+        SessionRequest::Ping(_) => dismiss(alloc, from, Decision::Frame(who, denied)),
+        SessionRequest::Leave => dismiss(alloc, from, Decision::Frame(who, denied)),
+        SessionRequest::Sleep(_) => dismiss(alloc, from, Decision::Frame(who, denied)),
+        SessionRequest::Register(_) => dismiss(alloc, from, Decision::Register(who, None, denied)),
+        SessionRequest::Publish(_) => dismiss(alloc, from, Decision::Publish(who, None, denied)),
+        SessionRequest::Subscribe(_) => dismiss(
+            alloc,
+            from,
+            Decision::Subscribe(who, None, denied),
+        ),
+        SessionRequest::Unsubscribe(_) => dismiss(
+            alloc,
+            from,
+            Decision::Unsubscribe(who, None, denied),
+        ),
+        SessionRequest::Confirm(_) => dismiss(alloc, from, Decision::Frame(who, denied)),
+        SessionRequest::Acknowledge(_) => dismiss(alloc, from, Decision::Frame(who, denied)),
+        SessionRequest::State(_) => dismiss(alloc, from, Decision::Will(who, None, denied)),
+        SessionRequest::Untaken(message) => only(
             alloc,
             Out::Note(denied_note(message, who, Denial::Form(FormDenial::NotSupported))),
         ),

@@ -30,7 +30,7 @@ use std::alloc::{AllocError, Global};
 
 /// A client that is lost, by its place, and its will, where it finds its place.
 #[derive(Debug, Drop)]
-pub struct Loss {
+pub struct LostClient {
     pub place: usize,
     pub will: Option<Publication>,
 }
@@ -39,7 +39,7 @@ pub struct Loss {
 #[derive(Debug, Drop)]
 pub enum Due {
     /// It is lost.
-    Lost(Loss),
+    Lost(LostClient),
     /// What is open with the client at the place was not answered in time.
     Unanswered(usize, Retried),
 }
@@ -110,7 +110,7 @@ fn dues(
 {
     let mut dues = Vec::new(alloc);
     for place in 0..sessions.len() {
-        let due = due(alloc, policy, clock, sessions, place, room, outs)?;
+        let due = due_with(alloc, policy, clock, sessions, place, room, outs)?;
         add(&mut dues, due)?;
     }
     Ok(dues)
@@ -127,7 +127,7 @@ fn add(dues: &mut Vec<Due>, due: Option<Due>) -> Result<(), AllocError>
 }
 
 /// What is due with the client at this place.
-fn due(
+fn due_with(
     alloc: Global,
     policy: &Policy,
     clock: u64,
@@ -170,7 +170,7 @@ fn lose(
     place: usize,
     room: &mut Room,
     outs: &mut Outs,
-) -> Result<Loss, AllocError>
+) -> Result<LostClient, AllocError>
     requires { place < length sessions.now }
     ensures outs { OnOk result (outs.new ≡ outs.old ++ lost_outs room.old (client_at sessions.now place)) }
     ensures loss { IfOk result (λ loss. loss ≡ loss_of room.old place (client_at sessions.now place)) }
@@ -181,7 +181,7 @@ fn lose(
     outs.push(Out::Note(Decision::Lost(client.copy()?)))?;
     all_gone(client, sessions.queue(place), outs)?;
     let will = kept_will(client, sessions.wills(place), room, outs)?;
-    Ok(Loss { place, will })
+    Ok(LostClient { place, will })
 }
 
 /// A copy of the will, where there is one and it finds its place; where there is no room for it, that is
@@ -248,11 +248,11 @@ fn carry_out_one(due: Due, sessions: &mut Sessions, link: &mut Link, clock: u64)
 }
 
 /// One is lost. Takes no memory.
-fn carry_loss(loss: Loss, sessions: &mut Sessions, link: &mut Link)
+fn carry_loss(loss: LostClient, sessions: &mut Sessions, link: &mut Link)
     ensures sessions { sessions.new ≡ lost_clients sessions.old loss }
     ensures link { link.new ≡ lost_link link.old loss }
 {
-    let Loss { place, will } = loss;
+    let LostClient { place, will } = loss;
     sessions.lose(place);
     if let Some(will) = will {
         link.place(will);

@@ -7,29 +7,29 @@ use Rattle.sng_core.proofs.parts.Parts.message.Goals as goal
 pub returns-in-Entry-clause-outs : goal.returns-in-Entry-clause-outs
 returns-in-Entry-clause-outs c =
     subst (λ k. IfOk c.connect.result (λ outs. outs ≡ outs_by c.args.self.now k))
-    (sym (c.asked.ensures c.args.from ∙ ap (caused c.args.from) c.in-Entry.is)) c.connect.ensures.outs
+    (sym (c.ask_of.ensures c.args.from ∙ ap (caused c.args.from) c.in-Entry.is)) c.connect.ensures.outs
 
 pub returns-in-Entry-clause-next : goal.returns-in-Entry-clause-next
 returns-in-Entry-clause-next c =
     subst (λ k. OnOk c.connect.result (c.connect.new.self ≡ next_by c.args.self.now k))
-    (sym (c.asked.ensures c.args.from ∙ ap (caused c.args.from) c.in-Entry.is)) c.connect.ensures.next
+    (sym (c.ask_of.ensures c.args.from ∙ ap (caused c.args.from) c.in-Entry.is)) c.connect.ensures.next
 
 pub returns-in-Source-clause-outs : goal.returns-in-Source-clause-outs
 returns-in-Source-clause-outs c =
     subst (λ k. IfOk c.source.result (λ outs. outs ≡ outs_by c.args.self.now k))
-    (sym (c.asked.ensures c.args.from ∙ ap (caused c.args.from) c.in-Source.is)) c.source.ensures.outs
+    (sym (c.ask_of.ensures c.args.from ∙ ap (caused c.args.from) c.in-Source.is)) c.source.ensures.outs
 
 pub returns-in-Source-clause-next : goal.returns-in-Source-clause-next
 returns-in-Source-clause-next c =
     subst (λ k. OnOk c.source.result (c.source.new.self ≡ next_by c.args.self.now k))
-    (sym (c.asked.ensures c.args.from ∙ ap (caused c.args.from) c.in-Source.is)) c.source.ensures.next
+    (sym (c.ask_of.ensures c.args.from ∙ ap (caused c.args.from) c.in-Source.is)) c.source.ensures.next
 
 pub returns-in-Request-clause-outs : goal.returns-in-Request-clause-outs
 returns-in-Request-clause-outs c =
     subst (λ k. IfOk c.request.result (λ outs. outs ≡ outs_by c.args.self.now k))
-    (sym (c.asked.ensures c.args.from ∙ ap (caused c.args.from) c.in-Request.is)) c.request.ensures.outs
+    (sym (c.ask_of.ensures c.args.from ∙ ap (caused c.args.from) c.in-Request.is)) c.request.ensures.outs
 
 pub returns-in-Request-clause-next : goal.returns-in-Request-clause-next
 returns-in-Request-clause-next c =
     subst (λ k. OnOk c.request.result (c.request.new.self ≡ next_by c.args.self.now k))
-    (sym (c.asked.ensures c.args.from ∙ ap (caused c.args.from) c.in-Request.is)) c.request.ensures.next
+    (sym (c.ask_of.ensures c.args.from ∙ ap (caused c.args.from) c.in-Request.is)) c.request.ensures.next
