@@ -8,7 +8,7 @@ use Rattle.mqtt_frames.specs.declared.packet.Packet.{Packet}
 use Rattle.sng_broker.specs.declared.parts.Message.{Message}
 use Rattle.sng_broker.specs.declared.parts.Subscription.{Subscription}
 use Rattle.sng_broker.specs.Brokers.{is_at_least_once}
-use Rattle.sng_broker.specs.Steps.{Replay, id_for, last_after, packet_of, replay}
+use Rattle.sng_broker.specs.Steps.{Outgoing, id_for, last_after, packet_of, replay}
 use Rattle.sng_broker.specs.Laws.{AreCopies, RetainedAreReplayed}
 use Rattle.sng_broker.proofs.Copies.{sure_is, id_is}
 
@@ -45,7 +45,7 @@ retained_are_replayed s sending (m ∷ kept) =
     else filter (λ k. matches s.filter k.name) kept)) [
       | true ↦
           let out : ℕ × Packet = (s.conn, packet_of true (id_for (surely s m) sending.last_id) m) in
-          let next : Replay =
+          let next : Outgoing =
           record { last_id = last_after (surely s m) sending.last_id; outs = sending.outs ++ out ∷ [] } in
           let rest = retained_are_replayed s next kept in (
             out ∷ rest.0,

@@ -12,7 +12,7 @@ use Rattle.mqtt_frames.specs.declared.packet.Publish.{Publish}
 use Rattle.sng_broker.specs.declared.parts.Message.{Message}
 use Rattle.sng_broker.specs.declared.parts.Subscription.{Subscription}
 use Rattle.sng_broker.specs.Brokers.{Broker, EachOnce, is_open}
-use Rattle.sng_broker.specs.Steps.{Replay, acknowledged, fan_out, message_of, packet_of, replay}
+use Rattle.sng_broker.specs.Steps.{Outgoing, acknowledged, fan_out, message_of, packet_of, replay}
 
 -- the packets that go to one connection, in order
 abbrev pub sent_to : ℕ → List (ℕ × Packet) → List Packet
@@ -66,7 +66,7 @@ AreCopies s (m ∷ messages) (out ∷ outs) =
 -- who subscribes gets each retained message whose name the filter matches, once and in order, at the smaller
 -- QoS
 abbrev pub RetainedAreReplayed : Type 0
-RetainedAreReplayed = (s : Subscription) (sending : Replay) (kept : List Message)
+RetainedAreReplayed = (s : Subscription) (sending : Outgoing) (kept : List Message)
     → (copies : List (ℕ × Packet))
     × ((replay s sending kept).outs ≡ sending.outs ++ copies)
     × AreCopies s (filter (λ m. matches s.filter m.name) kept) copies

@@ -67,12 +67,12 @@ abbrev pub counted : List Subscription → Message → Peer → Peer
 counted standing m peer = record peer { last_id = last_after (gets_surely standing m peer.conn) peer.last_id }
 
 -- what goes to one connection, with the last packet identifier that is used
-pub record Replay : Type 0 where
+pub record Outgoing : Type 0 where
   pub last_id : ℕ
   pub outs : List (ℕ × Packet)
 
 -- a retained message, where the new filter matches its name (3.3.1.3)
-abbrev pub replay_one : Subscription → Replay → Message → Replay
+abbrev pub replay_one : Subscription → Outgoing → Message → Outgoing
 replay_one s sending m =
     let surely = is_at_least_once s.qos && is_at_least_once m.qos in
     if matches s.filter m.name
@@ -83,12 +83,12 @@ replay_one s sending m =
     else sending
 
 -- all retained messages for a new filter
-abbrev pub replay : Subscription → Replay → List Message → Replay
+abbrev pub replay : Subscription → Outgoing → List Message → Outgoing
 replay s sending [] = sending
 replay s sending (m ∷ kept) = replay s (replay_one s sending m) kept
 
 -- the same for all new filters
-abbrev pub replay_all : List Message → Replay → List Subscription → Replay
+abbrev pub replay_all : List Message → Outgoing → List Subscription → Outgoing
 replay_all kept sending [] = sending
 replay_all kept sending (s ∷ granted) = replay_all kept (replay s sending kept) granted
 
@@ -184,7 +184,7 @@ abbrev pub published : Broker → ℕ → Publish → Stepped
 published b conn p = elim (name_fault p.name) [ None ↦ delivered b conn p | Some fault ↦ dropped b conn ]
 
 -- the SUBACK, and then what is retained
-abbrev pub replayed : Broker → ℕ → Subscribe → Replay
+abbrev pub replayed : Broker → ℕ → Subscribe → Outgoing
 replayed b conn s = replay_all b.kept (record {
   last_id = last_of b.peers conn;
   outs =

@@ -10,13 +10,13 @@ use std::marker::Model;
 
 /// What goes to one connection, with the last packet identifier that is used.
 #[derive(Drop)]
-pub(crate) struct Replay {
+pub(crate) struct Outgoing {
     pub last_id: u16,
     pub outs: Outs,
 }
 
-impl Model for Replay {
-    ghost use Rattle.sng_broker.specs.Steps.{Replay as sight};
+impl Model for Outgoing {
+    ghost use Rattle.sng_broker.specs.Steps.{Outgoing as sight};
 
     ghost Value = { sight };
 
@@ -25,7 +25,7 @@ impl Model for Replay {
 
 fn replay_one(
     alloc: Global,
-    sending: &mut Replay,
+    sending: &mut Outgoing,
     standing: &Subscription,
     message: &Message,
 ) -> Result<(), AllocError>
@@ -43,7 +43,7 @@ fn replay_one(
 
 fn replay(
     alloc: Global,
-    sending: &mut Replay,
+    sending: &mut Outgoing,
     standing: &Subscription,
     kept: &[Message],
 ) -> Result<(), AllocError>
@@ -58,7 +58,7 @@ fn replay(
 /// Each retained message that a new filter matches, one filter after another.
 pub(crate) fn replay_all(
     alloc: Global,
-    sending: &mut Replay,
+    sending: &mut Outgoing,
     granted: &[Subscription],
     kept: &[Message],
 ) -> Result<(), AllocError>
