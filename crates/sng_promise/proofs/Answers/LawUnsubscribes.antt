@@ -157,8 +157,12 @@ unsubscribe_spelled h s from r x true shown active at =
     ∙ (ap (λ text. unsubscribe_by h from r x.id true text (verdict_as named)) known.meant
     ∙ ap (unsubscribe_by h from r x.id true (filter_meant s.policy r.flags.id_type r.topic)) known.ruled))
 unsubscribe_spelled h s from r x false shown active at =
-    rw (active, at, denied_note h from x.id (filter_meant s.policy r.flags.id_type r.topic)
-    (Form OutOfTurn)) refl
+    rw (
+      active,
+      at,
+      denied_note h from x.id (filter_meant s.policy r.flags.id_type r.topic)
+          (Form OutOfTurn),
+    ) refl
 
 unsubscribed_busy : (filter : Option (List ℕ)) (o : Outcome) (x : Client) → is_drained x ≡ false
     → is_drained (unsubscribed filter o x) ≡ false
