@@ -14,7 +14,6 @@ use Rattle.sng_policy.specs.Grants.{lists, is_granted, grant_by, grant_of_cover,
 use Rattle.sng_policy.specs.Laws.{HasFilters}
 use Rattle.sng_policy.specs.declared.permission.Permission.TheVariants.{Subscribe}
 use Rattle.sng_policy.specs.declared.grant.NameGrant.TheVariants as on_name
-use Rattle.sng_policy.specs.declared.grant.FilterGrant.TheVariants as on_filter
 use Rattle.sng_policy.proofs.SubscriptionLemmas.{subscribing_is_receiving}
 use Rattle.sng_book.specs.declared.decision.Who.TheVariants as who
 use Rattle.sng_book.specs.declared.outcome.Place.TheVariants as place
