@@ -1,0 +1,5 @@
+pub mod Levels
+pub mod Moved
+pub mod Joins
+pub mod Matched
+pub mod Listed

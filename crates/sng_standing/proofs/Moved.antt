@@ -1,0 +1,158 @@
+-- How what stands below a node moves as one of its maps does.
+use Rattle.std.proofs.Common.{◌≡◌, ℕ, Bool, true, false, ◌&&◌, ◌==◌, List, [], ◌∷◌, length, Option, Some, None}
+use Rattle.std.proofs.Common.{cond, if◌then◌else◌, refl, sym, ap, ap₂, ◌∙◌}
+use Rattle.std.proofs.lemmas.Bool.{and_parts, and_right}
+use Rattle.std.proofs.lemmas.Slice.Eq.{bytes_eq-Decides}
+use Rattle.std.specs.Cmp.{unsigned_ties}
+use Rattle.std.specs.Ordering.{nat_cmp, is_eq}
+use Rattle.std.specs.Str.{bytes_eq}
+use Rattle.sng_text.specs.Levels.{levels_of}
+use Rattle.sng_text.specs.declared.qos.Qos.{Qos}
+use Rattle.sng_standing.specs.declared.node.Node.{Node, out-Node}
+use Rattle.sng_standing.specs.Tree.{qos_here, node_below, in_node, qos_left, qos_at, is_idle}
+use Rattle.sng_standing.specs.Standing.{same_levels, IsBare, SaysSame, Moves, IsOne, SaysSameAt, MovesAt}
+use Rattle.sng_standing.proofs.Levels.{none_in, same_texts}
+
+and_true : (b : Bool) → (b && true) ≡ b
+and_true true = refl
+and_true false = refl
+
+-- the QoS that the client has at the filter that ends here is another
+pub moved_here : (before after : Node) (client : ℕ) (now : Option Qos)
+    → ((n : ℕ) → qos_here after n ≡ cond (is_eq (nat_cmp client n)) now (qos_here before n))
+    → ((level : List ℕ) → node_below after level ≡ node_below before level)
+    → Moves before after client [] now
+moved_here before after client now here below n [] =
+    here n
+    ∙ ap (λ b. cond b now (qos_here before n)) (sym (unsigned_ties client n) ∙ sym (and_true (client == n)))
+moved_here before after client now here below n (level ∷ levels) =
+    ap (λ x. in_node x (λ child. qos_left child n levels)) (below level)
+    ∙ ap (λ b. cond b now (in_node (node_below before level) (λ child. qos_left child n levels)))
+    (sym (and_right (client == n) false refl))
+
+-- there is another node at the level, below which what the client has at one filter is another
+pub moved_below : (before after next : Node) (was : Option Node) (client : ℕ) (level : List ℕ)
+    (levels : List (List ℕ)) (now : Option Qos)
+    → ((n : ℕ) → qos_here after n ≡ qos_here before n)
+    → node_below before level ≡ was
+    → ((other : List ℕ) → node_below after other
+    ≡ cond (bytes_eq level other) (Some next) (node_below before other))
+    → ((n : ℕ) (others : List (List ℕ)) → qos_left next n others
+    ≡ (if (client == n) && same_levels levels others
+    then now
+    else in_node was (λ child. qos_left child n others)))
+    → Moves before after client (level ∷ levels) now
+moved_below before after next was client level levels now here was_is below moves n [] =
+    here n ∙ ap (λ b. cond b now (qos_here before n)) (sym (and_right (client == n) false refl))
+moved_below before after next was client level levels now here was_is below moves n (other ∷ others) =
+    ap (λ x. in_node x (λ child. qos_left child n others)) (below other)
+    ∙ by_level (bytes_eq level other) refl
+  where
+    by_level : (same : Bool) → bytes_eq level other ≡ same
+        → in_node (cond same (Some next) (node_below before other)) (λ child. qos_left child n others)
+        ≡ (if (client == n) && (same && same_levels levels others)
+        then now
+        else in_node (node_below before other) (λ child. qos_left child n others))
+    by_level true is =
+        let level_is : level ≡ other = (bytes_eq-Decides level other).0 is in
+        let there : was ≡ node_below before other = sym was_is ∙ ap (node_below before) level_is in
+        moves n others
+        ∙ ap (λ x. cond ((client == n) && same_levels levels others) now
+        (in_node x (λ child. qos_left child n others))) there
+    by_level false is =
+        ap (λ b. cond b now (in_node (node_below before other) (λ child. qos_left child n others)))
+        (sym (and_right (client == n) false refl))
+
+-- the same where the node was there
+pub moved_child : (before after child next : Node) (client : ℕ) (level : List ℕ) (levels : List (List ℕ))
+    (now : Option Qos)
+    → ((n : ℕ) → qos_here after n ≡ qos_here before n)
+    → node_below before level ≡ Some child
+    → ((other : List ℕ) → node_below after other
+    ≡ cond (bytes_eq level other) (Some next) (node_below before other))
+    → Moves child next client levels now
+    → Moves before after client (level ∷ levels) now
+moved_child before after child next client level levels now here was below moves =
+    moved_below before after next (Some child) client level levels now here was below moves
+
+-- the same where it was not
+pub moved_branch : (before after next : Node) (client : ℕ) (level : List ℕ) (levels : List (List ℕ))
+    (qos : Qos)
+    → ((n : ℕ) → qos_here after n ≡ qos_here before n)
+    → node_below before level ≡ None
+    → ((other : List ℕ) → node_below after other
+    ≡ cond (bytes_eq level other) (Some next) (node_below before other))
+    → IsOne next client levels qos
+    → Moves before after client (level ∷ levels) (Some qos)
+moved_branch before after next client level levels qos here was below one =
+    moved_below before after next None client level levels (Some qos) here was below one
+
+-- a node that is not there moves nothing
+pub moved_nothing : (node : Node) (client : ℕ) (level : List ℕ) (levels : List (List ℕ))
+    → node_below node level ≡ None → Moves node node client (level ∷ levels) None
+moved_nothing node client level levels absent n [] =
+    ap (λ b. cond b None (qos_here node n)) (sym (and_right (client == n) false refl))
+moved_nothing node client level levels absent n (other ∷ others) =
+    by_same ((client == n) && same_levels (level ∷ levels) (other ∷ others)) refl
+  where
+    by_same : (same : Bool) → ((client == n) && same_levels (level ∷ levels) (other ∷ others)) ≡ same
+        → qos_left node n (other ∷ others) ≡ cond same None (qos_left node n (other ∷ others))
+    by_same true is =
+        let p = and_parts (client == n) (bytes_eq level other && same_levels levels others) is in
+        let q = and_parts (bytes_eq level other) (same_levels levels others) p.1 in
+        let level_is : level ≡ other = (bytes_eq-Decides level other).0 q.0 in
+        ap (λ x. in_node x (λ child. qos_left child n others))
+        (sym (ap (node_below node) level_is) ∙ absent)
+    by_same false is = refl
+
+-- nobody holds anything below an idle node
+pub idle_here : (node : Node) → is_idle node ≡ true → (n : ℕ) → qos_here node n ≡ None
+idle_here node idle n = none_in _ (out-Node node).here.entries (and_parts _ _ idle).0
+
+pub idle_below : (node : Node) → is_idle node ≡ true → (level : List ℕ) → node_below node level ≡ None
+idle_below node idle level = none_in _ (out-Node node).below.entries (and_parts _ _ idle).1
+
+pub idle_bare : (node : Node) → is_idle node ≡ true → IsBare node
+idle_bare node idle n [] = idle_here node idle n
+idle_bare node idle n (level ∷ levels) =
+    ap (λ x. in_node x (λ child. qos_left child n levels)) (idle_below node idle level)
+
+-- what moves from an idle node is one filter
+pub one_of_idle : (before after : Node) (client : ℕ) (levels : List (List ℕ)) (qos : Qos)
+    → is_idle before ≡ true → Moves before after client levels (Some qos) → IsOne after client levels qos
+one_of_idle before after client levels qos idle moves n others =
+    moves n others
+    ∙ ap (λ x. cond ((client == n) && same_levels levels others) (Some qos) x) (idle_bare before idle n others)
+
+-- an idle node may go
+pub same_without : (before after child : Node) (level : List ℕ)
+    → ((n : ℕ) → qos_here after n ≡ qos_here before n)
+    → node_below before level ≡ Some child → is_idle child ≡ true
+    → ((other : List ℕ) → node_below after other ≡ cond (bytes_eq level other) None (node_below before other))
+    → SaysSame before after
+same_without before after child level here there idle below n [] = here n
+same_without before after child level here there idle below n (other ∷ others) =
+    ap (λ x. in_node x (λ c. qos_left c n others)) (below other) ∙ by_level (bytes_eq level other) refl
+  where
+    by_level : (same : Bool) → bytes_eq level other ≡ same
+        → in_node (cond same None (node_below before other)) (λ c. qos_left c n others)
+        ≡ in_node (node_below before other) (λ c. qos_left c n others)
+    by_level true is =
+        let level_is : level ≡ other = (bytes_eq-Decides level other).0 is in
+        let found : node_below before other ≡ Some child = sym (ap (node_below before) level_is) ∙ there in
+        sym (ap (λ x. in_node x (λ c. qos_left c n others)) found ∙ idle_bare child idle n others)
+    by_level false is = refl
+
+pub moved_same : (before between after : Node) (client : ℕ) (levels : List (List ℕ)) (now : Option Qos)
+    → Moves before between client levels now → SaysSame between after → Moves before after client levels now
+moved_same before between after client levels now moves same n others = same n others ∙ moves n others
+
+-- the same of texts
+pub moved_at : (before after : Node) (client : ℕ) (filter : List ℕ) (now : Option Qos)
+    → Moves before after client (levels_of filter) now → MovesAt before after client filter now
+moved_at before after client filter now moves n other =
+    moves n (levels_of other)
+    ∙ ap (λ b. cond ((client == n) && b) now (qos_at before n other)) (same_texts filter other)
+
+pub same_at : (before after : Node) → SaysSame before after → SaysSameAt before after
+same_at before after same n filter = same n (levels_of filter)
