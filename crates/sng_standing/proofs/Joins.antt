@@ -37,6 +37,9 @@ joined_one (Some AtLeastOnce) (Some r) q is = inl is
 abbrev pub AsGreat : Option Qos → Qos → Type 0
 AsGreat found qos = joined found (Some qos) ≡ found
 
+pub as_great_same : (a b : Option Qos) (q : Qos) → a ≡ b → AsGreat b q → AsGreat a q
+as_great_same a b q same great = ap (λ x. joined x (Some q)) same ∙ great ∙ sym same
+
 pub as_great_itself : (q : Qos) → AsGreat (Some q) q
 as_great_itself AtMostOnce = refl
 as_great_itself AtLeastOnce = refl

@@ -3,3 +3,5 @@ pub mod Moved
 pub mod Joins
 pub mod Matched
 pub mod Listed
+pub mod Held
+pub mod Ended

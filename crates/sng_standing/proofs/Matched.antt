@@ -1,7 +1,7 @@
 -- What is found level by level is the greatest QoS among the filters that match.
 use Rattle.std.proofs.Common.{◌≡◌, ℕ, Bool, true, false, ◌&&◌, ◌||◌, not, List, [], ◌∷◌, Option, Some, None, cond}
 use Rattle.std.proofs.Common.{refl, sym, ap, ◌∙◌, inl, inr, ◌⊎◌, is_some}
-use Rattle.std.proofs.lemmas.Bool.{cases_Bool, and_parts, and_left, and_right}
+use Rattle.std.proofs.lemmas.Bool.{cases_Bool, and_parts, and_from, and_left, and_right}
 use Rattle.std.proofs.lemmas.Slice.Eq.{bytes_eq-Decides}
 use Rattle.std.specs.List.{join_with_byte}
 use Rattle.std.specs.Str.{bytes_eq}
@@ -19,7 +19,8 @@ use Rattle.sng_standing.specs.Tree.{qos_here, node_below, in_node, qos_left, qos
 use Rattle.sng_standing.specs.Standing.{AreOfFilter, HasFilters}
 use Rattle.sng_standing.specs.Greatest.{joined, rest_here, greatest_left, greatest_reserved, greatest_at}
 use Rattle.sng_standing.specs.Holders.{NoneIsGreater, IsGreatestAt}
-use Rattle.sng_standing.proofs.Joins.{joined_one, AsGreat, as_great_itself, as_great_left, as_great_right}
+use Rattle.sng_standing.proofs.Joins.{joined_one, AsGreat, as_great_same, as_great_itself, as_great_left}
+use Rattle.sng_standing.proofs.Joins.{as_great_right}
 use Rattle.std.proofs.lemmas.Grind.{common_steps}
 use Rattle.std.proofs.Common.{arith}
 
@@ -75,12 +76,12 @@ rest_of node n level levels q placed is held =
     let there : rest_here node n ≡ Some q =
     sym (ap (λ l. in_node (node_below node l) (λ child. qos_here child n)) is)
     ∙ sym (ap (λ ls. qos_left node n (level ∷ ls)) last) ∙ held in
-    rw there (as_great_itself q)
+    as_great_same _ _ q there (as_great_itself q)
 
 pub found_all : (node : Node) (n : ℕ) (filter name : List (List ℕ)) (q : Qos) → is_in_place filter ≡ true
     → matched filter name ≡ true → qos_left node n filter ≡ Some q → AsGreat (greatest_left node n name) q
 found_all node n [] [] q placed is held =
-    as_great_left (qos_here node n) (rest_here node n) q (rw held (as_great_itself q))
+    as_great_left (qos_here node n) (rest_here node n) q (as_great_same _ _ q held (as_great_itself q))
 found_all node n [] (found ∷ others) q placed is held = cc
 found_all node n (level ∷ levels) [] q placed is held = elim (cases_Bool (is_hash level)) [
   | inl hash ↦ as_great_right (qos_here node n) (rest_here node n) q
@@ -96,7 +97,7 @@ found_all node n (level ∷ levels) (found ∷ others) q placed is held =
       (rest_of node n level levels q placed ((bytes_eq-Decides level (35 ∷ [])).0 hash) held)
       | inr hash ↦
         let taken = take_level level found levels others hash is in
-        as_great_left (joined same any) (rest_here node n) q (elim taken.0 [
+        as_great_left (joined same any) (rest_here node n) q (elim (taken.0) [
           | inl plus ↦ as_great_right same any q (in_some (node_below node (43 ∷ []))
           (λ child. qos_left child n levels) (λ child. greatest_left child n others) q
           (λ child there. found_all child n levels others q below taken.1 there)
@@ -122,7 +123,7 @@ matched_own found filter name plain is =
 
 in_found : (x : Option Node) (g : Node → Option Qos) (q : Qos) → in_node x g ≡ Some q
     → (child : Node) × (x ≡ Some child) × (g child ≡ Some q)
-in_found None g q is = cc
+in_found None g q is = absurd (cc)
 in_found (Some child) g q is = (child, refl, is)
 
 of_rest : (node : Node) (n : ℕ) (name : List (List ℕ)) (q : Qos) → rest_here node n ≡ Some q
@@ -157,7 +158,6 @@ all_match node n (found ∷ others) q plain is =
     let same = in_node (node_below node found) (λ child. greatest_left child n others) in
     let any = in_node (node_below node (43 ∷ [])) (λ child. greatest_left child n others) in
     elim (joined_one (joined same any) (rest_here node n) q is) [
-      | inr rest ↦ of_rest node n (found ∷ others) q rest
       | inl below ↦ elim (joined_one same any q below) [
         | inl own ↦
           let c = in_found (node_below node found) (λ child. greatest_left child n others) q own in
@@ -166,6 +166,7 @@ all_match node n (found ∷ others) q plain is =
           let c = in_found (node_below node (43 ∷ [])) (λ child. greatest_left child n others) q plus in
           of_any node n found others q c.0 c.1 (all_match c.0 n others q p.1 c.2)
       ]
+      | inr rest ↦ of_rest node n (found ∷ others) q rest
     ]
 
 -- ---- names that begin with `$`
@@ -179,8 +180,8 @@ own_level level found levels others tame is = by (is_hash level) (is_plus level)
   where
     by : (hash plus : Bool) → is_hash level ≡ hash → is_plus level ≡ plus
         → (level ≡ found) × (matched levels others ≡ true)
-    by true plus hash_is plus_is = let no : true ≡ false = rw hash_is at tame in cc
-    by false true hash_is plus_is = let no : true ≡ false = rw (hash_is, plus_is) at tame in cc
+    by true plus hash_is plus_is = let no : true ≡ false = rw hash_is at tame in absurd (cc)
+    by false true hash_is plus_is = let no : true ≡ false = rw (hash_is, plus_is) at tame in absurd (cc)
     by false false hash_is plus_is =
         let p = and_parts (bytes_eq level found) (matched levels others) (rw (hash_is, plus_is) at is) in
         ((bytes_eq-Decides level found).0 p.0, p.1)
@@ -209,7 +210,7 @@ HoldsTame root n name q = (filter : List (List ℕ)) × (matched filter name ≡
 
 reserved_match : (root : Node) (n : ℕ) (name : List (List ℕ)) (q : Qos) → all_plain name ≡ true
     → greatest_reserved root n name ≡ Some q → HoldsTame root n name q
-reserved_match root n [] q plain is = cc
+reserved_match root n [] q plain is = absurd (cc)
 reserved_match root n (found ∷ others) q plain is =
     let p = and_parts (is_plain found) (all_plain others) plain in
     let c = in_found (node_below root found) (λ child. greatest_left child n others) q is in
@@ -220,7 +221,7 @@ reserved_match root n (found ∷ others) q plain is =
 -- ---- filters and names as texts
 
 levels_some : (name : List ℕ) → levels_of name ≡ [] → ⊥
-levels_some name none = let c = cut name in let no = sym none ∙ c.is in cc
+levels_some name none = let c = cut name in let no : [] ≡ c.level ∷ c.rest = sym none ∙ c.is in cc
 
 -- a filter that matches, by its levels
 of_match : (filter name : List ℕ) → matches filter name ≡ true
@@ -238,10 +239,12 @@ of_match filter name is =
 to_match : (filter name : List ℕ)
     → (begins_wild (items_of (levels_of filter)) (has_rest (levels_of filter)) && is_reserved name) ≡ false
     → matched (levels_of filter) (levels_of name) ≡ true → matches filter name ≡ true
-to_match filter name tame is = rw tame is
+to_match filter name tame is =
+    and_from (not (begins_wild (items_of (levels_of filter)) (has_rest (levels_of filter)) && is_reserved name))
+    (matched (levels_of filter) (levels_of name)) (ap not tame) is
 
 placed_of : (levels : List (List ℕ)) → AreOfFilter levels → is_in_place levels ≡ true
-placed_of levels of = sym (ap is_in_place of.0) ∙ filter-placed (join_with_byte 47 levels) of.1
+placed_of levels are = sym (ap is_in_place are.0) ∙ filter-placed (join_with_byte 47 levels) are.1
 
 pub found_at : (root : Node) (n : ℕ) (filter name : List ℕ) (q : Qos) → HasFilters root
     → matches filter name ≡ true → qos_at root n filter ≡ Some q → AsGreat (greatest_at root n name) q
@@ -263,9 +266,6 @@ found_at root n filter name q has is held =
         as_great_same _ _ q same (found_all root n (levels_of filter) (levels_of name) q placed m.0 held)
     ]
   where
-    as_great_same : (a b : Option Qos) (r : Qos) → a ≡ b → AsGreat b r → AsGreat a r
-    as_great_same a b r same great = ap (λ x. joined x (Some r)) same ∙ great ∙ sym same
-
     tame_where : (wild reserved : Bool) → reserved ≡ true → (wild && reserved) ≡ false → wild ≡ false
     tame_where true true yes no = no
     tame_where true false yes no = cc
@@ -280,12 +280,12 @@ with_text : (root : Node) (n : ℕ) (name : List ℕ) (q : Qos) (levels : List (
     → matched levels (levels_of name) ≡ true → qos_left root n levels ≡ Some q
     → (begins_wild (items_of levels) (has_rest levels) && is_reserved name) ≡ false → HoldsAt root n name q
 with_text root n name q levels has is held tame =
-    let of = has n levels (ap is_some held) in (
+    let are = has n levels (ap is_some held) in (
       join_with_byte 47 levels,
       to_match (join_with_byte 47 levels) name
-      (ap (λ ls. begins_wild (items_of ls) (has_rest ls) && is_reserved name) of.0 ∙ tame)
-      (ap (λ ls. matched ls (levels_of name)) of.0 ∙ is),
-      ap (qos_left root n) of.0 ∙ held,
+      (ap (λ ls. begins_wild (items_of ls) (has_rest ls) && is_reserved name) are.0 ∙ tame)
+      (ap (λ ls. matched ls (levels_of name)) are.0 ∙ is),
+      ap (qos_left root n) are.0 ∙ held,
     )
 
 held_at : (root : Node) (n : ℕ) (name : List ℕ) (q : Qos) → HasFilters root → is_name name ≡ true
@@ -313,12 +313,12 @@ none_where (Some q) not_some = absurd (not_some q refl)
 
 pub is_greatest : (root : Node) (n : ℕ) (name : List ℕ) (answer : Option Qos) → HasFilters root
     → is_name name ≡ true → greatest_at root n name ≡ answer → IsGreatestAt root n name answer
-is_greatest root n name None has named is = λ filter match. none_where (qos_at root n filter) (λ q held.
+is_greatest root n name None has named is = λ filter fitting. none_where (qos_at root n filter) (λ q held.
     let no : Some q ≡ None =
-    sym (ap (λ a. joined a (Some q)) is) ∙ found_at root n filter name q has match held ∙ is in cc)
+    sym (ap (λ a. joined a (Some q)) is) ∙ found_at root n filter name q has fitting held ∙ is in cc)
 is_greatest root n name (Some qos) has named is = (
-      λ filter other match held.
+      λ filter other fitting held.
       let same : Some (greater qos other) ≡ Some qos =
-      sym (ap (λ a. joined a (Some other)) is) ∙ found_at root n filter name other has match held ∙ is in cc,
+      sym (ap (λ a. joined a (Some other)) is) ∙ found_at root n filter name other has fitting held ∙ is in cc,
       held_at root n name qos has named is,
     )

@@ -1,6 +1,6 @@
 -- How what stands changes.
 use Rattle.std.specs.Prelude.{ℕ, ◌≡◌, Bool, true, false, ◌&&◌, ◌==◌, List, [], ◌∷◌, Some, None, is_some}
-use Rattle.std.specs.Prelude.{if◌then◌else◌}
+use Rattle.std.specs.Prelude.{if◌then◌else◌, MatchBool}
 use Rattle.std.specs.declared.option.Option.{Option}
 use Rattle.std.specs.List.{join_with_byte}
 use Rattle.std.specs.Str.{bytes_eq}
@@ -42,6 +42,16 @@ SaysSameAt before after = (n : ℕ) (filter : List ℕ) → qos_at after n filte
 abbrev pub MovesAt : Node → Node → ℕ → List ℕ → Option Qos → Type 0
 MovesAt before after client filter now = (n : ℕ) (other : List ℕ) → qos_at after n other
     ≡ (if (client == n) && bytes_eq filter other then now else qos_at before n other)
+
+-- whether anybody holds a filter, given who holds it at which QoS
+abbrev pub IsHeldBy : (ℕ → Option Qos) → Bool → Type 0
+IsHeldBy qos held = MatchBool held ((n : ℕ) × (is_some (qos n) ≡ true)) ((n : ℕ) → qos n ≡ None)
+
+-- the same of all but one client
+abbrev pub IsHeldBeside : (ℕ → Option Qos) → ℕ → Bool → Type 0
+IsHeldBeside qos client held = MatchBool held
+    ((n : ℕ) × ((client == n) ≡ false) × (is_some (qos n) ≡ true))
+    ((n : ℕ) → (client == n) ≡ false → qos n ≡ None)
 
 -- the levels are those of a filter
 abbrev pub AreOfFilter : List (List ℕ) → Type 0

@@ -21,11 +21,21 @@ abbrev pub in_node : Option Node → (Node → Option Qos) → Option Qos
 in_node None found = None
 in_node (Some node) found = found node
 
+-- the node that is found in a node, where there is one
+abbrev pub on_node : Option Node → (Node → Option Node) → Option Node
+on_node None found = None
+on_node (Some node) found = found node
+
 -- at which QoS the client holds the filter of these levels below the node, if it does
 abbrev pub qos_left : Node → ℕ → List (List ℕ) → Option Qos
 qos_left node client [] = qos_here node client
 qos_left node client (level ∷ levels) =
     in_node (node_below node level) (λ child. qos_left child client levels)
+
+-- the node at which the filter of these levels below the node ends, if there is one
+abbrev pub node_left : Node → List (List ℕ) → Option Node
+node_left node [] = Some node
+node_left node (level ∷ levels) = on_node (node_below node level) (λ child. node_left child levels)
 
 -- at which QoS the client holds the filter, given as its text, if it does
 abbrev pub qos_at : Node → ℕ → List ℕ → Option Qos

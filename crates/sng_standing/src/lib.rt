@@ -6,6 +6,7 @@
 #![tactic(auto)]
 
 mod adding;
+mod asking;
 mod ending;
 mod finding;
 mod found;

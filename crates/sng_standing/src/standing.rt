@@ -1,14 +1,18 @@
 //! The filters that stand for anybody.
-ghost use Rattle.std.specs.Prelude.{◌≡◌, ℕ, List, None, Some, IfOk, OnOk, OnErr, is_some};
+ghost use Rattle.std.specs.Prelude.{◌≡◌, ◌==◌, ◌&&◌, ℕ, List, None, Some, IfOk, OnOk, OnErr, is_some};
+ghost use Rattle.std.specs.Prelude.{if◌then◌else◌};
+ghost use Rattle.sng_fan.specs.Subscriptions.{stands};
 ghost use Rattle.sng_standing.specs.Tree.{qos_at};
-ghost use Rattle.sng_standing.specs.Standing.{SaysSameAt, MovesAt};
+ghost use Rattle.sng_standing.specs.Standing.{SaysSameAt, MovesAt, IsHeldBy, IsHeldBeside};
 ghost use Rattle.sng_standing.specs.Holders.{AreHolders};
 
 use crate::adding::add_at;
+use crate::asking::node_at;
 use crate::ending::end_at;
 use crate::finding::find;
 use crate::found::listed;
 use crate::{Holder, Node};
+use sng_fan::Held;
 use sng_text::{Qos, TopicFilter, TopicName};
 use std::alloc::{AllocError, Global};
 use std::collections::BTreeMap;
@@ -68,6 +72,44 @@ impl Standing {
         ensures rest { MovesAt self.old self.new client filter.now None }
     {
         end_at(&mut self.root, client, Some(filter.text()))
+    }
+
+    /// Ends the subscriptions of the client to these filters, as all that stand for it. Takes no memory.
+    pub fn end_client(&mut self, client: usize, held: &[Held])
+        ensures { (n : ℕ) (filter : List ℕ) → qos_at self.new n filter
+            ≡ (if (client == n) && stands held.now filter then None else qos_at self.old n filter) }
+    {
+        for one in held {
+            self.end(client, &one.filter);
+        }
+    }
+
+    /// At which QoS the client holds the filter, if it does. Takes no memory.
+    pub fn qos(&self, client: usize, filter: &TopicFilter) -> Option<Qos>
+        ensures { result ≡ qos_at self.now client filter.now }
+    {
+        let node = node_at(&self.root, Some(filter.text()))?;
+        node.here.get(&client).copied()
+    }
+
+    /// Whether anybody holds the filter. Takes no memory.
+    pub fn is_held(&self, filter: &TopicFilter) -> bool
+        ensures { IsHeldBy (λ n. qos_at self.now n filter.now) result }
+    {
+        match node_at(&self.root, Some(filter.text())) {
+            None => false,
+            Some(node) => node.is_held(),
+        }
+    }
+
+    /// Whether anybody but this client holds the filter. Takes no memory.
+    pub fn is_held_by_others(&self, client: usize, filter: &TopicFilter) -> bool
+        ensures { IsHeldBeside (λ n. qos_at self.now n filter.now) client result }
+    {
+        match node_at(&self.root, Some(filter.text())) {
+            None => false,
+            Some(node) => node.is_held_by_others(client),
+        }
     }
 
     /// The clients that hold a filter which matches the name, in order of their numbers, each once and with

@@ -1,0 +1,40 @@
+//! Who holds one filter.
+ghost use Rattle.std.specs.Prelude.{◌≡◌};
+ghost use Rattle.std.specs.Option.{option_copied};
+ghost use Rattle.sng_text.specs.Levels.{levels_left};
+ghost use Rattle.sng_standing.specs.Tree.{node_left, qos_here};
+ghost use Rattle.sng_standing.specs.Standing.{IsHeldBy, IsHeldBeside};
+
+use crate::Node;
+use sng_text::split_level;
+
+/// The node where the filter of these levels below this one ends, where there is one.
+pub(crate) fn node_at<'a>(node: &'a Node, path: Option<&[u8]>) -> Option<&'a Node>
+    ensures { option_copied result ≡ node_left node.now (levels_left path.entry) }
+{
+    let Some(path) = path else {
+        return Some(node);
+    };
+    let (level, rest) = split_level(path);
+    match node.below.get(level) {
+        None => None,
+        Some(child) => node_at(child, rest),
+    }
+}
+
+impl Node {
+    /// Whether anybody holds the filter that ends here.
+    pub(crate) fn is_held(&self) -> bool
+        ensures { IsHeldBy (qos_here self.now) result }
+    {
+        self.here.len() > 0
+    }
+
+    /// Whether anybody but this client holds the filter that ends here.
+    pub(crate) fn is_held_by_others(&self, client: usize) -> bool
+        ensures { IsHeldBeside (qos_here self.now) client result }
+    {
+        let own = usize::from(self.here.contains_key(&client));
+        self.here.len() > own
+    }
+}
