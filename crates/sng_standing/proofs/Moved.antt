@@ -1,6 +1,6 @@
 -- How what stands below a node moves as one of its maps does.
 use Rattle.std.proofs.Common.{◌≡◌, ℕ, Bool, true, false, ◌&&◌, ◌==◌, List, [], ◌∷◌, length, Option, Some, None}
-use Rattle.std.proofs.Common.{cond, if◌then◌else◌, refl, sym, ap, ap₂, ◌∙◌}
+use Rattle.std.proofs.Common.{cond, if◌then◌else◌, refl, sym, ap, ap₂, ◌∙◌, subst}
 use Rattle.std.proofs.lemmas.Bool.{and_parts, and_right}
 use Rattle.std.proofs.lemmas.Slice.Eq.{bytes_eq-Decides}
 use Rattle.std.specs.Cmp.{unsigned_ties}
@@ -156,3 +156,14 @@ moved_at before after client filter now moves n other =
 
 pub same_at : (before after : Node) → SaysSame before after → SaysSameAt before after
 same_at before after same n filter = same n (levels_of filter)
+
+-- the levels may be given in other words
+pub moved_levels : (before after : Node) (client : ℕ) (levels others : List (List ℕ)) (now : Option Qos)
+    → others ≡ levels → Moves before after client levels now → Moves before after client others now
+moved_levels before after client levels others now is moves =
+    subst (λ (ls : List (List ℕ)). Moves before after client ls now) (sym is) moves
+
+pub one_levels : (node : Node) (client : ℕ) (levels others : List (List ℕ)) (qos : Qos) → others ≡ levels
+    → IsOne node client levels qos → IsOne node client others qos
+one_levels node client levels others qos is one =
+    subst (λ (ls : List (List ℕ)). IsOne node client ls qos) (sym is) one
