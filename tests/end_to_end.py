@@ -8,9 +8,9 @@ the questions of tests/cover.table and tests/may.table; the reports on policy te
 their warnings where the proved program runs; books of a script, its own and others; command lines, good and
 bad; output that cannot be written; a line without end under a limit of memory. The numbers in the help have
 to be those of the constants. A search over names (cover_search.py) answers the first table of questions too,
-and memory_errors.py reads which lines of the sources make an error of memory. Uses the proved program where
-one lies in crates/sng/out that is newer than every source, and else one build without proof, which leaves out
-what it cannot run, and says what.
+memory_errors.py reads which lines of the sources make an error of memory, and promise_lines.py counts the
+definitions of the promise. Uses the proved program where one lies in crates/sng/out that is newer than every
+source, and else one build without proof, which leaves out what it cannot run, and says what.
 """
 import collections
 import glob
@@ -322,6 +322,8 @@ def main():
     results.append(('cover.table-by-a-search-over-names', search.returncode == 0))
     errors = subprocess.run([sys.executable, os.path.join(HERE, 'memory_errors.py')], timeout=SECONDS)
     results.append(('errors-of-memory-in-the-sources', errors.returncode == 0))
+    told = subprocess.run([sys.executable, os.path.join(HERE, 'promise_lines.py')], timeout=SECONDS)
+    results.append(('lines-of-the-promise', told.returncode == 0))
     for name, good in results:
         if not good:
             print('FAIL', name)
