@@ -159,7 +159,7 @@ impl Parts {
                 alloc, policy, *clock, statement, sessions, place,
             ),
             SessionRequest::Untaken(message) => unsupported(
-                alloc, *clock, &message, sessions, place,
+                alloc, *clock, message, sessions, place,
             ),
         }
     }

@@ -10,7 +10,7 @@ pub push-requires : goal.push-requires
 push-requires c =
     has_room (the_view c.self.inside) c.id.result.now c.args.publish
     (client_at c.self.inside.sessions c.args.place) c.room-room.result c.in_ok-judged.judged
-    c.in-Some-asked.publication (c.room-room.ensures
+    c.in-Some.publication (c.room-room.ensures
     ∙ (ap (room c.args.self.now) c.qos_of.ensures
     ∙ ap (λ t. room t (qos_of c.args.publish.flags.qos)) (sym c.self.view_is))) c.in_ok-judged.ensures
-    (sym c.in_ok-asked.ensures ∙ c.in-Some-asked.is)
+    (sym c.in_ok-asked.ensures ∙ c.in-Some.is)
