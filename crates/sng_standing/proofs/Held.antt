@@ -68,13 +68,13 @@ held_beside [] client own true sorted own_is is = absurd (omega (arith, ltb-true
 held_beside [] client own false sorted own_is is = λ n differs. refl
 held_beside (e ∷ []) client own held sorted own_is is = elim (cases_Bool (client == e.0)) [
   | inl same ↦
-    let one : own ≡ 1 = own_is ∙ ap (λ x. cond (is_some x) 1 0) (first_is e [] client true same) in
-    let none : held ≡ false = is ∙ ap (λ k. nat_lt k 1) one in
-    subst (λ b. IsHeldBeside (at (e ∷ [])) client b) (sym none) (λ n differs. alone e client n same differs)
+      let one : own ≡ 1 = own_is ∙ ap (λ x. cond (is_some x) 1 0) (first_is e [] client true same) in
+      let none : held ≡ false = is ∙ ap (λ k. nat_lt k 1) one in
+      subst (λ b. IsHeldBeside (at (e ∷ [])) client b) (sym none) (λ n differs. alone e client n same differs)
   | inr differs ↦
-    let zero_is : own ≡ 0 = own_is ∙ ap (λ x. cond (is_some x) 1 0) (first_is e [] client false differs) in
-    let some : held ≡ true = is ∙ ap (λ k. nat_lt k 1) zero_is in
-    subst (λ b. IsHeldBeside (at (e ∷ [])) client b) (sym some) (e.0, differs, first_held e [])
+      let zero_is : own ≡ 0 = own_is ∙ ap (λ x. cond (is_some x) 1 0) (first_is e [] client false differs) in
+      let some : held ≡ true = is ∙ ap (λ k. nat_lt k 1) zero_is in
+      subst (λ b. IsHeldBeside (at (e ∷ [])) client b) (sym some) (e.0, differs, first_held e [])
 ]
 held_beside (e ∷ f ∷ es) client own false sorted own_is is =
     let most = own_at_most (at (e ∷ f ∷ es) client) own own_is in

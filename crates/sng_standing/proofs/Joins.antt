@@ -74,18 +74,18 @@ gathered_all kept (e ∷ es) n sorted =
     sym (unsigned_ties n e.0) ∙ nat_eq_equiv.symm n e.0 in
     elim (cases_Bool (e.0 == n)) [
       | inl same ↦
-        let here : eq_by_cmp nat_cmp n e.0 ≡ true = tied ∙ same in
-        let none : later ≡ None =
-        lookup-none (is_at (nat_cmp n)) es (none_past_head (eq_by_cmp_equiv nat_cmp_total) n e es
-        (IsDistinct-from_sorted nat_cmp (keys_of (e ∷ es)) sorted) here) in
-        ap (λ b. gathered (cond b (joined kept (Some e.1)) kept) es n) same
-        ∙ gathered_all (joined kept (Some e.1)) es n rest
-        ∙ ap (joined (joined kept (Some e.1))) none
-        ∙ joined-none (joined kept (Some e.1))
-        ∙ ap (λ b. joined kept (cond b (Some e.1) later)) (sym here)
+          let here : eq_by_cmp nat_cmp n e.0 ≡ true = tied ∙ same in
+          let none : later ≡ None =
+          lookup-none (is_at (nat_cmp n)) es (none_past_head (eq_by_cmp_equiv nat_cmp_total) n e es
+          (IsDistinct-from_sorted nat_cmp (keys_of (e ∷ es)) sorted) here) in
+          ap (λ b. gathered (cond b (joined kept (Some e.1)) kept) es n) same
+          ∙ gathered_all (joined kept (Some e.1)) es n rest
+          ∙ ap (joined (joined kept (Some e.1))) none
+          ∙ joined-none (joined kept (Some e.1))
+          ∙ ap (λ b. joined kept (cond b (Some e.1) later)) (sym here)
       | inr differs ↦
-        let past : is_eq (nat_cmp n e.0) ≡ false = tied ∙ differs in
-        ap (λ b. gathered (cond b (joined kept (Some e.1)) kept) es n) differs
-        ∙ gathered_all kept es n rest
-        ∙ ap (λ b. joined kept (cond b (Some e.1) later)) (sym past)
+          let past : is_eq (nat_cmp n e.0) ≡ false = tied ∙ differs in
+          ap (λ b. gathered (cond b (joined kept (Some e.1)) kept) es n) differs
+          ∙ gathered_all kept es n rest
+          ∙ ap (λ b. joined kept (cond b (Some e.1) later)) (sym past)
     ]

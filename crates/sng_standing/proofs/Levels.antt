@@ -32,7 +32,7 @@ apart level other key differ is =
     flipped : (a b : List ℕ) → bytes_eq b a ≡ false → bytes_eq a b ≡ false
     flipped a b no = elim (cases_Bool (bytes_eq a b)) [
       | inl yes ↦ let a_is : a ≡ b = (bytes_eq-Decides a b).0 yes in
-        let back : bytes_eq b a ≡ true = (bytes_eq-Decides b a).1 (sym a_is) in cc
+          let back : bytes_eq b a ≡ true = (bytes_eq-Decides b a).1 (sym a_is) in cc
       | inr is_not ↦ is_not
     ]
 
@@ -45,14 +45,14 @@ pub level_updates : {K X : Type 0} (m n : BTreeMap K X) (bytes : K → List ℕ)
 level_updates m n bytes level now updates other =
     elim (cases_Bool (bytes_eq level other)) [
       | inl same ↦
-        let is : level ≡ other = (bytes_eq-Decides level other).0 same in
-        ap (λ l. get_by (λ k. slice_cmp nat_cmp l (bytes k)) n) (sym is) ∙ updates.1
-        ∙ ap (λ b. cond b now (get_by (λ k. slice_cmp nat_cmp other (bytes k)) m)) (sym same)
+          let is : level ≡ other = (bytes_eq-Decides level other).0 same in
+          ap (λ l. get_by (λ k. slice_cmp nat_cmp l (bytes k)) n) (sym is) ∙ updates.1
+          ∙ ap (λ b. cond b now (get_by (λ k. slice_cmp nat_cmp other (bytes k)) m)) (sym same)
       | inr differ ↦
-        other_entries _ _ _ _ updates.3 _
-        (λ x y. (eq_by_cmp_equiv nat_list_cmp_total).congr other (bytes x) (bytes y))
-        (λ k. apart level other (bytes k) differ)
-        ∙ ap (λ b. cond b now (get_by (λ k. slice_cmp nat_cmp other (bytes k)) m)) (sym differ)
+          other_entries _ _ _ _ updates.3 _
+          (λ x y. (eq_by_cmp_equiv nat_list_cmp_total).congr other (bytes x) (bytes y))
+          (λ k. apart level other (bytes k) differ)
+          ∙ ap (λ b. cond b now (get_by (λ k. slice_cmp nat_cmp other (bytes k)) m)) (sym differ)
     ]
 
 pub none_in : {K X : Type 0} (test : K → Bool) (es : List (K × X)) → (length es == 0) ≡ true
@@ -78,14 +78,14 @@ same_itself (level ∷ levels) =
 pub same_texts : (text other : List ℕ) → same_levels (levels_of text) (levels_of other) ≡ bytes_eq text other
 same_texts text other = elim (cases_Bool (bytes_eq text other)) [
   | inl same ↦
-    let is : text ≡ other = (bytes_eq-Decides text other).0 same in
-    ap (λ t. same_levels (levels_of text) (levels_of t)) (sym is) ∙ same_itself (levels_of text) ∙ sym same
+      let is : text ≡ other = (bytes_eq-Decides text other).0 same in
+      ap (λ t. same_levels (levels_of text) (levels_of t)) (sym is) ∙ same_itself (levels_of text) ∙ sym same
   | inr differ ↦ elim (cases_Bool (same_levels (levels_of text) (levels_of other))) [
     | inl same ↦
-      let levels : levels_of text ≡ levels_of other = same_by_levels _ _ same in
-      let is : text ≡ other = sym ((levels_are_parts text).1) ∙ ap (join_with_byte 47) levels
-      ∙ (levels_are_parts other).1 in
-      let yes : bytes_eq text other ≡ true = (bytes_eq-Decides text other).1 is in cc
+        let levels : levels_of text ≡ levels_of other = same_by_levels _ _ same in
+        let is : text ≡ other = sym ((levels_are_parts text).1) ∙ ap (join_with_byte 47) levels
+        ∙ (levels_are_parts other).1 in
+        let yes : bytes_eq text other ≡ true = (bytes_eq-Decides text other).1 is in cc
     | inr no ↦ no ∙ sym differ
   ]
 ]

@@ -28,7 +28,7 @@ pub are_holders : (root : Node) (name : List ℕ) (list : List Holder) (es : Lis
     → ((n : ℕ) → lookup (is_at (nat_cmp n)) es ≡ greatest_at root n name)
     → HasFilters root → is_name name ≡ true → AreHolders root name list
 are_holders root name list es list_is sorted each has named = (
-      subst (IsStrictlySortedBy nat_cmp) (sym (ap (map (λ (h : Holder). h.client)) list_is ∙ clients-map es)) sorted,
-      λ n. is_greatest root n name (qos_of n list) has named
+  subst (IsStrictlySortedBy nat_cmp) (sym (ap (map (λ (h : Holder). h.client)) list_is ∙ clients-map es)) sorted,
+  λ n. is_greatest root n name (qos_of n list) has named
       (sym (each n) ∙ sym (qos_of-map n es) ∙ sym (ap (qos_of n) list_is)),
-    )
+)

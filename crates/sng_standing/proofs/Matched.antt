@@ -85,7 +85,7 @@ found_all node n [] [] q placed is held =
 found_all node n [] (found ∷ others) q placed is held = cc
 found_all node n (level ∷ levels) [] q placed is held = elim (cases_Bool (is_hash level)) [
   | inl hash ↦ as_great_right (qos_here node n) (rest_here node n) q
-  (rest_of node n level levels q placed ((bytes_eq-Decides level (35 ∷ [])).0 hash) held)
+      (rest_of node n level levels q placed ((bytes_eq-Decides level (35 ∷ [])).0 hash) held)
   | inr hash ↦ absurd (over_not level levels hash is)
 ]
 found_all node n (level ∷ levels) (found ∷ others) q placed is held =
@@ -94,19 +94,19 @@ found_all node n (level ∷ levels) (found ∷ others) q placed is held =
     let below = placed_behind level levels placed in
     elim (cases_Bool (is_hash level)) [
       | inl hash ↦ as_great_right (joined same any) (rest_here node n) q
-      (rest_of node n level levels q placed ((bytes_eq-Decides level (35 ∷ [])).0 hash) held)
+          (rest_of node n level levels q placed ((bytes_eq-Decides level (35 ∷ [])).0 hash) held)
       | inr hash ↦
-        let taken = take_level level found levels others hash is in
-        as_great_left (joined same any) (rest_here node n) q (elim (taken.0) [
-          | inl plus ↦ as_great_right same any q (in_some (node_below node (43 ∷ []))
-          (λ child. qos_left child n levels) (λ child. greatest_left child n others) q
-          (λ child there. found_all child n levels others q below taken.1 there)
-          (sym (ap (λ l. in_node (node_below node l) (λ child. qos_left child n levels)) plus) ∙ held))
-          | inr own ↦ as_great_left same any q (in_some (node_below node found)
-          (λ child. qos_left child n levels) (λ child. greatest_left child n others) q
-          (λ child there. found_all child n levels others q below taken.1 there)
-          (sym (ap (λ l. in_node (node_below node l) (λ child. qos_left child n levels)) own) ∙ held))
-        ])
+          let taken = take_level level found levels others hash is in
+          as_great_left (joined same any) (rest_here node n) q (elim (taken.0) [
+            | inl plus ↦ as_great_right same any q (in_some (node_below node (43 ∷ []))
+                (λ child. qos_left child n levels) (λ child. greatest_left child n others) q
+                (λ child there. found_all child n levels others q below taken.1 there)
+                (sym (ap (λ l. in_node (node_below node l) (λ child. qos_left child n levels)) plus) ∙ held))
+            | inr own ↦ as_great_left same any q (in_some (node_below node found)
+                (λ child. qos_left child n levels) (λ child. greatest_left child n others) q
+                (λ child there. found_all child n levels others q below taken.1 there)
+                (sym (ap (λ l. in_node (node_below node l) (λ child. qos_left child n levels)) own) ∙ held))
+          ])
     ]
 
 -- ---- what is found matches
@@ -135,18 +135,18 @@ of_own : (node : Node) (n : ℕ) (found : List ℕ) (others : List (List ℕ)) (
     → is_plain found ≡ true → node_below node found ≡ Some child → Holds child n others q
     → Holds node n (found ∷ others) q
 of_own node n found others q child plain is holds = (
-      found ∷ holds.0,
-      matched_own found holds.0 others plain holds.1,
-      ap (λ x. in_node x (λ c. qos_left c n holds.0)) is ∙ holds.2,
-    )
+  found ∷ holds.0,
+  matched_own found holds.0 others plain holds.1,
+  ap (λ x. in_node x (λ c. qos_left c n holds.0)) is ∙ holds.2,
+)
 
 of_any : (node : Node) (n : ℕ) (found : List ℕ) (others : List (List ℕ)) (q : Qos) (child : Node)
     → node_below node (43 ∷ []) ≡ Some child → Holds child n others q → Holds node n (found ∷ others) q
 of_any node n found others q child is holds = (
-      (43 ∷ []) ∷ holds.0,
-      holds.1,
-      ap (λ x. in_node x (λ c. qos_left c n holds.0)) is ∙ holds.2,
-    )
+  (43 ∷ []) ∷ holds.0,
+  holds.1,
+  ap (λ x. in_node x (λ c. qos_left c n holds.0)) is ∙ holds.2,
+)
 
 pub all_match : (node : Node) (n : ℕ) (name : List (List ℕ)) (q : Qos) → all_plain name ≡ true
     → greatest_left node n name ≡ Some q → Holds node n name q
@@ -160,11 +160,11 @@ all_match node n (found ∷ others) q plain is =
     elim (joined_one (joined same any) (rest_here node n) q is) [
       | inl below ↦ elim (joined_one same any q below) [
         | inl own ↦
-          let c = in_found (node_below node found) (λ child. greatest_left child n others) q own in
-          of_own node n found others q c.0 p.0 c.1 (all_match c.0 n others q p.1 c.2)
+            let c = in_found (node_below node found) (λ child. greatest_left child n others) q own in
+            of_own node n found others q c.0 p.0 c.1 (all_match c.0 n others q p.1 c.2)
         | inr plus ↦
-          let c = in_found (node_below node (43 ∷ [])) (λ child. greatest_left child n others) q plus in
-          of_any node n found others q c.0 c.1 (all_match c.0 n others q p.1 c.2)
+            let c = in_found (node_below node (43 ∷ [])) (λ child. greatest_left child n others) q plus in
+            of_any node n found others q c.0 c.1 (all_match c.0 n others q p.1 c.2)
       ]
       | inr rest ↦ of_rest node n (found ∷ others) q rest
     ]
@@ -253,17 +253,17 @@ found_at root n filter name q has is held =
     let placed = placed_of (levels_of filter) (has n (levels_of filter) (ap is_some held)) in
     elim (cases_Bool (is_reserved name)) [
       | inl reserved ↦
-        let same : greatest_at root n name ≡ greatest_reserved root n (levels_of name) =
-        ap (λ b. cond b (greatest_reserved root n (levels_of name)) (greatest_left root n (levels_of name)))
-        reserved in
-        let tame = tame_where _ (is_reserved name) reserved m.1 in
-        as_great_same _ _ q same (found_reserved root n (levels_of filter) (levels_of name) q placed tame m.0
-        held (levels_some name))
+          let same : greatest_at root n name ≡ greatest_reserved root n (levels_of name) =
+          ap (λ b. cond b (greatest_reserved root n (levels_of name)) (greatest_left root n (levels_of name)))
+          reserved in
+          let tame = tame_where _ (is_reserved name) reserved m.1 in
+          as_great_same _ _ q same (found_reserved root n (levels_of filter) (levels_of name) q placed tame m.0
+          held (levels_some name))
       | inr free ↦
-        let same : greatest_at root n name ≡ greatest_left root n (levels_of name) =
-        ap (λ b. cond b (greatest_reserved root n (levels_of name)) (greatest_left root n (levels_of name)))
-        free in
-        as_great_same _ _ q same (found_all root n (levels_of filter) (levels_of name) q placed m.0 held)
+          let same : greatest_at root n name ≡ greatest_left root n (levels_of name) =
+          ap (λ b. cond b (greatest_reserved root n (levels_of name)) (greatest_left root n (levels_of name)))
+          free in
+          as_great_same _ _ q same (found_all root n (levels_of filter) (levels_of name) q placed m.0 held)
     ]
   where
     tame_where : (wild reserved : Bool) → reserved ≡ true → (wild && reserved) ≡ false → wild ≡ false
@@ -283,8 +283,8 @@ with_text root n name q levels has is held tame =
     let are = has n levels (ap is_some held) in (
       join_with_byte 47 levels,
       to_match (join_with_byte 47 levels) name
-      (ap (λ ls. begins_wild (items_of ls) (has_rest ls) && is_reserved name) are.0 ∙ tame)
-      (ap (λ ls. matched ls (levels_of name)) are.0 ∙ is),
+          (ap (λ ls. begins_wild (items_of ls) (has_rest ls) && is_reserved name) are.0 ∙ tame)
+          (ap (λ ls. matched ls (levels_of name)) are.0 ∙ is),
       ap (qos_left root n) are.0 ∙ held,
     )
 
@@ -294,17 +294,17 @@ held_at root n name q has named is =
     let plain = all_plain-levels_of name (name-plain name named) in
     elim (cases_Bool (is_reserved name)) [
       | inl reserved ↦
-        let same : greatest_at root n name ≡ greatest_reserved root n (levels_of name) =
-        ap (λ b. cond b (greatest_reserved root n (levels_of name)) (greatest_left root n (levels_of name)))
-        reserved in
-        let h = reserved_match root n (levels_of name) q plain (sym same ∙ is) in
-        with_text root n name q h.0 has h.1 h.2 (and_left _ (is_reserved name) h.3)
+          let same : greatest_at root n name ≡ greatest_reserved root n (levels_of name) =
+          ap (λ b. cond b (greatest_reserved root n (levels_of name)) (greatest_left root n (levels_of name)))
+          reserved in
+          let h = reserved_match root n (levels_of name) q plain (sym same ∙ is) in
+          with_text root n name q h.0 has h.1 h.2 (and_left _ (is_reserved name) h.3)
       | inr free ↦
-        let same : greatest_at root n name ≡ greatest_left root n (levels_of name) =
-        ap (λ b. cond b (greatest_reserved root n (levels_of name)) (greatest_left root n (levels_of name)))
-        free in
-        let h = all_match root n (levels_of name) q plain (sym same ∙ is) in
-        with_text root n name q h.0 has h.1 h.2 (and_right _ (is_reserved name) free)
+          let same : greatest_at root n name ≡ greatest_left root n (levels_of name) =
+          ap (λ b. cond b (greatest_reserved root n (levels_of name)) (greatest_left root n (levels_of name)))
+          free in
+          let h = all_match root n (levels_of name) q plain (sym same ∙ is) in
+          with_text root n name q h.0 has h.1 h.2 (and_right _ (is_reserved name) free)
     ]
 
 none_where : (x : Option Qos) → ((q : Qos) → x ≡ Some q → ⊥) → x ≡ None
@@ -317,8 +317,8 @@ is_greatest root n name None has named is = λ filter fitting. none_where (qos_a
     let no : Some q ≡ None =
     sym (ap (λ a. joined a (Some q)) is) ∙ found_at root n filter name q has fitting held ∙ is in cc)
 is_greatest root n name (Some qos) has named is = (
-      λ filter other fitting held.
+  λ filter other fitting held.
       let same : Some (greater qos other) ≡ Some qos =
       sym (ap (λ a. joined a (Some other)) is) ∙ found_at root n filter name other has fitting held ∙ is in cc,
-      held_at root n name qos has named is,
-    )
+  held_at root n name qos has named is,
+)
