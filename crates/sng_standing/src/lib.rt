@@ -2,7 +2,8 @@
 //! name is found without a look at the others (MQTT 3.1.1, 4.7).
 //!
 //! Contracts see who holds what at which QoS: `qos_at` of the tree, a client and a filter. Two trees of which
-//! it says the same are the same to every call here. Nothing in the product calls this crate yet.
+//! it says the same are the same to every call here. Nothing in the product calls this crate yet, and
+//! its contracts are not all proved.
 #![tactic(auto)]
 
 mod adding;
