@@ -5,6 +5,7 @@ Counts the lines of definitions that whoever believes the promise has to read, a
 of docs/promise.md, which rounds to ten. Of each contract that the table names (and of its clauses, where it names
 them) these are the definitions that it cites, and all that these cite in turn, with their comments and without
 imports, in the specs of all crates; what the toolchain's library defines and the types of the code are left out.
+A definition cites those that its words name, so a variable with the name of one counts as it.
 With --names it prints each definition that a contract of sng_promise cites, by its module and lines; --write
 puts the right numbers into the page.
 Exit status: 0 where each number stands, 1 where one does not.
@@ -18,11 +19,14 @@ ROOT = os.path.join(os.path.dirname(os.path.abspath(__file__)), '..')
 # What a reader takes from the gateway: that each step keeps its history lawful, from the opening state on
 PREMISE = {('sng_history.Lawful', 'Lawful'), ('sng_history.State', 'opening')}
 WORD = re.compile(r"[^\s(){}\[\],;.λ→×]+")
-HEAD = re.compile(r"^(?:abbrev |pub |record |data |inductive |unfold |instance )*([^\s:(){}]+)")
+HEAD = re.compile(r"^(?:abbrev |pub |record |data )*([^\s:(){}]+)")
+# A name behind the alias of its module, as `streams.feed`
+DOTTED = re.compile(r"(\w+)\.([^\s(){}\[\],;.]+)")
 
 
 def uses(lines):
-    """What the imports among the lines bring: the local name to the module and the name there."""
+    """What the imports among the lines bring: the local name to the module and the name there, which is None for
+    the alias of a module."""
     found = {}
     for line in lines:
         it = re.match(r'(?:ghost )?use Rattle\.(\w+)\.specs\.([\w.]+)(?:\.\{(.*?)\}| as (\w+))?;?$', line.strip())
@@ -32,6 +36,8 @@ def uses(lines):
             name, _, other = word.strip().partition(' as ')
             if name:
                 found[other or name] = (it[1] + '.' + it[2], name)
+        if it[4]:
+            found[it[4]] = (it[1] + '.' + it[2], None)
     return found
 
 
@@ -49,7 +55,7 @@ class Module:
             code = [line for line in kept if not line.startswith('--')]
             if not code:
                 continue
-            names = [HEAD.match(line)[1] for line in code if re.match(r'(abbrev|pub|record|data|inductive)\b', line)]
+            names = [HEAD.match(line)[1] for line in code if re.match(r'(abbrev|pub|record|data)\b', line)]
             for name in names or [HEAD.match(code[0])[1]]:
                 self.texts[name] = '\n'.join(code)
                 self.lengths[name] = (part, len(kept))
@@ -65,6 +71,10 @@ def modules():
 
 def cited(text, scope, module, all_modules):
     """The definitions that a text names, each by its module and name."""
+    for alias, name in set(DOTTED.findall(text)):
+        where, whole = scope.get(alias, (None, ''))
+        if whole is None and where in all_modules and name in all_modules[where].texts:
+            yield where, name
     for word in set(WORD.findall(text)):
         if module and word in all_modules[module].texts:
             yield module, word
