@@ -15,8 +15,8 @@ use Rattle.mqtt_frames.specs.declared.header.Header.{Header}
 use Rattle.mqtt_frames.specs.declared.header.Header.TheVariants as headers
 use Rattle.mqtt_frames.specs.declared.wire.decode.Front.{Front}
 use Rattle.mqtt_frames.specs.declared.wire.decode.Front.TheVariants as fronts
-use Rattle.mqtt_frames.specs.declared.stream.Status.{Status}
-use Rattle.mqtt_frames.specs.declared.stream.Status.TheVariants as statuses
+use Rattle.mqtt_frames.specs.declared.stream.StreamStatus.{StreamStatus}
+use Rattle.mqtt_frames.specs.declared.stream.StreamStatus.TheVariants as statuses
 use Rattle.mqtt_frames.specs.Kinds.{kind_of}
 use Rattle.mqtt_frames.specs.Reading.{body_of}
 use Rattle.mqtt_frames.specs.Headers.{behind_group, length_at, with_kind, with_length, header_at}
@@ -276,13 +276,13 @@ waits_then bytes packets fault after is none =
     (ap (λ (r : Read). r.ending) (is ∙ ap (λ (f : Option PacketFault). read_of packets f after) none))
     (read_all-waits bytes)
 
-pub ready_from : (s : Status) (held : List ℕ) → s ≡ statuses.Reading → decode held ≡ fronts.Waiting
+pub ready_from : (s : StreamStatus) (held : List ℕ) → s ≡ statuses.Reading → decode held ≡ fronts.Waiting
     → IsReady s held
 ready_from statuses.Reading held reads waits = waits
 ready_from (statuses.Kept fault) held reads waits = absurd cc
 ready_from statuses.Failed held reads waits = absurd cc
 
-pub waits_ready : (s : Status) (held : List ℕ) → s ≡ statuses.Reading → IsReady s held
+pub waits_ready : (s : StreamStatus) (held : List ℕ) → s ≡ statuses.Reading → IsReady s held
     → decode held ≡ fronts.Waiting
 waits_ready statuses.Reading held reads ready = ready
 waits_ready (statuses.Kept fault) held reads ready = absurd cc

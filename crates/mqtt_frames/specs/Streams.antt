@@ -8,10 +8,10 @@ use Rattle.mqtt_frames.specs.declared.fault.StreamFault.TheVariants as faults
 use Rattle.mqtt_frames.specs.declared.packet.Packet.{Packet}
 use Rattle.mqtt_frames.specs.declared.wire.decode.Front.{Front}
 use Rattle.mqtt_frames.specs.declared.wire.decode.Front.TheVariants as front
-use Rattle.mqtt_frames.specs.declared.stream.Status.{Status}
-use Rattle.mqtt_frames.specs.declared.stream.Status.TheVariants as status
-use Rattle.mqtt_frames.specs.declared.pending.Ending.{Ending}
-use Rattle.mqtt_frames.specs.declared.pending.Ending.TheVariants as ending
+use Rattle.mqtt_frames.specs.declared.stream.StreamStatus.{StreamStatus}
+use Rattle.mqtt_frames.specs.declared.stream.StreamStatus.TheVariants as status
+use Rattle.mqtt_frames.specs.declared.pending.Remainder.{Remainder}
+use Rattle.mqtt_frames.specs.declared.pending.Remainder.TheVariants as ending
 use Rattle.mqtt_frames.specs.Faults.{stream_fault}
 use Rattle.mqtt_frames.specs.Fronts.{decode}
 
@@ -70,13 +70,13 @@ fed (Kept fault) piece = (Err (stream_fault fault), Failed)
 fed Failed piece = (Err faults.Failed, Failed)
 
 -- the state that a stream stands for
-abbrev pub state_of : Status → List ℕ → State
+abbrev pub state_of : StreamStatus → List ℕ → State
 state_of status.Reading held = Reading held
 state_of (status.Kept fault) held = Kept fault
 state_of status.Failed held = Failed
 
 -- what is held is no whole packet; after a fault nothing is held
-abbrev pub IsReady : Status → List ℕ → Type 0
+abbrev pub IsReady : StreamStatus → List ℕ → Type 0
 IsReady status.Reading held = decode held ≡ front.Waiting
 IsReady (status.Kept fault) held = held ≡ []
 IsReady status.Failed held = held ≡ []
@@ -96,6 +96,6 @@ abbrev pub read_of : List Packet → Option PacketFault → List ℕ → Read
 read_of packets None held = record { packets = packets; ending = Rest held }
 read_of packets (Some fault) held = record { packets = packets; ending = Fault fault }
 
-abbrev pub ending_of : Ending → End
+abbrev pub ending_of : Remainder → End
 ending_of (ending.Rest bytes) = Rest bytes.now
 ending_of (ending.Fault fault) = Fault fault

@@ -166,14 +166,14 @@ fn read_behind(
 {
     let (packets, ending) = read_all(alloc, packets, bytes)?;
     match ending {
-        Ending::Rest(rest) => {
+        Remainder::Rest(rest) => {
             hold(alloc, held, rest)?;
             Ok(Taken {
                 packets,
                 fault: None,
             })
         }
-        Ending::Fault(fault) => Ok(Taken {
+        Remainder::Fault(fault) => Ok(Taken {
             packets,
             fault: Some(fault),
         }),
@@ -195,7 +195,7 @@ fn hold(alloc: Global, held: &mut Vec<u8>, bytes: &[u8]) -> Result<(), AllocErro
 
 /// How the reading of bytes ended.
 #[derive(Debug, Drop)]
-pub enum Ending<'a> {
+pub enum Remainder<'a> {
     /// With the bytes of an unfinished packet, or none.
     Rest(&'a [u8]),
     /// With a fault.
@@ -207,7 +207,7 @@ fn read_all(
     alloc: Global,
     packets: Vec<Packet>,
     bytes: &[u8],
-) -> Result<(Vec<Packet>, Ending<'_>), AllocError>
+) -> Result<(Vec<Packet>, Remainder<'_>), AllocError>
     ensures { IfOk result (λ read. with_packets packets.items (read_all bytes.now)
         ≡ record { packets = read.0.items; ending = ending_of read.1 }) }
 {
@@ -215,8 +215,8 @@ fn read_all(
     let mut rest = bytes;
     loop {
         match decode::decode(alloc, rest)? {
-            Front::Waiting => return Ok((packets, Ending::Rest(rest))),
-            Front::Faulty(fault) => return Ok((packets, Ending::Fault(fault))),
+            Front::Waiting => return Ok((packets, Remainder::Rest(rest))),
+            Front::Faulty(fault) => return Ok((packets, Remainder::Fault(fault))),
             Front::Whole(packet, size) => {
                 packets.push(packet)?;
                 rest = rest.split_at(size).1;

@@ -10,7 +10,7 @@ use std::marker::Model;
 
 /// What a stream does with the next piece.
 #[derive(Clone, Copy, Debug)]
-pub enum Status {
+pub enum StreamStatus {
     /// It reads it.
     Reading,
     /// It reports a fault that stands behind packets that were answered.
@@ -23,7 +23,7 @@ pub enum Status {
 /// Contracts see those bytes, or that a fault is kept, or that one was reported.
 #[derive(Debug, Drop)]
 pub struct Stream {
-    status: Status,
+    status: StreamStatus,
     /// The bytes of an unfinished packet; none after a fault.
     held: Vec<u8>,
 }
@@ -44,7 +44,7 @@ impl Stream {
         ensures { result ≡ Reading [] }
     {
         Stream {
-            status: Status::Reading,
+            status: StreamStatus::Reading,
             held: Vec::new(alloc),
         }
     }
@@ -69,12 +69,12 @@ impl Stream {
         ensures failed { self.old ≡ Failed → (result ≡ Err StreamFault.Failed) × (self.new ≡ Failed) }
     {
         match self.status {
-            Status::Failed => Err(StreamFault::Failed),
-            Status::Kept(fault) => {
-                self.status = Status::Failed;
+            StreamStatus::Failed => Err(StreamFault::Failed),
+            StreamStatus::Kept(fault) => {
+                self.status = StreamStatus::Failed;
                 Err(StreamFault::from(fault))
             }
-            Status::Reading => {
+            StreamStatus::Reading => {
                 if piece.is_empty() {
                     return Ok(Vec::new(alloc));
                 }
@@ -85,10 +85,10 @@ impl Stream {
                         // what was held is freed
                         self.held = Vec::new(alloc);
                         if packets.is_empty() {
-                            self.status = Status::Failed;
+                            self.status = StreamStatus::Failed;
                             return Err(StreamFault::from(fault));
                         }
-                        self.status = Status::Kept(fault);
+                        self.status = StreamStatus::Kept(fault);
                         Ok(packets)
                     }
                 }

@@ -1,7 +1,7 @@
 //! `sng check ..`: the script, and the book from standard input.
 use crate::file::{first_no_text, report_file, report_word};
 use sng_check::check;
-use sng_gateway::Status;
+use sng_script::Status;
 use sng_text::Octets;
 use std::rt::Files;
 use std::{fs, io};

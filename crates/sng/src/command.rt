@@ -11,7 +11,7 @@ mod services;
 use clap::{ArgMatches, Command, Error};
 pub use escape::filters_among;
 pub use questions::MayWords;
-use sng_gateway::Status;
+use sng_script::Status;
 use sng_serve::Words as ServeWords;
 use std::alloc::{AllocError, Global};
 
@@ -57,7 +57,8 @@ fn choice<'a>(matches: &ArgMatches<'a>) -> Chosen<'a> {
     }
 }
 
-// Each `?` below finds nothing alive but what it takes: a command that is dropped at many exits is dear to check.
+// Each `?` below finds nothing alive but what it takes: a command that is dropped at many exits is dear to
+// check.
 
 /// All that the program understands.
 fn program<'a>(alloc: Global) -> Result<Command<'a>, AllocError> {

@@ -1,8 +1,8 @@
 //! The file of a policy, and the words that name it.
 use crate::report::out_of_memory;
-use sng_gateway::Status;
-use sng_gateway::ending::ended;
-use sng_gateway::file::read_text;
+use sng_script::Status;
+use sng_script::ending::ended;
+use sng_script::file::read_text;
 use sng_text::Octets;
 use std::io::{Error, ErrorKind};
 use std::rt::Files;

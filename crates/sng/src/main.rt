@@ -12,8 +12,8 @@ mod words;
 
 use command::{Chosen, filters_among, read_command};
 use report::{out_of_memory, report};
-use sng_gateway::covering::cover_words;
 use sng_gateway::play::play;
+use sng_questions::covering::cover_words;
 use sng_serve::End;
 use sng_text::Octets;
 use std::alloc::AllocError;

@@ -2,10 +2,10 @@
 use crate::command::MayWords;
 use crate::file::{file_text, first_no_text, report_file, report_word};
 use crate::report::out_of_memory;
-use sng_gateway::Status;
-use sng_gateway::ask::{Ask, AskFault, client_ask, source_ask};
-use sng_gateway::ending::ended;
-use sng_gateway::may::may;
+use sng_questions::inquiry::{Inquiry, InquiryFault, client_inquiry, source_inquiry};
+use sng_questions::may::may;
+use sng_script::Status;
+use sng_script::ending::ended;
 use sng_text::Octets;
 use std::alloc::Global;
 use std::io;
@@ -20,44 +20,44 @@ pub fn answer<R: Files + Print + Eprint + AllocGlobal>(
     if let Some(place) = first_no_text(words) {
         return report_word(rt, place);
     }
-    match ask_of(rt.alloc(), asked) {
-        Ok(ask) => answer_by_file(rt, &ask, asked.policy),
-        Err(fault) => report_ask(rt, fault),
+    match inquiry_of(rt.alloc(), asked) {
+        Ok(inquiry) => answer_by_file(rt, &inquiry, asked.policy),
+        Err(fault) => report_inquiry(rt, fault),
     }
 }
 
 /// Answers the question by the policy in the file.
-fn answer_by_file<R: Files + Print + AllocGlobal>(rt: &R, ask: &Ask, path: &str) -> Status {
+fn answer_by_file<R: Files + Print + AllocGlobal>(rt: &R, inquiry: &Inquiry, path: &str) -> Status {
     match file_text(rt, path) {
-        Ok(text) => may(rt.alloc(), ask, text.as_slice(), io::writer(rt)),
+        Ok(text) => may(rt.alloc(), inquiry, text.as_slice(), io::writer(rt)),
         Err(error) => report_file(rt, path, &error),
     }
 }
 
-fn ask_of(alloc: Global, asked: &MayWords<'_>) -> Result<Ask, AskFault> {
+fn inquiry_of(alloc: Global, asked: &MayWords<'_>) -> Result<Inquiry, InquiryFault> {
     let first = asked.first.as_bytes();
     let second = asked.second.as_bytes();
     match (asked.source, asked.third) {
-        (Some(source), _) => source_ask(alloc, source.as_bytes(), first, second),
-        (None, Some(object)) => client_ask(alloc, first, second, object.as_bytes()),
-        (None, None) => Err(AskFault::Action),
+        (Some(source), _) => source_inquiry(alloc, source.as_bytes(), first, second),
+        (None, Some(object)) => client_inquiry(alloc, first, second, object.as_bytes()),
+        (None, None) => Err(InquiryFault::Action),
     }
 }
 
 /// Prints what is wrong with a question.
-fn report_ask<R: Print + Eprint>(rt: &R, fault: AskFault) -> Status {
+fn report_inquiry<R: Print + Eprint>(rt: &R, fault: InquiryFault) -> Status {
     let printed = match fault {
-        AskFault::Action => {
+        InquiryFault::Action => {
             let _ = rt.eprintln(
                 "error: ACTION is publish, receive or subscribe, and for a source publish",
             );
             return Status::BadCommandLine;
         }
-        AskFault::Memory => return out_of_memory(rt),
-        AskFault::Client => rt.println("bad client"),
-        AskFault::Source => rt.println("bad source"),
-        AskFault::Name => rt.println("bad name"),
-        AskFault::Filter => rt.println("bad filter"),
+        InquiryFault::Memory => return out_of_memory(rt),
+        InquiryFault::Client => rt.println("bad client"),
+        InquiryFault::Source => rt.println("bad source"),
+        InquiryFault::Name => rt.println("bad name"),
+        InquiryFault::Filter => rt.println("bad filter"),
     };
     ended(Status::Unreadable, printed.is_ok())
 }

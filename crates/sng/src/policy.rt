@@ -1,10 +1,10 @@
 //! `sng policy ..`: the text that it checks.
 use crate::file::{file_text, first_no_text, report_file, report_word};
 use crate::report::out_of_memory;
-use sng_gateway::Status;
-use sng_gateway::ending::end;
-use sng_gateway::file::read_text;
-use sng_gateway::report::report_of;
+use sng_questions::report::report_of;
+use sng_script::Status;
+use sng_script::ending::end;
+use sng_script::file::read_text;
 use sng_text::Octets;
 use std::alloc::AllocError;
 use std::io::Write;

@@ -2,8 +2,8 @@
 use crate::command::status_of;
 use clap::Error;
 use clap::error::ErrorKind;
-use sng_gateway::Status;
-use sng_gateway::ending::ended;
+use sng_script::Status;
+use sng_script::ending::ended;
 
 /// Prints help that was asked for on standard output, or what is wrong with the command line on standard
 /// error.

@@ -1,6 +1,6 @@
 //! `sng serve ..` and `sng broker ..`.
 use crate::file::{first_no_text, report_word};
-use sng_gateway::Status;
+use sng_script::Status;
 use sng_serve::{End, Words};
 use sng_text::Octets;
 use std::net::Net;

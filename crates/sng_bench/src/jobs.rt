@@ -1,5 +1,5 @@
 //! The jobs, each over inputs that are made once.
-use crate::judging::{self, Standing};
+use crate::judging::{self, Coverage};
 use crate::policies;
 use mqtt_frames::{
     List, Packet, Request, RequestedQos, Stream, Subscribe, encode as encode_packet, write_publish,
@@ -41,7 +41,7 @@ pub enum Job {
     /// Reading the text of a policy of 256 clients with 64 pairs each.
     ReadPolicy,
     /// Judging 31 filters that stand for each of these clients.
-    Judge(Standing),
+    Judge(Coverage),
     /// Asking of each of these clients whether its scope is the same under a policy that replaces this one.
     SameScope,
     /// Reading a small PUBLISH of MQTT-SN.
@@ -77,9 +77,9 @@ impl Job {
             "may-receive" => Some(Job::MayReceive),
             "may-subscribe" => Some(Job::MaySubscribe),
             "read-policy" => Some(Job::ReadPolicy),
-            "judge-own" => Some(Job::Judge(Standing::Own)),
-            "judge-granted" => Some(Job::Judge(Standing::Granted)),
-            "judge-denied" => Some(Job::Judge(Standing::Denied)),
+            "judge-own" => Some(Job::Judge(Coverage::Own)),
+            "judge-granted" => Some(Job::Judge(Coverage::Granted)),
+            "judge-denied" => Some(Job::Judge(Coverage::Denied)),
             "same-scope" => Some(Job::SameScope),
             "decode" => Some(Job::Decode),
             "encode" => Some(Job::Encode),

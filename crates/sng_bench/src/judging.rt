@@ -2,14 +2,16 @@
 use crate::jobs::{NotDone, done};
 use crate::policies::{self, Edition};
 use sng_grants::{Clients, Policy, Sources};
-use sng_policy::{Grant, may_publish, may_receive, may_subscribe, same_scope, source_may_publish};
+use sng_policy::{
+    FilterGrant, NameGrant, may_publish, may_receive, may_subscribe, same_scope, source_may_publish,
+};
 use sng_scope::read_policy;
 use sng_text::{ClientId, TopicFilter, TopicName};
 use std::alloc::Global;
 
 /// Filters that stand for a client when its policy is replaced.
 #[derive(Clone, Copy, Debug, PartialEq, Eq)]
-pub enum Standing {
+pub enum Coverage {
     /// Each is the filter of a pair itself, the K-th that of the 2K-th.
     Own,
     /// One pair grants each, with a wider filter: the K-th filter's is the 2K-th.
@@ -34,7 +36,7 @@ pub fn read_times(alloc: Global, times: u32) -> Result<u64, NotDone> {
 }
 
 /// Judges all filters that stand for the clients of the policy.
-pub fn judge_times(alloc: Global, standing: Standing, times: u32) -> Result<u64, NotDone> {
+pub fn judge_times(alloc: Global, standing: Coverage, times: u32) -> Result<u64, NotDone> {
     let policy = policy(alloc, Edition::First)?;
     let clients = clients(alloc)?;
     let standing = all_standing(alloc, standing)?;
@@ -43,7 +45,7 @@ pub fn judge_times(alloc: Global, standing: Standing, times: u32) -> Result<u64,
         for (client, filters) in clients.iter().zip(&standing) {
             for filter in filters {
                 let grant = done(may_subscribe(alloc, &policy, client, filter))?;
-                total = total.wrapping_add(weight(&grant));
+                total = total.wrapping_add(filter_weight(&grant));
             }
         }
     }
@@ -73,12 +75,20 @@ fn policy(alloc: Global, edition: Edition) -> Result<Policy, NotDone> {
     done(read_policy(alloc, text.as_str().as_bytes()))
 }
 
-/// A number of the answer.
-fn weight(grant: &Grant) -> u64 {
+/// A number of the answer on a name.
+fn name_weight(grant: NameGrant) -> u64 {
     match grant {
-        Grant::Allowed => 1,
-        Grant::NoScope | Grant::UnknownSource | Grant::MissingPub | Grant::MissingSub => 2,
-        Grant::Uncovered(gap) => gap.text().len() as u64,
+        NameGrant::Allowed => 1,
+        NameGrant::Unlisted | NameGrant::Missing => 2,
+    }
+}
+
+/// A number of the answer on a filter.
+fn filter_weight(grant: &FilterGrant) -> u64 {
+    match grant {
+        FilterGrant::Allowed => 1,
+        FilterGrant::Unlisted => 2,
+        FilterGrant::Uncovered(gap) => gap.text().len() as u64,
     }
 }
 
@@ -94,7 +104,7 @@ fn clients(alloc: Global) -> Result<Vec<ClientId>, NotDone> {
 }
 
 /// The filters that stand for each client.
-fn all_standing(alloc: Global, standing: Standing) -> Result<Vec<Vec<TopicFilter>>, NotDone> {
+fn all_standing(alloc: Global, standing: Coverage) -> Result<Vec<Vec<TopicFilter>>, NotDone> {
     let mut all = Vec::new(alloc);
     for client in 0..policies::CLIENTS {
         done(all.push(standing_of(alloc, standing, client)?))?;
@@ -105,16 +115,16 @@ fn all_standing(alloc: Global, standing: Standing) -> Result<Vec<Vec<TopicFilter
 /// The filters that stand for one of them.
 fn standing_of(
     alloc: Global,
-    standing: Standing,
+    standing: Coverage,
     client: u32,
 ) -> Result<Vec<TopicFilter>, NotDone> {
     let mut filters = Vec::new(alloc);
     for number in 0..STANDING {
         let pair = 2 * number;
         let text = done(match standing {
-            Standing::Own => format!(in alloc; "plant/a{client}/d{pair}/+"),
-            Standing::Granted => format!(in alloc; "plant/a{client}/d{pair}/t"),
-            Standing::Denied => format!(in alloc; "plant/a{client}/e{number}/t"),
+            Coverage::Own => format!(in alloc; "plant/a{client}/d{pair}/+"),
+            Coverage::Granted => format!(in alloc; "plant/a{client}/d{pair}/t"),
+            Coverage::Denied => format!(in alloc; "plant/a{client}/e{number}/t"),
         })?;
         let filter = policies::filter(alloc, text.as_str())?;
         done(filters.push(filter))?;
@@ -149,7 +159,7 @@ pub fn publish_times(alloc: Global, times: u32) -> Result<u64, NotDone> {
     let policy = one_client(alloc, done(client.copy())?)?;
     let mut total: u64 = 0;
     for _ in 0..times {
-        total = total.wrapping_add(weight(&may_publish(&policy, &client, &name)));
+        total = total.wrapping_add(name_weight(may_publish(&policy, &client, &name)));
     }
     Ok(total)
 }
@@ -159,7 +169,7 @@ pub fn source_times(alloc: Global, times: u32) -> Result<u64, NotDone> {
     let policy = one_client(alloc, client(alloc)?)?;
     let mut total: u64 = 0;
     for _ in 0..times {
-        total = total.wrapping_add(weight(&source_may_publish(&policy, [10, 0, 0, 7], &name)));
+        total = total.wrapping_add(name_weight(source_may_publish(&policy, [10, 0, 0, 7], &name)));
     }
     Ok(total)
 }
@@ -170,7 +180,7 @@ pub fn receive_times(alloc: Global, times: u32) -> Result<u64, NotDone> {
     let policy = one_client(alloc, done(client.copy())?)?;
     let mut total: u64 = 0;
     for _ in 0..times {
-        total = total.wrapping_add(weight(&may_receive(&policy, &client, &name)));
+        total = total.wrapping_add(name_weight(may_receive(&policy, &client, &name)));
     }
     Ok(total)
 }
@@ -182,7 +192,7 @@ pub fn subscribe_times(alloc: Global, times: u32) -> Result<u64, NotDone> {
     let mut total: u64 = 0;
     for _ in 0..times {
         let grant = done(may_subscribe(alloc, &policy, &client, &filter))?;
-        total = total.wrapping_add(weight(&grant));
+        total = total.wrapping_add(filter_weight(&grant));
     }
     Ok(total)
 }

@@ -1,15 +1,9 @@
 -- Which datagrams are passed over in a flood.
-use Rattle.std.specs.Prelude.{ℕ, ◌+◌, ◌*◌, ◌%◌, ◌≡◌, ◌⊎◌, ◌==◌, if◌then◌else◌, List, slice_index_or}
-use Rattle.std.specs.Prelude.{Option, Some, None}
-use Rattle.std.specs.Int.{w32, from_be_bytes}
+use Rattle.std.specs.Prelude.{ℕ, ◌≡◌, ◌⊎◌, List, slice_index_or, Option, Some, None}
 use Rattle.sng_book.specs.declared.address.Address.{Address}
-use Rattle.sng_bounds.specs.declared.flood.Count.{Count}
+use Rattle.sng_bounds.specs.Counts.{count_at, nothing_counted, slot_of}
 use Rattle.sng_bounds.specs.declared.flood.Known.{Known}
-use Rattle.sng_bounds.specs.declared.flood.Place.{Place}
-
--- where an address has its place
-abbrev pub place_of : Address → ℕ
-place_of a = (from_be_bytes w32 a.ip * 65536 + a.port) % 4093
+use Rattle.sng_bounds.specs.declared.flood.Slot.{Slot}
 
 abbrev pub nobody : Known
 nobody = record { first = None; second = None; third = None; fourth = None }
@@ -24,20 +18,16 @@ pub record Adds (old new : Known) (from : Address) : Type 0 where
   pub again : IsKnown old from → new ≡ old
 
 -- nobody is known, and nothing was denied
-abbrev pub nothing : Place
-nothing = record { known = nobody; denied = record { second = 0; count = 0 } }
+abbrev pub nothing : Slot
+nothing = record { known = nobody; denied = nothing_counted }
 
-abbrev pub place_in : List Place → Address → Place
-place_in places a = slice_index_or places (place_of a) nothing
+abbrev pub slot_in : List Slot → Address → Slot
+slot_in slots a = slice_index_or slots (slot_of a) nothing
 
--- what was counted in that second
-abbrev pub count_at : Count → ℕ → ℕ
-count_at c second = if c.second == second then c.count else 0
-
--- how many datagrams of strangers at the place of the address were denied in that second
-abbrev pub denied_at : List Place → Address → ℕ → ℕ
-denied_at places a second = count_at (place_in places a).denied second
+-- how many datagrams of strangers at the slot of the address were denied in that second
+abbrev pub denied_at : List Slot → Address → ℕ → ℕ
+denied_at slots a second = count_at (slot_in slots a).denied second
 
 -- something was allowed that came from this address
-abbrev pub Knows : List Place → Address → Type 0
-Knows places a = IsKnown (place_in places a).known a
+abbrev pub Knows : List Slot → Address → Type 0
+Knows slots a = IsKnown (slot_in slots a).known a

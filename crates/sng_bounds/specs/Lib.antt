@@ -1,3 +1,4 @@
+pub mod Counts
 pub mod Floods
 pub mod Patiences
 pub mod Refusals

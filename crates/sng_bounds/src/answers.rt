@@ -1,55 +1,49 @@
 //! How many answers may leave for an address that nobody has: a DISCONNECT that answers a DISCONNECT of
 //! another gateway is answered by one more (MQTT-SN 1.2, 6.12), so a forged source would set two gateways to
 //! write to one another without end.
-ghost use Rattle.std.specs.Prelude.{◌≡◌, ◌≤◌, true, IfOk};
+ghost use Rattle.std.specs.Prelude.{◌≡◌, ◌≢◌, ◌+◌, ◌<◌, ◌↔◌, ℕ, length, min, false, IfOk, IsTrue};
+ghost use Rattle.sng_book.specs.declared.address.Address.{Address};
+ghost use Rattle.sng_bounds.specs.Counts.{count_in, kept_in, nothing_counted, slot_of};
+ghost use Rattle.sng_bounds.specs.declared.counts.TheConstants.{SLOTS};
 
+use crate::counts::{Count, SLOTS, slot_of};
 use sng_book::Address;
 use std::alloc::{AllocError, Global};
 
-/// So many answers at most leave for one address in a second.
-pub const ANSWERS_A_SECOND: u8 = 5;
+/// So many answers at most leave for one address in a second, and for all that share its slot.
+pub const ANSWERS_A_SECOND: u32 = 5;
 
-/// Addresses are counted at so many places: two that share one share its answers.
-pub const PLACES: usize = 4096;
-
-/// What left in one second.
+/// What left for whom in a second.
 #[derive(Drop)]
 pub struct Answers {
-    second: u64,
-    counts: Vec<u8>,
+    counts: Vec<Count>,
+    ghost whole: { length counts.items ≡ SLOTS },
 }
 
 impl Answers {
-    pub fn new(alloc: Global) -> Result<Answers, AllocError> {
+    /// Nothing left.
+    pub fn new(alloc: Global) -> Result<Answers, AllocError>
+        ensures { IfOk result (λ answers. (to : Address) → kept_in answers.counts.items to ≡ nothing_counted) }
+    {
         Ok(Answers {
-            second: 0,
-            counts: vec![in alloc; 0; PLACES]?,
+            counts: vec![in alloc; Count::new(); SLOTS]?,
         })
     }
 
-    /// Whether one more may leave for the address in this second, counted from any moment. It is counted.
-    pub fn take(&mut self, to: Address, second: u64) -> bool {
-        if second != self.second {
-            self.second = second;
-            self.counts.as_mut_slice().fill(0);
-        }
-        let Some(count) = self.counts.as_mut_slice().get_mut(place_of(to)) else {
+    /// Whether one more may leave for the address in this second, counted from any moment. It is counted then.
+    pub fn take(&mut self, to: Address, second: u64) -> bool
+        ensures may { IsTrue result ↔ (count_in self.old.counts.items to second < ANSWERS_A_SECOND) }
+        ensures counted { IsTrue result → count_in self.new.counts.items to second
+            ≡ min (count_in self.old.counts.items to second + 1) u32.MAX }
+        ensures held_back { result ≡ false → self.new ≡ self.old }
+        ensures others { (other : Address) → slot_of other ≢ slot_of to → (second : ℕ)
+            → count_in self.new.counts.items other second ≡ count_in self.old.counts.items other second }
+    {
+        let slot = slot_of(to);
+        if self.counts[slot].at(second) >= ANSWERS_A_SECOND {
             return false;
-        };
-        let may = *count < ANSWERS_A_SECOND;
-        if may {
-            *count += 1;
         }
-        may
+        self.counts[slot].add(second);
+        true
     }
-}
-
-/// Where an address is counted. Addresses side by side are counted at places apart.
-pub fn place_of(address: Address) -> usize
-    ensures { result ≤ 4095 }
-{
-    let [a, b, c, d] = address.ip;
-    let ip = u32::from_be_bytes([a, b, c, d]);
-    let mixed = (ip ^ u32::from(address.port).rotate_left(16)).wrapping_mul(0x9e37_79b1);
-    (mixed >> 20) as usize
 }

@@ -1,16 +1,15 @@
 //! Which datagrams are passed over in a flood. The book keeps each row, so a stranger that sends on and on
 //! what is denied would fill it. An address from which anything was allowed is not passed over while it is
-//! remembered, which the last four of each place are.
+//! remembered, which the last four of each slot are.
 ghost use Rattle.std.specs.Prelude.{◌≡◌, ◌≢◌, ◌+◌, ◌<◌, ◌≤◌, ◌↔◌, ◌⊎◌, length, min, IfOk, IsTrue, None, Some};
 ghost use Rattle.sng_book.specs.declared.address.Address.{Address};
-ghost use Rattle.sng_bounds.specs.Floods.{Adds, IsKnown, Knows, count_at, denied_at, nobody, nothing, place_in, place_of};
+ghost use Rattle.sng_bounds.specs.Counts.{count_at, slot_of};
+ghost use Rattle.sng_bounds.specs.Floods.{Adds, IsKnown, Knows, denied_at, nobody, nothing, slot_in};
+ghost use Rattle.sng_bounds.specs.declared.counts.TheConstants.{SLOTS};
 
+use crate::counts::{Count, SLOTS, slot_of};
 use sng_book::Address;
 use std::alloc::{AllocError, Global};
-
-/// Addresses have so many places: strangers that share one share its count. It is a prime number, so that
-/// addresses and ports side by side have places apart.
-const PLACES: usize = 4093;
 
 /// How many datagrams that make nothing but denials are acted on in a second.
 #[derive(Clone, Copy, Debug, PartialEq, Eq)]
@@ -21,40 +20,7 @@ pub struct FloodLimits {
     pub all: u32,
 }
 
-/// A count of one second, which is told by its number.
-#[derive(Clone, Copy, Debug, PartialEq, Eq)]
-pub struct Count {
-    second: u64,
-    count: u32,
-}
-
-impl Count {
-    fn new() -> Count
-        ensures { result ≡ record { second = 0; count = 0 } }
-    {
-        Count {
-            second: 0,
-            count: 0,
-        }
-    }
-
-    /// What was counted in that second.
-    fn at(self, second: u64) -> u32
-        ensures { result ≡ count_at self second }
-    {
-        if self.second == second { self.count } else { 0 }
-    }
-
-    /// Counts one in that second, up to 2^32 - 1.
-    fn add(&mut self, second: u64)
-        ensures { self.new ≡ record { second = second; count = min (count_at self.old second + 1) u32.MAX } }
-    {
-        let count = self.at(second).saturating_add(1);
-        *self = Count { second, count };
-    }
-}
-
-/// The last four addresses at a place from which something was allowed, the last one first.
+/// The last four addresses at a slot from which something was allowed, the last one first.
 #[derive(Clone, Copy, Debug, PartialEq, Eq)]
 pub struct Known {
     first: Option<Address>,
@@ -86,7 +52,7 @@ impl Known {
             || self.fourth == wanted
     }
 
-    /// The address is one of them, in place of the one that was added first, where there are four others.
+    /// The address is one of them, instead of the one that was added first, where there are four others.
     fn add(&mut self, address: Address)
         ensures { Adds self.old self.new address }
     {
@@ -102,9 +68,9 @@ impl Known {
     }
 }
 
-/// What is remembered of the addresses at a place.
+/// What is remembered of the addresses at a slot.
 #[derive(Clone, Copy, Debug, PartialEq, Eq)]
-pub struct Place {
+pub struct Slot {
     /// From whom something was allowed.
     known: Known,
     /// The datagrams of others that made nothing but denials.
@@ -117,8 +83,8 @@ pub struct Flood {
     limits: FloodLimits,
     /// The datagrams of all strangers that made nothing but denials.
     denied: Count,
-    places: Vec<Place>,
-    ghost whole: { length places.items ≡ 4093 },
+    slots: Vec<Slot>,
+    ghost whole: { length slots.items ≡ SLOTS },
 }
 
 impl Flood {
@@ -126,76 +92,66 @@ impl Flood {
     pub fn new(alloc: Global, limits: FloodLimits) -> Result<Flood, AllocError>
         ensures limits { IfOk result (λ f. f.limits ≡ limits) }
         ensures all { IfOk result (λ f. f.denied ≡ nothing.denied) }
-        ensures places { IfOk result (λ f. (a : Address) → place_in f.places.items a ≡ nothing) }
+        ensures slots { IfOk result (λ f. (a : Address) → slot_in f.slots.items a ≡ nothing) }
     {
-        let place = Place {
+        let slot = Slot {
             known: Known::new(),
             denied: Count::new(),
         };
         Ok(Flood {
             limits,
             denied: Count::new(),
-            places: vec![in alloc; place; PLACES]?,
+            slots: vec![in alloc; slot; SLOTS]?,
         })
     }
 
     /// Whether a datagram of the address is acted on in this second, counted from any moment.
     pub fn takes(&self, from: Address, second: u64) -> bool
-        ensures { IsTrue result ↔ (Knows self.now.places.items from
-            ⊎ ((denied_at self.now.places.items from second < self.now.limits.each)
+        ensures { IsTrue result ↔ (Knows self.now.slots.items from
+            ⊎ ((denied_at self.now.slots.items from second < self.now.limits.each)
             × (count_at self.now.denied second < self.now.limits.all))) }
     {
-        let place = self.places[place_of(from)];
-        place.known.has(from)
-            || place.denied.at(second) < self.limits.each
-                && self.denied.at(second) < self.limits.all
+        let slot = self.slots[slot_of(from)];
+        slot.known.has(from)
+            || slot.denied.at(second) < self.limits.each && self.denied.at(second) < self.limits.all
     }
 
     /// A datagram of the address led to something else than denials: from now on the address is known. Where
-    /// four others with this place are, the one that became known first is forgotten.
+    /// four others with this slot are, the one that became known first is forgotten.
     pub fn allow(&mut self, from: Address)
-        ensures known { Knows self.new.places.items from }
-        ensures added { Adds (place_in self.old.places.items from).known
-            (place_in self.new.places.items from).known from }
-        ensures others { (a : Address) → place_of a ≢ place_of from →
-            place_in self.new.places.items a ≡ place_in self.old.places.items a }
+        ensures known { Knows self.new.slots.items from }
+        ensures added { Adds (slot_in self.old.slots.items from).known
+            (slot_in self.new.slots.items from).known from }
+        ensures others { (a : Address) → slot_of a ≢ slot_of from →
+            slot_in self.new.slots.items a ≡ slot_in self.old.slots.items a }
         ensures denied { (a : Address) →
-            (place_in self.new.places.items a).denied ≡ (place_in self.old.places.items a).denied }
+            (slot_in self.new.slots.items a).denied ≡ (slot_in self.old.slots.items a).denied }
         ensures all { self.new.denied ≡ self.old.denied }
         ensures limits { self.new.limits ≡ self.old.limits }
     {
-        self.places[place_of(from)].known.add(from);
+        self.slots[slot_of(from)].known.add(from);
     }
 
     /// A datagram of the address made nothing but denials in this second. It counts where the address is not
     /// known.
     pub fn deny(&mut self, from: Address, second: u64)
-        ensures known { Knows self.old.places.items from → self.new ≡ self.old }
-        ensures one { (Knows self.old.places.items from → ⊥) →
-            denied_at self.new.places.items from second
-            ≡ min (denied_at self.old.places.items from second + 1) u32.MAX }
-        ensures all { (Knows self.old.places.items from → ⊥) →
+        ensures known { Knows self.old.slots.items from → self.new ≡ self.old }
+        ensures one { (Knows self.old.slots.items from → ⊥) →
+            denied_at self.new.slots.items from second
+            ≡ min (denied_at self.old.slots.items from second + 1) u32.MAX }
+        ensures all { (Knows self.old.slots.items from → ⊥) →
             count_at self.new.denied second ≡ min (count_at self.old.denied second + 1) u32.MAX }
-        ensures others { (a : Address) → place_of a ≢ place_of from →
-            place_in self.new.places.items a ≡ place_in self.old.places.items a }
+        ensures others { (a : Address) → slot_of a ≢ slot_of from →
+            slot_in self.new.slots.items a ≡ slot_in self.old.slots.items a }
         ensures names { (a : Address) →
-            (place_in self.new.places.items a).known ≡ (place_in self.old.places.items a).known }
+            (slot_in self.new.slots.items a).known ≡ (slot_in self.old.slots.items a).known }
         ensures limits { self.new.limits ≡ self.old.limits }
     {
-        let place = self.places[place_of(from)];
-        if place.known.has(from) {
+        let slot = self.slots[slot_of(from)];
+        if slot.known.has(from) {
             return;
         }
-        self.places[place_of(from)].denied.add(second);
+        self.slots[slot_of(from)].denied.add(second);
         self.denied.add(second);
     }
-}
-
-/// Where an address has its place.
-fn place_of(address: Address) -> usize
-    ensures place { result ≡ place_of address }
-    ensures below { result < 4093 }
-{
-    let ip = u64::from(u32::from_be_bytes(address.ip));
-    ((ip * 65536 + u64::from(address.port)) % 4093) as usize
 }

@@ -1,8 +1,9 @@
-//! What bounds a running gateway, as plain values: what is passed over, held back or not sent, how long it waits
-//! for the broker, and why it gives a connection up.
+//! What bounds a running gateway, as plain values: what is passed over, held back or not sent, how long it
+//! waits for the broker, and why it gives a connection up.
 #![tactic(auto)]
 
 pub mod answers;
+pub mod counts;
 pub mod flood;
 pub mod loss;
 pub mod paths;

@@ -1,6 +1,7 @@
 -- What one connection gets of a message.
 use Rattle.std.proofs.Common.{◌≡◌, ℕ, ◌+◌, ◌==◌, ◌≤◌, Bool, true, false, true≢false, ◌||◌, List, [], ◌∷◌}
-use Rattle.std.proofs.Common.{◌++◌, if◌then◌else◌, cond, is_some, Option, Some, None, refl, sym, subst, ◌∙◌, ap}
+use Rattle.std.proofs.Common.{◌++◌, if◌then◌else◌, cond, is_some, Option, Some, None, refl, sym, subst, ◌∙◌}
+use Rattle.std.proofs.Common.{ap}
 use Rattle.std.proofs.Common.{arith}
 use Rattle.std.specs.List.{Any, count_by, list_any}
 use Rattle.std.proofs.lemmas.Bool.{eqb-true, eq-eqb, and_parts, and_from}
@@ -16,9 +17,10 @@ use Rattle.mqtt_frames.specs.declared.packet.Packet.TheVariants as packet
 use Rattle.mqtt_frames.specs.declared.packet.Publish.{Publish}
 use Rattle.sng_broker.specs.declared.parts.Message.{Message}
 use Rattle.sng_broker.specs.declared.parts.Peer.{Peer}
-use Rattle.sng_broker.specs.declared.parts.Standing.{Standing}
+use Rattle.sng_broker.specs.declared.parts.Subscription.{Subscription}
 use Rattle.sng_broker.specs.Brokers.{Broker, is_peer, is_open, is_at_least_once, fits, fits_surely, EachOnce}
-use Rattle.sng_broker.specs.Steps.{Stepped, id_for, packet_of, gets, gets_surely, copy_for, fan_out, message_of}
+use Rattle.sng_broker.specs.Steps.{Stepped, id_for, packet_of, gets, gets_surely, copy_for, fan_out}
+use Rattle.sng_broker.specs.Steps.{message_of}
 use Rattle.sng_broker.specs.Steps.{delivered, dropped, greeted, published, step, taken}
 use Rattle.sng_broker.specs.Laws.{sent_to, Fits, IsSure, IsOneCopy, OneCopyEach, PublishGoesOnce}
 use Rattle.sng_broker.proofs.Peers.{or_false}
@@ -34,7 +36,7 @@ sent_both conn (x ∷ xs) ys =
     ]
 
 -- a connection gets at most what is its own
-foreign : (standing : List Standing) (m : Message) (peer : Peer) (conn : ℕ) → is_peer conn peer ≡ false
+foreign : (standing : List Subscription) (m : Message) (peer : Peer) (conn : ℕ) → is_peer conn peer ≡ false
     → sent_to conn (copy_for standing m peer) ≡ []
 foreign standing m peer conn is =
     elim (gets standing m peer.conn)
@@ -45,14 +47,14 @@ foreign standing m peer conn is =
       | false ↦ refl
     ]
 
-unwanted : (standing : List Standing) (m : Message) (peer : Peer) (conn : ℕ) (b : Bool)
+unwanted : (standing : List Subscription) (m : Message) (peer : Peer) (conn : ℕ) (b : Bool)
     → is_peer conn peer ≡ b → gets standing m conn ≡ false → sent_to conn (copy_for standing m peer) ≡ []
 unwanted standing m peer conn false is none = foreign standing m peer conn is
 unwanted standing m peer conn true is none =
     let same : peer.conn ≡ conn = eqb-true peer.conn conn is in
     rw (same, none) refl
 
-own : (standing : List Standing) (m : Message) (peer : Peer) (conn : ℕ) → is_peer conn peer ≡ true
+own : (standing : List Subscription) (m : Message) (peer : Peer) (conn : ℕ) → is_peer conn peer ≡ true
     → gets standing m conn ≡ true
     → sent_to conn (copy_for standing m peer)
     ≡ packet_of false (id_for (gets_surely standing m conn) peer.last_id) m ∷ []
@@ -60,7 +62,8 @@ own standing m peer conn is some =
     let same : peer.conn ≡ conn = eqb-true peer.conn conn is in
     rw (same, some, rw same at is) refl
 
-nobody : (standing : List Standing) (m : Message) (peers : List Peer) (conn : ℕ) → is_open peers conn ≡ false
+nobody : (standing : List Subscription) (m : Message) (peers : List Peer) (conn : ℕ)
+    → is_open peers conn ≡ false
     → sent_to conn (fan_out standing m peers) ≡ []
 nobody standing m [] conn absent = refl
 nobody standing m (peer ∷ peers) conn absent =
@@ -69,7 +72,7 @@ nobody standing m (peer ∷ peers) conn absent =
     ∙ ap (λ l. l ++ sent_to conn (fan_out standing m peers)) (foreign standing m peer conn both.0)
     ∙ nobody standing m peers conn both.1
 
-no_filter : (standing : List Standing) (m : Message) (peers : List Peer) (conn : ℕ)
+no_filter : (standing : List Subscription) (m : Message) (peers : List Peer) (conn : ℕ)
     → gets standing m conn ≡ false → sent_to conn (fan_out standing m peers) ≡ []
 no_filter standing m [] conn none = refl
 no_filter standing m (peer ∷ peers) conn none =
@@ -110,12 +113,12 @@ rest_once peer peers once = λ conn.
     omega (arith, once conn)
 
 -- one copy goes to a connection that gets the message
-abbrev OneFor : List Standing → Message → List Peer → ℕ → Type 0
+abbrev OneFor : List Subscription → Message → List Peer → ℕ → Type 0
 OneFor standing m peers conn =
     (last : ℕ) × (sent_to conn (fan_out standing m peers)
     ≡ packet_of false (id_for (gets_surely standing m conn) last) m ∷ [])
 
-one_by : (standing : List Standing) (m : Message) (peer : Peer) (peers : List Peer) (conn : ℕ) (b : Bool)
+one_by : (standing : List Subscription) (m : Message) (peer : Peer) (peers : List Peer) (conn : ℕ) (b : Bool)
     → is_peer conn peer ≡ b → EachOnce (peer ∷ peers)
     → (b || is_open peers conn) ≡ true → gets standing m conn ≡ true
     → (is_open peers conn ≡ true → OneFor standing m peers conn) → OneFor standing m (peer ∷ peers) conn
@@ -135,7 +138,7 @@ one_by standing m peer peers conn false is once there some later =
           ∙ one.1,
     )
 
-one_for : (standing : List Standing) (m : Message) (peers : List Peer) (conn : ℕ) → EachOnce peers
+one_for : (standing : List Subscription) (m : Message) (peers : List Peer) (conn : ℕ) → EachOnce peers
     → is_open peers conn ≡ true → gets standing m conn ≡ true → OneFor standing m peers conn
 one_for standing m [] conn once there some = absurd (true≢false (sym there))
 one_for standing m (peer ∷ peers) conn once there some =
@@ -143,11 +146,11 @@ one_for standing m (peer ∷ peers) conn once there some =
     (λ later. one_for standing m peers conn (rest_once peer peers once) later some)
 
 -- the tests in words
-fitting : (conn : ℕ) (name : List ℕ) (s : Standing) → Fits conn name s → fits conn name s ≡ true
+fitting : (conn : ℕ) (name : List ℕ) (s : Subscription) → Fits conn name s → fits conn name s ≡ true
 fitting conn name s (here, matching) =
     and_from (s.conn == conn) (matches s.filter name) (eq-eqb s.conn conn here) matching
 
-fitted : (conn : ℕ) (name : List ℕ) (s : Standing) → fits conn name s ≡ true → Fits conn name s
+fitted : (conn : ℕ) (name : List ℕ) (s : Subscription) → fits conn name s ≡ true → Fits conn name s
 fitted conn name s is =
     let both = and_parts (s.conn == conn) (matches s.filter name) is in
     (eqb-true s.conn conn both.0, both.1)
@@ -163,19 +166,21 @@ pub id_is : (surely : Bool) (last : ℕ) → is_some (id_for surely last) ≡ su
 id_is true last = refl
 id_is false last = refl
 
-abbrev Surely : ℕ → List ℕ → Standing → Type 0
+abbrev Surely : ℕ → List ℕ → Subscription → Type 0
 Surely conn name s = Fits conn name s × (s.qos ≡ AtLeastOnce)
 
-surely_is : (conn : ℕ) (name : List ℕ) (s : Standing) → fits_surely conn name s ≡ true → Surely conn name s
+surely_is : (conn : ℕ) (name : List ℕ) (s : Subscription) → fits_surely conn name s ≡ true
+    → Surely conn name s
 surely_is conn name s is =
     let both = and_parts (is_at_least_once s.qos) (fits conn name s) is in
     (fitted conn name s both.1, sure_is s.qos both.0)
 
-is_surely : (conn : ℕ) (name : List ℕ) (s : Standing) → Surely conn name s → fits_surely conn name s ≡ true
+is_surely : (conn : ℕ) (name : List ℕ) (s : Subscription) → Surely conn name s
+    → fits_surely conn name s ≡ true
 is_surely conn name s (fit, sure) =
     and_from (is_at_least_once s.qos) (fits conn name s) (ap is_at_least_once sure) (fitting conn name s fit)
 
-sure : (standing : List Standing) (m : Message) (conn : ℕ) → gets_surely standing m conn ≡ true
+sure : (standing : List Subscription) (m : Message) (conn : ℕ) → gets_surely standing m conn ≡ true
     → IsSure m conn standing
 sure standing m conn is =
     let both = and_parts (is_at_least_once m.qos) (list_any (fits_surely conn m.name) standing) is in
@@ -185,7 +190,7 @@ sure standing m conn is =
           (surely_is conn m.name) some,
     )
 
-surely : (standing : List Standing) (m : Message) (conn : ℕ) → IsSure m conn standing
+surely : (standing : List Subscription) (m : Message) (conn : ℕ) → IsSure m conn standing
     → gets_surely standing m conn ≡ true
 surely standing m conn (one, some) =
     let fit =
@@ -194,13 +199,13 @@ surely standing m conn (one, some) =
     and_from (is_at_least_once m.qos) (list_any (fits_surely conn m.name) standing) (ap is_at_least_once one)
     (list_any-from_Any (fits_surely conn m.name) standing fit)
 
-gotten : (standing : List Standing) (m : Message) (conn : ℕ) → Any (Fits conn m.name) standing
+gotten : (standing : List Subscription) (m : Message) (conn : ℕ) → Any (Fits conn m.name) standing
     → gets standing m conn ≡ true
 gotten standing m conn some =
     list_any-from_Any (fits conn m.name) standing
     (among (Fits conn m.name) (λ s. fits conn m.name s ≡ true) standing (fitting conn m.name) some)
 
-unless : (standing : List Standing) (m : Message) (conn : ℕ) (b : Bool) → gets standing m conn ≡ b
+unless : (standing : List Subscription) (m : Message) (conn : ℕ) (b : Bool) → gets standing m conn ≡ b
     → (Any (Fits conn m.name) standing → ⊥) → gets standing m conn ≡ false
 unless standing m conn false is none = is
 unless standing m conn true is none =
@@ -208,7 +213,7 @@ unless standing m conn true is none =
     absurd (none (among (λ s. fits conn m.name s ≡ true) (Fits conn m.name) standing
     (fitted conn m.name) some))
 
-copied : (standing : List Standing) (m : Message) (peers : List Peer) (conn : ℕ)
+copied : (standing : List Subscription) (m : Message) (peers : List Peer) (conn : ℕ)
     → OneFor standing m peers conn → IsOneCopy m conn standing (sent_to conn (fan_out standing m peers))
 copied standing m peers conn (last, is) =
     let b = gets_surely standing m conn in (

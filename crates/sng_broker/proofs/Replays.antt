@@ -6,21 +6,21 @@ use Rattle.sng_text.specs.Matching.{matches}
 use Rattle.sng_text.specs.declared.qos.Qos.TheVariants.{AtLeastOnce}
 use Rattle.mqtt_frames.specs.declared.packet.Packet.{Packet}
 use Rattle.sng_broker.specs.declared.parts.Message.{Message}
-use Rattle.sng_broker.specs.declared.parts.Standing.{Standing}
+use Rattle.sng_broker.specs.declared.parts.Subscription.{Subscription}
 use Rattle.sng_broker.specs.Brokers.{is_at_least_once}
-use Rattle.sng_broker.specs.Steps.{Sending, id_for, last_after, packet_of, replay}
+use Rattle.sng_broker.specs.Steps.{Outgoing, id_for, last_after, packet_of, replay}
 use Rattle.sng_broker.specs.Laws.{AreCopies, RetainedAreReplayed}
 use Rattle.sng_broker.proofs.Copies.{sure_is, id_is}
 
 -- all packets of these copies, behind what was there
-abbrev Replayed : Standing → List (ℕ × Packet) → List (ℕ × Packet) → List Message → Type 0
+abbrev Replayed : Subscription → List (ℕ × Packet) → List (ℕ × Packet) → List Message → Type 0
 Replayed s after before messages =
     (copies : List (ℕ × Packet)) × (after ≡ before ++ copies) × AreCopies s messages copies
 
-abbrev surely : Standing → Message → Bool
+abbrev surely : Subscription → Message → Bool
 surely s m = is_at_least_once s.qos && is_at_least_once m.qos
 
-both_sure : (s : Standing) (m : Message) (last : ℕ)
+both_sure : (s : Subscription) (m : Message) (last : ℕ)
     → (is_some (id_for (surely s m) last) ≡ true) ↔ ((m.qos ≡ AtLeastOnce) × (s.qos ≡ AtLeastOnce))
 both_sure s m last = (
   λ some.
@@ -45,7 +45,7 @@ retained_are_replayed s sending (m ∷ kept) =
     else filter (λ k. matches s.filter k.name) kept)) [
       | true ↦
           let out : ℕ × Packet = (s.conn, packet_of true (id_for (surely s m) sending.last_id) m) in
-          let next : Sending =
+          let next : Outgoing =
           record { last_id = last_after (surely s m) sending.last_id; outs = sending.outs ++ out ∷ [] } in
           let rest = retained_are_replayed s next kept in (
             out ∷ rest.0,

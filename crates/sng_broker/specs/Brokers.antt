@@ -8,11 +8,11 @@ use Rattle.sng_text.specs.declared.qos.Qos.{Qos}
 use Rattle.sng_text.specs.declared.qos.Qos.TheVariants.{AtMostOnce, AtLeastOnce}
 use Rattle.sng_broker.specs.declared.parts.Message.{Message}
 use Rattle.sng_broker.specs.declared.parts.Peer.{Peer}
-use Rattle.sng_broker.specs.declared.parts.Standing.{Standing}
+use Rattle.sng_broker.specs.declared.parts.Subscription.{Subscription}
 
 pub record Broker : Type 0 where
   pub peers : List Peer
-  pub standing : List Standing
+  pub standing : List Subscription
   pub kept : List Message
 
 -- the connection is this one
@@ -40,27 +40,27 @@ is_at_least_once AtMostOnce = false
 is_at_least_once AtLeastOnce = true
 
 -- the filter stands for this connection and matches the name
-abbrev pub fits : ℕ → List ℕ → Standing → Bool
+abbrev pub fits : ℕ → List ℕ → Subscription → Bool
 fits conn name s = (s.conn == conn) && matches s.filter name
 
 -- the same, and it was granted QoS 1
-abbrev pub fits_surely : ℕ → List ℕ → Standing → Bool
+abbrev pub fits_surely : ℕ → List ℕ → Subscription → Bool
 fits_surely conn name s = is_at_least_once s.qos && fits conn name s
 
 -- the filter stands for this connection
-abbrev pub is_held : ℕ → Standing → Bool
+abbrev pub is_held : ℕ → Subscription → Bool
 is_held conn s = s.conn == conn
 
 -- it is this filter of this connection
-abbrev pub is_same : ℕ → List ℕ → Standing → Bool
+abbrev pub is_same : ℕ → List ℕ → Subscription → Bool
 is_same conn text s = (s.conn == conn) && bytes_eq s.filter text
 
 -- the filter stands for its connection at its QoS alone (3.8.4)
-abbrev pub let_stand : List Standing → Standing → List Standing
+abbrev pub let_stand : List Subscription → Subscription → List Subscription
 let_stand standing s = filter (λ other. not (is_same s.conn s.filter other)) standing ++ s ∷ []
 
 -- the filter stands for the connection no more
-abbrev pub ended : ℕ → List Standing → List ℕ → List Standing
+abbrev pub ended : ℕ → List Subscription → List ℕ → List Subscription
 ended conn standing text = filter (λ s. not (is_same conn text s)) standing
 
 -- the connection is gone, with all that stood for it

@@ -10,9 +10,9 @@ use Rattle.mqtt_frames.specs.declared.packet.Packet.{Packet}
 use Rattle.mqtt_frames.specs.declared.packet.Packet.TheVariants as packet
 use Rattle.mqtt_frames.specs.declared.packet.Publish.{Publish}
 use Rattle.sng_broker.specs.declared.parts.Message.{Message}
-use Rattle.sng_broker.specs.declared.parts.Standing.{Standing}
+use Rattle.sng_broker.specs.declared.parts.Subscription.{Subscription}
 use Rattle.sng_broker.specs.Brokers.{Broker, EachOnce, is_open}
-use Rattle.sng_broker.specs.Steps.{Sending, acknowledged, fan_out, message_of, packet_of, replay}
+use Rattle.sng_broker.specs.Steps.{Outgoing, acknowledged, fan_out, message_of, packet_of, replay}
 
 -- the packets that go to one connection, in order
 abbrev pub sent_to : ℕ → List (ℕ × Packet) → List Packet
@@ -20,16 +20,16 @@ sent_to conn [] = []
 sent_to conn (out ∷ outs) = if out.0 == conn then out.1 ∷ sent_to conn outs else sent_to conn outs
 
 -- the filter stands for the connection, and matches the name
-abbrev pub Fits : ℕ → List ℕ → Standing → Type 0
+abbrev pub Fits : ℕ → List ℕ → Subscription → Type 0
 Fits conn name s = (s.conn ≡ conn) × (matches s.filter name ≡ true)
 
 -- a message goes at QoS 1 where it came so, and a filter that matches was granted it: at the smaller QoS
-abbrev pub IsSure : Message → ℕ → List Standing → Type 0
+abbrev pub IsSure : Message → ℕ → List Subscription → Type 0
 IsSure m conn standing =
     (m.qos ≡ AtLeastOnce) × Any (λ s. Fits conn m.name s × (s.qos ≡ AtLeastOnce)) standing
 
 -- the packets are one copy of the message, at the smaller QoS
-abbrev pub IsOneCopy : Message → ℕ → List Standing → List Packet → Type 0
+abbrev pub IsOneCopy : Message → ℕ → List Subscription → List Packet → Type 0
 IsOneCopy m conn standing packets =
     (id : Option ℕ) × (packets ≡ packet_of false id m ∷ []) × ((is_some id ≡ true) ↔ IsSure m conn standing)
 
@@ -54,7 +54,7 @@ PublishGoesOnce b conn taken outs = (p : Publish) → taken ≡ packet.Publish p
     × GoesOnce b (message_of p) copies
 
 -- the packets are copies of these messages, each for the connection of the filter and marked as retained
-abbrev pub AreCopies : Standing → List Message → List (ℕ × Packet) → Type 0
+abbrev pub AreCopies : Subscription → List Message → List (ℕ × Packet) → Type 0
 AreCopies s [] [] = Unit {0}
 AreCopies s [] (out ∷ outs) = ⊥
 AreCopies s (m ∷ messages) [] = ⊥
@@ -66,6 +66,7 @@ AreCopies s (m ∷ messages) (out ∷ outs) =
 -- who subscribes gets each retained message whose name the filter matches, once and in order, at the smaller
 -- QoS
 abbrev pub RetainedAreReplayed : Type 0
-RetainedAreReplayed = (s : Standing) (sending : Sending) (kept : List Message) → (copies : List (ℕ × Packet))
+RetainedAreReplayed = (s : Subscription) (sending : Outgoing) (kept : List Message)
+    → (copies : List (ℕ × Packet))
     × ((replay s sending kept).outs ≡ sending.outs ++ copies)
     × AreCopies s (filter (λ m. matches s.filter m.name) kept) copies

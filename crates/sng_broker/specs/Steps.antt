@@ -18,7 +18,7 @@ use Rattle.mqtt_frames.specs.declared.packet.SubscribeCode.TheVariants as code
 use Rattle.mqtt_frames.specs.declared.packet.Unsubscribe.{Unsubscribe}
 use Rattle.sng_broker.specs.declared.parts.Message.{Message}
 use Rattle.sng_broker.specs.declared.parts.Peer.{Peer}
-use Rattle.sng_broker.specs.declared.parts.Standing.{Standing}
+use Rattle.sng_broker.specs.declared.parts.Subscription.{Subscription}
 use Rattle.sng_broker.specs.Brokers.{Broker, is_peer, is_open, next_id, identified, is_at_least_once, fits}
 use Rattle.sng_broker.specs.Brokers.{fits_surely, let_stand, ended, forgotten, retained}
 
@@ -44,35 +44,35 @@ packet_of retain id m =
     })
 
 -- some filter of the connection matches the message's name
-abbrev pub gets : List Standing → Message → ℕ → Bool
+abbrev pub gets : List Subscription → Message → ℕ → Bool
 gets standing m conn = list_any (fits conn m.name) standing
 
 -- the smaller of the message's QoS and of the greatest one granted among the filters that match is 1
-abbrev pub gets_surely : List Standing → Message → ℕ → Bool
+abbrev pub gets_surely : List Subscription → Message → ℕ → Bool
 gets_surely standing m conn = is_at_least_once m.qos && list_any (fits_surely conn m.name) standing
 
 -- what a connection gets of a message
-abbrev pub copy_for : List Standing → Message → Peer → List (ℕ × Packet)
+abbrev pub copy_for : List Subscription → Message → Peer → List (ℕ × Packet)
 copy_for standing m peer =
     if gets standing m peer.conn
     then (peer.conn, packet_of false (id_for (gets_surely standing m peer.conn) peer.last_id) m) ∷ []
     else []
 
 -- what all connections get of it
-abbrev pub fan_out : List Standing → Message → List Peer → List (ℕ × Packet)
+abbrev pub fan_out : List Subscription → Message → List Peer → List (ℕ × Packet)
 fan_out standing m peers = flat_map (copy_for standing m) peers
 
 -- the connection after its copy
-abbrev pub counted : List Standing → Message → Peer → Peer
+abbrev pub counted : List Subscription → Message → Peer → Peer
 counted standing m peer = record peer { last_id = last_after (gets_surely standing m peer.conn) peer.last_id }
 
 -- what goes to one connection, with the last packet identifier that is used
-pub record Sending : Type 0 where
+pub record Outgoing : Type 0 where
   pub last_id : ℕ
   pub outs : List (ℕ × Packet)
 
 -- a retained message, where the new filter matches its name (3.3.1.3)
-abbrev pub replay_one : Standing → Sending → Message → Sending
+abbrev pub replay_one : Subscription → Outgoing → Message → Outgoing
 replay_one s sending m =
     let surely = is_at_least_once s.qos && is_at_least_once m.qos in
     if matches s.filter m.name
@@ -83,12 +83,12 @@ replay_one s sending m =
     else sending
 
 -- all retained messages for a new filter
-abbrev pub replay : Standing → Sending → List Message → Sending
+abbrev pub replay : Subscription → Outgoing → List Message → Outgoing
 replay s sending [] = sending
 replay s sending (m ∷ kept) = replay s (replay_one s sending m) kept
 
 -- the same for all new filters
-abbrev pub replay_all : List Message → Sending → List Standing → Sending
+abbrev pub replay_all : List Message → Outgoing → List Subscription → Outgoing
 replay_all kept sending [] = sending
 replay_all kept sending (s ∷ granted) = replay_all kept (replay s sending kept) granted
 
@@ -103,29 +103,29 @@ told_qos qos.AtMostOnce = asked.AtMostOnce
 told_qos qos.AtLeastOnce = asked.AtLeastOnce
 
 -- what is granted for a request: nothing where it has no topic filter
-abbrev pub granted : ℕ → Request → Option Standing
+abbrev pub granted : ℕ → Request → Option Subscription
 granted conn r = elim (filter_fault r.filter) [
   | None ↦ Some (record { conn = conn; filter = r.filter; qos = granted_qos r.qos })
   | Some fault ↦ None
 ]
 
-abbrev pub code_for : Option Standing → SubscribeCode
+abbrev pub code_for : Option Subscription → SubscribeCode
 code_for None = code.Refused
 code_for (Some s) = code.Granted (told_qos s.qos)
 
 -- what is granted for all requests
-abbrev pub all_granted : ℕ → List Request → List Standing
+abbrev pub all_granted : ℕ → List Request → List Subscription
 all_granted conn requests = filter_map (granted conn) requests
 
 -- the answers to them (3.9.3)
 abbrev pub codes_for : ℕ → List Request → List SubscribeCode
 codes_for conn requests = map (λ r. code_for (granted conn r)) requests
 
-abbrev pub all_stand : List Standing → List Standing → List Standing
+abbrev pub all_stand : List Subscription → List Subscription → List Subscription
 all_stand standing [] = standing
 all_stand standing (s ∷ granted) = all_stand (let_stand standing s) granted
 
-abbrev pub all_ended : ℕ → List Standing → List (List ℕ) → List Standing
+abbrev pub all_ended : ℕ → List Subscription → List (List ℕ) → List Subscription
 all_ended conn standing [] = standing
 all_ended conn standing (text ∷ texts) = all_ended conn (ended conn standing text) texts
 
@@ -184,7 +184,7 @@ abbrev pub published : Broker → ℕ → Publish → Stepped
 published b conn p = elim (name_fault p.name) [ None ↦ delivered b conn p | Some fault ↦ dropped b conn ]
 
 -- the SUBACK, and then what is retained
-abbrev pub replayed : Broker → ℕ → Subscribe → Sending
+abbrev pub replayed : Broker → ℕ → Subscribe → Outgoing
 replayed b conn s = replay_all b.kept (record {
   last_id = last_of b.peers conn;
   outs =

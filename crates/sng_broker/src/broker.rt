@@ -5,9 +5,9 @@ ghost use Rattle.sng_broker.specs.Steps.{step, taken, greeted, published, subscr
 ghost use Rattle.sng_broker.specs.Steps.{answered, dropped};
 ghost use Rattle.sng_broker.specs.Laws.{PublishGoesOnce};
 
-use crate::parts::{Message, Peer, Standing};
+use crate::parts::{Message, Peer, Subscription};
 use crate::publishing::{Outs, count_copies, fan_out, qos_of, retain};
-use crate::replaying::{Sending, replay_all};
+use crate::replaying::{Outgoing, replay_all};
 use crate::subscribing::{all_ended, all_granted, all_stand, codes_for, identify, last_of};
 use mqtt_frames::{ConnectAck, List, Packet, Publish, Subscribe, SubscribeAck, Unsubscribe};
 use sng_text::TopicName;
@@ -20,7 +20,7 @@ use std::marker::Model;
 pub struct BrokerCore {
     alloc: Global,
     peers: Vec<Peer>,
-    standing: Vec<Standing>,
+    standing: Vec<Subscription>,
     kept: Vec<Message>,
 }
 
@@ -197,14 +197,14 @@ impl BrokerCore {
         });
         let mut outs = Vec::new(self.alloc);
         outs.push((conn, answer))?;
-        let mut sending = Sending {
+        let mut sending = Outgoing {
             last_id: last_of(&self.peers, conn),
             outs,
         };
         replay_all(self.alloc, &mut sending, &granted, &self.kept)?;
         self.standing.reserve(granted.len())?;
         // nothing can fail from here on
-        let Sending { last_id, outs } = sending;
+        let Outgoing { last_id, outs } = sending;
         identify(&mut self.peers, conn, last_id);
         all_stand(&mut self.standing, granted);
         Ok(outs)

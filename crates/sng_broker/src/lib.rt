@@ -10,4 +10,4 @@ mod replaying;
 mod subscribing;
 
 pub use broker::BrokerCore;
-pub use parts::{Message, Peer, Standing};
+pub use parts::{Message, Peer, Subscription};

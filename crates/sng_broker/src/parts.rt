@@ -35,14 +35,14 @@ impl Peer {
 
 /// A filter that stands for a connection.
 #[derive(Debug, Drop)]
-pub struct Standing {
+pub struct Subscription {
     pub conn: u32,
     pub filter: TopicFilter,
     /// The QoS that was granted.
     pub qos: Qos,
 }
 
-impl Standing {
+impl Subscription {
     /// Whether it stands for this connection.
     pub(crate) fn is_held(&self, conn: u32) -> bool
         ensures { result ≡ is_held conn self.now }

@@ -4,7 +4,7 @@ ghost use Rattle.std.specs.List.{list_any};
 ghost use Rattle.sng_broker.specs.Brokers.{retained, fits_surely};
 ghost use Rattle.sng_broker.specs.Steps.{copy_for, counted, fan_out, gets, gets_surely, qos_of};
 
-use crate::parts::{Message, Peer, Standing, id_for, is_at_least_once, last_after};
+use crate::parts::{Message, Peer, Subscription, id_for, is_at_least_once, last_after};
 use mqtt_frames::Packet;
 use sng_text::{Qos, TopicName};
 use std::alloc::{AllocError, Global};
@@ -13,21 +13,21 @@ use std::alloc::{AllocError, Global};
 pub(crate) type Outs = Vec<(u32, Packet)>;
 
 /// Whether some filter of the connection matches.
-fn gets(standing: &[Standing], message: &Message, conn: u32) -> bool
+fn gets(standing: &[Subscription], message: &Message, conn: u32) -> bool
     ensures { result ≡ gets standing.now message.now conn }
 {
     standing.iter().any(|one| one.fits(conn, &message.name))
 }
 
 /// Whether the connection gets the message at QoS 1.
-fn gets_surely(standing: &[Standing], message: &Message, conn: u32) -> bool
+fn gets_surely(standing: &[Subscription], message: &Message, conn: u32) -> bool
     ensures { result ≡ gets_surely standing.now message.now conn }
 {
     is_at_least_once(message.qos) && is_granted_surely(standing, &message.name, conn)
 }
 
 /// Whether QoS 1 was granted for some filter of the connection that matches.
-fn is_granted_surely(standing: &[Standing], name: &TopicName, conn: u32) -> bool
+fn is_granted_surely(standing: &[Subscription], name: &TopicName, conn: u32) -> bool
     ensures { result ≡ list_any (fits_surely conn name.now) standing.now }
 {
     standing.iter().any(|one| one.fits_surely(conn, name))
@@ -36,7 +36,7 @@ fn is_granted_surely(standing: &[Standing], name: &TopicName, conn: u32) -> bool
 fn send_copy(
     alloc: Global,
     outs: &mut Outs,
-    standing: &[Standing],
+    standing: &[Subscription],
     message: &Message,
     peer: &Peer,
 ) -> Result<(), AllocError>
@@ -54,7 +54,7 @@ fn send_copy(
 /// A copy of the message for each connection with a filter that matches.
 pub(crate) fn fan_out(
     alloc: Global,
-    standing: &[Standing],
+    standing: &[Subscription],
     message: &Message,
     peers: &[Peer],
 ) -> Result<Outs, AllocError>
@@ -68,7 +68,7 @@ pub(crate) fn fan_out(
 }
 
 /// Counts the packet identifiers of those copies.
-pub(crate) fn count_copies(peers: &mut Vec<Peer>, standing: &[Standing], message: &Message)
+pub(crate) fn count_copies(peers: &mut Vec<Peer>, standing: &[Subscription], message: &Message)
     ensures { peers.new.items ≡ map (counted standing.now message.now) peers.old.items }
 {
     for peer in peers.iter_mut() {
@@ -76,7 +76,7 @@ pub(crate) fn count_copies(peers: &mut Vec<Peer>, standing: &[Standing], message
     }
 }
 
-fn count_copy(peer: &mut Peer, standing: &[Standing], message: &Message)
+fn count_copy(peer: &mut Peer, standing: &[Subscription], message: &Message)
     ensures { peer.new ≡ counted standing.now message.now peer.old }
 {
     let surely = gets_surely(standing, message, peer.conn);

@@ -2,7 +2,7 @@
 ghost use Rattle.std.specs.Prelude.{◌≡◌, IfOk, OnOk};
 ghost use Rattle.sng_broker.specs.Steps.{replay_one, replay, replay_all};
 
-use crate::parts::{Message, Standing, id_for, is_at_least_once, last_after};
+use crate::parts::{Message, Subscription, id_for, is_at_least_once, last_after};
 use crate::publishing::Outs;
 use sng_text::matches;
 use std::alloc::{AllocError, Global};
@@ -10,13 +10,13 @@ use std::marker::Model;
 
 /// What goes to one connection, with the last packet identifier that is used.
 #[derive(Drop)]
-pub(crate) struct Sending {
+pub(crate) struct Outgoing {
     pub last_id: u16,
     pub outs: Outs,
 }
 
-impl Model for Sending {
-    ghost use Rattle.sng_broker.specs.Steps.{Sending as sight};
+impl Model for Outgoing {
+    ghost use Rattle.sng_broker.specs.Steps.{Outgoing as sight};
 
     ghost Value = { sight };
 
@@ -25,8 +25,8 @@ impl Model for Sending {
 
 fn replay_one(
     alloc: Global,
-    sending: &mut Sending,
-    standing: &Standing,
+    sending: &mut Outgoing,
+    standing: &Subscription,
     message: &Message,
 ) -> Result<(), AllocError>
     ensures { OnOk result (sending.new ≡ replay_one standing.now sending.old message.now) }
@@ -43,8 +43,8 @@ fn replay_one(
 
 fn replay(
     alloc: Global,
-    sending: &mut Sending,
-    standing: &Standing,
+    sending: &mut Outgoing,
+    standing: &Subscription,
     kept: &[Message],
 ) -> Result<(), AllocError>
     ensures { OnOk result (sending.new ≡ replay standing.now sending.old kept.now) }
@@ -58,8 +58,8 @@ fn replay(
 /// Each retained message that a new filter matches, one filter after another.
 pub(crate) fn replay_all(
     alloc: Global,
-    sending: &mut Sending,
-    granted: &[Standing],
+    sending: &mut Outgoing,
+    granted: &[Subscription],
     kept: &[Message],
 ) -> Result<(), AllocError>
     ensures { OnOk result (sending.new ≡ replay_all kept.now sending.old granted.now) }

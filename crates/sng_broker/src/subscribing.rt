@@ -5,7 +5,7 @@ ghost use Rattle.sng_broker.specs.Brokers.{let_stand, ended, identified};
 ghost use Rattle.sng_broker.specs.Steps.{granted_qos, told_qos, granted, code_for, all_granted, codes_for};
 ghost use Rattle.sng_broker.specs.Steps.{all_stand, all_ended, last_of};
 
-use crate::parts::{Peer, Standing};
+use crate::parts::{Peer, Subscription};
 use mqtt_frames::{Request, RequestedQos, SubscribeCode};
 use sng_text::{Octets, Qos, TextFault, TopicFilter};
 use std::alloc::{AllocError, Global};
@@ -30,11 +30,11 @@ fn told_qos(qos: Qos) -> RequestedQos
 }
 
 /// What is granted for a request, which may be no topic filter.
-fn granted(alloc: Global, conn: u32, request: &Request) -> Result<Option<Standing>, AllocError>
+fn granted(alloc: Global, conn: u32, request: &Request) -> Result<Option<Subscription>, AllocError>
     ensures { IfOk result (λ s. s ≡ granted conn request.now) }
 {
     match TopicFilter::read(alloc, request.filter.as_slice()) {
-        Ok(filter) => Ok(Some(Standing {
+        Ok(filter) => Ok(Some(Subscription {
             conn,
             filter,
             qos: granted_qos(request.qos),
@@ -50,7 +50,7 @@ fn granted(alloc: Global, conn: u32, request: &Request) -> Result<Option<Standin
     }
 }
 
-fn code_for(granted: &Option<Standing>) -> SubscribeCode
+fn code_for(granted: &Option<Subscription>) -> SubscribeCode
     ensures { result ≡ code_for granted.now }
 {
     match granted {
@@ -64,7 +64,7 @@ pub(crate) fn all_granted(
     alloc: Global,
     conn: u32,
     requests: &[Request],
-) -> Result<Vec<Standing>, AllocError>
+) -> Result<Vec<Subscription>, AllocError>
     ensures { IfOk result (λ v. v.items ≡ all_granted conn requests.now) }
 {
     let mut all = Vec::new(alloc);
@@ -92,7 +92,7 @@ pub(crate) fn codes_for(
 }
 
 /// Lets the filter stand for its connection at its QoS alone.
-fn let_stand(standing: &mut Vec<Standing>, one: Standing)
+fn let_stand(standing: &mut Vec<Subscription>, one: Subscription)
     requires { vec_len standing.old < vec_capacity standing.old }
     ensures items { standing.new.items ≡ let_stand standing.old.items one }
     ensures len { vec_len standing.new ≤ vec_len standing.old + 1 }
@@ -103,7 +103,7 @@ fn let_stand(standing: &mut Vec<Standing>, one: Standing)
 }
 
 /// Lets all of them stand, for which there is room.
-pub(crate) fn all_stand(standing: &mut Vec<Standing>, granted: Vec<Standing>)
+pub(crate) fn all_stand(standing: &mut Vec<Subscription>, granted: Vec<Subscription>)
     requires { vec_len standing.old + vec_len granted ≤ vec_capacity standing.old }
     ensures { standing.new.items ≡ all_stand standing.old.items granted.items }
 {
@@ -113,7 +113,7 @@ pub(crate) fn all_stand(standing: &mut Vec<Standing>, granted: Vec<Standing>)
 }
 
 /// Ends the filters that stand for the connection.
-pub(crate) fn all_ended(standing: &mut Vec<Standing>, conn: u32, filters: &[Octets])
+pub(crate) fn all_ended(standing: &mut Vec<Subscription>, conn: u32, filters: &[Octets])
     ensures { standing.new.items ≡ all_ended conn standing.old.items filters.now }
 {
     for filter in filters {
@@ -121,7 +121,7 @@ pub(crate) fn all_ended(standing: &mut Vec<Standing>, conn: u32, filters: &[Octe
     }
 }
 
-fn end(standing: &mut Vec<Standing>, conn: u32, text: &[u8])
+fn end(standing: &mut Vec<Subscription>, conn: u32, text: &[u8])
     ensures { standing.new.items ≡ ended conn standing.old.items text.now }
 {
     standing.retain(|one| !one.is_same(conn, text));

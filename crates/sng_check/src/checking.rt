@@ -5,9 +5,8 @@ ghost use Rattle.sng_check.specs.Reports.{IsAnswer};
 
 use crate::judging::judge;
 use crate::report::{push_verdict, status};
-use sng_gateway::Status;
-use sng_gateway::ending::end;
-use sng_gateway::player::Stop;
+use sng_script::ending::end;
+use sng_script::{Obstacle, Status};
 use std::alloc::Global;
 use std::io::{Read, Write};
 
@@ -38,7 +37,7 @@ pub fn print_check<S: Read + Drop, B: Read + Drop, W: Write>(
 {
     match checked(alloc, script, book) {
         Ok((text, status)) => tell(text.as_slice(), status, output),
-        Err(stop) => tell_stop(stop, output),
+        Err(obstacle) => tell_obstacle(obstacle, output),
     }
 }
 
@@ -47,7 +46,7 @@ pub fn checked<S: Read + Drop, B: Read + Drop>(
     alloc: Global,
     script: S,
     book: B,
-) -> Result<(Vec<u8>, Status), Stop>
+) -> Result<(Vec<u8>, Status), Obstacle>
     ensures { IfOk result (λ answer.
         IsAnswer (S.remaining script) (B.remaining book) answer.0.items answer.1) }
 {
@@ -58,14 +57,14 @@ pub fn checked<S: Read + Drop, B: Read + Drop>(
 }
 
 /// Prints why nothing is said of the book, where that is printed, and ends the command.
-fn tell_stop<W: Write>(stop: Stop, output: &mut W) -> Status
+fn tell_obstacle<W: Write>(obstacle: Obstacle, output: &mut W) -> Status
     ensures { (script book : Option (List ℕ))
         → IsCheck result script book (W.contents output.old) (W.contents output.new) }
 {
-    match stop {
-        Stop::Unreadable => tell(b"unreadable book\n", Status::Unreadable, output),
-        Stop::OutOfMemory => tell(b"out of memory\n", Status::OutOfMemory, output),
-        Stop::Failed => tell(b"", Status::Failed, output),
+    match obstacle {
+        Obstacle::Unreadable => tell(b"unreadable book\n", Status::Unreadable, output),
+        Obstacle::OutOfMemory => tell(b"out of memory\n", Status::OutOfMemory, output),
+        Obstacle::Failed => tell(b"", Status::Failed, output),
     }
 }
 

@@ -1,7 +1,7 @@
 //! Laws of books, in the words of a reader of one. Each function does nothing: its contract is the law.
 ghost use Rattle.std.specs.Prelude.{◌≡◌, ℕ, List, [], Some};
 ghost use Rattle.sng_gateway.specs.Scripts.{IsOutcome};
-ghost use Rattle.sng_gateway.specs.declared.status.Status.TheVariants.{Done, Unreadable};
+ghost use Rattle.sng_script.specs.declared.status.Status.TheVariants.{Done, Unreadable};
 ghost use Rattle.sng_check.specs.Books.{IsBook};
 ghost use Rattle.sng_check.specs.Mismatches.{Departs};
 ghost use Rattle.sng_check.specs.declared.mismatch.Mismatch.{Mismatch};

@@ -10,7 +10,9 @@ use Rattle.sng_frames.specs.declared.messages.acks.TopicAck.{TopicAck}
 use Rattle.sng_book.specs.declared.address.Address.{Address}
 use Rattle.sng_book.specs.declared.decision.Decision.{Decision}
 use Rattle.sng_book.specs.declared.decision.Decision.TheVariants as note
-use Rattle.sng_book.specs.declared.outcome.Denial.TheVariants.{OutOfTurn, ClientRefused}
+use Rattle.sng_book.specs.declared.outcome.Denial.TheVariants.{Form, Peer}
+use Rattle.sng_book.specs.declared.outcome.FormDenial.TheVariants.{OutOfTurn}
+use Rattle.sng_book.specs.declared.outcome.PeerDenial.TheVariants.{ClientRefused}
 use Rattle.sng_book.specs.declared.outcome.Outcome.TheVariants.{Denied}
 use Rattle.sng_book.specs.declared.out.Out.{Out}
 use Rattle.sng_book.specs.declared.out.Out.TheVariants.{Note}
@@ -73,7 +75,7 @@ refusing_spelled a code x [] is awaits takes busy =
     sym (ap (all_spelled a (heard_at a.clock x)) (none_behind a.policy x is awaits takes)
     ∙ busy_outs (heard_at a.clock x) busy)
 refusing_spelled a code x (m ∷ waiting) is awaits takes busy =
-    ap (λ outs. Note (note.Hand x.id m.name (Denied (ClientRefused code))) ∷ outs)
+    ap (λ outs. Note (note.Hand x.id m.name (Denied (Peer (ClientRefused code)))) ∷ outs)
     (λ i. refused_row a [] x awaits takes i ++ refused_left a x awaits takes i)
 
 refusing_moved : (a : Around) (code : ℕ) (x : Client) (waiting : List Mail) → x.buffer.waiting ≡ waiting
@@ -113,9 +115,9 @@ confirming_moved a r x false accepts is busy =
 -- ---- one out of turn
 
 untimely_spelled : (a : Around) (x : Client) → Busy x
-    → broken_outs OutOfTurn x ≡ broken_outs OutOfTurn x ++ drained_outs (heard_at a.clock x)
+    → broken_outs (Form OutOfTurn) x ≡ broken_outs (Form OutOfTurn) x ++ drained_outs (heard_at a.clock x)
 untimely_spelled a x busy =
-    ap (λ more. broken_outs OutOfTurn x ++ more) (sym (busy_outs (heard_at a.clock x) busy))
+    ap (λ more. broken_outs (Form OutOfTurn) x ++ more) (sym (busy_outs (heard_at a.clock x) busy))
 
 untimely_moved : (a : Around) (x : Client) → Busy x → heard_at a.clock x ≡ drained (heard_at a.clock x)
 untimely_moved a x busy = sym (undrained (heard_at a.clock x) busy)
@@ -124,7 +126,7 @@ untimely_moved a x busy = sym (undrained (heard_at a.clock x) busy)
 
 confirm_turn : (s : State) (from : Address) (r : TopicAck) (x : Client) (turn : Bool)
     → is_confirming r x ≡ turn → Busy x
-    → (if turn then confirming_outs s.policy r x else broken_outs OutOfTurn x)
+    → (if turn then confirming_outs s.policy r x else broken_outs (Form OutOfTurn) x)
     ≡ all_spelled (around s (ByMessage from (ToConfirm r)))
     (if turn then confirmed_with r (heard_at s.clock x) else heard_at s.clock x)
     (if turn then confirmations s.policy r x else out_of_turn x.id)
@@ -165,7 +167,7 @@ confirm_row s from r good =
 
 acknowledge_turn : (s : State) (from : Address) (r : TopicAck) (x : Client) (turn : Bool)
     → is_acknowledging r x ≡ turn → Busy x
-    → (if turn then served_outs s.policy 0 0 x else broken_outs OutOfTurn x)
+    → (if turn then served_outs s.policy 0 0 x else broken_outs (Form OutOfTurn) x)
     ≡ all_spelled (around s (ByMessage from (ToAcknowledge r)))
     (if turn then closed (heard_at s.clock x) else heard_at s.clock x)
     (if turn then handed_over s.policy (closed x) else out_of_turn x.id)

@@ -14,7 +14,8 @@ use Rattle.sng_queue.specs.declared.limits.TheConstants.{MAX_QUEUED}
 use Rattle.mqtt_frames.specs.declared.packet.Publish.{Publish}
 use Rattle.sng_book.specs.declared.decision.Decision.TheVariants as note
 use Rattle.sng_book.specs.declared.outcome.Place.TheVariants as place
-use Rattle.sng_book.specs.declared.outcome.Denial.TheVariants.{Full, TooLong}
+use Rattle.sng_book.specs.declared.outcome.Denial.TheVariants.{Room}
+use Rattle.sng_book.specs.declared.outcome.RoomDenial.TheVariants.{Full, TooLong}
 use Rattle.sng_book.specs.declared.outcome.Outcome.{Outcome}
 use Rattle.sng_book.specs.declared.outcome.Outcome.TheVariants.{Allowed, Denied}
 use Rattle.sng_book.specs.declared.out.Out.{Out}
@@ -100,13 +101,13 @@ abbrev outs_for : Policy → Message → Client → Bool → Bool → Bool → L
 outs_for policy m x sendable full free =
     if sendable
     then (if full
-    then Note (note.Hand x.id m.name (Denied (Full place.Queue))) ∷ []
+    then Note (note.Hand x.id m.name (Denied (Room (Full place.Queue)))) ∷ []
     else (if free then message_outs policy x.id x.address x.ids 0 x.number m else []))
-    else Note (note.Hand x.id m.name (Denied TooLong)) ∷ []
+    else Note (note.Hand x.id m.name (Denied (Room TooLong))) ∷ []
 
 abbrev pub outcome_for : Bool → Bool → Outcome
 outcome_for sendable full =
-    if sendable then (if full then Denied (Full place.Queue) else Allowed) else Denied TooLong
+    if sendable then (if full then Denied (Room (Full place.Queue)) else Allowed) else Denied (Room TooLong)
 
 abbrev spelled_by : Around → Message → Client → Outcome → List Out
 spelled_by a m x o =
@@ -116,10 +117,10 @@ arrives_outs : (a : Around) (m : Message) (x : Client) (sendable full free : Boo
     → AtRest x
     → outs_for a.policy m x sendable full free ≡ spelled_by a m x (outcome_for sendable full)
 arrives_outs a m x false full free is rest =
-    sym (ap (λ notes. Note (note.Hand x.id m.name (Denied TooLong)) ∷ spell a [] x notes)
+    sym (ap (λ notes. Note (note.Hand x.id m.name (Denied (Room TooLong))) ∷ spell a [] x notes)
     (none_handed a.policy x rest))
 arrives_outs a m x true true free is rest =
-    sym (ap (λ notes. Note (note.Hand x.id m.name (Denied (Full place.Queue))) ∷ spell a [] x notes)
+    sym (ap (λ notes. Note (note.Hand x.id m.name (Denied (Room (Full place.Queue)))) ∷ spell a [] x notes)
     (none_handed a.policy x rest))
 arrives_outs a m x true false true is rest =
     sym (lone_by a.policy x m (is_open (message_opens a.policy x.id x.ids 0 m)))

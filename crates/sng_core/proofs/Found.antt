@@ -1,7 +1,7 @@
 -- A message of one client moves that client alone, and lets out what is its own.
-use Rattle.std.proofs.Common.{◌≡◌, ℕ, ◌+◌, zero, suc, Bool, true, false, List, [], ◌∷◌, map, length, refl, ap}
+use Rattle.std.proofs.Common.{◌≡◌, ◌<◌, ℕ, ◌+◌, zero, suc, Bool, true, false, List, [], ◌∷◌, map, length, refl, ap}
 use Rattle.std.proofs.Common.{sym, ◌∙◌, ◌++◌, subst, arith}
-use Rattle.std.specs.Prelude.{if◌then◌else◌, ◌&&◌, ◌||◌, not, nat_lt, slice_get, Option, Some, None}
+use Rattle.std.specs.Prelude.{if◌then◌else◌, ◌&&◌, ◌||◌, not, nat_lt, slice_get, Option, Some, None, IfSome}
 use Rattle.std.specs.List.{flat_map, position_or_len}
 use Rattle.std.proofs.lemmas.List.{append-nil}
 use Rattle.std.proofs.lemmas.Bool.Decides.{nat_tests}
@@ -211,6 +211,11 @@ pub within : (from : Address) (xs : List Client) (i : ℕ) → place_at from xs 
 within from xs i at =
     let t : Client → Bool = λ y. is_here y from in
     within_by (position_or_len t xs) xs i (nat_lt (position_or_len t xs) (length xs)) refl at
+
+pub here_within : (from : Address) (xs : List Client) (place : Option ℕ) → place ≡ place_at from xs
+    → IfSome place (λ i. i < length xs)
+here_within from xs None at = tt
+here_within from xs (Some i) at = grind (arith, nat_tests, within from xs i (sym at))
 
 -- and it is the one at that place
 pub read_at : (xs : List Client) (i : ℕ) → nat_lt i (length xs) ≡ true

@@ -12,7 +12,8 @@ use Rattle.sng_queue.specs.declared.kind.TopicIdKind.TheVariants as kind
 use Rattle.sng_queue.specs.Messages.{Message}
 use Rattle.sng_queue.specs.Buffers.{settle}
 use Rattle.sng_book.specs.declared.decision.Decision.TheVariants as note
-use Rattle.sng_book.specs.declared.outcome.Denial.TheVariants.{Full}
+use Rattle.sng_book.specs.declared.outcome.Denial.TheVariants.{Room}
+use Rattle.sng_book.specs.declared.outcome.RoomDenial.TheVariants.{Full}
 use Rattle.sng_book.specs.declared.outcome.Place.TheVariants as place
 use Rattle.sng_book.specs.declared.outcome.Outcome.{Outcome}
 use Rattle.sng_book.specs.declared.outcome.Outcome.TheVariants.{Allowed, Denied}
@@ -112,7 +113,7 @@ offered_spelled a dropped client m more x (Some k) full is fits rest =
     (sym is) (ap (λ outs. first ∷ handed_out x.address x.number m (known_of k) ∷ outs)
     (behind_spelled a dropped client m more x m.qos k rest))
 offered_spelled a dropped client m more x None true is fits rest =
-    rw fits (ap (λ outs. Note (note.Hand client m.name (Denied (Full place.Ids))) ∷ outs) (rest x))
+    rw fits (ap (λ outs. Note (note.Hand client m.name (Denied (Room (Full place.Ids)))) ∷ outs) (rest x))
 offered_spelled a dropped client m more x None false is fits rest = rw fits refl
 
 judged_spelled : (a : Around) (dropped : List Release) (client : List ℕ) (m : Message) (more : List Message)

@@ -11,7 +11,8 @@ use Rattle.sng_queue.specs.Messages.{Message}
 use Rattle.sng_queue.specs.Buffers.{settle}
 use Rattle.sng_book.specs.declared.address.Address.{Address}
 use Rattle.sng_book.specs.declared.decision.Decision.TheVariants as note
-use Rattle.sng_book.specs.declared.outcome.Denial.TheVariants.{Gone}
+use Rattle.sng_book.specs.declared.outcome.Denial.TheVariants.{Peer}
+use Rattle.sng_book.specs.declared.outcome.PeerDenial.TheVariants.{Gone}
 use Rattle.sng_book.specs.declared.outcome.Outcome.{Outcome}
 use Rattle.sng_book.specs.declared.outcome.Outcome.TheVariants.{Allowed, Denied}
 use Rattle.sng_book.specs.declared.out.Out.TheVariants.{Note}
@@ -241,4 +242,4 @@ pub gone_row : (a : Around) (dropped : List Release) (client : List ℕ) (waitin
 gone_row a dropped client [] x = refl
 gone_row a dropped client (m ∷ more) x =
     let y : Client = record x { buffer = settle x.buffer } in
-    ap (λ outs. Note (note.Hand client m.name (Denied Gone)) ∷ outs) (gone_row a dropped client more y)
+    ap (λ outs. Note (note.Hand client m.name (Denied (Peer Gone))) ∷ outs) (gone_row a dropped client more y)

@@ -12,7 +12,8 @@ use Rattle.sng_outbox.specs.declared.item.Item.{Item}
 use Rattle.sng_book.specs.declared.address.Address.{Address}
 use Rattle.sng_book.specs.declared.decision.Who.TheVariants as who
 use Rattle.sng_book.specs.declared.outcome.Denial.{Denial}
-use Rattle.sng_book.specs.declared.outcome.Denial.TheVariants.{NotSupported}
+use Rattle.sng_book.specs.declared.outcome.Denial.TheVariants.{Form}
+use Rattle.sng_book.specs.declared.outcome.FormDenial.TheVariants.{NotSupported}
 use Rattle.sng_book.specs.declared.out.Out.TheVariants.{Note}
 use Rattle.sng_history.specs.Causes.{Untaken, Cause, ByMessage}
 use Rattle.sng_history.specs.Causes.{BySource, ByBroken, ByUp, ByDown, ByTake}
@@ -38,7 +39,7 @@ use Rattle.sng_core.proofs.Rows.{still_message, broken_from, broken_message}
 
 denied_frames : (s : State) (from : Address) (all : SnFrame) (x : Client) (message : SnFrame)
     → frames_of (around s (ByMessage from (Untaken all))) [] x
-    (denied_note message (who.Client x.id) NotSupported) ≡ refused x.address all NotSupported
+    (denied_note message (who.Client x.id) (Form NotSupported)) ≡ refused x.address all (Form NotSupported)
 denied_frames s from all x (frame.Connect connect) = refl
 denied_frames s from all x (frame.ConnectAck code) = refl
 denied_frames s from all x frame.WillTopicRequest = refl
@@ -67,8 +68,8 @@ denied_frames s from all x (frame.WillMessageResponse code) = refl
 unsupported_part : (s : State) (from : Address) (message : SnFrame) (x : Client) → is_here x from ≡ true
     → unsupported_outs message x ≡ plain_part s (ByMessage from (Untaken message)) [] x
 unsupported_part s from message x here =
-    rw here (ap (λ more. Note (denied_note message (who.Client x.id) NotSupported) ∷ more)
-    (sym (append-nil (refused x.address message NotSupported))
+    rw here (ap (λ more. Note (denied_note message (who.Client x.id) (Form NotSupported)) ∷ more)
+    (sym (append-nil (refused x.address message (Form NotSupported)))
     ∙ ap (λ outs. outs ++ []) (sym (denied_frames s from message (heard_at s.clock x) message))))
 
 unsupported_next : (s : State) (from : Address) (message : SnFrame) (x : Client) → is_here x from ≡ true

@@ -43,3 +43,4 @@ pub mod TickRows
 pub mod StatingAsks
 pub mod StatingParts
 pub mod StatingRows
+pub mod RequestRows

@@ -9,7 +9,8 @@ use Rattle.mqtt_frames.specs.declared.packet.Packet.TheVariants as packet
 use Rattle.mqtt_frames.specs.declared.packet.SubscribeCode.{SubscribeCode}
 use Rattle.mqtt_frames.specs.declared.packet.SubscribeCode.TheVariants as code
 use Rattle.sng_book.specs.declared.decision.Decision.TheVariants as note
-use Rattle.sng_book.specs.declared.outcome.Denial.TheVariants.{BrokerRefused}
+use Rattle.sng_book.specs.declared.outcome.Denial.TheVariants.{Peer}
+use Rattle.sng_book.specs.declared.outcome.PeerDenial.TheVariants.{BrokerRefused}
 use Rattle.sng_book.specs.declared.outcome.Outcome.TheVariants.{Denied}
 use Rattle.sng_book.specs.declared.out.Out.{Out}
 use Rattle.sng_history.specs.Causes.{ByPacket}
@@ -97,7 +98,7 @@ end_busy a None x busy = busy
 end_busy a (Some text) x busy = by_held (holds text x)
   where
     by_held : (held : Bool) → Busy
-        (notes_by a (if held then note.End x.id text (Denied BrokerRefused) ∷ [] else []) x)
+        (notes_by a (if held then note.End x.id text (Denied (Peer BrokerRefused)) ∷ [] else []) x)
     by_held true = busy
     by_held false = busy
 

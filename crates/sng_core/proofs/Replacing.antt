@@ -23,7 +23,7 @@ use Rattle.sng_history.specs.Lawful.{ends_under}
 use Rattle.sng_history.specs.Whole.{spell}
 use Rattle.sng_history.specs.Steps.{outs_by, next_by, client_next, clients_next}
 use Rattle.sng_history.specs.Good.{Each, Away, Distinct, Good}
-use Rattle.sng_endings.specs.declared.replacing.Ending.{Ending}
+use Rattle.sng_endings.specs.declared.replacing.SubscriptionEnd.{SubscriptionEnd}
 use Rattle.sng_core.specs.Replacing.{ended_next, ended_outs, all_next, all_outs}
 use Rattle.sng_endings.specs.Replacing as apart
 use Rattle.sng_endings.specs.Replacing.{moved, endings_by, endings_from}
@@ -78,11 +78,11 @@ away_release f client earlier (x ∷ xs) away =
     ∙ rw (others_release client x.id (others earlier xs) (ended x (f x)) away.0)
     (away_release f client (earlier ++ f x ∷ []) xs away.1)
 
-next_append : (s : State) (one two : List Ending) → all_next s (one ++ two) ≡ all_next (all_next s one) two
+next_append : (s : State) (one two : List SubscriptionEnd) → all_next s (one ++ two) ≡ all_next (all_next s one) two
 next_append s [] two = refl
 next_append s (e ∷ one) two = next_append (ended_next s e) one two
 
-outs_append : (s : State) (one two : List Ending)
+outs_append : (s : State) (one two : List SubscriptionEnd)
     → all_outs s (one ++ two) ≡ all_outs s one ++ all_outs (all_next s one) two
 outs_append s [] two = refl
 outs_append s (e ∷ one) two =
@@ -233,13 +233,13 @@ replaced_next s policy good =
 -- ---- what ends, over the clients and the link alone
 
 -- it moves nothing else
-all_moved : (s : State) (endings : List Ending)
+all_moved : (s : State) (endings : List SubscriptionEnd)
     → (let m = apart.all_next (moved s.link s.clients) endings in
     all_next s endings ≡ record s { clients = m.clients; link = m.link })
 all_moved s [] = refl
 all_moved s (e ∷ endings) = all_moved (ended_next s e) endings
 
-all_said : (s : State) (endings : List Ending)
+all_said : (s : State) (endings : List SubscriptionEnd)
     → all_outs s endings ≡ apart.all_outs (moved s.link s.clients) endings
 all_said s [] = refl
 all_said s (e ∷ endings) = ap (λ outs. ended_outs s e ++ outs) (all_said (ended_next s e) endings)

@@ -21,7 +21,7 @@ use Rattle.sng_history.specs.Standing.{Release, is_held}
 use Rattle.sng_history.specs.Standing.{places_left, unsubscribes, dropped_of, is_release, drop_note}
 use Rattle.sng_history.specs.Standing.{still_wanted}
 use Rattle.sng_history.specs.State.{State}
-use Rattle.sng_endings.specs.declared.replacing.Ending.{Ending}
+use Rattle.sng_endings.specs.declared.replacing.SubscriptionEnd.{SubscriptionEnd}
 use Rattle.sng_core.specs.Replacing.{ended_next}
 use Rattle.sng_endings.specs.Replacing.{let_go, ended_clients, ended_link}
 use Rattle.sng_history.proofs.Own.{same_self}
@@ -121,7 +121,7 @@ next_by_held s earlier z xs releases client text false is =
 
 pub ended_course : (s : State) (earlier : List Client) (z : Client) (xs : List Client)
     (releases : List Release)
-    (client : List ℕ) (e : Ending) → e.place ≡ length earlier
+    (client : List ℕ) (e : SubscriptionEnd) → e.place ≡ length earlier
     → ended_next (course s (earlier ++ z ∷ xs) releases) e
     ≡ course s (Middle earlier z xs e.filter)
     (releases ++ gone_if (is_held (Middle earlier z xs e.filter) e.filter) client e.filter)

@@ -14,7 +14,8 @@ use Rattle.sng_outbox.specs.declared.item.Item.TheVariants as item
 use Rattle.sng_outbox.specs.declared.item.Publication.{Publication}
 use Rattle.sng_book.specs.Denials.{is_allowed}
 use Rattle.sng_book.specs.declared.outcome.Place.TheVariants as place
-use Rattle.sng_book.specs.declared.outcome.Denial.TheVariants.{Full}
+use Rattle.sng_book.specs.declared.outcome.Denial.TheVariants as denial
+use Rattle.sng_book.specs.declared.outcome.RoomDenial.TheVariants.{Full}
 use Rattle.sng_book.specs.declared.outcome.Outcome.{Outcome}
 use Rattle.sng_book.specs.declared.outcome.Outcome.TheVariants.{Allowed, Denied}
 use Rattle.sng_history.specs.Links.{Link}
@@ -44,21 +45,21 @@ if_not : (b : Bool) (x y : Outcome) → (if b then x else y) ≡ (if (if b then 
 if_not true x y = refl
 if_not false x y = refl
 
-place_same : (link : Link) → (if has_place link then Allowed else Denied (Full place.Outbox))
+place_same : (link : Link) → (if has_place link then Allowed else Denied (denial.Room (Full place.Outbox)))
     ≡ place_by (room_of link).places
 place_same link =
-    if_not (has_place link) Allowed (Denied (Full place.Outbox))
-    ∙ ap (λ b. if b then Denied (Full place.Outbox) else Allowed) (sym (place_left link))
+    if_not (has_place link) Allowed (Denied (denial.Room (Full place.Outbox)))
+    ∙ ap (λ b. if b then Denied (denial.Room (Full place.Outbox)) else Allowed) (sym (place_left link))
 
 pub room_same : (link : Link) (q : Qos) → room_in link q ≡ room_by (room_of link) q
 room_same link AtMostOnce = place_same link
 room_same link AtLeastOnce =
     let n = load (record { waiting = link.waiting; in_flight = link.in_flight }) in
-    let places = if has_place link then Allowed else Denied (Full place.Outbox) in
-    if_not (nat_lt n MAX_IN_FLIGHT) places (Denied (Full place.InFlight))
-    ∙ (ap (λ b. if b then Denied (Full place.InFlight) else places)
+    let places = if has_place link then Allowed else Denied (denial.Room (Full place.Outbox)) in
+    if_not (nat_lt n MAX_IN_FLIGHT) places (Denied (denial.Room (Full place.InFlight)))
+    ∙ (ap (λ b. if b then Denied (denial.Room (Full place.InFlight)) else places)
     (sym (flight_test n (nat_lt n MAX_IN_FLIGHT) refl))
-    ∙ ap (λ o. if (room_of link).flights == 0 then Denied (Full place.InFlight) else o) (place_same link))
+    ∙ ap (λ o. if (room_of link).flights == 0 then Denied (denial.Room (Full place.InFlight)) else o) (place_same link))
 
 -- ---- what is left of it
 

@@ -9,7 +9,8 @@ use Rattle.sng_fan.specs.Subscriptions.{stands}
 use Rattle.sng_book.specs.declared.address.Address.{Address}
 use Rattle.sng_book.specs.declared.decision.Who.TheVariants as who
 use Rattle.sng_book.specs.declared.outcome.Denial.{Denial}
-use Rattle.sng_book.specs.declared.outcome.Denial.TheVariants.{Gone}
+use Rattle.sng_book.specs.declared.outcome.Denial.TheVariants.{Peer}
+use Rattle.sng_book.specs.declared.outcome.PeerDenial.TheVariants.{Gone}
 use Rattle.sng_book.specs.declared.outcome.Outcome.TheVariants.{Denied}
 use Rattle.sng_book.specs.declared.out.Out.{Out}
 use Rattle.sng_book.specs.declared.out.Out.TheVariants.{Note}
@@ -244,8 +245,8 @@ pub gone_spelled : (a : Around) (id : List ℕ) (waiting : List Mail) (y : Clien
     → spell a [] y (all_gone id waiting) ≡ gone_outs id waiting
 gone_spelled a id [] y = refl
 gone_spelled a id (m ∷ waiting) y =
-    ap (λ outs. Note (note.Hand id m.name (Denied Gone)) ∷ outs)
-    (gone_spelled a id waiting (note_by a (note.Hand id m.name (Denied Gone)) y))
+    ap (λ outs. Note (note.Hand id m.name (Denied (Peer Gone))) ∷ outs)
+    (gone_spelled a id waiting (note_by a (note.Hand id m.name (Denied (Peer Gone))) y))
 
 pub leave_row : (s : State) (from : Address) → Good s
     → Makes s (ByMessage from ToLeave)

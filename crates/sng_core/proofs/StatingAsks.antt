@@ -4,15 +4,18 @@ use Rattle.std.specs.Prelude.{if◌then◌else◌, ◌&&◌, is_some, Option, So
 use Rattle.sng_text.specs.Texts.{is_name}
 use Rattle.sng_grants.specs.declared.policy.Policy.{Policy}
 use Rattle.sng_policy.specs.Grants.{lists, publish_grant}
-use Rattle.sng_policy.specs.declared.grant.Grant.{Grant}
-use Rattle.sng_policy.specs.declared.grant.Grant.TheVariants as grant
+use Rattle.sng_policy.specs.declared.grant.NameGrant.{NameGrant}
+use Rattle.sng_policy.specs.declared.grant.NameGrant.TheVariants as grant
+use Rattle.sng_policy.specs.declared.permission.Permission.TheVariants as permission
 use Rattle.sng_outbox.specs.declared.origin.Origin.TheVariants as origin
 use Rattle.sng_book.specs.Denials.{is_allowed}
 use Rattle.sng_book.specs.declared.address.Address.{Address}
 use Rattle.sng_book.specs.declared.decision.Decision.{Decision}
 use Rattle.sng_book.specs.declared.decision.Decision.TheVariants as note
 use Rattle.sng_book.specs.declared.decision.Who.TheVariants as who
-use Rattle.sng_book.specs.declared.outcome.Denial.TheVariants.{NoScope, BadName, OutOfTurn}
+use Rattle.sng_book.specs.declared.outcome.Denial.TheVariants.{Form, Grant}
+use Rattle.sng_book.specs.declared.outcome.FormDenial.TheVariants.{BadName, OutOfTurn}
+use Rattle.sng_book.specs.declared.outcome.GrantDenial.TheVariants.{NoScope}
 use Rattle.sng_book.specs.declared.outcome.Outcome.{Outcome}
 use Rattle.sng_book.specs.declared.outcome.Outcome.TheVariants.{Allowed, Denied}
 use Rattle.sng_book.specs.declared.out.Out.{Out}
@@ -21,7 +24,7 @@ use Rattle.sng_history.specs.Causes.{ToState, ByMessage}
 use Rattle.sng_history.specs.Causes.{Statement, StatesTopic, StatesMessage, UpdatesTopic, UpdatesMessage}
 use Rattle.sng_history.specs.Clients.{Client}
 use Rattle.sng_history.specs.State.{State, around}
-use Rattle.sng_history.specs.Verdicts.{exit, and_then, is_active, outcome_of}
+use Rattle.sng_history.specs.Verdicts.{exit, and_then, is_active, name_outcome}
 use Rattle.sng_history.specs.Whole.{frames_of}
 use Rattle.sng_history.specs.WillAsks.{turn, statement_turn, topic_at, topic_read, topic_granted}
 use Rattle.sng_history.specs.WillAsks.{statement_verdict, statement_ask}
@@ -33,7 +36,7 @@ use Rattle.sng_core.specs.declared.verdict.Judged.{Judged}
 -- ---- its turn
 
 active_turn : (active has : Bool)
-    → and_then (if active then Allowed else Denied OutOfTurn) (turn has) ≡ turn (active && has)
+    → and_then (if active then Allowed else Denied (Form OutOfTurn)) (turn has) ≡ turn (active && has)
 active_turn true has = refl
 active_turn false has = refl
 
@@ -55,13 +58,13 @@ abbrev text_by : Policy → List ℕ → List ℕ → Bool → Bool → Judged
 text_by policy id text listed named =
     if listed
     then (if named then record { name = Some text; outcome = exit policy (origin.Client id) text }
-    else unread BadName)
-    else unread (NoScope id)
+    else unread (Form BadName))
+    else unread (Grant (NoScope id))
 
 text_is : (policy : Policy) (id text : List ℕ) (listed named : Bool)
     → text_by policy id text listed named
-    ≡ judged_as (and_then (if listed then Allowed else Denied (NoScope id))
-    (if named then Allowed else Denied BadName))
+    ≡ judged_as (and_then (if listed then Allowed else Denied (Grant (NoScope id)))
+    (if named then Allowed else Denied (Form BadName)))
     (exit policy (origin.Client id) text) (Some text)
 text_is policy id text true true = refl
 text_is policy id text true false = refl
@@ -98,12 +101,12 @@ ask_in_turn policy statement x has =
     ∙ ap (λ j. note.Will (who.Client x.id) j.name j.outcome) (sym (judged_is policy x.id topic)))
 
 untimely_by : (client : List ℕ) (has : Bool) (read granted : Outcome) (topic : Option (List ℕ)) → has ≡ false
-    → noted_as client (turn has) read granted topic ≡ note.Will (who.Client client) None (Denied OutOfTurn)
+    → noted_as client (turn has) read granted topic ≡ note.Will (who.Client client) None (Denied (Form OutOfTurn))
 untimely_by client true read granted topic is = absurd cc
 untimely_by client false read granted topic is = refl
 
 pub ask_untimely : (policy : Policy) (statement : Statement) (x : Client) → has_turn statement x ≡ false
-    → statement_ask policy statement x ≡ note.Will (who.Client x.id) None (Denied OutOfTurn)
+    → statement_ask policy statement x ≡ note.Will (who.Client x.id) None (Denied (Form OutOfTurn))
 ask_untimely policy statement x has =
     let topic = topic_at statement x in
     let read = topic_read policy x.id topic in
@@ -170,13 +173,11 @@ abbrev pub Timely : Outcome → Type 0
 Timely Allowed = Unit {0}
 Timely (Denied rule) = (to : Address) → dialogue_ended to rule ≡ connack to (code_of rule) ∷ []
 
-granted_timely : (client text : List ℕ) (g : Grant) → Timely (outcome_of (origin.Client client) text g)
+granted_timely : (client text : List ℕ) (g : NameGrant)
+    → Timely (name_outcome permission.Publish (Some client) text g)
 granted_timely client text grant.Allowed = tt
-granted_timely client text grant.NoScope = λ to. refl
-granted_timely client text grant.UnknownSource = λ to. refl
-granted_timely client text grant.MissingPub = λ to. refl
-granted_timely client text grant.MissingSub = λ to. refl
-granted_timely client text (grant.Uncovered gap) = λ to. refl
+granted_timely client text grant.Unlisted = λ to. refl
+granted_timely client text grant.Missing = λ to. refl
 
 text_timely : (policy : Policy) (id text : List ℕ) (listed named : Bool)
     → Timely (text_by policy id text listed named).outcome

@@ -7,7 +7,8 @@ use Rattle.sng_book.specs.declared.decision.Decision.{Decision}
 use Rattle.sng_book.specs.declared.decision.Decision.TheVariants as note
 use Rattle.sng_book.specs.declared.decision.Who.TheVariants as who
 use Rattle.sng_book.specs.declared.outcome.Denial.{Denial}
-use Rattle.sng_book.specs.declared.outcome.Denial.TheVariants.{OutOfTurn}
+use Rattle.sng_book.specs.declared.outcome.Denial.TheVariants.{Form}
+use Rattle.sng_book.specs.declared.outcome.FormDenial.TheVariants.{OutOfTurn}
 use Rattle.sng_book.specs.declared.outcome.Outcome.{Outcome}
 use Rattle.sng_book.specs.declared.outcome.Outcome.TheVariants.{Allowed, Denied}
 use Rattle.sng_book.specs.declared.out.Out.{Out}
@@ -105,7 +106,7 @@ part_in_turn s from statement x name o timely rest =
 
 untimely_part : (s : State) (from : Address) (statement : Statement) (x : Client)
     → untimely_outs statement x ≡ part_by s from statement x
-    (note.Will (who.Client x.id) None (Denied OutOfTurn)) []
+    (note.Will (who.Client x.id) None (Denied (Form OutOfTurn))) []
 untimely_part s from (StatesTopic topic) x = refl
 untimely_part s from (StatesMessage message) x = refl
 untimely_part s from (UpdatesTopic topic) x = refl

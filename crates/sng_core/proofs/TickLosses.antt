@@ -10,7 +10,8 @@ use Rattle.sng_outbox.specs.declared.item.Item.TheVariants as item
 use Rattle.sng_book.specs.Denials.{is_allowed}
 use Rattle.sng_book.specs.declared.decision.Decision.{Decision}
 use Rattle.sng_book.specs.declared.decision.Decision.TheVariants as note
-use Rattle.sng_book.specs.declared.outcome.Denial.TheVariants.{Gone}
+use Rattle.sng_book.specs.declared.outcome.Denial.TheVariants.{Peer}
+use Rattle.sng_book.specs.declared.outcome.PeerDenial.TheVariants.{Gone}
 use Rattle.sng_book.specs.declared.outcome.Outcome.{Outcome}
 use Rattle.sng_book.specs.declared.outcome.Outcome.TheVariants.{Allowed, Denied}
 use Rattle.sng_book.specs.declared.out.Out.{Out}
@@ -94,8 +95,8 @@ gone_then : (a : Around) (id : List ℕ) (waiting : List Message) (more : List D
     → spell a [] y (all_gone id waiting ++ more) ≡ gone_outs id waiting ++ outs
 gone_then a id [] more outs y same = same y
 gone_then a id (m ∷ waiting) more outs y same =
-    ap (λ rest. Note (note.Hand id m.name (Denied Gone)) ∷ rest)
-    (gone_then a id waiting more outs (note_by a (note.Hand id m.name (Denied Gone)) y) same)
+    ap (λ rest. Note (note.Hand id m.name (Denied (Peer Gone))) ∷ rest)
+    (gone_then a id waiting more outs (note_by a (note.Hand id m.name (Denied (Peer Gone))) y) same)
 
 lost_spelled : (a : Around) (link : Link) (x : Client) (clock : ℕ) → a.cause ≡ ByTick clock
     → spell a [] x (lost_notes link x) ≡ lost_outs (room_of link) x

@@ -4,7 +4,9 @@ use Rattle.sng_grants.specs.declared.policy.Policy.{Policy}
 use Rattle.sng_queue.specs.Messages.{Message}
 use Rattle.sng_frames.specs.declared.messages.acks.TopicAck.{TopicAck}
 use Rattle.sng_book.specs.declared.decision.Decision.TheVariants as note
-use Rattle.sng_book.specs.declared.outcome.Denial.TheVariants.{OutOfTurn, ClientRefused}
+use Rattle.sng_book.specs.declared.outcome.Denial.TheVariants.{Form, Peer}
+use Rattle.sng_book.specs.declared.outcome.FormDenial.TheVariants.{OutOfTurn}
+use Rattle.sng_book.specs.declared.outcome.PeerDenial.TheVariants.{ClientRefused}
 use Rattle.sng_book.specs.declared.outcome.Outcome.TheVariants.{Denied}
 use Rattle.sng_book.specs.declared.out.Out.{Out}
 use Rattle.sng_book.specs.declared.out.Out.TheVariants.{Note}
@@ -26,7 +28,7 @@ served_next policy clock more first x =
 abbrev pub refusing_outs : Policy → ℕ → Client → List Message → List Out
 refusing_outs policy code x [] = []
 refusing_outs policy code x (m ∷ waiting) =
-    Note (note.Hand x.id m.name (Denied (ClientRefused code))) ∷ served_outs policy 0 1 x
+    Note (note.Hand x.id m.name (Denied (Peer (ClientRefused code)))) ∷ served_outs policy 0 1 x
 
 abbrev pub refusing_next : Policy → ℕ → Client → List Message → Client
 refusing_next policy clock x [] = heard_at clock x
@@ -44,7 +46,7 @@ confirming_next policy clock r x =
     else refusing_next policy clock x x.buffer.waiting
 
 abbrev pub confirm_outs : Policy → TopicAck → Client → List Out
-confirm_outs policy r x = if is_confirming r x then confirming_outs policy r x else broken_outs OutOfTurn x
+confirm_outs policy r x = if is_confirming r x then confirming_outs policy r x else broken_outs (Form OutOfTurn) x
 
 abbrev pub confirm_next : Policy → ℕ → TopicAck → Client → Client
 confirm_next policy clock r x =
@@ -53,7 +55,7 @@ confirm_next policy clock r x =
 -- a PUBACK
 abbrev pub acknowledge_outs : Policy → TopicAck → Client → List Out
 acknowledge_outs policy r x =
-    if is_acknowledging r x then served_outs policy 0 0 x else broken_outs OutOfTurn x
+    if is_acknowledging r x then served_outs policy 0 0 x else broken_outs (Form OutOfTurn) x
 
 abbrev pub acknowledge_next : Policy → ℕ → TopicAck → Client → Client
 acknowledge_next policy clock r x =

@@ -1,6 +1,7 @@
 -- What a tick of the clock lets out and leads to, client by client, with no notes (MQTT-SN 1.2, 5.4.4, 6.3,
 -- 6.11 and 6.13).
-use Rattle.std.specs.Prelude.{ℕ, suc, ◌==◌, ◌&&◌, Bool, List, [], ◌∷◌, ◌++◌, if◌then◌else◌}
+use Rattle.std.specs.Prelude.{ℕ, suc, ◌==◌, ◌&&◌, Bool, List, [], ◌∷◌, ◌++◌, if◌then◌else◌, Option, Some}
+use Rattle.std.specs.Prelude.{None}
 use Rattle.sng_grants.specs.declared.policy.Policy.{Policy}
 use Rattle.sng_book.specs.declared.decision.Decision.TheVariants as note
 use Rattle.sng_book.specs.declared.out.Out.{Out}
@@ -25,6 +26,11 @@ again_outs policy clock x = if is_repeating clock x then exchange_outs policy x 
 abbrev pub again_at : Policy → ℕ → ℕ → Client → List Due
 again_at policy clock place x =
     if is_repeating clock x then Unanswered place (exchange_comes policy x x.buffer.exchange) ∷ [] else []
+
+-- what is due, where something is
+abbrev pub due_list : Option Due → List Due
+due_list None = []
+due_list (Some due) = due ∷ []
 
 -- it is lost, or not
 abbrev pub due_outs : Policy → ℕ → Room → Client → List Out

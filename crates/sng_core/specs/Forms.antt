@@ -6,7 +6,8 @@ use Rattle.sng_book.specs.declared.address.Address.{Address}
 use Rattle.sng_book.specs.declared.decision.Decision.TheVariants as note
 use Rattle.sng_book.specs.declared.decision.Who.TheVariants as who
 use Rattle.sng_book.specs.declared.outcome.Denial.{Denial}
-use Rattle.sng_book.specs.declared.outcome.Denial.TheVariants.{NotSupported}
+use Rattle.sng_book.specs.declared.outcome.Denial.TheVariants.{Form}
+use Rattle.sng_book.specs.declared.outcome.FormDenial.TheVariants.{NotSupported}
 use Rattle.sng_book.specs.declared.outcome.Outcome.{Outcome}
 use Rattle.sng_book.specs.declared.outcome.Outcome.TheVariants.{Allowed, Denied}
 use Rattle.sng_book.specs.declared.out.Out.{Out}
@@ -50,7 +51,7 @@ left_outs x = Note (note.Left x.id) ∷ dismissed x.address ∷ gone_outs x.id x
 -- a client's message that is not taken
 abbrev pub unsupported_outs : SnFrame → Client → List Out
 unsupported_outs message x =
-    Note (denied_note message (who.Client x.id) NotSupported) ∷ refused x.address message NotSupported
+    Note (denied_note message (who.Client x.id) (Form NotSupported)) ∷ refused x.address message (Form NotSupported)
 
 -- a datagram of a client that is not a message
 abbrev pub broken_outs : Denial → Client → List Out

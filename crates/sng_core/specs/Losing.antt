@@ -17,7 +17,7 @@ use Rattle.sng_sessions.specs.Moving.{moved_at}
 use Rattle.sng_link.specs.Rooms.{room_by, room_past}
 use Rattle.sng_link.specs.declared.room.Room.{Room}
 use Rattle.sng_turns.specs.HandingOver.{gone_outs}
-use Rattle.sng_core.specs.declared.tick.Loss.{Loss}
+use Rattle.sng_core.specs.declared.tick.LostClient.{LostClient}
 
 -- ---- one client
 
@@ -59,7 +59,7 @@ abbrev pub lost_outs : Room → Client → List Out
 lost_outs room x =
     Note (note.Lost x.id) ∷ (gone_outs x.id x.buffer.waiting ++ will_outs room x.id x.wills.will)
 
-abbrev pub loss_of : Room → ℕ → Client → Loss
+abbrev pub loss_of : Room → ℕ → Client → LostClient
 loss_of room place x = record { place = place; will = kept_will room x.id x.wills.will }
 
 -- ---- what is planned is carried out
@@ -68,8 +68,8 @@ abbrev pub placed_if : Link → Option Publication → Link
 placed_if link None = link
 placed_if link (Some p) = placed link p
 
-abbrev pub lost_clients : List Client → Loss → List Client
+abbrev pub lost_clients : List Client → LostClient → List Client
 lost_clients xs l = moved_at l.place lost xs
 
-abbrev pub lost_link : Link → Loss → Link
+abbrev pub lost_link : Link → LostClient → Link
 lost_link link l = placed_if link l.will

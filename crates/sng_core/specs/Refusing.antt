@@ -4,7 +4,8 @@ use Rattle.std.specs.Prelude.{ℕ, List, [], ◌∷◌, ◌++◌, map, if◌then
 use Rattle.std.specs.List.{flat_map}
 use Rattle.sng_wanted.specs.Filters.{without_wanted}
 use Rattle.sng_book.specs.declared.decision.Decision.TheVariants as note
-use Rattle.sng_book.specs.declared.outcome.Denial.TheVariants.{BrokerRefused}
+use Rattle.sng_book.specs.declared.outcome.Denial.TheVariants.{Peer}
+use Rattle.sng_book.specs.declared.outcome.PeerDenial.TheVariants.{BrokerRefused}
 use Rattle.sng_book.specs.declared.outcome.Outcome.TheVariants.{Denied}
 use Rattle.sng_book.specs.declared.out.Out.{Out}
 use Rattle.sng_book.specs.declared.out.Out.TheVariants.{Note}
@@ -21,7 +22,7 @@ use Rattle.sng_turns.specs.Delivering.{incoming, all_outs, all_kept, keep_all}
 
 -- the end of a filter that the broker refuses, of a client for whom it stands
 abbrev pub end_note : List ℕ → Client → List Out
-end_note filter x = if holds filter x then Note (note.End x.id filter (Denied BrokerRefused)) ∷ [] else []
+end_note filter x = if holds filter x then Note (note.End x.id filter (Denied (Peer BrokerRefused))) ∷ [] else []
 
 abbrev pub end_notes : List ℕ → List Client → List Out
 end_notes filter xs = flat_map (end_note filter) xs

@@ -6,7 +6,8 @@ use Rattle.std.specs.Str.{bytes_eq}
 use Rattle.sng_grants.specs.declared.policy.Policy.{Policy}
 use Rattle.sng_states.specs.States.{is_due_messages, is_asleep}
 use Rattle.sng_states.specs.declared.state.ClientState.TheVariants.{Awake}
-use Rattle.sng_book.specs.declared.outcome.Denial.TheVariants.{NoSession, OutOfTurn}
+use Rattle.sng_book.specs.declared.outcome.Denial.TheVariants.{Form}
+use Rattle.sng_book.specs.declared.outcome.FormDenial.TheVariants.{NoSession, OutOfTurn}
 use Rattle.sng_book.specs.declared.out.Out.{Out}
 use Rattle.sng_history.specs.Answers.{dismissed, pong}
 use Rattle.sng_history.specs.Clients.{Client, drained}
@@ -20,7 +21,7 @@ use Rattle.sng_turns.specs.Serving.{over_plan, serving_outs}
 -- ---- a DISCONNECT with Duration
 
 abbrev pub slept_outs : Client → List Out
-slept_outs x = if is_due_messages x.phase then dismissed x.address ∷ [] else broken_outs OutOfTurn x
+slept_outs x = if is_due_messages x.phase then dismissed x.address ∷ [] else broken_outs (Form OutOfTurn) x
 
 -- ---- a PINGREQ
 
@@ -28,7 +29,7 @@ slept_outs x = if is_due_messages x.phase then dismissed x.address ∷ [] else b
 abbrev pub pinged : Bool → Client → List Out
 pinged named x =
     if is_active x.phase then pong x.address ∷ []
-    else (if named && is_due_messages x.phase then [] else broken_outs OutOfTurn x)
+    else (if named && is_due_messages x.phase then [] else broken_outs (Form OutOfTurn) x)
 
 -- one that names its client wakes it where it sleeps
 abbrev pub woken_outs : Policy → Client → List Out
@@ -45,7 +46,7 @@ own_ping_next policy clock x = if is_asleep x.phase then woken_next policy clock
 
 -- one that names another client is dismissed
 abbrev pub other_ping_outs : Client → List Out
-other_ping_outs x = broken_outs NoSession x ++ dismissed x.address ∷ []
+other_ping_outs x = broken_outs (Form NoSession) x ++ dismissed x.address ∷ []
 
 abbrev pub ping_outs : Policy → Option (List ℕ) → Client → List Out
 ping_outs policy None x = pinged false x

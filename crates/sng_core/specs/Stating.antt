@@ -12,7 +12,9 @@ use Rattle.sng_outbox.specs.declared.origin.Origin.TheVariants as origin
 use Rattle.sng_book.specs.declared.address.Address.{Address}
 use Rattle.sng_book.specs.declared.decision.Decision.TheVariants as note
 use Rattle.sng_book.specs.declared.decision.Who.TheVariants as who
-use Rattle.sng_book.specs.declared.outcome.Denial.TheVariants.{NoScope, BadName, OutOfTurn}
+use Rattle.sng_book.specs.declared.outcome.Denial.TheVariants.{Form, Grant}
+use Rattle.sng_book.specs.declared.outcome.FormDenial.TheVariants.{BadName, OutOfTurn}
+use Rattle.sng_book.specs.declared.outcome.GrantDenial.TheVariants.{NoScope}
 use Rattle.sng_book.specs.declared.outcome.Outcome.{Outcome}
 use Rattle.sng_book.specs.declared.outcome.Outcome.TheVariants.{Allowed, Denied}
 use Rattle.sng_book.specs.declared.out.Out.{Out}
@@ -80,8 +82,8 @@ abbrev pub text_judged : Policy → List ℕ → List ℕ → Judged
 text_judged policy id text =
     if lists policy id
     then (if is_name text then record { name = Some text; outcome = exit policy (origin.Client id) text }
-    else unread BadName)
-    else unread (NoScope id)
+    else unread (Form BadName))
+    else unread (Grant (NoScope id))
 
 abbrev pub topic_judged : Policy → List ℕ → Option (List ℕ) → Judged
 topic_judged policy id None = granted_nothing
@@ -144,8 +146,8 @@ noted_outs policy statement x j =
 -- out of turn an update alone is answered
 abbrev pub untimely_outs : Statement → Client → List Out
 untimely_outs statement x =
-    Note (note.Will (who.Client x.id) None (Denied OutOfTurn))
-    ∷ (if is_of_dialogue statement then [] else answer_of statement x.address (Denied OutOfTurn) ∷ [])
+    Note (note.Will (who.Client x.id) None (Denied (Form OutOfTurn)))
+    ∷ (if is_of_dialogue statement then [] else answer_of statement x.address (Denied (Form OutOfTurn)) ∷ [])
 
 abbrev pub statement_outs : Policy → Statement → Client → List Out
 statement_outs policy statement x =

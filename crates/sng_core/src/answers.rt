@@ -1,10 +1,12 @@
 //! What a denied message is noted as, and the datagrams that answer a client (MQTT-SN 1.2, 5.4 and 6.14).
 ghost use Rattle.std.specs.Prelude.{◌≡◌, ◌∷◌, ◌++◌, [], IfOk, OnOk};
-ghost use Rattle.sng_history.specs.Answers.{denied_note, code_of, refused, dismissed, connack, welcome};
+ghost use Rattle.sng_history.specs.Answers.{denied_note, code_of, form_code, room_code, refused, dismissed, connack, welcome};
 ghost use Rattle.sng_history.specs.Answers.{no_flags};
 ghost use Rattle.sng_frames.specs.Writing.{written};
 
-use sng_book::{Address, Decision, Denial, Out, Outcome, Outs, OutsPair, Who};
+use sng_book::{
+    Address, Decision, Denial, FormDenial, Out, Outcome, Outs, OutsPair, RoomDenial, Who,
+};
 use sng_frames::{
     Connect, Flags, FrameQos, ReturnCode, SnFrame, SubscribeAck, TopicAck, TopicIdType,
     write_connect_ack, write_disconnect, write_publish_ack, write_register_ack,
@@ -53,24 +55,34 @@ pub fn code_of(rule: &Denial) -> ReturnCode
     ensures { result ≡ code_of rule.now }
 {
     match rule {
-        Denial::UnknownId(_, _) => ReturnCode::INVALID_TOPIC_ID,
-        Denial::UpstreamDown | Denial::Full(_) => ReturnCode::CONGESTION,
-        Denial::Malformed
-        | Denial::NotSupported
-        | Denial::NoScope(_)
-        | Denial::NoSession
-        | Denial::UnknownSource
-        | Denial::BadName
-        | Denial::BadFilter
-        | Denial::IdType
-        | Denial::MissingPub(_)
-        | Denial::MissingSub(_)
-        | Denial::Uncovered(_, _)
-        | Denial::ClientRefused(_)
-        | Denial::BrokerRefused
-        | Denial::OutOfTurn
-        | Denial::TooLong
-        | Denial::Gone => ReturnCode::NOT_SUPPORTED,
+        Denial::Form(rule) => form_code(rule),
+        Denial::Grant(_) => ReturnCode::NOT_SUPPORTED,
+        Denial::Room(rule) => room_code(rule),
+        Denial::Peer(_) => ReturnCode::NOT_SUPPORTED,
+    }
+}
+
+fn form_code(rule: &FormDenial) -> ReturnCode
+    ensures { result ≡ form_code rule.now }
+{
+    match rule {
+        FormDenial::UnknownId(_, _) => ReturnCode::INVALID_TOPIC_ID,
+        FormDenial::Malformed
+        | FormDenial::NotSupported
+        | FormDenial::NoSession
+        | FormDenial::BadName
+        | FormDenial::BadFilter
+        | FormDenial::IdType
+        | FormDenial::OutOfTurn => ReturnCode::NOT_SUPPORTED,
+    }
+}
+
+fn room_code(rule: &RoomDenial) -> ReturnCode
+    ensures { result ≡ room_code rule.now }
+{
+    match rule {
+        RoomDenial::UpstreamDown | RoomDenial::Full(_) => ReturnCode::CONGESTION,
+        RoomDenial::TooLong => ReturnCode::NOT_SUPPORTED,
     }
 }
 

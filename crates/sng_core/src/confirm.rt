@@ -1,53 +1,28 @@
 //! A REGACK and a PUBACK of a client (MQTT-SN 1.2, 5.4.11, 5.4.13, 6.5, 6.6 and 6.10): it ends what is open,
 //! and what waits is handed over. What is let out is planned first, and what changes cannot fail.
 ghost use Rattle.std.specs.Prelude.{◌≡◌, ◌<◌, ◌≤◌, ◌++◌, [], length, if◌then◌else◌, IfOk, OnOk, OnErr};
-ghost use Rattle.sng_history.specs.Causes.{ToConfirm, ToAcknowledge};
 ghost use Rattle.sng_history.specs.Clients.{is_confirming, is_acknowledging};
 ghost use Rattle.sng_history.specs.Handing.{answers_sent};
-ghost use Rattle.sng_history.specs.Whole.{stranger_to};
+ghost use Rattle.sng_sessions.specs.Handed.{answered};
 ghost use Rattle.sng_sessions.specs.Moving.{moved_at};
-ghost use Rattle.sng_core.specs.Forms.{place_at, client_at, at_place, moved_if, found_outs, broken_outs};
-ghost use Rattle.sng_core.specs.Forms.{heard_at};
+ghost use Rattle.sng_turns.specs.Serving.{more_by, first_by};
+ghost use Rattle.sng_core.specs.Forms.{client_at, broken_outs, heard_at};
 ghost use Rattle.sng_core.specs.Confirming.{served_outs, served_next, refusing_outs, refusing_next};
 ghost use Rattle.sng_core.specs.Confirming.{confirming_outs, confirming_next, confirm_outs, confirm_next};
 ghost use Rattle.sng_core.specs.Confirming.{acknowledge_outs, acknowledge_next};
 
-use crate::messages::{denied_frame, no_session_frame};
-use sng_book::{Address, Denial, Outcome, Outs, OutsPair};
+use crate::messages::denied_frame;
+use sng_book::{Denial, FormDenial, Outcome, Outs, OutsPair, PeerDenial};
 use sng_frames::TopicAck;
 use sng_grants::Policy;
 use sng_queue::{Exchange, Sending};
 use sng_sessions::{Change, Sessions};
-use sng_turns::serve::serve_plan;
+use sng_turns::serve::{Settled, serve_plan};
 use sng_turns::turn::note_hand;
 use std::alloc::{AllocError, Global};
 
-/// A REGACK from this address.
-pub fn confirm(
-    alloc: Global,
-    policy: &Policy,
-    clock: u64,
-    from: Address,
-    answer: TopicAck,
-    sessions: &mut Sessions,
-) -> Result<OutsPair, AllocError>
-    ensures outs { IfOk result (λ outs. outs
-        ≡ found_outs (stranger_to from (ToConfirm answer)) (confirm_outs policy.now answer)
-        (at_place sessions.old (place_at from sessions.old))) }
-    ensures next { OnOk result (sessions.new
-        ≡ moved_if (place_at from sessions.old) (confirm_next policy.now clock answer) sessions.old) }
-    ensures err { OnErr result (sessions.new ≡ sessions.old) }
-{
-    let Some(place) = sessions.at(from) else {
-        let outs = no_session_frame(alloc, from)?;
-        return Ok(outs);
-    };
-    let outs = confirm_at(alloc, policy, clock, answer, sessions, place)?;
-    Ok(outs)
-}
-
 /// A REGACK of the client at this place: one in its turn accepts the id that was announced, or refuses it.
-fn confirm_at(
+pub fn confirm(
     alloc: Global,
     policy: &Policy,
     clock: u64,
@@ -89,16 +64,8 @@ fn confirm_in_turn(
     ensures err { OnErr result (sessions.new ≡ sessions.old) }
 {
     if answer.code.0 == 0 {
-        let served = serve(
-            alloc,
-            policy,
-            clock,
-            sessions,
-            place,
-            answer.topic_id,
-            0,
-            outs,
-        )?;
+        let settled = Settled::Id(answer.topic_id);
+        let served = serve(alloc, policy, clock, sessions, place, settled, outs)?;
         Ok(served)
     } else {
         let refused = refuse(alloc, policy, clock, answer.code.0, sessions, place, outs)?;
@@ -106,32 +73,8 @@ fn confirm_in_turn(
     }
 }
 
-/// A PUBACK from this address.
-pub fn acknowledge(
-    alloc: Global,
-    policy: &Policy,
-    clock: u64,
-    from: Address,
-    answer: TopicAck,
-    sessions: &mut Sessions,
-) -> Result<OutsPair, AllocError>
-    ensures outs { IfOk result (λ outs. outs
-        ≡ found_outs (stranger_to from (ToAcknowledge answer)) (acknowledge_outs policy.now answer)
-        (at_place sessions.old (place_at from sessions.old))) }
-    ensures next { OnOk result (sessions.new
-        ≡ moved_if (place_at from sessions.old) (acknowledge_next policy.now clock answer) sessions.old) }
-    ensures err { OnErr result (sessions.new ≡ sessions.old) }
-{
-    let Some(place) = sessions.at(from) else {
-        let outs = no_session_frame(alloc, from)?;
-        return Ok(outs);
-    };
-    let outs = acknowledge_at(alloc, policy, clock, answer, sessions, place)?;
-    Ok(outs)
-}
-
 /// A PUBACK of the client at this place: one in its turn ends the exchange.
-fn acknowledge_at(
+pub fn acknowledge(
     alloc: Global,
     policy: &Policy,
     clock: u64,
@@ -151,39 +94,56 @@ fn acknowledge_at(
         return Ok(outs);
     }
     let none = Outs::new(alloc);
-    let outs = serve(alloc, policy, clock, sessions, place, 0, 0, none)?;
+    let outs = serve(
+        alloc,
+        policy,
+        clock,
+        sessions,
+        place,
+        Settled::Nothing,
+        none,
+    )?;
     Ok(outs)
 }
 
-/// The client at this place is heard, knows the id (0 is none), and what waits from this one on is handed
-/// over.
+/// The client at this place is heard, and what waits is handed over once this is settled.
 fn serve(
     alloc: Global,
     policy: &Policy,
     clock: u64,
     sessions: &mut Sessions,
     place: usize,
-    confirming: u16,
-    first: usize,
+    settled: Settled,
     mut outs: Outs,
 ) -> Result<OutsPair, AllocError>
     requires place { place < length sessions.old }
-    requires first { first ≤ length (client_at sessions.old place).buffer.waiting }
+    requires first { first_by settled ≤ length (client_at sessions.old place).buffer.waiting }
     ensures outs { IfOk result (λ pair. pair ≡ outs
-        ++ served_outs policy.now confirming first (client_at sessions.old place)) }
+        ++ served_outs policy.now (more_by settled) (first_by settled) (client_at sessions.old place)) }
     ensures next { OnOk result (sessions.new
-        ≡ moved_at place (served_next policy.now clock confirming first) sessions.old) }
+        ≡ moved_at place (served_next policy.now clock (more_by settled) (first_by settled)) sessions.old) }
     ensures err { OnErr result (sessions.new ≡ sessions.old) }
 {
     let phase = sessions.phase(place);
-    let handed = serve_plan(
-        alloc, policy, phase, sessions, place, confirming, first, &mut outs,
-    )?;
+    let handed = serve_plan(alloc, policy, phase, sessions, place, settled, &mut outs)?;
     let pair = OutsPair::of(alloc, outs)?;
-    sessions.answer(place, confirming, clock);
+    settle(settled, sessions, place, clock);
     sessions.hand(place, handed, clock);
     sessions.change(place, Change::Drains, clock);
     Ok(pair)
+}
+
+/// The client at this place is heard, its exchange is over, and it knows the id that it confirmed.
+fn settle(settled: Settled, sessions: &mut Sessions, place: usize, clock: u64)
+    ensures { sessions.new ≡ moved_at place (answered clock (more_by settled)) sessions.old }
+{
+    match settled {
+        Settled::Id(id) => sessions.answer(place, id, clock),
+        Settled::Nothing | Settled::Front => {
+            sessions.hear(place, clock);
+            sessions.change(place, Change::Closes, clock);
+        }
+    }
 }
 
 /// The message for which the id was announced comes out so, and what waits behind it is handed over.
@@ -208,9 +168,9 @@ fn refuse(
         sessions.hear(place, clock);
         return Ok(pair);
     };
-    let denied = Outcome::Denied(Denial::ClientRefused(code));
+    let denied = Outcome::Denied(Denial::Peer(PeerDenial::ClientRefused(code)));
     note_hand(sessions.id(place), front.name(), denied, &mut outs)?;
-    let served = serve(alloc, policy, clock, sessions, place, 0, 1, outs)?;
+    let served = serve(alloc, policy, clock, sessions, place, Settled::Front, outs)?;
     Ok(served)
 }
 
@@ -222,11 +182,11 @@ fn out_of_turn(
     place: usize,
 ) -> Result<OutsPair, AllocError>
     requires { place < length sessions.old }
-    ensures outs { IfOk result (λ outs. outs ≡ broken_outs Denial.OutOfTurn (client_at sessions.old place)) }
+    ensures outs { IfOk result (λ outs. outs ≡ broken_outs (Denial.Form FormDenial.OutOfTurn) (client_at sessions.old place)) }
     ensures next { OnOk result (sessions.new ≡ moved_at place (heard_at clock) sessions.old) }
     ensures err { OnErr result (sessions.new ≡ sessions.old) }
 {
-    let outs = denied_frame(alloc, sessions, place, Denial::OutOfTurn)?;
+    let outs = denied_frame(alloc, sessions, place, Denial::Form(FormDenial::OutOfTurn))?;
     sessions.hear(place, clock);
     Ok(outs)
 }

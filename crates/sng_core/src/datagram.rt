@@ -1,22 +1,24 @@
-//! One datagram: as the message that it holds it is brought to who takes it (MQTT-SN 1.2, 5).
-ghost use Rattle.std.specs.Prelude.{◌≡◌, IfOk, OnOk, OnErr};
+//! One datagram (MQTT-SN 1.2, 5): the client at its address is looked up, once, and what the message asks is
+//! brought to who takes it.
+ghost use Rattle.std.specs.Prelude.{◌≡◌, ◌<◌, length, IfOk, OnOk, OnErr};
+ghost use Rattle.sng_wanted.specs.declared.limits.TheConstants.{MAX_WANTED};
 ghost use Rattle.sng_frames.specs.Reading.{frame_of};
-ghost use Rattle.sng_history.specs.Causes.{ByConnect, ByMessage, BySource, ByBroken, datagram_cause};
-ghost use Rattle.sng_history.specs.Causes.{frame_cause, publish_cause, disconnect_cause};
-ghost use Rattle.sng_history.specs.Causes.{ToPing, ToLeave, ToSleep, ToRegister, ToPublish, ToSubscribe};
-ghost use Rattle.sng_history.specs.Causes.{ToUnsubscribe, ToConfirm, ToAcknowledge, ToState, Untaken};
+ghost use Rattle.sng_history.specs.Causes.{ByMessage, BySource, ByBroken, datagram_cause, frame_cause};
 ghost use Rattle.sng_history.specs.Good.{Good};
 ghost use Rattle.sng_history.specs.Steps.{outs_by, next_by};
-ghost use Rattle.sng_core.specs.Stating.{said};
+ghost use Rattle.sng_core.specs.Forms.{place_at};
+ghost use Rattle.sng_core.specs.Requesting.{asked, request_outs, request_next};
 
+use crate::confirm::{acknowledge, confirm};
+use crate::messages::{broken, leave, unsupported};
 use crate::parts::Parts;
-use crate::stating::Statement;
-use crate::{confirm, messages, register, sleep, statement};
-use sng_book::{Address, Denial, OutsPair};
-use sng_frames::{
-    FrameFault, FrameQos, Publish, Register, SnFrame, TopicAck, TopicRequest, decode,
-};
-use sng_text::ClientId;
+use crate::register::register;
+use crate::request::{Asked, SessionRequest, ask_of};
+use crate::sleep::{ping, sleep};
+use crate::statement::state;
+use crate::stranger::stranger;
+use sng_book::{Address, Denial, FormDenial, OutsPair};
+use sng_frames::{FrameFault, Publish, SnFrame, decode};
 use std::alloc::{AllocError, Global};
 
 impl Parts {
@@ -34,218 +36,49 @@ impl Parts {
             ≡ next_by self.old (datagram_cause from (frame_of datagram.now))) }
         ensures err { OnErr result (self.new ≡ self.old) }
     {
+        let at = self.sessions.at(from);
         match decode(alloc, datagram) {
-            Ok(frame) => self.message(alloc, from, frame),
-            Err(FrameFault::NotSupported) => self.broken(alloc, from, Denial::NotSupported),
-            Err(FrameFault::Malformed) => self.broken(alloc, from, Denial::Malformed),
-            Err(FrameFault::TooLong) => self.broken(alloc, from, Denial::Malformed),
+            Ok(frame) => self.message(alloc, from, at, frame),
+            Err(FrameFault::NotSupported) => self.broken(
+                alloc,
+                from,
+                at,
+                Denial::Form(FormDenial::NotSupported),
+            ),
+            Err(FrameFault::Malformed) => self.broken(
+                alloc,
+                from,
+                at,
+                Denial::Form(FormDenial::Malformed),
+            ),
+            Err(FrameFault::TooLong) => self.broken(
+                alloc,
+                from,
+                at,
+                Denial::Form(FormDenial::Malformed),
+            ),
             Err(FrameFault::Memory) => Err(AllocError),
         }
     }
 
-    /// A message from this address.
+    /// A message from this address, of the client at this place, or of nobody.
     fn message(
         &mut self,
         alloc: Global,
         from: Address,
+        at: Option<usize>,
         frame: SnFrame,
     ) -> Result<OutsPair, AllocError>
-        requires { Good self.old }
+        requires good { Good self.old }
+        requires at { at ≡ place_at from self.old.clients }
         ensures outs { IfOk result (λ outs. outs ≡ outs_by self.old (frame_cause from frame)) }
         ensures next { OnOk result (self.new ≡ next_by self.old (frame_cause from frame)) }
         ensures err { OnErr result (self.new ≡ self.old) }
     {
-        // An arm for each message: a new one is not passed over, and each closes without a proof.
-        match frame {
-            SnFrame::Connect(connect) => self.connect(alloc, from, connect),
-            SnFrame::Publish(publish) => self.publish(alloc, from, publish),
-            SnFrame::PingRequest(client) => self.ping(alloc, from, client),
-            SnFrame::Disconnect(duration) => self.disconnect(alloc, from, duration),
-            SnFrame::ConnectAck(code) => self.unsupported(alloc, from, SnFrame::ConnectAck(code)),
-            SnFrame::WillTopicRequest => self.unsupported(alloc, from, SnFrame::WillTopicRequest),
-            SnFrame::WillTopic(topic) => self.state(alloc, from, Statement::Topic(topic)),
-            SnFrame::WillMessageRequest => self.unsupported(
-                alloc,
-                from,
-                SnFrame::WillMessageRequest,
-            ),
-            SnFrame::WillMessage(message) => self.state(alloc, from, Statement::Message(message)),
-            SnFrame::Register(register) => self.register(alloc, from, register),
-            SnFrame::RegisterAck(answer) => self.confirm(alloc, from, answer),
-            SnFrame::PublishAck(answer) => self.acknowledge(alloc, from, answer),
-            SnFrame::PublishComplete(id) => self.unsupported(
-                alloc,
-                from,
-                SnFrame::PublishComplete(id),
-            ),
-            SnFrame::PublishReceived(id) => self.unsupported(
-                alloc,
-                from,
-                SnFrame::PublishReceived(id),
-            ),
-            SnFrame::PublishRelease(id) => self.unsupported(
-                alloc,
-                from,
-                SnFrame::PublishRelease(id),
-            ),
-            SnFrame::Subscribe(request) => self.subscribe(alloc, from, request),
-            SnFrame::SubscribeAck(answer) => self.unsupported(
-                alloc,
-                from,
-                SnFrame::SubscribeAck(answer),
-            ),
-            SnFrame::Unsubscribe(request) => self.unsubscribe(alloc, from, request),
-            SnFrame::UnsubscribeAck(id) => self.unsupported(
-                alloc,
-                from,
-                SnFrame::UnsubscribeAck(id),
-            ),
-            SnFrame::PingResponse => self.unsupported(alloc, from, SnFrame::PingResponse),
-            SnFrame::WillTopicUpdate(topic) => self.state(
-                alloc,
-                from,
-                Statement::TopicUpdate(topic),
-            ),
-            SnFrame::WillTopicResponse(code) => self.unsupported(
-                alloc,
-                from,
-                SnFrame::WillTopicResponse(code),
-            ),
-            SnFrame::WillMessageUpdate(message) => self.state(
-                alloc,
-                from,
-                Statement::MessageUpdate(message),
-            ),
-            SnFrame::WillMessageResponse(code) => self.unsupported(
-                alloc,
-                from,
-                SnFrame::WillMessageResponse(code),
-            ),
-        }
-    }
-
-    /// A SUBSCRIBE.
-    fn subscribe(
-        &mut self,
-        alloc: Global,
-        from: Address,
-        request: TopicRequest,
-    ) -> Result<OutsPair, AllocError>
-        requires { Good self.old }
-        ensures outs { IfOk result (λ outs. outs ≡ outs_by self.old (ByMessage from (ToSubscribe request))) }
-        ensures next { OnOk result (self.new ≡ next_by self.old (ByMessage from (ToSubscribe request))) }
-        ensures err { OnErr result (self.new ≡ self.old) }
-    {
-        let outs = self.subscribe_from(alloc, from, request)?;
-        Ok(outs)
-    }
-
-    /// An UNSUBSCRIBE.
-    fn unsubscribe(
-        &mut self,
-        alloc: Global,
-        from: Address,
-        request: TopicRequest,
-    ) -> Result<OutsPair, AllocError>
-        requires { Good self.old }
-        ensures outs { IfOk result (λ outs. outs
-            ≡ outs_by self.old (ByMessage from (ToUnsubscribe request))) }
-        ensures next { OnOk result (self.new ≡ next_by self.old (ByMessage from (ToUnsubscribe request))) }
-        ensures err { OnErr result (self.new ≡ self.old) }
-    {
-        let outs = self.unsubscribe_from(alloc, from, request)?;
-        Ok(outs)
-    }
-
-    /// A REGISTER.
-    fn register(
-        &mut self,
-        alloc: Global,
-        from: Address,
-        register: Register,
-    ) -> Result<OutsPair, AllocError>
-        requires { Good self.old }
-        ensures outs { IfOk result (λ outs. outs ≡ outs_by self.old (ByMessage from (ToRegister register))) }
-        ensures next { OnOk result (self.new ≡ next_by self.old (ByMessage from (ToRegister register))) }
-        ensures err { OnErr result (self.new ≡ self.old) }
-    {
-        let sessions = &mut self.sessions;
-        let outs = register::register(alloc, &self.policy, self.clock, from, register, sessions)?;
-        Ok(outs)
-    }
-
-    /// A REGACK.
-    fn confirm(
-        &mut self,
-        alloc: Global,
-        from: Address,
-        answer: TopicAck,
-    ) -> Result<OutsPair, AllocError>
-        requires { Good self.old }
-        ensures outs { IfOk result (λ outs. outs ≡ outs_by self.old (ByMessage from (ToConfirm answer))) }
-        ensures next { OnOk result (self.new ≡ next_by self.old (ByMessage from (ToConfirm answer))) }
-        ensures err { OnErr result (self.new ≡ self.old) }
-    {
-        let sessions = &mut self.sessions;
-        let outs = confirm::confirm(alloc, &self.policy, self.clock, from, answer, sessions)?;
-        Ok(outs)
-    }
-
-    /// A PUBACK.
-    fn acknowledge(
-        &mut self,
-        alloc: Global,
-        from: Address,
-        answer: TopicAck,
-    ) -> Result<OutsPair, AllocError>
-        requires { Good self.old }
-        ensures outs { IfOk result (λ outs. outs
-            ≡ outs_by self.old (ByMessage from (ToAcknowledge answer))) }
-        ensures next { OnOk result (self.new ≡ next_by self.old (ByMessage from (ToAcknowledge answer))) }
-        ensures err { OnErr result (self.new ≡ self.old) }
-    {
-        let sessions = &mut self.sessions;
-        let outs = confirm::acknowledge(alloc, &self.policy, self.clock, from, answer, sessions)?;
-        Ok(outs)
-    }
-
-    /// What a client states of its will.
-    fn state(
-        &mut self,
-        alloc: Global,
-        from: Address,
-        statement: Statement,
-    ) -> Result<OutsPair, AllocError>
-        requires { Good self.old }
-        ensures outs { IfOk result (λ outs. outs
-            ≡ outs_by self.old (ByMessage from (ToState (said statement)))) }
-        ensures next { OnOk result (self.new ≡ next_by self.old (ByMessage from (ToState (said statement)))) }
-        ensures err { OnErr result (self.new ≡ self.old) }
-    {
-        let sessions = &mut self.sessions;
-        let outs = statement::state(alloc, &self.policy, self.clock, from, statement, sessions)?;
-        Ok(outs)
-    }
-
-    /// A PUBLISH, by its QoS.
-    fn publish(
-        &mut self,
-        alloc: Global,
-        from: Address,
-        publish: Publish,
-    ) -> Result<OutsPair, AllocError>
-        requires { Good self.old }
-        ensures outs { IfOk result (λ outs. outs
-            ≡ outs_by self.old (publish_cause from publish publish.flags.qos)) }
-        ensures next { OnOk result (self.new
-            ≡ next_by self.old (publish_cause from publish publish.flags.qos)) }
-        ensures err { OnErr result (self.new ≡ self.old) }
-    {
-        match publish.flags.qos {
-            FrameQos::WithoutSession => self.source(alloc, from, publish),
-            FrameQos::AtMostOnce => self.carry(alloc, from, publish),
-            FrameQos::AtLeastOnce => self.carry(alloc, from, publish),
-            FrameQos::ExactlyOnce => self.unsupported(alloc, from, SnFrame::Publish(publish)),
+        match ask_of(frame) {
+            Asked::Entry(connect) => self.connect(alloc, from, at, connect),
+            Asked::Source(publish) => self.source(alloc, from, publish),
+            Asked::Request(request) => self.request(alloc, from, at, request),
         }
     }
 
@@ -265,103 +98,87 @@ impl Parts {
         Ok(outs)
     }
 
-    /// A PUBLISH of a session, at QoS 0 or 1.
-    fn carry(
+    /// A message of a session, where it is no CONNECT.
+    fn request(
         &mut self,
         alloc: Global,
         from: Address,
-        publish: Publish,
+        at: Option<usize>,
+        request: SessionRequest,
     ) -> Result<OutsPair, AllocError>
-        requires { Good self.old }
-        ensures outs { IfOk result (λ outs. outs ≡ outs_by self.old (ByMessage from (ToPublish publish))) }
-        ensures next { OnOk result (self.new ≡ next_by self.old (ByMessage from (ToPublish publish))) }
+        requires good { Good self.old }
+        requires at { at ≡ place_at from self.old.clients }
+        ensures outs { IfOk result (λ outs. outs ≡ outs_by self.old (ByMessage from (asked request))) }
+        ensures next { OnOk result (self.new ≡ next_by self.old (ByMessage from (asked request))) }
         ensures err { OnErr result (self.new ≡ self.old) }
     {
-        let outs = self.carry_from(alloc, from, publish)?;
+        let Some(place) = at else {
+            let outs = stranger(alloc, from, &request)?;
+            return Ok(outs);
+        };
+        let outs = self.requested(alloc, place, request)?;
         Ok(outs)
     }
 
-    /// A PINGREQ.
-    fn ping(
+    /// A request of the client at this place.
+    fn requested(
         &mut self,
         alloc: Global,
-        from: Address,
-        client: Option<ClientId>,
+        place: usize,
+        request: SessionRequest,
     ) -> Result<OutsPair, AllocError>
-        requires { Good self.old }
-        ensures outs { IfOk result (λ outs. outs ≡ outs_by self.old (ByMessage from (ToPing client))) }
-        ensures next { OnOk result (self.new ≡ next_by self.old (ByMessage from (ToPing client))) }
+        requires few { length self.old.link.wanted < MAX_WANTED }
+        requires place { place < length self.old.clients }
+        ensures outs { IfOk result (λ outs. outs ≡ request_outs self.old place request) }
+        ensures next { OnOk result (self.new ≡ request_next self.old place request) }
         ensures err { OnErr result (self.new ≡ self.old) }
     {
-        let sessions = &mut self.sessions;
-        let outs = sleep::ping(alloc, &self.policy, self.clock, from, client, sessions)?;
-        Ok(outs)
-    }
-
-    /// A DISCONNECT: by one with Duration the client falls asleep, and by any other it leaves.
-    fn disconnect(
-        &mut self,
-        alloc: Global,
-        from: Address,
-        duration: Option<u16>,
-    ) -> Result<OutsPair, AllocError>
-        requires { Good self.old }
-        ensures outs { IfOk result (λ outs. outs ≡ outs_by self.old (disconnect_cause from duration)) }
-        ensures next { OnOk result (self.new ≡ next_by self.old (disconnect_cause from duration)) }
-        ensures err { OnErr result (self.new ≡ self.old) }
-    {
-        match duration {
-            None => self.leave(alloc, from),
-            Some(duration) => self.sleep(alloc, from, duration),
+        let Parts {
+            policy,
+            clock,
+            sessions,
+            ..
+        } = self;
+        match request {
+            SessionRequest::Publish(publish) => self.carry(alloc, place, publish),
+            SessionRequest::Subscribe(request) => self.subscribe(alloc, place, request),
+            SessionRequest::Unsubscribe(request) => self.unsubscribe(alloc, place, request),
+            SessionRequest::Ping(client) => ping(alloc, policy, *clock, client, sessions, place),
+            SessionRequest::Leave => leave(alloc, *clock, sessions, place),
+            SessionRequest::Sleep(duration) => sleep(alloc, *clock, duration, sessions, place),
+            SessionRequest::Register(asked) => register(
+                alloc, policy, *clock, asked, sessions, place,
+            ),
+            SessionRequest::Confirm(answer) => confirm(
+                alloc, policy, *clock, answer, sessions, place,
+            ),
+            SessionRequest::Acknowledge(answer) => {
+                acknowledge(alloc, policy, *clock, answer, sessions, place)
+            }
+            SessionRequest::State(statement) => state(
+                alloc, policy, *clock, statement, sessions, place,
+            ),
+            SessionRequest::Untaken(message) => unsupported(
+                alloc, *clock, message, sessions, place,
+            ),
         }
     }
 
-    /// A DISCONNECT with Duration.
-    fn sleep(&mut self, alloc: Global, from: Address, duration: u16) -> Result<OutsPair, AllocError>
-        requires { Good self.old }
-        ensures outs { IfOk result (λ outs. outs ≡ outs_by self.old (ByMessage from (ToSleep duration))) }
-        ensures next { OnOk result (self.new ≡ next_by self.old (ByMessage from (ToSleep duration))) }
-        ensures err { OnErr result (self.new ≡ self.old) }
-    {
-        let outs = sleep::sleep(alloc, self.clock, from, duration, &mut self.sessions)?;
-        Ok(outs)
-    }
-
-    /// A DISCONNECT without Duration.
-    fn leave(&mut self, alloc: Global, from: Address) -> Result<OutsPair, AllocError>
-        requires { Good self.old }
-        ensures outs { IfOk result (λ outs. outs ≡ outs_by self.old (ByMessage from ToLeave)) }
-        ensures next { OnOk result (self.new ≡ next_by self.old (ByMessage from ToLeave)) }
-        ensures err { OnErr result (self.new ≡ self.old) }
-    {
-        let outs = messages::leave(alloc, self.clock, from, &mut self.sessions)?;
-        Ok(outs)
-    }
-
-    /// A message of a type or form that is not taken.
-    fn unsupported(
+    /// A datagram that is not a message, by the rule that it breaks.
+    fn broken(
         &mut self,
         alloc: Global,
         from: Address,
-        message: SnFrame,
+        at: Option<usize>,
+        rule: Denial,
     ) -> Result<OutsPair, AllocError>
-        requires { Good self.old }
-        ensures outs { IfOk result (λ outs. outs ≡ outs_by self.old (ByMessage from (Untaken message))) }
-        ensures next { OnOk result (self.new ≡ next_by self.old (ByMessage from (Untaken message))) }
-        ensures err { OnErr result (self.new ≡ self.old) }
-    {
-        let outs = messages::unsupported(alloc, self.clock, from, &message, &mut self.sessions)?;
-        Ok(outs)
-    }
-
-    /// A datagram that is not a message, by the rule that it breaks.
-    fn broken(&mut self, alloc: Global, from: Address, rule: Denial) -> Result<OutsPair, AllocError>
-        requires { Good self.old }
+        requires good { Good self.old }
+        requires at { at ≡ place_at from self.old.clients }
         ensures outs { IfOk result (λ outs. outs ≡ outs_by self.old (ByBroken from rule)) }
         ensures next { OnOk result (self.new ≡ next_by self.old (ByBroken from rule)) }
         ensures err { OnErr result (self.new ≡ self.old) }
     {
-        let outs = messages::broken(alloc, from, rule, &self.sessions)?;
+        let outs = broken(alloc, from, rule, &self.sessions, at)?;
         Ok(outs)
     }
 }

@@ -24,22 +24,25 @@ use sng_link::Link;
 use sng_sessions::{Handed, Opens, Sessions};
 use sng_text::{ClientId, TopicFilter};
 use sng_turns::hand_over::{all_gone, hand_over};
+use sng_turns::turn::Recipient;
 use std::alloc::{AllocError, Global};
 
 impl Parts {
-    /// A CONNECT from this address.
+    /// A CONNECT from this address, at which the client at this place is, or nobody.
     pub fn connect(
         &mut self,
         alloc: Global,
         from: Address,
+        at: Option<usize>,
         connect: Connect,
     ) -> Result<OutsPair, AllocError>
-        requires { Good self.old }
+        requires good { Good self.old }
+        requires at { at ≡ place_at from self.old.clients }
         ensures outs { IfOk result (λ outs. outs ≡ outs_by self.old (ByConnect from connect)) }
         ensures next { OnOk result (self.new ≡ next_by self.old (ByConnect from connect)) }
         ensures err { OnErr result (self.new ≡ self.old) }
     {
-        let outs = self.connect_judged(alloc, from, connect)?;
+        let outs = self.connect_judged(alloc, from, at, connect)?;
         Ok(outs)
     }
 
@@ -48,8 +51,10 @@ impl Parts {
         &mut self,
         alloc: Global,
         from: Address,
+        at: Option<usize>,
         connect: Connect,
     ) -> Result<OutsPair, AllocError>
+        requires { at ≡ place_at from self.old.clients }
         ensures outs { IfOk result (λ outs. outs
             ≡ connect_outs self.old from connect (entry self.old connect)) }
         ensures next { OnOk result (self.new
@@ -58,12 +63,12 @@ impl Parts {
     {
         match entry(&self.policy, &self.sessions, &connect)? {
             Outcome::Allowed => {
-                let outs = self.accept(alloc, from, connect)?;
+                let outs = self.accept(alloc, from, at, connect)?;
                 Ok(outs)
             }
             Outcome::Denied(rule) => {
                 let outs = refused_outs(alloc, from, &connect.client_id, rule)?;
-                if let Some(place) = self.sessions.at(from) {
+                if let Some(place) = at {
                     self.sessions.hear(place, self.clock);
                 }
                 Ok(outs)
@@ -77,8 +82,10 @@ impl Parts {
         &mut self,
         alloc: Global,
         from: Address,
+        at: Option<usize>,
         connect: Connect,
     ) -> Result<OutsPair, AllocError>
+        requires { at ≡ place_at from self.old.clients }
         ensures outs { IfOk result (λ outs. outs ≡ connect_outs self.old from connect Outcome.Allowed) }
         ensures next { OnOk result (self.new ≡ connect_next self.old from connect Outcome.Allowed) }
         ensures err { OnErr result (self.new ≡ self.old) }
@@ -86,7 +93,7 @@ impl Parts {
         let alone = alone(alloc, &self.sessions, &connect)?;
         let dropped = unplaced(&alone, &self.link);
         let sessions = &self.sessions;
-        let mut outs = accepted_outs(alloc, from, &connect.client_id, sessions, dropped)?;
+        let mut outs = accepted_outs(alloc, from, &connect.client_id, sessions, at, dropped)?;
         let place = sessions.find(&connect.client_id);
         let handed = entering(
             alloc,
@@ -145,10 +152,14 @@ fn entering(
         return Ok(nothing_handed());
     }
     let ids = IdTable::new(alloc);
-    let number = sessions.number(place);
-    let queue = sessions.queue(place);
-    let id = &connect.client_id;
-    let handed = hand_over(alloc, policy, id, from, &ids, 0, number, queue, 0, outs)?;
+    let to = Recipient {
+        id: &connect.client_id,
+        address: from,
+        ids: &ids,
+        confirming: None,
+        number: sessions.number(place),
+    };
+    let handed = hand_over(alloc, policy, to, sessions.queue(place), 0, outs)?;
     Ok(handed)
 }
 
@@ -278,14 +289,16 @@ fn accepted_outs(
     from: Address,
     id: &ClientId,
     sessions: &Sessions,
+    at: Option<usize>,
     dropped: usize,
 ) -> Result<Outs, AllocError>
+    requires { at ≡ place_at from sessions.now }
     ensures { IfOk result (λ outs. outs ≡ accepted_outs from id.now sessions.now dropped) }
 {
     let mut outs = Outs::with_capacity(alloc, 4)?;
     outs.push(Out::Note(Decision::Connect(id.copy()?, Outcome::Allowed)))?;
     moved_outs(alloc, from, id, sessions, &mut outs)?;
-    put_out(from, id, sessions, &mut outs)?;
+    put_out(id, sessions, at, &mut outs)?;
     dropped_notes(dropped, &mut outs)?;
     Ok(outs)
 }
@@ -310,17 +323,17 @@ fn moved_outs(
     Ok(())
 }
 
-/// Another client at the address leaves, and what waits for it is gone.
+/// Another client at the address, which is at this place, leaves, and what waits for it is gone.
 fn put_out(
-    from: Address,
     id: &ClientId,
     sessions: &Sessions,
+    at: Option<usize>,
     outs: &mut Outs,
 ) -> Result<(), AllocError>
-    ensures { OnOk result (outs.new ≡ outs.old
-        ++ put_out id.now (at_place sessions.now (place_at from sessions.now))) }
+    requires { IfSome at (λ place. place < length sessions.now) }
+    ensures { OnOk result (outs.new ≡ outs.old ++ put_out id.now (at_place sessions.now at)) }
 {
-    if let Some(place) = sessions.at(from) {
+    if let Some(place) = at {
         let other = sessions.id(place);
         if id != other {
             outs.push(Out::Note(Decision::Left(other.copy()?)))?;

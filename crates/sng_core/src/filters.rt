@@ -7,7 +7,7 @@ ghost use Rattle.sng_history.specs.Requests.{granted, gets_id};
 ghost use Rattle.sng_history.specs.Verdicts.{as_filter, predefined_filter, filter_in};
 ghost use Rattle.sng_core.specs.Subscribing.{unread_filter};
 
-use sng_book::{Denial, IdKind, Outcome};
+use sng_book::{Denial, FormDenial, IdKind, Outcome};
 use sng_frames::{FrameQos, TopicIdType, TopicRequest};
 use sng_grants::Policy;
 use sng_policy::topic;
@@ -56,7 +56,7 @@ pub fn filter_read(
         TopicIdType::Normal => as_filter(alloc, topic),
         TopicIdType::Short => short_filter(alloc, topic),
         TopicIdType::Predefined => predefined_filter(alloc, policy, id_in(topic)),
-        TopicIdType::Reserved => Ok(Err(Denial::IdType)),
+        TopicIdType::Reserved => Ok(Err(Denial::Form(FormDenial::IdType))),
     }
 }
 
@@ -67,19 +67,19 @@ fn as_filter(alloc: Global, text: &[u8]) -> Result<Result<TopicFilter, Denial>, 
     match TopicFilter::read(alloc, text) {
         Ok(filter) => Ok(Ok(filter)),
         Err(TextFault::Memory) => Err(AllocError),
-        Err(_) => Ok(Err(Denial::BadFilter)),
+        Err(_) => Ok(Err(Denial::Form(FormDenial::BadFilter))),
     }
 }
 
 /// A short name as a filter.
 fn short_filter(alloc: Global, text: &[u8]) -> Result<Result<TopicFilter, Denial>, AllocError>
     ensures { IfOk result (λ named. named
-        ≡ (if is_name text.now then as_filter text.now else Err Denial.BadName)) }
+        ≡ (if is_name text.now then as_filter text.now else Err (Denial.Form FormDenial.BadName))) }
 {
     match TopicName::read(alloc, text) {
         Ok(_) => as_filter(alloc, text),
         Err(TextFault::Memory) => Err(AllocError),
-        Err(_) => Ok(Err(Denial::BadName)),
+        Err(_) => Ok(Err(Denial::Form(FormDenial::BadName))),
     }
 }
 
@@ -93,7 +93,7 @@ fn predefined_filter(
 {
     match topic(policy, id) {
         Some(name) => as_filter(alloc, name.text()),
-        None => Ok(Err(Denial::UnknownId(IdKind::Predefined, id))),
+        None => Ok(Err(Denial::Form(FormDenial::UnknownId(IdKind::Predefined, id)))),
     }
 }
 

@@ -16,7 +16,7 @@ ghost use Rattle.sng_history.specs.Arriving.{sent_at};
 use crate::answers::only;
 use crate::parts::Parts;
 use mqtt_frames::{Packet, Publish, SubscribeAck, SubscribeCode};
-use sng_book::{Decision, Denial, Out, Outcome, Outs, OutsPair, Who};
+use sng_book::{Decision, Denial, FormDenial, Out, Outcome, Outs, OutsPair, PeerDenial, Who};
 use sng_sessions::Sessions;
 use sng_text::{Qos, TopicFilter, TopicName};
 use sng_turns::deliver::{Incoming, Kept, deliver, keep_all};
@@ -51,12 +51,12 @@ impl Parts {
             Packet::UnsubscribeAck(_) => Ok(OutsPair::empty(alloc)),
             Packet::PingResponse => Ok(OutsPair::empty(alloc)),
             // These a server does not send, or not here.
-            Packet::Connect(_) => denied(alloc, Denial::NotSupported),
-            Packet::ConnectAck(_) => denied(alloc, Denial::NotSupported),
-            Packet::Subscribe(_) => denied(alloc, Denial::NotSupported),
-            Packet::Unsubscribe(_) => denied(alloc, Denial::NotSupported),
-            Packet::PingRequest => denied(alloc, Denial::NotSupported),
-            Packet::Disconnect => denied(alloc, Denial::NotSupported),
+            Packet::Connect(_) => denied(alloc, Denial::Form(FormDenial::NotSupported)),
+            Packet::ConnectAck(_) => denied(alloc, Denial::Form(FormDenial::NotSupported)),
+            Packet::Subscribe(_) => denied(alloc, Denial::Form(FormDenial::NotSupported)),
+            Packet::Unsubscribe(_) => denied(alloc, Denial::Form(FormDenial::NotSupported)),
+            Packet::PingRequest => denied(alloc, Denial::Form(FormDenial::NotSupported)),
+            Packet::Disconnect => denied(alloc, Denial::Form(FormDenial::NotSupported)),
         }
     }
 
@@ -117,7 +117,7 @@ impl Parts {
                 Ok(kept)
             }
             Err(_) => {
-                outs.push(noted(Denial::BadName))?;
+                outs.push(noted(Denial::Form(FormDenial::BadName)))?;
                 Ok(Vec::new(alloc))
             }
         }
@@ -198,7 +198,7 @@ fn end(
     ensures { OnOk result (outs.new ≡ outs.old ++ end_note filter.now (client_at sessions.now place)) }
 {
     if sessions.holds(place, filter) {
-        let denied = Outcome::Denied(Denial::BrokerRefused);
+        let denied = Outcome::Denied(Denial::Peer(PeerDenial::BrokerRefused));
         let note = Decision::End(sessions.id(place).copy()?, filter.copy()?, denied);
         outs.push(Out::Note(note))?;
     }

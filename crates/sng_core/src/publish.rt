@@ -3,16 +3,13 @@
 ghost use Rattle.std.specs.Prelude.{◌≡◌, ◌<◌, ◌∷◌, ◌++◌, [], length, Some, IfOk, OnOk, OnErr};
 ghost use Rattle.sng_frames.specs.Writing.{written};
 ghost use Rattle.sng_history.specs.Answers.{puback};
-ghost use Rattle.sng_history.specs.Causes.{ToPublish};
-ghost use Rattle.sng_history.specs.Whole.{stranger_to};
 ghost use Rattle.sng_history.specs.State.{qos_of};
 ghost use Rattle.sng_history.specs.Verdicts.{name_in};
-ghost use Rattle.sng_core.specs.Forms.{place_at, client_at, at_place, found_outs, publish_judged};
+ghost use Rattle.sng_core.specs.Forms.{client_at, publish_judged};
 ghost use Rattle.sng_core.specs.Forms.{publish_named, publish_reply, publish_noted, publication_by};
 ghost use Rattle.sng_core.specs.Forms.{carried_outs, carried};
 
 use crate::answers::code_of;
-use crate::messages::no_session;
 use crate::parts::Parts;
 use crate::verdict::{Judged, and_then, client_name, copy_name, may_ask, unread};
 use sng_book::{Address, Decision, Denial, Out, Outcome, Outs, OutsPair, Who};
@@ -20,32 +17,26 @@ use sng_frames::{
     FrameQos, Publish, ReturnCode, SnFrame, TopicAck, TopicIdType, write_publish_ack,
 };
 use sng_grants::Policy;
-use sng_link::exit::exit;
+use sng_history::exit;
 use sng_outbox::{Origin, Publication};
 use sng_sessions::Sessions;
 use sng_text::{ClientId, Octets, Qos, TopicName};
 use std::alloc::{AllocError, Global};
 
 impl Parts {
-    /// A PUBLISH from this address, at QoS 0 or 1. What is allowed joins what waits.
-    pub fn carry_from(
+    /// A PUBLISH of the client at this place, at QoS 0 or 1. What is allowed joins what waits.
+    pub fn carry(
         &mut self,
         alloc: Global,
-        from: Address,
+        place: usize,
         publish: Publish,
     ) -> Result<OutsPair, AllocError>
+        requires { place < length self.old.clients }
         ensures outs { IfOk result (λ outs. outs
-            ≡ found_outs (stranger_to from (ToPublish publish)) (carried_outs self.old publish)
-            (at_place self.old.clients (place_at from self.old.clients))) }
-        ensures next { OnOk result (self.new ≡ carried self.old publish (place_at from self.old.clients)) }
+            ≡ carried_outs self.old publish (client_at self.old.clients place)) }
+        ensures next { OnOk result (self.new ≡ carried self.old publish (Some place)) }
         ensures err { OnErr result (self.new ≡ self.old) }
     {
-        let Some(place) = self.sessions.at(from) else {
-            let denied = Outcome::Denied(Denial::NoSession);
-            let note = Decision::Publish(Who::Address(from), None, denied);
-            let outs = no_session(alloc, from, note)?;
-            return Ok(outs);
-        };
         let room = self.room(qos_of(publish.flags.qos));
         let judged = judged(alloc, &self.policy, room, &self.sessions, place, &publish)?;
         let outs = noted(alloc, &publish, &self.sessions, place, &judged)?;

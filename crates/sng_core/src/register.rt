@@ -3,51 +3,42 @@
 ghost use Rattle.std.specs.Prelude.{◌≡◌, ◌<◌, ◌++◌, ℕ, List, false, length, Some, IfOk, OnOk, OnErr};
 ghost use Rattle.sng_frames.specs.Writing.{written};
 ghost use Rattle.sng_ids.specs.Ids.{is_full_for};
-ghost use Rattle.sng_history.specs.Causes.{ToRegister};
-ghost use Rattle.sng_history.specs.Whole.{stranger_to};
 ghost use Rattle.sng_history.specs.Verdicts.{name_given, id_room};
-ghost use Rattle.sng_core.specs.Forms.{place_at, client_at, at_place, moved_if, found_outs, register_judged};
+ghost use Rattle.sng_core.specs.Forms.{client_at, register_judged};
 ghost use Rattle.sng_core.specs.Forms.{register_named, register_reply, register_noted, register_outs};
 ghost use Rattle.sng_core.specs.Forms.{told_at, register_next};
 ghost use Rattle.sng_sessions.specs.Moving.{moved_at};
 
 use crate::answers::code_of;
-use crate::messages::no_session;
 use crate::verdict::{Judged, and_then, copy_name, may_ask, unread};
-use sng_book::{Address, Decision, Denial, Out, Outcome, Outs, OutsPair, Place, Who};
+use sng_book::{
+    Address, Decision, Denial, FormDenial, Out, Outcome, Outs, OutsPair, Place, RoomDenial, Who,
+};
 use sng_frames::{Register, ReturnCode, SnFrame, TopicAck, write_register_ack};
 use sng_grants::Policy;
+use sng_history::exit;
 use sng_ids::IdTable;
-use sng_link::exit::exit;
 use sng_outbox::Origin;
 use sng_sessions::Sessions;
 use sng_text::{Octets, TopicName};
 use std::alloc::{AllocError, Global};
 
-/// A REGISTER from this address.
+/// A REGISTER of the client at this place.
 pub fn register(
     alloc: Global,
     policy: &Policy,
     clock: u64,
-    from: Address,
     register: Register,
     sessions: &mut Sessions,
+    place: usize,
 ) -> Result<OutsPair, AllocError>
+    requires { place < length sessions.old }
     ensures outs { IfOk result (λ outs. outs
-        ≡ found_outs (stranger_to from (ToRegister register))
-        (register_outs policy.now register.msg_id register.name)
-        (at_place sessions.old (place_at from sessions.old))) }
+        ≡ register_outs policy.now register.msg_id register.name (client_at sessions.old place)) }
     ensures next { OnOk result (sessions.new
-        ≡ moved_if (place_at from sessions.old)
-        (register_next policy.now clock register.name) sessions.old) }
+        ≡ moved_at place (register_next policy.now clock register.name) sessions.old) }
     ensures err { OnErr result (sessions.new ≡ sessions.old) }
 {
-    let Some(place) = sessions.at(from) else {
-        let denied = Outcome::Denied(Denial::NoSession);
-        let note = Decision::Register(Who::Address(from), None, denied);
-        let outs = no_session(alloc, from, note)?;
-        return Ok(outs);
-    };
     let msg_id = register.msg_id;
     let judged = judged(policy, sessions, place, register.name)?;
     let outs = noted(alloc, msg_id, sessions, place, &judged)?;
@@ -77,7 +68,7 @@ fn name_given(text: Octets) -> Result<TopicName, Denial>
 {
     match TopicName::of_octets(text) {
         Ok(name) => Ok(name),
-        Err(_) => Err(Denial::BadName),
+        Err(_) => Err(Denial::Form(FormDenial::BadName)),
     }
 }
 
@@ -110,7 +101,7 @@ fn id_room(name: &TopicName, ids: &IdTable) -> Outcome
     ensures { result ≡ id_room name.now ids.now.ids }
 {
     if ids.is_full_for(name) {
-        Outcome::Denied(Denial::Full(Place::Ids))
+        Outcome::Denied(Denial::Room(RoomDenial::Full(Place::Ids)))
     } else {
         Outcome::Allowed
     }

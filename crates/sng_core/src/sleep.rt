@@ -2,46 +2,37 @@
 //! 6.14). What is let out is planned first, and what changes cannot fail.
 ghost use Rattle.std.specs.Prelude.{◌≡◌, ◌<◌, ◌++◌, ◌∷◌, [], length, IfOk, OnOk, OnErr};
 ghost use Rattle.sng_history.specs.Answers.{dismissed};
-ghost use Rattle.sng_history.specs.Causes.{ToPing, ToSleep};
-ghost use Rattle.sng_history.specs.Whole.{stranger_to};
 ghost use Rattle.sng_sessions.specs.Moving.{moved_at};
 ghost use Rattle.sng_sessions.specs.Sleeping.{slept};
-ghost use Rattle.sng_core.specs.Forms.{place_at, client_at, at_place, moved_if, heard_at, found_outs};
-ghost use Rattle.sng_core.specs.Forms.{broken_outs};
+ghost use Rattle.sng_core.specs.Forms.{client_at, heard_at, broken_outs};
 ghost use Rattle.sng_core.specs.Sleeping.{slept_outs, pinged, woken_outs, woken_next, own_ping_outs};
 ghost use Rattle.sng_core.specs.Sleeping.{own_ping_next, other_ping_outs, ping_outs, ping_next};
 
 use crate::answers::{dismissed, only};
-use crate::messages::{denied_frame, no_session_frame};
+use crate::messages::denied_frame;
 use crate::verdict::is_active;
-use sng_book::{Address, Decision, Denial, Out, Outcome, Outs, OutsPair, Who};
+use sng_book::{Decision, Denial, FormDenial, Out, Outcome, Outs, OutsPair, Who};
 use sng_grants::Policy;
 use sng_sessions::{Change, Sessions};
 use sng_states::ClientState;
 use sng_text::ClientId;
-use sng_turns::serve::{pong, serve_plan};
+use sng_turns::serve::{Settled, pong, serve_plan};
 use std::alloc::{AllocError, Global};
 
-/// A DISCONNECT with Duration, in seconds: where it has its turn the client falls asleep, and what waits
-/// stays.
+/// A DISCONNECT with Duration, in seconds, of the client at this place: where it has its turn the client
+/// falls asleep, and what waits stays.
 pub fn sleep(
     alloc: Global,
     clock: u64,
-    from: Address,
     duration: u16,
     sessions: &mut Sessions,
+    place: usize,
 ) -> Result<OutsPair, AllocError>
-    ensures outs { IfOk result (λ outs. outs
-        ≡ found_outs (stranger_to from (ToSleep duration)) slept_outs
-        (at_place sessions.old (place_at from sessions.old))) }
-    ensures next { OnOk result (sessions.new
-        ≡ moved_if (place_at from sessions.old) (slept clock duration) sessions.old) }
+    requires { place < length sessions.old }
+    ensures outs { IfOk result (λ outs. outs ≡ slept_outs (client_at sessions.old place)) }
+    ensures next { OnOk result (sessions.new ≡ moved_at place (slept clock duration) sessions.old) }
     ensures err { OnErr result (sessions.new ≡ sessions.old) }
 {
-    let Some(place) = sessions.at(from) else {
-        let outs = no_session_frame(alloc, from)?;
-        return Ok(outs);
-    };
     let outs = slept_outs(alloc, sessions, place)?;
     sessions.change(place, Change::Sleeps(duration), clock);
     Ok(outs)
@@ -54,36 +45,12 @@ fn slept_outs(alloc: Global, sessions: &Sessions, place: usize) -> Result<OutsPa
     if sessions.phase(place).is_due_messages() {
         only(alloc, dismissed(alloc, sessions.address(place))?)
     } else {
-        denied_frame(alloc, sessions, place, Denial::OutOfTurn)
+        denied_frame(alloc, sessions, place, Denial::Form(FormDenial::OutOfTurn))
     }
 }
 
-/// A PINGREQ.
-pub fn ping(
-    alloc: Global,
-    policy: &Policy,
-    clock: u64,
-    from: Address,
-    client: Option<ClientId>,
-    sessions: &mut Sessions,
-) -> Result<OutsPair, AllocError>
-    ensures outs { IfOk result (λ outs. outs
-        ≡ found_outs (stranger_to from (ToPing client)) (ping_outs policy.now client)
-        (at_place sessions.old (place_at from sessions.old))) }
-    ensures next { OnOk result (sessions.new
-        ≡ moved_if (place_at from sessions.old) (ping_next policy.now clock client) sessions.old) }
-    ensures err { OnErr result (sessions.new ≡ sessions.old) }
-{
-    let Some(place) = sessions.at(from) else {
-        let outs = no_session_frame(alloc, from)?;
-        return Ok(outs);
-    };
-    let outs = ping_at(alloc, policy, clock, client, sessions, place)?;
-    Ok(outs)
-}
-
 /// A PINGREQ of the client at this place.
-fn ping_at(
+pub fn ping(
     alloc: Global,
     policy: &Policy,
     clock: u64,
@@ -182,7 +149,7 @@ fn pinged(
     } else if is_named && phase.is_due_messages() {
         Ok(OutsPair::empty(alloc))
     } else {
-        denied_frame(alloc, sessions, place, Denial::OutOfTurn)
+        denied_frame(alloc, sessions, place, Denial::Form(FormDenial::OutOfTurn))
     }
 }
 
@@ -199,7 +166,7 @@ fn dismiss(
     ensures err { OnErr result (sessions.new ≡ sessions.old) }
 {
     let who = Who::Client(sessions.id(place).copy()?);
-    let denied = Outcome::Denied(Denial::NoSession);
+    let denied = Outcome::Denied(Denial::Form(FormDenial::NoSession));
     let mut outs = Outs::with_capacity(alloc, 2)?;
     outs.push(Out::Note(Decision::Frame(who, denied)))?;
     outs.push(dismissed(alloc, sessions.address(place))?)?;
@@ -224,7 +191,8 @@ fn wake(
 {
     let mut outs = Outs::new(alloc);
     let phase = ClientState::Awake;
-    let handed = serve_plan(alloc, policy, phase, sessions, place, 0, 0, &mut outs)?;
+    let settled = Settled::Nothing;
+    let handed = serve_plan(alloc, policy, phase, sessions, place, settled, &mut outs)?;
     let outs = OutsPair::of(alloc, outs)?;
     sessions.change(place, Change::Wakes, clock);
     sessions.hand(place, handed, clock);

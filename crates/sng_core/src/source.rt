@@ -8,7 +8,7 @@ ghost use Rattle.sng_core.specs.Forms.{joined};
 use crate::answers::only;
 use crate::parts::Parts;
 use crate::verdict::source_name;
-use sng_book::{Decision, Denial, Out, Outcome, OutsPair, Who};
+use sng_book::{Decision, Denial, GrantDenial, Out, Outcome, OutsPair, Who};
 use sng_frames::Publish;
 use sng_outbox::{Origin, Publication};
 use sng_policy::lists_source;
@@ -29,7 +29,11 @@ impl Parts {
         ensures err { OnErr result (self.new ≡ self.old) }
     {
         if !lists_source(&self.policy, source) {
-            return publish_denied(alloc, Who::Source(source), Denial::UnknownSource);
+            return publish_denied(
+                alloc,
+                Who::Source(source),
+                Denial::Grant(GrantDenial::UnknownSource),
+            );
         }
         match source_name(alloc, &self.policy, publish.flags.id_type, publish.topic_id)? {
             Ok(name) => self.named_ask(alloc, source, name, publish),

@@ -3,10 +3,8 @@
 //! first, and what changes cannot fail.
 ghost use Rattle.std.specs.Prelude.{◌≡◌, ◌<◌, ◌∷◌, ◌++◌, [], length, IfOk, OnOk, OnErr};
 ghost use Rattle.sng_book.specs.Denials.{is_allowed};
-ghost use Rattle.sng_history.specs.Causes.{ToState};
-ghost use Rattle.sng_history.specs.Whole.{stranger_to};
 ghost use Rattle.sng_sessions.specs.Moving.{moved_at};
-ghost use Rattle.sng_core.specs.Forms.{place_at, client_at, at_place, moved_if, found_outs, heard_at};
+ghost use Rattle.sng_core.specs.Forms.{client_at, heard_at};
 ghost use Rattle.sng_core.specs.Stating.{said, IsRead, is_of_dialogue, is_last, answer_of, statement_judged};
 ghost use Rattle.sng_core.specs.Stating.{kept_outs, kept_plan, kept_next, refused_outs, refused_next};
 ghost use Rattle.sng_core.specs.Stating.{noted_outs, untimely_outs, following_next, statement_outs};
@@ -14,49 +12,18 @@ ghost use Rattle.sng_core.specs.Stating.{statement_next};
 
 use crate::answers::{code_of, connack, message_request, message_response, topic_response};
 use crate::entry::nothing_handed;
-use crate::messages::no_session;
 use crate::stating::{Statement, has_turn, judged, stating};
 use crate::verdict::{Judged, copy_name};
-use sng_book::{Address, Decision, Denial, Out, Outcome, Outs, OutsPair, Who};
+use sng_book::{Address, Decision, Denial, FormDenial, Out, Outcome, Outs, OutsPair, Who};
 use sng_frames::ReturnCode;
 use sng_grants::Policy;
 use sng_sessions::{Handed, Sessions};
 use sng_turns::hand_over::{all_gone, hand_over};
+use sng_turns::turn::Recipient;
 use std::alloc::{AllocError, Global};
 
-/// A statement from this address.
-pub fn state(
-    alloc: Global,
-    policy: &Policy,
-    clock: u64,
-    from: Address,
-    statement: Statement,
-    sessions: &mut Sessions,
-) -> Result<OutsPair, AllocError>
-    ensures outs { IfOk result (λ outs. outs
-        ≡ found_outs (stranger_to from (ToState (said statement)))
-        (statement_outs policy.now (said statement))
-        (at_place sessions.old (place_at from sessions.old))) }
-    ensures next { OnOk result (sessions.new
-        ≡ moved_if (place_at from sessions.old) (statement_next policy.now clock (said statement))
-        sessions.old) }
-    ensures err { OnErr result (sessions.new ≡ sessions.old) }
-{
-    let Some(place) = sessions.at(from) else {
-        let denied = Outcome::Denied(Denial::NoSession);
-        let outs = no_session(
-            alloc,
-            from,
-            Decision::Will(Who::Address(from), None, denied),
-        )?;
-        return Ok(outs);
-    };
-    let outs = state_at(alloc, policy, clock, statement, sessions, place)?;
-    Ok(outs)
-}
-
 /// A statement of the client at this place.
-fn state_at(
+pub fn state(
     alloc: Global,
     policy: &Policy,
     clock: u64,
@@ -147,10 +114,10 @@ fn out_of_turn(
     ensures err { OnErr result (sessions.new ≡ sessions.old) }
 {
     let who = Who::Client(sessions.id(place).copy()?);
-    let denied = Outcome::Denied(Denial::OutOfTurn);
+    let denied = Outcome::Denied(Denial::Form(FormDenial::OutOfTurn));
     outs.push(Out::Note(Decision::Will(who, None, denied)))?;
     if !is_of_dialogue(statement) {
-        let denied = Outcome::Denied(Denial::OutOfTurn);
+        let denied = Outcome::Denied(Denial::Form(FormDenial::OutOfTurn));
         let answer = answer(alloc, sessions.address(place), statement, &denied)?;
         outs.push(answer)?;
     }
@@ -260,18 +227,14 @@ fn handed(
         ≡ kept_plan policy.now (said statement.now) (client_at sessions.now place)) }
 {
     if is_last(statement) && sessions.queue(place).exchange().is_none() {
-        let handed = hand_over(
-            alloc,
-            policy,
-            sessions.id(place),
-            sessions.address(place),
-            sessions.ids(place),
-            0,
-            sessions.number(place),
-            sessions.queue(place),
-            0,
-            outs,
-        )?;
+        let to = Recipient {
+            id: sessions.id(place),
+            address: sessions.address(place),
+            ids: sessions.ids(place),
+            confirming: None,
+            number: sessions.number(place),
+        };
+        let handed = hand_over(alloc, policy, to, sessions.queue(place), 0, outs)?;
         Ok(handed)
     } else {
         Ok(nothing_handed())

@@ -13,10 +13,10 @@ ghost use Rattle.sng_core.specs.Stating.{statement_judged, topic_judged};
 
 use crate::filters::granted;
 use crate::verdict::{Judged, is_active, unread};
-use sng_book::{Denial, Outcome};
+use sng_book::{Denial, FormDenial, GrantDenial, Outcome};
 use sng_frames::WillTopic;
 use sng_grants::Policy;
-use sng_link::exit::exit;
+use sng_history::exit;
 use sng_outbox::Origin;
 use sng_policy::lists;
 use sng_sessions::{Sessions, Stating};
@@ -140,7 +140,7 @@ fn judged_text(
     ensures { IfOk result (λ j. j ≡ text_judged policy.now client.now text.now) }
 {
     if !lists(policy, client) {
-        return Ok(unread(Denial::NoScope(client.copy()?)));
+        return Ok(unread(Denial::Grant(GrantDenial::NoScope(client.copy()?))));
     }
     match TopicName::read(alloc, text) {
         Ok(name) => {
@@ -152,7 +152,7 @@ fn judged_text(
             })
         }
         Err(TextFault::Memory) => Err(AllocError),
-        Err(_) => Ok(unread(Denial::BadName)),
+        Err(_) => Ok(unread(Denial::Form(FormDenial::BadName))),
     }
 }
 

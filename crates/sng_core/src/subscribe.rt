@@ -5,27 +5,24 @@ ghost use Rattle.sng_wanted.specs.declared.limits.TheConstants.{MAX_WANTED};
 ghost use Rattle.std.specs.Prelude.{None, if◌then◌else◌};
 ghost use Rattle.sng_fan.specs.Subscriptions.{is_full};
 ghost use Rattle.sng_history.specs.Answers.{suback, flags_of, id_given, refused};
-ghost use Rattle.sng_history.specs.Causes.{ToSubscribe};
 ghost use Rattle.sng_history.specs.Requests.{gets_id};
 ghost use Rattle.sng_history.specs.Verdicts.{coverage, filter_in, subscribe_room, subscribe_room_in};
-ghost use Rattle.sng_history.specs.Whole.{stranger_to};
-ghost use Rattle.sng_core.specs.Forms.{place_at, client_at, at_place, found_outs};
+ghost use Rattle.sng_core.specs.Forms.{client_at};
 ghost use Rattle.sng_core.specs.Subscribing.{subscribe_judged, subscribe_named, subscribe_reply};
 ghost use Rattle.sng_core.specs.Subscribing.{subscribe_noted, subscribe_outs, stands_at, stood, is_name_full};
 ghost use Rattle.sng_core.specs.Subscribing.{IsAllowed, HasRoom};
 
 use crate::answers::{code_of, no_flags};
 use crate::filters::{JudgedFilter, copy_filter, filter_read, granted, name_told, unread_filter};
-use crate::messages::no_session;
 use crate::parts::Parts;
 use crate::verdict::{and_then, may_ask};
-use sng_book::{Address, Decision, Denial, Out, Outcome, Outs, OutsPair, Place, Who};
-use sng_endings::coverage;
+use sng_book::{Address, Decision, Denial, Out, Outcome, Outs, OutsPair, Place, RoomDenial, Who};
 use sng_fan::MAX_SUBSCRIPTIONS;
 use sng_frames::{
     Flags, FrameQos, ReturnCode, SnFrame, SubscribeAck, TopicIdType, TopicRequest,
     write_subscribe_ack,
 };
+use sng_history::coverage;
 use sng_ids::IdTable;
 use sng_sessions::Sessions;
 use sng_text::{Octets, Qos, TopicFilter, TopicName};
@@ -33,26 +30,21 @@ use sng_turns::known::id_in;
 use std::alloc::{AllocError, Global};
 
 impl Parts {
-    /// A SUBSCRIBE from this address. What is allowed stands, and joins what waits and what is wanted.
-    pub fn subscribe_from(
+    /// A SUBSCRIBE of the client at this place. What is allowed stands, and joins what waits and what is
+    /// wanted.
+    pub fn subscribe(
         &mut self,
         alloc: Global,
-        from: Address,
+        place: usize,
         request: TopicRequest,
     ) -> Result<OutsPair, AllocError>
-        requires { length self.old.link.wanted < MAX_WANTED }
+        requires few { length self.old.link.wanted < MAX_WANTED }
+        requires place { place < length self.old.clients }
         ensures outs { IfOk result (λ outs. outs
-            ≡ found_outs (stranger_to from (ToSubscribe request)) (subscribe_outs self.old request)
-            (at_place self.old.clients (place_at from self.old.clients))) }
-        ensures next { OnOk result (self.new ≡ stood self.old request (place_at from self.old.clients)) }
+            ≡ subscribe_outs self.old request (client_at self.old.clients place)) }
+        ensures next { OnOk result (self.new ≡ stood self.old request (Some place)) }
         ensures err { OnErr result (self.new ≡ self.old) }
     {
-        let Some(place) = self.sessions.at(from) else {
-            let denied = Outcome::Denied(Denial::NoSession);
-            let note = Decision::Subscribe(Who::Address(from), None, denied);
-            let outs = no_session(alloc, from, note)?;
-            return Ok(outs);
-        };
         let judged = self.subscribe_judged(alloc, place, &request)?;
         let outs = noted(alloc, &request, &self.sessions, place, &judged)?;
         self.stand(alloc, place, &request, judged)?;
@@ -116,7 +108,7 @@ impl Parts {
             ≡ subscribe_room self.now (client_at self.now.clients place) request.now filter.now) }
     {
         if !self.is_up {
-            return Ok(Outcome::Denied(Denial::UpstreamDown));
+            return Ok(Outcome::Denied(Denial::Room(RoomDenial::UpstreamDown)));
         }
         let name = name_told(alloc, request.flags.id_type, filter)?;
         Ok(self.room_for(place, request, filter, &name))
@@ -138,15 +130,15 @@ impl Parts {
             ≡ subscribe_room_in self.now (client_at self.now.clients place) request.now filter.now }
     {
         if is_full_for(self.sessions.ids(place), name) {
-            return Outcome::Denied(Denial::Full(Place::Ids));
+            return Outcome::Denied(Denial::Room(RoomDenial::Full(Place::Ids)));
         }
         if is_full(&self.sessions, place, filter) {
-            return Outcome::Denied(Denial::Full(Place::Subscriptions));
+            return Outcome::Denied(Denial::Room(RoomDenial::Full(Place::Subscriptions)));
         }
         if self.link.has_place() {
             Outcome::Allowed
         } else {
-            Outcome::Denied(Denial::Full(Place::Outbox))
+            Outcome::Denied(Denial::Room(RoomDenial::Full(Place::Outbox)))
         }
     }
 

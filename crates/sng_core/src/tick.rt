@@ -14,7 +14,7 @@ ghost use Rattle.sng_core.specs.Losing.{publication_of, will_outs, kept_will, ro
 ghost use Rattle.sng_core.specs.Losing.{loss_of, lost_clients, lost_link};
 ghost use Rattle.sng_core.specs.Dues.{due_outs, due_at, room_after, dues_outs, dues_plan, dues_room};
 ghost use Rattle.sng_core.specs.Dues.{due_clients, due_link, dues_clients, dues_link, ping_noted};
-ghost use Rattle.sng_core.specs.Dues.{ticked_outs, ticked_next};
+ghost use Rattle.sng_core.specs.Dues.{ticked_outs, ticked_next, due_list};
 
 use crate::parts::Parts;
 use sng_book::{Decision, Out, Outcome, Outs, OutsPair, Who};
@@ -30,7 +30,7 @@ use std::alloc::{AllocError, Global};
 
 /// A client that is lost, by its place, and its will, where it finds its place.
 #[derive(Debug, Drop)]
-pub struct Loss {
+pub struct LostClient {
     pub place: usize,
     pub will: Option<Publication>,
 }
@@ -39,7 +39,7 @@ pub struct Loss {
 #[derive(Debug, Drop)]
 pub enum Due {
     /// It is lost.
-    Lost(Loss),
+    Lost(LostClient),
     /// What is open with the client at the place was not answered in time.
     Unanswered(usize, Retried),
 }
@@ -110,37 +110,48 @@ fn dues(
 {
     let mut dues = Vec::new(alloc);
     for place in 0..sessions.len() {
-        add_due(alloc, policy, clock, sessions, place, room, &mut dues, outs)?;
+        let due = due_with(alloc, policy, clock, sessions, place, room, outs)?;
+        add(&mut dues, due)?;
     }
     Ok(dues)
 }
 
-/// What is due with the client at this place comes behind the others.
-fn add_due(
+/// It comes behind the others, where something is due.
+fn add(dues: &mut Vec<Due>, due: Option<Due>) -> Result<(), AllocError>
+    ensures { OnOk result (dues.new.items ≡ dues.old.items ++ due_list due) }
+{
+    if let Some(due) = due {
+        dues.push(due)?;
+    }
+    Ok(())
+}
+
+/// What is due with the client at this place.
+fn due_with(
     alloc: Global,
     policy: &Policy,
     clock: u64,
     sessions: &Sessions,
     place: usize,
     room: &mut Room,
-    dues: &mut Vec<Due>,
     outs: &mut Outs,
-) -> Result<(), AllocError>
+) -> Result<Option<Due>, AllocError>
     requires { place < length sessions.now }
     ensures outs { OnOk result (outs.new
         ≡ outs.old ++ due_outs policy.now clock room.old (client_at sessions.now place)) }
-    ensures dues { OnOk result (dues.new.items
-        ≡ dues.old.items ++ due_at policy.now clock room.old place (client_at sessions.now place)) }
+    ensures due { IfOk result (λ due. due_list due
+        ≡ due_at policy.now clock room.old place (client_at sessions.now place)) }
     ensures room { OnOk result (room.new ≡ room_after clock room.old (client_at sessions.now place)) }
 {
     if is_lost_at(sessions, place, clock) {
         let loss = lose(sessions, place, room, outs)?;
-        dues.push(Due::Lost(loss))?;
+        Ok(Some(Due::Lost(loss)))
     } else if is_repeating(sessions, place, clock) {
         let retried = again(alloc, policy, sessions, place, outs)?;
-        dues.push(Due::Unanswered(place, retried))?;
+        Ok(Some(Due::Unanswered(place, retried)))
+    } else {
+        Ok(None)
     }
-    Ok(())
 }
 
 /// Whether the client at this place was silent for too long, or did not answer in time what was sent again as
@@ -159,7 +170,7 @@ fn lose(
     place: usize,
     room: &mut Room,
     outs: &mut Outs,
-) -> Result<Loss, AllocError>
+) -> Result<LostClient, AllocError>
     requires { place < length sessions.now }
     ensures outs { OnOk result (outs.new ≡ outs.old ++ lost_outs room.old (client_at sessions.now place)) }
     ensures loss { IfOk result (λ loss. loss ≡ loss_of room.old place (client_at sessions.now place)) }
@@ -170,7 +181,7 @@ fn lose(
     outs.push(Out::Note(Decision::Lost(client.copy()?)))?;
     all_gone(client, sessions.queue(place), outs)?;
     let will = kept_will(client, sessions.wills(place), room, outs)?;
-    Ok(Loss { place, will })
+    Ok(LostClient { place, will })
 }
 
 /// A copy of the will, where there is one and it finds its place; where there is no room for it, that is
@@ -237,11 +248,11 @@ fn carry_out_one(due: Due, sessions: &mut Sessions, link: &mut Link, clock: u64)
 }
 
 /// One is lost. Takes no memory.
-fn carry_loss(loss: Loss, sessions: &mut Sessions, link: &mut Link)
+fn carry_loss(loss: LostClient, sessions: &mut Sessions, link: &mut Link)
     ensures sessions { sessions.new ≡ lost_clients sessions.old loss }
     ensures link { link.new ≡ lost_link link.old loss }
 {
-    let Loss { place, will } = loss;
+    let LostClient { place, will } = loss;
     sessions.lose(place);
     if let Some(will) = will {
         link.place(will);

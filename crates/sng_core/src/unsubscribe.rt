@@ -2,45 +2,38 @@
 //! what changes cannot fail.
 ghost use Rattle.std.specs.Prelude.{◌≡◌, ◌<◌, ◌∷◌, ◌++◌, [], length, Some, true, IfOk, OnOk, OnErr};
 ghost use Rattle.sng_history.specs.Answers.{unsuback};
-ghost use Rattle.sng_history.specs.Causes.{ToUnsubscribe};
 ghost use Rattle.sng_history.specs.Packets.{has_place};
 ghost use Rattle.sng_history.specs.Verdicts.{in_turn};
-ghost use Rattle.sng_history.specs.Whole.{stranger_to};
-ghost use Rattle.sng_core.specs.Forms.{place_at, client_at};
+ghost use Rattle.sng_core.specs.Forms.{client_at};
 ghost use Rattle.sng_core.specs.Subscribing.{unsubscribe_judged, unsubscribe_by, unsubscribe_noted};
-ghost use Rattle.sng_core.specs.Subscribing.{unsubscribe_outs, holds_alone, let_go, untold_of, ends_at};
+ghost use Rattle.sng_core.specs.Subscribing.{holds_alone, let_go, untold_of, ends_at};
 ghost use Rattle.sng_core.specs.Subscribing.{ended};
 
 use crate::filters::{JudgedFilter, copy_filter, filter_read, unread_filter};
-use crate::messages::no_session;
 use crate::parts::Parts;
 use crate::verdict::is_active;
-use sng_book::{Address, Decision, Denial, Out, Outcome, Outs, OutsPair, Who};
+use sng_book::{Address, Decision, Denial, FormDenial, Out, Outcome, Outs, OutsPair, Who};
 use sng_frames::{TopicRequest, write_unsubscribe_ack};
 use sng_sessions::Sessions;
 use sng_text::{Octets, TopicFilter};
 use std::alloc::{AllocError, Global};
 
 impl Parts {
-    /// An UNSUBSCRIBE from this address. The broker is told where the filter stands for nobody any more.
-    pub fn unsubscribe_from(
+    /// An UNSUBSCRIBE of the client at this place. The broker is told where the filter stands for nobody any
+    /// more.
+    pub fn unsubscribe(
         &mut self,
         alloc: Global,
-        from: Address,
+        place: usize,
         request: TopicRequest,
     ) -> Result<OutsPair, AllocError>
+        requires { place < length self.old.clients }
         ensures outs { IfOk result (λ outs. outs
-            ≡ unsubscribe_outs self.old request (place_at from self.old.clients)
-            (stranger_to from (ToUnsubscribe request))) }
-        ensures next { OnOk result (self.new ≡ ended self.old request (place_at from self.old.clients)) }
+            ≡ unsubscribe_noted self.old request place
+            (unsubscribe_judged self.old.policy request (client_at self.old.clients place))) }
+        ensures next { OnOk result (self.new ≡ ended self.old request (Some place)) }
         ensures err { OnErr result (self.new ≡ self.old) }
     {
-        let Some(place) = self.sessions.at(from) else {
-            let denied = Outcome::Denied(Denial::NoSession);
-            let note = Decision::Unsubscribe(Who::Address(from), None, denied);
-            let outs = no_session(alloc, from, note)?;
-            return Ok(outs);
-        };
         let judged = self.unsubscribe_judged(alloc, place, &request)?;
         let outs = self.unsubscribe_noted(alloc, &request, place, &judged)?;
         self.end_judged(place, judged);
@@ -59,7 +52,7 @@ impl Parts {
             ≡ unsubscribe_judged self.now.policy request.now (client_at self.now.clients place)) }
     {
         if !is_active(self.sessions.phase(place)) {
-            return Ok(unread_filter(Denial::OutOfTurn));
+            return Ok(unread_filter(Denial::Form(FormDenial::OutOfTurn)));
         }
         match filter_read(alloc, &self.policy, request)? {
             Ok(filter) => Ok(JudgedFilter {

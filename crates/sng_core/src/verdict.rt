@@ -10,12 +10,11 @@ ghost use Rattle.sng_history.specs.Verdicts.{told_name, entry_by, may_ask, is_ac
 ghost use Rattle.sng_core.specs.Forms.{client_at, unread};
 
 use crate::parts::Parts;
-use sng_book::{Denial, IdKind, Outcome, Place};
+use sng_book::{Denial, FormDenial, GrantDenial, IdKind, Outcome, Place, RoomDenial};
 use sng_frames::{Connect, TopicIdType};
 use sng_grants::Policy;
-use sng_history::MAX_CLIENTS;
+use sng_history::{MAX_CLIENTS, exit};
 use sng_ids::IdTable;
-use sng_link::exit::exit;
 use sng_outbox::Origin;
 use sng_policy::{lists, topic};
 use sng_sessions::Sessions;
@@ -30,15 +29,15 @@ pub fn entry(policy: &Policy, sessions: &Sessions, connect: &Connect) -> Result<
 {
     let id = &connect.client_id;
     if connect.protocol_id != 1 {
-        return Ok(Outcome::Denied(Denial::NotSupported));
+        return Ok(Outcome::Denied(Denial::Form(FormDenial::NotSupported)));
     }
     if !lists(policy, id) {
-        return Ok(Outcome::Denied(Denial::NoScope(id.copy()?)));
+        return Ok(Outcome::Denied(Denial::Grant(GrantDenial::NoScope(id.copy()?))));
     }
     if is_known(sessions, id) || sessions.len() < MAX_CLIENTS {
         Ok(Outcome::Allowed)
     } else {
-        Ok(Outcome::Denied(Denial::Full(Place::Clients)))
+        Ok(Outcome::Denied(Denial::Room(RoomDenial::Full(Place::Clients))))
     }
 }
 
@@ -83,13 +82,13 @@ pub fn may_ask(policy: &Policy, sessions: &Sessions, place: usize) -> Result<Out
     ensures { IfOk result (λ outcome. outcome ≡ may_ask policy.now (client_at sessions.now place)) }
 {
     if !is_active(sessions.phase(place)) {
-        return Ok(Outcome::Denied(Denial::OutOfTurn));
+        return Ok(Outcome::Denied(Denial::Form(FormDenial::OutOfTurn)));
     }
     let id = sessions.id(place);
     if lists(policy, id) {
         Ok(Outcome::Allowed)
     } else {
-        Ok(Outcome::Denied(Denial::NoScope(id.copy()?)))
+        Ok(Outcome::Denied(Denial::Grant(GrantDenial::NoScope(id.copy()?))))
     }
 }
 
@@ -139,7 +138,7 @@ impl Parts {
         if self.is_up {
             self.link.room(qos)
         } else {
-            Outcome::Denied(Denial::UpstreamDown)
+            Outcome::Denied(Denial::Room(RoomDenial::UpstreamDown))
         }
     }
 }
@@ -157,7 +156,7 @@ pub fn source_name(
     match id_type {
         TopicIdType::Short => short_name(alloc, id),
         TopicIdType::Predefined => predefined_name(policy, id),
-        TopicIdType::Normal | TopicIdType::Reserved => Ok(Err(Denial::IdType)),
+        TopicIdType::Normal | TopicIdType::Reserved => Ok(Err(Denial::Form(FormDenial::IdType))),
     }
 }
 
@@ -176,19 +175,19 @@ pub fn client_name(
         TopicIdType::Short => short_name(alloc, id),
         TopicIdType::Predefined => predefined_name(policy, id),
         TopicIdType::Normal => normal_name(ids, id),
-        TopicIdType::Reserved => Ok(Err(Denial::IdType)),
+        TopicIdType::Reserved => Ok(Err(Denial::Form(FormDenial::IdType))),
     }
 }
 
 /// A short name is the two octets of the id.
 fn short_name(alloc: Global, id: u16) -> Result<Result<TopicName, Denial>, AllocError>
     ensures { IfOk result (λ named. named
-        ≡ (if is_name (octets_of id) then Ok (octets_of id) else Err Denial.BadName)) }
+        ≡ (if is_name (octets_of id) then Ok (octets_of id) else Err (Denial.Form FormDenial.BadName))) }
 {
     match TopicName::read(alloc, id.to_be_bytes().as_slice()) {
         Ok(name) => Ok(Ok(name)),
         Err(TextFault::Memory) => Err(AllocError),
-        Err(_) => Ok(Err(Denial::BadName)),
+        Err(_) => Ok(Err(Denial::Form(FormDenial::BadName))),
     }
 }
 
@@ -198,7 +197,7 @@ fn predefined_name(policy: &Policy, id: u16) -> Result<Result<TopicName, Denial>
 {
     match topic(policy, id) {
         Some(name) => Ok(Ok(name.copy()?)),
-        None => Ok(Err(Denial::UnknownId(IdKind::Predefined, id))),
+        None => Ok(Err(Denial::Form(FormDenial::UnknownId(IdKind::Predefined, id)))),
     }
 }
 
@@ -208,6 +207,6 @@ fn normal_name(ids: &IdTable, id: u16) -> Result<Result<TopicName, Denial>, Allo
 {
     match ids.name_of(id) {
         Some(name) => Ok(Ok(name.copy()?)),
-        None => Ok(Err(Denial::UnknownId(IdKind::Normal, id))),
+        None => Ok(Err(Denial::Form(FormDenial::UnknownId(IdKind::Normal, id)))),
     }
 }

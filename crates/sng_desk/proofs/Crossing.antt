@@ -1,6 +1,6 @@
--- A desk may go to another thread, so one under its lock may be shared among threads. Whoever shares it answers
--- the check by `search (desk_send, crosses, sendable) depth 20`, with `crosses` of `Rattle.std.proofs.Crossing`
--- and `sendable` of `denote.Param.Send`.
+-- A desk may go to another thread, so one under its lock may be shared among threads. Whoever shares it
+-- answers the check by `search (desk_send, crosses, sendable) depth 20`, with `crosses` of
+-- `Rattle.std.proofs.Crossing` and `sendable` of `denote.Param.Send`.
 use denote.Param.Send.{IsSend, struct_send, recorded_send, view_send, sendable}
 use denote.Struct.Declared.{shape}
 use Rattle.std.specs.contracts.snapshot.Snapshot as Snapshot
@@ -15,10 +15,17 @@ first_send : IsSend (Snapshot.the_row Core.the_row)
 first_send = search crosses depth 20
 
 fields_send : IsSend (inside.the_field).row
-fields_send = struct_send (shape inside.the_type) (search sendable, (first_send, (core.the_send, (book.the_send, (search sendable, tt)))))
+fields_send = struct_send (shape inside.the_type) (
+  search sendable,
+  (
+    first_send,
+    (core.the_send, (book.the_send, (search sendable, tt))),
+  ),
+)
 
 inside_send : IsSend inside.the_row
-inside_send = recorded_send (inside.the_field).row (inside.the_type).D (inside.the_type).to (inside.the_type).to_one fields_send
+inside_send = recorded_send (inside.the_field).row (inside.the_type).D (inside.the_type).to
+    (inside.the_type).to_one fields_send
 
 pub desk_send : IsSend Desk.the_row
 desk_send = view_send inside.the_row _ _ _ _ inside_send

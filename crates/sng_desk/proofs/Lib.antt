@@ -1,9 +1,4 @@
 pub mod Spanning
 pub mod Acting
 pub mod Going
-pub mod Least
-pub mod Writing
-pub mod Turns
-pub mod Feeding
-pub mod Places
 pub mod Crossing

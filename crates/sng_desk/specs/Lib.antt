@@ -3,8 +3,3 @@ pub mod Spans
 pub mod Acts
 pub mod Sources
 pub mod Working
-pub mod Gathering
-pub mod Devices
-pub mod Streaming
-pub mod Turning
-pub mod Running

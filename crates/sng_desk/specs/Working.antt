@@ -9,8 +9,8 @@ use Rattle.sng_desk.specs.declared.source.Got.{Got}
 use Rattle.sng_desk.specs.declared.source.Got.TheVariants.{Came, Nothing, Ended, Failed}
 use Rattle.sng_desk.specs.declared.ending.WorkerFault.{WorkerFault}
 use Rattle.sng_desk.specs.declared.ending.WorkerFault.TheVariants.{Device, GaveUp, Refused, BookFull}
-use Rattle.sng_desk.specs.declared.working.Next.{Next}
-use Rattle.sng_desk.specs.declared.working.Next.TheVariants.{On, Over}
+use Rattle.sng_desk.specs.declared.ending.Next.{Next}
+use Rattle.sng_desk.specs.declared.ending.Next.TheVariants.{On, Over}
 
 -- what a source's answer gave
 abbrev pub given_by : {X : Type 0} → Got X → List X
@@ -20,7 +20,9 @@ given_by Ended = []
 given_by Failed = []
 
 -- What happened since a worker began with this source, this sink and this share.
-pub record Worked {S D : Type 0} (tells : S → Bool) (gave : S → List Event) (failed : S → ℕ) (told : D → Bool) (passed : D → List (Address × List ℕ)) (source : S) (sink : D) (share : Share) (now : S) (emptied : D) (trail : Trail) (left : Share) : Type 0 where
+pub record Worked {S D : Type 0} (tells : S → Bool) (gave : S → List Event) (failed : S → ℕ) (told : D
+    → Bool) (passed : D → List (Address × List ℕ)) (source : S) (sink : D) (share : Share) (now : S)
+    (emptied : D) (trail : Trail) (left : Share) : Type 0 where
   pub acts : List Act
   -- what the source gave is what the desk was asked about
   pub gives : Moves tells gave source now (events_of acts)
@@ -30,7 +32,8 @@ pub record Worked {S D : Type 0} (tells : S → Bool) (gave : S → List Event) 
   pub logs : Logs (no_trail share.tag) share acts trail left
   pub failures : failed source ≤ failed now
 
--- Why a worker came to its end: its source failed, its last event was refused, or the source has ended or the worker is to stop.
+-- Why a worker came to its end: its source failed, its last event was refused, or the source has ended or the
+-- worker is to stop.
 abbrev pub EndsFor : Option WorkerFault → ℕ → ℕ → Bool → Bool → Trail → Type 0
 EndsFor None before now ended stops trail = (ended ≡ true) ⊎ (stops ≡ true)
 EndsFor (Some Device) before now ended stops trail = before < now
@@ -43,13 +46,19 @@ abbrev pub NextFor : Next → ℕ → ℕ → Bool → Bool → Trail → Type 0
 NextFor On before now ended stops trail = Unit {0}
 NextFor (Over fault) before now ended stops trail = EndsFor fault before now ended stops trail
 
--- How a worker ended that began with this source, this sink and this share, under a gate that may stop it or not.
-pub record HasEnded {S D : Type 0} (tells : S → Bool) (gave : S → List Event) (failed : S → ℕ) (has_ended : S → Bool) (told : D → Bool) (passed : D → List (Address × List ℕ)) (source : S) (sink : D) (share : Share) (may_stop : Bool) (now : S) (emptied : D) (trail : Trail) (left : Share) (fault : Option WorkerFault) : Type 0 where
+-- How a worker ended that began with this source, this sink and this share, under a gate that may stop it or
+-- not.
+pub record HasEnded {S D : Type 0} (tells : S → Bool) (gave : S → List Event) (failed : S → ℕ) (has_ended : S
+    → Bool) (told : D → Bool) (passed : D → List (Address × List ℕ)) (source : S) (sink : D) (share : Share)
+    (may_stop : Bool) (now : S) (emptied : D) (trail : Trail) (left : Share) (fault : Option WorkerFault) :
+    Type 0 where
   pub worked : Worked tells gave failed told passed source sink share now emptied trail left
   pub ends : EndsFor fault (failed source) (failed now) (has_ended now) may_stop trail
 
 -- the desk was asked about an event, and what came of it was passed on
-pub record Served {S : Type 0} (tells : S → Bool) (gave : S → List Event) (failed : S → ℕ) (told : S → Bool) (passed : S → List (Address × List ℕ)) (event : Event) (before : S) (trail : Trail) (share : Share) (now : S) (grown : Trail) (left : Share) : Type 0 where
+pub record Served {S : Type 0} (tells : S → Bool) (gave : S → List Event) (failed : S → ℕ) (told : S
+    → Bool) (passed : S → List (Address × List ℕ)) (event : Event) (before : S) (trail : Trail)
+    (share : Share) (now : S) (grown : Trail) (left : Share) : Type 0 where
   pub acts : List Act
   pub events : events_of acts ≡ event ∷ []
   pub gives : Moves tells gave before now []

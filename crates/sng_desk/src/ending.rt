@@ -1,31 +1,49 @@
-//! What a worker leaves.
+//! What a turn of a worker leads to, and what a worker leaves.
 use crate::desk::Share;
 use crate::trail::Trail;
+use thiserror::Error;
 
 /// Why a worker gave up.
-#[derive(Clone, Copy, Debug, PartialEq, Eq)]
+#[derive(Clone, Copy, Debug, PartialEq, Eq, Error)]
 pub enum WorkerFault {
     /// The source failed.
+    #[error("the source failed")]
     Device,
     /// As many tries to connect as there may be failed, one after another.
+    #[error("no connection to the broker could be made")]
     GaveUp,
     /// The desk refused to hear that the connection is lost.
+    #[error("the loss of the connection could not be noted")]
     Refused,
     /// The desk refused the last event, since the book is full.
+    #[error("the book is full")]
     BookFull,
 }
 
-/// What a worker leaves: what it says of its acts, its share, its source and what it sent by, and why it gave
-/// up, where it did.
+/// What a turn leads to.
+#[derive(Clone, Copy, Debug, PartialEq, Eq)]
+pub enum Next {
+    /// Another turn.
+    On,
+    /// It was the last: why, where that is a fault.
+    Over(Option<WorkerFault>),
+}
+
+/// What a worker leaves.
 #[derive(Drop)]
 pub struct WorkerEnd<S, D> {
+    /// What it says of its acts.
     pub trail: Trail,
+    /// Its share, with which its rows were made.
     pub share: Share,
+    /// Where its events came from.
     pub source: S,
+    /// What it sent by; `NoSender` where that is its source, or it sends nothing.
     pub sender: D,
+    /// Why it gave up, where it did.
     pub fault: Option<WorkerFault>,
 }
 
 /// In place of what a worker sends by, for one that has it in its source, or sends nothing.
-#[derive(Drop)]
+#[derive(Clone, Copy, Debug, PartialEq, Eq)]
 pub struct NoSender;

@@ -2,7 +2,8 @@
 ghost use Rattle.std.specs.Prelude.{◌≡◌, ◌≤◌, ◌<◌, ◌↔◌, ◌⊎◌, ◌∷◌, [], ℕ, Bool, List, true, false, map};
 ghost use Rattle.sng_book.specs.declared.address.Address.{Address};
 ghost use Rattle.sng_book.specs.declared.event.Event.{Event as event};
-ghost use Rattle.sng_desk.specs.declared.source.Got.TheVariants.{Ended as ended_answer, Failed as failed_answer};
+ghost use Rattle.sng_desk.specs.declared.source.Got.TheVariants.{Ended as ended_answer};
+ghost use Rattle.sng_desk.specs.declared.source.Got.TheVariants.{Failed as failed_answer};
 ghost use Rattle.sng_desk.specs.Acts.{Moves};
 ghost use Rattle.sng_desk.specs.Working.{given_by};
 ghost use Rattle.sng_desk.specs.Sources.{datagram_events, tick_events, replace_events};
@@ -13,19 +14,25 @@ use sng_text::Octets;
 
 /// A source of events, and a way to send what comes of them.
 pub trait Source: Drop {
+    /// Whether it tells what it gave.
     ghost tells: { Self → Bool };
 
+    /// The events that it gave, in order.
     ghost gave: { Self → List event };
 
+    /// How often it answered that it failed.
     ghost failures: { Self → ℕ };
 
+    /// It answered that nothing more comes.
     ghost has_ended: { Self → Bool };
 
     /// Whether it tells what was passed to it.
     ghost told: { Self → Bool };
 
+    /// The datagrams that were passed to it, in order, each with the address to which it goes.
     ghost passed: { Self → List (Address × List ℕ) };
 
+    /// The next event.
     fn ask(&mut self) -> Got<Event>
         ensures given { Moves tells gave self.old self.new (given_by result) }
         ensures passed { Moves told passed self.old self.new [] }
@@ -34,6 +41,7 @@ pub trait Source: Drop {
         ensures ended { result ≡ ended_answer → has_ended self.new ≡ true }
         ensures ends { has_ended self.new ≡ true → (result ≡ ended_answer) ⊎ (has_ended self.old ≡ true) };
 
+    /// Passes a datagram on. It may be lost.
     fn send(&mut self, to: Address, datagram: &Octets)
         ensures given { Moves tells gave self.old self.new [] }
         ensures passed { Moves told passed self.old self.new ((to, datagram.now) ∷ []) }
@@ -41,12 +49,12 @@ pub trait Source: Drop {
 }
 
 /// Datagrams, sent by what they came from.
-#[derive(Drop)]
-pub struct Socket<D> {
+#[derive(Debug, Drop)]
+pub struct Devices<D> {
     pub datagrams: D,
 }
 
-impl<D: Datagrams> Source for Socket<D> {
+impl<D: Datagrams> Source for Devices<D> {
     ghost tells = { λ s. D.tells s.datagrams };
 
     ghost gave = { λ s. datagram_events (D.gave s.datagrams) };
@@ -74,7 +82,7 @@ impl<D: Datagrams> Source for Socket<D> {
 }
 
 /// Clock values, and datagrams to send by.
-#[derive(Drop)]
+#[derive(Debug, Drop)]
 pub struct Clock<B, D> {
     pub beats: B,
     pub sender: D,
@@ -108,7 +116,7 @@ impl<B: Beats, D: Datagrams> Source for Clock<B, D> {
 }
 
 /// Policies. What comes of one is noted, and nothing is sent.
-#[derive(Drop)]
+#[derive(Debug, Drop)]
 pub struct Loader<P> {
     pub policies: P,
 }

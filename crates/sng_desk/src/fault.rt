@@ -2,20 +2,26 @@
 ghost use Rattle.std.specs.Prelude.{◌≡◌};
 
 use sng_book::Event;
+use thiserror::Error;
 
 /// Why an act was refused.
-#[derive(Clone, Copy, Debug, PartialEq, Eq)]
+#[derive(Clone, Copy, Debug, PartialEq, Eq, Error)]
 pub enum ActFault {
     /// An allocation failed.
+    #[error("out of memory")]
     Memory,
     /// The book has as many rows as it may have, or the share has counted 2^64 - 1.
+    #[error("the book is full")]
     BookFull,
 }
 
 /// An event that was not acted on, and why.
-#[derive(Drop)]
+#[derive(Debug, Drop, Error)]
+#[error("{fault}")]
 pub struct NotActed {
+    /// Why it was not acted on.
     pub fault: ActFault,
+    /// The event, as it was handed in.
     pub event: Event,
 }
 

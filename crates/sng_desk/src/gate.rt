@@ -5,8 +5,8 @@ use crate::desk::Receipt;
 use crate::ending::WorkerFault;
 use crate::fault::ActFault;
 
-/// What lets workers go on, and hears what comes of them. All workers share one, so each call but `stops` says
-/// by its first value which worker calls.
+/// What lets workers go on, and hears what comes of them. All workers share one, so each call but `stops`
+/// says by its first value which worker calls.
 pub trait Gate {
     /// Workers may be stopped by it.
     ghost may_stop: { Self → Bool };
@@ -25,8 +25,8 @@ pub trait Gate {
     /// An act was refused, and why.
     fn refused(&self, by: u16, fault: ActFault);
 
-    /// There was no memory for the trail of a turn: the source was not asked, and the next turn begins anew. A
-    /// gate that waits a little here keeps a worker from asking for memory without a pause.
+    /// There was no memory for the trail of a turn: the source was not asked, and the next turn begins anew.
+    /// A gate that waits a little here keeps a worker from asking for memory without a pause.
     fn short(&self, by: u16);
 
     /// The last call of a worker: it has ended, with this fault.

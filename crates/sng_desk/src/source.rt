@@ -1,9 +1,11 @@
 //! Where events come from, and where datagrams go: the traits that a worker knows. Each tells contracts what
-//! it gave and what was passed to it, as far as it can (`tells`): a socket tells nothing, one over memory all.
+//! it gave and what was passed to it, as far as it can (`tells`): a socket tells nothing, one over memory
+//! all.
 ghost use Rattle.std.specs.Prelude.{◌≡◌, ◌≤◌, ◌<◌, ◌↔◌, ◌⊎◌, ◌∷◌, [], ℕ, Bool, List, true, false, map};
 ghost use Rattle.sng_book.specs.declared.address.Address.{Address};
 ghost use Rattle.sng_grants.specs.declared.policy.Policy.{Policy as policy};
-ghost use Rattle.sng_desk.specs.declared.source.Got.TheVariants.{Ended as ended_answer, Failed as failed_answer};
+ghost use Rattle.sng_desk.specs.declared.source.Got.TheVariants.{Ended as ended_answer};
+ghost use Rattle.sng_desk.specs.declared.source.Got.TheVariants.{Failed as failed_answer};
 ghost use Rattle.sng_desk.specs.Acts.{Moves};
 ghost use Rattle.sng_desk.specs.Working.{given_by};
 
@@ -12,7 +14,7 @@ use sng_grants::Policy;
 use sng_text::Octets;
 
 /// What a source answers.
-#[derive(Drop)]
+#[derive(Debug, Drop)]
 pub enum Got<T> {
     /// This came.
     Came(T),
@@ -53,8 +55,8 @@ pub trait Datagrams: Drop {
         ensures ended { result ≡ ended_answer → has_ended self.new ≡ true }
         ensures ends { has_ended self.new ≡ true → (result ≡ ended_answer) ⊎ (has_ended self.old ≡ true) };
 
-    /// Passes a datagram on. The answer is that the call did not fail: where it did, the datagram is lost, and
-    /// counted.
+    /// Passes a datagram on. The answer is that the call did not fail: where it did, the datagram is lost,
+    /// and counted.
     fn send(&mut self, to: Address, datagram: &Octets) -> bool
         ensures given { Moves tells gave self.old self.new [] }
         ensures passed { Moves tells passed self.old self.new ((to, datagram.now) ∷ []) }

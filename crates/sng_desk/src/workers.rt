@@ -6,7 +6,7 @@ ghost use Rattle.sng_desk.specs.Working.{HasEnded};
 
 use crate::desk::{Desk, Share};
 use crate::ending::{NoSender, WorkerEnd};
-use crate::events::{Clock, Loader, Socket};
+use crate::events::{Clock, Devices, Loader};
 use crate::gate::Gate;
 use crate::source::{Beats, Datagrams, Policies};
 use crate::working::{Left, work};
@@ -22,16 +22,18 @@ pub fn udp_worker<R: Wait, D: Datagrams, G: Gate>(
     source: D,
     gate: &G,
 ) -> WorkerEnd<D, NoSender>
-    ensures { HasEnded D.tells (λ d. datagram_events (D.gave d)) D.failures D.has_ended D.tells D.passed source source share (G.may_stop gate.now) result.source result.source result.trail result.share result.fault }
+    ensures { HasEnded D.tells (λ d. datagram_events (D.gave d)) D.failures D.has_ended D.tells D.passed
+        source source share (G.may_stop gate.now) result.source result.source result.trail result.share
+        result.fault }
 {
-    let source = Socket { datagrams: source };
+    let source = Devices { datagrams: source };
     let Left {
         trail,
         share,
         source,
         fault,
     } = work(rt, alloc, desk, share, source, gate);
-    let Socket { datagrams } = source;
+    let Devices { datagrams } = source;
     WorkerEnd {
         trail,
         share,
@@ -51,7 +53,8 @@ pub fn ticker<R: Wait, B: Beats, D: Datagrams, G: Gate>(
     sender: D,
     gate: &G,
 ) -> WorkerEnd<B, D>
-    ensures { HasEnded B.tells (λ b. tick_events (B.gave b)) B.failures B.has_ended D.tells D.passed source sender share (G.may_stop gate.now) result.source result.sender result.trail result.share result.fault }
+    ensures { HasEnded B.tells (λ b. tick_events (B.gave b)) B.failures B.has_ended D.tells D.passed source
+        sender share (G.may_stop gate.now) result.source result.sender result.trail result.share result.fault }
 {
     let source = Clock {
         beats: source,
@@ -82,7 +85,9 @@ pub fn policy_worker<R: Wait, P: Policies, G: Gate>(
     source: P,
     gate: &G,
 ) -> WorkerEnd<P, NoSender>
-    ensures { HasEnded P.tells (λ p. replace_events (P.gave p)) P.failures P.has_ended (λ p. false) (λ p. []) source source share (G.may_stop gate.now) result.source result.source result.trail result.share result.fault }
+    ensures { HasEnded P.tells (λ p. replace_events (P.gave p)) P.failures P.has_ended (λ p. false) (λ p. [])
+        source source share (G.may_stop gate.now) result.source result.source result.trail result.share
+        result.fault }
 {
     let source = Loader { policies: source };
     let Left {

@@ -5,7 +5,7 @@ ghost use Rattle.sng_desk.specs.Acts.{Moves, sends_in, sends_of};
 ghost use Rattle.sng_desk.specs.Working.{HasEnded, NextFor, Served, Worked};
 
 use crate::desk::{Desk, Receipt, Share};
-use crate::ending::WorkerFault;
+use crate::ending::{Next, WorkerFault};
 use crate::events::Source;
 use crate::gate::Gate;
 use crate::hand::Hand;
@@ -15,27 +15,23 @@ use sng_book::{Event, Out};
 use std::alloc::Global;
 use std::sync::{Mutex, Wait};
 
-/// What a turn leads to.
+/// A worker at a source of events, between two turns.
 #[derive(Drop)]
-pub enum Next {
-    On,
-    Over(Option<WorkerFault>),
-}
-
-/// A worker between two turns.
-#[derive(Drop)]
-struct Round<S> {
+struct SourceWorker<S> {
     source: S,
     hand: Hand,
 }
 
-impl<S: Source> Round<S> {
+impl<S: Source> SourceWorker<S> {
     /// Asks the source once, and acts on what it gives.
     fn turn<R: Wait, G: Gate>(&mut self, rt: &R, desk: &Mutex<Desk>, gate: &G) -> Next
         ensures worked { (source : S) (share : share_sight)
-            → Worked S.tells S.gave S.failures S.told S.passed source source share self.old.source self.old.source self.old.hand.log.trail self.old.hand.share
-            → Worked S.tells S.gave S.failures S.told S.passed source source share self.new.source self.new.source self.new.hand.log.trail self.new.hand.share }
-        ensures over { NextFor result (S.failures self.old.source) (S.failures self.new.source) (S.has_ended self.new.source) (G.may_stop gate.now) self.new.hand.log.trail }
+            → Worked S.tells S.gave S.failures S.told S.passed source source share self.old.source
+            self.old.source self.old.hand.log.trail self.old.hand.share
+            → Worked S.tells S.gave S.failures S.told S.passed source source share self.new.source
+            self.new.source self.new.hand.log.trail self.new.hand.share }
+        ensures over { NextFor result (S.failures self.old.source) (S.failures self.new.source)
+            (S.has_ended self.new.source) (G.may_stop gate.now) self.new.hand.log.trail }
     {
         if self.hand.log.is_full() {
             return Next::Over(Some(WorkerFault::BookFull));
@@ -61,7 +57,9 @@ impl<S: Source> Round<S> {
     /// Acts on an event, and sends what comes of it.
     fn serve<R: Wait, G: Gate>(&mut self, rt: &R, desk: &Mutex<Desk>, gate: &G, event: Event)
         requires { 1 ≤ self.old.hand.log.spare }
-        ensures { Served S.tells S.gave S.failures S.told S.passed event self.old.source self.old.hand.log.trail self.old.hand.share self.new.source self.new.hand.log.trail self.new.hand.share }
+        ensures { Served S.tells S.gave S.failures S.told S.passed event self.old.source
+            self.old.hand.log.trail self.old.hand.share self.new.source self.new.hand.log.trail
+            self.new.hand.share }
     {
         let from = self.hand.log.count();
         let _taken = self.hand.act(rt, desk, gate, event);
@@ -120,15 +118,16 @@ pub fn work<R: Wait, S: Source, G: Gate>(
     source: S,
     gate: &G,
 ) -> Left<S>
-    ensures { HasEnded S.tells S.gave S.failures S.has_ended S.told S.passed source source share (G.may_stop gate.now) result.source result.source result.trail result.share result.fault }
+    ensures { HasEnded S.tells S.gave S.failures S.has_ended S.told S.passed source source share
+        (G.may_stop gate.now) result.source result.source result.trail result.share result.fault }
 {
     let log = Log::new(alloc, share.tag());
     let hand = Hand { share, log };
-    let mut round = Round { source, hand };
+    let mut worker = SourceWorker { source, hand };
     for _ in rt.forever() {
-        if let Next::Over(fault) = round.turn(rt, desk, gate) {
-            gate.over(round.hand.log.by(), fault);
-            let Round { source, hand } = round;
+        if let Next::Over(fault) = worker.turn(rt, desk, gate) {
+            gate.over(worker.hand.log.by(), fault);
+            let SourceWorker { source, hand } = worker;
             let Hand { share, log } = hand;
             return Left {
                 trail: log.into_trail(),

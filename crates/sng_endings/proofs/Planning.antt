@@ -11,7 +11,7 @@ use Rattle.sng_history.specs.Clients.{Client, blank}
 use Rattle.sng_history.specs.Good.{Each, AllCovered}
 use Rattle.sng_history.specs.Verdicts.{filter_outcome, coverage}
 use Rattle.sng_sessions.specs.Standing.{client_at}
-use Rattle.sng_endings.specs.declared.replacing.Ending.{Ending}
+use Rattle.sng_endings.specs.declared.replacing.SubscriptionEnd.{SubscriptionEnd}
 use Rattle.sng_endings.specs.Replacing.{ended_next, ended_outs, all_next, all_outs, ending_of, endings_by}
 use Rattle.sng_endings.specs.Replacing.{Moved, endings_from}
 
@@ -24,7 +24,7 @@ past_end (x ∷ xs) (suc i) past = past_end xs i (omega arith)
 
 -- one filter more is planned
 pub planned_more : (policy : Policy) (place : ℕ) (client : List ℕ) (held : List Held) (i : ℕ) (h : Held)
-    (before added all : List Ending) → i < length held → h ≡ get_or held i h
+    (before added all : List SubscriptionEnd) → i < length held → h ≡ get_or held i h
     → before ++ endings_by policy place client (drop i held) ≡ all
     → added ≡ ending_of place client h.filter (coverage policy client h.filter)
     → (before ++ added) ++ endings_by policy place client (drop (i + 1) held) ≡ all
@@ -36,14 +36,14 @@ planned_more policy place client held i h before added all within is so_far adde
     ∙ (sym (ap (λ hs. before ++ endings_by policy place client hs) cut) ∙ so_far))
 
 pub planned_all : (policy : Policy) (place : ℕ) (client : List ℕ) (held : List Held) (i : ℕ)
-    (now all : List Ending) → length held ≤ i
+    (now all : List SubscriptionEnd) → length held ≤ i
     → now ++ endings_by policy place client (drop i held) ≡ all → now ≡ all
 planned_all policy place client held i now all past is =
     sym (append-nil now) ∙ (ap (λ hs. now ++ endings_by policy place client hs) (sym (past_end held i past))
     ∙ is)
 
 -- one client more is
-pub client_more : (policy : Policy) (xs : List Client) (place : ℕ) (before now all : List Ending)
+pub client_more : (policy : Policy) (xs : List Client) (place : ℕ) (before now all : List SubscriptionEnd)
     → place < length xs
     → before ++ endings_from policy place (drop place xs) ≡ all
     → now ≡ before ++ endings_by policy place (client_at xs place).id (client_at xs place).filters
@@ -57,7 +57,7 @@ client_more policy xs place before now all within so_far now_is =
     ∙ (sym (ap (λ ys. before ++ endings_from policy place ys) cut) ∙ so_far)
     )
 
-pub clients_all : (policy : Policy) (xs : List Client) (place : ℕ) (now all : List Ending) → length xs ≤ place
+pub clients_all : (policy : Policy) (xs : List Client) (place : ℕ) (now all : List SubscriptionEnd) → length xs ≤ place
     → now ++ endings_from policy place (drop place xs) ≡ all → now ≡ all
 clients_all policy xs place now all past is =
     sym (append-nil now) ∙ (ap (λ ys. now ++ endings_from policy place ys) (sym (past_end xs place past))
@@ -81,7 +81,7 @@ each_at P (x ∷ xs) zero within each = each.0
 each_at P (x ∷ xs) (suc place) within each = each_at P xs place (omega arith) each.1
 
 -- nothing that stands for it ends
-pub scope_kept : (before after : Policy) (xs : List Client) (place : ℕ) (endings : List Ending)
+pub scope_kept : (before after : Policy) (xs : List Client) (place : ℕ) (endings : List SubscriptionEnd)
     → Each (λ x. AllCovered before x.id x.filters) xs → place < length xs
     → (let x = client_at xs place in
     scope_of before.clients x.id ≡ scope_of after.clients x.id
@@ -96,12 +96,12 @@ scope_kept before after xs place endings covered within same =
 
 -- ---- the endings one after another
 
-pub next_push : (s : Moved) (endings : List Ending) (e : Ending)
+pub next_push : (s : Moved) (endings : List SubscriptionEnd) (e : SubscriptionEnd)
     → all_next s (endings ++ e ∷ []) ≡ ended_next (all_next s endings) e
 next_push s [] e = refl
 next_push s (g ∷ endings) e = next_push (ended_next s g) endings e
 
-pub outs_push : (s : Moved) (endings : List Ending) (e : Ending)
+pub outs_push : (s : Moved) (endings : List SubscriptionEnd) (e : SubscriptionEnd)
     → all_outs s (endings ++ e ∷ []) ≡ all_outs s endings ++ ended_outs (all_next s endings) e
 outs_push s [] e = append-nil (ended_outs s e)
 outs_push s (g ∷ endings) e =
@@ -110,11 +110,11 @@ outs_push s (g ∷ endings) e =
     (ended_outs (all_next (ended_next s g) endings) e))
 
 -- these ended so far, and this is what they let out
-pub record Ended (first now : Moved) (before said : List Out) (endings : List Ending) : Type 0 where
+pub record Ended (first now : Moved) (before said : List Out) (endings : List SubscriptionEnd) : Type 0 where
   pub next : now ≡ all_next first endings
   pub outs : said ≡ before ++ all_outs first endings
 
-pub ended_more : (first now after : Moved) (before outs more : List Out) (endings : List Ending) (e : Ending)
+pub ended_more : (first now after : Moved) (before outs more : List Out) (endings : List SubscriptionEnd) (e : SubscriptionEnd)
     → Ended first now before outs endings
     → after ≡ ended_next now e → more ≡ outs ++ ended_outs now e
     → Ended first after before more (endings ++ e ∷ [])
@@ -128,8 +128,8 @@ ended_more first now after before outs more endings e so_far after_is more_is = 
 }
 
 -- one fewer is left
-pub one_less : (xs ys : List Ending) (e : Ending) → xs ≡ e ∷ ys → length xs ≡ length ys + 1
-one_less xs ys e is = ap (λ (es : List Ending). length es) is ∙ more (length ys)
+pub one_less : (xs ys : List SubscriptionEnd) (e : SubscriptionEnd) → xs ≡ e ∷ ys → length xs ≡ length ys + 1
+one_less xs ys e is = ap (λ (es : List SubscriptionEnd). length es) is ∙ more (length ys)
   where
     more : (n : ℕ) → suc n ≡ n + 1
     more n = omega arith

@@ -1,5 +1,5 @@
--- What of the subscriptions ends as another policy comes into force: one ending after another, in the order
--- in which they come.
+-- What of the subscriptions ends as another policy comes into force: one ending after another, in the order in
+-- which they come.
 use Rattle.std.specs.Prelude.{ℕ, suc, List, [], ◌∷◌, ◌++◌, if◌then◌else◌, Option, Some, None}
 use Rattle.sng_grants.specs.declared.policy.Policy.{Policy}
 use Rattle.sng_fan.specs.declared.held.Held.{Held}
@@ -16,10 +16,10 @@ use Rattle.sng_history.specs.Standing.{is_held}
 use Rattle.sng_history.specs.Verdicts.{coverage}
 use Rattle.sng_wanted.specs.Filters.{without_wanted}
 use Rattle.sng_sessions.specs.Moving.{moved_at}
-use Rattle.sng_endings.specs.declared.replacing.Ending.{Ending}
+use Rattle.sng_endings.specs.declared.replacing.SubscriptionEnd.{SubscriptionEnd}
 
 -- an ending, where there is one
-abbrev pub ending_list : Option Ending → List Ending
+abbrev pub ending_list : Option SubscriptionEnd → List SubscriptionEnd
 ending_list None = []
 ending_list (Some ending) = ending ∷ []
 
@@ -31,8 +31,12 @@ let_go link text = record link {
   wanted = without_wanted link.wanted text;
 }
 
+-- and where there is none that is noted
+abbrev pub untold_of : Link → List Out
+untold_of link = if has_place link then [] else Note note.Outbox ∷ []
+
 -- the clients once one filter stands no more for the client at its place
-abbrev pub ended_clients : List Client → Ending → List Client
+abbrev pub ended_clients : List Client → SubscriptionEnd → List Client
 ended_clients xs e = moved_at e.place (without e.filter) xs
 
 -- the link after one ending, and what it lets out, where the filter stands for somebody still, or does not
@@ -41,7 +45,7 @@ ended_link link after text = if is_held after text then link else let_go link te
 
 abbrev pub ended_notes : Link → List Client → List ℕ → List Out
 ended_notes link after text =
-    if is_held after text then [] else (if has_place link then [] else Note note.Outbox ∷ [])
+    if is_held after text then [] else untold_of link
 
 -- what an ending moves of the state: the clients, and the link to the broker
 pub record Moved : Type 0 where
@@ -51,37 +55,37 @@ pub record Moved : Type 0 where
 abbrev pub moved : Link → List Client → Moved
 moved link clients = record { link = link; clients = clients }
 
-abbrev pub ended_next : Moved → Ending → Moved
+abbrev pub ended_next : Moved → SubscriptionEnd → Moved
 ended_next m e =
     let after = ended_clients m.clients e in
     moved (ended_link m.link after e.filter) after
 
-abbrev pub ended_outs : Moved → Ending → List Out
+abbrev pub ended_outs : Moved → SubscriptionEnd → List Out
 ended_outs m e = Note e.note ∷ ended_notes m.link (ended_clients m.clients e) e.filter
 
 -- one after another
-abbrev pub all_next : Moved → List Ending → Moved
+abbrev pub all_next : Moved → List SubscriptionEnd → Moved
 all_next m [] = m
 all_next m (e ∷ endings) = all_next (ended_next m e) endings
 
-abbrev pub all_outs : Moved → List Ending → List Out
+abbrev pub all_outs : Moved → List SubscriptionEnd → List Out
 all_outs m [] = []
 all_outs m (e ∷ endings) = ended_outs m e ++ all_outs (ended_next m e) endings
 
 -- the ending of a filter that is denied to the client at this place
-abbrev pub ending_of : ℕ → List ℕ → List ℕ → Outcome → List Ending
+abbrev pub ending_of : ℕ → List ℕ → List ℕ → Outcome → List SubscriptionEnd
 ending_of place client text Allowed = []
 ending_of place client text (Denied rule) =
     record { place = place; filter = text; note = note.End client text (Denied rule) } ∷ []
 
 -- those of the filters of one client, in order
-abbrev pub endings_by : Policy → ℕ → List ℕ → List Held → List Ending
+abbrev pub endings_by : Policy → ℕ → List ℕ → List Held → List SubscriptionEnd
 endings_by policy place client [] = []
 endings_by policy place client (h ∷ held) =
     ending_of place client h.filter (coverage policy client h.filter) ++ endings_by policy place client held
 
 -- and those of all clients from this place on
-abbrev pub endings_from : Policy → ℕ → List Client → List Ending
+abbrev pub endings_from : Policy → ℕ → List Client → List SubscriptionEnd
 endings_from policy place [] = []
 endings_from policy place (x ∷ xs) =
     endings_by policy place x.id x.filters ++ endings_from policy (suc place) xs

@@ -1,9 +1,7 @@
-//! What of the subscriptions ends as another policy comes into force (MQTT-SN 1.2, 6.9): it is planned with
-//! all memory, and carried out without any.
+//! What of the subscriptions ends as another policy comes into force (MQTT-SN 1.2, 6.9): it is planned with all
+//! memory, and carried out without any.
 #![tactic(auto)]
 
-mod covering;
 mod replacing;
 
-pub use covering::coverage;
 pub use replacing::replace;

@@ -6,11 +6,11 @@ ghost use Rattle.sng_history.specs.Good.{Each, AllCovered};
 ghost use Rattle.sng_history.specs.Verdicts.{coverage};
 ghost use Rattle.sng_sessions.specs.Standing.{client_at};
 ghost use Rattle.sng_endings.specs.Replacing.{moved, ended_next, ended_outs, all_next, all_outs, ending_list};
-ghost use Rattle.sng_endings.specs.Replacing.{ending_of, endings_by, endings_from};
+ghost use Rattle.sng_endings.specs.Replacing.{ending_of, endings_by, endings_from, let_go, untold_of};
 
-use crate::covering::coverage;
 use sng_book::{Decision, NotePair, Out, Outcome, OutsPair, ReservedOuts};
 use sng_grants::Policy;
+use sng_history::coverage;
 use sng_link::Link;
 use sng_policy::same_scope;
 use sng_sessions::Sessions;
@@ -20,7 +20,7 @@ use std::alloc::{AllocError, Global};
 /// A subscription that ends: of the client at the place, with the note of it for both owners, and the filter
 /// once more for what the broker is told.
 #[derive(Debug, Drop)]
-pub struct Ending {
+pub struct SubscriptionEnd {
     pub place: usize,
     pub filter: TopicFilter,
     pub note: NotePair,
@@ -29,7 +29,7 @@ pub struct Ending {
 /// What ends, and room for all that this lets out.
 #[derive(Drop)]
 struct Plan {
-    endings: Vec<Ending>,
+    endings: Vec<SubscriptionEnd>,
     outs: ReservedOuts,
 }
 
@@ -94,7 +94,7 @@ fn endings(
     in_force: &Policy,
     policy: &Policy,
     sessions: &Sessions,
-) -> Result<Vec<Ending>, AllocError>
+) -> Result<Vec<SubscriptionEnd>, AllocError>
     requires { Each (λ x. AllCovered in_force.now x.id x.filters) sessions.now }
     ensures { IfOk result (λ endings. endings.items ≡ endings_from policy.now 0 sessions.now) }
 {
@@ -113,7 +113,7 @@ fn add_changed(
     policy: &Policy,
     sessions: &Sessions,
     place: usize,
-    endings: &mut Vec<Ending>,
+    endings: &mut Vec<SubscriptionEnd>,
 ) -> Result<(), AllocError>
     requires covered { Each (λ x. AllCovered in_force.now x.id x.filters) sessions.now }
     requires place { place < length sessions.now }
@@ -127,7 +127,12 @@ fn add_changed(
 }
 
 /// These end, one after another. Takes no memory.
-fn end_all(endings: Vec<Ending>, sessions: &mut Sessions, link: &mut Link, outs: &mut ReservedOuts)
+fn end_all(
+    endings: Vec<SubscriptionEnd>,
+    sessions: &mut Sessions,
+    link: &mut Link,
+    outs: &mut ReservedOuts,
+)
     requires { length endings.items * 2 ≤ outs.old.spare }
     ensures next { moved link.new sessions.new ≡ all_next (moved link.old sessions.old) endings.items }
     ensures outs { outs.new.outs ≡ outs.old.outs ++ all_outs (moved link.old sessions.old) endings.items }
@@ -138,13 +143,18 @@ fn end_all(endings: Vec<Ending>, sessions: &mut Sessions, link: &mut Link, outs:
 }
 
 /// One ends. Takes no memory.
-fn end_one(ending: Ending, sessions: &mut Sessions, link: &mut Link, outs: &mut ReservedOuts)
+fn end_one(
+    ending: SubscriptionEnd,
+    sessions: &mut Sessions,
+    link: &mut Link,
+    outs: &mut ReservedOuts,
+)
     requires { 2 ≤ outs.old.spare }
     ensures next { moved link.new sessions.new ≡ ended_next (moved link.old sessions.old) ending }
     ensures outs { outs.new.outs ≡ outs.old.outs ++ ended_outs (moved link.old sessions.old) ending }
     ensures spare { outs.old.spare ≤ outs.new.spare + 2 }
 {
-    let Ending {
+    let SubscriptionEnd {
         place,
         filter,
         note,
@@ -152,9 +162,19 @@ fn end_one(ending: Ending, sessions: &mut Sessions, link: &mut Link, outs: &mut 
     let (note, again) = note.into_parts();
     outs.push(Out::Note(note), Out::Note(again));
     sessions.end(place, &filter);
-    if sessions.is_held(&filter) {
-        return;
+    if !sessions.is_held(&filter) {
+        let_go(filter, link, outs);
     }
+}
+
+/// The filter stands for nobody any more: it is wanted no more, and the broker is told so where there is place;
+/// else that is noted. Takes no memory.
+fn let_go(filter: TopicFilter, link: &mut Link, outs: &mut ReservedOuts)
+    requires { 1 ≤ outs.old.spare }
+    ensures link { link.new ≡ let_go link.old filter }
+    ensures outs { outs.new.outs ≡ outs.old.outs ++ untold_of link.old }
+    ensures spare { outs.old.spare ≤ outs.new.spare + 1 }
+{
     link.unwant(&filter);
     if link.has_place() {
         link.unsubscribe(filter);
@@ -170,7 +190,7 @@ fn add_endings(
     policy: &Policy,
     sessions: &Sessions,
     place: usize,
-    endings: &mut Vec<Ending>,
+    endings: &mut Vec<SubscriptionEnd>,
 ) -> Result<(), AllocError>
     requires { place < length sessions.now }
     ensures { OnOk result (endings.new.items ≡ endings.old.items
@@ -193,7 +213,7 @@ fn planned(
     place: usize,
     client: &ClientId,
     filter: &TopicFilter,
-) -> Result<Option<Ending>, AllocError>
+) -> Result<Option<SubscriptionEnd>, AllocError>
     ensures { IfOk result (λ planned. ending_list planned
         ≡ ending_of place client.now filter.now (coverage policy.now client.now filter.now)) }
 {
@@ -203,7 +223,7 @@ fn planned(
             let denied = Outcome::Denied(rule);
             let note = NotePair::of(Decision::End(client.copy()?, filter.copy()?, denied))?;
             let filter = filter.copy()?;
-            Ok(Some(Ending {
+            Ok(Some(SubscriptionEnd {
                 place,
                 filter,
                 note,
@@ -213,7 +233,10 @@ fn planned(
 }
 
 /// The ending, where there is one, comes behind the others. An `Err` is a failed allocation.
-fn add(endings: &mut Vec<Ending>, planned: Option<Ending>) -> Result<(), AllocError>
+fn add(
+    endings: &mut Vec<SubscriptionEnd>,
+    planned: Option<SubscriptionEnd>,
+) -> Result<(), AllocError>
     ensures { OnOk result (endings.new.items ≡ endings.old.items ++ ending_list planned) }
 {
     if let Some(ending) = planned {

@@ -1,8 +1,10 @@
 -- What a piece of the broker's bytes brings, by what the stream answers to it and to an empty piece behind it.
-use Rattle.std.proofs.Common.{◌≡◌, ℕ, List, [], ◌∷◌, ◌++◌, Option, Some, None, Result, Ok, Err, refl, sym, ap, subst, ◌∙◌, append-nil}
+use Rattle.std.proofs.Common.{◌≡◌, ℕ, List, [], ◌∷◌, ◌++◌, Option, Some, None, Result, Ok, Err, refl, sym, ap}
+use Rattle.std.proofs.Common.{subst, ◌∙◌, append-nil}
 use Rattle.mqtt_frames.specs.declared.fault.StreamFault.{StreamFault}
 use Rattle.mqtt_frames.specs.declared.packet.Packet.{Packet}
-use Rattle.mqtt_frames.specs.Streams.{End, Rest, Fault, State, Reading, Kept, Failed, read_all, settled_of, settled, fed, TakesMemory}
+use Rattle.mqtt_frames.specs.Streams.{End, Rest, Fault, State, Reading, Kept, Failed, read_all, settled_of}
+use Rattle.mqtt_frames.specs.Streams.{settled, fed, TakesMemory}
 use Rattle.mqtt_frames.proofs.StreamLemmas.{WaitsAt, read_all-waits, read_all-waiting}
 use Rattle.sng_gateway.specs.Deeds.{arrival, arrival_by}
 

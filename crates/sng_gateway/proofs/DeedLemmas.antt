@@ -1,12 +1,13 @@
 -- Deeds that are done one behind the other.
-use Rattle.std.proofs.Common.{◌≡◌, ℕ, List, [], ◌∷◌, ◌++◌, refl, sym, ap, subst, ◌∙◌, append_assoc, append-nil}
+use Rattle.std.proofs.Common.{◌≡◌, ℕ, List, [], ◌∷◌, ◌++◌, refl, sym, ap, subst, ◌∙◌, append_assoc}
+use Rattle.std.proofs.Common.{append-nil}
 use Rattle.std.proofs.lemmas.List.{map-append}
 use Rattle.mqtt_frames.specs.declared.packet.Packet.{Packet}
 use Rattle.sng_book.specs.declared.event.Event.{Event}
 use Rattle.sng_book.specs.declared.event.Event.TheVariants as events
 use Rattle.sng_gateway.specs.Deeds.{Arrival, Deed, Step, Tell, arrival, fault_deeds, packet_deeds}
 use Rattle.sng_gateway.specs.Playing.{Standing, IsStep, Does, Comes, Adds}
-use Rattle.sng_gateway.specs.declared.script.Line.TheVariants.{Broker}
+use Rattle.sng_script.specs.declared.script.Line.TheVariants.{Broker}
 
 Does-then : (deeds more : List Deed) (text others : List ℕ) (before between after : Standing)
     → Does before deeds text between → Does between more others after → Does before (deeds ++ more) (text ++ others) after

@@ -1,10 +1,4 @@
 pub mod ArrivalLemmas
 pub mod DeedLemmas
 pub mod EventLemmas
-pub mod InputLemmas
-pub mod NumberLemmas
 pub mod PlayLemmas
-pub mod ShortNameLemmas
-pub mod PublishingLemmas
-pub mod PieceLemmas
-pub mod FileLemmas

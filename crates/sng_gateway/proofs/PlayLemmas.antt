@@ -1,5 +1,7 @@
 -- A script that is played line by line: what is known between two lines, and how it ends.
-use Rattle.std.proofs.Common.{◌≡◌, ◌≢◌, ◌≤◌, ℕ, ◌+◌, List, [], ◌∷◌, ◌++◌, length, Option, Some, None, IfSome, Result, Ok, Err, refl, sym, ap, subst, ◌∙◌, append_assoc, append-nil, length-append, inl, inr, arith}
+use Rattle.std.proofs.Common.{◌≡◌, ◌≢◌, ◌≤◌, ℕ, ◌+◌, List, [], ◌∷◌, ◌++◌, length, Option, Some, None, IfSome}
+use Rattle.std.proofs.Common.{Result, Ok, Err, refl, sym, ap, subst, ◌∙◌, append_assoc, append-nil}
+use Rattle.std.proofs.Common.{length-append, inl, inr, arith}
 use Rattle.std.specs.Prelude.{⊤}
 use Rattle.std.proofs.KnownBytes.{Appends-nil, Appends-trans, Appends-kept, Keeps-refl}
 use Rattle.std.specs.Io.KnownBytes.{Appends, Keeps, IsAtEnd}
@@ -10,17 +12,18 @@ use Rattle.sng_book.specs.declared.event.Event.{Event}
 use Rattle.sng_book.specs.declared.row.Row.{Row}
 use Rattle.sng_history.specs.State.{opening, Leads}
 use Rattle.sng_history.specs.Lawful.{Lawful}
-use Rattle.sng_gateway.specs.declared.limits.TheConstants.{MAX_LINE}
+use Rattle.sng_script.specs.declared.limits.TheConstants.{MAX_LINE}
 use Rattle.sng_gateway.specs.Deeds.{Deed, Step, Tell, deeds_of, stream_by}
-use Rattle.sng_gateway.specs.Lines.{line_of}
+use Rattle.sng_script.specs.Lines.{line_of}
 use Rattle.sng_gateway.specs.Playing.{Standing, IsStep, Does, IsPlayed}
-use Rattle.sng_gateway.specs.Scripts.{WritesRow, Writes, AllWrite, ArePlayed, StopsAt, BreaksOff, IsUnreadable, Finishes, IsHalt, IsOutcome, lines_of, unreadable_text}
-use Rattle.sng_gateway.specs.declared.status.Status.{Status}
-use Rattle.sng_gateway.specs.declared.status.Status.TheVariants as statuses
-use Rattle.sng_gateway.specs.Input.{IsFirstLine, BeginsTooLong}
-use Rattle.sng_gateway.specs.declared.player.Stop.{Stop}
-use Rattle.sng_gateway.specs.declared.player.Stop.TheVariants.{Unreadable, OutOfMemory, Failed}
-use Rattle.sng_gateway.specs.declared.script.Line.{Line}
+use Rattle.sng_gateway.specs.Scripts.{WritesRow, Writes, AllWrite, ArePlayed, StopsAt, BreaksOff}
+use Rattle.sng_gateway.specs.Scripts.{IsUnreadable, Finishes, IsHalt, IsOutcome, unreadable_text}
+use Rattle.sng_script.specs.declared.status.Status.{Status}
+use Rattle.sng_script.specs.declared.status.Status.TheVariants as statuses
+use Rattle.sng_script.specs.Input.{lines_of, IsFirstLine, BeginsTooLong}
+use Rattle.sng_script.specs.declared.obstacle.Obstacle.{Obstacle}
+use Rattle.sng_script.specs.declared.obstacle.Obstacle.TheVariants.{Unreadable, OutOfMemory, Failed}
+use Rattle.sng_script.specs.declared.script.Line.{Line}
 
 -- the gateway stands so after these rows, the newest first
 pub record StandsAfter (rows : List Row) (standing : Standing) : Type 0 where
@@ -185,7 +188,7 @@ GoesOn (Some bytes) None held holds number standing = ⊥
 GoesOn (Some bytes) (Some rest) held holds number standing = UnderWay (lines_of bytes) (lines_of rest) held holds number standing
 
 -- what has to be shown of the end, as far as the bytes are known
-abbrev pub Halts : Option (List ℕ) → Result (Unit {0}) Stop → ℕ → (held holds : Option (List ℕ)) → Type 0
+abbrev pub Halts : Option (List ℕ) → Result (Unit {0}) Obstacle → ℕ → (held holds : Option (List ℕ)) → Type 0
 Halts input result number held holds = IfSome input (λ script. IsHalt result number (lines_of script) held holds)
 
 pub GoesOn-start : (input held : Option (List ℕ)) (standing : Standing) → Leads opening [] standing.state → standing.rows ≡ 0
@@ -246,7 +249,7 @@ Halts-first (Some bytes) held told =
     ([], [], record { rest = lines_of bytes; split = refl; played = record { rows = []; stream = Reading []; lawful = tt; written = (refl, refl, refl) } }, Appends-nil held)
 
 -- a line could not be read for one of these reasons
-pub Halts-read : (input left held holds : Option (List ℕ)) (number : ℕ) (standing : Standing) (stop : Stop)
+pub Halts-read : (input left held holds : Option (List ℕ)) (number : ℕ) (standing : Standing) (stop : Obstacle)
     → GoesOn input left held holds number standing → (stop ≡ Unreadable → BeginsTooLong left) → Halts input (Err stop) number held holds
 Halts-read input left held holds number standing Unreadable way long = Halts-long input left held holds number standing way (long refl)
 Halts-read input left held holds number standing OutOfMemory way long = Halts-memory input left held holds holds number number standing way (Keeps-refl holds)
@@ -254,7 +257,7 @@ Halts-read None left held holds number standing Failed way long = tt
 Halts-read (Some bytes) left held holds number standing Failed way long = tt
 
 -- a line could not be played for one of these reasons
-pub Halts-play : (input left rest held between holds : Option (List ℕ)) (line : List ℕ) (number : ℕ) (standing : Standing) (stop : Stop)
+pub Halts-play : (input left rest held between holds : Option (List ℕ)) (line : List ℕ) (number : ℕ) (standing : Standing) (stop : Obstacle)
     → GoesOn input left held between number standing → IsFirstLine left rest line
     → (stop ≡ Unreadable → line_of line ≡ None) → (stop ≢ Failed → Keeps between holds) → Halts input (Err stop) number held holds
 Halts-play input left rest held between holds line number standing Unreadable way first unreadable keeps =
@@ -265,7 +268,7 @@ Halts-play None left rest held between holds line number standing Failed way fir
 Halts-play (Some bytes) left rest held between holds line number standing Failed way first unreadable keeps = tt
 
 -- how a script comes out whose lines came to an end so
-pub outcome : (input held between holds : Option (List ℕ)) (status : Status) (played : Result (Unit {0}) Stop) (number : ℕ)
+pub outcome : (input held between holds : Option (List ℕ)) (status : Status) (played : Result (Unit {0}) Obstacle) (number : ℕ)
     → Halts input played number held between → Finishes status played number between holds
     → IfSome input (λ script. IsOutcome status (lines_of script) held holds)
 outcome None held between holds status played number halts finishes = tt

@@ -8,9 +8,9 @@ use Rattle.mqtt_frames.specs.declared.fault.StreamFault.TheVariants as faults
 use Rattle.mqtt_frames.specs.declared.packet.Packet.{Packet}
 use Rattle.sng_book.specs.declared.event.Event.{Event}
 use Rattle.sng_book.specs.declared.event.Event.TheVariants as events
-use Rattle.sng_gateway.specs.Answers.{refused_text}
-use Rattle.sng_gateway.specs.declared.script.Line.{Line}
-use Rattle.sng_gateway.specs.declared.script.Line.TheVariants as lines
+use Rattle.sng_script.specs.Refused.{refused_text}
+use Rattle.sng_script.specs.declared.script.Line.{Line}
+use Rattle.sng_script.specs.declared.script.Line.TheVariants as lines
 
 -- what a piece of the broker's bytes brings: packets, a fault behind them, and the stream then
 pub record Arrival : Type 0 where

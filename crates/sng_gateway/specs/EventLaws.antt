@@ -10,12 +10,13 @@ use Rattle.sng_scope.specs.Policies.{policy_of}
 use Rattle.sng_book.specs.declared.event.Event.{Event}
 use Rattle.sng_book.specs.declared.event.Event.TheVariants as events
 use Rattle.sng_gateway.specs.Deeds.{Step, deeds_of, stream_by}
-use Rattle.sng_gateway.specs.EventTexts.{event_text}
-use Rattle.sng_gateway.specs.Lines.{line_of}
-use Rattle.sng_gateway.specs.PolicyTexts.{policy_text}
-use Rattle.sng_gateway.specs.declared.script.Line.{Line}
+use Rattle.sng_script.specs.EventTexts.{event_text}
+use Rattle.sng_script.specs.Lines.{line_of}
+use Rattle.sng_script.specs.PolicyTexts.{policy_text}
+use Rattle.sng_script.specs.declared.script.Line.{Line}
 
--- numbers are in the ranges of their types, a packet is spelled by its bytes, and the text of a policy says it
+-- numbers are in the ranges of their types, a packet is spelled by its bytes, and the text of a policy
+-- says it
 abbrev pub CanBeSaid : Event → Type 0
 CanBeSaid (events.Datagram from datagram) = IsAddress from.ip × (from.port < 2 ^ 16) × IsBytes datagram
 CanBeSaid (events.Broker packet) =

@@ -9,8 +9,8 @@ use Rattle.sng_book.specs.declared.out.Out.{Out}
 use Rattle.sng_history.specs.State.{State}
 use Rattle.sng_history.specs.Lawful.{Keeps}
 use Rattle.sng_gateway.specs.Deeds.{Deed, Step, Tell, deeds_of, stream_by}
-use Rattle.sng_gateway.specs.Lines.{line_of}
-use Rattle.sng_gateway.specs.declared.script.Line.{Line}
+use Rattle.sng_script.specs.Lines.{line_of}
+use Rattle.sng_script.specs.declared.script.Line.{Line}
 
 -- a gateway that is played a script: its state, how many rows it has made, and the stream of the broker's
 -- bytes

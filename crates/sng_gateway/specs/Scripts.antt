@@ -1,5 +1,6 @@
 -- What a whole script comes to: the rows that its lines make, and the text that is written of them.
-use Rattle.std.specs.Prelude.{ℕ, ◌≡◌, ◌⊎◌, ◌+◌, ◌==◌, ◌<◌, ◌≤◌, List, [], ◌∷◌, ◌++◌, length, if◌then◌else◌, codes, Option, Some, None, Result, Ok, Err, ⊤}
+use Rattle.std.specs.Prelude.{ℕ, ◌≡◌, ◌⊎◌, ◌+◌, ◌<◌, ◌≤◌, List, [], ◌∷◌, ◌++◌, length, codes, Option, Some}
+use Rattle.std.specs.Prelude.{None, Result, Ok, Err, ⊤}
 use Rattle.std.specs.Fmt.{decimal}
 use Rattle.std.specs.Io.KnownBytes.{Appends, Keeps}
 use Rattle.mqtt_frames.specs.Streams.{State, Reading}
@@ -10,24 +11,14 @@ use Rattle.sng_book.specs.declared.out.Out.{Out}
 use Rattle.sng_book.specs.declared.row.Row.{Row}
 use Rattle.sng_history.specs.State.{opening}
 use Rattle.sng_history.specs.Lawful.{Lawful}
-use Rattle.sng_gateway.specs.declared.limits.TheConstants.{MAX_LINE}
+use Rattle.sng_script.specs.declared.limits.TheConstants.{MAX_LINE}
 use Rattle.sng_gateway.specs.Deeds.{Deed, Step, Tell, deeds_of, stream_by}
-use Rattle.sng_gateway.specs.Lines.{line_of}
-use Rattle.sng_gateway.specs.declared.script.Line.{Line}
-use Rattle.sng_gateway.specs.declared.player.Stop.{Stop}
-use Rattle.sng_gateway.specs.declared.player.Stop.TheVariants as stops
-use Rattle.sng_gateway.specs.declared.status.Status.{Status}
-use Rattle.sng_gateway.specs.declared.status.Status.TheVariants as statuses
-
--- the byte goes in front of the first line
-abbrev pub onto_first : ℕ → List (List ℕ) → List (List ℕ)
-onto_first byte [] = (byte ∷ []) ∷ []
-onto_first byte (line ∷ rest) = (byte ∷ line) ∷ rest
-
--- the lines of a script: each ends with its line feed, byte 10, which the last may lack
-abbrev pub lines_of : List ℕ → List (List ℕ)
-lines_of [] = []
-lines_of (byte ∷ bytes) = if byte == 10 then [] ∷ lines_of bytes else onto_first byte (lines_of bytes)
+use Rattle.sng_script.specs.Lines.{line_of}
+use Rattle.sng_script.specs.declared.script.Line.{Line}
+use Rattle.sng_script.specs.declared.obstacle.Obstacle.{Obstacle}
+use Rattle.sng_script.specs.declared.obstacle.Obstacle.TheVariants as obstacles
+use Rattle.sng_script.specs.declared.status.Status.{Status}
+use Rattle.sng_script.specs.declared.status.Status.TheVariants as statuses
 
 -- the event, after the rows before it, the newest first, makes one row more, brought by worker 0, and writes
 -- that row, printed under its number from 1
@@ -89,23 +80,23 @@ unreadable_text number = codes "line " ++ (decimal number ++ codes ": unreadable
 
 -- how the lines come to an end, by `Ok` or why they are not played on, with the number of the last that was
 -- begun
-abbrev pub IsHalt : Result (Unit {0}) Stop → ℕ → List (List ℕ) → (held holds : Option (List ℕ)) → Type 0
+abbrev pub IsHalt : Result (Unit {0}) Obstacle → ℕ → List (List ℕ) → (held holds : Option (List ℕ)) → Type 0
 IsHalt (Ok done) number script held holds = (text : List ℕ) × ArePlayed script text × Appends held holds text
-IsHalt (Err stops.Unreadable) number script held holds =
+IsHalt (Err obstacles.Unreadable) number script held holds =
     (before : List (List ℕ)) × (text : List ℕ) × StopsAt script before text × Appends held holds text
     × (number ≡ length before + 1)
-IsHalt (Err stops.OutOfMemory) number script held holds =
+IsHalt (Err obstacles.OutOfMemory) number script held holds =
     (before : List (List ℕ)) × (text : List ℕ) × BreaksOff script before text × Appends held holds text
-IsHalt (Err stops.Failed) number script held holds = ⊤
+IsHalt (Err obstacles.Failed) number script held holds = ⊤
 
 -- what is written last, behind what the writer held, and how the command comes out: as the lines came to an
 -- end, with why they are not played on; or as a failure, of which nothing is known
-abbrev pub Finishes : Status → Result (Unit {0}) Stop → ℕ → (held holds : Option (List ℕ)) → Type 0
+abbrev pub Finishes : Status → Result (Unit {0}) Obstacle → ℕ → (held holds : Option (List ℕ)) → Type 0
 Finishes statuses.Done played number held holds = (played ≡ Ok tt) × Keeps held holds
 Finishes statuses.Unreadable played number held holds =
-    (played ≡ Err stops.Unreadable) × Appends held holds (unreadable_text number)
+    (played ≡ Err obstacles.Unreadable) × Appends held holds (unreadable_text number)
 Finishes statuses.OutOfMemory played number held holds =
-    (played ≡ Err stops.OutOfMemory) × Appends held holds (codes "out of memory\n")
+    (played ≡ Err obstacles.OutOfMemory) × Appends held holds (codes "out of memory\n")
 Finishes statuses.Failed played number held holds = ⊤
 Finishes statuses.Uncovered played number held holds = ⊥
 Finishes statuses.Denied played number held holds = ⊥

@@ -2,14 +2,15 @@
 ghost use Rattle.std.specs.Prelude.{◌≡◌, [], IfSome};
 ghost use Rattle.mqtt_frames.specs.Streams.{Reading};
 ghost use Rattle.sng_history.specs.State.{opening, Leads};
-ghost use Rattle.sng_gateway.specs.Scripts.{lines_of, Finishes, IsHalt, IsOutcome};
+ghost use Rattle.sng_script.specs.Input.{lines_of};
+ghost use Rattle.sng_gateway.specs.Scripts.{Finishes, IsHalt, IsOutcome};
 ghost use Rattle.sng_gateway.specs.Standings.{standing};
 
-use crate::Status;
-use crate::ending::end;
-use crate::input::read_line;
-use crate::player::{Player, Stop};
-use crate::reader::CountedReader;
+use crate::player::Player;
+use sng_script::ending::end;
+use sng_script::input::read_line;
+use sng_script::reader::CountedReader;
+use sng_script::{Obstacle, Status};
 use std::alloc::Global;
 use std::io::{BufRead, BufReader, BufWriter, Read, Write};
 
@@ -27,7 +28,7 @@ const BUFFER_BYTES: usize = 65536;
 pub fn play<R: Read + Drop, W: Write + Drop>(alloc: Global, input: R, mut output: W) -> Status {
     match play_buffered(alloc, input, &mut output) {
         Some(status) => status,
-        None => finish(Err(Stop::OutOfMemory), 0, &mut output),
+        None => finish(Err(Obstacle::OutOfMemory), 0, &mut output),
     }
 }
 
@@ -58,14 +59,14 @@ fn play_input<R: Read + Drop, W: Write>(
     input: R,
     output: &mut W,
     line: &mut u64,
-) -> Result<(), Stop>
+) -> Result<(), Obstacle>
     ensures { IfSome (R.remaining input) (λ script. IsHalt result line.new (lines_of script)
         (W.contents output.old) (W.contents output.new)) }
 {
     let reader = CountedReader::new(input);
     match BufReader::with_capacity(alloc, BUFFER_BYTES, reader) {
         Ok(mut reader) => play_lines(alloc, &mut reader, output, line),
-        Err(_) => Err(Stop::OutOfMemory),
+        Err(_) => Err(Obstacle::OutOfMemory),
     }
 }
 
@@ -75,13 +76,13 @@ fn play_lines<R: BufRead, W: Write>(
     reader: &mut R,
     output: &mut W,
     line: &mut u64,
-) -> Result<(), Stop>
+) -> Result<(), Obstacle>
     ensures { IfSome (R.remaining reader.old) (λ script. IsHalt result line.new (lines_of script)
         (W.contents output.old) (W.contents output.new)) }
 {
     match Player::new(alloc) {
         Ok(mut player) => play_on(&mut player, alloc, reader, output, line),
-        Err(_) => Err(Stop::OutOfMemory),
+        Err(_) => Err(Obstacle::OutOfMemory),
     }
 }
 
@@ -93,7 +94,7 @@ fn play_on<R: BufRead, W: Write>(
     reader: &mut R,
     output: &mut W,
     line: &mut u64,
-) -> Result<(), Stop>
+) -> Result<(), Obstacle>
     requires state { Leads opening [] (standing player.old).state }
     requires rows { (standing player.old).rows ≡ 0 }
     requires stream { (standing player.old).stream ≡ Reading [] }
@@ -108,23 +109,23 @@ fn play_on<R: BufRead, W: Write>(
         }
         player.play(text.as_slice(), output)?;
     }
-    Err(Stop::Failed)
+    Err(Obstacle::Failed)
 }
 
 /// Prints why the script ended, where that is printed, and ends the command.
-fn finish<W: Write>(played: Result<(), Stop>, line: u64, output: &mut W) -> Status
+fn finish<W: Write>(played: Result<(), Obstacle>, line: u64, output: &mut W) -> Status
     ensures { Finishes result played line (W.contents output.old) (W.contents output.new) }
 {
     match played {
         Ok(()) => end(Status::Done, Ok(()), output),
-        Err(Stop::Unreadable) => {
+        Err(Obstacle::Unreadable) => {
             let printed = writeln!(output, "line {line}: unreadable");
             end(Status::Unreadable, printed, output)
         }
-        Err(Stop::OutOfMemory) => {
+        Err(Obstacle::OutOfMemory) => {
             let printed = output.write_all(b"out of memory\n");
             end(Status::OutOfMemory, printed, output)
         }
-        Err(Stop::Failed) => end(Status::Failed, Ok(()), output),
+        Err(Obstacle::Failed) => end(Status::Failed, Ok(()), output),
     }
 }

@@ -3,54 +3,18 @@ ghost use Rattle.std.specs.Prelude.{◌≡◌, ◌≢◌, [], ◌∷◌, Some, N
 ghost use Rattle.std.specs.Io.KnownBytes.{Keeps};
 ghost use Rattle.mqtt_frames.specs.Streams.{Reading};
 ghost use Rattle.sng_gateway.specs.Deeds.{Step, fault_deeds, packet_deeds};
-ghost use Rattle.sng_gateway.specs.Lines.{line_of};
+ghost use Rattle.sng_script.specs.Lines.{line_of};
 ghost use Rattle.sng_gateway.specs.Playing.{Adds, Comes, IsPlayed};
 ghost use Rattle.sng_history.specs.State.{opening, Leads};
 
 use crate::broker::{arrival, begin_stream, push_fault_line};
-use crate::may::push_refused;
-use crate::script::{Line, LineFault, line_of};
 use mqtt_frames::{Packet, Stream, StreamFault};
 use sng_book::{Event, push_row};
 use sng_core::Core;
+use sng_script::refused::push_refused;
+use sng_script::{Line, Obstacle, line_of};
 use std::alloc::{AllocError, Global};
 use std::io::Write;
-
-/// Why a script is not played on.
-#[derive(Clone, Copy, Debug, PartialEq, Eq)]
-pub enum Stop {
-    /// The line could not be read.
-    Unreadable,
-    /// Allocation failed.
-    OutOfMemory,
-    /// Input or output failed.
-    Failed,
-}
-
-impl From<AllocError> for Stop {
-    ghost use Rattle.std.specs.Prelude.{◌≡◌};
-    ghost use Rattle.sng_gateway.specs.declared.player.Stop.TheVariants.{OutOfMemory};
-
-    ghost from_gives = { λ _ stop. stop ≡ OutOfMemory };
-
-    fn from(_error: AllocError) -> Stop {
-        Stop::OutOfMemory
-    }
-}
-
-impl From<LineFault> for Stop {
-    ghost use Rattle.std.specs.Prelude.{◌≡◌};
-    ghost use Rattle.sng_gateway.specs.Stops.{stop_of};
-
-    ghost from_gives = { λ fault stop. stop ≡ stop_of fault };
-
-    fn from(fault: LineFault) -> Stop {
-        match fault {
-            LineFault::Unreadable => Stop::Unreadable,
-            LineFault::Memory => Stop::OutOfMemory,
-        }
-    }
-}
 
 /// A gateway, how many rows it made, and the stream of the broker's bytes.
 #[derive(Drop)]
@@ -91,28 +55,28 @@ impl Player {
     /// where an allocation fails between two packets of the line, nothing of it is printed. Steps may have
     /// been taken then, so the player is not to be played on. A line that cannot be read prints nothing and
     /// changes nothing. `Failed` is a failure of the output, or a row past the last number of 64 bits.
-    pub fn play<W: Write>(&mut self, line: &[u8], output: &mut W) -> Result<(), Stop>
+    pub fn play<W: Write>(&mut self, line: &[u8], output: &mut W) -> Result<(), Obstacle>
         ensures ok { OnOk result (IsPlayed (standing self.old) line.now (W.contents output.old)
             (W.contents output.new) (standing self.new)) }
-        ensures unreadable { result ≡ Err Stop.Unreadable
+        ensures unreadable { result ≡ Err Obstacle.Unreadable
             → (line_of line.now ≡ None) × (standing self.new ≡ standing self.old) }
-        ensures told { line_of line.now ≡ None → result ≡ Err Stop.Unreadable }
-        ensures nothing_written { OnErr result (result ≢ Err Stop.Failed
+        ensures told { line_of line.now ≡ None → result ≡ Err Obstacle.Unreadable }
+        ensures nothing_written { OnErr result (result ≢ Err Obstacle.Failed
             → Keeps (W.contents output.old) (W.contents output.new)) }
     {
         let line = line_of(self.alloc, line)?;
         self.take(line)?;
         output
             .write_all(self.text.as_slice())
-            .map_err(|_| Stop::Failed)
+            .map_err(|_| Obstacle::Failed)
     }
 
     /// Does what a line says, and leaves what is to be printed of it in `text`. It is `Failed` where the row
     /// with the last number of 64 bits is made and one more would follow, as in the functions below.
-    fn take(&mut self, line: Line) -> Result<(), Stop>
+    fn take(&mut self, line: Line) -> Result<(), Obstacle>
         ensures ok { OnOk result (Comes (standing self.old) line self.new.text.items (standing self.new)) }
-        ensures full { result ≡ Err Stop.Failed → self.new.rows ≡ u64.MAX }
-        ensures err { result ≢ Err Stop.Unreadable }
+        ensures full { result ≡ Err Obstacle.Failed → self.new.rows ≡ u64.MAX }
+        ensures err { result ≢ Err Obstacle.Unreadable }
     {
         self.text.clear();
         match line {
@@ -131,12 +95,12 @@ impl Player {
 
     /// Takes a piece of the broker's bytes: a step for each packet that is whole with it, and what comes of
     /// the fault behind them.
-    fn take_piece(&mut self, piece: &[u8]) -> Result<(), Stop>
+    fn take_piece(&mut self, piece: &[u8]) -> Result<(), Obstacle>
         requires { self.old.text.items ≡ [] }
         ensures ok { OnOk result (Comes (standing self.old) (Line.Broker piece.now) self.new.text.items
             (standing self.new)) }
-        ensures full { result ≡ Err Stop.Failed → self.new.rows ≡ u64.MAX }
-        ensures err { result ≢ Err Stop.Unreadable }
+        ensures full { result ≡ Err Obstacle.Failed → self.new.rows ≡ u64.MAX }
+        ensures err { result ≢ Err Obstacle.Unreadable }
     {
         let (packets, fault) = arrival(self.alloc, &mut self.stream, piece)?;
         self.step_each(packets)?;
@@ -147,11 +111,11 @@ impl Player {
     }
 
     /// Takes a step for each packet, in order.
-    fn step_each(&mut self, packets: Vec<Packet>) -> Result<(), Stop>
+    fn step_each(&mut self, packets: Vec<Packet>) -> Result<(), Obstacle>
         ensures ok { OnOk result (Adds (standing self.old) (packet_deeds packets.items)
             self.old.text.items self.new.text.items (standing self.new)) }
-        ensures full { result ≡ Err Stop.Failed → self.new.rows ≡ u64.MAX }
-        ensures err { result ≢ Err Stop.Unreadable }
+        ensures full { result ≡ Err Obstacle.Failed → self.new.rows ≡ u64.MAX }
+        ensures err { result ≢ Err Obstacle.Unreadable }
     {
         for packet in packets {
             self.step(Event::Broker(packet))?;
@@ -160,25 +124,25 @@ impl Player {
     }
 
     /// Tells of a fault of the broker's bytes, with which the connection is lost.
-    fn lose(&mut self, fault: StreamFault) -> Result<(), Stop>
+    fn lose(&mut self, fault: StreamFault) -> Result<(), Obstacle>
         ensures ok { OnOk result (Adds (standing self.old) (fault_deeds (Some fault))
             self.old.text.items self.new.text.items (standing self.new)) }
-        ensures full { result ≡ Err Stop.Failed → self.new.rows ≡ u64.MAX }
-        ensures err { result ≢ Err Stop.Unreadable }
+        ensures full { result ≡ Err Obstacle.Failed → self.new.rows ≡ u64.MAX }
+        ensures err { result ≢ Err Obstacle.Unreadable }
     {
         push_fault_line(&mut self.text, fault)?;
         self.step(Event::Down)
     }
 
     /// Takes one step, and adds its row to `text`.
-    fn step(&mut self, event: Event) -> Result<(), Stop>
+    fn step(&mut self, event: Event) -> Result<(), Obstacle>
         ensures ok { OnOk result (Adds (standing self.old) (Step event ∷ [])
             self.old.text.items self.new.text.items (standing self.new)) }
-        ensures full { result ≡ Err Stop.Failed → self.new.rows ≡ u64.MAX }
-        ensures err { result ≢ Err Stop.Unreadable }
+        ensures full { result ≡ Err Obstacle.Failed → self.new.rows ≡ u64.MAX }
+        ensures err { result ≢ Err Obstacle.Unreadable }
     {
         if self.rows == u64::MAX {
-            return Err(Stop::Failed);
+            return Err(Obstacle::Failed);
         }
         let kind = event.kind();
         let outs = self.core.step(self.alloc, event)?;

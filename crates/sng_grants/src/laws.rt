@@ -3,11 +3,11 @@
 ghost use Rattle.std.specs.Prelude.{◌≡◌};
 ghost use Rattle.sng_grants.specs.Laws.{ScopesAreFound, NamesAreFound, IdsAreLeast};
 
-use crate::{MAX_CLIENTS, MAX_PAIRS, MAX_SOURCES, MAX_TOPICS};
+use crate::{MAX_PAIRS, MAX_POLICY_CLIENTS, MAX_SOURCES, MAX_TOPICS};
 
 /// The limits of a policy.
 pub fn limits()
-    ensures clients { MAX_CLIENTS ≡ 256 }
+    ensures clients { MAX_POLICY_CLIENTS ≡ 256 }
     ensures sources { MAX_SOURCES ≡ 256 }
     ensures topics { MAX_TOPICS ≡ 1024 }
     ensures pairs { MAX_PAIRS ≡ 64 }

@@ -9,7 +9,7 @@ pub mod policy;
 pub mod scope;
 pub mod topics;
 
-pub use limits::{MAX_CLIENTS, MAX_PAIRS, MAX_SOURCES, MAX_TOPICS};
+pub use limits::{MAX_PAIRS, MAX_POLICY_CLIENTS, MAX_SOURCES, MAX_TOPICS};
 pub use listed::Listed;
 pub use policy::{Clients, Policy, Sources};
 pub use scope::{Pair, Scope};

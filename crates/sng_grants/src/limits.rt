@@ -1,7 +1,7 @@
 //! How much a policy may list. `laws::limits` has the numbers.
 
 /// The most clients that a policy lists.
-pub const MAX_CLIENTS: usize = 256;
+pub const MAX_POLICY_CLIENTS: usize = 256;
 
 /// The most sources that a policy lists.
 pub const MAX_SOURCES: usize = 256;

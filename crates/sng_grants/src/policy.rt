@@ -1,13 +1,13 @@
 //! A policy: the scopes and topics that are in force together.
 ghost use Rattle.std.specs.Prelude.{◌≡◌, [], IfOk};
 
-use crate::{Listed, MAX_CLIENTS, MAX_SOURCES, Scope, Topics};
+use crate::{Listed, MAX_POLICY_CLIENTS, MAX_SOURCES, Scope, Topics};
 use sng_text::ClientId;
 use std::alloc::{AllocError, Global};
 
 /// The scope of each client that a policy lists, by client id. Contracts see the list of client ids with
 /// their scopes, in the byte order of the ids.
-pub type Clients = Listed<ClientId, Scope, MAX_CLIENTS>;
+pub type Clients = Listed<ClientId, Scope, MAX_POLICY_CLIENTS>;
 
 /// The scope of each source that a policy lists, by IPv4 address. Contracts see the list of addresses with
 /// their scopes, in their order.

@@ -12,7 +12,8 @@ use Rattle.sng_book.specs.declared.decision.Decision.{Decision}
 use Rattle.sng_book.specs.declared.decision.Decision.TheVariants as note
 use Rattle.sng_book.specs.declared.decision.Who.{Who}
 use Rattle.sng_book.specs.declared.decision.Who.TheVariants as who
-use Rattle.sng_book.specs.declared.outcome.Denial.TheVariants.{NotSupported}
+use Rattle.sng_book.specs.declared.outcome.Denial.TheVariants.{Form}
+use Rattle.sng_book.specs.declared.outcome.FormDenial.TheVariants.{NotSupported}
 use Rattle.sng_book.specs.declared.outcome.Outcome.{Outcome}
 use Rattle.sng_book.specs.declared.outcome.Outcome.TheVariants.{Allowed, Denied}
 use Rattle.sng_states.specs.States.{has_session}
@@ -113,7 +114,7 @@ pub unsubscribe_settled : (a : Around) (whom : Who) (filter : Option (List ℕ))
 unsubscribe_settled a whom filter outcome x at here = unsubscribed_stays filter outcome x at here
 
 pub settled_message : (a : Around) (message : SnFrame) (id : List ℕ)
-    → Settled a (denied_note message (who.Client id) NotSupported)
+    → Settled a (denied_note message (who.Client id) (Form NotSupported))
 settled_message a message id x at here = subst (λ y. is_here y at ≡ true) (denied_stays a x id message) here
 
 pub settled_turn : (a : Around) (turn : Bool) (id : List ℕ) (notes : List Decision) → Every (Settled a) notes

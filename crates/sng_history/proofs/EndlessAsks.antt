@@ -11,7 +11,8 @@ use Rattle.sng_frames.specs.declared.frame.SnFrame.TheVariants as frame
 use Rattle.sng_book.specs.declared.address.Address.{Address}
 use Rattle.sng_book.specs.declared.decision.Decision.{Decision}
 use Rattle.sng_book.specs.declared.decision.Who.TheVariants as who
-use Rattle.sng_book.specs.declared.outcome.Denial.TheVariants.{NotSupported}
+use Rattle.sng_book.specs.declared.outcome.Denial.TheVariants.{Form}
+use Rattle.sng_book.specs.declared.outcome.FormDenial.TheVariants.{NotSupported}
 use Rattle.sng_book.specs.declared.outcome.Outcome.{Outcome}
 use Rattle.sng_book.specs.declared.outcome.Outcome.TheVariants.{Allowed, Denied}
 use Rattle.sng_history.specs.Causes.{Request, ToPing, ToLeave, ToSleep, ToRegister, ToPublish, ToSubscribe}
@@ -51,7 +52,7 @@ is_quiet (ToState statement) = true
 is_quiet (Untaken message) = true
 
 denied_asks : (message : SnFrame) (client : List ℕ)
-    → asked_by None (denied_note message (who.Client client) NotSupported) ≡ []
+    → asked_by None (denied_note message (who.Client client) (Form NotSupported)) ≡ []
 denied_asks (frame.Connect connect) client = refl
 denied_asks (frame.ConnectAck code) client = refl
 denied_asks frame.WillTopicRequest client = refl

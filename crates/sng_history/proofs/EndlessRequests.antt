@@ -10,7 +10,8 @@ use Rattle.sng_frames.specs.declared.frame.SnFrame.TheVariants as frame
 use Rattle.sng_book.specs.declared.address.Address.{Address}
 use Rattle.sng_book.specs.declared.decision.Decision.{Decision}
 use Rattle.sng_book.specs.declared.decision.Who.TheVariants as who
-use Rattle.sng_book.specs.declared.outcome.Denial.TheVariants.{NotSupported}
+use Rattle.sng_book.specs.declared.outcome.Denial.TheVariants.{Form}
+use Rattle.sng_book.specs.declared.outcome.FormDenial.TheVariants.{NotSupported}
 use Rattle.sng_book.specs.declared.outcome.Outcome.{Outcome}
 use Rattle.sng_book.specs.declared.outcome.Outcome.TheVariants.{Allowed, Denied}
 use Rattle.sng_history.specs.Causes.{Request, ToPing, ToLeave, ToSleep, ToRegister, ToPublish, ToSubscribe}
@@ -48,13 +49,13 @@ none_subscribed (Some r) o x = refl
 
 -- a message that is denied moves nothing
 pub denied_stays : (a : Around) (x : Client) (id : List ℕ) (message : SnFrame)
-    → note_by a (denied_note message (who.Client id) NotSupported) x ≡ x
+    → note_by a (denied_note message (who.Client id) (Form NotSupported)) x ≡ x
 denied_stays a x id (frame.Connect connect) = refl
 denied_stays a x id (frame.ConnectAck code) = refl
 denied_stays a x id frame.WillTopicRequest = refl
-denied_stays a x id (frame.WillTopic topic) = denied_stated (statement_of a.cause) NotSupported x
+denied_stays a x id (frame.WillTopic topic) = denied_stated (statement_of a.cause) (Form NotSupported) x
 denied_stays a x id frame.WillMessageRequest = refl
-denied_stays a x id (frame.WillMessage message) = denied_stated (statement_of a.cause) NotSupported x
+denied_stays a x id (frame.WillMessage message) = denied_stated (statement_of a.cause) (Form NotSupported) x
 denied_stays a x id (frame.Register register) = refl
 denied_stays a x id (frame.RegisterAck answer) = refl
 denied_stays a x id (frame.Publish p) = refl
@@ -62,16 +63,18 @@ denied_stays a x id (frame.PublishAck answer) = refl
 denied_stays a x id (frame.PublishComplete packet) = refl
 denied_stays a x id (frame.PublishReceived packet) = refl
 denied_stays a x id (frame.PublishRelease packet) = refl
-denied_stays a x id (frame.Subscribe request) = none_subscribed (subscribe_of a.cause) (Denied NotSupported) x
+denied_stays a x id (frame.Subscribe request) =
+    none_subscribed (subscribe_of a.cause) (Denied (Form NotSupported)) x
 denied_stays a x id (frame.SubscribeAck answer) = refl
 denied_stays a x id (frame.Unsubscribe request) = refl
 denied_stays a x id (frame.UnsubscribeAck packet) = refl
 denied_stays a x id (frame.PingRequest client) = refl
 denied_stays a x id frame.PingResponse = refl
 denied_stays a x id (frame.Disconnect duration) = refl
-denied_stays a x id (frame.WillTopicUpdate topic) = denied_stated (statement_of a.cause) NotSupported x
+denied_stays a x id (frame.WillTopicUpdate topic) = denied_stated (statement_of a.cause) (Form NotSupported) x
 denied_stays a x id (frame.WillTopicResponse code) = refl
-denied_stays a x id (frame.WillMessageUpdate message) = denied_stated (statement_of a.cause) NotSupported x
+denied_stays a x id (frame.WillMessageUpdate message) =
+    denied_stated (statement_of a.cause) (Form NotSupported) x
 denied_stays a x id (frame.WillMessageResponse code) = refl
 
 -- one note of a client that was heard

@@ -12,7 +12,8 @@ use Rattle.sng_book.specs.declared.decision.Decision.{Decision}
 use Rattle.sng_book.specs.declared.decision.Decision.TheVariants as note
 use Rattle.sng_book.specs.declared.decision.Who.TheVariants as who
 use Rattle.sng_book.specs.declared.outcome.Denial.{Denial}
-use Rattle.sng_book.specs.declared.outcome.Denial.TheVariants.{Full}
+use Rattle.sng_book.specs.declared.outcome.Denial.TheVariants.{Room}
+use Rattle.sng_book.specs.declared.outcome.RoomDenial.TheVariants.{Full}
 use Rattle.sng_book.specs.declared.outcome.Place.TheVariants as place
 use Rattle.sng_book.specs.declared.outcome.Outcome.{Outcome}
 use Rattle.sng_book.specs.declared.outcome.Outcome.TheVariants.{Allowed, Denied}
@@ -157,9 +158,9 @@ allowed_first Allowed b is = refl
 allowed_first (Denied rule) b is = absurd cc
 
 room_by : (ids full fits : Bool)
-    → (if ids then Denied (Full place.Ids)
-    else (if full then Denied (Full place.Subscriptions)
-    else (if fits then Allowed else Denied (Full place.Outbox)))) ≡ Allowed
+    → (if ids then Denied (Room (Full place.Ids))
+    else (if full then Denied (Room (Full place.Subscriptions))
+    else (if fits then Allowed else Denied (Room (Full place.Outbox))))) ≡ Allowed
     → (ids ≡ false) × (full ≡ false) × (fits ≡ true)
 room_by true full fits is = absurd cc
 room_by false true fits is = absurd cc

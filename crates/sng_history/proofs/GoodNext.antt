@@ -12,7 +12,9 @@ use Rattle.sng_book.specs.declared.address.Address.{Address}
 use Rattle.sng_book.specs.declared.decision.Decision.TheVariants as note
 use Rattle.sng_book.specs.declared.decision.Who.TheVariants as who
 use Rattle.sng_book.specs.declared.outcome.Denial.{Denial}
-use Rattle.sng_book.specs.declared.outcome.Denial.TheVariants.{BrokerRefused, Full}
+use Rattle.sng_book.specs.declared.outcome.Denial.TheVariants.{Room, Peer}
+use Rattle.sng_book.specs.declared.outcome.RoomDenial.TheVariants.{Full}
+use Rattle.sng_book.specs.declared.outcome.PeerDenial.TheVariants.{BrokerRefused}
 use Rattle.sng_book.specs.declared.outcome.Place.TheVariants as place
 use Rattle.sng_book.specs.declared.outcome.Outcome.{Outcome}
 use Rattle.sng_book.specs.declared.outcome.Outcome.TheVariants.{Allowed, Denied}
@@ -74,7 +76,7 @@ settled_refused : (a : Around) (x : Client) (filter : Option (List ℕ))
     → Every (Settled a) (refused_end x filter)
 settled_refused a x None = tt
 settled_refused a x (Some filter) =
-    every_if (Settled a) (holds filter x) (note.End x.id filter (Denied BrokerRefused) ∷ [])
+    every_if (Settled a) (holds filter x) (note.End x.id filter (Denied (Peer BrokerRefused)) ∷ [])
     (λ y at here. here, tt)
 
 -- what holds of the notes of each message but a statement of a will
@@ -217,7 +219,7 @@ entry_most s connect Allowed false is k most =
     (and_then (client_scope s.policy id) (entry_room s.clients id)) is) in
     let fits : nat_lt (length s.clients) MAX_CLIENTS ≡ true =
     room_means (is_known id s.clients) (nat_lt (length s.clients) MAX_CLIENTS)
-    (Full place.Clients) room k in
+    (Room (Full place.Clients)) room k in
     rw (length-append s.clients (blank id ∷ [])) (fits_by (length s.clients) fits)
 
 most_next : (s : State) (c : Cause) → length s.clients ≤ MAX_CLIENTS

@@ -12,7 +12,9 @@ use Rattle.sng_frames.specs.declared.messages.acks.TopicAck.{TopicAck}
 use Rattle.sng_book.specs.declared.decision.Decision.{Decision}
 use Rattle.sng_book.specs.declared.decision.Decision.TheVariants as note
 use Rattle.sng_book.specs.declared.outcome.Place.TheVariants as place
-use Rattle.sng_book.specs.declared.outcome.Denial.TheVariants.{ClientRefused, Full, Gone}
+use Rattle.sng_book.specs.declared.outcome.Denial.TheVariants.{Room, Peer}
+use Rattle.sng_book.specs.declared.outcome.RoomDenial.TheVariants.{Full}
+use Rattle.sng_book.specs.declared.outcome.PeerDenial.TheVariants.{ClientRefused, Gone}
 use Rattle.sng_book.specs.declared.outcome.Outcome.{Outcome}
 use Rattle.sng_book.specs.declared.outcome.Outcome.TheVariants.{Allowed, Denied}
 use Rattle.sng_history.specs.Arriving.{arrival, joins, turned_away_by, turned_away}
@@ -53,7 +55,7 @@ every_behind P AtLeastOnce more every = tt
 every_offered : (P : Decision → Type 0) (client : List ℕ) (m : Message) (known full : Bool)
     (more : List Decision) → OfMessages P client → Every P more → Every P (offered client m known full more)
 every_offered P client m true full more of every = (of.hands m.name Allowed, every_behind P m.qos more every)
-every_offered P client m false true more of every = (of.hands m.name (Denied (Full place.Ids)), every)
+every_offered P client m false true more of every = (of.hands m.name (Denied (Room (Full place.Ids))), every)
 every_offered P client m false false more of every = (of.announces m.name, tt)
 
 every_judged : (P : Decision → Type 0) (policy : Policy) (client : List ℕ) (ids : Ids) (m : Message)
@@ -85,12 +87,12 @@ every_woken P policy client x of =
 pub every_gone : (P : Decision → Type 0) (client : List ℕ) (waiting : List Message) → OfMessages P client
     → Every P (all_gone client waiting)
 every_gone P client [] of = tt
-every_gone P client (m ∷ more) of = (of.hands m.name (Denied Gone), every_gone P client more of)
+every_gone P client (m ∷ more) of = (of.hands m.name (Denied (Peer Gone)), every_gone P client more of)
 
 every_refusal : (P : Decision → Type 0) (client : List ℕ) (code : ℕ) (waiting : List Message)
     → OfMessages P client → Every P (refusals client code waiting)
 every_refusal P client code [] of = tt
-every_refusal P client code (m ∷ more) of = (of.hands m.name (Denied (ClientRefused code)), tt)
+every_refusal P client code (m ∷ more) of = (of.hands m.name (Denied (Peer (ClientRefused code))), tt)
 
 every_turned : (P : Decision → Type 0) (client name : List ℕ) (o : Outcome) → OfMessages P client
     → Every P (turned_away_by client name o)

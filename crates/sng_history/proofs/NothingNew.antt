@@ -14,7 +14,8 @@ use Rattle.sng_book.specs.Denials.{is_allowed}
 use Rattle.sng_book.specs.declared.address.Address.{Address}
 use Rattle.sng_book.specs.declared.decision.Decision.{Decision}
 use Rattle.sng_book.specs.declared.decision.Who.TheVariants as who
-use Rattle.sng_book.specs.declared.outcome.Denial.TheVariants.{NotSupported}
+use Rattle.sng_book.specs.declared.outcome.Denial.TheVariants.{Form}
+use Rattle.sng_book.specs.declared.outcome.FormDenial.TheVariants.{NotSupported}
 use Rattle.sng_book.specs.declared.outcome.Outcome.{Outcome}
 use Rattle.sng_book.specs.declared.outcome.Outcome.TheVariants.{Allowed, Denied}
 use Rattle.sng_history.specs.Causes.{Request, ToPing, ToLeave, ToSleep, ToRegister, ToPublish, ToSubscribe}
@@ -155,7 +156,7 @@ publish_item_none client (Some name) o p text =
     if_none false i none = refl
 
 denied_none : (message : SnFrame) (client : List ℕ)
-    → Unsubscribing None (denied_note message (who.Client client) NotSupported)
+    → Unsubscribing None (denied_note message (who.Client client) (Form NotSupported))
 denied_none (frame.Connect connect) client text = refl
 denied_none (frame.ConnectAck code) client text = refl
 denied_none frame.WillTopicRequest client text = refl

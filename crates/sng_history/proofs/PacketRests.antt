@@ -14,7 +14,9 @@ use Rattle.sng_queue.specs.declared.limits.TheConstants.{MAX_QUEUED}
 use Rattle.sng_queue.specs.Messages.{Message, is_sendable}
 use Rattle.sng_queue.specs.Buffers.{Buffer}
 use Rattle.sng_book.specs.declared.decision.Decision.TheVariants as note
-use Rattle.sng_book.specs.declared.outcome.Denial.TheVariants.{BrokerRefused, Full, TooLong}
+use Rattle.sng_book.specs.declared.outcome.Denial.TheVariants.{Room, Peer}
+use Rattle.sng_book.specs.declared.outcome.RoomDenial.TheVariants.{Full, TooLong}
+use Rattle.sng_book.specs.declared.outcome.PeerDenial.TheVariants.{BrokerRefused}
 use Rattle.sng_book.specs.declared.outcome.Place.TheVariants as place
 use Rattle.sng_book.specs.declared.outcome.Outcome.{Outcome}
 use Rattle.sng_book.specs.declared.outcome.Outcome.TheVariants.{Allowed, Denied}
@@ -69,7 +71,8 @@ not_free policy x is = let off : takes_messages x.phase ≡ false = takes_none x
 -- what is turned away moves nothing
 arrival_stays : (a : Around) (client name : List ℕ) (sendable full : Bool) (x : Client)
     → notes_by a (turned_away_by client name
-    (if sendable then (if full then Denied (Full place.Queue) else Allowed) else Denied TooLong)) x ≡ x
+    (if sendable then (if full then Denied (Room (Full place.Queue)) else Allowed)
+    else Denied (Room TooLong))) x ≡ x
 arrival_stays a client name true true x = refl
 arrival_stays a client name true false x = refl
 arrival_stays a client name false full x = refl
@@ -112,7 +115,7 @@ rest_due a x due held false is none rest =
 
 rest_refusal : (a : Around) (x : Client) (due : Option Message) (filter : List ℕ) (holds : Bool)
     → (has_session x.phase ≡ false → due ≡ None) → Rested x
-    → Rested (notes_by a ((if holds then note.End x.id filter (Denied BrokerRefused) ∷ [] else [])
+    → Rested (notes_by a ((if holds then note.End x.id filter (Denied (Peer BrokerRefused)) ∷ [] else [])
     ++ delivered_notes a.policy due x)
     (record x { buffer = joins due x.buffer }))
 rest_refusal a x due filter true none rest =

@@ -11,7 +11,8 @@ use Rattle.sng_book.specs.declared.decision.Decision.{Decision}
 use Rattle.sng_book.specs.declared.decision.Decision.TheVariants as note
 use Rattle.sng_book.specs.declared.decision.Who.TheVariants as who
 use Rattle.sng_book.specs.declared.outcome.Denial.{Denial}
-use Rattle.sng_book.specs.declared.outcome.Denial.TheVariants.{NotSupported, NoSession}
+use Rattle.sng_book.specs.declared.outcome.Denial.TheVariants.{Form}
+use Rattle.sng_book.specs.declared.outcome.FormDenial.TheVariants.{NotSupported, NoSession}
 use Rattle.sng_book.specs.declared.outcome.Outcome.TheVariants.{Denied}
 use Rattle.sng_book.specs.declared.out.Out.{Out}
 use Rattle.sng_book.specs.declared.out.Out.TheVariants.{Note}
@@ -82,7 +83,7 @@ unasked_publish from rule None = refl
 unasked_publish from rule (Some p) = refl
 
 mute_unsupported : (from : Address) (message : SnFrame)
-    → Mute (Note (denied_note message (who.Address from) NotSupported) ∷ [])
+    → Mute (Note (denied_note message (who.Address from) (Form NotSupported)) ∷ [])
 mute_unsupported from (frame.Connect connect) = record { notes = λ c. refl; exits = refl; asks = λ q. refl }
 mute_unsupported from (frame.ConnectAck code) = record { notes = λ c. refl; exits = refl; asks = λ q. refl }
 mute_unsupported from frame.WillTopicRequest = record { notes = λ c. refl; exits = refl; asks = λ q. refl }
@@ -94,7 +95,7 @@ mute_unsupported from (frame.Register register) = record { notes = λ c. refl; e
 mute_unsupported from (frame.RegisterAck answer) =
     record { notes = λ c. refl; exits = refl; asks = λ q. refl }
 mute_unsupported from (frame.Publish p) =
-    record { notes = λ c. refl; exits = refl; asks = unasked_publish from NotSupported }
+    record { notes = λ c. refl; exits = refl; asks = unasked_publish from (Form NotSupported) }
 mute_unsupported from (frame.PublishAck answer) = record { notes = λ c. refl; exits = refl; asks = λ q. refl }
 mute_unsupported from (frame.PublishComplete id) =
     record { notes = λ c. refl; exits = refl; asks = λ q. refl }
@@ -122,7 +123,9 @@ mute_unsupported from (frame.WillMessageResponse code) =
     record { notes = λ c. refl; exits = refl; asks = λ q. refl }
 
 unasked_bye : (from : Address) (p : Option Publish)
-    → asked_all p (Note (note.Publish (who.Address from) None (Denied NoSession)) ∷ dismissed from ∷ []) ≡ []
+    → asked_all p
+    (Note (note.Publish (who.Address from) None (Denied (Form NoSession))) ∷ dismissed from ∷ [])
+    ≡ []
 unasked_bye from None = refl
 unasked_bye from (Some p) = refl
 

@@ -16,7 +16,8 @@ use Rattle.sng_book.specs.declared.decision.Decision.{Decision}
 use Rattle.sng_book.specs.declared.decision.Decision.TheVariants as note
 use Rattle.sng_book.specs.declared.decision.Who.TheVariants as who
 use Rattle.sng_book.specs.declared.outcome.Denial.{Denial}
-use Rattle.sng_book.specs.declared.outcome.Denial.TheVariants.{BadName}
+use Rattle.sng_book.specs.declared.outcome.Denial.TheVariants.{Form}
+use Rattle.sng_book.specs.declared.outcome.FormDenial.TheVariants.{BadName}
 use Rattle.sng_book.specs.declared.outcome.Outcome.{Outcome}
 use Rattle.sng_book.specs.declared.outcome.Outcome.TheVariants.{Allowed, Denied}
 use Rattle.sng_book.specs.declared.out.Out.{Out}
@@ -185,7 +186,7 @@ mute_dropped place (Some packet_id) =
 pub mute_packet : (up : Bool) (link : Link) (a : Answer) → Mute (answer_outs up link a)
 mute_packet up link (Delivers p) =
     mute_both (misnamed p.name) (dropped (has_place link) (owed up p))
-    (mute_note (is_name p.name) (note.Frame who.Broker (Denied BadName))
+    (mute_note (is_name p.name) (note.Frame who.Broker (Denied (Form BadName)))
     (record { notes = λ c. refl; exits = refl; asks = λ q. refl }))
     (mute_dropped (has_place link) (owed up p))
 mute_packet up link (Acknowledges packet_id) = mute_none

@@ -19,7 +19,8 @@ use Rattle.sng_book.specs.declared.address.Address.{Address}
 use Rattle.sng_book.specs.declared.decision.Decision.{Decision}
 use Rattle.sng_book.specs.declared.decision.Decision.TheVariants as note
 use Rattle.sng_book.specs.declared.outcome.Denial.{Denial}
-use Rattle.sng_book.specs.declared.outcome.Denial.TheVariants.{NoSession, OutOfTurn}
+use Rattle.sng_book.specs.declared.outcome.Denial.TheVariants.{Form}
+use Rattle.sng_book.specs.declared.outcome.FormDenial.TheVariants.{NoSession, OutOfTurn}
 use Rattle.sng_book.specs.declared.outcome.Outcome.{Outcome}
 use Rattle.sng_book.specs.declared.outcome.Outcome.TheVariants.{Allowed, Denied}
 use Rattle.sng_book.specs.declared.out.Out.{Out}
@@ -71,11 +72,11 @@ farewell_sent (Some request) to = leave_sent (takes_leave request) to
 
 ping_sent : (to : Address) (client : Option (List ℕ)) (rule : Denial)
     → AllSent (denied_to (ToPing client) to rule)
-ping_sent to client NoSession = tt
+ping_sent to client (Form NoSession) = tt
 ping_sent to client _ = tt
 
 ended_sent : (to : Address) (rule : Denial) → AllSent (dialogue_ended to rule)
-ended_sent to OutOfTurn = tt
+ended_sent to (Form OutOfTurn) = tt
 ended_sent to _ = tt
 
 statement_refused_sent : (statement : Statement) (to : Address) (rule : Denial)

@@ -15,7 +15,9 @@ use Rattle.sng_book.specs.declared.decision.Decision.{Decision}
 use Rattle.sng_book.specs.declared.decision.Decision.TheVariants as note
 use Rattle.sng_book.specs.declared.decision.Who.TheVariants as who
 use Rattle.sng_book.specs.declared.outcome.Denial.{Denial}
-use Rattle.sng_book.specs.declared.outcome.Denial.TheVariants.{NotSupported, BrokerRefused, OutOfTurn}
+use Rattle.sng_book.specs.declared.outcome.Denial.TheVariants.{Form, Peer}
+use Rattle.sng_book.specs.declared.outcome.FormDenial.TheVariants.{NotSupported, OutOfTurn}
+use Rattle.sng_book.specs.declared.outcome.PeerDenial.TheVariants.{BrokerRefused}
 use Rattle.sng_book.specs.declared.outcome.Outcome.{Outcome}
 use Rattle.sng_book.specs.declared.outcome.Outcome.TheVariants.{Allowed, Denied}
 use Rattle.sng_history.specs.Causes.{Request, ToPing, ToLeave, ToSleep, ToRegister, ToPublish, ToSubscribe}
@@ -107,8 +109,8 @@ about_ends policy c (h ∷ held) =
 about_refused : (x : Client) (filter : Option (List ℕ)) → AllAbout x.id (refused_end x filter)
 about_refused x None = tt
 about_refused x (Some filter) =
-    about_if (holds filter x) x.id (note.End x.id filter (Denied BrokerRefused) ∷ [])
-    (about_ended x.id filter BrokerRefused, tt)
+    about_if (holds filter x) x.id (note.End x.id filter (Denied (Peer BrokerRefused)) ∷ [])
+    (about_ended x.id filter (Peer BrokerRefused), tt)
 
 -- ---- what waits for the client
 
@@ -129,7 +131,7 @@ about_handed policy c x same =
 -- ---- a REGACK or PUBACK
 
 about_out : (c : List ℕ) → AllAbout c (out_of_turn c)
-about_out c = (about_frame c (Denied OutOfTurn), tt)
+about_out c = (about_frame c (Denied (Form OutOfTurn)), tt)
 
 about_either : (b : Bool) (c : List ℕ) (xs ys : List Decision) → AllAbout c xs → AllAbout c ys
     → AllAbout c (if b then xs else ys)
@@ -187,7 +189,7 @@ told_to s (ToAcknowledge r) x =
     about_either (is_acknowledging r x) x.id (handed_over s.policy (closed x)) (out_of_turn x.id)
     (about_handed s.policy x.id (closed x) refl) (about_out x.id)
 told_to s (ToState statement) x = every_statement (About x.id) s.policy statement x (about_statement x.id)
-told_to s (Untaken message) x = (about_denied x.id message NotSupported, tt)
+told_to s (Untaken message) x = (about_denied x.id message (Form NotSupported), tt)
 
 pub tells : (s : State) (c : Cause) (x : Client) → AllAbout x.id (fixed_for s c x)
 tells s (ByConnect from connect) x =

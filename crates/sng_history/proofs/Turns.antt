@@ -5,21 +5,21 @@ use Rattle.sng_text.specs.declared.qos.Qos.{Qos}
 use Rattle.sng_text.specs.declared.qos.Qos.TheVariants.{AtMostOnce, AtLeastOnce}
 use Rattle.sng_grants.specs.declared.policy.Policy.{Policy}
 use Rattle.sng_policy.specs.Grants.{receive_grant}
-use Rattle.sng_policy.specs.declared.grant.Grant.{Grant}
-use Rattle.sng_policy.specs.declared.grant.Grant.TheVariants as grant
+use Rattle.sng_policy.specs.declared.grant.NameGrant.{NameGrant}
+use Rattle.sng_policy.specs.declared.grant.NameGrant.TheVariants as on_name
+use Rattle.sng_policy.specs.declared.permission.Permission.TheVariants as permission
 use Rattle.sng_states.specs.States.{takes_messages}
 use Rattle.sng_ids.specs.Ids.{is_full_for}
 use Rattle.sng_queue.specs.declared.exchange.Exchange.{Exchange}
 use Rattle.sng_queue.specs.Messages.{Message}
 use Rattle.sng_queue.specs.Buffers.{settle}
-use Rattle.sng_outbox.specs.declared.origin.Origin.TheVariants as origin
 use Rattle.sng_book.specs.declared.decision.Decision.{Decision}
 use Rattle.sng_book.specs.declared.outcome.Denial.{Denial}
 use Rattle.sng_book.specs.declared.outcome.Outcome.{Outcome}
 use Rattle.sng_book.specs.declared.outcome.Outcome.TheVariants.{Allowed, Denied}
 use Rattle.sng_history.specs.Handing.{Known, known_as, number_handed, buffer_by, buffer_handed}
 use Rattle.sng_history.specs.Clients.{Around, Client, is_turned_away, denied_hand, notes_by}
-use Rattle.sng_history.specs.Verdicts.{outcome_of}
+use Rattle.sng_history.specs.Verdicts.{name_outcome}
 use Rattle.sng_history.specs.Outgoing.{receive, behind, offered, judged_turn, turns, is_free, handed_over}
 use Rattle.sng_history.specs.Entering.{served}
 
@@ -45,13 +45,11 @@ abbrev pub turned : Outcome → Bool
 turned Allowed = false
 turned (Denied rule) = is_turned_away rule
 
-unturned : (client name : List ℕ) (g : Grant) → turned (outcome_of (origin.Client client) name g) ≡ false
-unturned client name grant.Allowed = refl
-unturned client name grant.NoScope = refl
-unturned client name grant.UnknownSource = refl
-unturned client name grant.MissingPub = refl
-unturned client name grant.MissingSub = refl
-unturned client name (grant.Uncovered gap) = refl
+unturned : (client name : List ℕ) (g : NameGrant)
+    → turned (name_outcome permission.Subscribe (Some client) name g) ≡ false
+unturned client name on_name.Allowed = refl
+unturned client name on_name.Unlisted = refl
+unturned client name on_name.Missing = refl
 
 pub denied_settles : (policy : Policy) (client name : List ℕ) (rule : Denial) (x : Client)
     → receive policy client name ≡ Denied rule

@@ -20,7 +20,8 @@ use Rattle.sng_outbox.specs.declared.origin.Origin.{Origin}
 use Rattle.sng_outbox.specs.declared.origin.Origin.TheVariants as origin
 use Rattle.sng_book.specs.declared.address.Address.{Address}
 use Rattle.sng_book.specs.declared.outcome.Denial.{Denial}
-use Rattle.sng_book.specs.declared.outcome.Denial.TheVariants.{UpstreamDown, Full}
+use Rattle.sng_book.specs.declared.outcome.Denial.TheVariants.{Room}
+use Rattle.sng_book.specs.declared.outcome.RoomDenial.TheVariants.{UpstreamDown, Full}
 use Rattle.sng_book.specs.declared.outcome.Place.TheVariants as place
 use Rattle.sng_book.specs.declared.outcome.Outcome.{Outcome}
 use Rattle.sng_book.specs.declared.outcome.Outcome.TheVariants.{Allowed, Denied}
@@ -81,13 +82,14 @@ pub allowed_second : (a b : Outcome) → and_then a b ≡ Allowed → b ≡ Allo
 allowed_second Allowed b is = is
 allowed_second (Denied rule) b is = absurd cc
 
-has_it : (has fits : Bool) → (if has then (if fits then Allowed else Denied (Full place.Outbox))
-    else Denied (Full place.InFlight)) ≡ Allowed → has ≡ true
+has_it : (has fits : Bool) → (if has then (if fits then Allowed else Denied (Room (Full place.Outbox)))
+    else Denied (Room (Full place.InFlight))) ≡ Allowed → has ≡ true
 has_it true fits is = refl
 has_it false fits is = absurd cc
 
 -- and so does the room of a connection that is up
-pub up_room : (up : Bool) (o : Outcome) → (if up then o else Denied UpstreamDown) ≡ Allowed → o ≡ Allowed
+pub up_room : (up : Bool) (o : Outcome) → (if up then o else Denied (Room UpstreamDown)) ≡ Allowed
+    → o ≡ Allowed
 up_room true o is = is
 up_room false o is = absurd cc
 

@@ -22,11 +22,13 @@ use Rattle.sng_book.specs.declared.decision.Decision.{Decision}
 use Rattle.sng_book.specs.declared.decision.Decision.TheVariants as note
 use Rattle.sng_book.specs.declared.decision.Who.{Who}
 use Rattle.sng_book.specs.declared.outcome.Denial.{Denial}
-use Rattle.sng_book.specs.declared.outcome.Denial.TheVariants.{Malformed, NotSupported, NoScope, NoSession}
-use Rattle.sng_book.specs.declared.outcome.Denial.TheVariants.{UnknownSource, BadName, BadFilter, IdType}
-use Rattle.sng_book.specs.declared.outcome.Denial.TheVariants.{UnknownId, MissingPub, MissingSub, Uncovered}
-use Rattle.sng_book.specs.declared.outcome.Denial.TheVariants.{ClientRefused, BrokerRefused, OutOfTurn}
-use Rattle.sng_book.specs.declared.outcome.Denial.TheVariants.{UpstreamDown, Full, TooLong, Gone}
+use Rattle.sng_book.specs.declared.outcome.Denial.TheVariants.{Form, Grant, Room, Peer}
+use Rattle.sng_book.specs.declared.outcome.FormDenial.{FormDenial}
+use Rattle.sng_book.specs.declared.outcome.FormDenial.TheVariants.{Malformed, NotSupported, NoSession}
+use Rattle.sng_book.specs.declared.outcome.FormDenial.TheVariants.{BadName, BadFilter, IdType}
+use Rattle.sng_book.specs.declared.outcome.FormDenial.TheVariants.{UnknownId, OutOfTurn}
+use Rattle.sng_book.specs.declared.outcome.RoomDenial.{RoomDenial}
+use Rattle.sng_book.specs.declared.outcome.RoomDenial.TheVariants.{UpstreamDown, Full, TooLong}
 use Rattle.sng_book.specs.declared.outcome.Outcome.TheVariants.{Denied}
 use Rattle.sng_book.specs.declared.out.Out.{Out}
 use Rattle.sng_book.specs.declared.out.Out.TheVariants.{Send}
@@ -62,26 +64,26 @@ denied_note (frame.WillTopicResponse code) who rule = note.Frame who (Denied rul
 denied_note (frame.WillMessageResponse code) who rule = note.Frame who (Denied rule)
 
 -- the ReturnCode of a rule
+abbrev pub form_code : FormDenial → ReturnCode
+form_code (UnknownId kind id) = INVALID_TOPIC_ID
+form_code Malformed = NOT_SUPPORTED
+form_code NotSupported = NOT_SUPPORTED
+form_code NoSession = NOT_SUPPORTED
+form_code BadName = NOT_SUPPORTED
+form_code BadFilter = NOT_SUPPORTED
+form_code IdType = NOT_SUPPORTED
+form_code OutOfTurn = NOT_SUPPORTED
+
+abbrev pub room_code : RoomDenial → ReturnCode
+room_code UpstreamDown = CONGESTION
+room_code (Full place) = CONGESTION
+room_code TooLong = NOT_SUPPORTED
+
 abbrev pub code_of : Denial → ReturnCode
-code_of (UnknownId kind id) = INVALID_TOPIC_ID
-code_of UpstreamDown = CONGESTION
-code_of (Full place) = CONGESTION
-code_of Malformed = NOT_SUPPORTED
-code_of NotSupported = NOT_SUPPORTED
-code_of (NoScope client) = NOT_SUPPORTED
-code_of NoSession = NOT_SUPPORTED
-code_of UnknownSource = NOT_SUPPORTED
-code_of BadName = NOT_SUPPORTED
-code_of BadFilter = NOT_SUPPORTED
-code_of IdType = NOT_SUPPORTED
-code_of (MissingPub name) = NOT_SUPPORTED
-code_of (MissingSub name) = NOT_SUPPORTED
-code_of (Uncovered filter name) = NOT_SUPPORTED
-code_of (ClientRefused code) = NOT_SUPPORTED
-code_of BrokerRefused = NOT_SUPPORTED
-code_of OutOfTurn = NOT_SUPPORTED
-code_of TooLong = NOT_SUPPORTED
-code_of Gone = NOT_SUPPORTED
+code_of (Form rule) = form_code rule
+code_of (Grant rule) = NOT_SUPPORTED
+code_of (Room rule) = room_code rule
+code_of (Peer rule) = NOT_SUPPORTED
 
 -- no flag of a refused SUBACK is set
 abbrev pub no_flags : Flags
@@ -205,7 +207,7 @@ statement_answer (UpdatesMessage message) to = Send to (written (frame.WillMessa
 
 -- one that is denied ends the dialogue, which CONNACK says; out of turn it ends nothing, and is not answered
 abbrev pub dialogue_ended : Address → Denial → List Out
-dialogue_ended to OutOfTurn = []
+dialogue_ended to (Form OutOfTurn) = []
 dialogue_ended to rule = connack to (code_of rule) ∷ []
 
 abbrev pub statement_refused : Statement → Address → Denial → List Out

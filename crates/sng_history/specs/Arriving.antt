@@ -15,7 +15,8 @@ use Rattle.sng_queue.specs.declared.limits.TheConstants.{MAX_QUEUED}
 use Rattle.sng_book.specs.declared.decision.Decision.{Decision}
 use Rattle.sng_book.specs.declared.decision.Decision.TheVariants as note
 use Rattle.sng_book.specs.declared.outcome.Place.TheVariants as place
-use Rattle.sng_book.specs.declared.outcome.Denial.TheVariants.{Full, TooLong}
+use Rattle.sng_book.specs.declared.outcome.Denial.TheVariants.{Room}
+use Rattle.sng_book.specs.declared.outcome.RoomDenial.TheVariants.{Full, TooLong}
 use Rattle.sng_book.specs.declared.outcome.Outcome.{Outcome}
 use Rattle.sng_book.specs.declared.outcome.Outcome.TheVariants.{Allowed, Denied}
 
@@ -44,8 +45,8 @@ due_to p phase filters =
 abbrev pub arrival : Buffer → Message → Outcome
 arrival b m =
     if is_sendable m.name m.payload
-    then (if nat_le MAX_QUEUED (length b.waiting) then Denied (Full place.Queue) else Allowed)
-    else Denied TooLong
+    then (if nat_le MAX_QUEUED (length b.waiting) then Denied (Room (Full place.Queue)) else Allowed)
+    else Denied (Room TooLong)
 
 abbrev pub joins_by : Outcome → Message → Buffer → Buffer
 joins_by Allowed m b = record b { waiting = b.waiting ++ m ∷ [] }

@@ -19,7 +19,8 @@ use Rattle.sng_frames.specs.declared.frame.SnFrame.{SnFrame}
 use Rattle.sng_frames.specs.declared.frame.SnFrame.TheVariants as frame
 use Rattle.sng_book.specs.declared.address.Address.{Address}
 use Rattle.sng_book.specs.declared.outcome.Denial.{Denial}
-use Rattle.sng_book.specs.declared.outcome.Denial.TheVariants.{Malformed, NotSupported}
+use Rattle.sng_book.specs.declared.outcome.Denial.TheVariants.{Form}
+use Rattle.sng_book.specs.declared.outcome.FormDenial.TheVariants.{Malformed, NotSupported}
 use Rattle.sng_book.specs.declared.event.Event.{Event}
 use Rattle.sng_book.specs.declared.event.Event.TheVariants as event
 
@@ -76,10 +77,10 @@ pub data Cause : Type 0 where
 
 -- the rule that a datagram breaks which is not a message; reading answers no other fault than the first two
 abbrev pub rule_of : FrameFault → Denial
-rule_of fault.Malformed = Malformed
-rule_of fault.NotSupported = NotSupported
-rule_of fault.TooLong = Malformed
-rule_of fault.Memory = Malformed
+rule_of fault.Malformed = Form Malformed
+rule_of fault.NotSupported = Form NotSupported
+rule_of fault.TooLong = Form Malformed
+rule_of fault.Memory = Form Malformed
 
 abbrev pub publish_cause : Address → Publish → FrameQos → Cause
 publish_cause from p qos.WithoutSession = BySource from p

@@ -28,11 +28,8 @@ use Rattle.sng_book.specs.declared.decision.Decision.{Decision}
 use Rattle.sng_book.specs.declared.decision.Decision.TheVariants as note
 use Rattle.sng_book.specs.declared.outcome.Place.TheVariants as place
 use Rattle.sng_book.specs.declared.outcome.Denial.{Denial}
-use Rattle.sng_book.specs.declared.outcome.Denial.TheVariants.{Malformed, NotSupported, NoScope, NoSession}
-use Rattle.sng_book.specs.declared.outcome.Denial.TheVariants.{UnknownSource, BadName, BadFilter, IdType}
-use Rattle.sng_book.specs.declared.outcome.Denial.TheVariants.{UnknownId, MissingPub, MissingSub, Uncovered}
-use Rattle.sng_book.specs.declared.outcome.Denial.TheVariants.{ClientRefused, BrokerRefused, OutOfTurn}
-use Rattle.sng_book.specs.declared.outcome.Denial.TheVariants.{UpstreamDown, Full, TooLong, Gone}
+use Rattle.sng_book.specs.declared.outcome.Denial.TheVariants.{Form, Grant, Room, Peer}
+use Rattle.sng_book.specs.declared.outcome.RoomDenial.TheVariants.{UpstreamDown, Full, TooLong}
 use Rattle.sng_book.specs.declared.outcome.Outcome.{Outcome}
 use Rattle.sng_book.specs.declared.outcome.Outcome.TheVariants.{Allowed, Denied}
 use Rattle.sng_book.specs.Denials.{is_allowed}
@@ -324,30 +321,17 @@ announced clock name x = record x {
 
 -- a message that was refused as it came never waited; by any other denial the front is settled
 abbrev pub is_turned_away : Denial → Bool
-is_turned_away TooLong = true
-is_turned_away (Full place.Queue) = true
-is_turned_away (Full place.Clients) = false
-is_turned_away (Full place.Ids) = false
-is_turned_away (Full place.Subscriptions) = false
-is_turned_away (Full place.InFlight) = false
-is_turned_away (Full place.Outbox) = false
-is_turned_away Malformed = false
-is_turned_away NotSupported = false
-is_turned_away (NoScope client) = false
-is_turned_away NoSession = false
-is_turned_away UnknownSource = false
-is_turned_away BadName = false
-is_turned_away BadFilter = false
-is_turned_away IdType = false
-is_turned_away (UnknownId kind id) = false
-is_turned_away (MissingPub name) = false
-is_turned_away (MissingSub name) = false
-is_turned_away (Uncovered filter name) = false
-is_turned_away (ClientRefused code) = false
-is_turned_away BrokerRefused = false
-is_turned_away OutOfTurn = false
-is_turned_away UpstreamDown = false
-is_turned_away Gone = false
+is_turned_away (Form rule) = false
+is_turned_away (Grant rule) = false
+is_turned_away (Peer rule) = false
+is_turned_away (Room UpstreamDown) = false
+is_turned_away (Room TooLong) = true
+is_turned_away (Room (Full place.Queue)) = true
+is_turned_away (Room (Full place.Clients)) = false
+is_turned_away (Room (Full place.Ids)) = false
+is_turned_away (Room (Full place.Subscriptions)) = false
+is_turned_away (Room (Full place.InFlight)) = false
+is_turned_away (Room (Full place.Outbox)) = false
 
 abbrev pub denied_hand : Denial → Client → Client
 denied_hand rule x = if is_turned_away rule then x else record x { buffer = settle x.buffer }

@@ -11,7 +11,9 @@ use Rattle.sng_book.specs.Denials.{is_allowed}
 use Rattle.sng_book.specs.declared.decision.Decision.{Decision}
 use Rattle.sng_book.specs.declared.decision.Decision.TheVariants as note
 use Rattle.sng_book.specs.declared.decision.Who.TheVariants as who
-use Rattle.sng_book.specs.declared.outcome.Denial.TheVariants.{NotSupported, BrokerRefused}
+use Rattle.sng_book.specs.declared.outcome.Denial.TheVariants.{Form, Peer}
+use Rattle.sng_book.specs.declared.outcome.FormDenial.TheVariants.{NotSupported}
+use Rattle.sng_book.specs.declared.outcome.PeerDenial.TheVariants.{BrokerRefused}
 use Rattle.sng_book.specs.declared.outcome.Outcome.{Outcome}
 use Rattle.sng_book.specs.declared.outcome.Outcome.TheVariants.{Allowed, Denied}
 use Rattle.sng_book.specs.declared.event.Event.{Event}
@@ -83,7 +85,7 @@ fixed_to s (ToConfirm r) x = if is_confirming r x then confirmations s.policy r 
 fixed_to s (ToAcknowledge r) x =
     if is_acknowledging r x then handed_over s.policy (closed x) else out_of_turn x.id
 fixed_to s (ToState statement) x = statement_notes s.policy statement x
-fixed_to s (Untaken message) x = denied_note message (who.Client x.id) NotSupported ∷ []
+fixed_to s (Untaken message) x = denied_note message (who.Client x.id) (Form NotSupported) ∷ []
 
 -- the end of a subscription that is not allowed any more
 abbrev pub end_of : List ℕ → List ℕ → Outcome → List Decision
@@ -99,7 +101,8 @@ ends_under policy client (h ∷ held) =
 -- the filter that the broker refuses ends for each client for whom it stands
 abbrev pub refused_end : Client → Option (List ℕ) → List Decision
 refused_end x None = []
-refused_end x (Some filter) = if holds filter x then note.End x.id filter (Denied BrokerRefused) ∷ [] else []
+refused_end x (Some filter) =
+    if holds filter x then note.End x.id filter (Denied (Peer BrokerRefused)) ∷ [] else []
 
 -- what a CONNECT that is accepted makes of what waits for the client: a clean one drops it, and after any
 -- other it is handed over

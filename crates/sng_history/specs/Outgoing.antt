@@ -1,30 +1,34 @@
 -- How what waits for a client comes out: the notes of a hand-over, each message judged by the policy in force
 -- as its turn comes (RFC 9431, 2.3; MQTT-SN 1.2, 6.10 and 6.14).
 use Rattle.std.specs.Prelude.{ℕ, ◌&&◌, Bool, true, false, List, [], ◌∷◌, ◌++◌, map, is_some, is_none}
-use Rattle.std.specs.Prelude.{if◌then◌else◌, Option}
+use Rattle.std.specs.Prelude.{if◌then◌else◌, Option, Some}
 use Rattle.sng_text.specs.declared.qos.Qos.{Qos}
 use Rattle.sng_text.specs.declared.qos.Qos.TheVariants.{AtMostOnce, AtLeastOnce}
 use Rattle.sng_grants.specs.declared.policy.Policy.{Policy}
 use Rattle.sng_policy.specs.Grants.{receive_grant}
+use Rattle.sng_policy.specs.declared.permission.Permission.TheVariants as permission
 use Rattle.sng_states.specs.States.{takes_messages}
 use Rattle.sng_ids.specs.Ids.{Ids, is_full_for}
 use Rattle.sng_queue.specs.Messages.{Message}
-use Rattle.sng_outbox.specs.declared.origin.Origin.TheVariants as origin
 use Rattle.sng_book.specs.declared.decision.Decision.{Decision}
 use Rattle.sng_book.specs.declared.decision.Decision.TheVariants as note
 use Rattle.sng_book.specs.declared.decision.Who.TheVariants as who
 use Rattle.sng_book.specs.declared.outcome.Place.TheVariants as place
-use Rattle.sng_book.specs.declared.outcome.Denial.TheVariants.{ClientRefused, OutOfTurn, Full, Gone}
+use Rattle.sng_book.specs.declared.outcome.Denial.TheVariants.{Form, Room, Peer}
+use Rattle.sng_book.specs.declared.outcome.FormDenial.TheVariants.{OutOfTurn}
+use Rattle.sng_book.specs.declared.outcome.RoomDenial.TheVariants.{Full}
+use Rattle.sng_book.specs.declared.outcome.PeerDenial.TheVariants.{ClientRefused, Gone}
 use Rattle.sng_book.specs.declared.outcome.Outcome.{Outcome}
 use Rattle.sng_book.specs.declared.outcome.Outcome.TheVariants.{Allowed, Denied}
 use Rattle.sng_history.specs.Arriving.{joins, turned_away}
 use Rattle.sng_history.specs.Handing.{known_as}
 use Rattle.sng_history.specs.Clients.{Client}
-use Rattle.sng_history.specs.Verdicts.{outcome_of}
+use Rattle.sng_history.specs.Verdicts.{name_outcome}
 
 -- what the policy says to a message for the client under the name
 abbrev pub receive : Policy → List ℕ → List ℕ → Outcome
-receive policy client name = outcome_of (origin.Client client) name (receive_grant policy client name)
+receive policy client name =
+    name_outcome permission.Subscribe (Some client) name (receive_grant policy client name)
 
 -- behind a message at QoS 1 nothing leaves until it is acknowledged
 abbrev pub behind : Qos → List Decision → List Decision
@@ -35,7 +39,7 @@ behind AtLeastOnce more = []
 -- announced while there is one, and nothing more leaves until that is answered
 abbrev pub offered : List ℕ → Message → Bool → Bool → List Decision → List Decision
 offered client m true full more = note.Hand client m.name Allowed ∷ behind m.qos more
-offered client m false true more = note.Hand client m.name (Denied (Full place.Ids)) ∷ more
+offered client m false true more = note.Hand client m.name (Denied (Room (Full place.Ids))) ∷ more
 offered client m false false more = note.Announce client m.name ∷ []
 
 -- a message is judged as its turn comes
@@ -60,15 +64,15 @@ handed_over policy x = if is_free x then turns policy x.id x.ids x.buffer.waitin
 
 -- as a client leaves, or begins a clean session, all that waits for it is gone
 abbrev pub all_gone : List ℕ → List Message → List Decision
-all_gone client waiting = map (λ m. note.Hand client m.name (Denied Gone)) waiting
+all_gone client waiting = map (λ m. note.Hand client m.name (Denied (Peer Gone))) waiting
 
 -- the client refuses the id that was announced for the front
 abbrev pub refusals : List ℕ → ℕ → List Message → List Decision
 refusals client code [] = []
-refusals client code (m ∷ more) = note.Hand client m.name (Denied (ClientRefused code)) ∷ []
+refusals client code (m ∷ more) = note.Hand client m.name (Denied (Peer (ClientRefused code))) ∷ []
 
 abbrev pub out_of_turn : List ℕ → List Decision
-out_of_turn client = note.Frame (who.Client client) (Denied OutOfTurn) ∷ []
+out_of_turn client = note.Frame (who.Client client) (Denied (Form OutOfTurn)) ∷ []
 
 -- a message of the broker that is due to the client: it is turned away, or joins what waits; and what may
 -- leave then leaves

@@ -14,7 +14,8 @@ use Rattle.sng_outbox.specs.declared.item.Item.{Item}
 use Rattle.sng_outbox.specs.declared.item.Item.TheVariants as item
 use Rattle.sng_book.specs.declared.decision.Decision.TheVariants as note
 use Rattle.sng_book.specs.declared.decision.Who.TheVariants as who
-use Rattle.sng_book.specs.declared.outcome.Denial.TheVariants.{NotSupported, BadName}
+use Rattle.sng_book.specs.declared.outcome.Denial.TheVariants.{Form}
+use Rattle.sng_book.specs.declared.outcome.FormDenial.TheVariants.{NotSupported, BadName}
 use Rattle.sng_book.specs.declared.outcome.Outcome.TheVariants.{Denied}
 use Rattle.sng_book.specs.declared.out.Out.{Out}
 use Rattle.sng_book.specs.declared.out.Out.TheVariants.{Note}
@@ -89,7 +90,7 @@ answered link Strange = link
 
 -- a message under a text that is not a topic name is noted
 abbrev pub misnamed : List ℕ → List Out
-misnamed name = if is_name name then [] else Note (note.Frame who.Broker (Denied BadName)) ∷ []
+misnamed name = if is_name name then [] else Note (note.Frame who.Broker (Denied (Form BadName))) ∷ []
 
 -- the filter whose open SUBSCRIBE has this packet id
 abbrev pub filter_open : List Wanted → ℕ → Option (List ℕ)
@@ -111,4 +112,4 @@ answer_outs up link (Acknowledges packet_id) = []
 answer_outs up link (Grants packet_id) = []
 answer_outs up link (Refuses packet_id) = []
 answer_outs up link Confirms = []
-answer_outs up link Strange = Note (note.Frame who.Broker (Denied NotSupported)) ∷ []
+answer_outs up link Strange = Note (note.Frame who.Broker (Denied (Form NotSupported))) ∷ []

@@ -5,7 +5,8 @@ use Rattle.sng_text.specs.declared.qos.Qos.TheVariants.{AtMostOnce, AtLeastOnce}
 use Rattle.sng_outbox.specs.Sending.{load}
 use Rattle.sng_outbox.specs.declared.limits.TheConstants.{MAX_IN_FLIGHT}
 use Rattle.sng_book.specs.declared.outcome.Place.TheVariants as place
-use Rattle.sng_book.specs.declared.outcome.Denial.TheVariants.{Full}
+use Rattle.sng_book.specs.declared.outcome.Denial.TheVariants.{Room}
+use Rattle.sng_book.specs.declared.outcome.RoomDenial.TheVariants.{Full}
 use Rattle.sng_book.specs.declared.outcome.Outcome.{Outcome}
 use Rattle.sng_book.specs.declared.outcome.Outcome.TheVariants.{Allowed, Denied}
 use Rattle.sng_history.specs.Links.{Link}
@@ -20,5 +21,5 @@ has_flight link AtLeastOnce =
 -- whether there is room for one more publish at this QoS: among those in flight, then in the outbox
 abbrev pub room_in : Link → Qos → Outcome
 room_in link q =
-    if has_flight link q then (if has_place link then Allowed else Denied (Full place.Outbox))
-    else Denied (Full place.InFlight)
+    if has_flight link q then (if has_place link then Allowed else Denied (Room (Full place.Outbox)))
+    else Denied (Room (Full place.InFlight))

@@ -11,8 +11,12 @@ use Rattle.sng_text.specs.declared.qos.Qos.{Qos}
 use Rattle.sng_text.specs.declared.qos.Qos.TheVariants.{AtMostOnce}
 use Rattle.sng_grants.specs.declared.policy.Policy.{Policy}
 use Rattle.sng_policy.specs.Grants.{publish_grant, source_grant, subscribe_grant, lists, lists_source, topic}
-use Rattle.sng_policy.specs.declared.grant.Grant.{Grant}
-use Rattle.sng_policy.specs.declared.grant.Grant.TheVariants as grant
+use Rattle.sng_policy.specs.declared.grant.NameGrant.{NameGrant}
+use Rattle.sng_policy.specs.declared.grant.NameGrant.TheVariants as on_name
+use Rattle.sng_policy.specs.declared.grant.FilterGrant.{FilterGrant}
+use Rattle.sng_policy.specs.declared.grant.FilterGrant.TheVariants as on_filter
+use Rattle.sng_policy.specs.declared.permission.Permission.{Permission}
+use Rattle.sng_policy.specs.declared.permission.Permission.TheVariants as permission
 use Rattle.sng_frames.specs.declared.messages.connect.Connect.{Connect}
 use Rattle.sng_frames.specs.declared.messages.publish.Publish.{Publish}
 use Rattle.sng_frames.specs.declared.messages.subscribe.TopicRequest.{TopicRequest}
@@ -26,10 +30,13 @@ use Rattle.sng_book.specs.declared.decision.Who.TheVariants as who
 use Rattle.sng_book.specs.declared.outcome.IdKind.TheVariants as kind
 use Rattle.sng_book.specs.declared.outcome.Place.TheVariants as place
 use Rattle.sng_book.specs.declared.outcome.Denial.{Denial}
-use Rattle.sng_book.specs.declared.outcome.Denial.TheVariants.{NotSupported, NoScope, NoSession}
-use Rattle.sng_book.specs.declared.outcome.Denial.TheVariants.{UnknownSource, BadName, BadFilter, IdType}
-use Rattle.sng_book.specs.declared.outcome.Denial.TheVariants.{UnknownId, MissingPub, MissingSub, Uncovered}
-use Rattle.sng_book.specs.declared.outcome.Denial.TheVariants.{OutOfTurn, UpstreamDown, Full}
+use Rattle.sng_book.specs.declared.outcome.Denial.TheVariants.{Form, Grant, Room}
+use Rattle.sng_book.specs.declared.outcome.FormDenial.TheVariants.{NotSupported, NoSession, BadName}
+use Rattle.sng_book.specs.declared.outcome.FormDenial.TheVariants.{BadFilter, IdType, UnknownId, OutOfTurn}
+use Rattle.sng_book.specs.declared.outcome.GrantDenial.{GrantDenial}
+use Rattle.sng_book.specs.declared.outcome.GrantDenial.TheVariants.{NoScope, UnknownSource, MissingPub}
+use Rattle.sng_book.specs.declared.outcome.GrantDenial.TheVariants.{MissingSub, Uncovered}
+use Rattle.sng_book.specs.declared.outcome.RoomDenial.TheVariants.{UpstreamDown, Full}
 use Rattle.sng_book.specs.declared.outcome.Outcome.{Outcome}
 use Rattle.sng_book.specs.declared.outcome.Outcome.TheVariants.{Allowed, Denied}
 use Rattle.sng_fan.specs.Subscriptions.{is_full}
@@ -45,26 +52,28 @@ use Rattle.sng_history.specs.Requests.{gets_id, id_in}
 use Rattle.sng_history.specs.Room.{room_in}
 use Rattle.sng_history.specs.State.{State, is_known, qos_of}
 
--- the policy does not list who asks
-abbrev pub unlisted : Origin → Denial
-unlisted (origin.Client client) = NoScope client
-unlisted (origin.Source source) = UnknownSource
+-- the policy does not list who asks: a client by its id, or a source
+abbrev pub unlisted : Option (List ℕ) → GrantDenial
+unlisted (Some client) = NoScope client
+unlisted None = UnknownSource
 
--- what a policy answers about a name, as an outcome; a gap is a name for which `sub` is missing
-abbrev pub outcome_of : Origin → List ℕ → Grant → Outcome
-outcome_of asker name grant.Allowed = Allowed
-outcome_of asker name grant.NoScope = Denied (unlisted asker)
-outcome_of asker name grant.UnknownSource = Denied (unlisted asker)
-outcome_of asker name grant.MissingPub = Denied (MissingPub name)
-outcome_of asker name grant.MissingSub = Denied (MissingSub name)
-outcome_of asker name (grant.Uncovered gap) = Denied (MissingSub gap)
+-- no pair with the permission matches the name
+abbrev pub missing : Permission → List ℕ → GrantDenial
+missing permission.Publish name = MissingPub name
+missing permission.Subscribe name = MissingSub name
+
+-- what a policy answers about a name to an ask for the permission by a client or a source, as an outcome
+abbrev pub name_outcome : Permission → Option (List ℕ) → List ℕ → NameGrant → Outcome
+name_outcome needed asker name on_name.Allowed = Allowed
+name_outcome needed asker name on_name.Unlisted = Denied (Grant (unlisted asker))
+name_outcome needed asker name on_name.Missing = Denied (Grant (missing needed name))
 
 -- what the policy says to a publish under the name, as it is asked for and again as it leaves
 abbrev pub exit : Policy → Origin → List ℕ → Outcome
 exit policy (origin.Client client) name =
-    outcome_of (origin.Client client) name (publish_grant policy client name)
+    name_outcome permission.Publish (Some client) name (publish_grant policy client name)
 exit policy (origin.Source source) name =
-    outcome_of (origin.Source source) name (source_grant policy source name)
+    name_outcome permission.Publish None name (source_grant policy source name)
 
 -- the first of two rules that forbids
 abbrev pub and_then : Outcome → Outcome → Outcome
@@ -73,7 +82,7 @@ and_then (Denied denial) next = Denied denial
 
 -- whether there is a connection, and room for one more publish at this QoS
 abbrev pub room : State → Qos → Outcome
-room s q = if s.up then room_in s.link q else Denied UpstreamDown
+room s q = if s.up then room_in s.link q else Denied (Room UpstreamDown)
 
 -- a publish under the name at this QoS is judged: by the policy in force, then by the connection and the room
 abbrev pub verdict : State → Origin → List ℕ → Qos → Outcome
@@ -85,26 +94,26 @@ octets_of n = n / 256 ∷ n % 256 ∷ []
 
 -- the name of a predefined topic id, where the policy gives it one
 abbrev pub predefined_name : ℕ → Option (List ℕ) → Result (List ℕ) Denial
-predefined_name id None = Err (UnknownId kind.Predefined id)
+predefined_name id None = Err (Form (UnknownId kind.Predefined id))
 predefined_name id (Some name) = Ok name
 
 abbrev pub told_name : ℕ → Option (List ℕ) → Result (List ℕ) Denial
-told_name id None = Err (UnknownId kind.Normal id)
+told_name id None = Err (Form (UnknownId kind.Normal id))
 told_name id (Some name) = Ok name
 
 -- a normal id has the name that the client was told with it; without a session it has no place
 abbrev pub normal_name : Option Ids → ℕ → Result (List ℕ) Denial
-normal_name None id = Err IdType
+normal_name None id = Err (Form IdType)
 normal_name (Some ids) id = told_name id (name_of id ids)
 
 -- the name that a topic id stands for in a PUBLISH, or the rule that it breaks (MQTT-SN 1.2, 5.3.11, 6.7 and
 -- 6.8), by the ids of the client where there is a session. A short name is the id's two octets, and a
 -- predefined id has the name that the policy in force gives it
 abbrev pub name_in : Policy → Option Ids → TopicIdType → ℕ → Result (List ℕ) Denial
-name_in policy ids Short id = if is_name (octets_of id) then Ok (octets_of id) else Err BadName
+name_in policy ids Short id = if is_name (octets_of id) then Ok (octets_of id) else Err (Form BadName)
 name_in policy ids Predefined id = predefined_name id (topic policy id)
 name_in policy ids Normal id = normal_name ids id
-name_in policy ids Reserved id = Err IdType
+name_in policy ids Reserved id = Err (Form IdType)
 
 -- the note of an ask by a listed source, given the name that was read
 abbrev pub named_ask : State → List ℕ → Result (List ℕ) Denial → Decision
@@ -117,20 +126,20 @@ abbrev pub source_ask : State → List ℕ → Publish → Decision
 source_ask s source p =
     if lists_source s.policy source
     then named_ask s source (name_in s.policy None p.flags.id_type p.topic_id)
-    else note.Publish (who.Source source) None (Denied UnknownSource)
+    else note.Publish (who.Source source) None (Denied (Grant UnknownSource))
 
 -- the CONNECT is of MQTT-SN 1.2, whose ProtocolId is 1
 abbrev pub entry_form : Connect → Outcome
-entry_form c = if c.protocol_id == 1 then Allowed else Denied NotSupported
+entry_form c = if c.protocol_id == 1 then Allowed else Denied (Form NotSupported)
 
 -- the policy lists the client
 abbrev pub client_scope : Policy → List ℕ → Outcome
-client_scope policy id = if lists policy id then Allowed else Denied (NoScope id)
+client_scope policy id = if lists policy id then Allowed else Denied (Grant (NoScope id))
 
 -- a client that was accepted once has its place
 abbrev pub entry_room : List Client → List ℕ → Outcome
 entry_room xs id =
-    if is_known id xs || nat_lt (length xs) MAX_CLIENTS then Allowed else Denied (Full place.Clients)
+    if is_known id xs || nat_lt (length xs) MAX_CLIENTS then Allowed else Denied (Room (Full place.Clients))
 
 -- the verdict on a CONNECT (MQTT-SN 1.2, 5.4.4)
 abbrev pub entry_by : Policy → List Client → Connect → Outcome
@@ -150,7 +159,7 @@ is_active Lost = false
 
 -- a message of a client has its turn where the client is active
 abbrev pub in_turn : Client → Outcome
-in_turn x = if is_active x.phase then Allowed else Denied OutOfTurn
+in_turn x = if is_active x.phase then Allowed else Denied (Form OutOfTurn)
 
 -- a PINGREQ may name a client; one that names another client has no session (MQTT-SN 1.2, 5.4.19)
 abbrev pub names_other : Option (List ℕ) → List ℕ → Bool
@@ -160,10 +169,10 @@ names_other (Some id) own = not (bytes_eq id own)
 -- one that names its client has its turn also where the client sleeps, or is awake
 abbrev pub ping_turn : Option (List ℕ) → Client → Outcome
 ping_turn None x = in_turn x
-ping_turn (Some id) x = if is_due_messages x.phase then Allowed else Denied OutOfTurn
+ping_turn (Some id) x = if is_due_messages x.phase then Allowed else Denied (Form OutOfTurn)
 
 abbrev pub ping_verdict : Option (List ℕ) → Client → Outcome
-ping_verdict client x = if names_other client x.id then Denied NoSession else ping_turn client x
+ping_verdict client x = if names_other client x.id then Denied (Form NoSession) else ping_turn client x
 
 -- ---- asks of a client
 
@@ -172,11 +181,11 @@ abbrev pub may_ask : Policy → Client → Outcome
 may_ask policy x = and_then (in_turn x) (client_scope policy x.id)
 
 abbrev pub name_given : List ℕ → Result (List ℕ) Denial
-name_given text = if is_name text then Ok text else Err BadName
+name_given text = if is_name text then Ok text else Err (Form BadName)
 
 -- a name without an id gets one while there are some
 abbrev pub id_room : List ℕ → Ids → Outcome
-id_room name ids = if is_full_for name ids then Denied (Full place.Ids) else Allowed
+id_room name ids = if is_full_for name ids then Denied (Room (Full place.Ids)) else Allowed
 
 abbrev pub register_named : Policy → Client → Result (List ℕ) Denial → Decision
 register_named policy x (Ok name) =
@@ -210,13 +219,10 @@ publish_ask s x p = publish_by s x p (may_ask s.policy x)
 
 -- what a policy answers about a filter, as an outcome; a gap is a name that the filter matches and that may
 -- not be received
-abbrev pub filter_outcome : List ℕ → List ℕ → Grant → Outcome
-filter_outcome client filter grant.Allowed = Allowed
-filter_outcome client filter grant.NoScope = Denied (NoScope client)
-filter_outcome client filter grant.UnknownSource = Denied UnknownSource
-filter_outcome client filter grant.MissingPub = Denied (MissingPub filter)
-filter_outcome client filter grant.MissingSub = Denied (MissingSub filter)
-filter_outcome client filter (grant.Uncovered gap) = Denied (Uncovered filter gap)
+abbrev pub filter_outcome : List ℕ → List ℕ → FilterGrant → Outcome
+filter_outcome client filter on_filter.Allowed = Allowed
+filter_outcome client filter on_filter.Unlisted = Denied (Grant (NoScope client))
+filter_outcome client filter (on_filter.Uncovered gap) = Denied (Grant (Uncovered filter gap))
 
 -- what the policy says to a subscription of the client by the filter, as it is asked for and at each
 -- replacement
@@ -225,35 +231,35 @@ coverage policy client filter = filter_outcome client filter (subscribe_grant po
 
 -- a text as a filter
 abbrev pub as_filter : List ℕ → Result (List ℕ) Denial
-as_filter text = if is_filter text then Ok text else Err BadFilter
+as_filter text = if is_filter text then Ok text else Err (Form BadFilter)
 
 -- the name of a predefined topic id as a filter
 abbrev pub predefined_filter : ℕ → Option (List ℕ) → Result (List ℕ) Denial
-predefined_filter id None = Err (UnknownId kind.Predefined id)
+predefined_filter id None = Err (Form (UnknownId kind.Predefined id))
 predefined_filter id (Some name) = as_filter name
 
 -- the filter that a SUBSCRIBE or an UNSUBSCRIBE names, or the rule that it breaks (MQTT-SN 1.2, 5.4.15 and
 -- 5.4.17): a text, the name of a predefined id, or a short name
 abbrev pub filter_in : Policy → TopicIdType → List ℕ → Result (List ℕ) Denial
 filter_in policy Normal topic_given = as_filter topic_given
-filter_in policy Short topic_given = if is_name topic_given then as_filter topic_given else Err BadName
+filter_in policy Short topic_given = if is_name topic_given then as_filter topic_given else Err (Form BadName)
 filter_in policy Predefined topic_given =
     predefined_filter (id_in topic_given) (topic policy (id_in topic_given))
-filter_in policy Reserved topic_given = Err IdType
+filter_in policy Reserved topic_given = Err (Form IdType)
 
 -- whether there is room for the subscription: for an id of its name, for one more filter of the client, in
 -- the outbox
 abbrev pub subscribe_room_in : State → Client → TopicRequest → List ℕ → Outcome
 subscribe_room_in s x r filter =
     if gets_id r.flags.id_type filter && is_full_for filter x.ids
-    then Denied (Full place.Ids)
+    then Denied (Room (Full place.Ids))
     else (if is_full x.filters filter
-    then Denied (Full place.Subscriptions)
-    else (if has_place s.link then Allowed else Denied (Full place.Outbox)))
+    then Denied (Room (Full place.Subscriptions))
+    else (if has_place s.link then Allowed else Denied (Room (Full place.Outbox))))
 
 -- and whether there is a connection
 abbrev pub subscribe_room : State → Client → TopicRequest → List ℕ → Outcome
-subscribe_room s x r filter = if s.up then subscribe_room_in s x r filter else Denied UpstreamDown
+subscribe_room s x r filter = if s.up then subscribe_room_in s x r filter else Denied (Room UpstreamDown)
 
 abbrev pub subscribe_named : State → Client → TopicRequest → Result (List ℕ) Denial → Decision
 subscribe_named s x r (Ok filter) =

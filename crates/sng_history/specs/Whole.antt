@@ -13,7 +13,8 @@ use Rattle.sng_book.specs.declared.decision.Decision.{Decision}
 use Rattle.sng_book.specs.declared.decision.Decision.TheVariants as note
 use Rattle.sng_book.specs.declared.decision.Who.TheVariants as who
 use Rattle.sng_book.specs.declared.outcome.Denial.{Denial}
-use Rattle.sng_book.specs.declared.outcome.Denial.TheVariants.{NotSupported, NoSession}
+use Rattle.sng_book.specs.declared.outcome.Denial.TheVariants.{Form}
+use Rattle.sng_book.specs.declared.outcome.FormDenial.TheVariants.{NotSupported, NoSession}
 use Rattle.sng_book.specs.declared.outcome.Outcome.{Outcome}
 use Rattle.sng_book.specs.declared.outcome.Outcome.TheVariants.{Allowed, Denied}
 use Rattle.sng_book.specs.declared.out.Out.{Out}
@@ -69,7 +70,7 @@ farewell (Some request) to = if takes_leave request then dismissed to ∷ [] els
 -- the answer to a client's message that is denied; a PINGREQ that names another client is answered by
 -- DISCONNECT
 abbrev pub denied_to : Request → Address → Denial → List Out
-denied_to (ToPing client) to NoSession = dismissed to ∷ []
+denied_to (ToPing client) to (Form NoSession) = dismissed to ∷ []
 denied_to (ToPing client) to rule = []
 denied_to ToLeave to rule = []
 denied_to (ToSleep duration) to rule = []
@@ -201,24 +202,26 @@ any_from c (x ∷ xs) = is_from c x || any_from c xs
 -- DISCONNECT
 abbrev pub stranger_to : Address → Request → List Out
 stranger_to from (ToPing client) =
-    Note (note.Frame (who.Address from) (Denied NoSession)) ∷ dismissed from ∷ []
+    Note (note.Frame (who.Address from) (Denied (Form NoSession))) ∷ dismissed from ∷ []
 stranger_to from (ToSleep duration) =
-    Note (note.Frame (who.Address from) (Denied NoSession)) ∷ dismissed from ∷ []
-stranger_to from ToLeave = Note (note.Frame (who.Address from) (Denied NoSession)) ∷ dismissed from ∷ []
+    Note (note.Frame (who.Address from) (Denied (Form NoSession))) ∷ dismissed from ∷ []
+stranger_to from ToLeave =
+    Note (note.Frame (who.Address from) (Denied (Form NoSession))) ∷ dismissed from ∷ []
 stranger_to from (ToRegister r) =
-    Note (note.Register (who.Address from) None (Denied NoSession)) ∷ dismissed from ∷ []
+    Note (note.Register (who.Address from) None (Denied (Form NoSession))) ∷ dismissed from ∷ []
 stranger_to from (ToPublish p) =
-    Note (note.Publish (who.Address from) None (Denied NoSession)) ∷ dismissed from ∷ []
+    Note (note.Publish (who.Address from) None (Denied (Form NoSession))) ∷ dismissed from ∷ []
 stranger_to from (ToSubscribe r) =
-    Note (note.Subscribe (who.Address from) None (Denied NoSession)) ∷ dismissed from ∷ []
+    Note (note.Subscribe (who.Address from) None (Denied (Form NoSession))) ∷ dismissed from ∷ []
 stranger_to from (ToUnsubscribe r) =
-    Note (note.Unsubscribe (who.Address from) None (Denied NoSession)) ∷ dismissed from ∷ []
-stranger_to from (ToConfirm r) = Note (note.Frame (who.Address from) (Denied NoSession)) ∷ dismissed from ∷ []
+    Note (note.Unsubscribe (who.Address from) None (Denied (Form NoSession))) ∷ dismissed from ∷ []
+stranger_to from (ToConfirm r) =
+    Note (note.Frame (who.Address from) (Denied (Form NoSession))) ∷ dismissed from ∷ []
 stranger_to from (ToAcknowledge r) =
-    Note (note.Frame (who.Address from) (Denied NoSession)) ∷ dismissed from ∷ []
+    Note (note.Frame (who.Address from) (Denied (Form NoSession))) ∷ dismissed from ∷ []
 stranger_to from (ToState statement) =
-    Note (note.Will (who.Address from) None (Denied NoSession)) ∷ dismissed from ∷ []
-stranger_to from (Untaken message) = Note (denied_note message (who.Address from) NotSupported) ∷ []
+    Note (note.Will (who.Address from) None (Denied (Form NoSession))) ∷ dismissed from ∷ []
+stranger_to from (Untaken message) = Note (denied_note message (who.Address from) (Form NotSupported)) ∷ []
 
 -- the clients after the row, by its notes of each
 abbrev pub moved_by : State → Cause → Notes → List Client

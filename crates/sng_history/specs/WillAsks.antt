@@ -12,7 +12,8 @@ use Rattle.sng_book.specs.Denials.{is_allowed}
 use Rattle.sng_book.specs.declared.decision.Decision.{Decision}
 use Rattle.sng_book.specs.declared.decision.Decision.TheVariants as note
 use Rattle.sng_book.specs.declared.decision.Who.TheVariants as who
-use Rattle.sng_book.specs.declared.outcome.Denial.TheVariants.{BadName, OutOfTurn}
+use Rattle.sng_book.specs.declared.outcome.Denial.TheVariants.{Form}
+use Rattle.sng_book.specs.declared.outcome.FormDenial.TheVariants.{BadName, OutOfTurn}
 use Rattle.sng_book.specs.declared.outcome.Outcome.{Outcome}
 use Rattle.sng_book.specs.declared.outcome.Outcome.TheVariants.{Allowed, Denied}
 use Rattle.sng_history.specs.Causes.{Statement, StatesTopic, StatesMessage, UpdatesTopic, UpdatesMessage}
@@ -29,7 +30,7 @@ awaits_topic (MessageAwaited topic) = false
 
 -- a thing has its turn, or has not
 abbrev pub turn : Bool → Outcome
-turn has = if has then Allowed else Denied OutOfTurn
+turn has = if has then Allowed else Denied (Form OutOfTurn)
 
 -- a WILLTOPIC and a WILLMSG have their turn where the dialogue awaits them, and the updates where the client
 -- is active; a WILLMSGUPD needs a will besides
@@ -49,7 +50,7 @@ topic_at (UpdatesTopic topic) x = option_map (λ w. w.topic) topic
 topic_at (UpdatesMessage message) x = option_map (λ w. w.topic) x.wills.will
 
 abbrev pub name_rule : List ℕ → Outcome
-name_rule text = if is_name text then Allowed else Denied BadName
+name_rule text = if is_name text then Allowed else Denied (Form BadName)
 
 -- a topic is read where the policy lists the client and it is a topic name
 abbrev pub topic_read : Policy → List ℕ → Option (List ℕ) → Outcome

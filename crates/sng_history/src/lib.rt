@@ -1,11 +1,12 @@
 //! Histories of the gateway: what each event does to its state and lets out, which histories are lawful, and
-//! that each step keeps a history lawful. The definitions stand in specs/; this crate has no code that runs.
-//! What a reader of the rows sees is in `sng_laws`, and that every lawful history keeps those laws in
-//! `sng_promise`.
+//! that each step keeps a history lawful. The definitions stand in specs/; the code that runs here is the
+//! judgement by the policy, which the crates above share. What a reader of the rows sees is in `sng_laws`,
+//! and that every lawful history keeps those laws in `sng_promise`.
 #![tactic(auto)]
 
 pub mod laws;
 pub mod limits;
+pub mod verdicts;
 
 ghost use Rattle.std.specs.Prelude.{◌≡◌, List, []};
 ghost use Rattle.sng_book.specs.declared.event.Event.{Event};
@@ -16,6 +17,7 @@ ghost use Rattle.sng_history.specs.State.{State, opening};
 ghost use Rattle.sng_history.specs.Steps.{outs_of, next_of};
 
 pub use limits::{MAX_CLIENTS, PING_MS, RETRY_MS};
+pub use verdicts::{coverage, exit, receive};
 
 /// A step from a good state keeps a history lawful, and leads to the state after it, which is good again; the
 /// opening state is good. `exactly`: where the state is good a row may come exactly if its outs are those of

@@ -1,5 +1,5 @@
 -- How each datagram is judged, noted and answered in a lawful history, in the views' words.
-use Rattle.std.specs.Prelude.{ℕ, ◌/◌, ◌%◌, ◌≡◌, ◌==◌, nat_lt, Bool, true, false, ◌&&◌, ◌||◌, not, List, []}
+use Rattle.std.specs.Prelude.{ℕ, ◌/◌, ◌%◌, ◌≡◌, ◌==◌, nat_lt, Bool, true, false, ◌&&◌, not, List, []}
 use Rattle.std.specs.Prelude.{◌∷◌, ◌++◌, filter, length, if◌then◌else◌, Option, Some, None, is_some, Ok, Err}
 use Rattle.std.specs.List.{flat_map}
 use Rattle.std.specs.Str.{bytes_eq}
@@ -23,16 +23,17 @@ use Rattle.sng_frames.specs.declared.return_code.TheConstants.ReturnCode.{ACCEPT
 use Rattle.sng_frames.specs.declared.return_code.TheConstants.ReturnCode.{INVALID_TOPIC_ID, NOT_SUPPORTED}
 use Rattle.sng_frames.specs.declared.frame.SnFrame.{SnFrame}
 use Rattle.sng_frames.specs.declared.frame.SnFrame.TheVariants as frame
-use Rattle.sng_book.specs.Denials.{number_of}
 use Rattle.sng_book.specs.declared.address.Address.{Address}
 use Rattle.sng_book.specs.declared.decision.Decision.TheVariants as note
 use Rattle.sng_book.specs.declared.decision.Who.TheVariants as who
 use Rattle.sng_book.specs.declared.outcome.IdKind.TheVariants as kind
 use Rattle.sng_book.specs.declared.outcome.Place.TheVariants as place
 use Rattle.sng_book.specs.declared.outcome.Denial.{Denial}
-use Rattle.sng_book.specs.declared.outcome.Denial.TheVariants.{Malformed, NotSupported, NoScope, NoSession}
-use Rattle.sng_book.specs.declared.outcome.Denial.TheVariants.{UnknownSource, BadName, IdType, UnknownId}
-use Rattle.sng_book.specs.declared.outcome.Denial.TheVariants.{MissingPub, UpstreamDown, Full}
+use Rattle.sng_book.specs.declared.outcome.Denial.TheVariants.{Form, Grant, Room}
+use Rattle.sng_book.specs.declared.outcome.FormDenial.TheVariants.{Malformed, NotSupported, NoSession}
+use Rattle.sng_book.specs.declared.outcome.FormDenial.TheVariants.{BadName, IdType, UnknownId}
+use Rattle.sng_book.specs.declared.outcome.GrantDenial.TheVariants.{NoScope, UnknownSource, MissingPub}
+use Rattle.sng_book.specs.declared.outcome.RoomDenial.TheVariants.{UpstreamDown, Full}
 use Rattle.sng_book.specs.declared.outcome.Outcome.{Outcome}
 use Rattle.sng_book.specs.declared.outcome.Outcome.TheVariants.{Allowed, Denied}
 use Rattle.sng_book.specs.declared.event.Event.TheVariants.{Datagram}
@@ -70,11 +71,11 @@ pub record Broken (row : Row) (from : Address) (broke : FrameFault) : Type 0 whe
 -- never accepted
 abbrev pub connect_rules : List Row → Connect → List Rule
 connect_rules h c =
-    (not (c.protocol_id == 1), NotSupported)
-    ∷ (not (lists (policy_in_force h) c.client_id), NoScope c.client_id)
+    (not (c.protocol_id == 1), Form NotSupported)
+    ∷ (not (lists (policy_in_force h) c.client_id), Grant (NoScope c.client_id))
     ∷ (
       not (is_among c.client_id (accepted h)) && not (nat_lt (length (accepted h)) MAX_CLIENTS),
-      Full place.Clients,
+      Room (Full place.Clients),
     )
     ∷ []
 
@@ -89,12 +90,13 @@ welcome_to c to = if c.flags.will then Send to (written frame.WillTopicRequest) 
 abbrev pub bye : Address → Out
 bye to = Send to (written (frame.Disconnect None))
 
--- the ReturnCode of a rule, by its number: an id without a name is invalid, a connection that is down or a
--- full place is congestion, and any other rule is not supported (5.3.10)
+-- the ReturnCode of a rule: an id without a name is invalid, a connection that is down or a full place is
+-- congestion, and any other rule is not supported (5.3.10)
 abbrev pub code_for : Denial → ReturnCode
-code_for rule =
-    if number_of rule == 9 then INVALID_TOPIC_ID
-    else (if (number_of rule == 21) || (number_of rule == 22) then CONGESTION else NOT_SUPPORTED)
+code_for (Form (UnknownId kind id)) = INVALID_TOPIC_ID
+code_for (Room UpstreamDown) = CONGESTION
+code_for (Room (Full place)) = CONGESTION
+code_for other = NOT_SUPPORTED
 
 abbrev pub bye_at : Option ClientState → Option Address → Address → List Out
 bye_at None place from = []
@@ -166,13 +168,13 @@ source_rules h from p =
     let policy = policy_in_force h in
     let type = p.flags.id_type in
     let name = or_empty (name_read policy type p.topic_id) in
-    (not (lists_source policy from.ip), UnknownSource)
-    ∷ (needs_session type, IdType)
-    ∷ (is_bad_short type p.topic_id, BadName)
-    ∷ (is_nameless policy type p.topic_id, UnknownId kind.Predefined p.topic_id)
-    ∷ (not (may_publish (scope_of policy.sources from.ip) name), MissingPub name)
-    ∷ (not (is_up h), UpstreamDown)
-    ∷ (not (nat_lt (length (waiting h)) MAX_OUTBOX_ITEMS), Full place.Outbox)
+    (not (lists_source policy from.ip), Grant UnknownSource)
+    ∷ (needs_session type, Form IdType)
+    ∷ (is_bad_short type p.topic_id, Form BadName)
+    ∷ (is_nameless policy type p.topic_id, Form (UnknownId kind.Predefined p.topic_id))
+    ∷ (not (may_publish (scope_of policy.sources from.ip) name), Grant (MissingPub name))
+    ∷ (not (is_up h), Room UpstreamDown)
+    ∷ (not (nat_lt (length (waiting h)) MAX_OUTBOX_ITEMS), Room (Full place.Outbox))
     ∷ []
 
 -- the publish is noted, with the name where a listed device names one, and is not answered
@@ -190,7 +192,7 @@ answer_to stranger known (id ∷ ids) = flat_map known (id ∷ ids)
 
 -- by nobody: it is noted, and answered by DISCONNECT where it needs a session
 abbrev pub no_session : Address → List Out
-no_session from = Note (note.Frame (who.Address from) (Denied NoSession)) ∷ bye from ∷ []
+no_session from = Note (note.Frame (who.Address from) (Denied (Form NoSession))) ∷ bye from ∷ []
 
 abbrev pub is_active : Option ClientState → Bool
 is_active (Some Active) = true
@@ -212,7 +214,7 @@ ping_awake h from id =
 abbrev pub ping_answer : List Row → Address → Option (List ℕ) → List ℕ → List Out
 ping_answer h from named id =
     if names_another named id
-    then Note (note.Frame (who.Client id) (Denied NoSession)) ∷ bye from ∷ []
+    then Note (note.Frame (who.Client id) (Denied (Form NoSession))) ∷ bye from ∷ []
     else (if is_active (phase_of id h) then Send from (written frame.PingResponse) ∷ []
     else (if is_some named then ping_awake h from id else out_of_turn id))
 
@@ -228,8 +230,8 @@ leave_answer h from id = Note (note.Left id) ∷ bye from ∷ gone_answer h id
 
 -- a datagram that is no message: one of a type that is not supported, or malformed
 abbrev pub broken_rule : FrameFault → Denial
-broken_rule fault.NotSupported = NotSupported
-broken_rule other = Malformed
+broken_rule fault.NotSupported = Form NotSupported
+broken_rule other = Form Malformed
 
 abbrev pub broken_stranger : Address → FrameFault → List Out
 broken_stranger from broke = Note (note.Frame (who.Address from) (Denied (broken_rule broke))) ∷ []

@@ -27,9 +27,11 @@ use Rattle.sng_book.specs.declared.decision.Decision.TheVariants as note
 use Rattle.sng_book.specs.declared.decision.Who.TheVariants as who
 use Rattle.sng_book.specs.declared.outcome.IdKind.TheVariants as kind
 use Rattle.sng_book.specs.declared.outcome.Place.TheVariants as place
-use Rattle.sng_book.specs.declared.outcome.Denial.TheVariants.{NotSupported, NoScope, NoSession, BadName}
-use Rattle.sng_book.specs.declared.outcome.Denial.TheVariants.{IdType, UnknownId, MissingPub, OutOfTurn}
-use Rattle.sng_book.specs.declared.outcome.Denial.TheVariants.{UpstreamDown, Full}
+use Rattle.sng_book.specs.declared.outcome.Denial.TheVariants.{Form, Grant, Room}
+use Rattle.sng_book.specs.declared.outcome.FormDenial.TheVariants.{NotSupported, NoSession, BadName, IdType}
+use Rattle.sng_book.specs.declared.outcome.FormDenial.TheVariants.{UnknownId, OutOfTurn}
+use Rattle.sng_book.specs.declared.outcome.GrantDenial.TheVariants.{NoScope, MissingPub}
+use Rattle.sng_book.specs.declared.outcome.RoomDenial.TheVariants.{UpstreamDown, Full}
 use Rattle.sng_book.specs.declared.outcome.Outcome.{Outcome}
 use Rattle.sng_book.specs.declared.outcome.Outcome.TheVariants.{Allowed, Denied}
 use Rattle.sng_book.specs.declared.out.Out.{Out}
@@ -59,11 +61,11 @@ abbrev pub register_rules : List Row → List ℕ → List ℕ → List Rule
 register_rules h id name =
     let policy = policy_in_force h in
     let told = names_told id h in
-    (not (is_active (phase_of id h)), OutOfTurn)
-    ∷ (not (lists policy id), NoScope id)
-    ∷ (not (is_name name), BadName)
-    ∷ (not (may_publish (scope_of policy.clients id) name), MissingPub name)
-    ∷ (not (is_among name told) && not (nat_lt (length told) MAX_TOPIC_IDS), Full place.Ids)
+    (not (is_active (phase_of id h)), Form OutOfTurn)
+    ∷ (not (lists policy id), Grant (NoScope id))
+    ∷ (not (is_name name), Form BadName)
+    ∷ (not (may_publish (scope_of policy.clients id) name), Grant (MissingPub name))
+    ∷ (not (is_among name told) && not (nat_lt (length told) MAX_TOPIC_IDS), Room (Full place.Ids))
     ∷ []
 
 -- REGACK with an id, the MsgId that came, and a code
@@ -78,7 +80,8 @@ regack to id r (Denied rule) = regack_to to 0 r (code_for rule)
 
 -- by nobody there is no session
 abbrev pub register_stranger : Address → List Out
-register_stranger from = Note (note.Register (who.Address from) None (Denied NoSession)) ∷ bye from ∷ []
+register_stranger from =
+    Note (note.Register (who.Address from) None (Denied (Form NoSession))) ∷ bye from ∷ []
 
 -- of a client it is noted, with the name where the client may ask and names one, and REGACK answers
 abbrev pub register_answer : List Row → Address → Register → List ℕ → List Out
@@ -137,16 +140,19 @@ session_rules h id p =
     let type = p.flags.id_type in
     let told = names_told id h in
     let name = or_empty (name_meant policy told type p.topic_id) in
-    (not (is_active (phase_of id h)), OutOfTurn)
-    ∷ (not (lists policy id), NoScope id)
-    ∷ (is_reserved type, IdType)
-    ∷ (is_bad_short type p.topic_id, BadName)
-    ∷ (is_nameless policy type p.topic_id, UnknownId kind.Predefined p.topic_id)
-    ∷ (is_untold told type p.topic_id, UnknownId kind.Normal p.topic_id)
-    ∷ (not (may_publish (scope_of policy.clients id) name), MissingPub name)
-    ∷ (not (is_up h), UpstreamDown)
-    ∷ (is_acknowledged p.flags.qos && not (nat_lt (unacknowledged h) MAX_IN_FLIGHT), Full place.InFlight)
-    ∷ (not (nat_lt (length (waiting h)) MAX_OUTBOX_ITEMS), Full place.Outbox)
+    (not (is_active (phase_of id h)), Form OutOfTurn)
+    ∷ (not (lists policy id), Grant (NoScope id))
+    ∷ (is_reserved type, Form IdType)
+    ∷ (is_bad_short type p.topic_id, Form BadName)
+    ∷ (is_nameless policy type p.topic_id, Form (UnknownId kind.Predefined p.topic_id))
+    ∷ (is_untold told type p.topic_id, Form (UnknownId kind.Normal p.topic_id))
+    ∷ (not (may_publish (scope_of policy.clients id) name), Grant (MissingPub name))
+    ∷ (not (is_up h), Room UpstreamDown)
+    ∷ (
+      is_acknowledged p.flags.qos && not (nat_lt (unacknowledged h) MAX_IN_FLIGHT),
+      Room (Full place.InFlight),
+    )
+    ∷ (not (nat_lt (length (waiting h)) MAX_OUTBOX_ITEMS), Room (Full place.Outbox))
     ∷ []
 
 -- PUBACK names the TopicId and the MsgId that came
@@ -161,7 +167,7 @@ puback to p (Denied rule) = puback_to to p (code_for rule) ∷ []
 
 -- by nobody there is no session, either
 abbrev pub publish_stranger : Address → List Out
-publish_stranger from = Note (note.Publish (who.Address from) None (Denied NoSession)) ∷ bye from ∷ []
+publish_stranger from = Note (note.Publish (who.Address from) None (Denied (Form NoSession))) ∷ bye from ∷ []
 
 -- of a client it is noted, with the name where the client may ask and the id stands for one
 abbrev pub publish_answer : List Row → Address → Publish → List ℕ → List Out
@@ -177,7 +183,7 @@ publish_answer h from p id =
 abbrev pub message_answer : List Row → mqtt.Publish → List Out
 message_answer h p =
     flat_map (λ id. arrivals h id (address_of id h) (meant_for id p h)) (accepted h)
-    ++ (if is_name p.name then [] else Note (note.Frame who.Broker (Denied BadName)) ∷ [])
+    ++ (if is_name p.name then [] else Note (note.Frame who.Broker (Denied (Form BadName))) ∷ [])
     ++ (if is_some p.packet_id && (is_up h && not (nat_lt (length (waiting h)) MAX_OUTBOX_ITEMS))
     then Note note.Outbox ∷ [] else [])
 
@@ -195,4 +201,4 @@ packet_answer h (packet.SubscribeAck answer) =
     if is_refusal answer.codes then suback_answer h (filter_with answer.packet_id (wanted h)) else []
 packet_answer h (packet.UnsubscribeAck packet_id) = []
 packet_answer h packet.PingResponse = []
-packet_answer h other = Note (note.Frame who.Broker (Denied NotSupported)) ∷ []
+packet_answer h other = Note (note.Frame who.Broker (Denied (Form NotSupported))) ∷ []

@@ -8,7 +8,8 @@ use Rattle.sng_fan.specs.Subscriptions.{stands}
 use Rattle.sng_fan.specs.declared.held.Held.{Held}
 use Rattle.sng_frames.specs.declared.messages.connect.Connect.{Connect}
 use Rattle.sng_book.specs.declared.decision.Decision.TheVariants as note
-use Rattle.sng_book.specs.declared.outcome.Denial.TheVariants.{BrokerRefused}
+use Rattle.sng_book.specs.declared.outcome.Denial.TheVariants.{Peer}
+use Rattle.sng_book.specs.declared.outcome.PeerDenial.TheVariants.{BrokerRefused}
 use Rattle.sng_book.specs.declared.outcome.Outcome.TheVariants.{Denied}
 use Rattle.sng_book.specs.declared.out.Out.{Out}
 use Rattle.sng_book.specs.declared.out.Out.TheVariants.{Note}
@@ -81,5 +82,6 @@ clean_answer h c = map (λ end. Note note.Outbox) (untold h (stays_by c))
 -- the filter that it refuses ends for each client for whom it stands, in order
 abbrev pub refused_answer : List Row → List ℕ → List Out
 refused_answer h text =
-    flat_map (λ id. if stands (standing_of id h) text then Note (note.End id text (Denied BrokerRefused)) ∷ []
+    flat_map (λ id. if stands (standing_of id h) text
+    then Note (note.End id text (Denied (Peer BrokerRefused))) ∷ []
     else []) (accepted h)

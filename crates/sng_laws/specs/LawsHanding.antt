@@ -27,8 +27,10 @@ use Rattle.sng_book.specs.declared.decision.Decision.{Decision}
 use Rattle.sng_book.specs.declared.decision.Decision.TheVariants as note
 use Rattle.sng_book.specs.declared.decision.Who.TheVariants as who
 use Rattle.sng_book.specs.declared.outcome.Place.TheVariants as place
-use Rattle.sng_book.specs.declared.outcome.Denial.TheVariants.{ClientRefused, OutOfTurn}
-use Rattle.sng_book.specs.declared.outcome.Denial.TheVariants.{Full, TooLong, Gone}
+use Rattle.sng_book.specs.declared.outcome.Denial.TheVariants.{Form, Room, Peer}
+use Rattle.sng_book.specs.declared.outcome.FormDenial.TheVariants.{OutOfTurn}
+use Rattle.sng_book.specs.declared.outcome.RoomDenial.TheVariants.{Full, TooLong}
+use Rattle.sng_book.specs.declared.outcome.PeerDenial.TheVariants.{ClientRefused, Gone}
 use Rattle.sng_book.specs.declared.outcome.Outcome.{Outcome}
 use Rattle.sng_book.specs.declared.outcome.Outcome.TheVariants.{Allowed, Denied}
 use Rattle.sng_book.specs.declared.out.Out.{Out}
@@ -72,7 +74,7 @@ hand_rules c name =
     receive_rules c.policy c.id name
     ++ (
       not (knows c name) && (not (is_among name c.told) && not (nat_lt (length c.told) MAX_TOPIC_IDS)),
-      Full place.Ids,
+      Room (Full place.Ids),
     ) ∷ []
 
 -- ---- its frames (MQTT-SN 1.2, 5.3.11, 5.4.10, 5.4.12, 6.5 and 6.10)
@@ -165,7 +167,7 @@ mailing h id to = record {
 
 -- what waits for it is gone
 abbrev pub gone_answer : List Row → List ℕ → List Out
-gone_answer h id = map (λ m. Note (note.Hand id m.name (Denied Gone))) (waits_for id h)
+gone_answer h id = map (λ m. Note (note.Hand id m.name (Denied (Peer Gone)))) (waits_for id h)
 
 -- what waits for one that connects: a clean CONNECT drops it before its answer; else it is handed over behind
 -- CONNACK, and no topic id is known, but with Will it goes on waiting
@@ -185,12 +187,12 @@ is_awake (Some Awake) = true
 is_awake other = false
 
 abbrev pub out_of_turn : List ℕ → List Out
-out_of_turn id = Note (note.Frame (who.Client id) (Denied OutOfTurn)) ∷ []
+out_of_turn id = Note (note.Frame (who.Client id) (Denied (Form OutOfTurn))) ∷ []
 
 -- the message whose name was announced is refused
 abbrev pub refused_by : List ℕ → ℕ → List Message → List Out
 refused_by id code [] = []
-refused_by id code (m ∷ more) = Note (note.Hand id m.name (Denied (ClientRefused code))) ∷ []
+refused_by id code (m ∷ more) = Note (note.Hand id m.name (Denied (Peer (ClientRefused code)))) ∷ []
 
 -- in turn a REGACK that accepts the id confirms it, any other refuses the front; and what may leave then
 -- leaves
@@ -227,9 +229,9 @@ is_ready h id = is_taking (phase_of id h) && is_idle (progress_of id h).unanswer
 abbrev pub arrival_answer : List Row → List ℕ → Address → Message → List Out
 arrival_answer h id to m =
     if is_too_long m
-    then Note (note.Hand id m.name (Denied TooLong)) ∷ []
+    then Note (note.Hand id m.name (Denied (Room TooLong))) ∷ []
     else (if not (nat_lt (length (waits_for id h)) MAX_QUEUED)
-    then Note (note.Hand id m.name (Denied (Full place.Queue))) ∷ []
+    then Note (note.Hand id m.name (Denied (Room (Full place.Queue)))) ∷ []
     else (if is_ready h id then handed_out (mailing h id to) (m ∷ []) else []))
 
 abbrev pub arrivals : List Row → List ℕ → Option Address → Option Message → List Out

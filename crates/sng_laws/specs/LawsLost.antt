@@ -24,7 +24,8 @@ use Rattle.sng_book.specs.declared.decision.Decision.{Decision}
 use Rattle.sng_book.specs.declared.decision.Decision.TheVariants as note
 use Rattle.sng_book.specs.declared.decision.Who.TheVariants as who
 use Rattle.sng_book.specs.declared.outcome.Place.TheVariants as place
-use Rattle.sng_book.specs.declared.outcome.Denial.TheVariants.{Full}
+use Rattle.sng_book.specs.declared.outcome.Denial.TheVariants.{Room}
+use Rattle.sng_book.specs.declared.outcome.RoomDenial.TheVariants.{Full}
 use Rattle.sng_book.specs.declared.outcome.Outcome.{Outcome}
 use Rattle.sng_book.specs.declared.outcome.Outcome.TheVariants.{Allowed, Denied}
 use Rattle.sng_book.specs.declared.event.Event.{Event}
@@ -134,9 +135,9 @@ place_rules h items p = (
   is_at_least_once p.qos
       && not (nat_lt (length (filter (λ one. is_at_least_once one.qos) (publications items))
       + length (in_flight h)) MAX_IN_FLIGHT),
-  Full place.InFlight,
+  Room (Full place.InFlight),
 )
-    ∷ (not (nat_lt (length items) MAX_OUTBOX_ITEMS), Full place.Outbox)
+    ∷ (not (nat_lt (length items) MAX_OUTBOX_ITEMS), Room (Full place.Outbox))
     ∷ []
 
 -- it waits, or it is noted that it found no place

@@ -16,12 +16,10 @@ use Rattle.sng_book.specs.declared.decision.Decision.TheVariants as note
 use Rattle.sng_book.specs.declared.decision.Who.{Who}
 use Rattle.sng_book.specs.declared.decision.Who.TheVariants as who
 use Rattle.sng_book.specs.declared.outcome.Denial.{Denial}
-use Rattle.sng_book.specs.declared.outcome.Denial.TheVariants.{Malformed, NotSupported, NoScope, NoSession}
-use Rattle.sng_book.specs.declared.outcome.Denial.TheVariants.{UnknownSource, BadName}
-use Rattle.sng_book.specs.declared.outcome.Denial.TheVariants.{BadFilter, IdType, UnknownId}
-use Rattle.sng_book.specs.declared.outcome.Denial.TheVariants.{Uncovered}
-use Rattle.sng_book.specs.declared.outcome.Denial.TheVariants.{BrokerRefused, OutOfTurn}
-use Rattle.sng_book.specs.declared.outcome.Denial.TheVariants.{UpstreamDown, Full, TooLong}
+use Rattle.sng_book.specs.declared.outcome.Denial.TheVariants.{Form, Grant, Room, Peer}
+use Rattle.sng_book.specs.declared.outcome.GrantDenial.TheVariants.{NoScope, UnknownSource, Uncovered}
+use Rattle.sng_book.specs.declared.outcome.RoomDenial.TheVariants.{UpstreamDown, Full}
+use Rattle.sng_book.specs.declared.outcome.PeerDenial.TheVariants.{BrokerRefused}
 use Rattle.sng_book.specs.declared.outcome.Outcome.{Outcome}
 use Rattle.sng_book.specs.declared.outcome.Outcome.TheVariants.{Allowed, Denied}
 use Rattle.sng_book.specs.declared.out.Out.{Out}
@@ -35,21 +33,12 @@ use Rattle.sng_laws.specs.LawsRules.{receive_rules, may_receive, IsDenial}
 
 -- want of the connection or of room, which is no policy's
 abbrev pub is_of_room : Denial → Bool
-is_of_room UpstreamDown = true
-is_of_room (Full place) = true
-is_of_room TooLong = true
+is_of_room (Room rule) = true
 is_of_room other = false
 
 -- a rule of the form of a message, of its turn, or of its session
 abbrev pub is_of_form : Denial → Bool
-is_of_form Malformed = true
-is_of_form NotSupported = true
-is_of_form NoSession = true
-is_of_form BadName = true
-is_of_form BadFilter = true
-is_of_form IdType = true
-is_of_form (UnknownId kind id) = true
-is_of_form OutOfTurn = true
+is_of_form (Form rule) = true
 is_of_form other = false
 
 -- ---- outcomes
@@ -61,8 +50,8 @@ IsSaid verdict (Denied rule) = MatchBool (is_of_room rule) (verdict ≡ Allowed)
 
 -- the policy does not list who asks
 abbrev pub IsUnlisted : Policy → Who → Denial → Type 0
-IsUnlisted policy (who.Client id) rule = (rule ≡ NoScope id) × (lists policy id ≡ false)
-IsUnlisted policy (who.Source ip) rule = (rule ≡ UnknownSource) × (lists_source policy ip ≡ false)
+IsUnlisted policy (who.Client id) rule = (rule ≡ Grant (NoScope id)) × (lists policy id ≡ false)
+IsUnlisted policy (who.Source ip) rule = (rule ≡ Grant UnknownSource) × (lists_source policy ip ≡ false)
 IsUnlisted policy (who.Address from) rule = ⊥
 IsUnlisted policy who.Broker rule = ⊥
 
@@ -114,11 +103,11 @@ pub record IsGap (policy : Policy) (id text gap : List ℕ) : Type 0 where
 -- a subscription is denied for want of a scope, or with a gap; want of the connection or of room comes behind
 -- the policy
 abbrev pub SubscriptionDenied : Policy → List ℕ → List ℕ → Denial → Type 0
-SubscriptionDenied policy id filter (NoScope client) = (client ≡ id) × (lists policy id ≡ false)
-SubscriptionDenied policy id filter (Uncovered text gap) =
+SubscriptionDenied policy id filter (Grant (NoScope client)) = (client ≡ id) × (lists policy id ≡ false)
+SubscriptionDenied policy id filter (Grant (Uncovered text gap)) =
     (text ≡ filter) × (HasFilters (scope_of policy.clients id) → IsGap policy id filter gap)
-SubscriptionDenied policy id filter UpstreamDown = IsIncluded policy id filter
-SubscriptionDenied policy id filter (Full place) = IsIncluded policy id filter
+SubscriptionDenied policy id filter (Room UpstreamDown) = IsIncluded policy id filter
+SubscriptionDenied policy id filter (Room (Full place)) = IsIncluded policy id filter
 SubscriptionDenied policy id filter other = ⊥
 
 abbrev pub MaySubscribe : Policy → Who → Option (List ℕ) → Outcome → Type 0
@@ -129,10 +118,8 @@ MaySubscribe policy whom None outcome = IsUnread policy whom outcome
 
 -- a subscription ends as the policy does not allow it any more, or as the broker refuses it
 abbrev pub MayEnd : Policy → List ℕ → List ℕ → Outcome → Type 0
-MayEnd policy id filter (Denied BrokerRefused) = Unit {0}
-MayEnd policy id filter (Denied (NoScope client)) = SubscriptionDenied policy id filter (NoScope client)
-MayEnd policy id filter (Denied (Uncovered text gap)) =
-    SubscriptionDenied policy id filter (Uncovered text gap)
+MayEnd policy id filter (Denied (Peer BrokerRefused)) = Unit {0}
+MayEnd policy id filter (Denied (Grant rule)) = SubscriptionDenied policy id filter (Grant rule)
 MayEnd policy id filter other = ⊥
 
 -- an UNSUBSCRIBE of a client needs no grant, and any other message no more than its form, turn and session

@@ -10,10 +10,11 @@ use Rattle.sng_policy.specs.declared.permission.Permission.TheVariants.{Publish,
 use Rattle.sng_outbox.specs.declared.origin.Origin.{Origin}
 use Rattle.sng_outbox.specs.declared.origin.Origin.TheVariants as origin
 use Rattle.sng_book.specs.declared.outcome.Denial.{Denial}
-use Rattle.sng_book.specs.declared.outcome.Denial.TheVariants.{NoScope, UnknownSource, MissingPub}
-use Rattle.sng_book.specs.declared.outcome.Denial.TheVariants.{MissingSub}
-use Rattle.sng_book.specs.declared.outcome.Denial.TheVariants.{ClientRefused}
-use Rattle.sng_book.specs.declared.outcome.Denial.TheVariants.{Full, TooLong, Gone}
+use Rattle.sng_book.specs.declared.outcome.Denial.TheVariants.{Grant, Room, Peer}
+use Rattle.sng_book.specs.declared.outcome.GrantDenial.TheVariants.{NoScope, UnknownSource, MissingPub}
+use Rattle.sng_book.specs.declared.outcome.GrantDenial.TheVariants.{MissingSub}
+use Rattle.sng_book.specs.declared.outcome.RoomDenial.TheVariants.{Full, TooLong}
+use Rattle.sng_book.specs.declared.outcome.PeerDenial.TheVariants.{ClientRefused, Gone}
 use Rattle.sng_book.specs.declared.outcome.Outcome.{Outcome}
 use Rattle.sng_book.specs.declared.outcome.Outcome.TheVariants.{Allowed, Denied}
 use Rattle.sng_book.specs.declared.outcome.Place.TheVariants as place
@@ -33,8 +34,8 @@ scope_for policy (origin.Source source) = scope_of policy.sources source
 
 -- the rule by which the policy has no scope for it
 abbrev pub unlisted_rule : Origin → Denial
-unlisted_rule (origin.Client client) = NoScope client
-unlisted_rule (origin.Source source) = UnknownSource
+unlisted_rule (origin.Client client) = Grant (NoScope client)
+unlisted_rule (origin.Source source) = Grant UnknownSource
 
 -- some pair with `pub` matches the name
 abbrev pub may_publish : Option (List Pair) → List ℕ → Bool
@@ -45,7 +46,7 @@ may_publish (Some pairs) name = is_granted Publish pairs name
 abbrev pub publish_rules : Policy → Origin → List ℕ → List Rule
 publish_rules policy asker name =
     (not (is_some (scope_for policy asker)), unlisted_rule asker)
-    ∷ (not (may_publish (scope_for policy asker) name), MissingPub name) ∷ []
+    ∷ (not (may_publish (scope_for policy asker) name), Grant (MissingPub name)) ∷ []
 
 -- ---- what forbids a message to a client (RFC 9431, 2.3)
 
@@ -57,19 +58,18 @@ may_receive (Some pairs) name = is_granted Subscribe pairs name
 -- by the policy: not listed, or no pair with `sub` that matches
 abbrev pub receive_rules : Policy → List ℕ → List ℕ → List Rule
 receive_rules policy id name =
-    (not (is_some (scope_of policy.clients id)), NoScope id)
-    ∷ (not (may_receive (scope_of policy.clients id) name), MissingSub name)
+    (not (is_some (scope_of policy.clients id)), Grant (NoScope id))
+    ∷ (not (may_receive (scope_of policy.clients id) name), Grant (MissingSub name))
     ∷ []
 
 -- a message may be denied so: for want of a scope, or of a pair that matches, it is the judgement by this
 -- policy; for want of an id only where this policy allows it; by the client, as it came, or as it is gone,
 -- which is no policy's; and for no other reason
 abbrev pub IsDenial : Policy → List ℕ → List ℕ → Denial → Type 0
-IsDenial policy id name (NoScope client) = judged (receive_rules policy id name) ≡ Denied (NoScope client)
-IsDenial policy id name (MissingSub text) = judged (receive_rules policy id name) ≡ Denied (MissingSub text)
-IsDenial policy id name (Full place.Ids) = judged (receive_rules policy id name) ≡ Allowed
-IsDenial policy id name (ClientRefused code) = Unit {0}
-IsDenial policy id name TooLong = Unit {0}
-IsDenial policy id name (Full place.Queue) = Unit {0}
-IsDenial policy id name Gone = Unit {0}
+IsDenial policy id name (Grant rule) = judged (receive_rules policy id name) ≡ Denied (Grant rule)
+IsDenial policy id name (Room (Full place.Ids)) = judged (receive_rules policy id name) ≡ Allowed
+IsDenial policy id name (Room (Full place.Queue)) = Unit {0}
+IsDenial policy id name (Room TooLong) = Unit {0}
+IsDenial policy id name (Peer (ClientRefused code)) = Unit {0}
+IsDenial policy id name (Peer Gone) = Unit {0}
 IsDenial policy id name other = ⊥

@@ -7,7 +7,8 @@ use Rattle.sng_text.specs.Matching.{matches}
 use Rattle.sng_grants.specs.Sources.{scope_of}
 use Rattle.sng_policy.specs.Grants.{subscribe_grant, receive_grant}
 use Rattle.sng_policy.specs.Laws.{HasFilters}
-use Rattle.sng_policy.specs.declared.grant.Grant.TheVariants as grant
+use Rattle.sng_policy.specs.declared.grant.NameGrant.TheVariants as on_name
+use Rattle.sng_policy.specs.declared.grant.FilterGrant.TheVariants as on_filter
 use Rattle.sng_fan.specs.Subscriptions.{stands}
 use Rattle.sng_frames.specs.declared.messages.subscribe.TopicRequest.{TopicRequest}
 use Rattle.sng_frames.specs.declared.frame.SnFrame.TheVariants as frame
@@ -31,7 +32,7 @@ use Rattle.sng_laws.specs.LawsAnswers.{Brought}
 abbrev pub StandingIsAllowed : List Row → Type 0
 StandingIsAllowed h =
     (id text : List ℕ) → stands (standing_of id h) text ≡ true
-    → subscribe_grant (policy_in_force h) id text ≡ grant.Allowed
+    → subscribe_grant (policy_in_force h) id text ≡ on_filter.Allowed
 
 -- it is a topic filter
 abbrev pub StandingIsFilter : List Row → Type 0
@@ -43,7 +44,7 @@ StandingIsReceived h =
     (id text name : List ℕ) → stands (standing_of id h) text ≡ true
     → HasFilters (scope_of (policy_in_force h).clients id)
     → is_name name ≡ true → matches text name ≡ true
-    → receive_grant (policy_in_force h) id name ≡ grant.Allowed
+    → receive_grant (policy_in_force h) id name ≡ on_name.Allowed
 
 -- ---- what goes upstream
 

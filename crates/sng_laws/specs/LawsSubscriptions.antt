@@ -10,8 +10,9 @@ use Rattle.sng_grants.specs.Sources.{scope_of}
 use Rattle.sng_grants.specs.declared.policy.Policy.{Policy}
 use Rattle.sng_policy.specs.Grants.{lists, topic, subscribe_grant, receive_grant}
 use Rattle.sng_policy.specs.Laws.{HasFilters}
-use Rattle.sng_policy.specs.declared.grant.Grant.{Grant}
-use Rattle.sng_policy.specs.declared.grant.Grant.TheVariants as grant
+use Rattle.sng_policy.specs.declared.grant.NameGrant.TheVariants as on_name
+use Rattle.sng_policy.specs.declared.grant.FilterGrant.{FilterGrant}
+use Rattle.sng_policy.specs.declared.grant.FilterGrant.TheVariants as on_filter
 use Rattle.sng_fan.specs.Subscriptions.{stands}
 use Rattle.sng_fan.specs.declared.limits.TheConstants.{MAX_SUBSCRIPTIONS}
 use Rattle.sng_frames.specs.Writing.{written}
@@ -28,9 +29,11 @@ use Rattle.sng_book.specs.declared.decision.Decision.TheVariants as note
 use Rattle.sng_book.specs.declared.decision.Who.TheVariants as who
 use Rattle.sng_book.specs.declared.outcome.IdKind.TheVariants as kind
 use Rattle.sng_book.specs.declared.outcome.Place.TheVariants as place
-use Rattle.sng_book.specs.declared.outcome.Denial.TheVariants.{NoScope, NoSession, BadName, BadFilter, IdType}
-use Rattle.sng_book.specs.declared.outcome.Denial.TheVariants.{UnknownId, Uncovered, OutOfTurn, UpstreamDown}
-use Rattle.sng_book.specs.declared.outcome.Denial.TheVariants.{Full}
+use Rattle.sng_book.specs.declared.outcome.Denial.TheVariants.{Form, Grant, Room}
+use Rattle.sng_book.specs.declared.outcome.FormDenial.TheVariants.{NoSession, BadName, BadFilter, IdType}
+use Rattle.sng_book.specs.declared.outcome.FormDenial.TheVariants.{UnknownId, OutOfTurn}
+use Rattle.sng_book.specs.declared.outcome.GrantDenial.TheVariants.{NoScope, Uncovered}
+use Rattle.sng_book.specs.declared.outcome.RoomDenial.TheVariants.{UpstreamDown, Full}
 use Rattle.sng_book.specs.declared.outcome.Outcome.{Outcome}
 use Rattle.sng_book.specs.declared.outcome.Outcome.TheVariants.{Allowed, Denied}
 use Rattle.sng_book.specs.declared.out.Out.{Out}
@@ -86,24 +89,24 @@ filter_meant policy Reserved octets = None
 -- what forbids it by its form, in order
 abbrev pub form_rules : Policy → TopicRequest → List Rule
 form_rules policy r =
-    (is_reserved r.flags.id_type, IdType)
-    ∷ (is_bad_filter policy r.flags.id_type r.topic, BadFilter)
-    ∷ (is_bad_name r.flags.id_type r.topic, BadName)
-    ∷ (is_unnamed policy r.flags.id_type r.topic, UnknownId kind.Predefined (number_in r.topic))
+    (is_reserved r.flags.id_type, Form IdType)
+    ∷ (is_bad_filter policy r.flags.id_type r.topic, Form BadFilter)
+    ∷ (is_bad_name r.flags.id_type r.topic, Form BadName)
+    ∷ (is_unnamed policy r.flags.id_type r.topic, Form (UnknownId kind.Predefined (number_in r.topic)))
     ∷ []
 
 -- ---- SUBSCRIBE (5.4.15, 5.4.16 and 6.9)
 
 -- the name that the policy answers with where it denies a subscription
-abbrev pub gap_in : Grant → Option (List ℕ)
-gap_in (grant.Uncovered gap) = Some gap
+abbrev pub gap_in : FilterGrant → Option (List ℕ)
+gap_in (on_filter.Uncovered gap) = Some gap
 gap_in other = None
 
 -- the filter is not covered: the policy answers with a gap
 abbrev pub gap_rule : Policy → List ℕ → List ℕ → Rule
 gap_rule policy id text =
     let gap = gap_in (subscribe_grant policy id text) in
-    (is_some gap, Uncovered text (or_empty gap))
+    (is_some gap, Grant (Uncovered text (or_empty gap)))
 
 -- what forbids a subscription that is covered, in order: a connection that is down, a name without an id
 -- where `MAX_TOPIC_IDS` were told, a filter that does not stand for the client where `MAX_SUBSCRIPTIONS` do,
@@ -112,13 +115,16 @@ abbrev pub room_rules : List Row → List ℕ → TopicIdType → List ℕ → L
 room_rules h id type text =
     let told = names_told id h in
     let held = standing_of id h in
-    (not (is_up h), UpstreamDown)
+    (not (is_up h), Room UpstreamDown)
     ∷ (
       tells_id type text && (not (is_among text told) && not (nat_lt (length told) MAX_TOPIC_IDS)),
-      Full place.Ids,
+      Room (Full place.Ids),
     )
-    ∷ (not (stands held text) && not (nat_lt (length held) MAX_SUBSCRIPTIONS), Full place.Subscriptions)
-    ∷ (not (nat_lt (length (waiting h)) MAX_OUTBOX_ITEMS), Full place.Outbox)
+    ∷ (
+      not (stands held text) && not (nat_lt (length held) MAX_SUBSCRIPTIONS),
+      Room (Full place.Subscriptions),
+    )
+    ∷ (not (nat_lt (length (waiting h)) MAX_OUTBOX_ITEMS), Room (Full place.Outbox))
     ∷ []
 
 -- what forbids a SUBSCRIBE of a client, in order
@@ -126,8 +132,8 @@ abbrev pub subscribe_rules : List Row → List ℕ → TopicRequest → List Rul
 subscribe_rules h id r =
     let policy = policy_in_force h in
     let text = or_empty (filter_meant policy r.flags.id_type r.topic) in
-    (not (is_active (phase_of id h)), OutOfTurn)
-    ∷ (not (lists policy id), NoScope id)
+    (not (is_active (phase_of id h)), Form OutOfTurn)
+    ∷ (not (lists policy id), Grant (NoScope id))
     ∷ (form_rules policy r ++ gap_rule policy id text ∷ room_rules h id r.flags.id_type text)
 
 -- messages go to a client at QoS 0 or 1
@@ -160,7 +166,8 @@ suback to topic_id r (Denied rule) =
 
 -- by nobody it has no session
 abbrev pub subscribe_stranger : Address → List Out
-subscribe_stranger from = Note (note.Subscribe (who.Address from) None (Denied NoSession)) ∷ bye from ∷ []
+subscribe_stranger from =
+    Note (note.Subscribe (who.Address from) None (Denied (Form NoSession))) ∷ bye from ∷ []
 
 -- of a client it is noted, with the filter where the client may ask and it names one, and answered
 abbrev pub subscribe_answer : List Row → Address → TopicRequest → List ℕ → List Out
@@ -175,7 +182,8 @@ subscribe_answer h from r id =
 
 -- what forbids an UNSUBSCRIBE of a client, in order: it needs no grant
 abbrev pub unsubscribe_rules : List Row → List ℕ → TopicRequest → List Rule
-unsubscribe_rules h id r = (not (is_active (phase_of id h)), OutOfTurn) ∷ form_rules (policy_in_force h) r
+unsubscribe_rules h id r =
+    (not (is_active (phase_of id h)), Form OutOfTurn) ∷ form_rules (policy_in_force h) r
 
 -- the filter ends for the active client at the address
 abbrev pub stays_without : List Row → Address → List ℕ → Stays
@@ -188,7 +196,8 @@ unsubscribed_note h from id (Some text) (Denied rule) = []
 unsubscribed_note h from id None outcome = []
 
 abbrev pub unsubscribe_stranger : Address → List Out
-unsubscribe_stranger from = Note (note.Unsubscribe (who.Address from) None (Denied NoSession)) ∷ bye from ∷ []
+unsubscribe_stranger from =
+    Note (note.Unsubscribe (who.Address from) None (Denied (Form NoSession))) ∷ bye from ∷ []
 
 -- it is noted, and behind it where the broker is not told that its filter stands for nobody any more; and
 -- UNSUBACK answers
@@ -205,14 +214,14 @@ unsubscribe_answer h from r id =
 abbrev pub EachReceived : Policy → List ℕ → List ℕ → Type 0
 EachReceived policy id text =
     (name : List ℕ) → is_name name ≡ true → matches text name ≡ true
-    → receive_grant policy id name ≡ grant.Allowed
+    → receive_grant policy id name ≡ on_name.Allowed
 
 -- the name shows that the filter is not covered: the filter matches it, and it may not be received
 pub record ShowsGap (policy : Policy) (id text gap : List ℕ) (outcome : Outcome) : Type 0 where
-  pub denied : outcome ≡ Denied (Uncovered text gap)
+  pub denied : outcome ≡ Denied (Grant (Uncovered text gap))
   pub name : is_name gap ≡ true
   pub matched : matches text gap ≡ true
-  pub missing : receive_grant policy id gap ≡ grant.MissingSub
+  pub missing : receive_grant policy id gap ≡ on_name.Missing
 
 -- a SUBSCRIBE that is well formed is denied as uncovered, with a gap, or else each name that its filter
 -- matches may be received, and it is allowed where there is room
@@ -235,7 +244,7 @@ SubscribesExactly h id r =
 
 -- what forbids a subscription of a client under a policy
 abbrev pub cover_rules : Policy → List ℕ → List ℕ → List Rule
-cover_rules policy id text = (not (lists policy id), NoScope id) ∷ gap_rule policy id text ∷ []
+cover_rules policy id text = (not (lists policy id), Grant (NoScope id)) ∷ gap_rule policy id text ∷ []
 
 abbrev pub stays_under : Policy → Stays
 stays_under policy id text = is_allowed (judged (cover_rules policy id text))

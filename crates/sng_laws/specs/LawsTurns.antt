@@ -11,10 +11,9 @@ use Rattle.sng_book.specs.declared.decision.Decision.{Decision}
 use Rattle.sng_book.specs.declared.decision.Decision.TheVariants as note
 use Rattle.sng_book.specs.declared.outcome.Place.TheVariants as place
 use Rattle.sng_book.specs.declared.outcome.Denial.{Denial}
-use Rattle.sng_book.specs.declared.outcome.Denial.TheVariants.{NoScope}
-use Rattle.sng_book.specs.declared.outcome.Denial.TheVariants.{MissingSub}
-use Rattle.sng_book.specs.declared.outcome.Denial.TheVariants.{ClientRefused}
-use Rattle.sng_book.specs.declared.outcome.Denial.TheVariants.{Full, TooLong, Gone}
+use Rattle.sng_book.specs.declared.outcome.Denial.TheVariants.{Grant, Room, Peer}
+use Rattle.sng_book.specs.declared.outcome.RoomDenial.TheVariants.{Full, TooLong}
+use Rattle.sng_book.specs.declared.outcome.PeerDenial.TheVariants.{ClientRefused, Gone}
 use Rattle.sng_book.specs.declared.outcome.Outcome.TheVariants.{Allowed, Denied}
 use Rattle.sng_book.specs.declared.event.Event.{Event}
 use Rattle.sng_book.specs.declared.event.Event.TheVariants.{Datagram, Broker, Tick}
@@ -130,13 +129,12 @@ may_deny by now = is_free_at now || (is_at_tick by && is_judged_again now)
 -- nothing is open any more. So before its answer an announced front is denied at a tick alone. No message is
 -- denied for another reason
 abbrev pub IsDeniedSo : Occasion → Denial → Moment → Type 0
-IsDeniedSo by (NoScope client) now = may_deny by now ≡ true
-IsDeniedSo by (MissingSub name) now = may_deny by now ≡ true
-IsDeniedSo by (Full place.Ids) now = may_deny by now ≡ true
-IsDeniedSo by (ClientRefused code) now = (is_at_regack by code && is_judged_again now) ≡ true
-IsDeniedSo by TooLong now = is_at_packet by ≡ true
-IsDeniedSo by (Full place.Queue) now = is_at_packet by ≡ true
-IsDeniedSo by Gone now = is_idle now.progress.unanswered ≡ true
+IsDeniedSo by (Grant rule) now = may_deny by now ≡ true
+IsDeniedSo by (Room (Full place.Ids)) now = may_deny by now ≡ true
+IsDeniedSo by (Room (Full place.Queue)) now = is_at_packet by ≡ true
+IsDeniedSo by (Room TooLong) now = is_at_packet by ≡ true
+IsDeniedSo by (Peer (ClientRefused code)) now = (is_at_regack by code && is_judged_again now) ≡ true
+IsDeniedSo by (Peer Gone) now = is_idle now.progress.unanswered ≡ true
 IsDeniedSo by other now = Unit {0}
 
 -- a message is handed over, or an id of its name announced, only where the client is free: handed over where

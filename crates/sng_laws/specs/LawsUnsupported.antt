@@ -13,7 +13,8 @@ use Rattle.sng_book.specs.declared.decision.Decision.{Decision}
 use Rattle.sng_book.specs.declared.decision.Decision.TheVariants as note
 use Rattle.sng_book.specs.declared.decision.Who.{Who}
 use Rattle.sng_book.specs.declared.decision.Who.TheVariants as who
-use Rattle.sng_book.specs.declared.outcome.Denial.TheVariants.{NotSupported}
+use Rattle.sng_book.specs.declared.outcome.Denial.TheVariants.{Form}
+use Rattle.sng_book.specs.declared.outcome.FormDenial.TheVariants.{NotSupported}
 use Rattle.sng_book.specs.declared.outcome.Outcome.TheVariants.{Denied}
 use Rattle.sng_book.specs.declared.out.Out.{Out}
 use Rattle.sng_book.specs.declared.out.Out.TheVariants.{Send, Note}
@@ -53,15 +54,15 @@ is_unsupported (frame.WillMessageResponse code) = true
 
 -- an ask is noted under its own kind, any other message as a frame
 abbrev pub noted_as : Who → SnFrame → Decision
-noted_as whom (frame.Register register) = note.Register whom None (Denied NotSupported)
-noted_as whom (frame.Publish p) = note.Publish whom None (Denied NotSupported)
-noted_as whom (frame.Subscribe request) = note.Subscribe whom None (Denied NotSupported)
-noted_as whom (frame.Unsubscribe request) = note.Unsubscribe whom None (Denied NotSupported)
-noted_as whom (frame.WillTopic topic) = note.Will whom None (Denied NotSupported)
-noted_as whom (frame.WillMessage message) = note.Will whom None (Denied NotSupported)
-noted_as whom (frame.WillTopicUpdate topic) = note.Will whom None (Denied NotSupported)
-noted_as whom (frame.WillMessageUpdate message) = note.Will whom None (Denied NotSupported)
-noted_as whom other = note.Frame whom (Denied NotSupported)
+noted_as whom (frame.Register register) = note.Register whom None (Denied (Form NotSupported))
+noted_as whom (frame.Publish p) = note.Publish whom None (Denied (Form NotSupported))
+noted_as whom (frame.Subscribe request) = note.Subscribe whom None (Denied (Form NotSupported))
+noted_as whom (frame.Unsubscribe request) = note.Unsubscribe whom None (Denied (Form NotSupported))
+noted_as whom (frame.WillTopic topic) = note.Will whom None (Denied (Form NotSupported))
+noted_as whom (frame.WillMessage message) = note.Will whom None (Denied (Form NotSupported))
+noted_as whom (frame.WillTopicUpdate topic) = note.Will whom None (Denied (Form NotSupported))
+noted_as whom (frame.WillMessageUpdate message) = note.Will whom None (Denied (Form NotSupported))
+noted_as whom other = note.Frame whom (Denied (Form NotSupported))
 
 abbrev pub unset : Flags
 unset =

@@ -1,6 +1,6 @@
 -- What a client states of its will, as it is judged and answered, in the views' words (MQTT-SN 1.2, 5.4.6 to
 -- 5.4.9, 5.4.22 to 5.4.25, 6.3 and 6.4).
-use Rattle.std.specs.Prelude.{ℕ, ◌==◌, Bool, true, false, ◌&&◌, not, List, [], ◌∷◌, ◌++◌, is_some}
+use Rattle.std.specs.Prelude.{ℕ, Bool, true, false, ◌&&◌, not, List, [], ◌∷◌, ◌++◌, is_some}
 use Rattle.std.specs.Prelude.{if◌then◌else◌, Option, Some, None}
 use Rattle.std.specs.Option.{option_map}
 use Rattle.sng_text.specs.Texts.{is_name}
@@ -13,13 +13,13 @@ use Rattle.sng_frames.specs.Writing.{written}
 use Rattle.sng_frames.specs.declared.return_code.TheConstants.ReturnCode.{ACCEPTED}
 use Rattle.sng_frames.specs.declared.frame.SnFrame.{SnFrame}
 use Rattle.sng_frames.specs.declared.frame.SnFrame.TheVariants as frame
-use Rattle.sng_book.specs.Denials.{number_of}
 use Rattle.sng_book.specs.declared.address.Address.{Address}
 use Rattle.sng_book.specs.declared.decision.Decision.TheVariants as note
 use Rattle.sng_book.specs.declared.decision.Who.TheVariants as who
 use Rattle.sng_book.specs.declared.outcome.Denial.{Denial}
-use Rattle.sng_book.specs.declared.outcome.Denial.TheVariants.{NoScope, NoSession, BadName, MissingPub}
-use Rattle.sng_book.specs.declared.outcome.Denial.TheVariants.{OutOfTurn}
+use Rattle.sng_book.specs.declared.outcome.Denial.TheVariants.{Form, Grant}
+use Rattle.sng_book.specs.declared.outcome.FormDenial.TheVariants.{NoSession, BadName, OutOfTurn}
+use Rattle.sng_book.specs.declared.outcome.GrantDenial.TheVariants.{NoScope, MissingPub}
 use Rattle.sng_book.specs.declared.outcome.Outcome.{Outcome}
 use Rattle.sng_book.specs.declared.outcome.Outcome.TheVariants.{Allowed, Denied}
 use Rattle.sng_book.specs.declared.out.Out.{Out}
@@ -69,14 +69,15 @@ topic_of h id (UpdatesMessage message) = option_map (λ will. will.topic) (will_
 abbrev pub topic_rules : Policy → List ℕ → Option (List ℕ) → List Rule
 topic_rules policy id None = []
 topic_rules policy id (Some text) =
-    (not (lists policy id), NoScope id)
-    ∷ (not (is_name text), BadName)
-    ∷ (not (may_publish (scope_of policy.clients id) text), MissingPub text)
+    (not (lists policy id), Grant (NoScope id))
+    ∷ (not (is_name text), Form BadName)
+    ∷ (not (may_publish (scope_of policy.clients id) text), Grant (MissingPub text))
     ∷ []
 
 abbrev pub will_rules : List Row → List ℕ → Statement → List Rule
 will_rules h id statement =
-    (not (has_turn h id statement), OutOfTurn) ∷ topic_rules (policy_in_force h) id (topic_of h id statement)
+    (not (has_turn h id statement), Form OutOfTurn)
+    ∷ topic_rules (policy_in_force h) id (topic_of h id statement)
 
 -- the note names the topic where it was read: the client may ask, and it is a topic name
 abbrev pub is_read : Policy → List ℕ → Option (List ℕ) → Bool
@@ -91,7 +92,8 @@ topic_noted h id statement =
 -- ---- the row
 
 abbrev pub is_out_of_turn : Denial → Bool
-is_out_of_turn rule = number_of rule == 15
+is_out_of_turn (Form OutOfTurn) = true
+is_out_of_turn other = false
 
 -- in the dialogue a topic is answered by WILLMSGREQ and its end by CONNACK, with the code of the rule where
 -- one forbids it; what is out of turn is not answered. An update is answered by its own acknowledgement, also
@@ -133,4 +135,4 @@ will_answer h from statement id =
 
 -- by nobody there is no session
 abbrev pub will_stranger : Address → List Out
-will_stranger from = Note (note.Will (who.Address from) None (Denied NoSession)) ∷ bye from ∷ []
+will_stranger from = Note (note.Will (who.Address from) None (Denied (Form NoSession))) ∷ bye from ∷ []

@@ -5,7 +5,8 @@ use Rattle.sng_text.specs.declared.qos.Qos.TheVariants.{AtMostOnce, AtLeastOnce}
 use Rattle.sng_outbox.specs.Sending.{load}
 use Rattle.sng_outbox.specs.declared.limits.TheConstants.{MAX_IN_FLIGHT}
 use Rattle.sng_book.specs.declared.outcome.Place.TheVariants as place
-use Rattle.sng_book.specs.declared.outcome.Denial.TheVariants.{Full}
+use Rattle.sng_book.specs.declared.outcome.Denial.TheVariants as denial
+use Rattle.sng_book.specs.declared.outcome.RoomDenial.TheVariants.{Full}
 use Rattle.sng_book.specs.declared.outcome.Outcome.{Outcome}
 use Rattle.sng_book.specs.declared.outcome.Outcome.TheVariants.{Allowed, Denied}
 use Rattle.sng_history.specs.Links.{Link}
@@ -20,12 +21,13 @@ room_of link = record {
 }
 
 abbrev pub place_by : ℕ → Outcome
-place_by places = if places == 0 then Denied (Full place.Outbox) else Allowed
+place_by places = if places == 0 then Denied (denial.Room (Full place.Outbox)) else Allowed
 
 -- whether there is room for one more publish at this QoS
 abbrev pub room_by : Room → Qos → Outcome
 room_by room AtMostOnce = place_by room.places
-room_by room AtLeastOnce = if room.flights == 0 then Denied (Full place.InFlight) else place_by room.places
+room_by room AtLeastOnce =
+    if room.flights == 0 then Denied (denial.Room (Full place.InFlight)) else place_by room.places
 
 -- the room that a publish takes which finds its place
 abbrev pub less : Room → Qos → Room

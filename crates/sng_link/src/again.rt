@@ -19,12 +19,12 @@ ghost use Rattle.sng_link.specs.Resending.{AllWanted, Resubscribed};
 ghost use Rattle.sng_link.specs.Steps.{Logged};
 ghost use Rattle.sng_link.specs.Taking.{Stands};
 
-use crate::exit::exit;
 use crate::leaving::{packet_of, subscribed};
 use crate::step::{Step, undo};
 use mqtt_frames::encode_subscribe;
 use sng_book::{Decision, Out, Outs, OutsPair, Who};
 use sng_grants::Policy;
+use sng_history::exit;
 use sng_outbox::{Outbox, PacketIds, Publication};
 use sng_text::{Qos, TopicFilter};
 use sng_wanted::Wanted;

@@ -16,13 +16,13 @@ ghost use Rattle.sng_link.specs.Steps.{marked, Logged};
 ghost use Rattle.sng_link.specs.Taking.{id_at, flight_id, item_outs, item_step, no_step, step_under};
 ghost use Rattle.sng_link.specs.Taking.{numbered, wanted_after, IsStep, Planned};
 
-use crate::exit::exit;
 use crate::step::Step;
 use mqtt_frames::{
     encode_ping_request, encode_publish_ack, encode_subscribe, encode_unsubscribe, write_publish,
 };
 use sng_book::{Decision, Out, Outs, OutsPair, Who};
 use sng_grants::Policy;
+use sng_history::exit;
 use sng_outbox::{Item, Outbox, PacketIds, Publication};
 use sng_text::{Octets, Qos, TopicFilter};
 use sng_wanted::Wanted;

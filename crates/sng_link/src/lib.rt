@@ -3,7 +3,6 @@
 #![tactic(auto)]
 
 mod again;
-pub mod exit;
 mod leaving;
 pub mod link;
 pub mod room;

@@ -16,7 +16,7 @@ ghost use Rattle.sng_link.specs.Rooms.{room_of};
 use crate::again::begin;
 use crate::room::Room;
 use crate::taking::take;
-use sng_book::{Denial, Outcome, OutsPair, Place};
+use sng_book::{Denial, Outcome, OutsPair, Place, RoomDenial};
 use sng_grants::Policy;
 use sng_history::PING_MS;
 use sng_outbox::{Item, MAX_IN_FLIGHT, MAX_OUTBOX_ITEMS, Outbox, PacketIds, Publication};
@@ -68,9 +68,9 @@ impl Link {
         ensures { result ≡ room_in self.now qos }
     {
         if !self.has_flight(qos) {
-            Outcome::Denied(Denial::Full(Place::InFlight))
+            Outcome::Denied(Denial::Room(RoomDenial::Full(Place::InFlight)))
         } else if !self.has_place() {
-            Outcome::Denied(Denial::Full(Place::Outbox))
+            Outcome::Denied(Denial::Room(RoomDenial::Full(Place::Outbox)))
         } else {
             Outcome::Allowed
         }

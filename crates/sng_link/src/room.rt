@@ -3,7 +3,7 @@
 ghost use Rattle.std.specs.Prelude.{◌≡◌};
 ghost use Rattle.sng_link.specs.Rooms.{room_by, room_past};
 
-use sng_book::{Denial, Outcome, Place};
+use sng_book::{Denial, Outcome, Place, RoomDenial};
 use sng_text::Qos;
 
 /// The room that there is.
@@ -34,7 +34,7 @@ impl Room {
         ensures left { self.new ≡ room_past self.old Qos.AtMostOnce }
     {
         if self.places == 0 {
-            return Outcome::Denied(Denial::Full(Place::Outbox));
+            return Outcome::Denied(Denial::Room(RoomDenial::Full(Place::Outbox)));
         }
         self.places -= 1;
         Outcome::Allowed
@@ -46,10 +46,10 @@ impl Room {
         ensures left { self.new ≡ room_past self.old Qos.AtLeastOnce }
     {
         if self.flights == 0 {
-            return Outcome::Denied(Denial::Full(Place::InFlight));
+            return Outcome::Denied(Denial::Room(RoomDenial::Full(Place::InFlight)));
         }
         if self.places == 0 {
-            return Outcome::Denied(Denial::Full(Place::Outbox));
+            return Outcome::Denied(Denial::Room(RoomDenial::Full(Place::Outbox)));
         }
         self.places -= 1;
         self.flights -= 1;

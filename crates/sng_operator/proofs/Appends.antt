@@ -1,4 +1,5 @@
--- What a text is behind calls that append to it, one after another, of which the last one's `Result` is returned.
+-- What a text is behind calls that append to it, one after another, of which the last one's `Result` is
+-- returned.
 use Rattle.std.proofs.Common.{ℕ, ◌≡◌, List, ◌++◌, Result, OnOk, ap, ◌∙◌, append_assoc}
 use Rattle.std.proofs.lemmas.Result.{IfOk-equal}
 

@@ -1,9 +1,11 @@
--- What a line of standard input asks a running gateway for: words parted by one space, or the text of a policy.
-use Rattle.std.specs.Prelude.{ℕ, ◌-◌, ◌==◌, codes, List, [], ◌∷◌, ◌++◌, length, min, take, drop, if◌then◌else◌, Bool, Option, Some, None}
+-- What a line of standard input asks a running gateway for: words parted by one space, or the text of a
+-- policy.
+use Rattle.std.specs.Prelude.{ℕ, ◌-◌, ◌==◌, codes, List, [], ◌∷◌, ◌++◌, length, min, take, drop}
+use Rattle.std.specs.Prelude.{if◌then◌else◌, Bool, Option, Some, None}
 use Rattle.std.specs.Str.{bytes_eq}
 use Rattle.sng_book.specs.Printing.{name_text}
-use Rattle.sng_gateway.specs.Lines.{parted}
-use Rattle.sng_gateway.specs.declared.limits.TheConstants.{MAX_SHOWN}
+use Rattle.sng_script.specs.Lines.{parted}
+use Rattle.sng_questions.specs.declared.limits.TheConstants.{MAX_SHOWN}
 use Rattle.sng_operator.specs.declared.commands.Command.{Command}
 use Rattle.sng_operator.specs.declared.commands.Command.TheVariants as command
 use Rattle.sng_operator.specs.declared.verbosity.Verbosity.{Verbosity}

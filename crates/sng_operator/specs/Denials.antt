@@ -54,7 +54,7 @@ words_of (Send to datagram) = []
 words_of (Wire packet) = []
 words_of (Note decision) = decision_text decision
 
--- the words of the note that is the one out of a row `0` of worker `0` on an event `up`: behind the 16 bytes of
--- `row 0 0 up`, a line feed and `note `, without the line feed at the end
+-- the words of the note that is the one out of a row `0` of worker `0` on an event `up`: behind the 16 bytes
+-- of `row 0 0 up`, a line feed and `note `, without the line feed at the end
 abbrev pub words_in : List ℕ → List ℕ
 words_in row = take (length row - 1 - 16) (drop 16 row)

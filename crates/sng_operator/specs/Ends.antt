@@ -1,6 +1,6 @@
 -- The exit status of `sng serve`.
 use Rattle.std.specs.Prelude.{ℕ}
-use Rattle.sng_gateway.specs.Statuses.{code_of}
+use Rattle.sng_script.specs.Statuses.{code_of}
 use Rattle.sng_operator.specs.declared.ends.End.{End}
 use Rattle.sng_operator.specs.declared.ends.End.TheVariants.{Command, Halted}
 use Rattle.sng_operator.specs.declared.ends.Halt.TheVariants.{FullBook, LostWorker}

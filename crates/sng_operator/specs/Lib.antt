@@ -3,6 +3,6 @@ pub mod Denials
 pub mod Ends
 pub mod Readings
 pub mod Rows
-pub mod Standings
+pub mod Overviews
 pub mod Texts
 pub mod Verbosities

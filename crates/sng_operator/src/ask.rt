@@ -5,11 +5,12 @@ ghost use Rattle.sng_operator.specs.Readings.{gateway_connect};
 use mqtt_frames::encode_connect;
 use sng_book::Address;
 use sng_bounds::FloodLimits;
-use sng_gateway::file::read_text;
-use sng_gateway::report::{Report, report_of};
-use sng_gateway::sender::address_of;
+use sng_history::PING_MS;
+use sng_questions::report::{Report, report_of};
 use sng_scope::{PolicyFault, read_policy};
-use sng_text::{ClientId, Octets, TextFault};
+use sng_script::file::read_text;
+use sng_script::sender::address_of;
+use sng_text::{ClientId, MAX_CLIENT_ID, Octets, TextFault};
 use std::alloc::{AllocError, Global};
 use std::fmt::{Display, Formatter, Write};
 use std::io::Error;
@@ -17,11 +18,12 @@ use std::net::{Ipv4Addr, SocketAddr, SocketAddrV4};
 use std::rt::Files;
 use std::{fmt, fs, io};
 
-/// More bytes than this no client id has: 23 characters of at most four.
-const MAX_ID_BYTES: usize = 92;
+/// More bytes than this no client id has: a character has four at most (RFC 3629).
+const MAX_ID_BYTES: usize = 4 * MAX_CLIENT_ID;
 
-/// The keep alive of the connection to the broker, in seconds (MQTT 3.1.1, 3.1.2.10).
-const KEEP_ALIVE: u16 = 60;
+/// The keep alive of the connection to the broker, in seconds (MQTT 3.1.1, 3.1.2.10): twice the time after
+/// which a PINGREQ is due, so that one that was lost is noticed in time.
+const KEEP_ALIVE: u16 = (2 * PING_MS / 1000) as u16;
 
 /// The words of the command line.
 #[derive(Clone, Copy, Debug, PartialEq, Eq)]
@@ -97,7 +99,12 @@ impl<'a> Display for Fault<'a> {
                 f,
                 "{option} {word}: not an IPv4 address with a port, as 0.0.0.0:1884"
             ),
-            Fault::Id(word) => write!(f, "--id {word}: not a client id of 1 to 23 characters"),
+            Fault::Id(word) => {
+                write!(
+                    f,
+                    "--id {word}: not a client id of 1 to {MAX_CLIENT_ID} characters"
+                )
+            }
             Fault::File(path, error) => write!(f, "--policy {path}: cannot be read: {error}"),
             Fault::Policy(path, fault, _) => {
                 let name = fault.name();

@@ -1,11 +1,12 @@
 //! What a line of standard input asks a running gateway for.
 ghost use Rattle.std.specs.Prelude.{◌≡◌, ◌++◌, codes, OnOk};
-ghost use Rattle.sng_operator.specs.Commands.{asked_by, front_of, request_of, unknown_text, verbosity_named, without_return, word_request, words_request};
+ghost use Rattle.sng_operator.specs.Commands.{asked_by, front_of, request_of, unknown_text, verbosity_named};
+ghost use Rattle.sng_operator.specs.Commands.{without_return, word_request, words_request};
 
 use crate::verbosity::Verbosity;
 use sng_book::print::push_name;
-use sng_gateway::MAX_SHOWN;
-use sng_gateway::sender::parted;
+use sng_questions::MAX_SHOWN;
+use sng_script::sender::parted;
 use std::alloc::AllocError;
 
 /// What a line asks for.

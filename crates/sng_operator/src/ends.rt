@@ -2,7 +2,7 @@
 ghost use Rattle.std.specs.Prelude.{◌≡◌};
 ghost use Rattle.sng_operator.specs.Ends.{exit_code};
 
-use sng_gateway::Status;
+use sng_script::Status;
 
 /// Why a gateway ends by itself.
 #[derive(Clone, Copy, Debug, PartialEq, Eq)]

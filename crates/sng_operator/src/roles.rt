@@ -1,5 +1,5 @@
-//! Which worker has which tag: those at the devices' socket come first, then the one at the broker, the clock,
-//! and the policies.
+//! Which worker has which tag: those at the devices' socket come first, then the one at the broker, the
+//! clock, and the policies.
 ghost use Rattle.std.specs.Prelude.{◌≡◌, ◌+◌, ◌<◌, ◌≤◌};
 ghost use Rattle.sng_operator.specs.declared.roles.Role.TheVariants.{Devices, Broker, Clock, Policies};
 

@@ -1,7 +1,9 @@
 //! What `status` prints: how a running gateway stands.
 ghost use Rattle.std.specs.Prelude.{◌≡◌, ◌++◌, OnOk};
-ghost use Rattle.sng_gateway.specs.Places.{count_text};
-ghost use Rattle.sng_operator.specs.Standings.{absent_text, broker_text, clients_text, last_text, present_text, up_text, waiting_text, policy_text, rows_text, status_text};
+ghost use Rattle.sng_questions.specs.Places.{count_text};
+ghost use Rattle.sng_operator.specs.Overviews.{absent_text, broker_text, clients_text, last_text};
+ghost use Rattle.sng_operator.specs.Overviews.{present_text, up_text, waiting_text, policy_text, rows_text};
+ghost use Rattle.sng_operator.specs.Overviews.{status_text};
 
 use sng_book::print::push_decimal;
 use sng_core::census::{Census, ClientCounts, ListedCounts};
@@ -9,7 +11,7 @@ use std::alloc::AllocError;
 
 /// How a gateway stands.
 #[derive(Clone, Copy, Debug, PartialEq, Eq)]
-pub struct Standing {
+pub struct Overview {
     pub census: Census,
     /// The rows of the book.
     pub rows: u64,
@@ -18,15 +20,15 @@ pub struct Standing {
 }
 
 /// Appends the lines of `status`.
-pub fn push_status(text: &mut Vec<u8>, standing: &Standing) -> Result<(), AllocError>
-    ensures { OnOk result (text.new.items ≡ text.old.items ++ status_text standing.now) }
+pub fn push_status(text: &mut Vec<u8>, overview: &Overview) -> Result<(), AllocError>
+    ensures { OnOk result (text.new.items ≡ text.old.items ++ status_text overview.now) }
 {
-    let census = &standing.census;
+    let census = &overview.census;
     push_broker(text, census)?;
     push_clients(text, &census.clients)?;
     push_waiting(text, &census.clients)?;
     push_policy(text, &census.policy)?;
-    push_rows(text, standing)
+    push_rows(text, overview)
 }
 
 /// Appends the line of the broker.
@@ -93,14 +95,14 @@ fn push_policy(text: &mut Vec<u8>, policy: &ListedCounts) -> Result<(), AllocErr
 }
 
 /// Appends the line of the book.
-fn push_rows(text: &mut Vec<u8>, standing: &Standing) -> Result<(), AllocError>
-    ensures { OnOk result (text.new.items ≡ text.old.items ++ rows_text standing.now) }
+fn push_rows(text: &mut Vec<u8>, overview: &Overview) -> Result<(), AllocError>
+    ensures { OnOk result (text.new.items ≡ text.old.items ++ rows_text overview.now) }
 {
-    push_count(text, "status rows: ", standing.rows)?;
+    push_count(text, "status rows: ", overview.rows)?;
     push_last(
         text,
         ", left: ",
-        standing.limit.saturating_sub(standing.rows),
+        overview.limit.saturating_sub(overview.rows),
     )
 }
 

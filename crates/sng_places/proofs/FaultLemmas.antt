@@ -14,7 +14,8 @@ use Rattle.sng_text.specs.Texts.{filter_fault, name_fault}
 use Rattle.sng_text.specs.declared.fault.TextFault.{TextFault}
 use Rattle.sng_grants.specs.Sources.{with_scope}
 use Rattle.sng_grants.specs.Topics.{with_name}
-use Rattle.sng_grants.specs.declared.limits.TheConstants.{MAX_CLIENTS, MAX_PAIRS, MAX_SOURCES, MAX_TOPICS}
+use Rattle.sng_grants.specs.declared.limits.TheConstants.{MAX_POLICY_CLIENTS, MAX_PAIRS, MAX_SOURCES}
+use Rattle.sng_grants.specs.declared.limits.TheConstants.{MAX_TOPICS}
 use Rattle.sng_grants.specs.declared.scope.Pair.{Pair}
 use Rattle.sng_scope.specs.Numerals.{topic_id_of}
 use Rattle.sng_scope.specs.Policies.{are_known, client_of, clients_of, clients_onto, is_known}
@@ -38,12 +39,12 @@ use Rattle.sng_places.specs.ScopePlaces.{encoded_check, filter_by, items_check, 
 use Rattle.sng_places.specs.ScopePlaces.{other_from, pair_check, pairs_check, parts_check, permissions_by}
 use Rattle.sng_places.specs.ScopePlaces.{scope_check, stop_at, texts_by, two_check, two_of}
 use Rattle.sng_places.specs.declared.flaw.Flaw.TheVariants as flaws
-use Rattle.sng_places.specs.declared.place.Form.{Form}
-use Rattle.sng_places.specs.declared.place.Form.TheVariants as forms
-use Rattle.sng_places.specs.declared.place.Part.{Part}
-use Rattle.sng_places.specs.declared.place.Part.TheVariants as parts_of_a_policy
-use Rattle.sng_places.specs.declared.place.Place.TheVariants as all_places
-use Rattle.sng_places.specs.declared.place.Spot.TheVariants as spots
+use Rattle.sng_places.specs.declared.location.Form.{Form}
+use Rattle.sng_places.specs.declared.location.Form.TheVariants as forms
+use Rattle.sng_places.specs.declared.location.Part.{Part}
+use Rattle.sng_places.specs.declared.location.Part.TheVariants as parts_of_a_policy
+use Rattle.sng_places.specs.declared.location.Location.TheVariants as all_places
+use Rattle.sng_places.specs.declared.location.Spot.TheVariants as spots
 use Rattle.sng_places.specs.declared.stop.ScopeStop.{ScopeStop}
 use Rattle.sng_places.specs.declared.stop.ScopeStop.TheVariants as scope_stops
 use Rattle.sng_places.specs.declared.stop.Stop.{Stop}
@@ -283,7 +284,8 @@ part_by part most d next rest k = by_object (as_object d)
 clients_part : (o : Option Data) → blamed fault_at (clients_in o) ≡ forget (clients_of o)
 clients_part None = refl
 clients_part (Some d) =
-    part_by parts_of_a_policy.Clients MAX_CLIENTS d (clients_onto []) clients_check (λ ms. clients ms [])
+    part_by parts_of_a_policy.Clients MAX_POLICY_CLIENTS d (clients_onto []) clients_check
+    (λ ms. clients ms [])
 
 sources_part : (o : Option Data) → blamed fault_at (sources_in o) ≡ forget (sources_of o)
 sources_part None = refl

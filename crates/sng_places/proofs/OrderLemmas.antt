@@ -10,7 +10,8 @@ use Rattle.sng_text.specs.ClientIds.{client_id_fault}
 use Rattle.sng_text.specs.Ipv4.{ipv4_of}
 use Rattle.sng_text.specs.Texts.{filter_fault, name_fault}
 use Rattle.sng_text.specs.declared.fault.TextFault.{TextFault}
-use Rattle.sng_grants.specs.declared.limits.TheConstants.{MAX_CLIENTS, MAX_PAIRS, MAX_SOURCES, MAX_TOPICS}
+use Rattle.sng_grants.specs.declared.limits.TheConstants.{MAX_POLICY_CLIENTS, MAX_PAIRS, MAX_SOURCES}
+use Rattle.sng_grants.specs.declared.limits.TheConstants.{MAX_TOPICS}
 use Rattle.sng_scope.specs.Numerals.{topic_id_of}
 use Rattle.sng_scope.specs.Policies.{is_known}
 use Rattle.sng_scope.specs.Scopes.{says}
@@ -32,20 +33,20 @@ use Rattle.sng_places.specs.ScopePlaces.{other_from, pair_check, pairs_check, pa
 use Rattle.sng_places.specs.ScopePlaces.{scope_check, texts_by, two_check, two_of}
 use Rattle.sng_places.specs.declared.flaw.Flaw.{Flaw}
 use Rattle.sng_places.specs.declared.flaw.Flaw.TheVariants as flaws
-use Rattle.sng_places.specs.declared.place.Form.{Form}
-use Rattle.sng_places.specs.declared.place.Form.TheVariants.{Plain, Encoded}
-use Rattle.sng_places.specs.declared.place.Part.{Part}
-use Rattle.sng_places.specs.declared.place.Part.TheVariants.{Clients, Sources, Topics}
-use Rattle.sng_places.specs.declared.place.Place.{Place}
-use Rattle.sng_places.specs.declared.place.Place.TheVariants as places
-use Rattle.sng_places.specs.declared.place.Spot.{Spot}
-use Rattle.sng_places.specs.declared.place.Spot.TheVariants.{Whole, Pair, Filter, Permissions, Permission}
+use Rattle.sng_places.specs.declared.location.Form.{Form}
+use Rattle.sng_places.specs.declared.location.Form.TheVariants.{Plain, Encoded}
+use Rattle.sng_places.specs.declared.location.Part.{Part}
+use Rattle.sng_places.specs.declared.location.Part.TheVariants.{Clients, Sources, Topics}
+use Rattle.sng_places.specs.declared.location.Location.{Location}
+use Rattle.sng_places.specs.declared.location.Location.TheVariants as places
+use Rattle.sng_places.specs.declared.location.Spot.{Spot}
+use Rattle.sng_places.specs.declared.location.Spot.TheVariants.{Whole, Pair, Filter, Permissions, Permission}
 use Rattle.sng_places.specs.declared.stop.ScopeStop.{ScopeStop}
 use Rattle.sng_places.specs.declared.stop.Stop.{Stop}
 
 -- ---- lists of tests
 
-then_first : (place : Place) (flaw : Option Flaw) (c rest : Result Unit Stop)
+then_first : (place : Location) (flaw : Option Flaw) (c rest : Result Unit Stop)
     → ends_at place flaw c >>= (λ checked. rest) ≡ ends_at place flaw (c >>= (λ checked. rest))
 then_first place None c rest = refl
 then_first place (Some flaw) c rest = refl
@@ -228,13 +229,13 @@ scope part name (object ms) = refl
 -- ---- members
 
 -- one test, and what follows it
-tested : {F : Type 0} (place : Place) (o : Option F) (flaw : F → Flaw) (c rest : Result Unit Stop) → c ≡ rest
+tested : {F : Type 0} (place : Location) (o : Option F) (flaw : F → Flaw) (c rest : Result Unit Stop) → c ≡ rest
     → unless o (λ fault. stop_at place (flaw fault)) >>= (λ checked. c)
     ≡ ends_at place (option_map flaw o) rest
 tested place None flaw c rest is = is
 tested place (Some fault) flaw c rest is = refl
 
-there : {A : Type 0} (place : Place) (o : Option A) (flaw : Flaw) (c rest : Result Unit Stop) → c ≡ rest
+there : {A : Type 0} (place : Location) (o : Option A) (flaw : Flaw) (c rest : Result Unit Stop) → c ≡ rest
     → ok_or o (stop_at place flaw) >>= (λ found. c) ≡ ends_at place (unless_some o flaw) rest
 there place None flaw c rest is = refl
 there place (Some a) flaw c rest is = is
@@ -253,7 +254,7 @@ sources (member name d ms) =
     (joined _ _ (scope_tests (places.Value Sources name) d) (members_tests Sources IsSource scope_tests ms)
     (scope Sources name d) (sources ms))
 
-topic_by : (place : Place) (o : Option (List ℕ))
+topic_by : (place : Location) (o : Option (List ℕ))
     → ok_or o (stop_at place flaws.NotText) >>=
     (λ text. unless (name_fault text) (λ fault. stop_at place (flaws.TopicName text fault)))
     ≡ ends_at place (unless_some o flaws.NotText)
@@ -261,7 +262,7 @@ topic_by : (place : Place) (o : Option (List ℕ))
 topic_by place None = refl
 topic_by place (Some text) = named place text (name_fault text)
   where
-    named : (place : Place) (text : List ℕ) (fault : Option TextFault)
+    named : (place : Location) (text : List ℕ) (fault : Option TextFault)
         → unless fault (λ f. stop_at place (flaws.TopicName text f))
         ≡ ends_at place (option_map (flaws.TopicName text) fault) (Ok tt)
     named place text None = refl
@@ -283,7 +284,7 @@ many : (part : Part) (b : Bool) (flaw : Flaw) (ms : Members) (check : Members �
 many part true flaw ms check rest is = refl
 many part false flaw ms check rest is = is
 
-part_by : (part : Part) (most : ℕ) (rule : Rule) (tests : (Form → Spot → Place) → Data → List Test)
+part_by : (part : Part) (most : ℕ) (rule : Rule) (tests : (Form → Spot → Location) → Data → List Test)
     (check : Members → Result Unit Stop) (d : Data)
     → ((ms : Members) → check ms ≡ first (members_tests part rule tests ms))
     → part_within part most d >>= check ≡ first (part_tests part most rule tests (Some d))
@@ -296,9 +297,9 @@ part_by part most rule tests check (string text) are = refl
 part_by part most rule tests check (array ds) are = refl
 
 clients_part : (o : Option Data)
-    → clients_in o ≡ first (part_tests Clients MAX_CLIENTS IsClient scope_tests o)
+    → clients_in o ≡ first (part_tests Clients MAX_POLICY_CLIENTS IsClient scope_tests o)
 clients_part None = refl
-clients_part (Some d) = part_by Clients MAX_CLIENTS IsClient scope_tests clients_check d clients
+clients_part (Some d) = part_by Clients MAX_POLICY_CLIENTS IsClient scope_tests clients_check d clients
 
 sources_part : (o : Option Data)
     → sources_in o ≡ first (part_tests Sources MAX_SOURCES IsSource scope_tests o)
@@ -347,11 +348,11 @@ nested (Err stop) b c = refl
 all_parts : (d : Data)
     → clients_in (get (codes "clients") d) >>=
     (λ a. sources_in (get (codes "sources") d) >>= (λ b. topics_in (get (codes "topics") d)))
-    ≡ first (part_tests Clients MAX_CLIENTS IsClient scope_tests (get (codes "clients") d)
+    ≡ first (part_tests Clients MAX_POLICY_CLIENTS IsClient scope_tests (get (codes "clients") d)
     ++ (part_tests Sources MAX_SOURCES IsSource scope_tests (get (codes "sources") d)
     ++ part_tests Topics MAX_TOPICS IsTopicId topic_tests (get (codes "topics") d)))
 all_parts d =
-    joined _ _ (part_tests Clients MAX_CLIENTS IsClient scope_tests (get (codes "clients") d)) _
+    joined _ _ (part_tests Clients MAX_POLICY_CLIENTS IsClient scope_tests (get (codes "clients") d)) _
     (clients_part (get (codes "clients") d))
     (joined _ _ (part_tests Sources MAX_SOURCES IsSource scope_tests (get (codes "sources") d)) _
     (sources_part (get (codes "sources") d))

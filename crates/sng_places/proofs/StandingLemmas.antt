@@ -5,7 +5,8 @@ use Rattle.std.proofs.lemmas.List.Elements.{All-nil, All-cons, All-append}
 use Rattle.serde_json.specs.Data.{Data, null, boolean, number, string, array, object, Items, no_items, item}
 use Rattle.serde_json.specs.Data.{Members, no_members, member}
 use Rattle.serde_json.specs.Find.{at, get, get_item}
-use Rattle.sng_grants.specs.declared.limits.TheConstants.{MAX_CLIENTS, MAX_PAIRS, MAX_SOURCES, MAX_TOPICS}
+use Rattle.sng_grants.specs.declared.limits.TheConstants.{MAX_POLICY_CLIENTS, MAX_PAIRS, MAX_SOURCES}
+use Rattle.sng_grants.specs.declared.limits.TheConstants.{MAX_TOPICS}
 use Rattle.sng_scope.specs.declared.fault.PolicyFault.{PolicyFault}
 use Rattle.sng_places.specs.Order.{Rule, HasVersion, HoldsJson, IsArray, IsAtMost, IsClient, IsEncoded}
 use Rattle.sng_places.specs.Order.{IsFilter, IsKnown, IsObject, IsOne, IsPair, IsPermission, IsScope}
@@ -14,14 +15,14 @@ use Rattle.sng_places.specs.Order.{held_by, held_tests, items_in, known_tests, m
 use Rattle.sng_places.specs.Order.{pair_tests, pairs_tests, part_tests, scope_tests, test, topic_tests}
 use Rattle.sng_places.specs.Order.{version_tests, written_tests}
 use Rattle.sng_places.specs.Standing.{HasMember, IsListed, IsWritten, Stands, ValuesStand, name_of, value_at}
-use Rattle.sng_places.specs.declared.place.Form.{Form}
-use Rattle.sng_places.specs.declared.place.Form.TheVariants.{Plain, Encoded}
-use Rattle.sng_places.specs.declared.place.Part.{Part}
-use Rattle.sng_places.specs.declared.place.Part.TheVariants.{Clients, Sources, Topics}
-use Rattle.sng_places.specs.declared.place.Place.{Place}
-use Rattle.sng_places.specs.declared.place.Place.TheVariants as places
-use Rattle.sng_places.specs.declared.place.Spot.{Spot}
-use Rattle.sng_places.specs.declared.place.Spot.TheVariants.{Whole, Pair, Filter, Permissions, Permission}
+use Rattle.sng_places.specs.declared.location.Form.{Form}
+use Rattle.sng_places.specs.declared.location.Form.TheVariants.{Plain, Encoded}
+use Rattle.sng_places.specs.declared.location.Part.{Part}
+use Rattle.sng_places.specs.declared.location.Part.TheVariants.{Clients, Sources, Topics}
+use Rattle.sng_places.specs.declared.location.Location.{Location}
+use Rattle.sng_places.specs.declared.location.Location.TheVariants as places
+use Rattle.sng_places.specs.declared.location.Spot.{Spot}
+use Rattle.sng_places.specs.declared.location.Spot.TheVariants.{Whole, Pair, Filter, Permissions, Permission}
 
 abbrev Standing : Data → List Test → Type 0
 Standing d ts = All (λ t. Stands d t.place t.value) ts
@@ -51,7 +52,7 @@ tail_follows f i d ds follow j x is =
 
 -- ---- the items of an array, each at its place
 
-each : (d : Data) (place : ℕ → Place) (rule : Rule) (f : ℕ → Option Data)
+each : (d : Data) (place : ℕ → Location) (rule : Rule) (f : ℕ → Option Data)
     → ((k : ℕ) (v : Data) → f k ≡ Some v → Stands d (place k) v)
     → (i : ℕ) (ds : Items) → Follow f i ds → Standing d (each_test place rule i ds)
 each d place rule f stands i no_items follow = nothing d
@@ -59,7 +60,7 @@ each d place rule f stands i (item e ds) follow =
     one_more d _ _ (stands i e (head_follows f i e ds follow))
     (each d place rule f stands (suc i) ds (tail_follows f i e ds follow))
 
-pairs : (d : Data) (place : Spot → Place) (f : ℕ → Option Data)
+pairs : (d : Data) (place : Spot → Location) (f : ℕ → Option Data)
     → ((i : ℕ) (e : Data) → f i ≡ Some e → Standing d (pair_tests place i e))
     → (i : ℕ) (ds : Items) → Follow f i ds → Standing d (pairs_tests place i ds)
 pairs d place f stands i no_items follow = nothing d
@@ -70,7 +71,7 @@ pairs d place f stands i (item e ds) follow =
 -- ---- the tests of a scope, at places of what is written, whose value is `w`
 
 -- each spot of the value has its place
-abbrev Spots : Data → (Spot → Place) → Data → Type 0
+abbrev Spots : Data → (Spot → Location) → Data → Type 0
 Spots d place w = (spot : Spot) (v : Data) → value_at spot w ≡ Some v → Stands d (place spot) v
 
 item_at : (j : ℕ) (e : Data) → at j e ≡ get_item j (items_in e)
@@ -85,12 +86,12 @@ item_at j (object ms) = refl
 follow_found : (o : ℕ → Option Data) (e : Data) → ((j : ℕ) → o j ≡ at j e) → Follow o 0 (items_in e)
 follow_found o e same j x is = let from : 0 + j ≡ j = omega arith in ap o from ∙ same j ∙ item_at j e ∙ is
 
-pair_alone : (d : Data) (place : Spot → Place) (w : Data) → Spots d place w → (i : ℕ) (e : Data)
+pair_alone : (d : Data) (place : Spot → Location) (w : Data) → Spots d place w → (i : ℕ) (e : Data)
     → at i w ≡ Some e → Standing d (test (place (Pair i)) IsPair e ∷ [])
 pair_alone d place w spots i e is =
     one_more d (test (place (Pair i)) IsPair e) [] (spots (Pair i) e is) (nothing d)
 
-pair : (d : Data) (place : Spot → Place) (w : Data) → Spots d place w → (i : ℕ) (e : Data) → at i w ≡ Some e
+pair : (d : Data) (place : Spot → Location) (w : Data) → Spots d place w → (i : ℕ) (e : Data) → at i w ≡ Some e
     → Standing d (pair_tests place i e)
 pair d place w spots i (array (item a (item b no_items))) is =
     let filter : option_and_then (at 0) (at i w) ≡ Some a = ap (option_and_then (at 0)) is in
@@ -123,7 +124,7 @@ pair d place w spots i (number n) is = pair_alone d place w spots i _ is
 pair d place w spots i (string text) is = pair_alone d place w spots i _ is
 pair d place w spots i (object ms) is = pair_alone d place w spots i _ is
 
-array_of : (d : Data) (place : Spot → Place) (w : Data) → Spots d place w → Standing d (array_tests place w)
+array_of : (d : Data) (place : Spot → Location) (w : Data) → Spots d place w → Standing d (array_tests place w)
 array_of d place w spots =
     one_more d (test (place Whole) (IsAtMost MAX_PAIRS) w) (pairs_tests place 0 (items_in w))
     (spots Whole w refl)
@@ -131,17 +132,17 @@ array_of d place w spots =
     (follow_found (λ i. at i w) w (λ j. refl)))
 
 -- each spot of what is written, or is held by that, has its place
-abbrev Written : Data → (Form → Spot → Place) → Data → Type 0
+abbrev Written : Data → (Form → Spot → Location) → Data → Type 0
 Written d place e = (form : Form) (w : Data) → IsWritten form e w → Spots d (place form) w
 
-held : (d : Data) (place : Form → Spot → Place) (text : List ℕ) → Written d place (string text)
+held : (d : Data) (place : Form → Spot → Location) (text : List ℕ) → Written d place (string text)
     → (r : Result Data PolicyFault) → held_by text ≡ r → Standing d (held_tests (place Encoded) r)
 held d place text written (Ok w) is =
     one_more d (test (place Encoded Whole) IsArray w) (array_tests (place Encoded) w)
     (written Encoded w is Whole w refl) (array_of d (place Encoded) w (written Encoded w is))
 held d place text written (Err fault) is = nothing d
 
-in_form : (d : Data) (place : Form → Spot → Place) (e : Data) → Written d place e
+in_form : (d : Data) (place : Form → Spot → Location) (e : Data) → Written d place e
     → Standing d (written_tests place e)
 in_form d place (array ds) written = array_of d (place Plain) (array ds) (written Plain (array ds) refl)
 in_form d place (string text) written =
@@ -157,13 +158,13 @@ in_form d place (boolean b) written = nothing d
 in_form d place (number n) written = nothing d
 in_form d place (object ms) written = nothing d
 
-scope : (d : Data) (place : Form → Spot → Place) (e : Data) → Written d place e
+scope : (d : Data) (place : Form → Spot → Location) (e : Data) → Written d place e
     → Standing d (scope_tests place e)
 scope d place e written =
     one_more d (test (place Plain Whole) IsScope e) (written_tests place e)
     (written Plain e refl Whole e refl) (in_form d place e written)
 
-topic : (d : Data) (place : Form → Spot → Place) (e : Data) → Written d place e
+topic : (d : Data) (place : Form → Spot → Location) (e : Data) → Written d place e
     → Standing d (topic_tests place e)
 topic d place e written =
     let here : Stands d (place Plain Whole) e = written Plain e refl Whole e refl in
@@ -173,10 +174,10 @@ topic d place e written =
 -- ---- members and parts
 
 abbrev Tests : Type 0
-Tests = (Form → Spot → Place) → Data → List Test
+Tests = (Form → Spot → Location) → Data → List Test
 
 members : (d : Data) (part : Part) (rule : Rule) (tests : Tests)
-    → ((place : Form → Spot → Place) (e : Data) → Written d place e → Standing d (tests place e))
+    → ((place : Form → Spot → Location) (e : Data) → Written d place e → Standing d (tests place e))
     → (ms : Members) → ((name : List ℕ) (e : Data) → HasMember ms name e → IsListed d part name e)
     → Standing d (members_tests part rule tests ms)
 members d part rule tests stand no_members listed = nothing d
@@ -189,7 +190,7 @@ members d part rule tests stand (member name e ms) listed =
     (members d part rule tests stand ms (λ other x has. listed other x (inr has))))
 
 in_part : (d : Data) (part : Part) (most : ℕ) (rule : Rule) (tests : Tests)
-    → ((place : Form → Spot → Place) (e : Data) → Written d place e → Standing d (tests place e))
+    → ((place : Form → Spot → Location) (e : Data) → Written d place e → Standing d (tests place e))
     → (o : Option Data) → get (name_of part) d ≡ o → Standing d (part_tests part most rule tests o)
 in_part d part most rule tests stand None is = nothing d
 in_part d part most rule tests stand (Some p) is =
@@ -213,7 +214,8 @@ known d (member name e ms) has =
 
 pub values_stand : ValuesStand
 values_stand d =
-    let clients : List Test = part_tests Clients MAX_CLIENTS IsClient scope_tests (get (codes "clients") d) in
+    let clients : List Test = part_tests Clients MAX_POLICY_CLIENTS IsClient scope_tests (get
+    (codes "clients") d) in
     let sources : List Test = part_tests Sources MAX_SOURCES IsSource scope_tests (get (codes "sources") d) in
     let topics : List Test = part_tests Topics MAX_TOPICS IsTopicId topic_tests (get (codes "topics") d) in
     let versions : List Test = version_tests (get (codes "version") d) in
@@ -224,7 +226,7 @@ values_stand d =
     (both d versions (names ++ (clients ++ (sources ++ topics))) (version d (get (codes "version") d) refl)
     (both d names (clients ++ (sources ++ topics)) (known d (members_in d) (λ name e has. has))
     (both d clients (sources ++ topics)
-    (in_part d Clients MAX_CLIENTS IsClient scope_tests (scope d) (get (codes "clients") d) refl)
+    (in_part d Clients MAX_POLICY_CLIENTS IsClient scope_tests (scope d) (get (codes "clients") d) refl)
     (both d sources topics (in_part d Sources MAX_SOURCES IsSource scope_tests (scope d)
     (get (codes "sources") d) refl)
     (in_part d Topics MAX_TOPICS IsTopicId topic_tests (topic d) (get (codes "topics") d) refl))))))

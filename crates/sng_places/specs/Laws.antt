@@ -10,7 +10,7 @@ use Rattle.sng_places.specs.Order.{first, tests_of}
 use Rattle.sng_places.specs.Places.{stop_at, text_check}
 use Rattle.sng_places.specs.ScopePlaces.{or_stop}
 use Rattle.sng_places.specs.declared.flaw.Flaw.TheVariants as flaws
-use Rattle.sng_places.specs.declared.place.Place.TheVariants as places
+use Rattle.sng_places.specs.declared.location.Location.TheVariants as places
 use Rattle.sng_places.specs.declared.stop.Stop.{Stop}
 use Rattle.sng_places.specs.declared.stop.Stop.TheVariants.{At, Memory}
 

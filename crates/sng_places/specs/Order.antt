@@ -10,7 +10,8 @@ use Rattle.serde_json.specs.Find.{get, as_array, as_number, as_object, as_str, a
 use Rattle.sng_text.specs.ClientIds.{client_id_fault}
 use Rattle.sng_text.specs.Ipv4.{ipv4_of}
 use Rattle.sng_text.specs.Texts.{filter_fault, name_fault}
-use Rattle.sng_grants.specs.declared.limits.TheConstants.{MAX_CLIENTS, MAX_PAIRS, MAX_SOURCES, MAX_TOPICS}
+use Rattle.sng_grants.specs.declared.limits.TheConstants.{MAX_POLICY_CLIENTS, MAX_PAIRS, MAX_SOURCES}
+use Rattle.sng_grants.specs.declared.limits.TheConstants.{MAX_TOPICS}
 use Rattle.sng_scope.specs.Numerals.{topic_id_of}
 use Rattle.sng_scope.specs.Policies.{is_known}
 use Rattle.sng_scope.specs.Scopes.{says}
@@ -21,14 +22,14 @@ use Rattle.sng_places.specs.Places.{stop_at}
 use Rattle.sng_places.specs.ScopePlaces.{two_of}
 use Rattle.sng_places.specs.declared.flaw.Flaw.{Flaw}
 use Rattle.sng_places.specs.declared.flaw.Flaw.TheVariants as flaws
-use Rattle.sng_places.specs.declared.place.Form.{Form}
-use Rattle.sng_places.specs.declared.place.Form.TheVariants.{Plain, Encoded}
-use Rattle.sng_places.specs.declared.place.Part.{Part}
-use Rattle.sng_places.specs.declared.place.Part.TheVariants.{Clients, Sources, Topics}
-use Rattle.sng_places.specs.declared.place.Place.{Place}
-use Rattle.sng_places.specs.declared.place.Place.TheVariants as places
-use Rattle.sng_places.specs.declared.place.Spot.{Spot}
-use Rattle.sng_places.specs.declared.place.Spot.TheVariants.{Whole, Pair, Filter, Permissions, Permission}
+use Rattle.sng_places.specs.declared.location.Form.{Form}
+use Rattle.sng_places.specs.declared.location.Form.TheVariants.{Plain, Encoded}
+use Rattle.sng_places.specs.declared.location.Part.{Part}
+use Rattle.sng_places.specs.declared.location.Part.TheVariants.{Clients, Sources, Topics}
+use Rattle.sng_places.specs.declared.location.Location.{Location}
+use Rattle.sng_places.specs.declared.location.Location.TheVariants as places
+use Rattle.sng_places.specs.declared.location.Spot.{Spot}
+use Rattle.sng_places.specs.declared.location.Spot.TheVariants.{Whole, Pair, Filter, Permissions, Permission}
 use Rattle.sng_places.specs.declared.stop.Stop.{Stop}
 
 -- ---- rules
@@ -123,14 +124,14 @@ flaw_of IsTopic d = option_map (flaws.TopicName (text_of d)) (name_fault (text_o
 
 -- a value at a place, and what it is to be
 pub record Test : Type 0 where
-  pub place : Place
+  pub place : Location
   pub rule : Rule
   pub value : Data
 
-abbrev pub test : Place → Rule → Data → Test
+abbrev pub test : Location → Rule → Data → Test
 test place rule value = record { place = place; rule = rule; value = value }
 
-abbrev pub ends_at : Place → Option Flaw → Result Unit Stop → Result Unit Stop
+abbrev pub ends_at : Location → Option Flaw → Result Unit Stop → Result Unit Stop
 ends_at place None others = others
 ends_at place (Some flaw) others = Err (stop_at place flaw)
 
@@ -148,11 +149,11 @@ members_in d = unwrap_or (as_object d) no_members
 -- ---- the tests of a scope, whose spots are at places
 
 -- each item by the rule, of which the first has this place
-abbrev pub each_test : (ℕ → Place) → Rule → ℕ → Items → List Test
+abbrev pub each_test : (ℕ → Location) → Rule → ℕ → Items → List Test
 each_test at rule k no_items = []
 each_test at rule k (item d ds) = test (at k) rule d ∷ each_test at rule (suc k) ds
 
-abbrev pub two_tests : (Spot → Place) → ℕ → Option (Data × Data) → List Test
+abbrev pub two_tests : (Spot → Location) → ℕ → Option (Data × Data) → List Test
 two_tests at i None = []
 two_tests at i (Some two) =
     test (at (Filter i)) IsText two.0
@@ -161,21 +162,21 @@ two_tests at i (Some two) =
     ++ (test (at (Filter i)) IsFilter two.0
     ∷ each_test (λ k. at (Permission i k)) IsPermission 0 (items_in two.1)))
 
-abbrev pub pair_tests : (Spot → Place) → ℕ → Data → List Test
+abbrev pub pair_tests : (Spot → Location) → ℕ → Data → List Test
 pair_tests at i d = test (at (Pair i)) IsPair d ∷ two_tests at i (option_and_then two_of (as_array d))
 
-abbrev pub pairs_tests : (Spot → Place) → ℕ → Items → List Test
+abbrev pub pairs_tests : (Spot → Location) → ℕ → Items → List Test
 pairs_tests at i no_items = []
 pairs_tests at i (item d ds) = pair_tests at i d ++ pairs_tests at (suc i) ds
 
-abbrev pub array_tests : (Spot → Place) → Data → List Test
+abbrev pub array_tests : (Spot → Location) → Data → List Test
 array_tests at d = test (at Whole) (IsAtMost MAX_PAIRS) d ∷ pairs_tests at 0 (items_in d)
 
-abbrev pub held_tests : (Spot → Place) → Result Data PolicyFault → List Test
+abbrev pub held_tests : (Spot → Location) → Result Data PolicyFault → List Test
 held_tests at (Ok d) = test (at Whole) IsArray d ∷ array_tests at d
 held_tests at (Err fault) = []
 
-abbrev pub written_tests : (Form → Spot → Place) → Data → List Test
+abbrev pub written_tests : (Form → Spot → Location) → Data → List Test
 written_tests at (array ds) = array_tests (at Plain) (array ds)
 written_tests at (string text) =
     test (at Plain Whole) IsEncoded (string text)
@@ -186,22 +187,22 @@ written_tests at (boolean b) = []
 written_tests at (number n) = []
 written_tests at (object ms) = []
 
-abbrev pub scope_tests : (Form → Spot → Place) → Data → List Test
+abbrev pub scope_tests : (Form → Spot → Location) → Data → List Test
 scope_tests at d = test (at Plain Whole) IsScope d ∷ written_tests at d
 
 -- ---- the tests of a policy
 
-abbrev pub topic_tests : (Form → Spot → Place) → Data → List Test
+abbrev pub topic_tests : (Form → Spot → Location) → Data → List Test
 topic_tests at d = test (at Plain Whole) IsText d ∷ test (at Plain Whole) IsTopic d ∷ []
 
 -- member by member, the name before the value
-abbrev pub members_tests : Part → Rule → ((Form → Spot → Place) → Data → List Test) → Members → List Test
+abbrev pub members_tests : Part → Rule → ((Form → Spot → Location) → Data → List Test) → Members → List Test
 members_tests part rule tests no_members = []
 members_tests part rule tests (member name d ms) =
     test (places.Name part name) rule (string name)
     ∷ (tests (places.Value part name) d ++ members_tests part rule tests ms)
 
-abbrev pub part_tests : Part → ℕ → Rule → ((Form → Spot → Place) → Data → List Test) → Option Data → List Test
+abbrev pub part_tests : Part → ℕ → Rule → ((Form → Spot → Location) → Data → List Test) → Option Data → List Test
 part_tests part most rule tests None = []
 part_tests part most rule tests (Some d) =
     test (places.Part part) IsObject d
@@ -223,6 +224,6 @@ tests_of d =
     ∷ test places.Whole HasVersion d
     ∷ (version_tests (get (codes "version") d)
     ++ (known_tests (members_in d)
-    ++ (part_tests Clients MAX_CLIENTS IsClient scope_tests (get (codes "clients") d)
+    ++ (part_tests Clients MAX_POLICY_CLIENTS IsClient scope_tests (get (codes "clients") d)
     ++ (part_tests Sources MAX_SOURCES IsSource scope_tests (get (codes "sources") d)
     ++ part_tests Topics MAX_TOPICS IsTopicId topic_tests (get (codes "topics") d)))))

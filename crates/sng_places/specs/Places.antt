@@ -8,18 +8,18 @@ use Rattle.serde_json.specs.Find.{get, as_object, as_str}
 use Rattle.sng_text.specs.ClientIds.{client_id_fault}
 use Rattle.sng_text.specs.Ipv4.{ipv4_of}
 use Rattle.sng_text.specs.Texts.{name_fault}
-use Rattle.sng_grants.specs.declared.limits.TheConstants.{MAX_CLIENTS, MAX_SOURCES, MAX_TOPICS}
+use Rattle.sng_grants.specs.declared.limits.TheConstants.{MAX_POLICY_CLIENTS, MAX_SOURCES, MAX_TOPICS}
 use Rattle.sng_scope.specs.Numerals.{topic_id_of}
 use Rattle.sng_scope.specs.Policies.{is_known, is_version_one}
 use Rattle.sng_scope.specs.Steps.{◌>>=◌}
 use Rattle.sng_scope.specs.Texts.{value_of}
 use Rattle.sng_places.specs.ScopePlaces.{or_stop, scope_check}
-use Rattle.sng_places.specs.declared.place.Form.TheVariants.{Plain}
-use Rattle.sng_places.specs.declared.place.Part.{Part}
-use Rattle.sng_places.specs.declared.place.Part.TheVariants.{Clients, Sources, Topics}
-use Rattle.sng_places.specs.declared.place.Place.{Place}
-use Rattle.sng_places.specs.declared.place.Place.TheVariants as places
-use Rattle.sng_places.specs.declared.place.Spot.TheVariants as spots
+use Rattle.sng_places.specs.declared.location.Form.TheVariants.{Plain}
+use Rattle.sng_places.specs.declared.location.Part.{Part}
+use Rattle.sng_places.specs.declared.location.Part.TheVariants.{Clients, Sources, Topics}
+use Rattle.sng_places.specs.declared.location.Location.{Location}
+use Rattle.sng_places.specs.declared.location.Location.TheVariants as places
+use Rattle.sng_places.specs.declared.location.Spot.TheVariants as spots
 use Rattle.sng_places.specs.declared.flaw.Flaw.{Flaw}
 use Rattle.sng_places.specs.declared.flaw.Flaw.TheVariants as flaws
 use Rattle.sng_places.specs.declared.stop.ScopeStop.{ScopeStop}
@@ -28,7 +28,7 @@ use Rattle.sng_places.specs.declared.stop.Stop.{Stop}
 use Rattle.sng_places.specs.declared.stop.Stop.TheVariants.{At, Memory}
 
 -- the fault at this place
-abbrev pub stop_at : Place → Flaw → Stop
+abbrev pub stop_at : Location → Flaw → Stop
 stop_at place flaw = At (record { place = place; flaw = flaw })
 
 -- the fault of a text, or none
@@ -91,7 +91,7 @@ part_within part most d =
 -- what is absent is empty
 abbrev pub clients_in : Option Data → Result Unit Stop
 clients_in None = Ok tt
-clients_in (Some d) = part_within Clients MAX_CLIENTS d >>= clients_check
+clients_in (Some d) = part_within Clients MAX_POLICY_CLIENTS d >>= clients_check
 
 abbrev pub sources_in : Option Data → Result Unit Stop
 sources_in None = Ok tt

@@ -12,10 +12,10 @@ use Rattle.sng_scope.specs.Scopes.{is_text, says}
 use Rattle.sng_scope.specs.Steps.{◌>>=◌}
 use Rattle.sng_scope.specs.Texts.{bytes_of, value_of}
 use Rattle.sng_scope.specs.declared.fault.PolicyFault.{PolicyFault}
-use Rattle.sng_places.specs.declared.place.Form.{Form}
-use Rattle.sng_places.specs.declared.place.Form.TheVariants.{Plain, Encoded}
-use Rattle.sng_places.specs.declared.place.Spot.{Spot}
-use Rattle.sng_places.specs.declared.place.Spot.TheVariants.{Whole, Pair, Filter, Permissions, Permission}
+use Rattle.sng_places.specs.declared.location.Form.{Form}
+use Rattle.sng_places.specs.declared.location.Form.TheVariants.{Plain, Encoded}
+use Rattle.sng_places.specs.declared.location.Spot.{Spot}
+use Rattle.sng_places.specs.declared.location.Spot.TheVariants.{Whole, Pair, Filter, Permissions, Permission}
 use Rattle.sng_places.specs.declared.flaw.Flaw.{Flaw}
 use Rattle.sng_places.specs.declared.flaw.Flaw.TheVariants as flaws
 use Rattle.sng_places.specs.declared.stop.ScopeStop.{ScopeStop}

@@ -6,14 +6,14 @@ use Rattle.serde_json.specs.Find.{at, get}
 use Rattle.sng_scope.specs.Texts.{value_of}
 use Rattle.sng_places.specs.Order.{Test, flaw_of, held_by, members_in, tests_of, text_of}
 use Rattle.sng_places.specs.Places.{text_check}
-use Rattle.sng_places.specs.declared.place.Form.{Form}
-use Rattle.sng_places.specs.declared.place.Form.TheVariants.{Plain, Encoded}
-use Rattle.sng_places.specs.declared.place.Part.{Part}
-use Rattle.sng_places.specs.declared.place.Part.TheVariants.{Clients, Sources, Topics}
-use Rattle.sng_places.specs.declared.place.Place.{Place}
-use Rattle.sng_places.specs.declared.place.Place.TheVariants as places
-use Rattle.sng_places.specs.declared.place.Spot.{Spot}
-use Rattle.sng_places.specs.declared.place.Spot.TheVariants.{Whole, Pair, Filter, Permissions, Permission}
+use Rattle.sng_places.specs.declared.location.Form.{Form}
+use Rattle.sng_places.specs.declared.location.Form.TheVariants.{Plain, Encoded}
+use Rattle.sng_places.specs.declared.location.Part.{Part}
+use Rattle.sng_places.specs.declared.location.Part.TheVariants.{Clients, Sources, Topics}
+use Rattle.sng_places.specs.declared.location.Location.{Location}
+use Rattle.sng_places.specs.declared.location.Location.TheVariants as places
+use Rattle.sng_places.specs.declared.location.Spot.{Spot}
+use Rattle.sng_places.specs.declared.location.Spot.TheVariants.{Whole, Pair, Filter, Permissions, Permission}
 use Rattle.sng_places.specs.declared.stop.Found.{Found}
 use Rattle.sng_places.specs.declared.stop.Stop.TheVariants.{At}
 
@@ -45,7 +45,7 @@ abbrev pub IsListed : Data → Part → List ℕ → Data → Type 0
 IsListed d part name e = (p : Data) × ((get (name_of part) d ≡ Some p) × HasMember (members_in p) name e)
 
 -- the value stands at the place of the policy; at a name it is the name, as a text
-abbrev pub Stands : Data → Place → Data → Type 0
+abbrev pub Stands : Data → Location → Data → Type 0
 Stands d places.Whole v = v ≡ d
 Stands d places.Version v = get (codes "version") d ≡ Some v
 Stands d (places.Member name) v = (v ≡ string name) × ((e : Data) × HasMember (members_in d) name e)

@@ -8,7 +8,7 @@ ghost use Rattle.sng_places.specs.Places.{topics_check, within};
 use crate::scope::check_scope;
 use crate::stop::ScopeStop;
 use crate::text::octets;
-use crate::{Flaw, Form, Part, Place, Spot, Stop};
+use crate::{Flaw, Form, Location, Part, Spot, Stop};
 use serde_json::{Map, Value};
 use sng_scope::topic_id_from;
 use sng_text::{ClientId, TextFault, TopicName, read_ipv4};
@@ -35,7 +35,7 @@ pub fn check_sources(alloc: Global, members: &Map<String, Value>) -> Result<(), 
 {
     for (name, value) in members {
         if read_ipv4(name.as_bytes()).is_none() {
-            let place = Place::Name(Part::Sources, octets(alloc, name.as_str())?);
+            let place = Location::Name(Part::Sources, octets(alloc, name.as_str())?);
             return Err(Stop::at(place, Flaw::Source));
         }
         check_within(alloc, Part::Sources, name.as_str(), value)?;
@@ -51,7 +51,7 @@ pub fn check_topics(alloc: Global, members: &Map<String, Value>) -> Result<(), S
 {
     for (name, value) in members {
         if topic_id_from(name.as_str()).is_none() {
-            let place = Place::Name(Part::Topics, octets(alloc, name.as_str())?);
+            let place = Location::Name(Part::Topics, octets(alloc, name.as_str())?);
             return Err(Stop::at(place, Flaw::TopicId));
         }
         check_topic(alloc, name.as_str(), value)?;
@@ -67,7 +67,7 @@ fn check_client(alloc: Global, name: &str) -> Result<(), Stop>
         Ok(_) => Ok(()),
         Err(TextFault::Memory) => Err(Stop::Memory),
         Err(fault) => {
-            let place = Place::Name(Part::Clients, octets(alloc, name)?);
+            let place = Location::Name(Part::Clients, octets(alloc, name)?);
             Err(Stop::at(place, Flaw::ClientId(fault)))
         }
     }
@@ -84,7 +84,7 @@ fn check_within(alloc: Global, part: Part, name: &str, value: &Value) -> Result<
         Err(ScopeStop::Memory) => Err(Stop::Memory),
         Err(ScopeStop::At(found)) => {
             let name = octets(alloc, name)?;
-            let place = Place::Value(part, name, found.form, found.spot);
+            let place = Location::Value(part, name, found.form, found.spot);
             Err(Stop::at(place, found.flaw))
         }
     }
@@ -97,14 +97,14 @@ fn check_topic(alloc: Global, id: &str, value: &Value) -> Result<(), Stop>
         ⊎ (topic_check id.now (view value.now) ≡ Err e)) }
 {
     let Some(text) = value.as_str() else {
-        let place = Place::Value(Part::Topics, octets(alloc, id)?, Form::Plain, Spot::Whole);
+        let place = Location::Value(Part::Topics, octets(alloc, id)?, Form::Plain, Spot::Whole);
         return Err(Stop::at(place, Flaw::NotText));
     };
     match TopicName::read(alloc, text.as_bytes()) {
         Ok(_) => Ok(()),
         Err(TextFault::Memory) => Err(Stop::Memory),
         Err(fault) => {
-            let place = Place::Value(Part::Topics, octets(alloc, id)?, Form::Plain, Spot::Whole);
+            let place = Location::Value(Part::Topics, octets(alloc, id)?, Form::Plain, Spot::Whole);
             let text = octets(alloc, text)?;
             Err(Stop::at(place, Flaw::TopicName(text, fault)))
         }

@@ -5,9 +5,9 @@
 mod entries;
 pub mod flaw;
 pub mod laws;
+pub mod location;
 mod nesting;
 mod pair;
-pub mod place;
 mod policy;
 pub mod position;
 pub mod repeated;
@@ -16,7 +16,7 @@ mod stop;
 mod text;
 
 pub use flaw::Flaw;
-pub use place::{Form, Part, Place, Spot};
+pub use location::{Form, Location, Part, Spot};
 pub use policy::check_policy;
 pub use position::Position;
 pub use repeated::repeated_members;

@@ -8,9 +8,9 @@ ghost use Rattle.sng_places.specs.Places.{unknown_of, part_within, clients_in, s
 
 use crate::entries::{check_clients, check_sources, check_topics};
 use crate::text::octets;
-use crate::{Flaw, Part, Place, Stop};
+use crate::{Flaw, Location, Part, Stop};
 use serde_json::{Map, Value};
-use sng_grants::{MAX_CLIENTS, MAX_SOURCES, MAX_TOPICS};
+use sng_grants::{MAX_POLICY_CLIENTS, MAX_SOURCES, MAX_TOPICS};
 use sng_scope::{PolicyFault, is_known, is_version_one, value_from};
 use std::alloc::Global;
 
@@ -23,7 +23,7 @@ pub fn check_policy(alloc: Global, text: &[u8]) -> Result<(), Stop>
     match value_from(alloc, text) {
         Ok(value) => check_value(alloc, &value),
         Err(PolicyFault::Memory) => Err(Stop::Memory),
-        Err(_) => Err(Stop::at(Place::Whole, Flaw::NotJson)),
+        Err(_) => Err(Stop::at(Location::Whole, Flaw::NotJson)),
     }
 }
 
@@ -45,7 +45,7 @@ fn check_object(alloc: Global, value: &Value) -> Result<(), Stop>
         ⊎ (object_check (view value.now) ≡ Err e)) }
 {
     let Some(members) = value.as_object() else {
-        return Err(Stop::at(Place::Whole, Flaw::NotObject));
+        return Err(Stop::at(Location::Whole, Flaw::NotObject));
     };
     check_version(value)?;
     check_known(alloc, members)
@@ -55,10 +55,10 @@ fn check_version(value: &Value) -> Result<(), Stop>
     ensures { result ≡ version_check (view value.now) }
 {
     if value.get("version").is_none() {
-        return Err(Stop::at(Place::Whole, Flaw::NoVersion));
+        return Err(Stop::at(Location::Whole, Flaw::NoVersion));
     }
     if !is_version_one(value) {
-        return Err(Stop::at(Place::Version, Flaw::OtherVersion));
+        return Err(Stop::at(Location::Version, Flaw::OtherVersion));
     }
     Ok(())
 }
@@ -71,7 +71,7 @@ fn check_known(alloc: Global, members: &Map<String, Value>) -> Result<(), Stop>
     match unknown_of(members) {
         None => Ok(()),
         Some(name) => {
-            let place = Place::Member(octets(alloc, name)?);
+            let place = Location::Member(octets(alloc, name)?);
             Err(Stop::at(place, Flaw::UnknownMember))
         }
     }
@@ -96,7 +96,7 @@ fn check_clients_in(alloc: Global, policy: &Value) -> Result<(), Stop>
 {
     match policy.get("clients") {
         None => Ok(()),
-        Some(part) => check_clients(alloc, part_within(Part::Clients, MAX_CLIENTS, part)?),
+        Some(part) => check_clients(alloc, part_within(Part::Clients, MAX_POLICY_CLIENTS, part)?),
     }
 }
 
@@ -129,11 +129,11 @@ fn part_within(part: Part, most: usize, value: &Value) -> Result<&Map<String, Va
         (λ e. part_within part most (view value.now) ≡ Err e) }
 {
     let Some(members) = value.as_object() else {
-        return Err(Stop::at(Place::Part(part), Flaw::NotObject));
+        return Err(Stop::at(Location::Part(part), Flaw::NotObject));
     };
     let count = member_count(members);
     if count > most {
-        return Err(Stop::at(Place::Part(part), Flaw::TooMany(count, most)));
+        return Err(Stop::at(Location::Part(part), Flaw::TooMany(count, most)));
     }
     Ok(members)
 }

@@ -1,19 +1,19 @@
 //! Members of a policy text that stand more than once: of these the last counts.
 use crate::text::octets;
-use crate::{Part, Place};
+use crate::{Location, Part};
 use json::{Error, Scratch, Value};
 use std::alloc::{AllocError, Global};
 
 /// The places of the members of the policy that stand more than once, each once and in the byte order of
 /// their names: those of the policy itself, and then those of its clients, sources and topics. None where the
 /// text is not JSON. Only memory can fail.
-pub fn repeated_members(alloc: Global, text: &[u8]) -> Result<Vec<Place>, AllocError> {
+pub fn repeated_members(alloc: Global, text: &[u8]) -> Result<Vec<Location>, AllocError> {
     let mut scratch = Scratch::new(alloc);
     let mut places = Vec::new(alloc);
     match Value::from_slice(alloc, text, &mut scratch) {
         Ok(policy) => {
             for name in repeated_names(alloc, &policy)?.as_slice() {
-                places.push(Place::Member(octets(alloc, name)?))?;
+                places.push(Location::Member(octets(alloc, name)?))?;
             }
             push_part(alloc, &mut places, Part::Clients, policy.get("clients"))?;
             push_part(alloc, &mut places, Part::Sources, policy.get("sources"))?;
@@ -28,7 +28,7 @@ pub fn repeated_members(alloc: Global, text: &[u8]) -> Result<Vec<Place>, AllocE
 /// Appends those of a part, where it is there.
 fn push_part(
     alloc: Global,
-    places: &mut Vec<Place>,
+    places: &mut Vec<Location>,
     part: Part,
     value: Option<&Value<'_>>,
 ) -> Result<(), AllocError> {
@@ -36,7 +36,7 @@ fn push_part(
         return Ok(());
     };
     for name in repeated_names(alloc, value)?.as_slice() {
-        places.push(Place::Name(part, octets(alloc, name)?))?;
+        places.push(Location::Name(part, octets(alloc, name)?))?;
     }
     Ok(())
 }

@@ -1,11 +1,11 @@
 //! What ends the search for a fault.
-use crate::{Flaw, Form, Place, Spot};
+use crate::{Flaw, Form, Location, Spot};
 use std::alloc::AllocError;
 
 /// A fault of a policy text: where it stands, and what is wrong there.
 #[derive(Debug, Drop)]
 pub struct Found {
-    pub place: Place,
+    pub place: Location,
     pub flaw: Flaw,
 }
 
@@ -74,7 +74,7 @@ impl Stop {
     ghost use Rattle.sng_places.specs.Places.{stop_at};
 
     /// The first fault is this.
-    pub fn at(place: Place, flaw: Flaw) -> Stop
+    pub fn at(place: Location, flaw: Flaw) -> Stop
         ensures { result ≡ stop_at place flaw }
     {
         Stop::At(Found { place, flaw })

@@ -8,9 +8,8 @@ use Rattle.sng_grants.specs.Sources.{scope_of}
 use Rattle.sng_grants.specs.declared.scope.Pair.{Pair}
 use Rattle.sng_policy.specs.declared.permission.Permission.{Permission}
 use Rattle.sng_policy.specs.declared.permission.Permission.TheVariants.{Publish, Subscribe}
-use Rattle.sng_policy.specs.declared.grant.Grant.{Grant}
-use Rattle.sng_policy.specs.declared.grant.Grant.TheVariants.{Allowed, NoScope, UnknownSource, MissingPub}
-use Rattle.sng_policy.specs.declared.grant.Grant.TheVariants.{MissingSub}
+use Rattle.sng_policy.specs.declared.grant.NameGrant.{NameGrant}
+use Rattle.sng_policy.specs.declared.grant.NameGrant.TheVariants.{Allowed, Missing}
 use Rattle.sng_policy.specs.Grants.{permits, is_granted, grant_by}
 use Rattle.sng_policy.specs.Laws.{Grants, Says, NamesAreExact}
 
@@ -37,17 +36,17 @@ by_grants permission (pair ∷ pairs) name (inr more) =
     or_right (permits permission pair && matches pair.filter name) (is_granted permission pairs name)
     (by_grants permission pairs name more)
 
-exact_by : (permission : Permission) (unlisted missing : Grant) (pairs : List Pair) (name : List ℕ)
-    (grant : Grant) (b : Bool) → is_granted permission pairs name ≡ b
-    → ((if b then Allowed else missing) ≡ grant) ↔ Says permission unlisted missing (Some pairs) name grant
-exact_by permission unlisted missing pairs name grant true is = (
+exact_by : (permission : Permission) (pairs : List Pair) (name : List ℕ)
+    (grant : NameGrant) (b : Bool) → is_granted permission pairs name ≡ b
+    → ((if b then Allowed else Missing) ≡ grant) ↔ Says permission (Some pairs) name grant
+exact_by permission pairs name grant true is = (
   λ answer. inl (sym answer, granted permission pairs name is),
   λ says. elim says [
     | inl allowed ↦ sym allowed.0
     | inr denied ↦ absurd (denied.1 (granted permission pairs name is))
   ],
 )
-exact_by permission unlisted missing pairs name grant false is = (
+exact_by permission pairs name grant false is = (
   λ answer. inr (
     sym answer,
     λ h. absurd
@@ -60,17 +59,17 @@ exact_by permission unlisted missing pairs name grant false is = (
   ],
 )
 
-exact : (permission : Permission) (unlisted missing : Grant) (scope : Option (List Pair)) (name : List ℕ)
-    (grant : Grant)
-    → (grant_by permission unlisted missing scope name ≡ grant) ↔ Says permission unlisted missing scope name
+exact : (permission : Permission) (scope : Option (List Pair)) (name : List ℕ)
+    (grant : NameGrant)
+    → (grant_by permission scope name ≡ grant) ↔ Says permission scope name
     grant
-exact permission unlisted missing None name grant = (λ answer. sym answer, λ says. sym says)
-exact permission unlisted missing (Some pairs) name grant =
-    exact_by permission unlisted missing pairs name grant (is_granted permission pairs name) refl
+exact permission None name grant = (λ answer. sym answer, λ says. sym says)
+exact permission (Some pairs) name grant =
+    exact_by permission pairs name grant (is_granted permission pairs name) refl
 
 pub names_are_exact : NamesAreExact
 names_are_exact policy who name grant = (
-  exact Publish NoScope MissingPub (scope_of policy.clients who) name grant,
-  exact Publish UnknownSource MissingPub (scope_of policy.sources who) name grant,
-  exact Subscribe NoScope MissingSub (scope_of policy.clients who) name grant,
+  exact Publish (scope_of policy.clients who) name grant,
+  exact Publish (scope_of policy.sources who) name grant,
+  exact Subscribe (scope_of policy.clients who) name grant,
 )

@@ -21,8 +21,10 @@ use Rattle.sng_grants.specs.Sources.{scope_of}
 use Rattle.sng_grants.specs.declared.policy.Policy.{Policy}
 use Rattle.sng_grants.specs.declared.scope.Pair.{Pair}
 use Rattle.sng_policy.specs.declared.permission.Permission.TheVariants.{Subscribe}
-use Rattle.sng_policy.specs.declared.grant.Grant.{Grant}
-use Rattle.sng_policy.specs.declared.grant.Grant.TheVariants.{Allowed, NoScope, MissingSub, Uncovered}
+use Rattle.sng_policy.specs.declared.grant.NameGrant.{NameGrant}
+use Rattle.sng_policy.specs.declared.grant.NameGrant.TheVariants as on_name
+use Rattle.sng_policy.specs.declared.grant.FilterGrant.{FilterGrant}
+use Rattle.sng_policy.specs.declared.grant.FilterGrant.TheVariants.{Allowed, Uncovered}
 use Rattle.sng_policy.specs.Grants.{is_granted, has_filter, grant_by, grant_of_cover, subscribe_by}
 use Rattle.sng_policy.specs.Grants.{subscribe_grant}
 use Rattle.sng_policy.specs.Laws.{EachIsGranted, SaysOfFilter, HasFilters, SubscriptionsAreExact}
@@ -84,11 +86,11 @@ own-included pairs filter is are has =
     (λ name named matching. same_granted pairs name ∙ own_granted pairs filter name has matching)
 
 -- the gap in an answer
-gap_in : Grant → List ℕ
+gap_in : FilterGrant → List ℕ
 gap_in (Uncovered gap) = gap
 gap_in _ = []
 
-exact_by : (pairs : List Pair) (filter : List ℕ) (grant : Grant) (answer : Cover)
+exact_by : (pairs : List Pair) (filter : List ℕ) (grant : FilterGrant) (answer : Cover)
     → cover_of filter (subscribed pairs) ≡ answer → IsRight filter (subscribed pairs)
     → (grant_of_cover answer ≡ grant) ↔ SaysOfFilter (Some pairs) filter grant
 exact_by pairs filter grant cover.Included is right =
@@ -121,7 +123,7 @@ exact_by pairs filter grant (cover.Uncovered gap) is right =
       ],
     )
 
-pub exact : (scope : Option (List Pair)) (filter : List ℕ) (grant : Grant) → is_filter filter ≡ true
+pub exact : (scope : Option (List Pair)) (filter : List ℕ) (grant : FilterGrant) → is_filter filter ≡ true
     → HasFilters scope → (subscribe_by scope filter ≡ grant) ↔ SaysOfFilter scope filter grant
 exact None filter grant is have = (λ answer. sym answer, λ says. sym says)
 exact (Some pairs) filter grant is have =
@@ -140,8 +142,8 @@ not_true true is = absurd (cc)
 not_true false is = refl
 
 -- what a scope says to a message with the name
-abbrev received : Option (List Pair) → List ℕ → Grant
-received scope name = grant_by Subscribe NoScope MissingSub scope name
+abbrev received : Option (List Pair) → List ℕ → NameGrant
+received scope name = grant_by Subscribe scope name
 
 each : (pairs : List Pair) (filter : List ℕ) → SaysOfFilter (Some pairs) filter Allowed
     → EachIsGranted pairs filter
@@ -150,7 +152,8 @@ each pairs filter (inr uncovered) = let no : Allowed ≡ Uncovered uncovered.0 =
 
 allowed_names : (scope : Option (List Pair)) (filter : List ℕ) → is_filter filter ≡ true → HasFilters scope
     → subscribe_by scope filter ≡ Allowed
-    → (name : List ℕ) → is_name name ≡ true → matches filter name ≡ true → received scope name ≡ Allowed
+    → (name : List ℕ) → is_name name ≡ true → matches filter name ≡ true → received scope name
+    ≡ on_name.Allowed
 allowed_names None filter is have allowed name named matching = absurd (cc)
 allowed_names (Some pairs) filter is have allowed name named matching =
     let says : SaysOfFilter (Some pairs) filter Allowed =
@@ -167,7 +170,7 @@ gap_of pairs filter gap (inr uncovered) =
 
 uncovered_gap : (scope : Option (List Pair)) (filter : List ℕ) → is_filter filter ≡ true → HasFilters scope
     → (gap : List ℕ) → subscribe_by scope filter ≡ Uncovered gap
-    → (is_name gap ≡ true) × (matches filter gap ≡ true) × (received scope gap ≡ MissingSub)
+    → (is_name gap ≡ true) × (matches filter gap ≡ true) × (received scope gap ≡ on_name.Missing)
 uncovered_gap None filter is have gap uncovered = absurd (cc)
 uncovered_gap (Some pairs) filter is have gap uncovered =
     let gap_is : IsGap filter (subscribed pairs) gap =
@@ -184,7 +187,7 @@ subscribing_is_receiving policy client filter is have = record {
 }
 
 -- what a grant by the pairs of a client's scope says
-pub grant-says : (policy : Policy) (client filter : List ℕ) (pairs : List Pair) (grant : Grant)
+pub grant-says : (policy : Policy) (client filter : List ℕ) (pairs : List Pair) (grant : FilterGrant)
     → is_filter filter ≡ true → All (λ pair. is_filter pair.filter ≡ true) pairs
     → Some pairs ≡ scope_of policy.clients client
     → grant ≡ grant_of_cover (cover_of filter (subscribed pairs))
@@ -192,7 +195,7 @@ pub grant-says : (policy : Policy) (client filter : List ℕ) (pairs : List Pair
 grant-says policy client filter pairs grant is are listed answer =
     let have : HasFilters (scope_of policy.clients client) = rw (← listed) (scope-has_filters pairs are) in
     let same : subscribe_grant policy client filter ≡ grant = rw (← listed) (sym answer) in
-    let P : Grant → Type 0 = λ g. JoinsReceiving policy client filter g in (
+    let P : FilterGrant → Type 0 = λ g. JoinsReceiving policy client filter g in (
       (subscriptions_are_exact policy client filter grant is have).0 same,
       subst P same (subscribing_is_receiving policy client filter is have),
     )

@@ -17,9 +17,10 @@ use Rattle.sng_grants.specs.declared.scope.Pair.{Pair}
 use Rattle.sng_grants.specs.declared.policy.Policy.{Policy}
 use Rattle.sng_policy.specs.declared.permission.Permission.{Permission}
 use Rattle.sng_policy.specs.declared.permission.Permission.TheVariants.{Publish, Subscribe}
-use Rattle.sng_policy.specs.declared.grant.Grant.{Grant}
-use Rattle.sng_policy.specs.declared.grant.Grant.TheVariants.{Allowed, NoScope, UnknownSource, MissingPub}
-use Rattle.sng_policy.specs.declared.grant.Grant.TheVariants.{MissingSub, Uncovered}
+use Rattle.sng_policy.specs.declared.grant.NameGrant.{NameGrant}
+use Rattle.sng_policy.specs.declared.grant.NameGrant.TheVariants as on_name
+use Rattle.sng_policy.specs.declared.grant.FilterGrant.{FilterGrant}
+use Rattle.sng_policy.specs.declared.grant.FilterGrant.TheVariants as on_filter
 
 -- the policy lists the client
 abbrev pub lists : Policy → List ℕ → Bool
@@ -64,24 +65,23 @@ is_granted permission [] name = false
 is_granted permission (pair ∷ pairs) name = (permits permission pair && matches pair.filter name)
     || is_granted permission pairs name
 
--- what a scope says to an ask about a name, given the answers where there is no scope, and no pair
-abbrev pub grant_by : Permission → Grant → Grant → Option (List Pair) → List ℕ → Grant
-grant_by permission unlisted missing None name = unlisted
-grant_by permission unlisted missing (Some pairs) name = if is_granted permission pairs name then Allowed
-    else missing
+-- what the scope of who asks for the permission says about a name
+abbrev pub grant_by : Permission → Option (List Pair) → List ℕ → NameGrant
+grant_by permission None name = on_name.Unlisted
+grant_by permission (Some pairs) name = if is_granted permission pairs name then on_name.Allowed
+    else on_name.Missing
 
 -- what the policy says to a publish under the name by the client
-abbrev pub publish_grant : Policy → List ℕ → List ℕ → Grant
-publish_grant policy client name = grant_by Publish NoScope MissingPub (scope_of policy.clients client) name
+abbrev pub publish_grant : Policy → List ℕ → List ℕ → NameGrant
+publish_grant policy client name = grant_by Publish (scope_of policy.clients client) name
 
 -- to a publish under the name by the source
-abbrev pub source_grant : Policy → List ℕ → List ℕ → Grant
-source_grant policy source name =
-    grant_by Publish UnknownSource MissingPub (scope_of policy.sources source) name
+abbrev pub source_grant : Policy → List ℕ → List ℕ → NameGrant
+source_grant policy source name = grant_by Publish (scope_of policy.sources source) name
 
 -- to a message with the name for the client
-abbrev pub receive_grant : Policy → List ℕ → List ℕ → Grant
-receive_grant policy client name = grant_by Subscribe NoScope MissingSub (scope_of policy.clients client) name
+abbrev pub receive_grant : Policy → List ℕ → List ℕ → NameGrant
+receive_grant policy client name = grant_by Subscribe (scope_of policy.clients client) name
 
 -- some pair with `sub` has this very filter
 abbrev pub has_filter : List Pair → List ℕ → Bool
@@ -89,15 +89,15 @@ has_filter [] filter = false
 has_filter (pair ∷ pairs) filter = (pair.subscribes && bytes_eq pair.filter filter) || has_filter pairs filter
 
 -- an answer on inclusion as a grant
-abbrev pub grant_of_cover : Cover → Grant
-grant_of_cover cover.Included = Allowed
-grant_of_cover (cover.Uncovered gap) = Uncovered gap
+abbrev pub grant_of_cover : Cover → FilterGrant
+grant_of_cover cover.Included = on_filter.Allowed
+grant_of_cover (cover.Uncovered gap) = on_filter.Uncovered gap
 
 -- what a scope says to a subscription by the filter
-abbrev pub subscribe_by : Option (List Pair) → List ℕ → Grant
-subscribe_by None filter = NoScope
+abbrev pub subscribe_by : Option (List Pair) → List ℕ → FilterGrant
+subscribe_by None filter = on_filter.Unlisted
 subscribe_by (Some pairs) filter = grant_of_cover (cover_of filter (subscribed pairs))
 
 -- what the policy says to a subscription of the client by the filter
-abbrev pub subscribe_grant : Policy → List ℕ → List ℕ → Grant
+abbrev pub subscribe_grant : Policy → List ℕ → List ℕ → FilterGrant
 subscribe_grant policy client filter = subscribe_by (scope_of policy.clients client) filter

@@ -11,9 +11,10 @@ use Rattle.sng_grants.specs.declared.scope.Pair.{Pair}
 use Rattle.sng_grants.specs.declared.policy.Policy.{Policy}
 use Rattle.sng_policy.specs.declared.permission.Permission.{Permission}
 use Rattle.sng_policy.specs.declared.permission.Permission.TheVariants.{Publish, Subscribe}
-use Rattle.sng_policy.specs.declared.grant.Grant.{Grant}
-use Rattle.sng_policy.specs.declared.grant.Grant.TheVariants.{Allowed, NoScope, UnknownSource, MissingPub}
-use Rattle.sng_policy.specs.declared.grant.Grant.TheVariants.{MissingSub, Uncovered}
+use Rattle.sng_policy.specs.declared.grant.NameGrant.{NameGrant}
+use Rattle.sng_policy.specs.declared.grant.NameGrant.TheVariants as on_name
+use Rattle.sng_policy.specs.declared.grant.FilterGrant.{FilterGrant}
+use Rattle.sng_policy.specs.declared.grant.FilterGrant.TheVariants as on_filter
 use Rattle.sng_policy.specs.Grants.{permits, publish_grant, source_grant, receive_grant, subscribe_grant}
 
 -- some pair of the scope has the permission, and a filter that matches the name
@@ -22,22 +23,19 @@ Grants permission [] name = ⊥
 Grants permission (pair ∷ pairs) name = ((permits permission pair ≡ true) × (matches pair.filter name ≡ true))
     ⊎ Grants permission pairs name
 
--- the answer on a name: where nothing is listed `unlisted`, else allowed where a pair grants it, and
--- `missing` where none does
-abbrev pub Says : Permission → Grant → Grant → Option (List Pair) → List ℕ → Grant → Type 0
-Says permission unlisted missing None name grant = grant ≡ unlisted
-Says permission unlisted missing (Some pairs) name grant = ((grant ≡ Allowed) × Grants permission pairs name)
-    ⊎ ((grant ≡ missing) × ¬ Grants permission pairs name)
+-- the answer on a name: where nothing is listed `Unlisted`, else allowed where a pair grants it, and
+-- `Missing` where none does
+abbrev pub Says : Permission → Option (List Pair) → List ℕ → NameGrant → Type 0
+Says permission None name grant = grant ≡ on_name.Unlisted
+Says permission (Some pairs) name grant = ((grant ≡ on_name.Allowed) × Grants permission pairs name)
+    ⊎ ((grant ≡ on_name.Missing) × ¬ Grants permission pairs name)
 
 -- the answers on names
 abbrev pub NamesAreExact : Type 0
-NamesAreExact = (policy : Policy) (who name : List ℕ) (grant : Grant)
-    → ((publish_grant policy who name ≡ grant)
-    ↔ Says Publish NoScope MissingPub (scope_of policy.clients who) name grant)
-    × ((source_grant policy who name ≡ grant)
-    ↔ Says Publish UnknownSource MissingPub (scope_of policy.sources who) name grant)
-    × ((receive_grant policy who name ≡ grant)
-    ↔ Says Subscribe NoScope MissingSub (scope_of policy.clients who) name grant)
+NamesAreExact = (policy : Policy) (who name : List ℕ) (grant : NameGrant)
+    → ((publish_grant policy who name ≡ grant) ↔ Says Publish (scope_of policy.clients who) name grant)
+    × ((source_grant policy who name ≡ grant) ↔ Says Publish (scope_of policy.sources who) name grant)
+    × ((receive_grant policy who name ≡ grant) ↔ Says Subscribe (scope_of policy.clients who) name grant)
 
 -- each name that the filter matches is granted for subscribing
 abbrev pub EachIsGranted : List Pair → List ℕ → Type 0
@@ -45,10 +43,10 @@ EachIsGranted pairs filter = (name : List ℕ) → is_name name ≡ true → mat
     → Grants Subscribe pairs name
 
 -- the answer on a subscription: allowed where each name that it may bring is granted, else the gap
-abbrev pub SaysOfFilter : Option (List Pair) → List ℕ → Grant → Type 0
-SaysOfFilter None filter grant = grant ≡ NoScope
-SaysOfFilter (Some pairs) filter grant = ((grant ≡ Allowed) × EachIsGranted pairs filter)
-    ⊎ ((gap : List ℕ) × ((grant ≡ Uncovered gap) × IsGap filter (subscribed pairs) gap))
+abbrev pub SaysOfFilter : Option (List Pair) → List ℕ → FilterGrant → Type 0
+SaysOfFilter None filter grant = grant ≡ on_filter.Unlisted
+SaysOfFilter (Some pairs) filter grant = ((grant ≡ on_filter.Allowed) × EachIsGranted pairs filter)
+    ⊎ ((gap : List ℕ) × ((grant ≡ on_filter.Uncovered gap) × IsGap filter (subscribed pairs) gap))
 
 -- the filters of a scope's pairs with `sub` are filters, as each `Scope` has them
 abbrev pub HasFilters : Option (List Pair) → Type 0
@@ -57,18 +55,20 @@ HasFilters (Some pairs) = All (λ filter. is_filter filter ≡ true) (subscribed
 
 -- the answers on subscriptions
 abbrev pub SubscriptionsAreExact : Type 0
-SubscriptionsAreExact = (policy : Policy) (client filter : List ℕ) (grant : Grant) → is_filter filter ≡ true
+SubscriptionsAreExact =
+    (policy : Policy) (client filter : List ℕ) (grant : FilterGrant) → is_filter filter ≡ true
     → HasFilters (scope_of policy.clients client)
     → (subscribe_grant policy client filter ≡ grant)
     ↔ SaysOfFilter (scope_of policy.clients client) filter grant
 
 -- a grant of a subscription and what may be received: allowed where each name that the filter matches may be,
 -- and a gap is a name that the filter matches and that may not be
-pub record JoinsReceiving (policy : Policy) (client filter : List ℕ) (grant : Grant) : Type 0 where
-  pub allowed : grant ≡ Allowed → (name : List ℕ) → is_name name ≡ true → matches filter name ≡ true
-      → receive_grant policy client name ≡ Allowed
-  pub uncovered : (gap : List ℕ) → grant ≡ Uncovered gap → (is_name gap ≡ true) × (matches filter gap ≡ true)
-      × (receive_grant policy client gap ≡ MissingSub)
+pub record JoinsReceiving (policy : Policy) (client filter : List ℕ) (grant : FilterGrant) : Type 0 where
+  pub allowed : grant ≡ on_filter.Allowed → (name : List ℕ) → is_name name ≡ true → matches filter name ≡ true
+      → receive_grant policy client name ≡ on_name.Allowed
+  pub uncovered : (gap : List ℕ) → grant ≡ on_filter.Uncovered gap
+      → (is_name gap ≡ true) × (matches filter gap ≡ true)
+      × (receive_grant policy client gap ≡ on_name.Missing)
 
 abbrev pub SubscribingIsReceiving : Type 0
 SubscribingIsReceiving = (policy : Policy) (client filter : List ℕ) → is_filter filter ≡ true

@@ -9,7 +9,7 @@ pub mod names;
 pub mod permission;
 pub mod subscriptions;
 
-pub use grant::Grant;
+pub use grant::{FilterGrant, NameGrant};
 pub use listed::{lists, lists_source, same_scope, topic, topic_id};
 pub use names::{may_publish, may_receive, source_may_publish};
 pub use permission::Permission;

@@ -5,70 +5,42 @@ ghost use Rattle.std.specs.Option.{option_copied};
 ghost use Rattle.sng_policy.specs.Grants.{grant_by, publish_grant, source_grant, receive_grant};
 
 use crate::permission::is_granted;
-use crate::{Grant, Permission};
+use crate::{NameGrant, Permission};
 use sng_grants::{Policy, Scope};
 use sng_text::{ClientId, TopicName};
 
-/// What the policy says to a publish under the name by the client: Allowed, NoScope or MissingPub.
-pub fn may_publish(policy: &Policy, client: &ClientId, name: &TopicName) -> Grant
+/// What the policy says to a publish under the name by the client.
+pub fn may_publish(policy: &Policy, client: &ClientId, name: &TopicName) -> NameGrant
     ensures { result ≡ publish_grant policy.now client.now name.now }
 {
-    let scope = policy.clients.get(client);
-    grant_by(
-        Permission::Publish,
-        Grant::NoScope,
-        Grant::MissingPub,
-        scope,
-        name,
-    )
+    grant_by(Permission::Publish, policy.clients.get(client), name)
 }
 
-/// What the policy says to a publish under the name by the source with this IPv4 address: Allowed,
-/// UnknownSource or MissingPub.
-pub fn source_may_publish(policy: &Policy, source: [u8; 4], name: &TopicName) -> Grant
+/// What the policy says to a publish under the name by the source with this IPv4 address.
+pub fn source_may_publish(policy: &Policy, source: [u8; 4], name: &TopicName) -> NameGrant
     ensures { result ≡ source_grant policy.now source name.now }
 {
-    let scope = policy.sources.get(&source);
-    grant_by(
-        Permission::Publish,
-        Grant::UnknownSource,
-        Grant::MissingPub,
-        scope,
-        name,
-    )
+    grant_by(Permission::Publish, policy.sources.get(&source), name)
 }
 
-/// What the policy says to a message with the name for the client: Allowed, NoScope or MissingSub.
-pub fn may_receive(policy: &Policy, client: &ClientId, name: &TopicName) -> Grant
+/// What the policy says to a message with the name for the client.
+pub fn may_receive(policy: &Policy, client: &ClientId, name: &TopicName) -> NameGrant
     ensures { result ≡ receive_grant policy.now client.now name.now }
 {
-    let scope = policy.clients.get(client);
-    grant_by(
-        Permission::Subscribe,
-        Grant::NoScope,
-        Grant::MissingSub,
-        scope,
-        name,
-    )
+    grant_by(Permission::Subscribe, policy.clients.get(client), name)
 }
 
-/// What a scope says about the name, given the answers where there is no scope, and where no pair grants it.
-fn grant_by(
-    permission: Permission,
-    unlisted: Grant,
-    missing: Grant,
-    scope: Option<&Scope>,
-    name: &TopicName,
-) -> Grant
-    ensures { result ≡ grant_by permission unlisted missing (option_copied scope.entry) name.now }
+/// What the scope of who asks for the permission says about the name.
+fn grant_by(permission: Permission, scope: Option<&Scope>, name: &TopicName) -> NameGrant
+    ensures { result ≡ grant_by permission (option_copied scope.entry) name.now }
 {
     match scope {
-        None => unlisted,
+        None => NameGrant::Unlisted,
         Some(scope) => {
             if is_granted(permission, scope.pairs(), name) {
-                Grant::Allowed
+                NameGrant::Allowed
             } else {
-                missing
+                NameGrant::Missing
             }
         }
     }

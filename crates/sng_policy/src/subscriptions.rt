@@ -10,7 +10,7 @@ ghost use Rattle.sng_grants.specs.Sources.{scope_of};
 ghost use Rattle.sng_policy.specs.Grants.{has_filter, subscribe_grant};
 ghost use Rattle.sng_policy.specs.Laws.{SaysOfFilter, JoinsReceiving};
 
-use crate::Grant;
+use crate::FilterGrant;
 use sng_cover::{Cover, Profile, Question};
 use sng_grants::{Pair, Policy};
 use sng_text::{ClientId, TopicFilter};
@@ -20,7 +20,7 @@ use std::alloc::{AllocError, Global};
 const END: usize = 8;
 
 /// What the policy says to a subscription of the client by the filter: Allowed where each name that the
-/// filter matches is granted to it for subscribing, and so may be received, NoScope, or Uncovered with the
+/// filter matches is granted to it for subscribing, and so may be received, Unlisted, or Uncovered with the
 /// gap over the client's filters with `sub`. Memory is taken for the gap's name alone. A filter that is one
 /// of these itself takes a look at each text up to it, and no walk over levels.
 pub fn may_subscribe(
@@ -28,7 +28,7 @@ pub fn may_subscribe(
     policy: &Policy,
     client: &ClientId,
     filter: &TopicFilter,
-) -> Result<Grant, AllocError>
+) -> Result<FilterGrant, AllocError>
     ensures value { IfOk result (λ grant. grant ≡ subscribe_grant policy.now client.now filter.now) }
     ensures meaning { IfOk result (SaysOfFilter (scope_of policy.now.clients client.now) filter.now) }
     ensures joins { IfOk result (JoinsReceiving policy.now client.now filter.now) }
@@ -36,10 +36,10 @@ pub fn may_subscribe(
     // `text` says that the filter is one
     let _text = filter.text();
     match policy.clients.get(client) {
-        None => Ok(Grant::NoScope),
+        None => Ok(FilterGrant::Unlisted),
         Some(scope) => match cover_by(alloc, filter, scope.pairs(), scope.profile())? {
-            Cover::Included => Ok(Grant::Allowed),
-            Cover::Uncovered(gap) => Ok(Grant::Uncovered(gap)),
+            Cover::Included => Ok(FilterGrant::Allowed),
+            Cover::Uncovered(gap) => Ok(FilterGrant::Uncovered(gap)),
         },
     }
 }

@@ -4,8 +4,10 @@ use Rattle.sng_grants.specs.declared.policy.Policy.{Policy}
 use Rattle.sng_book.specs.declared.address.Address.{Address}
 use Rattle.sng_book.specs.declared.decision.Decision.TheVariants.{Publish, Forward, Frame}
 use Rattle.sng_book.specs.declared.decision.Who.TheVariants as who
-use Rattle.sng_book.specs.declared.outcome.Denial.TheVariants.{Malformed, NoSession, UnknownSource}
-use Rattle.sng_book.specs.declared.outcome.Denial.TheVariants.{UpstreamDown}
+use Rattle.sng_book.specs.declared.outcome.Denial.TheVariants.{Form, Grant, Room}
+use Rattle.sng_book.specs.declared.outcome.FormDenial.TheVariants.{Malformed, NoSession}
+use Rattle.sng_book.specs.declared.outcome.GrantDenial.TheVariants.{UnknownSource}
+use Rattle.sng_book.specs.declared.outcome.RoomDenial.TheVariants.{UpstreamDown}
 use Rattle.sng_book.specs.declared.outcome.Outcome.{Outcome}
 use Rattle.sng_book.specs.declared.outcome.Outcome.TheVariants.{Allowed, Denied}
 use Rattle.sng_book.specs.declared.event.Event.{Event}
@@ -79,13 +81,13 @@ stored_run datagram = row Take (forward_ab Allowed ∷ packet_ab ∷ []) ∷ bef
 abbrev pub unknown_source : List Row
 unknown_source =
     row Take [] ∷ row (Datagram (at stranger) publish_ab)
-    (Note (Publish (who.Source stranger) None (Denied UnknownSource)) ∷ []) ∷ row Up []
+    (Note (Publish (who.Source stranger) None (Denied (Grant UnknownSource))) ∷ []) ∷ row Up []
     ∷ row (Replace grants_ab) [] ∷ []
 
 -- the broker's connection is down
 abbrev pub without_up : List Row
 without_up =
-    row Take [] ∷ row (Datagram (at source) publish_ab) (asked_ab source (Denied UpstreamDown) ∷ [])
+    row Take [] ∷ row (Datagram (at source) publish_ab) (asked_ab source (Denied (Room UpstreamDown)) ∷ [])
     ∷ row (Replace grants_ab) [] ∷ []
 
 -- a publish of a session from an address that has none is answered by DISCONNECT, and what is not a frame by
@@ -93,15 +95,15 @@ without_up =
 abbrev pub strangers : List Row
 strangers =
     row (Datagram (at stranger) (0x03 ∷ 0x18 ∷ []))
-    (Note (Frame (who.Address (at stranger)) (Denied Malformed)) ∷ [])
+    (Note (Frame (who.Address (at stranger)) (Denied (Form Malformed))) ∷ [])
     ∷ row (Datagram (at stranger) publish_ab_session)
-    (Note (Publish (who.Address (at stranger)) None (Denied NoSession))
+    (Note (Publish (who.Address (at stranger)) None (Denied (Form NoSession)))
     ∷ Send (at stranger) (0x02 ∷ 0x18 ∷ []) ∷ []) ∷ []
 
 -- the grant is replaced while the publish waits: it is denied as it leaves
 abbrev pub replaced_while_waiting : List Row
 replaced_while_waiting =
-    row Take (forward_ab (Denied UnknownSource) ∷ []) ∷ row (Replace grants_nothing) []
+    row Take (forward_ab (Denied (Grant UnknownSource)) ∷ []) ∷ row (Replace grants_nothing) []
     ∷ before_take publish_ab
 
 -- the state in which the publish waits, with the grant in force, with it replaced, and with the connection

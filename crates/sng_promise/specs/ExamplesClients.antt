@@ -9,8 +9,10 @@ use Rattle.sng_book.specs.declared.decision.Decision.TheVariants.{Connect, Left,
 use Rattle.sng_book.specs.declared.decision.Decision.TheVariants.{Subscribe, Announce, Hand, Forward, Again}
 use Rattle.sng_book.specs.declared.decision.Decision.TheVariants.{End}
 use Rattle.sng_book.specs.declared.decision.Who.TheVariants as who
-use Rattle.sng_book.specs.declared.outcome.Denial.TheVariants.{NoScope, NoSession, UnknownId, MissingPub}
-use Rattle.sng_book.specs.declared.outcome.Denial.TheVariants.{MissingSub, Uncovered}
+use Rattle.sng_book.specs.declared.outcome.Denial.TheVariants.{Form, Grant}
+use Rattle.sng_book.specs.declared.outcome.FormDenial.TheVariants.{NoSession, UnknownId}
+use Rattle.sng_book.specs.declared.outcome.GrantDenial.TheVariants.{NoScope, MissingPub, MissingSub}
+use Rattle.sng_book.specs.declared.outcome.GrantDenial.TheVariants.{Uncovered}
 use Rattle.sng_book.specs.declared.outcome.IdKind.TheVariants.{Normal}
 use Rattle.sng_book.specs.declared.outcome.Outcome.{Outcome}
 use Rattle.sng_book.specs.declared.outcome.Outcome.TheVariants.{Allowed, Denied}
@@ -96,13 +98,13 @@ s1_home policy =
 -- a client that is not listed is refused
 abbrev pub not_listed : List Row
 not_listed =
-    row (Datagram away connect_s2) (Note (Connect s2 (Denied (NoScope s2))) ∷ refusal away ∷ [])
+    row (Datagram away connect_s2) (Note (Connect s2 (Denied (Grant (NoScope s2)))) ∷ refusal away ∷ [])
     ∷ s1_home one_listed
 
 -- a client comes from another address: it is dismissed where it was, and there is no session there any more
 abbrev pub moves : List Row
 moves =
-    row (Datagram home ping_s1) (Note (Frame (who.Address home) (Denied NoSession)) ∷ bye home ∷ [])
+    row (Datagram home ping_s1) (Note (Frame (who.Address home) (Denied (Form NoSession))) ∷ bye home ∷ [])
     ∷ row (Datagram away connect_s1) (lets_in s1 ∷ bye home ∷ welcome away ∷ []) ∷ s1_home one_listed
 
 -- a client comes to the address of another one, which leaves
@@ -119,7 +121,7 @@ goes = row (Datagram home disconnect) (Note (Left s1) ∷ bye home ∷ []) ∷ s
 abbrev pub pings : List Row
 pings =
     row (Datagram home ping) (pong home ∷ [])
-    ∷ row (Datagram home ping_s2) (Note (Frame (who.Client s1) (Denied NoSession)) ∷ bye home ∷ [])
+    ∷ row (Datagram home ping_s2) (Note (Frame (who.Client s1) (Denied (Form NoSession))) ∷ bye home ∷ [])
     ∷ s1_home one_listed
 
 -- the state in which `s1` is at home
@@ -190,8 +192,9 @@ told_t1 = row (Datagram home register_t1) (registers t1 Allowed ∷ registered_t
 abbrev pub untold : List Row
 untold =
     row (Datagram home publish_9)
-    (Note (Publish (who.Client s1) None (Denied (UnknownId Normal 9))) ∷ refused_9 ∷ [])
-    ∷ row (Datagram home register_t2) (registers t2 (Denied (MissingPub t2)) ∷ unregistered_t2 ∷ []) ∷ told_t1
+    (Note (Publish (who.Client s1) None (Denied (Form (UnknownId Normal 9)))) ∷ refused_9 ∷ [])
+    ∷ row (Datagram home register_t2) (registers t2 (Denied (Grant (MissingPub t2))) ∷ unregistered_t2
+    ∷ []) ∷ told_t1
 
 -- it publishes, and the publish leaves and is in flight
 abbrev pub asked_t1 : List Row
@@ -239,7 +242,7 @@ stands_ab = row (Datagram home subscribe_ab) (subscribes_ab Allowed ∷ subscrib
 
 -- the end of it under a policy that grants nothing: `a/b` itself shows the gap
 abbrev pub ends_ab : Out
-ends_ab = Note (End s1 ab (Denied (Uncovered ab ab)))
+ends_ab = Note (End s1 ab (Denied (Grant (Uncovered ab ab))))
 
 -- a replacement ends it
 abbrev pub ended_ab : List Row
@@ -304,13 +307,13 @@ handed_over_ab = row (Datagram home accept_ab) (hands_ab Allowed ∷ handed_ab �
 -- a replacement that grants nothing comes before the REGACK: the filter ends, and the message is denied as
 -- its turn comes
 abbrev pub ends_under_a : Out
-ends_under_a = Note (End s1 under_a (Denied (Uncovered under_a (codes "a"))))
+ends_under_a = Note (End s1 under_a (Denied (Grant (Uncovered under_a (codes "a")))))
 
 abbrev pub ungranted_ab : List Row
 ungranted_ab = row (Replace both_listed) (ends_under_a ∷ []) ∷ announced_ab
 
 abbrev pub denied_ab : List Row
-denied_ab = row (Datagram home accept_ab) (hands_ab (Denied (MissingSub ab)) ∷ []) ∷ ungranted_ab
+denied_ab = row (Datagram home accept_ab) (hands_ab (Denied (Grant (MissingSub ab))) ∷ []) ∷ ungranted_ab
 
 -- two filters match the name, which SUBACK told; the message is handed over once
 abbrev pub stands_twice : List Row

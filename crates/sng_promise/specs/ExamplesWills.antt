@@ -2,7 +2,8 @@
 use Rattle.std.specs.Prelude.{ℕ, List, [], ◌∷◌, Some}
 use Rattle.sng_book.specs.declared.decision.Decision.TheVariants.{Left, Lost, Will}
 use Rattle.sng_book.specs.declared.decision.Who.TheVariants as who
-use Rattle.sng_book.specs.declared.outcome.Denial.TheVariants.{MissingPub}
+use Rattle.sng_book.specs.declared.outcome.Denial.TheVariants.{Grant}
+use Rattle.sng_book.specs.declared.outcome.GrantDenial.TheVariants.{MissingPub}
 use Rattle.sng_book.specs.declared.outcome.Outcome.{Outcome}
 use Rattle.sng_book.specs.declared.outcome.Outcome.TheVariants.{Allowed, Denied}
 use Rattle.sng_book.specs.declared.event.Event.TheVariants.{Datagram, Up, Take, Replace, Tick}
@@ -56,7 +57,8 @@ will_asked =
 -- a topic that is not granted ends the dialogue, and the client leaves
 abbrev pub will_refused : List Row
 will_refused =
-    row (Datagram home topic_t2) (states t2 (Denied (MissingPub t2)) ∷ refusal home ∷ Note (Left s1) ∷ [])
+    row (Datagram home topic_t2) (states t2 (Denied (Grant (MissingPub t2))) ∷ refusal home
+    ∷ Note (Left s1) ∷ [])
     ∷ will_asked
 
 -- one that is granted lets the message be asked for, and with that the client is let in

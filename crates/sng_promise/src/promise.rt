@@ -6,7 +6,9 @@ ghost use Rattle.sng_book.specs.declared.address.Address.{Address};
 ghost use Rattle.sng_book.specs.declared.decision.Decision.TheVariants as note;
 ghost use Rattle.sng_book.specs.declared.decision.Who.TheVariants as who;
 ghost use Rattle.sng_book.specs.declared.out.Out.TheVariants.{Send};
-ghost use Rattle.sng_book.specs.declared.outcome.Denial.TheVariants.{MissingPub, UpstreamDown};
+ghost use Rattle.sng_book.specs.declared.outcome.Denial.TheVariants.{Grant, Room};
+ghost use Rattle.sng_book.specs.declared.outcome.GrantDenial.TheVariants.{MissingPub};
+ghost use Rattle.sng_book.specs.declared.outcome.RoomDenial.TheVariants.{UpstreamDown};
 ghost use Rattle.sng_book.specs.declared.outcome.Outcome.TheVariants.{Allowed, Denied};
 ghost use Rattle.sng_book.specs.declared.row.Row.{Row};
 ghost use Rattle.sng_history.specs.Lawful.{Lawful};
@@ -59,9 +61,10 @@ pub fn the_unlisted_are_refused()
         → Stands opening.policy (note.Subscribe (who.Client id) (Some text) Allowed) → ⊥ }
     ensures connects { (id : List ℕ) → Stands opening.policy (note.Connect id Allowed) → ⊥ }
     ensures rule { (id : List ℕ) → (name : List ℕ)
-        → Stands opening.policy (note.Publish (who.Client id) (Some name) (Denied (MissingPub name))) → ⊥ }
+        → Stands opening.policy
+        (note.Publish (who.Client id) (Some name) (Denied (Grant (MissingPub name)))) → ⊥ }
     ensures room { (id : List ℕ) → (name : List ℕ)
-        → Stands opening.policy (note.Publish (who.Client id) (Some name) (Denied UpstreamDown)) → ⊥ }
+        → Stands opening.policy (note.Publish (who.Client id) (Some name) (Denied (Room UpstreamDown))) → ⊥ }
     ensures unnoted { (to : Address) → (message : SnFrame) → is_topical message ≡ true
         → Reaches false (Send to (written message) ∷ []) → ⊥ }
 {}

@@ -1,7 +1,8 @@
 //! Worked rows: histories that are lawful by the definitions, and rows that are not.
 ghost use Rattle.std.specs.Prelude.{◌∷◌, [], codes};
 ghost use Rattle.sng_book.specs.declared.event.Event.TheVariants.{Datagram, Broker, Up, Take, Replace, Tick};
-ghost use Rattle.sng_book.specs.declared.outcome.Denial.TheVariants.{MissingPub};
+ghost use Rattle.sng_book.specs.declared.outcome.Denial.TheVariants.{Grant};
+ghost use Rattle.sng_book.specs.declared.outcome.GrantDenial.TheVariants.{MissingPub};
 ghost use Rattle.sng_book.specs.declared.outcome.Outcome.TheVariants.{Allowed, Denied};
 ghost use Rattle.sng_history.specs.State.{opening};
 ghost use Rattle.sng_history.specs.Lawful.{LawfulRow, Lawful};
@@ -53,7 +54,7 @@ pub fn unlawful_rows()
     ensures while_down { LawfulRow waits_down Take (forward_ab Allowed ∷ packet_ab ∷ []) → ⊥ }
     ensures at_up { LawfulRow waits Up (forward_ab Allowed ∷ packet_ab ∷ []) → ⊥ }
     ensures denied { LawfulRow waits (Datagram (at source) publish_ab)
-        (asked_ab source (Denied (MissingPub (codes "ab"))) ∷ []) → ⊥ }
+        (asked_ab source (Denied (Grant (MissingPub (codes "ab")))) ∷ []) → ⊥ }
 {}
 
 /// Lawful histories of clients: one that is listed is let in and one that is not is refused; a client that
@@ -91,7 +92,7 @@ pub fn unlawful_asks()
     ensures reused { LawfulRow flies_and_waits Take (forward_t1 Allowed ∷ packet_t1 1 ∷ []) → ⊥ }
     ensures unjudged { LawfulRow flies_ungranted Up (again_t1 Allowed ∷ packet_t1 1 ∷ []) → ⊥ }
     ensures denied { LawfulRow knows_t1 (Datagram home publish_t1)
-        (asks_t1 (Denied (MissingPub t1)) ∷ refused_t1 ∷ []) → ⊥ }
+        (asks_t1 (Denied (Grant (MissingPub t1))) ∷ refused_t1 ∷ []) → ⊥ }
 {}
 
 /// A lawful history of a subscription: a SUBSCRIBE that is covered is allowed, and ends as the policy is

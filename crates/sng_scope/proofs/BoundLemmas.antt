@@ -17,7 +17,8 @@ use Rattle.sng_text.specs.ClientIds.{is_client_id}
 use Rattle.sng_text.specs.Texts.{is_filter, is_name}
 use Rattle.sng_scope.proofs.KeyLemmas.{client_of-client, ipv4_of-address, topic_id_of-id}
 use Rattle.sng_text.specs.Ipv4.{IsAddress, ipv4_of}
-use Rattle.sng_grants.specs.declared.limits.TheConstants.{MAX_CLIENTS, MAX_PAIRS, MAX_SOURCES, MAX_TOPICS}
+use Rattle.sng_grants.specs.declared.limits.TheConstants.{MAX_POLICY_CLIENTS, MAX_PAIRS, MAX_SOURCES}
+use Rattle.sng_grants.specs.declared.limits.TheConstants.{MAX_TOPICS}
 use Rattle.sng_scope.specs.Bounds.{IsTopicId, AreWithin, IsPolicy, ScopesAreBounded, PoliciesAreBounded}
 use Rattle.sng_grants.specs.Scopes.{IsScope}
 use Rattle.sng_scope.specs.Numerals.{topic_id_of}
@@ -187,12 +188,13 @@ members_within-few most d =
     after_any (ok_or (as_object d) Shape) _ (λ ms. members_len ms ≤ most)
     (λ ms. few_members (ltb most (members_len ms)) most ms refl)
 
-clients_of-within : (o : Option Data) → IfOk (clients_of o) (AreWithin MAX_CLIENTS IsClient IsScope)
+clients_of-within : (o : Option Data) → IfOk (clients_of o) (AreWithin MAX_POLICY_CLIENTS IsClient IsScope)
 clients_of-within None = record { few = omega arith; keys = All-nil IsClient; values = All-nil IsScope }
 clients_of-within (Some d) =
-    after (members_within MAX_CLIENTS d) (clients_onto []) (λ ms. members_len ms ≤ MAX_CLIENTS)
-    (AreWithin MAX_CLIENTS IsClient IsScope) (members_within-few MAX_CLIENTS d)
-    (λ ms few. clients_onto-within ms MAX_CLIENTS [] (omega arith) (All-nil IsClient) (All-nil IsScope))
+    after (members_within MAX_POLICY_CLIENTS d) (clients_onto []) (λ ms. members_len ms ≤ MAX_POLICY_CLIENTS)
+    (AreWithin MAX_POLICY_CLIENTS IsClient IsScope) (members_within-few MAX_POLICY_CLIENTS d)
+    (λ ms few. clients_onto-within ms MAX_POLICY_CLIENTS [] (omega arith) (All-nil IsClient)
+    (All-nil IsScope))
 
 sources_of-within : (o : Option Data) → IfOk (sources_of o) (AreWithin MAX_SOURCES IsAddress IsScope)
 sources_of-within None = record { few = omega arith; keys = All-nil IsAddress; values = All-nil IsScope }
@@ -210,7 +212,7 @@ topics_of-within (Some d) =
 
 parts_of-policy : (d : Data) → IfOk (parts_of d) IsPolicy
 parts_of-policy d =
-    after (clients_of (get (codes "clients") d)) _ (AreWithin MAX_CLIENTS IsClient IsScope) IsPolicy
+    after (clients_of (get (codes "clients") d)) _ (AreWithin MAX_POLICY_CLIENTS IsClient IsScope) IsPolicy
     (clients_of-within (get (codes "clients") d)) (λ clients c.
     after (sources_of (get (codes "sources") d)) _ (AreWithin MAX_SOURCES IsAddress IsScope) IsPolicy
     (sources_of-within (get (codes "sources") d)) (λ sources s.

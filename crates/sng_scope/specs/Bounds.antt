@@ -4,7 +4,7 @@ use Rattle.std.specs.Map.{keys_of, values_of}
 use Rattle.sng_text.specs.ClientIds.{is_client_id}
 use Rattle.sng_text.specs.Ipv4.{IsAddress}
 use Rattle.sng_text.specs.Texts.{is_name}
-use Rattle.sng_grants.specs.declared.limits.TheConstants.{MAX_CLIENTS, MAX_SOURCES, MAX_TOPICS}
+use Rattle.sng_grants.specs.declared.limits.TheConstants.{MAX_POLICY_CLIENTS, MAX_SOURCES, MAX_TOPICS}
 use Rattle.sng_grants.specs.Scopes.{IsScope}
 use Rattle.sng_scope.specs.Policies.{policy_of}
 use Rattle.sng_scope.specs.Texts.{scope_of_text}
@@ -23,7 +23,7 @@ pub record AreWithin {K V : Type 0} (most : ℕ) (IsKey : K → Type 0) (IsValue
   pub values : All IsValue (values_of entries)
 
 pub record IsPolicy (policy : Policy) : Type 0 where
-  pub clients : AreWithin MAX_CLIENTS (λ client. is_client_id client ≡ true) IsScope policy.clients
+  pub clients : AreWithin MAX_POLICY_CLIENTS (λ client. is_client_id client ≡ true) IsScope policy.clients
   pub sources : AreWithin MAX_SOURCES IsAddress IsScope policy.sources
   pub topics : AreWithin MAX_TOPICS IsTopicId (λ name. is_name name ≡ true) policy.topics
 

@@ -10,7 +10,7 @@ use Rattle.serde_json.specs.Find.{get, as_number, as_object, as_str, as_u64}
 use Rattle.sng_text.specs.ClientIds.{is_client_id}
 use Rattle.sng_text.specs.Texts.{is_name}
 use Rattle.sng_text.specs.Ipv4.{ipv4_of}
-use Rattle.sng_grants.specs.declared.limits.TheConstants.{MAX_CLIENTS, MAX_SOURCES, MAX_TOPICS}
+use Rattle.sng_grants.specs.declared.limits.TheConstants.{MAX_POLICY_CLIENTS, MAX_SOURCES, MAX_TOPICS}
 use Rattle.sng_scope.specs.Numerals.{topic_id_of}
 use Rattle.sng_grants.specs.Sources.{with_scope}
 use Rattle.sng_scope.specs.Steps.{◌>>=◌}
@@ -85,7 +85,7 @@ members_within most d =
 -- what is absent is empty
 abbrev pub clients_of : Option Data → Result (List (List ℕ × List Pair)) PolicyFault
 clients_of None = Ok []
-clients_of (Some d) = members_within MAX_CLIENTS d >>= clients_onto []
+clients_of (Some d) = members_within MAX_POLICY_CLIENTS d >>= clients_onto []
 
 abbrev pub sources_of : Option Data → Result (List (List ℕ × List Pair)) PolicyFault
 sources_of None = Ok []

@@ -7,7 +7,7 @@ pub fn scopes_are_bounded()
     ensures { ScopesAreBounded }
 {}
 
-/// A policy that a text gives lists at most `MAX_CLIENTS` client ids, `MAX_SOURCES` addresses and
+/// A policy that a text gives lists at most `MAX_POLICY_CLIENTS` client ids, `MAX_SOURCES` addresses and
 /// `MAX_TOPICS` topic ids: the first two each with a scope as above, the last each with a topic name.
 pub fn policies_are_bounded()
     ensures { PoliciesAreBounded }

@@ -3,7 +3,7 @@ use Rattle.std.specs.Prelude.{ℕ, ◌≡◌, ◌⊎◌, Bool, true, false, List
 use Rattle.std.specs.Io.KnownBytes.{IsAtEnd}
 use Rattle.sng_desk.specs.declared.source.Got.{Got}
 use Rattle.sng_desk.specs.declared.source.Got.TheVariants.{Came, Nothing, Failed, Ended}
-use Rattle.sng_gateway.specs.Input.{IsFirstLine}
+use Rattle.sng_script.specs.Input.{IsFirstLine}
 use Rattle.sng_grants.specs.declared.policy.Policy.{Policy}
 use Rattle.sng_operator.specs.Commands.{Request, ForNothing, ForPolicy, ForReload, ForStatus, ForRows, ForHelp, ForEnd, NotKnown, asked_by}
 use Rattle.sng_scope.specs.Policies.{policy_of}

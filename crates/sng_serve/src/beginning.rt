@@ -4,8 +4,7 @@ ghost use Rattle.sng_desk.specs.declared.fault.ActFault.TheVariants.{Memory};
 ghost use Rattle.sng_serve.specs.Beginnings.{Begun};
 
 use sng_book::Event;
-use sng_desk::trail::{Log, Trail};
-use sng_desk::{ActFault, Desk, Share};
+use sng_desk::{ActFault, Desk, Log, Share, Trail};
 use sng_grants::Policy;
 use std::alloc::Global;
 

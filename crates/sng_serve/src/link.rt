@@ -1,18 +1,19 @@
 //! The connection to the broker over TCP (MQTT 3.1.1, 4.2): it is made anew after pauses that grow, and what
 //! a turn of its worker writes is one write.
 ghost use Rattle.std.specs.Prelude.{◌≡◌, [], true, false, IfSome};
-ghost use Rattle.sng_desk.specs.Devices.{IsShort};
-ghost use Rattle.sng_desk.specs.declared.connection.ReadAnswer.TheVariants.{Gone as gone_answer};
+ghost use Rattle.sng_crew.specs.Devices.{IsShort};
+ghost use Rattle.sng_crew.specs.declared.connection.ReadAnswer.TheVariants.{Gone as gone_answer};
 
 use crate::bell::Ear;
 use crate::hub::Hub;
 use crate::watch::Watch;
 use crate::wire::{Came, Sent, Wire};
+use mqtt_frames::encode_disconnect;
 use sng_bounds::loss::{Loss, Parting};
 use sng_bounds::patience::Patience;
 use sng_bounds::refusal::{CONNACK_BYTES, Refusal, connack_code};
 use sng_bounds::tries::Tries;
-use sng_desk::{Opening, ReadAnswer, Upstream, Written};
+use sng_crew::{MAX_READ, Opening, ReadAnswer, Upstream, Written};
 use sng_operator::ends::Halt;
 use sng_text::Octets;
 use std::alloc::AllocError;
@@ -166,7 +167,7 @@ impl<'a, R: Clock + Net + Wait + AllocGlobal> BrokerLink<'a, R> {
 
     /// Gives the next piece of what came.
     fn take(&mut self) -> ReadAnswer
-        ensures { IsShort 4096 result }
+        ensures { IsShort MAX_READ result }
     {
         match self.wire.piece(self.rt.alloc()) {
             Ok(piece) => {
@@ -179,7 +180,7 @@ impl<'a, R: Clock + Net + Wait + AllocGlobal> BrokerLink<'a, R> {
 
     /// Gives what came, or reads once. Where nothing is there, it answers nothing.
     fn look(&mut self) -> Option<ReadAnswer>
-        ensures { IfSome result (λ answer. IsShort 4096 answer) }
+        ensures { IfSome result (λ answer. IsShort MAX_READ answer) }
     {
         if !self.wire.is_open() {
             return Some(ReadAnswer::Gone);
@@ -203,7 +204,7 @@ impl<'a, R: Clock + Net + Wait + AllocGlobal> BrokerLink<'a, R> {
 
     /// Writes what is kept, and waits for bytes, or for something that is to be written.
     fn listen(&mut self) -> ReadAnswer
-        ensures { IsShort 4096 result }
+        ensures { IsShort MAX_READ result }
     {
         self.learn();
         if let Err(why) = self.flush() {
@@ -222,7 +223,7 @@ impl<'a, R: Clock + Net + Wait + AllocGlobal> BrokerLink<'a, R> {
 
     /// Waits once for bytes, or for something that is to be written.
     fn wait(&mut self) -> Option<ReadAnswer>
-        ensures { IfSome result (λ answer. IsShort 4096 answer) }
+        ensures { IfSome result (λ answer. IsShort MAX_READ answer) }
     {
         let (end, late) = self.patience.due();
         if end <= self.watch.now() {
@@ -270,8 +271,10 @@ impl<'a, R: Clock + Net + Wait + AllocGlobal> BrokerLink<'a, R> {
 
     /// Passes on what is left, and takes leave of the broker (MQTT 3.1.1, 3.14).
     pub fn finish(&mut self) {
-        if self.flush().is_ok() {
-            let _ = self.wire.keep(&[0xe0, 0]);
+        if self.flush().is_ok()
+            && let Ok(leave) = encode_disconnect(self.rt.alloc())
+        {
+            let _ = self.wire.keep(leave.as_slice());
             let _ = self.flush();
         }
         self.wire.shut();

@@ -1,8 +1,8 @@
 //! What an operator is told of a policy text: the faults and the warnings of `sng policy`.
 
 use crate::hub::Hub;
-use sng_gateway::Status;
-use sng_gateway::report::report_of;
+use sng_questions::report::report_of;
+use sng_script::Status;
 use std::alloc::AllocError;
 use std::str;
 

@@ -16,18 +16,16 @@ use crate::socket::Socket;
 use crate::switch::Switch;
 use crate::tell::tell;
 use crate::writers::{ERRORS_PATIENCE_MS, OUTPUT_PATIENCE_MS, wait_for};
-use sng_desk::{
-    Beats, Crew, Datagrams, Desk, Ended, Gate, NotStarted, Policies, Share, Terms, Upstream,
-    run_workers,
-};
-use sng_gateway::Status;
-use sng_gateway::ending::ended;
+use sng_crew::{Crew, Ended, NotStarted, Terms, Upstream, run_workers};
+use sng_desk::{Beats, Datagrams, Desk, Gate, Policies, Share};
 use sng_operator::ask::{Ask, Fault, Words, ask_of};
 use sng_operator::ends::End;
 use sng_operator::lists::Lists;
 use sng_operator::roles::{OTHERS, Roles};
 use sng_operator::verbosity::Verbosity;
 use sng_scope::read_policy;
+use sng_script::Status;
+use sng_script::ending::ended;
 use std::alloc::{AllocError, Global};
 use std::io::Write;
 use std::net::{Net, UdpSocket};

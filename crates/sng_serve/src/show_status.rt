@@ -4,14 +4,14 @@ ghost use Rattle.sng_core.specs.Census.{census_of};
 
 use crate::hub::Hub;
 use sng_desk::Desk;
-use sng_operator::status::{Standing, push_status};
+use sng_operator::status::{Overview, push_status};
 use std::sync::{Mutex, Wait};
 
 /// Prints how the gateway stands, or tells that it cannot.
 pub fn show_status<R: Wait + AllocGlobal>(rt: &R, hub: &Hub, desk: &Mutex<Desk>) {
-    let standing = standing_of(&desk.lock(rt));
+    let overview = overview_of(&desk.lock(rt));
     let mut text = Vec::new(rt.alloc());
-    if push_status(&mut text, &standing).is_ok() {
+    if push_status(&mut text, &overview).is_ok() {
         hub.print(text);
     } else {
         hub.tell("no status: allocation failed");
@@ -19,12 +19,12 @@ pub fn show_status<R: Wait + AllocGlobal>(rt: &R, hub: &Hub, desk: &Mutex<Desk>)
 }
 
 /// How the gateway stands now. It takes no memory, and one walk over the clients.
-pub fn standing_of(desk: &Desk) -> Standing
+pub fn overview_of(desk: &Desk) -> Overview
     ensures census { result.census ≡ census_of desk.now.state }
     ensures rows { result.rows ≡ length desk.now.rows }
     ensures limit { result.limit ≡ desk.now.limit }
 {
-    Standing {
+    Overview {
         census: desk.census(),
         rows: desk.book().len() as u64,
         limit: desk.limit(),

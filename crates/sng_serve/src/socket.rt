@@ -7,6 +7,7 @@ use crate::hub::Hub;
 use sng_book::Address;
 use sng_bounds::paths::Paths;
 use sng_desk::{Datagrams, Got};
+use sng_frames::{MAX_DATAGRAM, write_disconnect};
 use sng_operator::ask::socket_address;
 use sng_text::Octets;
 use std::alloc::{AllocError, Global};
@@ -17,13 +18,10 @@ use std::sync::Wait;
 use std::time::Duration;
 
 /// One byte more than the longest datagram that is read, so that a longer one shows.
-const BUFFER_BYTES: usize = 2049;
+const BUFFER_BYTES: usize = MAX_DATAGRAM + 1;
 
 /// So many calls may fail one after another before the socket is taken for lost.
 const MAX_ERRORS: u32 = 100;
-
-/// DISCONNECT without a Duration (MQTT-SN 1.2, 5.4.21), as it answers who has no session.
-const DISCONNECT: [u8; 2] = [2, 0x18];
 
 /// A worker's handle of the socket.
 #[derive(Drop)]
@@ -37,6 +35,8 @@ pub struct Socket<'a, R: Net + Clock + Wait> {
     /// The port of the socket: what comes from it at this machine was sent by the gateway itself.
     port: u16,
     buffer: Vec<u8>,
+    /// A DISCONNECT, as it answers who has no session.
+    disconnect: Vec<u8>,
     paths: Paths,
     failures: u64,
     /// How many datagrams could not be sent.
@@ -65,6 +65,7 @@ impl<'a, R: Net + Clock + Wait> Socket<'a, R> {
             by,
             port,
             buffer: vec![in alloc; 0; BUFFER_BYTES]?,
+            disconnect: write_disconnect(alloc, None)?,
             paths: Paths::new(alloc)?,
             failures: 0,
             unsent: 0,
@@ -146,7 +147,7 @@ impl<'a, R: Net + Clock + Wait> Socket<'a, R> {
 
     /// Whether the datagram may leave now: an answer to who has no session leaves a few times a second.
     fn may_leave(&self, to: Address, datagram: &[u8]) -> bool {
-        if datagram != DISCONNECT.as_slice() {
+        if datagram != self.disconnect.as_slice() {
             return true;
         }
         let second = second_of(self.rt);

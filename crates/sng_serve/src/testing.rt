@@ -1,14 +1,14 @@
 //! `sng broker`: the test broker over TCP, on one thread.
 
-use crate::peer::{Heard, Peer};
 use crate::tell::tell;
+use crate::test_client::{Heard, TestClient};
 use mio::net::TcpListener;
 use mio::{Events, Interest, Poll, Token};
 use mqtt_frames::Packet;
 use sng_broker::BrokerCore;
-use sng_gateway::Status;
-use sng_gateway::ending::ended;
 use sng_operator::ask::socket_address_of;
+use sng_script::Status;
+use sng_script::ending::ended;
 use std::alloc::{AllocError, Global};
 use std::io;
 use std::net::{Net, SocketAddr};
@@ -39,7 +39,7 @@ pub struct Server {
     listener: TcpListener,
     address: SocketAddr,
     core: BrokerCore,
-    peers: Vec<Peer>,
+    clients: Vec<TestClient>,
     /// The number of the next connection.
     next: u32,
     buffer: Vec<u8>,
@@ -76,7 +76,7 @@ pub fn open<R: Net + Eprint + AllocGlobal>(rt: &R, address: SocketAddr) -> io::R
         listener,
         address,
         core: BrokerCore::new(alloc),
-        peers: Vec::new(alloc),
+        clients: Vec::new(alloc),
         next: 1,
         buffer: vec![in alloc; 0; READ_BYTES]?,
     })
@@ -103,11 +103,11 @@ impl Server {
     pub fn turn(&mut self) -> io::Result<()> {
         self.accept_all();
         let mut is_busy = false;
-        for place in 0..self.peers.len() {
+        for place in 0..self.clients.len() {
             is_busy = self.hear_at(place) || is_busy;
         }
-        for peer in self.peers.iter_mut() {
-            peer.flush();
+        for client in self.clients.iter_mut() {
+            client.flush();
         }
         self.forget_all();
         if is_busy {
@@ -123,10 +123,10 @@ impl Server {
             let Ok((stream, _)) = self.listener.accept() else {
                 return;
             };
-            let mut peer = Peer::new(self.alloc, self.next, stream);
+            let mut client = TestClient::new(self.alloc, self.next, stream);
             self.next = self.next.wrapping_add(1);
-            if peer.register(self.poll.registry(), ANY).is_ok() {
-                let _ = self.peers.push(peer);
+            if client.register(self.poll.registry(), ANY).is_ok() {
+                let _ = self.clients.push(client);
             }
         }
     }
@@ -147,8 +147,8 @@ impl Server {
     }
 
     fn hear_once(&mut self, place: usize) -> Heard {
-        match self.peers.get_mut(place) {
-            Some(peer) => peer.hear(self.alloc, self.buffer.as_mut_slice()),
+        match self.clients.get_mut(place) {
+            Some(client) => client.hear(self.alloc, self.buffer.as_mut_slice()),
             None => Heard::Nothing,
         }
     }
@@ -173,28 +173,28 @@ impl Server {
     }
 
     fn send(&mut self, conn: u32, packet: &Packet) {
-        for peer in self.peers.iter_mut() {
-            if peer.conn() == conn {
-                peer.push(self.alloc, packet);
+        for client in self.clients.iter_mut() {
+            if client.conn() == conn {
+                client.push(self.alloc, packet);
             }
         }
     }
 
     fn end(&mut self, conn: u32) {
-        for peer in self.peers.iter_mut() {
-            if peer.conn() == conn {
-                peer.end();
+        for client in self.clients.iter_mut() {
+            if client.conn() == conn {
+                client.end();
             }
         }
     }
 
     /// Closes the connections that are over, and forgets what stood for them.
     fn forget_all(&mut self) {
-        for peer in self.peers.iter() {
-            if peer.is_over() {
-                self.core.close(peer.conn());
+        for client in self.clients.iter() {
+            if client.is_over() {
+                self.core.close(client.conn());
             }
         }
-        self.peers.retain(|peer| !peer.is_over());
+        self.clients.retain(|client| !client.is_over());
     }
 }

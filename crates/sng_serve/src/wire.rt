@@ -1,17 +1,14 @@
 //! The stream of a connection to the broker, with what is kept for it in both directions: bytes that are
 //! still to be written, and bytes that were read and not yet given. No call waits.
 ghost use Rattle.std.specs.Prelude.{◌≡◌, ◌≤◌, ◌∷◌, [], length, IfOk, IsTrue, ◌↔◌};
-ghost use Rattle.sng_desk.specs.Devices.{IsTaken};
+ghost use Rattle.sng_crew.specs.Devices.{IsTaken};
 
 use mio::net::TcpStream;
-use sng_desk::Written;
+use sng_crew::{MAX_READ, Written};
 use std::alloc::{AllocError, Global};
 use std::io;
 use std::io::{Error, ErrorKind, Read, Write};
 use std::net::Shutdown;
-
-/// How many bytes are given at once at most, and read at once.
-const READ_BYTES: usize = 4096;
 
 /// For so many bytes there is room from the start on. What a turn writes is kept whole: there is as much as
 /// waited for the broker.
@@ -66,9 +63,9 @@ impl Wire {
             stream: None,
             outgoing: Vec::with_capacity(alloc, KEPT_BYTES)?,
             sent: 0,
-            incoming: Vec::with_capacity(alloc, AHEAD_BYTES + READ_BYTES)?,
+            incoming: Vec::with_capacity(alloc, AHEAD_BYTES + MAX_READ)?,
             given: 0,
-            buffer: vec![in alloc; 0; READ_BYTES]?,
+            buffer: vec![in alloc; 0; MAX_READ]?,
             has_ping: false,
         })
     }
@@ -174,12 +171,13 @@ impl Wire {
         self.receive()
     }
 
-    /// The next piece of what came in, which is then given. It is empty where nothing is left.
+    /// The next piece of what came in, of `MAX_READ` bytes at most, which is then given. It is empty where nothing
+    /// is left.
     pub fn piece(&mut self, alloc: Global) -> Result<Vec<u8>, AllocError>
-        ensures { IfOk result (λ piece. length piece.items ≤ 4096) }
+        ensures { IfOk result (λ piece. length piece.items ≤ MAX_READ) }
     {
         let rest = self.incoming.as_slice().get(self.given..).unwrap_or(&[]);
-        let Some(bytes) = rest.get(..rest.len().min(READ_BYTES)) else {
+        let Some(bytes) = rest.get(..rest.len().min(MAX_READ)) else {
             return Ok(Vec::new(alloc));
         };
         let piece = Vec::from_slice(alloc, bytes)?;

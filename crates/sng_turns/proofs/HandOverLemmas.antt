@@ -8,7 +8,8 @@ use Rattle.sng_ids.specs.Ids.{Ids}
 use Rattle.sng_queue.specs.Messages.{Message}
 use Rattle.sng_book.specs.declared.address.Address.{Address}
 use Rattle.sng_book.specs.declared.decision.Decision.TheVariants as note
-use Rattle.sng_book.specs.declared.outcome.Denial.TheVariants.{Gone}
+use Rattle.sng_book.specs.declared.outcome.Denial.TheVariants.{Peer}
+use Rattle.sng_book.specs.declared.outcome.PeerDenial.TheVariants.{Gone}
 use Rattle.sng_book.specs.declared.outcome.Outcome.TheVariants.{Denied}
 use Rattle.sng_book.specs.declared.out.Out.{Out}
 use Rattle.sng_book.specs.declared.out.Out.TheVariants.{Note}
@@ -89,11 +90,11 @@ module _ (policy : Policy) (id : List ℕ) (to : Address) (ids : Ids) (more numb
 pub gone-more : (id : List ℕ) (waiting : List Message) (place : ℕ) (m : Message) (outs now all : List Out)
     → slice_get waiting place ≡ Some m
     → outs ++ gone_outs id (drop place waiting) ≡ all
-    → now ≡ outs ++ Note (note.Hand id m.name (Denied Gone)) ∷ []
+    → now ≡ outs ++ Note (note.Hand id m.name (Denied (Peer Gone))) ∷ []
     → now ++ gone_outs id (drop (place + 1) waiting) ≡ all
 gone-more id waiting place m outs now all found so_far is =
     rw (add-one place, is) (
-    append_assoc outs (Note (note.Hand id m.name (Denied Gone)) ∷ [])
+    append_assoc outs (Note (note.Hand id m.name (Denied (Peer Gone))) ∷ [])
     (gone_outs id (drop (suc place) waiting))
     ∙ (ap (λ ms. outs ++ gone_outs id ms) (sym (cut waiting place m found)) ∙ so_far)
     )

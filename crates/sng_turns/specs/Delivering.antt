@@ -11,7 +11,8 @@ use Rattle.sng_queue.specs.declared.limits.TheConstants.{MAX_QUEUED}
 use Rattle.mqtt_frames.specs.declared.packet.Publish.{Publish}
 use Rattle.sng_book.specs.declared.decision.Decision.TheVariants as note
 use Rattle.sng_book.specs.declared.outcome.Place.TheVariants as place
-use Rattle.sng_book.specs.declared.outcome.Denial.TheVariants.{Full, TooLong}
+use Rattle.sng_book.specs.declared.outcome.Denial.TheVariants.{Room}
+use Rattle.sng_book.specs.declared.outcome.RoomDenial.TheVariants.{Full, TooLong}
 use Rattle.sng_book.specs.declared.outcome.Outcome.TheVariants.{Denied}
 use Rattle.sng_book.specs.declared.out.Out.{Out}
 use Rattle.sng_book.specs.declared.out.Out.TheVariants.{Note}
@@ -22,6 +23,7 @@ use Rattle.sng_sessions.specs.Moving.{moved_at}
 use Rattle.sng_sessions.specs.Handed.{delivered}
 use Rattle.sng_sessions.specs.declared.handing.Opens.{Opens}
 use Rattle.sng_sessions.specs.declared.handing.Opens.TheVariants.{Nothing}
+use Rattle.sng_turns.specs.declared.deliver.Arrival.{Arrival}
 use Rattle.sng_turns.specs.declared.deliver.Incoming.{Incoming}
 use Rattle.sng_turns.specs.declared.deliver.Kept.{Kept}
 use Rattle.sng_turns.specs.HandingOver.{fixed_id, is_open, message_outs, message_opens}
@@ -45,14 +47,18 @@ due_at i x =
 abbrev pub message_at : Incoming → Qos → Message
 message_at i qos = message i.name i.payload qos i.retain
 
+-- as it is due to a client
+abbrev pub arrived : Arrival → Message
+arrived a = message_at a.message.now a.qos
+
 -- what is let out as it comes
 abbrev pub arrive_outs : Policy → Message → Client → List Out
 arrive_outs policy m x =
     if is_sendable m.name m.payload
     then (if nat_le MAX_QUEUED (length x.buffer.waiting)
-    then Note (note.Hand x.id m.name (Denied (Full place.Queue))) ∷ []
+    then Note (note.Hand x.id m.name (Denied (Room (Full place.Queue)))) ∷ []
     else (if is_free x then message_outs policy x.id x.address x.ids 0 x.number m else []))
-    else Note (note.Hand x.id m.name (Denied TooLong)) ∷ []
+    else Note (note.Hand x.id m.name (Denied (Room TooLong))) ∷ []
 
 -- what is kept where it took its turn, and where it waits
 abbrev pub kept_opened : ℕ → Message → Opens → List Kept

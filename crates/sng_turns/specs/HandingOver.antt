@@ -6,12 +6,14 @@ use Rattle.sng_text.specs.declared.qos.Qos.TheVariants.{AtMostOnce, AtLeastOnce}
 use Rattle.sng_grants.specs.declared.policy.Policy.{Policy}
 use Rattle.sng_policy.specs.Grants.{topic_id}
 use Rattle.sng_ids.specs.Ids.{Ids, id_of, is_full_for, confirmed}
-use Rattle.sng_queue.specs.Messages.{Message}
+use Rattle.sng_queue.specs.Messages.{Message, message}
 use Rattle.sng_queue.specs.declared.kind.TopicIdKind.TheVariants as kind
 use Rattle.sng_book.specs.declared.address.Address.{Address}
 use Rattle.sng_book.specs.declared.decision.Decision.TheVariants as note
 use Rattle.sng_book.specs.declared.outcome.Place.TheVariants as place
-use Rattle.sng_book.specs.declared.outcome.Denial.TheVariants.{Full, Gone}
+use Rattle.sng_book.specs.declared.outcome.Denial.TheVariants.{Room, Peer}
+use Rattle.sng_book.specs.declared.outcome.RoomDenial.TheVariants.{Full}
+use Rattle.sng_book.specs.declared.outcome.PeerDenial.TheVariants.{Gone}
 use Rattle.sng_book.specs.declared.outcome.Outcome.{Outcome}
 use Rattle.sng_book.specs.declared.outcome.Outcome.TheVariants.{Allowed, Denied}
 use Rattle.sng_book.specs.declared.out.Out.{Out}
@@ -23,6 +25,7 @@ use Rattle.sng_sessions.specs.declared.handing.Opens.{Opens}
 use Rattle.sng_sessions.specs.declared.handing.Opens.TheVariants.{Nothing, Announcing, Awaiting}
 use Rattle.sng_sessions.specs.declared.handing.Handed.{Handed}
 use Rattle.sng_turns.specs.declared.known.KnownId.{KnownId}
+use Rattle.sng_turns.specs.declared.turn.Mail.{Mail}
 
 -- ---- by which topic id
 
@@ -48,14 +51,23 @@ abbrev pub known_id : Option KnownId → Ids → List ℕ → Option KnownId
 known_id (Some k) ids name = Some k
 known_id None ids name = normal (id_of name ids)
 
+-- the id that was confirmed, where 0 is none
+abbrev pub id_or_none : Option ℕ → ℕ
+id_or_none None = 0
+id_or_none (Some id) = id
+
 -- ---- the turn of one message
+
+-- the message that has its turn
+abbrev pub mail_of : Mail → Message
+mail_of m = message m.name.now m.payload.now m.qos m.retain
 
 abbrev pub offer_outs : List ℕ → Address → Ids → ℕ → Message → Option KnownId → List Out
 offer_outs id to ids number m (Some k) =
     Note (note.Hand id m.name Allowed) ∷ handed_out to number m (known_of k) ∷ []
 offer_outs id to ids number m None =
     if is_full_for m.name ids
-    then Note (note.Hand id m.name (Denied (Full place.Ids))) ∷ []
+    then Note (note.Hand id m.name (Denied (Room (Full place.Ids)))) ∷ []
     else Note (note.Announce id m.name) ∷ announced_out to number ids m.name ∷ []
 
 -- what is let out for a message that comes out so
@@ -114,4 +126,4 @@ hand_plan policy id ids more place (m ∷ waiting) =
 
 abbrev pub gone_outs : List ℕ → List Message → List Out
 gone_outs id [] = []
-gone_outs id (m ∷ waiting) = Note (note.Hand id m.name (Denied Gone)) ∷ gone_outs id waiting
+gone_outs id (m ∷ waiting) = Note (note.Hand id m.name (Denied (Peer Gone))) ∷ gone_outs id waiting

@@ -9,7 +9,20 @@ use Rattle.sng_book.specs.declared.out.Out.{Out}
 use Rattle.sng_history.specs.Answers.{pong}
 use Rattle.sng_history.specs.Clients.{Client}
 use Rattle.sng_sessions.specs.declared.handing.Handed.{Handed}
+use Rattle.sng_turns.specs.declared.serve.Settled.{Settled}
+use Rattle.sng_turns.specs.declared.serve.Settled.TheVariants.{Nothing, Id, Front}
 use Rattle.sng_turns.specs.HandingOver.{is_open, hand_outs, hand_plan}
+
+-- what is settled before: the id that was confirmed (0 is none), and so many of those that wait
+abbrev pub more_by : Settled → ℕ
+more_by Nothing = 0
+more_by (Id id) = id
+more_by Front = 0
+
+abbrev pub first_by : Settled → ℕ
+first_by Nothing = 0
+first_by (Id id) = 0
+first_by Front = 1
 
 -- the hand-over to a client, once it has confirmed the id (0 is none), of what waits from this place on
 abbrev pub over_outs : Policy → ℕ → ℕ → Client → List Out

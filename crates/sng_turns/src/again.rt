@@ -7,10 +7,11 @@ ghost use Rattle.sng_turns.specs.Again.{exchange_outs, exchange_comes, announced
 ghost use Rattle.sng_turns.specs.Again.{announced_by, announced_to, handed_outs_by, handed_to};
 ghost use Rattle.sng_turns.specs.Again.{handed_again_outs, handed_again_comes, retried_clients};
 
-use crate::serve::serve_plan;
-use crate::turn::{note_hand, receive, repeat_publish, repeat_register};
+use crate::serve::{Settled, serve_plan};
+use crate::turn::{note_hand, repeat_publish, repeat_register};
 use sng_book::{Decision, Out, Outcome, Outs};
 use sng_grants::Policy;
+use sng_history::receive;
 use sng_queue::{Exchange, Sending, TopicIdKind, Waiting};
 use sng_sessions::{Change, Handed, Sessions, is_unanswered};
 use sng_text::TopicName;
@@ -36,6 +37,21 @@ pub fn is_repeating(sessions: &Sessions, place: usize, clock: u64) -> bool
     sessions.phase(place).takes_messages() && is_unanswered(sessions.queue(place), clock)
 }
 
+/// The REGISTER of the front, which was not answered in time.
+#[derive(Clone, Copy)]
+struct Announced<'a> {
+    sent: &'a Sending,
+    front: &'a Waiting,
+}
+
+/// A PUBLISH that was not answered in time.
+#[derive(Clone, Copy)]
+struct Unacknowledged<'a> {
+    sent: &'a Sending,
+    kind: TopicIdKind,
+    message: &'a Waiting,
+}
+
 /// What is let out for what is open with the client at this place and was not answered in time.
 pub fn again(
     alloc: Global,
@@ -54,9 +70,15 @@ pub fn again(
         Some(Exchange::Announcing(sent)) => announced_again(
             alloc, policy, sessions, place, sent, outs,
         ),
-        Some(Exchange::Acknowledging(sent, kind, message)) => handed_again(
-            alloc, policy, sessions, place, sent, *kind, message, outs,
-        ),
+        Some(Exchange::Acknowledging(sent, kind, message)) => {
+            let kind = *kind;
+            let open = Unacknowledged {
+                sent,
+                kind,
+                message,
+            };
+            handed_again(alloc, policy, sessions, place, open, outs)
+        }
         None => Ok(Retried::Nothing),
     }
 }
@@ -80,7 +102,8 @@ fn announced_again(
         return Ok(Retried::Nothing);
     };
     let outcome = receive(policy, sessions.id(place), front.name())?;
-    announced_judged(alloc, policy, sessions, place, sent, front, outcome, outs)
+    let open = Announced { sent, front };
+    announced_judged(alloc, policy, sessions, place, open, outcome, outs)
 }
 
 /// The front, for which an id was announced, is judged so.
@@ -89,33 +112,28 @@ fn announced_judged(
     policy: &Policy,
     sessions: &Sessions,
     place: usize,
-    sent: &Sending,
-    front: &Waiting,
+    open: Announced<'_>,
     outcome: Outcome,
     outs: &mut Outs,
 ) -> Result<Retried, AllocError>
     requires place { place < length sessions.now }
     requires first { 1 ≤ length (client_at sessions.now place).buffer.waiting }
-    ensures outs { OnOk result (outs.new ≡ outs.old
-        ++ announced_by policy.now (client_at sessions.now place) sent.now front.now outcome) }
+    ensures outs { OnOk result (outs.new ≡ outs.old ++ announced_by policy.now
+        (client_at sessions.now place) open.entry.sent.now open.entry.front.now outcome) }
     ensures comes { IfOk result (λ retried. retried
         ≡ announced_to policy.now (client_at sessions.now place) outcome) }
 {
+    let name = open.front.name();
     match outcome {
         Outcome::Allowed => {
-            note_retry(sessions, place, front.name(), Outcome::Allowed, outs)?;
-            outs.push(repeat_register(alloc, sessions.address(place), sent, front.name())?)?;
+            note_retry(sessions, place, name, Outcome::Allowed, outs)?;
+            outs.push(repeat_register(alloc, sessions.address(place), open.sent, name)?)?;
             Ok(Retried::Sent)
         }
         Outcome::Denied(rule) => {
-            note_hand(
-                sessions.id(place),
-                front.name(),
-                Outcome::Denied(rule),
-                outs,
-            )?;
+            note_hand(sessions.id(place), name, Outcome::Denied(rule), outs)?;
             let phase = sessions.phase(place);
-            let handed = serve_plan(alloc, policy, phase, sessions, place, 0, 1, outs)?;
+            let handed = serve_plan(alloc, policy, phase, sessions, place, Settled::Front, outs)?;
             Ok(Retried::Over(handed))
         }
     }
@@ -127,21 +145,17 @@ fn handed_again(
     policy: &Policy,
     sessions: &Sessions,
     place: usize,
-    sent: &Sending,
-    kind: TopicIdKind,
-    message: &Waiting,
+    open: Unacknowledged<'_>,
     outs: &mut Outs,
 ) -> Result<Retried, AllocError>
     requires { place < length sessions.now }
-    ensures outs { OnOk result (outs.new ≡ outs.old
-        ++ handed_again_outs policy.now (client_at sessions.now place) sent.now kind message.now) }
+    ensures outs { OnOk result (outs.new ≡ outs.old ++ handed_again_outs policy.now
+        (client_at sessions.now place) open.entry.sent.now open.entry.kind open.entry.message.now) }
     ensures comes { IfOk result (λ retried. retried
-        ≡ handed_again_comes policy.now (client_at sessions.now place) message.now) }
+        ≡ handed_again_comes policy.now (client_at sessions.now place) open.entry.message.now) }
 {
-    let outcome = receive(policy, sessions.id(place), message.name())?;
-    handed_judged(
-        alloc, policy, sessions, place, sent, kind, message, outcome, outs,
-    )
+    let outcome = receive(policy, sessions.id(place), open.message.name())?;
+    handed_judged(alloc, policy, sessions, place, open, outcome, outs)
 }
 
 /// A message that was handed over is judged so.
@@ -150,18 +164,21 @@ fn handed_judged(
     policy: &Policy,
     sessions: &Sessions,
     place: usize,
-    sent: &Sending,
-    kind: TopicIdKind,
-    message: &Waiting,
+    open: Unacknowledged<'_>,
     outcome: Outcome,
     outs: &mut Outs,
 ) -> Result<Retried, AllocError>
     requires { place < length sessions.now }
-    ensures outs { OnOk result (outs.new ≡ outs.old
-        ++ handed_outs_by policy.now (client_at sessions.now place) sent.now kind message.now outcome) }
+    ensures outs { OnOk result (outs.new ≡ outs.old ++ handed_outs_by policy.now
+        (client_at sessions.now place) open.entry.sent.now open.entry.kind open.entry.message.now outcome) }
     ensures comes { IfOk result (λ retried. retried
         ≡ handed_to policy.now (client_at sessions.now place) outcome) }
 {
+    let Unacknowledged {
+        sent,
+        kind,
+        message,
+    } = open;
     match outcome {
         Outcome::Allowed => {
             note_retry(sessions, place, message.name(), Outcome::Allowed, outs)?;
@@ -171,7 +188,15 @@ fn handed_judged(
         Outcome::Denied(rule) => {
             note_retry(sessions, place, message.name(), Outcome::Denied(rule), outs)?;
             let phase = sessions.phase(place);
-            let handed = serve_plan(alloc, policy, phase, sessions, place, 0, 0, outs)?;
+            let handed = serve_plan(
+                alloc,
+                policy,
+                phase,
+                sessions,
+                place,
+                Settled::Nothing,
+                outs,
+            )?;
             Ok(Retried::Over(handed))
         }
     }

@@ -7,14 +7,15 @@ ghost use Rattle.sng_history.specs.Arriving.{lesser};
 ghost use Rattle.sng_history.specs.Outgoing.{is_free};
 ghost use Rattle.sng_sessions.specs.Standing.{client_at};
 ghost use Rattle.sng_turns.specs.HandingOver.{fixed_id, message_outs, message_opens};
-ghost use Rattle.sng_turns.specs.Delivering.{due_at, message_at, arrive_outs, arrive_kept, kept_opened};
+ghost use Rattle.sng_turns.specs.Delivering.{due_at, arrived, arrive_outs, arrive_kept, kept_opened};
 ghost use Rattle.sng_turns.specs.Delivering.{deliver_outs, deliver_kept, all_outs, all_kept, keep_all};
 
 use crate::hand_over::is_open;
 use crate::known::{KnownId, known_id};
-use crate::turn::{note_hand, receive, take_turn};
-use sng_book::{Denial, Outcome, Outs, Place};
+use crate::turn::{Mail, Recipient, note_hand, take_turn};
+use sng_book::{Denial, Outcome, Outs, Place, RoomDenial};
 use sng_grants::Policy;
+use sng_history::receive;
 use sng_queue::Waiting;
 use sng_sessions::{Opens, Sessions};
 use sng_text::{Octets, Qos, TopicName};
@@ -29,6 +30,13 @@ pub struct Incoming {
     pub retain: bool,
     /// The topic id that its name has for each client, where it has one.
     pub fixed: Option<KnownId>,
+}
+
+/// The message as it is due to a client: at this QoS.
+#[derive(Clone, Copy)]
+struct Arrival<'a> {
+    message: &'a Incoming,
+    qos: Qos,
 }
 
 /// What is kept of a message for the client at the place: it waits there, and an exchange begins.
@@ -76,7 +84,10 @@ fn deliver_to(
         ++ deliver_kept policy.now message.now place (client_at sessions.now place)) }
 {
     match due_at(message, sessions, place) {
-        Some(qos) => arrive(alloc, policy, message, qos, sessions, place, outs, kept),
+        Some(qos) => {
+            let arrival = Arrival { message, qos };
+            arrive(alloc, policy, arrival, sessions, place, outs, kept)
+        }
         None => Ok(()),
     }
 }
@@ -111,33 +122,38 @@ fn lesser(a: Qos, b: Qos) -> Qos
 fn arrive(
     alloc: Global,
     policy: &Policy,
-    message: &Incoming,
-    qos: Qos,
+    arrival: Arrival<'_>,
     sessions: &Sessions,
     place: usize,
     outs: &mut Outs,
     kept: &mut Vec<Kept>,
 ) -> Result<(), AllocError>
-    requires fixed { message.now.fixed ≡ fixed_id policy.now message.now.name }
+    requires fixed { arrival.message.now.fixed ≡ fixed_id policy.now arrival.message.now.name }
     requires place { place < length sessions.now }
     ensures outs { OnOk result (outs.new ≡ outs.old
-        ++ arrive_outs policy.now (message_at message.now qos) (client_at sessions.now place)) }
+        ++ arrive_outs policy.now (arrived arrival.entry) (client_at sessions.now place)) }
     ensures kept { OnOk result (kept.new.items ≡ kept.old.items
-        ++ arrive_kept policy.now place (message_at message.now qos) (client_at sessions.now place)) }
+        ++ arrive_kept policy.now place (arrived arrival.entry) (client_at sessions.now place)) }
 {
     let id = sessions.id(place);
+    let message = arrival.message;
     if !Waiting::is_sendable(&message.name, &message.payload) {
-        return note_hand(id, &message.name, Outcome::Denied(Denial::TooLong), outs);
+        return note_hand(
+            id,
+            &message.name,
+            Outcome::Denied(Denial::Room(RoomDenial::TooLong)),
+            outs,
+        );
     }
     if sessions.queue(place).is_full() {
-        let full = Outcome::Denied(Denial::Full(Place::Queue));
+        let full = Outcome::Denied(Denial::Room(RoomDenial::Full(Place::Queue)));
         return note_hand(id, &message.name, full, outs);
     }
     if is_free(sessions, place) {
-        let opens = turn(alloc, policy, message, qos, sessions, place, outs)?;
-        keep_opened(message, qos, place, opens, kept)
+        let opens = turn(alloc, policy, arrival, sessions, place, outs)?;
+        keep_opened(arrival, place, opens, kept)
     } else {
-        keep(message, qos, place, Opens::Nothing, kept)
+        keep(arrival, place, Opens::Nothing, kept)
     }
 }
 
@@ -154,54 +170,51 @@ fn is_free(sessions: &Sessions, place: usize) -> bool
 fn turn(
     alloc: Global,
     policy: &Policy,
-    message: &Incoming,
-    qos: Qos,
+    arrival: Arrival<'_>,
     sessions: &Sessions,
     place: usize,
     outs: &mut Outs,
 ) -> Result<Opens, AllocError>
-    requires fixed { message.now.fixed ≡ fixed_id policy.now message.now.name }
+    requires fixed { arrival.message.now.fixed ≡ fixed_id policy.now arrival.message.now.name }
     requires place { place < length sessions.now }
-    requires sendable { is_sendable message.now.name message.now.payload ≡ true }
+    requires sendable { is_sendable arrival.message.now.name arrival.message.now.payload ≡ true }
     ensures outs { OnOk result (let x = client_at sessions.now place in outs.new ≡ outs.old
-        ++ message_outs policy.now x.id x.address x.ids 0 x.number (message_at message.now qos)) }
+        ++ message_outs policy.now x.id x.address x.ids 0 x.number (arrived arrival.entry)) }
     ensures opens { IfOk result (λ opens. let x = client_at sessions.now place in
-        opens ≡ message_opens policy.now x.id x.ids 0 (message_at message.now qos)) }
+        opens ≡ message_opens policy.now x.id x.ids 0 (arrived arrival.entry)) }
 {
-    let id = sessions.id(place);
-    let ids = sessions.ids(place);
-    let outcome = receive(policy, id, &message.name)?;
-    let known = known_id(message.fixed, ids, 0, &message.name);
-    take_turn(
-        alloc,
-        id,
-        sessions.address(place),
-        ids,
-        sessions.number(place),
-        &message.name,
-        &message.payload,
-        qos,
-        message.retain,
-        outcome,
-        known,
-        outs,
-    )
+    let to = Recipient {
+        id: sessions.id(place),
+        address: sessions.address(place),
+        ids: sessions.ids(place),
+        confirming: None,
+        number: sessions.number(place),
+    };
+    let message = arrival.message;
+    let outcome = receive(policy, to.id, &message.name)?;
+    let known = known_id(message.fixed, to.ids, None, &message.name);
+    let mail = Mail {
+        name: &message.name,
+        payload: &message.payload,
+        qos: arrival.qos,
+        retain: message.retain,
+    };
+    take_turn(alloc, to, mail, outcome, known, outs)
 }
 
 /// A message that took its turn is kept where an exchange begins by it.
 fn keep_opened(
-    message: &Incoming,
-    qos: Qos,
+    arrival: Arrival<'_>,
     place: usize,
     opens: Opens,
     kept: &mut Vec<Kept>,
 ) -> Result<(), AllocError>
-    requires { is_sendable message.now.name message.now.payload ≡ true }
+    requires { is_sendable arrival.message.now.name arrival.message.now.payload ≡ true }
     ensures { OnOk result (kept.new.items
-        ≡ kept.old.items ++ kept_opened place (message_at message.now qos) opens) }
+        ≡ kept.old.items ++ kept_opened place (arrived arrival.entry) opens) }
 {
     if is_open(&opens) {
-        keep(message, qos, place, opens, kept)
+        keep(arrival, place, opens, kept)
     } else {
         Ok(())
     }
@@ -209,16 +222,16 @@ fn keep_opened(
 
 /// The message is kept for the client at this place.
 fn keep(
-    message: &Incoming,
-    qos: Qos,
+    arrival: Arrival<'_>,
     place: usize,
     opens: Opens,
     kept: &mut Vec<Kept>,
 ) -> Result<(), AllocError>
-    requires { is_sendable message.now.name message.now.payload ≡ true }
+    requires { is_sendable arrival.message.now.name arrival.message.now.payload ≡ true }
     ensures { OnOk result (kept.new.items ≡ kept.old.items
-        ++ (record { place = place; message = message_at message.now qos; opens = opens }) ∷ []) }
+        ++ (record { place = place; message = arrived arrival.entry; opens = opens }) ∷ []) }
 {
+    let Arrival { message, qos } = arrival;
     let name = message.name.copy()?;
     let payload = message.payload.copy()?;
     let message = Waiting::new(name, payload, qos, message.retain);

@@ -3,46 +3,40 @@
 //! any.
 ghost use Rattle.std.specs.Prelude.{◌≡◌, ◌≤◌, ◌++◌, length, drop, IfOk, OnOk};
 ghost use Rattle.sng_turns.specs.HandingOver.{message_outs, message_opens, is_open, hand_outs, hand_plan};
-ghost use Rattle.sng_turns.specs.HandingOver.{gone_outs};
+ghost use Rattle.sng_turns.specs.HandingOver.{gone_outs, id_or_none};
 
 use crate::known::{fixed_id, known_id};
-use crate::turn::{note_hand, receive, take_turn};
-use sng_book::{Address, Denial, Outcome, Outs};
+use crate::turn::{Mail, Recipient, note_hand, take_turn};
+use sng_book::{Denial, Outcome, Outs, PeerDenial};
 use sng_grants::Policy;
-use sng_ids::IdTable;
+use sng_history::receive;
 use sng_queue::{Queue, Waiting};
 use sng_sessions::{Handed, Opens};
 use sng_text::ClientId;
 use std::alloc::{AllocError, Global};
 
-/// What is let out as the messages of the queue from this place on are handed over to the client, which is at
-/// the address, knows these ids once it has confirmed one more (0 is none), and was given this MsgId last.
-/// Answers what it comes to, where those before the place are settled already.
+/// What is let out as the messages of the queue from this place on are handed over to the client. Answers
+/// what it comes to, where those before the place are settled already.
 pub fn hand_over(
     alloc: Global,
     policy: &Policy,
-    id: &ClientId,
-    to: Address,
-    ids: &IdTable,
-    confirming: u16,
-    number: u16,
+    to: Recipient<'_>,
     queue: &Queue,
     first: usize,
     outs: &mut Outs,
 ) -> Result<Handed, AllocError>
     requires { first ≤ length queue.now.waiting }
-    ensures outs { OnOk result (outs.new ≡ outs.old ++ hand_outs policy.now id.now to ids.now.ids confirming
-        number (drop first queue.now.waiting)) }
-    ensures plan { IfOk result (λ handed. handed ≡ hand_plan policy.now id.now ids.now.ids confirming first
+    ensures outs { OnOk result (outs.new ≡ outs.old ++ hand_outs policy.now to.entry.id.now to.entry.address
+        to.entry.ids.now.ids (id_or_none to.entry.confirming) to.entry.number (drop first queue.now.waiting)) }
+    ensures plan { IfOk result (λ handed. handed
+        ≡ hand_plan policy.now to.entry.id.now to.entry.ids.now.ids (id_or_none to.entry.confirming) first
         (drop first queue.now.waiting)) }
 {
     for place in first..queue.len() {
         let Some(message) = queue.at(place) else {
             unreachable!();
         };
-        let opens = turn(
-            alloc, policy, id, to, ids, confirming, number, message, outs,
-        )?;
+        let opens = turn(alloc, policy, to, message, outs)?;
         if is_open(&opens) {
             return Ok(Handed {
                 settled: place,
@@ -71,36 +65,27 @@ pub fn is_open(opens: &Opens) -> bool
 fn turn(
     alloc: Global,
     policy: &Policy,
-    id: &ClientId,
-    to: Address,
-    ids: &IdTable,
-    confirming: u16,
-    number: u16,
+    to: Recipient<'_>,
     message: &Waiting,
     outs: &mut Outs,
 ) -> Result<Opens, AllocError>
     ensures outs { OnOk result (outs.new ≡ outs.old
-        ++ message_outs policy.now id.now to ids.now.ids confirming number message.now) }
+        ++ message_outs policy.now to.entry.id.now to.entry.address to.entry.ids.now.ids
+        (id_or_none to.entry.confirming) to.entry.number message.now) }
     ensures opens { IfOk result (λ opens. opens
-        ≡ message_opens policy.now id.now ids.now.ids confirming message.now) }
+        ≡ message_opens policy.now to.entry.id.now to.entry.ids.now.ids (id_or_none to.entry.confirming)
+        message.now) }
 {
     let name = message.name();
-    let outcome = receive(policy, id, name)?;
-    let known = known_id(fixed_id(policy, name), ids, confirming, name);
-    take_turn(
-        alloc,
-        id,
-        to,
-        ids,
-        number,
+    let outcome = receive(policy, to.id, name)?;
+    let known = known_id(fixed_id(policy, name), to.ids, to.confirming, name);
+    let mail = Mail {
         name,
-        message.payload(),
-        message.qos(),
-        message.retain(),
-        outcome,
-        known,
-        outs,
-    )
+        payload: message.payload(),
+        qos: message.qos(),
+        retain: message.retain(),
+    };
+    take_turn(alloc, to, mail, outcome, known, outs)
 }
 
 /// All that waits for the client is gone.
@@ -111,7 +96,12 @@ pub fn all_gone(id: &ClientId, queue: &Queue, outs: &mut Outs) -> Result<(), All
         let Some(message) = queue.at(place) else {
             unreachable!();
         };
-        note_hand(id, message.name(), Outcome::Denied(Denial::Gone), outs)?;
+        note_hand(
+            id,
+            message.name(),
+            Outcome::Denied(Denial::Peer(PeerDenial::Gone)),
+            outs,
+        )?;
     }
     Ok(())
 }

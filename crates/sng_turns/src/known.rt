@@ -2,7 +2,7 @@
 ghost use Rattle.std.specs.Prelude.{◌≡◌};
 ghost use Rattle.sng_ids.specs.Ids.{confirmed, id_of};
 ghost use Rattle.sng_history.specs.Requests.{id_in};
-ghost use Rattle.sng_turns.specs.HandingOver.{fixed_id, known_id};
+ghost use Rattle.sng_turns.specs.HandingOver.{fixed_id, known_id, id_or_none};
 
 use sng_grants::Policy;
 use sng_ids::IdTable;
@@ -39,14 +39,14 @@ pub fn fixed_id(policy: &Policy, name: &TopicName) -> Option<KnownId>
 }
 
 /// The topic id by which a client knows the name: that of each client, else the one that it was told, once it
-/// has confirmed this id (0 is none). Takes no memory.
+/// has confirmed one more. Takes no memory.
 pub fn known_id(
     fixed: Option<KnownId>,
     ids: &IdTable,
-    confirming: u16,
+    confirming: Option<u16>,
     name: &TopicName,
 ) -> Option<KnownId>
-    ensures { result ≡ known_id fixed (confirmed confirming ids.now.ids) name.now }
+    ensures { result ≡ known_id fixed (confirmed (id_or_none confirming) ids.now.ids) name.now }
 {
     match fixed {
         Some(known) => Some(known),
@@ -60,12 +60,22 @@ pub fn known_id(
     }
 }
 
-/// The id of the name that the client knows, once it has confirmed this id.
-fn told_id(ids: &IdTable, confirming: u16, name: &TopicName) -> Option<u16>
-    ensures { result ≡ id_of name.now (confirmed confirming ids.now.ids) }
+/// The id of the name that the client knows, once it has confirmed one more.
+fn told_id(ids: &IdTable, confirming: Option<u16>, name: &TopicName) -> Option<u16>
+    ensures { result ≡ id_of name.now (confirmed (id_or_none confirming) ids.now.ids) }
 {
-    if ids.id_for(name) == confirming && ids.name_of(confirming).is_some() {
-        return Some(confirming);
+    match confirming {
+        Some(id) => confirmed_id(ids, id, name),
+        None => ids.id_of(name),
+    }
+}
+
+/// The same, once it has confirmed this id.
+fn confirmed_id(ids: &IdTable, id: u16, name: &TopicName) -> Option<u16>
+    ensures { result ≡ id_of name.now (confirmed id ids.now.ids) }
+{
+    if ids.id_for(name) == id && ids.name_of(id).is_some() {
+        return Some(id);
     }
     ids.id_of(name)
 }

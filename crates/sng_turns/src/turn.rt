@@ -5,67 +5,63 @@ ghost use Rattle.sng_queue.specs.Messages.{message};
 ghost use Rattle.sng_queue.specs.declared.limits.TheConstants.{MAX_WAITING_NAME, MAX_WAITING_PAYLOAD};
 ghost use Rattle.sng_history.specs.Handing.{handed_again, handed_out, msg_id_of, publish_flags, frame_qos};
 ghost use Rattle.sng_history.specs.Handing.{id_type_of};
-ghost use Rattle.sng_history.specs.Outgoing.{receive};
 ghost use Rattle.sng_turns.specs.Again.{register_again};
 ghost use Rattle.sng_turns.specs.HandingOver.{known_of, turn_outs, turn_opens, offer_outs, offer_opens};
-ghost use Rattle.sng_turns.specs.HandingOver.{awaiting};
+ghost use Rattle.sng_turns.specs.HandingOver.{awaiting, mail_of};
 
 use crate::known::KnownId;
-use sng_book::{Address, Decision, Denial, Out, Outcome, Outs, Place};
+use sng_book::{Address, Decision, Denial, GrantDenial, Out, Outcome, Outs, Place, RoomDenial};
 use sng_frames::{Flags, FrameQos, TopicIdType, write_publish, write_register};
-use sng_grants::Policy;
 use sng_ids::IdTable;
-use sng_policy::{Grant, may_receive};
 use sng_queue::{Sending, TopicIdKind, Waiting};
 use sng_sessions::{Opens, number_after};
 use sng_text::{ClientId, Octets, Qos, TopicName};
 use std::alloc::{AllocError, Global};
 
-/// What the policy says to a message for the client under the name. An `Err` is a failed allocation, for a
-/// denial that shows the client or the name.
-pub fn receive(policy: &Policy, client: &ClientId, name: &TopicName) -> Result<Outcome, AllocError>
-    ensures { IfOk result (λ outcome. outcome ≡ receive policy.now client.now name.now) }
-{
-    match may_receive(policy, client, name) {
-        Grant::Allowed => Ok(Outcome::Allowed),
-        Grant::NoScope => Ok(Outcome::Denied(Denial::NoScope(client.copy()?))),
-        Grant::MissingSub => Ok(Outcome::Denied(Denial::MissingSub(name.copy()?))),
-        // Nothing else is answered about receiving.
-        Grant::UnknownSource => unreachable!(),
-        Grant::MissingPub => unreachable!(),
-        Grant::Uncovered(_) => unreachable!(),
-    }
+/// The client to whom messages go.
+#[derive(Clone, Copy)]
+pub struct Recipient<'a> {
+    pub id: &'a ClientId,
+    pub address: Address,
+    /// The topic ids that it was told.
+    pub ids: &'a IdTable,
+    /// The one of them that it has confirmed just now.
+    pub confirming: Option<u16>,
+    /// The MsgId that it was given last.
+    pub number: u16,
+}
+
+/// A message that has its turn.
+#[derive(Clone, Copy)]
+pub struct Mail<'a> {
+    pub name: &'a TopicName,
+    pub payload: &'a Octets,
+    pub qos: Qos,
+    pub retain: bool,
 }
 
 /// The turn of a message that comes out so, for a client that knows its name by this id. Answers the exchange
 /// that it begins.
 pub fn take_turn(
     alloc: Global,
-    id: &ClientId,
-    to: Address,
-    ids: &IdTable,
-    number: u16,
-    name: &TopicName,
-    payload: &Octets,
-    qos: Qos,
-    retain: bool,
+    to: Recipient<'_>,
+    mail: Mail<'_>,
     outcome: Outcome,
     known: Option<KnownId>,
     outs: &mut Outs,
 ) -> Result<Opens, AllocError>
-    requires name { length name.now ≤ MAX_WAITING_NAME }
-    requires payload { length payload.now ≤ MAX_WAITING_PAYLOAD }
-    ensures outs { OnOk result (outs.new ≡ outs.old ++ turn_outs id.now to ids.now.ids number
-        (message name.now payload.now qos retain) outcome known) }
+    requires name { length mail.name.now ≤ MAX_WAITING_NAME }
+    requires payload { length mail.payload.now ≤ MAX_WAITING_PAYLOAD }
+    ensures outs { OnOk result (outs.new ≡ outs.old
+        ++ turn_outs to.entry.id.now to.entry.address to.entry.ids.now.ids to.entry.number
+        (mail_of mail.entry) outcome known) }
     ensures opens { IfOk result (λ opens. opens
-        ≡ turn_opens ids.now.ids (message name.now payload.now qos retain) outcome known) }
+        ≡ turn_opens to.entry.ids.now.ids (mail_of mail.entry) outcome known) }
 {
     match outcome {
-        Outcome::Allowed => offer(
-            alloc, id, to, ids, number, name, payload, qos, retain, known, outs,
-        ),
+        Outcome::Allowed => offer(alloc, to, mail, known, outs),
         Outcome::Denied(rule) => {
-            note_hand(id, name, Outcome::Denied(rule), outs)?;
+            note_hand(to.id, mail.name, Outcome::Denied(rule), outs)?;
             Ok(Opens::Nothing)
         }
     }
@@ -75,39 +71,35 @@ pub fn take_turn(
 /// an id is announced while there is one.
 fn offer(
     alloc: Global,
-    id: &ClientId,
-    to: Address,
-    ids: &IdTable,
-    number: u16,
-    name: &TopicName,
-    payload: &Octets,
-    qos: Qos,
-    retain: bool,
+    to: Recipient<'_>,
+    mail: Mail<'_>,
     known: Option<KnownId>,
     outs: &mut Outs,
 ) -> Result<Opens, AllocError>
-    requires name { length name.now ≤ MAX_WAITING_NAME }
-    requires payload { length payload.now ≤ MAX_WAITING_PAYLOAD }
-    ensures outs { OnOk result (outs.new ≡ outs.old ++ offer_outs id.now to ids.now.ids number
-        (message name.now payload.now qos retain) known) }
+    requires name { length mail.name.now ≤ MAX_WAITING_NAME }
+    requires payload { length mail.payload.now ≤ MAX_WAITING_PAYLOAD }
+    ensures outs { OnOk result (outs.new ≡ outs.old
+        ++ offer_outs to.entry.id.now to.entry.address to.entry.ids.now.ids to.entry.number
+        (mail_of mail.entry) known) }
     ensures opens { IfOk result (λ opens. opens
-        ≡ offer_opens ids.now.ids (message name.now payload.now qos retain) known) }
+        ≡ offer_opens to.entry.ids.now.ids (mail_of mail.entry) known) }
 {
     if let Some(known) = known {
-        note_hand(id, name, Outcome::Allowed, outs)?;
-        let out = publish(alloc, to, number, payload, qos, retain, known)?;
+        note_hand(to.id, mail.name, Outcome::Allowed, outs)?;
+        let out = publish(alloc, to, mail, known)?;
         outs.push(out)?;
-        return Ok(awaiting(qos, known));
+        return Ok(awaiting(mail.qos, known));
     }
-    if ids.is_full_for(name) {
-        let full = Outcome::Denied(Denial::Full(Place::Ids));
-        note_hand(id, name, full, outs)?;
+    if to.ids.is_full_for(mail.name) {
+        let full = Outcome::Denied(Denial::Room(RoomDenial::Full(Place::Ids)));
+        note_hand(to.id, mail.name, full, outs)?;
         return Ok(Opens::Nothing);
     }
-    outs.push(Out::Note(Decision::Announce(id.copy()?, name.copy()?)))?;
-    let datagram = write_register(alloc, ids.id_for(name), number_after(number), name.text())?;
-    outs.push(Out::Send(to, Octets::from(datagram)))?;
-    Ok(Opens::Announcing(name.copy()?))
+    outs.push(Out::Note(Decision::Announce(to.id.copy()?, mail.name.copy()?)))?;
+    let id = to.ids.id_for(mail.name);
+    let datagram = write_register(alloc, id, number_after(to.number), mail.name.text())?;
+    outs.push(Out::Send(to.address, Octets::from(datagram)))?;
+    Ok(Opens::Announcing(mail.name.copy()?))
 }
 
 /// A message at QoS 1 waits for its PUBACK.
@@ -134,24 +126,22 @@ pub fn note_hand(
     Ok(())
 }
 
-/// The PUBLISH under the id, where the MsgId before was this one.
+/// The PUBLISH of the message under the id.
 fn publish(
     alloc: Global,
-    to: Address,
-    number: u16,
-    payload: &Octets,
-    qos: Qos,
-    retain: bool,
+    to: Recipient<'_>,
+    mail: Mail<'_>,
     known: KnownId,
 ) -> Result<Out, AllocError>
-    requires { length payload.now ≤ MAX_WAITING_PAYLOAD }
+    requires { length mail.payload.now ≤ MAX_WAITING_PAYLOAD }
     ensures { IfOk result (λ out. out
-        ≡ handed_out to number (message [] payload.now qos retain) (known_of known)) }
+        ≡ handed_out to.entry.address to.entry.number (mail_of mail.entry) (known_of known)) }
 {
-    let flags = publish_flags(qos, retain, known.kind);
-    let msg_id = msg_id_of(qos, number);
-    let datagram = write_publish(alloc, flags, known.id, msg_id, payload.as_slice())?;
-    Ok(Out::Send(to, Octets::from(datagram)))
+    let flags = publish_flags(mail.qos, mail.retain, known.kind);
+    let msg_id = msg_id_of(mail.qos, to.number);
+    let payload = mail.payload.as_slice();
+    let datagram = write_publish(alloc, flags, known.id, msg_id, payload)?;
+    Ok(Out::Send(to.address, Octets::from(datagram)))
 }
 
 /// At QoS 0 it has no MsgId.

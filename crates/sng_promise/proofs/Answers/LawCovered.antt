@@ -12,11 +12,13 @@ use Rattle.sng_cover.specs.declared.answer.Cover.{Cover}
 use Rattle.sng_cover.specs.declared.answer.Cover.TheVariants as cover
 use Rattle.sng_policy.specs.Grants.{lists, grant_of_cover, subscribe_grant}
 use Rattle.sng_policy.specs.Laws.{JoinsReceiving}
-use Rattle.sng_policy.specs.declared.grant.Grant.TheVariants as grant
+use Rattle.sng_policy.specs.declared.grant.FilterGrant.TheVariants as on_filter
 use Rattle.sng_policy.proofs.SubscriptionLemmas.{subscribing_is_receiving}
 use Rattle.sng_frames.specs.declared.messages.subscribe.TopicRequest.{TopicRequest}
 use Rattle.sng_book.specs.declared.outcome.Denial.{Denial}
-use Rattle.sng_book.specs.declared.outcome.Denial.TheVariants.{NoScope, OutOfTurn}
+use Rattle.sng_book.specs.declared.outcome.Denial.TheVariants.{Form, Grant}
+use Rattle.sng_book.specs.declared.outcome.FormDenial.TheVariants.{OutOfTurn}
+use Rattle.sng_book.specs.declared.outcome.GrantDenial.TheVariants.{NoScope}
 use Rattle.sng_book.specs.declared.outcome.Outcome.TheVariants.{Allowed}
 use Rattle.sng_book.specs.declared.row.Row.{Row}
 use Rattle.sng_laws.specs.Views.{policy_in_force}
@@ -31,14 +33,14 @@ use Rattle.sng_promise.proofs.Answers.LawForms.{judged_both, meant_form, meant_f
 -- what the grant of a client's scope is
 scope_grant : (policy : Policy) (id text : List ℕ) (scope : Option (List Pair))
     → scope_of policy.clients id ≡ scope → lists policy id ≡ true
-    → ((gap : List ℕ) × (subscribe_grant policy id text ≡ grant.Uncovered gap))
-    ⊎ (subscribe_grant policy id text ≡ grant.Allowed)
+    → ((gap : List ℕ) × (subscribe_grant policy id text ≡ on_filter.Uncovered gap))
+    ⊎ (subscribe_grant policy id text ≡ on_filter.Allowed)
 scope_grant policy id text None is listed = absurd (let e = rw is at listed in cc)
 scope_grant policy id text (Some pairs) is listed = by_cover (cover_of text (subscribed pairs)) (rw is refl)
   where
     by_cover : (answer : Cover) → subscribe_grant policy id text ≡ grant_of_cover answer
-        → ((gap : List ℕ) × (subscribe_grant policy id text ≡ grant.Uncovered gap))
-        ⊎ (subscribe_grant policy id text ≡ grant.Allowed)
+        → ((gap : List ℕ) × (subscribe_grant policy id text ≡ on_filter.Uncovered gap))
+        ⊎ (subscribe_grant policy id text ≡ on_filter.Allowed)
     by_cover cover.Included same = inr same
     by_cover (cover.Uncovered gap) same = inl (gap, same)
 
@@ -61,10 +63,11 @@ covered_exactly h id r text may meant have =
     let more = gap_rule policy id text ∷ room_rules h id r.flags.id_type text in
     let same : or_empty (filter_meant policy r.flags.id_type r.topic) ≡ text = ap or_empty meant in
     let outcome : judged (subscribe_rules h id r) ≡ judged more =
-    ap (λ t. judged ((not (is_active (phase_of id h)), OutOfTurn) ∷ (not (lists policy id), NoScope id)
+    ap (λ t. judged ((not (is_active (phase_of id h)), Form OutOfTurn)
+    ∷ (not (lists policy id), Grant (NoScope id))
     ∷ (form_rules policy r ++ gap_rule policy id t ∷ room_rules h id r.flags.id_type t))) same
-    ∙ outcome_of (is_active (phase_of id h)) (lists policy id) (form_rules policy r) more OutOfTurn
-    (NoScope id) both.0 both.1 (meant_form policy r text meant)
+    ∙ outcome_of (is_active (phase_of id h)) (lists policy id) (form_rules policy r) more (Form OutOfTurn)
+    (Grant (NoScope id)) both.0 both.1 (meant_form policy r text meant)
     in
     let joins : JoinsReceiving policy id text (subscribe_grant policy id text) =
     subscribing_is_receiving policy id text is have in
@@ -74,8 +77,8 @@ covered_exactly h id r text may meant have =
         gap_rule (policy_in_force h) id text ∷ room_rules h id r.flags.id_type text in
         judged (subscribe_rules h id r) ≡ judged more)
         → JoinsReceiving (policy_in_force h) id text (subscribe_grant (policy_in_force h) id text)
-        → (((gap : List ℕ) × (subscribe_grant (policy_in_force h) id text ≡ grant.Uncovered gap))
-        ⊎ (subscribe_grant (policy_in_force h) id text ≡ grant.Allowed))
+        → (((gap : List ℕ) × (subscribe_grant (policy_in_force h) id text ≡ on_filter.Uncovered gap))
+        ⊎ (subscribe_grant (policy_in_force h) id text ≡ on_filter.Allowed))
         → CoveredExactly h id r text
     by_grant outcome joins (inl gap) =
         let shown = joins.uncovered gap.0 gap.1 in

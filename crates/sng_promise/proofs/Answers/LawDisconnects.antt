@@ -14,7 +14,8 @@ use Rattle.sng_book.specs.declared.decision.Decision.{Decision}
 use Rattle.sng_book.specs.declared.decision.Decision.TheVariants as note
 use Rattle.sng_book.specs.declared.decision.Who.TheVariants as who
 use Rattle.sng_book.specs.declared.outcome.Denial.{Denial}
-use Rattle.sng_book.specs.declared.outcome.Denial.TheVariants.{Gone}
+use Rattle.sng_book.specs.declared.outcome.Denial.TheVariants.{Peer}
+use Rattle.sng_book.specs.declared.outcome.PeerDenial.TheVariants.{Gone}
 use Rattle.sng_book.specs.declared.outcome.Outcome.TheVariants.{Denied}
 use Rattle.sng_book.specs.declared.out.Out.{Out}
 use Rattle.sng_book.specs.declared.out.Out.TheVariants.{Note}
@@ -96,10 +97,11 @@ sleep_row h s from duration st =
 
 -- what waits for a client is gone
 pub gone_spelled : (a : Around) (dropped : List Release) (id : List ℕ) (waiting : List Message) (x : Client)
-    → spell a dropped x (all_gone id waiting) ≡ map (λ m. Note (note.Hand id m.name (Denied Gone))) waiting
+    → spell a dropped x (all_gone id waiting)
+    ≡ map (λ m. Note (note.Hand id m.name (Denied (Peer Gone)))) waiting
 gone_spelled a dropped id [] x = refl
 gone_spelled a dropped id (m ∷ more) x =
-    ap (λ outs. Note (note.Hand id m.name (Denied Gone)) ∷ outs)
+    ap (λ outs. Note (note.Hand id m.name (Denied (Peer Gone))) ∷ outs)
     (gone_spelled a dropped id more (record x { buffer = settle x.buffer }))
 
 leave_part : (h : List Row) (s : State) (from : Address) (dropped : List Release) (x : Client) (b : Bool)
@@ -119,7 +121,7 @@ leave_part h s from dropped x true shown busy at =
     ∙ (ap (λ outs. Note (note.Left x.id) ∷ bye x.address ∷ outs)
     (gone_spelled a dropped x.id x.buffer.waiting (gone y))
     ∙ (ap (λ waiting. Note (note.Left x.id) ∷ bye x.address
-    ∷ map (λ m. Note (note.Hand x.id m.name (Denied Gone))) waiting) shown.waiting
+    ∷ map (λ m. Note (note.Hand x.id m.name (Denied (Peer Gone)))) waiting) shown.waiting
     ∙ ap (λ to. leave_answer h to x.id) (at refl))))
 leave_part h s from dropped x false shown busy at = settled [] x busy
 

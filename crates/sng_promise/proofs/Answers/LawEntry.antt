@@ -9,7 +9,8 @@ use Rattle.sng_frames.specs.declared.messages.connect.Connect.{Connect}
 use Rattle.sng_book.specs.Denials.{is_allowed}
 use Rattle.sng_book.specs.declared.address.Address.{Address}
 use Rattle.sng_book.specs.declared.decision.Decision.TheVariants as note
-use Rattle.sng_book.specs.declared.outcome.Denial.TheVariants.{Gone}
+use Rattle.sng_book.specs.declared.outcome.Denial.TheVariants.{Peer}
+use Rattle.sng_book.specs.declared.outcome.PeerDenial.TheVariants.{Gone}
 use Rattle.sng_book.specs.declared.outcome.Outcome.{Outcome}
 use Rattle.sng_book.specs.declared.outcome.Outcome.TheVariants.{Allowed, Denied}
 use Rattle.sng_book.specs.declared.out.Out.{Out}
@@ -64,7 +65,7 @@ served_by : (h : List Row) (s : State) (from : Address) (c : Connect) (x : Clien
 served_by h s from c x true will state shown =
     gone_spelled (around s (ByConnect from c)) [] x.id x.buffer.waiting
     (opened will (cleaned true (coming s.clock from c x)))
-    ∙ ap (λ waiting. map (λ m. Note (note.Hand x.id m.name (Denied Gone))) waiting) shown.waiting
+    ∙ ap (λ waiting. map (λ m. Note (note.Hand x.id m.name (Denied (Peer Gone)))) waiting) shown.waiting
 served_by h s from c x false true state shown = refl
 served_by h s from c x false false state shown =
     let within : x.number ≤ 65535 = (rw shown.number (last_within (progress_of x.id h).numbered)) in
@@ -134,7 +135,7 @@ NoneWaits h id = is_among id (accepted h) ≡ false → waits_for id h ≡ []
 answer_none : (h : List Row) (from : Address) (id : List ℕ) (clean will : Bool) → waits_for id h ≡ []
     → own_answer h from id clean will ≡ []
 answer_none h from id true will none =
-    ap (λ waiting. map (λ m. Note (note.Hand id m.name (Denied Gone))) waiting) none
+    ap (λ waiting. map (λ m. Note (note.Hand id m.name (Denied (Peer Gone)))) waiting) none
 answer_none h from id false true none = refl
 answer_none h from id false false none =
     ap (handed_out (record (mailing h id from) { told = []; known = [] })) none

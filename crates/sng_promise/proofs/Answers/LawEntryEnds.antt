@@ -15,7 +15,11 @@ use Rattle.sng_book.specs.declared.address.Address.{Address}
 use Rattle.sng_book.specs.declared.decision.Decision.{Decision}
 use Rattle.sng_book.specs.declared.decision.Decision.TheVariants as note
 use Rattle.sng_book.specs.declared.outcome.Place.TheVariants as place
-use Rattle.sng_book.specs.declared.outcome.Denial.TheVariants.{NotSupported, NoScope, Full, Gone}
+use Rattle.sng_book.specs.declared.outcome.Denial.TheVariants.{Form, Grant, Room, Peer}
+use Rattle.sng_book.specs.declared.outcome.FormDenial.TheVariants.{NotSupported}
+use Rattle.sng_book.specs.declared.outcome.GrantDenial.TheVariants.{NoScope}
+use Rattle.sng_book.specs.declared.outcome.RoomDenial.TheVariants.{Full}
+use Rattle.sng_book.specs.declared.outcome.PeerDenial.TheVariants.{Gone}
 use Rattle.sng_book.specs.declared.outcome.Outcome.{Outcome}
 use Rattle.sng_book.specs.declared.outcome.Outcome.TheVariants.{Allowed, Denied}
 use Rattle.sng_book.specs.declared.out.Out.{Out}
@@ -58,10 +62,11 @@ use Rattle.sng_history.specs.declared.limits.TheConstants.{MAX_CLIENTS}
 -- ---- the verdict
 
 ruled : (id : List ℕ) (p l k r : Bool)
-    → and_then (if p then Allowed else Denied NotSupported)
-    (and_then (if l then Allowed else Denied (NoScope id))
-    (if k || r then Allowed else Denied (Full place.Clients)))
-    ≡ judged ((not p, NotSupported) ∷ (not l, NoScope id) ∷ (not k && not r, Full place.Clients) ∷ [])
+    → and_then (if p then Allowed else Denied (Form NotSupported))
+    (and_then (if l then Allowed else Denied (Grant (NoScope id)))
+    (if k || r then Allowed else Denied (Room (Full place.Clients))))
+    ≡ judged ((not p, Form NotSupported) ∷ (not l, Grant (NoScope id))
+    ∷ (not k && not r, Room (Full place.Clients)) ∷ [])
 ruled id false l k r = refl
 ruled id true false k r = refl
 ruled id true true true r = refl
@@ -87,7 +92,8 @@ gone_by : (h : List Row) (s : State) (from : Address) (c : Connect) (x : Client)
 gone_by h s from c x shown =
     ap (λ outs. Note (note.Left x.id) ∷ outs)
     (gone_spelled (around s (ByConnect from c)) [] x.id x.buffer.waiting (gone (heard_if true s.clock x)))
-    ∙ ap (λ waiting. Note (note.Left x.id) ∷ map (λ m. Note (note.Hand x.id m.name (Denied Gone))) waiting)
+    ∙ ap (λ waiting. Note (note.Left x.id)
+    ∷ map (λ m. Note (note.Hand x.id m.name (Denied (Peer Gone)))) waiting)
     shown.waiting
 
 other_by : (h : List Row) (s : State) (from : Address) (c : Connect) (x : Client) (own here : Bool)

@@ -17,8 +17,9 @@ use Rattle.sng_frames.specs.declared.flags.TopicIdType.TheVariants.{Normal, Pred
 use Rattle.sng_frames.specs.declared.messages.subscribe.TopicRequest.{TopicRequest}
 use Rattle.sng_book.specs.declared.outcome.IdKind.TheVariants as kind
 use Rattle.sng_book.specs.declared.outcome.Denial.{Denial}
-use Rattle.sng_book.specs.declared.outcome.Denial.TheVariants.{BadName, BadFilter, IdType, UnknownId}
-use Rattle.sng_book.specs.declared.outcome.Denial.TheVariants.{Uncovered}
+use Rattle.sng_book.specs.declared.outcome.Denial.TheVariants.{Form, Grant}
+use Rattle.sng_book.specs.declared.outcome.FormDenial.TheVariants.{BadName, BadFilter, IdType, UnknownId}
+use Rattle.sng_book.specs.declared.outcome.GrantDenial.TheVariants.{Uncovered}
 use Rattle.sng_book.specs.declared.outcome.Outcome.{Outcome}
 use Rattle.sng_book.specs.declared.outcome.Outcome.TheVariants.{Allowed, Denied}
 use Rattle.sng_history.specs.Requests.{id_in}
@@ -35,7 +36,7 @@ use Rattle.sng_laws.specs.LawsSubscriptions.{if_filter, form_rules, gap_in, gap_
 covered_by : (id text : List ℕ) (answer : Cover)
     → let gap = gap_in (grant_of_cover answer) in
     filter_outcome id text (grant_of_cover answer)
-    ≡ judged ((is_some gap, Uncovered text (or_empty gap)) ∷ [])
+    ≡ judged ((is_some gap, Grant (Uncovered text (or_empty gap))) ∷ [])
 covered_by id text cover.Included = refl
 covered_by id text (cover.Uncovered gap) = refl
 
@@ -75,10 +76,10 @@ number_same (high ∷ low ∷ octets) = refl
 
 abbrev rules_of : Policy → TopicIdType → List ℕ → List Rule
 rules_of policy type octets =
-    (asks.is_reserved type, IdType)
-    ∷ (is_bad_filter policy type octets, BadFilter)
-    ∷ (is_bad_name type octets, BadName)
-    ∷ (is_unnamed policy type octets, UnknownId kind.Predefined (number_in octets))
+    (asks.is_reserved type, Form IdType)
+    ∷ (is_bad_filter policy type octets, Form BadFilter)
+    ∷ (is_bad_name type octets, Form BadName)
+    ∷ (is_unnamed policy type octets, Form (UnknownId kind.Predefined (number_in octets)))
     ∷ []
 
 normal_read : (policy : Policy) (octets : List ℕ) (b : Bool) → is_filter octets ≡ b

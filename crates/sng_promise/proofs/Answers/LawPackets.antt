@@ -16,7 +16,9 @@ use Rattle.mqtt_frames.specs.declared.packet.Packet.TheVariants as packet
 use Rattle.sng_fan.specs.Subscriptions.{stands}
 use Rattle.sng_book.specs.declared.decision.Decision.TheVariants as note
 use Rattle.sng_book.specs.declared.decision.Who.TheVariants as who
-use Rattle.sng_book.specs.declared.outcome.Denial.TheVariants.{BadName, BrokerRefused}
+use Rattle.sng_book.specs.declared.outcome.Denial.TheVariants.{Form, Peer}
+use Rattle.sng_book.specs.declared.outcome.FormDenial.TheVariants.{BadName}
+use Rattle.sng_book.specs.declared.outcome.PeerDenial.TheVariants.{BrokerRefused}
 use Rattle.sng_book.specs.declared.outcome.Outcome.TheVariants.{Denied}
 use Rattle.sng_book.specs.declared.out.Out.{Out}
 use Rattle.sng_book.specs.declared.out.Out.TheVariants.{Note}
@@ -51,7 +53,7 @@ use Rattle.sng_promise.proofs.Handing.LawArrivals.{none_leaves, arrived}
 
 message_by : (name : List ℕ) (owes : Option ℕ) (u r : Bool)
     → misnamed name ++ dropped r (if u then owes else None)
-    ≡ (if is_name name then [] else Note (note.Frame who.Broker (Denied BadName)) ∷ []) ++
+    ≡ (if is_name name then [] else Note (note.Frame who.Broker (Denied (Form BadName))) ∷ []) ++
     (if is_some owes && (u && not r) then Note note.Outbox ∷ [] else [])
 message_by name None true r = refl
 message_by name None false r = refl
@@ -93,7 +95,7 @@ refused_busy a None x busy = busy
 refused_busy a (Some text) x busy = by_held (holds text x)
   where
     by_held : (b : Bool) → is_drained
-        (notes_by a (if b then note.End x.id text (Denied BrokerRefused) ∷ [] else []) x) ≡ false
+        (notes_by a (if b then note.End x.id text (Denied (Peer BrokerRefused)) ∷ [] else []) x) ≡ false
     by_held true = busy
     by_held false = busy
 
@@ -114,17 +116,20 @@ none_out s sent [] = refl
 none_out s sent (x ∷ xs) = none_out s sent xs
 
 end_if : (s : State) (sent : Packet) (x : Client) (text : List ℕ) (b : Bool)
-    → spell (around s (ByPacket sent)) [] x (if b then note.End x.id text (Denied BrokerRefused) ∷ [] else [])
-    ≡ (if b then Note (note.End x.id text (Denied BrokerRefused)) ∷ [] else [])
+    → spell (around s (ByPacket sent)) [] x (if b then note.End x.id text (Denied (Peer BrokerRefused))
+    ∷ [] else [])
+    ≡ (if b then Note (note.End x.id text (Denied (Peer BrokerRefused))) ∷ [] else [])
 end_if s sent x text true = refl
 end_if s sent x text false = refl
 
 end_out : (h : List Row) (s : State) (sent : Packet) (text : List ℕ) (x : Client) → ClientShown h x
     → ends_out s sent (Some text) x
-    ≡ (if stands (standing_of x.id h) text then Note (note.End x.id text (Denied BrokerRefused)) ∷ [] else [])
+    ≡ (if stands (standing_of x.id h) text then Note (note.End x.id text (Denied (Peer BrokerRefused)))
+    ∷ [] else [])
 end_out h s sent text x shown =
     end_if s sent x text (holds text x)
-    ∙ ap (λ held. if stands held text then Note (note.End x.id text (Denied BrokerRefused)) ∷ [] else [])
+    ∙ ap (λ held. if stands held text then Note (note.End x.id text (Denied (Peer BrokerRefused))) ∷ []
+    else [])
     shown.filters
 
 refused_out : (h : List Row) (s : State) (sent : Packet) (text : Option (List ℕ)) → StateShown h s
@@ -132,7 +137,7 @@ refused_out : (h : List Row) (s : State) (sent : Packet) (text : Option (List �
 refused_out h s sent None shown = none_out s sent s.clients
 refused_out h s sent (Some text) shown =
     let f : List ℕ → List Out =
-    λ id. if stands (standing_of id h) text then Note (note.End id text (Denied BrokerRefused)) ∷ []
+    λ id. if stands (standing_of id h) text then Note (note.End id text (Denied (Peer BrokerRefused))) ∷ []
     else [] in
     flat_ids (ends_out s sent (Some text)) f s.clients
     (each_map (ClientShown h) (λ x. ends_out s sent (Some text) x ≡ f x.id) s.clients

@@ -14,7 +14,8 @@ use Rattle.sng_book.specs.declared.address.Address.{Address}
 use Rattle.sng_book.specs.declared.decision.Decision.{Decision}
 use Rattle.sng_book.specs.declared.decision.Decision.TheVariants as note
 use Rattle.sng_book.specs.declared.decision.Who.TheVariants as who
-use Rattle.sng_book.specs.declared.outcome.Denial.TheVariants.{NoSession, OutOfTurn}
+use Rattle.sng_book.specs.declared.outcome.Denial.TheVariants.{Form}
+use Rattle.sng_book.specs.declared.outcome.FormDenial.TheVariants.{NoSession, OutOfTurn}
 use Rattle.sng_book.specs.declared.outcome.Outcome.TheVariants.{Denied}
 use Rattle.sng_book.specs.declared.out.Out.{Out}
 use Rattle.sng_book.specs.declared.out.Out.TheVariants.{Send, Note}
@@ -57,7 +58,7 @@ active_same Lost = refl
 abbrev ping_by : List Row → Address → Option (List ℕ) → List ℕ → Option ClientState → List Out
 ping_by h from named id phase =
     if names_another named id
-    then Note (note.Frame (who.Client id) (Denied NoSession)) ∷ bye from ∷ []
+    then Note (note.Frame (who.Client id) (Denied (Form NoSession))) ∷ bye from ∷ []
     else (if laws.is_active phase then Send from (written frame.PingResponse) ∷ []
     else (if is_some named
     then (if is_asleep phase then handed_awake true (mailing h id from) (waits_for id h) else
@@ -86,7 +87,7 @@ bare_ping : (h : List Row) (s : State) (from : Address) (dropped : List Release)
 bare_ping h s from dropped x Active busy = refl
 bare_ping h s from dropped x Asleep busy = refl
 bare_ping h s from dropped x Awake busy =
-    settled (Note (note.Frame (who.Client x.id) (Denied OutOfTurn)) ∷ []) (in_state x Awake) busy
+    settled (Note (note.Frame (who.Client x.id) (Denied (Form OutOfTurn))) ∷ []) (in_state x Awake) busy
 bare_ping h s from dropped x Dialogue busy = refl
 bare_ping h s from dropped x Disconnected busy = refl
 bare_ping h s from dropped x Lost busy = refl
@@ -99,7 +100,7 @@ other_ping : (h : List Row) (s : State) (from : Address) (named : List ℕ) (dro
 other_ping h s from named dropped x Active other busy = rw other refl
 other_ping h s from named dropped x Asleep other busy = rw other refl
 other_ping h s from named dropped x Awake other busy =
-    rw other (settled (Note (note.Frame (who.Client x.id) (Denied NoSession)) ∷ bye x.address ∷ [])
+    rw other (settled (Note (note.Frame (who.Client x.id) (Denied (Form NoSession))) ∷ bye x.address ∷ [])
     (in_state x Awake) busy)
 other_ping h s from named dropped x Dialogue other busy = rw other refl
 other_ping h s from named dropped x Disconnected other busy = rw other refl

@@ -21,8 +21,10 @@ use Rattle.sng_book.specs.declared.decision.Decision.TheVariants as note
 use Rattle.sng_book.specs.declared.decision.Who.TheVariants as who
 use Rattle.sng_book.specs.declared.outcome.IdKind.TheVariants as kind
 use Rattle.sng_book.specs.declared.outcome.Place.TheVariants as place
-use Rattle.sng_book.specs.declared.outcome.Denial.TheVariants.{BadName, IdType, UnknownId}
-use Rattle.sng_book.specs.declared.outcome.Denial.TheVariants.{MissingPub, UpstreamDown, Full}
+use Rattle.sng_book.specs.declared.outcome.Denial.TheVariants.{Form, Grant, Room}
+use Rattle.sng_book.specs.declared.outcome.FormDenial.TheVariants.{BadName, IdType, UnknownId}
+use Rattle.sng_book.specs.declared.outcome.GrantDenial.TheVariants.{MissingPub}
+use Rattle.sng_book.specs.declared.outcome.RoomDenial.TheVariants.{UpstreamDown, Full}
 use Rattle.sng_book.specs.declared.outcome.Outcome.TheVariants.{Allowed, Denied}
 use Rattle.sng_book.specs.declared.row.Row.{Row}
 use Rattle.sng_history.specs.Clients.{Client}
@@ -43,13 +45,14 @@ use Rattle.sng_promise.proofs.Answers.LawRules.{listed_exit}
 -- what forbids a publish under a name
 abbrev name_table : List ℕ → Bool → Bool → Bool → Bool → List Rule
 name_table name g u f r =
-    (not g, MissingPub name) ∷ (not u, UpstreamDown) ∷ (f, Full place.InFlight) ∷ (not r, Full place.Outbox)
+    (not g, Grant (MissingPub name)) ∷ (not u, Room UpstreamDown) ∷ (f, Room (Full place.InFlight))
+    ∷ (not r, Room (Full place.Outbox))
     ∷ []
 
 name_judged : (name : List ℕ) (g u f r : Bool)
-    → and_then (if g then Allowed else Denied (MissingPub name))
-    (if u then (if not f then (if r then Allowed else Denied (Full place.Outbox))
-    else Denied (Full place.InFlight)) else Denied UpstreamDown)
+    → and_then (if g then Allowed else Denied (Grant (MissingPub name)))
+    (if u then (if not f then (if r then Allowed else Denied (Room (Full place.Outbox)))
+    else Denied (Room (Full place.InFlight))) else Denied (Room UpstreamDown))
     ≡ judged (name_table name g u f r)
 name_judged name false u f r = refl
 name_judged name true false f r = refl
@@ -125,10 +128,10 @@ verdict_judged s id name q listed =
 -- what forbids a publish of a client that may ask
 abbrev pub type_table : State → List ℕ → List (List ℕ) → TopicIdType → ℕ → FrameQos → List Rule
 type_table s id told type topic_id q =
-    (is_reserved type, IdType)
-    ∷ (is_bad_short type topic_id, BadName)
-    ∷ (is_nameless s.policy type topic_id, UnknownId kind.Predefined topic_id)
-    ∷ (is_untold told type topic_id, UnknownId kind.Normal topic_id)
+    (is_reserved type, Form IdType)
+    ∷ (is_bad_short type topic_id, Form BadName)
+    ∷ (is_nameless s.policy type topic_id, Form (UnknownId kind.Predefined topic_id))
+    ∷ (is_untold told type topic_id, Form (UnknownId kind.Normal topic_id))
     ∷ state_table s id (or_empty (name_meant s.policy told type topic_id)) q
 
 abbrev TypeJudged : State → Client → List (List ℕ) → List (List ℕ) → TopicIdType → ℕ → FrameQos → Type 0

@@ -10,8 +10,9 @@ use Rattle.sng_frames.specs.declared.messages.publish.Publish.{Publish}
 use Rattle.sng_book.specs.declared.address.Address.{Address}
 use Rattle.sng_book.specs.declared.decision.Decision.TheVariants as note
 use Rattle.sng_book.specs.declared.decision.Who.TheVariants as who
-use Rattle.sng_book.specs.declared.outcome.Denial.TheVariants.{NoScope}
-use Rattle.sng_book.specs.declared.outcome.Denial.TheVariants.{OutOfTurn}
+use Rattle.sng_book.specs.declared.outcome.Denial.TheVariants.{Form, Grant}
+use Rattle.sng_book.specs.declared.outcome.FormDenial.TheVariants.{OutOfTurn}
+use Rattle.sng_book.specs.declared.outcome.GrantDenial.TheVariants.{NoScope}
 use Rattle.sng_book.specs.declared.outcome.Outcome.{Outcome}
 use Rattle.sng_book.specs.declared.outcome.Outcome.TheVariants.{Allowed, Denied}
 use Rattle.sng_book.specs.declared.out.Out.TheVariants.{Note}
@@ -53,7 +54,7 @@ publish_said : (s : State) (x : Client) (told knows : List (List ℕ)) (p : Publ
     → publish_ask s x p
     ≡ note.Publish (who.Client x.id)
     (if a && l then name_meant s.policy told p.flags.id_type p.topic_id else None)
-    (judged ((not a, OutOfTurn) ∷ (not l, NoScope x.id)
+    (judged ((not a, Form OutOfTurn) ∷ (not l, Grant (NoScope x.id))
     ∷ type_table s x.id told p.flags.id_type p.topic_id p.flags.qos))
 publish_said s x told knows p false l active listed is = rw active refl
 publish_said s x told knows p true false active listed is = rw (active, listed) refl

@@ -14,8 +14,10 @@ use Rattle.sng_book.specs.declared.address.Address.{Address}
 use Rattle.sng_book.specs.declared.decision.Decision.TheVariants as note
 use Rattle.sng_book.specs.declared.decision.Who.TheVariants as who
 use Rattle.sng_book.specs.declared.outcome.Place.TheVariants as place
-use Rattle.sng_book.specs.declared.outcome.Denial.TheVariants.{NoScope, BadName}
-use Rattle.sng_book.specs.declared.outcome.Denial.TheVariants.{MissingPub, OutOfTurn, Full}
+use Rattle.sng_book.specs.declared.outcome.Denial.TheVariants.{Form, Grant, Room}
+use Rattle.sng_book.specs.declared.outcome.FormDenial.TheVariants.{BadName, OutOfTurn}
+use Rattle.sng_book.specs.declared.outcome.GrantDenial.TheVariants.{NoScope, MissingPub}
+use Rattle.sng_book.specs.declared.outcome.RoomDenial.TheVariants.{Full}
 use Rattle.sng_book.specs.declared.outcome.Outcome.{Outcome}
 use Rattle.sng_book.specs.declared.outcome.Outcome.TheVariants.{Allowed, Denied}
 use Rattle.sng_book.specs.declared.out.Out.TheVariants.{Note}
@@ -54,8 +56,9 @@ most_by n m = grind (arith, nat_tests)
 -- the note of a REGISTER, by what the rules ask
 abbrev register_table : List ℕ → List ℕ → Bool → Bool → Bool → Bool → Bool → List Rule
 register_table id name a l n g f =
-    (not a, OutOfTurn) ∷ (not l, NoScope id) ∷ (not n, BadName) ∷ (not g, MissingPub name)
-    ∷ (f, Full place.Ids) ∷ []
+    (not a, Form OutOfTurn) ∷ (not l, Grant (NoScope id)) ∷ (not n, Form BadName)
+    ∷ (not g, Grant (MissingPub name))
+    ∷ (f, Room (Full place.Ids)) ∷ []
 
 register_said : (policy : Policy) (x : Client) (text : List ℕ) (a l n g f : Bool) → is_active x.phase ≡ a
     → lists policy x.id ≡ l

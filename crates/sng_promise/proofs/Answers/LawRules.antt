@@ -8,7 +8,8 @@ use Rattle.sng_policy.specs.Grants.{is_granted, lists}
 use Rattle.sng_policy.specs.declared.permission.Permission.TheVariants.{Publish, Subscribe}
 use Rattle.sng_outbox.specs.declared.origin.Origin.{Origin}
 use Rattle.sng_outbox.specs.declared.origin.Origin.TheVariants as origin
-use Rattle.sng_book.specs.declared.outcome.Denial.TheVariants.{MissingPub}
+use Rattle.sng_book.specs.declared.outcome.Denial.TheVariants.{Grant}
+use Rattle.sng_book.specs.declared.outcome.GrantDenial.TheVariants.{MissingPub}
 use Rattle.sng_book.specs.declared.outcome.Outcome.TheVariants.{Allowed, Denied}
 use Rattle.sng_history.specs.Verdicts.{exit}
 use Rattle.sng_history.specs.Outgoing.{receive}
@@ -70,14 +71,14 @@ receive_ruled policy client name = received_ruled policy client name (scope_of p
 -- ---- what the policy says to a client that it lists
 
 missing_if : (b : Bool) (name : List ℕ)
-    → (if not b then Denied (MissingPub name) else Allowed)
-    ≡ (if b then Allowed else Denied (MissingPub name))
+    → (if not b then Denied (Grant (MissingPub name)) else Allowed)
+    ≡ (if b then Allowed else Denied (Grant (MissingPub name)))
 missing_if true name = refl
 missing_if false name = refl
 
 pub listed_exit : (policy : Policy) (id name : List ℕ) → lists policy id ≡ true
     → exit policy (origin.Client id) name
-    ≡ (if may_publish (scope_of policy.clients id) name then Allowed else Denied (MissingPub name))
+    ≡ (if may_publish (scope_of policy.clients id) name then Allowed else Denied (Grant (MissingPub name)))
 listed_exit policy id name listed =
     exit_ruled policy (origin.Client id) name
     ∙ (rw listed (missing_if (may_publish (scope_of policy.clients id) name) name))

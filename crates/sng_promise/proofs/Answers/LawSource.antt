@@ -17,8 +17,10 @@ use Rattle.sng_book.specs.declared.decision.Decision.TheVariants as note
 use Rattle.sng_book.specs.declared.decision.Who.TheVariants as who
 use Rattle.sng_book.specs.declared.outcome.IdKind.TheVariants as kind
 use Rattle.sng_book.specs.declared.outcome.Place.TheVariants as place
-use Rattle.sng_book.specs.declared.outcome.Denial.TheVariants.{UnknownSource, BadName, IdType, UnknownId}
-use Rattle.sng_book.specs.declared.outcome.Denial.TheVariants.{MissingPub, UpstreamDown, Full}
+use Rattle.sng_book.specs.declared.outcome.Denial.TheVariants.{Form, Grant, Room}
+use Rattle.sng_book.specs.declared.outcome.FormDenial.TheVariants.{BadName, IdType, UnknownId}
+use Rattle.sng_book.specs.declared.outcome.GrantDenial.TheVariants.{UnknownSource, MissingPub}
+use Rattle.sng_book.specs.declared.outcome.RoomDenial.TheVariants.{UpstreamDown, Full}
 use Rattle.sng_book.specs.declared.out.Out.TheVariants.{Note}
 use Rattle.sng_book.specs.declared.row.Row.{Row}
 use Rattle.sng_history.specs.State.{State}
@@ -31,9 +33,9 @@ use Rattle.sng_promise.proofs.Clients.SeenOrder.{StateShown}
 -- what forbids a publish under a name
 abbrev name_rules : State → List Pair → List ℕ → List Rule
 name_rules s pairs name =
-    (not (is_granted permission.Publish pairs name), MissingPub name)
-    ∷ (not s.up, UpstreamDown)
-    ∷ (not (nat_lt (length s.link.waiting) MAX_OUTBOX_ITEMS), Full place.Outbox)
+    (not (is_granted permission.Publish pairs name), Grant (MissingPub name))
+    ∷ (not s.up, Room UpstreamDown)
+    ∷ (not (nat_lt (length s.link.waiting) MAX_OUTBOX_ITEMS), Room (Full place.Outbox))
     ∷ []
 
 tail_ruled : (s : State) (source name : List ℕ) (pairs : List Pair) (g u r : Bool)
@@ -56,9 +58,9 @@ name_ruled s source name pairs scope =
 -- what forbids a publish of a listed device
 abbrev type_rules : State → List Pair → TopicIdType → ℕ → List Rule
 type_rules s pairs type id =
-    (needs_session type, IdType)
-    ∷ (is_bad_short type id, BadName)
-    ∷ (is_nameless s.policy type id, UnknownId kind.Predefined id)
+    (needs_session type, Form IdType)
+    ∷ (is_bad_short type id, Form BadName)
+    ∷ (is_nameless s.policy type id, Form (UnknownId kind.Predefined id))
     ∷ name_rules s pairs (or_empty (name_read s.policy type id))
 
 abbrev TypeRuled : State → List ℕ → List Pair → TopicIdType → ℕ → Type 0
@@ -93,13 +95,13 @@ type_ruled s source pairs Reserved id scope = refl
 abbrev state_rules : State → List ℕ → Publish → List Rule
 state_rules s source p =
     let name = or_empty (name_read s.policy p.flags.id_type p.topic_id) in
-    (not (lists_source s.policy source), UnknownSource)
-    ∷ (needs_session p.flags.id_type, IdType)
-    ∷ (is_bad_short p.flags.id_type p.topic_id, BadName)
-    ∷ (is_nameless s.policy p.flags.id_type p.topic_id, UnknownId kind.Predefined p.topic_id)
-    ∷ (not (may_publish (scope_of s.policy.sources source) name), MissingPub name)
-    ∷ (not s.up, UpstreamDown)
-    ∷ (not (nat_lt (length s.link.waiting) MAX_OUTBOX_ITEMS), Full place.Outbox)
+    (not (lists_source s.policy source), Grant UnknownSource)
+    ∷ (needs_session p.flags.id_type, Form IdType)
+    ∷ (is_bad_short p.flags.id_type p.topic_id, Form BadName)
+    ∷ (is_nameless s.policy p.flags.id_type p.topic_id, Form (UnknownId kind.Predefined p.topic_id))
+    ∷ (not (may_publish (scope_of s.policy.sources source) name), Grant (MissingPub name))
+    ∷ (not s.up, Room UpstreamDown)
+    ∷ (not (nat_lt (length s.link.waiting) MAX_OUTBOX_ITEMS), Room (Full place.Outbox))
     ∷ []
 
 abbrev StateRuled : State → List ℕ → Publish → Type 0

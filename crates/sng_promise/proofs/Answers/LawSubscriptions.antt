@@ -21,7 +21,10 @@ use Rattle.sng_book.specs.declared.decision.Decision.TheVariants as note
 use Rattle.sng_book.specs.declared.decision.Who.TheVariants as who
 use Rattle.sng_book.specs.declared.outcome.Place.TheVariants as place
 use Rattle.sng_book.specs.declared.outcome.Denial.{Denial}
-use Rattle.sng_book.specs.declared.outcome.Denial.TheVariants.{NoScope, OutOfTurn, UpstreamDown, Full}
+use Rattle.sng_book.specs.declared.outcome.Denial.TheVariants.{Form, Grant, Room}
+use Rattle.sng_book.specs.declared.outcome.FormDenial.TheVariants.{OutOfTurn}
+use Rattle.sng_book.specs.declared.outcome.GrantDenial.TheVariants.{NoScope}
+use Rattle.sng_book.specs.declared.outcome.RoomDenial.TheVariants.{UpstreamDown, Full}
 use Rattle.sng_book.specs.declared.outcome.Outcome.{Outcome}
 use Rattle.sng_book.specs.declared.outcome.Outcome.TheVariants.{Allowed, Denied}
 use Rattle.sng_book.specs.declared.out.Out.TheVariants.{Note}
@@ -71,11 +74,11 @@ use Rattle.sng_promise.proofs.Answers.LawForms.{judged_both}
 -- ---- a SUBSCRIBE
 
 room_by : (u g f p : Bool)
-    → (if u then (if g then Denied (Full place.Ids)
-    else (if f then Denied (Full place.Subscriptions)
-    else (if p then Allowed else Denied (Full place.Outbox)))) else Denied UpstreamDown)
-    ≡ judged ((not u, UpstreamDown) ∷ (g, Full place.Ids) ∷ (f, Full place.Subscriptions)
-    ∷ (not p, Full place.Outbox) ∷ [])
+    → (if u then (if g then Denied (Room (Full place.Ids))
+    else (if f then Denied (Room (Full place.Subscriptions))
+    else (if p then Allowed else Denied (Room (Full place.Outbox))))) else Denied (Room UpstreamDown))
+    ≡ judged ((not u, Room UpstreamDown) ∷ (g, Room (Full place.Ids)) ∷ (f, Room (Full place.Subscriptions))
+    ∷ (not p, Room (Full place.Outbox)) ∷ [])
 room_by false g f p = refl
 room_by true g f true = refl
 room_by true g f false = refl
@@ -129,7 +132,7 @@ subscribe_said : (h : List Row) (s : State) (x : Client) (r : TopicRequest) (a l
     → let text = filter_meant s.policy r.flags.id_type r.topic in
     subscribe_ask s x r
     ≡ note.Subscribe (who.Client x.id) (if a && l then text else None)
-    (judged ((not a, OutOfTurn) ∷ (not l, NoScope x.id) ∷
+    (judged ((not a, Form OutOfTurn) ∷ (not l, Grant (NoScope x.id)) ∷
     (form_rules s.policy r ++ gap_rule s.policy x.id (or_empty text)
     ∷ room_rules h x.id r.flags.id_type (or_empty text))))
 subscribe_said h s x r false l shown is active listed = rw active refl
@@ -183,7 +186,7 @@ suback_by policy r y told knows text meant is =
 
 -- where it is allowed it may ask and is well formed
 pub allowed_form : (a l : Bool) (id : List ℕ) (form more : List Rule)
-    → judged ((not a, OutOfTurn) ∷ (not l, NoScope id) ∷ (form ++ more)) ≡ Allowed
+    → judged ((not a, Form OutOfTurn) ∷ (not l, Grant (NoScope id)) ∷ (form ++ more)) ≡ Allowed
     → ((a && l) ≡ true) × (judged form ≡ Allowed)
 allowed_form false l id form more is = absurd (let e = is in cc)
 allowed_form true false id form more is = absurd (let e = is in cc)

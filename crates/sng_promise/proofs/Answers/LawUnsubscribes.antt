@@ -14,7 +14,8 @@ use Rattle.sng_book.specs.declared.address.Address.{Address}
 use Rattle.sng_book.specs.declared.decision.Decision.TheVariants as note
 use Rattle.sng_book.specs.declared.decision.Who.TheVariants as who
 use Rattle.sng_book.specs.declared.outcome.Denial.{Denial}
-use Rattle.sng_book.specs.declared.outcome.Denial.TheVariants.{OutOfTurn}
+use Rattle.sng_book.specs.declared.outcome.Denial.TheVariants.{Form}
+use Rattle.sng_book.specs.declared.outcome.FormDenial.TheVariants.{OutOfTurn}
 use Rattle.sng_book.specs.declared.outcome.Outcome.{Outcome}
 use Rattle.sng_book.specs.declared.outcome.Outcome.TheVariants.{Allowed, Denied}
 use Rattle.sng_book.specs.declared.out.Out.{Out}
@@ -105,7 +106,7 @@ unsubscribe_kept h s from r text x is shown =
 abbrev unsubscribe_by : List Row → Address → TopicRequest → List ℕ → Bool → Option (List ℕ) → Outcome
     → List Out
 unsubscribe_by h from r id active text form =
-    let o = if not active then Denied OutOfTurn else form in
+    let o = if not active then Denied (Form OutOfTurn) else form in
     Note (note.Unsubscribe (who.Client id) (if active then text else None) o)
     ∷ (unsubscribed_note h from id text o ++ Send from (written (frame.UnsubscribeAck r.msg_id)) ∷ [])
 
@@ -156,7 +157,12 @@ unsubscribe_spelled h s from r x true shown active at =
     ∙ (ap (λ text. unsubscribe_by h from r x.id true text (verdict_as named)) known.meant
     ∙ ap (unsubscribe_by h from r x.id true (filter_meant s.policy r.flags.id_type r.topic)) known.ruled))
 unsubscribe_spelled h s from r x false shown active at =
-    rw (active, at, denied_note h from x.id (filter_meant s.policy r.flags.id_type r.topic) OutOfTurn) refl
+    rw (
+      active,
+      at,
+      denied_note h from x.id (filter_meant s.policy r.flags.id_type r.topic)
+          (Form OutOfTurn),
+    ) refl
 
 unsubscribed_busy : (filter : Option (List ℕ)) (o : Outcome) (x : Client) → is_drained x ≡ false
     → is_drained (unsubscribed filter o x) ≡ false

@@ -7,8 +7,9 @@ use Rattle.sng_book.specs.declared.address.Address.{Address}
 use Rattle.sng_book.specs.declared.decision.Decision.{Decision}
 use Rattle.sng_book.specs.declared.decision.Who.TheVariants as who
 use Rattle.sng_book.specs.declared.outcome.Denial.{Denial}
-use Rattle.sng_book.specs.declared.outcome.Denial.TheVariants.{NotSupported, UnknownId}
-use Rattle.sng_book.specs.declared.outcome.Denial.TheVariants.{UpstreamDown, Full}
+use Rattle.sng_book.specs.declared.outcome.Denial.TheVariants.{Form, Room}
+use Rattle.sng_book.specs.declared.outcome.FormDenial.TheVariants.{NotSupported, UnknownId}
+use Rattle.sng_book.specs.declared.outcome.RoomDenial.TheVariants.{UpstreamDown, Full}
 use Rattle.sng_book.specs.declared.row.Row.{Row}
 use Rattle.sng_history.specs.Causes.{Cause, ByMessage, Untaken}
 use Rattle.sng_history.specs.Clients.{Around, Client, is_here, notes_by}
@@ -32,9 +33,9 @@ by_cause s c = record { policy = s.policy; clock = s.clock; cause = c }
 
 -- the ReturnCode of a rule
 pub code_same : (rule : Denial) → code_of rule ≡ code_for rule
-code_same (UnknownId kind id) = refl
-code_same UpstreamDown = refl
-code_same (Full place) = refl
+code_same (Form (UnknownId kind id)) = refl
+code_same (Room UpstreamDown) = refl
+code_same (Room (Full place)) = refl
 code_same _ = refl
 
 -- ---- not supported
@@ -42,7 +43,7 @@ code_same _ = refl
 unsupported_spell : (s : State) (from : Address) (message : SnFrame) (dropped : List Release) (x : Client)
     → is_unsupported message ≡ true
     → spell (by_cause s (ByMessage from (Untaken message))) dropped x
-    (denied_note message (who.Client x.id) NotSupported ∷ [])
+    (denied_note message (who.Client x.id) (Form NotSupported) ∷ [])
     ≡ unsupported_answer x.address message x.id
 unsupported_spell s from (frame.Register register) dropped x is = refl
 unsupported_spell s from (frame.Subscribe r) dropped x is = absurd (let e = is in cc)
@@ -58,14 +59,15 @@ unsupported_part : (s : State) (from : Address) (message : SnFrame) (dropped : L
     → is_unsupported message ≡ true → (b ≡ true → x.address ≡ from)
     → is_drained x ≡ false
     → let a = by_cause s (ByMessage from (Untaken message)) in
-    let notes : List Decision = if b then denied_note message (who.Client x.id) NotSupported ∷ [] else [] in
+    let notes : List Decision = if b then denied_note message (who.Client x.id) (Form NotSupported) ∷ []
+    else [] in
     (if b then [] else []) ++ (spell a dropped (heard_if b s.clock x) notes
     ++ drained_outs (notes_by a notes (heard_if b s.clock x)))
     ≡ (if b then unsupported_answer from message x.id else [])
 unsupported_part s from message dropped x true is at busy =
     let a = by_cause s (ByMessage from (Untaken message)) in
     let y = heard_if true s.clock x in
-    let outs = spell a dropped y (denied_note message (who.Client x.id) NotSupported ∷ []) in
+    let outs = spell a dropped y (denied_note message (who.Client x.id) (Form NotSupported) ∷ []) in
     ap (λ z. outs ++ drained_outs z) (denied_stays a y x.id message)
     ∙ (settled outs y busy ∙ (unsupported_spell s from message dropped y is
     ∙ ap (λ to. unsupported_answer to message x.id) (at refl)))

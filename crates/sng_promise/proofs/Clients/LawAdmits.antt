@@ -20,7 +20,10 @@ use Rattle.sng_book.specs.declared.decision.Decision.TheVariants as note
 use Rattle.sng_book.specs.declared.decision.Who.{Who}
 use Rattle.sng_book.specs.declared.decision.Who.TheVariants as who
 use Rattle.sng_book.specs.declared.outcome.Denial.{Denial}
-use Rattle.sng_book.specs.declared.outcome.Denial.TheVariants.{NotSupported, UnknownSource, BrokerRefused}
+use Rattle.sng_book.specs.declared.outcome.Denial.TheVariants.{Form, Grant, Peer}
+use Rattle.sng_book.specs.declared.outcome.FormDenial.TheVariants.{NotSupported}
+use Rattle.sng_book.specs.declared.outcome.GrantDenial.TheVariants.{UnknownSource}
+use Rattle.sng_book.specs.declared.outcome.PeerDenial.TheVariants.{BrokerRefused}
 use Rattle.sng_book.specs.declared.outcome.Outcome.{Outcome}
 use Rattle.sng_book.specs.declared.outcome.Outcome.TheVariants.{Allowed, Denied}
 use Rattle.sng_book.specs.declared.out.Out.{Out}
@@ -198,8 +201,8 @@ request_note s (ToState statement) x id = modest_notes id (statement_notes s.pol
     (every_statement (Modest id) s.policy statement x
     (record { states = λ name outcome. refl; leaves = refl; messages = modest_messages id x.id }))
 request_note s (Untaken message) x id =
-    one_note id (denied_note message (who.Client x.id) NotSupported)
-    (denied_admits id message (who.Client x.id) NotSupported)
+    one_note id (denied_note message (who.Client x.id) (Form NotSupported))
+    (denied_admits id message (who.Client x.id) (Form NotSupported))
 
 pub note_if : (id : List ℕ) (notes : List Decision) (b : Bool) → admitted_notes id notes ≡ false
     → admitted_notes id (if b then notes else []) ≡ false
@@ -219,7 +222,7 @@ stranger_admits from (ToAcknowledge r) id = refl
 stranger_admits from (ToState statement) id = refl
 stranger_admits from (ToSleep duration) id = refl
 stranger_admits from (Untaken message) id =
-    ap (λ b. b || false) (denied_admits id message (who.Address from) NotSupported)
+    ap (λ b. b || false) (denied_admits id message (who.Address from) (Form NotSupported))
 
 pub admitted_message : (s : State) (from : Address) (request : Request) (id : List ℕ)
     → is_admitted id (outs_by s (ByMessage from request)) ≡ false
@@ -250,7 +253,7 @@ ends_note policy id own (h ∷ held) =
 refused_modest : (x : Client) (id : List ℕ) (text : Option (List ℕ)) → Every (Modest id) (refused_end x text)
 refused_modest x id None = tt
 refused_modest x id (Some text) =
-    every_if (Modest id) (holds text x) (note.End x.id text (Denied BrokerRefused) ∷ []) (refl, tt)
+    every_if (Modest id) (holds text x) (note.End x.id text (Denied (Peer BrokerRefused)) ∷ []) (refl, tt)
 
 -- a message comes to the client
 pub packet_note : (s : State) (packet : Packet) (x : Client) (id : List ℕ)
@@ -272,7 +275,7 @@ source_admits : (s : State) (source id : List ℕ) (p : Publish) (b : Bool)
     → admits id
     (if b then named_ask s source (name_in s.policy None p.flags.id_type p.topic_id)
     else note.Publish (who.Source source) None
-    (Denied UnknownSource)) ≡ false
+    (Denied (Grant UnknownSource))) ≡ false
 source_admits s source id p true = named_admits s source id (name_in s.policy None p.flags.id_type p.topic_id)
 source_admits s source id p false = refl
 

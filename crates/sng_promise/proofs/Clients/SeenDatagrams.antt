@@ -11,7 +11,8 @@ use Rattle.sng_frames.specs.declared.messages.publish.Publish.{Publish}
 use Rattle.sng_frames.specs.declared.frame.SnFrame.{SnFrame}
 use Rattle.sng_frames.specs.declared.frame.SnFrame.TheVariants as frame
 use Rattle.sng_book.specs.declared.address.Address.{Address}
-use Rattle.sng_book.specs.declared.outcome.Denial.TheVariants.{NotSupported}
+use Rattle.sng_book.specs.declared.outcome.Denial.TheVariants.{Form}
+use Rattle.sng_book.specs.declared.outcome.FormDenial.TheVariants.{NotSupported}
 use Rattle.sng_history.specs.Causes.{Cause, StatesTopic, StatesMessage, UpdatesTopic, UpdatesMessage}
 use Rattle.sng_history.specs.Causes.{ByMessage, ByBroken, datagram_cause}
 use Rattle.sng_history.specs.Causes.{publish_cause, rule_of, ToSleep}
@@ -68,7 +69,7 @@ publish_shows s x from p m qos.AtLeastOnce =
     asked_shows (around_by s (ByMessage from (ToPublish p))) s x m (Some from) p (is_here x from)
 publish_shows s x from p m qos.ExactlyOnce =
     let a = around_by s (ByMessage from (Untaken (frame.Publish p))) in
-    denied_shows a x m (Some from) None (is_here x from) (frame.Publish p) NotSupported
+    denied_shows a x m (Some from) None (is_here x from) (frame.Publish p) (Form NotSupported)
 
 pub datagram_shows : (s : State) (x : Client) (from : Address) (read : Result SnFrame FrameFault)
     → Shows x.id (before_read s x from read) (fixed_for s (datagram_cause from read) x)
@@ -109,7 +110,7 @@ datagram_shows s x from (Ok (frame.WillMessageUpdate message)) =
     statement_shows s from (UpdatesMessage message) x (is_here x from)
 datagram_shows s x from (Ok message) =
     denied_shows (around_by s (ByMessage from (Untaken message))) x (Some Other) (Some from) None
-    (is_here x from) message NotSupported
+    (is_here x from) message (Form NotSupported)
 datagram_shows s x from (Err broke) =
     broken_shows (around_by s (ByBroken from (rule_of broke))) x None (Some from) (is_here x from)
     (rule_of broke)

@@ -9,7 +9,8 @@ use Rattle.mqtt_frames.specs.declared.packet.Packet.{Packet}
 use Rattle.sng_frames.specs.declared.messages.subscribe.TopicRequest.{TopicRequest}
 use Rattle.sng_book.specs.declared.decision.Decision.{Decision}
 use Rattle.sng_book.specs.declared.decision.Decision.TheVariants as note
-use Rattle.sng_book.specs.declared.outcome.Denial.TheVariants.{BrokerRefused}
+use Rattle.sng_book.specs.declared.outcome.Denial.TheVariants.{Peer}
+use Rattle.sng_book.specs.declared.outcome.PeerDenial.TheVariants.{BrokerRefused}
 use Rattle.sng_book.specs.declared.outcome.Outcome.{Outcome}
 use Rattle.sng_book.specs.declared.outcome.Outcome.TheVariants.{Allowed, Denied}
 use Rattle.sng_history.specs.Causes.{ByPacket}
@@ -155,7 +156,8 @@ refused_unseen : (a : Around) (x : Client) (text : Option (List ℕ)) → Every 
 refused_unseen a x None = tt
 refused_unseen a x (Some text) = by_held (holds text x)
   where
-    by_held : (b : Bool) → Every (Unseen a) (if b then note.End x.id text (Denied BrokerRefused) ∷ [] else [])
+    by_held : (b : Bool)
+        → Every (Unseen a) (if b then note.End x.id text (Denied (Peer BrokerRefused)) ∷ [] else [])
     by_held true = (
       record {
         phase = λ m id before. refl;

@@ -12,7 +12,9 @@ use Rattle.sng_book.specs.declared.row.Row.{Row}
 use Rattle.sng_book.specs.declared.decision.Decision.TheVariants.{Publish}
 use Rattle.sng_book.specs.declared.decision.Who.TheVariants as who
 use Rattle.sng_book.specs.declared.outcome.IdKind.TheVariants.{Normal}
-use Rattle.sng_book.specs.declared.outcome.Denial.TheVariants.{MissingPub, UnknownId}
+use Rattle.sng_book.specs.declared.outcome.Denial.TheVariants.{Form, Grant}
+use Rattle.sng_book.specs.declared.outcome.FormDenial.TheVariants.{UnknownId}
+use Rattle.sng_book.specs.declared.outcome.GrantDenial.TheVariants.{MissingPub}
 use Rattle.sng_book.specs.declared.out.Out.TheVariants.{Note}
 use Rattle.sng_book.specs.declared.outcome.Outcome.TheVariants.{Allowed, Denied}
 use Rattle.sng_history.specs.Causes.{ByConnect, cause_of}
@@ -62,7 +64,8 @@ knowing_is =
     ap (λ s. then s (Datagram home register_t1) (registers t1 Allowed ∷ registered_t1 ∷ [])) inside_is
 
 abbrev refusing : State → State
-refusing s = then s (Datagram home register_t2) (registers t2 (Denied (MissingPub t2)) ∷ unregistered_t2 ∷ [])
+refusing s =
+    then s (Datagram home register_t2) (registers t2 (Denied (Grant (MissingPub t2))) ∷ unregistered_t2 ∷ [])
 
 abbrev asking : State → State
 asking s = then s (Datagram home publish_t1) (asks_t1 Allowed ∷ accepted_t1 ∷ [])
@@ -94,20 +97,20 @@ told = (
 
 -- a name that is not granted, and an id that was not told
 refused_t2 : Lawful opening (row (Datagram home register_t2)
-    (registers t2 (Denied (MissingPub t2)) ∷ unregistered_t2 ∷ []) ∷ told_t1)
+    (registers t2 (Denied (Grant (MissingPub t2))) ∷ unregistered_t2 ∷ []) ∷ told_t1)
 refused_t2 = (
   told,
   came told_t1 knowing (Datagram home register_t2)
-      (registers t2 (Denied (MissingPub t2)) ∷ unregistered_t2 ∷ []) knowing_is
+      (registers t2 (Denied (Grant (MissingPub t2))) ∷ unregistered_t2 ∷ []) knowing_is
       (record { whole = refl; exits = refl; clients = (record { fixed = rw t2_utf8 refl }, tt) }),
 )
 
 pub refused : Lawful opening untold
 refused = (
   refused_t2,
-  came (row (Datagram home register_t2) (registers t2 (Denied (MissingPub t2)) ∷ unregistered_t2 ∷ [])
+  came (row (Datagram home register_t2) (registers t2 (Denied (Grant (MissingPub t2))) ∷ unregistered_t2 ∷ [])
       ∷ told_t1) (refusing knowing) (Datagram home publish_9)
-      (Note (Publish (who.Client s1) None (Denied (UnknownId Normal 9))) ∷ refused_9 ∷ [])
+      (Note (Publish (who.Client s1) None (Denied (Form (UnknownId Normal 9)))) ∷ refused_9 ∷ [])
       (ap refusing knowing_is)
       (record { whole = refl; exits = refl; clients = (record { fixed = refl }, tt) }),
 )
@@ -199,10 +202,10 @@ not_unjudged l =
 
 -- a publish is refused that is granted
 pub not_refused : LawfulRow knows_t1 (Datagram home publish_t1)
-    (asks_t1 (Denied (MissingPub t1)) ∷ refused_t1 ∷ []) → ⊥
+    (asks_t1 (Denied (Grant (MissingPub t1))) ∷ refused_t1 ∷ []) → ⊥
 not_refused l =
     let at : LawfulRow knowing (Datagram home publish_t1)
-    (asks_t1 (Denied (MissingPub t1)) ∷ refused_t1 ∷ []) =
+    (asks_t1 (Denied (Grant (MissingPub t1))) ∷ refused_t1 ∷ []) =
     subst (λ s. LawfulRow s (Datagram home publish_t1)
-    (asks_t1 (Denied (MissingPub t1)) ∷ refused_t1 ∷ [])) knowing_is l in
+    (asks_t1 (Denied (Grant (MissingPub t1))) ∷ refused_t1 ∷ [])) knowing_is l in
     let e = at.clients.0.fixed in cc

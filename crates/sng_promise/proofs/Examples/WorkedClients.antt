@@ -10,7 +10,8 @@ use Rattle.sng_book.specs.declared.event.Event.{Event}
 use Rattle.sng_book.specs.declared.out.Out.{Out}
 use Rattle.sng_book.specs.declared.decision.Decision.TheVariants.{Frame, Left}
 use Rattle.sng_book.specs.declared.decision.Who.TheVariants as who
-use Rattle.sng_book.specs.declared.outcome.Denial.TheVariants.{NoSession}
+use Rattle.sng_book.specs.declared.outcome.Denial.TheVariants.{Form}
+use Rattle.sng_book.specs.declared.outcome.FormDenial.TheVariants.{NoSession}
 use Rattle.sng_book.specs.declared.outcome.Outcome.TheVariants.{Denied}
 use Rattle.sng_book.specs.declared.out.Out.TheVariants.{Note}
 use Rattle.sng_book.specs.declared.event.Event.TheVariants.{Datagram}
@@ -174,7 +175,7 @@ gone = (
 )
 
 pinged_s2 : Lawful opening (row (Datagram home ping_s2)
-    (Note (Frame (who.Client s1) (Denied NoSession)) ∷ bye home ∷ []) ∷ s1_home one_listed)
+    (Note (Frame (who.Client s1) (Denied (Form NoSession))) ∷ bye home ∷ []) ∷ s1_home one_listed)
 pinged_s2 = (
   home_one,
   record {

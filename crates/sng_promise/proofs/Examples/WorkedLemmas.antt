@@ -4,7 +4,8 @@ use Rattle.std.specs.Str.{is_utf8, IsAscii}
 use Rattle.std.proofs.lemmas.Str.{is_utf8-from_IsUtf8, IsUtf8-from_ascii}
 use Rattle.mqtt_frames.specs.RemainingLength.{remaining_length}
 use Rattle.sng_book.specs.declared.event.Event.TheVariants.{Datagram, Up, Take}
-use Rattle.sng_book.specs.declared.outcome.Denial.TheVariants.{MissingPub}
+use Rattle.sng_book.specs.declared.outcome.Denial.TheVariants.{Grant}
+use Rattle.sng_book.specs.declared.outcome.GrantDenial.TheVariants.{MissingPub}
 use Rattle.sng_book.specs.declared.outcome.Outcome.TheVariants.{Allowed, Denied}
 use Rattle.sng_history.specs.State.{opening}
 use Rattle.sng_history.specs.Lawful.{LawfulRow, Lawful}
@@ -113,5 +114,5 @@ not_at_up l = let e = l.whole in cc
 
 -- a denial of what is granted
 pub not_denied : LawfulRow waits (Datagram (at source) publish_ab)
-    (asked_ab source (Denied (MissingPub (codes "ab"))) ∷ []) → ⊥
+    (asked_ab source (Denied (Grant (MissingPub (codes "ab")))) ∷ []) → ⊥
 not_denied l = let e = rw ab_utf8 at l.whole in cc

@@ -9,7 +9,8 @@ use Rattle.sng_fan.specs.declared.held.Held.{Held}
 use Rattle.sng_queue.specs.Messages.{message}
 use Rattle.sng_outbox.specs.declared.item.Item.TheVariants as item
 use Rattle.sng_book.specs.declared.event.Event.TheVariants.{Datagram, Broker, Replace}
-use Rattle.sng_book.specs.declared.outcome.Denial.TheVariants.{MissingSub}
+use Rattle.sng_book.specs.declared.outcome.Denial.TheVariants.{Grant}
+use Rattle.sng_book.specs.declared.outcome.GrantDenial.TheVariants.{MissingSub}
 use Rattle.sng_book.specs.declared.outcome.Outcome.TheVariants.{Allowed, Denied}
 use Rattle.sng_history.specs.Clients.{Client, announced}
 use Rattle.sng_history.specs.Links.{Wanted}
@@ -130,7 +131,7 @@ pub denied : Lawful opening denied_ab
 denied = (
   ungranted,
   came ungranted_ab ungranted_in (Datagram home accept_ab)
-      (hands_ab (Denied (MissingSub ab)) ∷ []) ungranted_is
+      (hands_ab (Denied (Grant (MissingSub ab))) ∷ []) ungranted_is
       (record { whole = refl; exits = refl; clients = (record { fixed = refl }, tt) }),
 )
 

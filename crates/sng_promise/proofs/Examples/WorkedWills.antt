@@ -4,7 +4,8 @@ use Rattle.mqtt_frames.specs.RemainingLength.{remaining_length}
 use Rattle.sng_frames.specs.declared.messages.connect.Connect.{Connect}
 use Rattle.sng_book.specs.declared.decision.Decision.TheVariants.{Left, Lost}
 use Rattle.sng_book.specs.declared.event.Event.TheVariants.{Datagram, Take, Tick}
-use Rattle.sng_book.specs.declared.outcome.Denial.TheVariants.{MissingPub}
+use Rattle.sng_book.specs.declared.outcome.Denial.TheVariants.{Grant}
+use Rattle.sng_book.specs.declared.outcome.GrantDenial.TheVariants.{MissingPub}
 use Rattle.sng_book.specs.declared.outcome.Outcome.TheVariants.{Allowed, Denied}
 use Rattle.sng_book.specs.declared.out.Out.{Out}
 use Rattle.sng_book.specs.declared.out.Out.TheVariants.{Wire, Note}
@@ -72,7 +73,7 @@ pub refused : Lawful opening will_refused
 refused = (
   asked,
   came will_asked asked_in (Datagram home topic_t2)
-      (states t2 (Denied (MissingPub t2)) ∷ refusal home ∷ Note (Left s1) ∷ []) asked_is
+      (states t2 (Denied (Grant (MissingPub t2))) ∷ refusal home ∷ Note (Left s1) ∷ []) asked_is
       (record { whole = refl; exits = refl; clients = (record { fixed = rw t2_utf8 refl }, tt) }),
 )
 

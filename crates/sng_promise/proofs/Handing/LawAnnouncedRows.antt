@@ -22,7 +22,9 @@ use Rattle.sng_book.specs.declared.decision.Who.TheVariants as who
 use Rattle.sng_book.specs.declared.event.Event.{Event}
 use Rattle.sng_book.specs.declared.event.Event.TheVariants as event
 use Rattle.sng_book.specs.declared.outcome.Denial.{Denial}
-use Rattle.sng_book.specs.declared.outcome.Denial.TheVariants.{BadName, NotSupported, UnknownSource}
+use Rattle.sng_book.specs.declared.outcome.Denial.TheVariants.{Form, Grant}
+use Rattle.sng_book.specs.declared.outcome.FormDenial.TheVariants.{NotSupported, BadName}
+use Rattle.sng_book.specs.declared.outcome.GrantDenial.TheVariants.{UnknownSource}
 use Rattle.sng_book.specs.declared.outcome.Outcome.{Outcome}
 use Rattle.sng_book.specs.declared.outcome.Outcome.TheVariants.{Allowed, Denied}
 use Rattle.sng_book.specs.declared.out.Out.{Out}
@@ -157,7 +159,7 @@ stranger_tells told from (ToUnsubscribe r) = (tt, tt)
 stranger_tells told from (ToConfirm r) = (tt, tt)
 stranger_tells told from (ToAcknowledge r) = (tt, tt)
 stranger_tells told from (ToState statement) = (tt, tt)
-stranger_tells told from (Untaken message) = denied_tells told message (who.Address from) NotSupported
+stranger_tells told from (Untaken message) = denied_tells told message (who.Address from) (Form NotSupported)
 
 -- ---- a CONNECT
 
@@ -271,7 +273,7 @@ dropped_tells told true (Some packet_id) = tt
 dropped_tells told false (Some packet_id) = (tt, tt)
 
 delivered_tells : (told : Names) (named place : Bool) (packet_id : Option ℕ)
-    → AllTell told ((if named then [] else Note (note.Frame who.Broker (Denied BadName)) ∷ [])
+    → AllTell told ((if named then [] else Note (note.Frame who.Broker (Denied (Form BadName))) ∷ [])
     ++ dropped place packet_id)
 delivered_tells told true place packet_id = dropped_tells told place packet_id
 delivered_tells told false place packet_id = (tt, dropped_tells told place packet_id)
@@ -329,7 +331,7 @@ source_tells told s from p = by_listed (lists_source s.policy from.ip)
 
     by_listed : (b : Bool) → AllTell told
         (Note (if b then named_ask s from.ip (name_in s.policy None p.flags.id_type p.topic_id)
-        else note.Publish (who.Source from.ip) None (Denied UnknownSource)) ∷ [])
+        else note.Publish (who.Source from.ip) None (Denied (Grant UnknownSource))) ∷ [])
     by_listed true = named_tells (name_in s.policy None p.flags.id_type p.topic_id)
     by_listed false = (tt, tt)
 

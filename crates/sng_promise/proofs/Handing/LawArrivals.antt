@@ -18,7 +18,8 @@ use Rattle.sng_queue.specs.declared.limits.TheConstants.{MAX_QUEUED, MAX_WAITING
 use Rattle.sng_book.specs.declared.decision.Decision.{Decision}
 use Rattle.sng_book.specs.declared.decision.Decision.TheVariants as note
 use Rattle.sng_book.specs.declared.outcome.Place.TheVariants as place
-use Rattle.sng_book.specs.declared.outcome.Denial.TheVariants.{Full, TooLong}
+use Rattle.sng_book.specs.declared.outcome.Denial.TheVariants.{Room}
+use Rattle.sng_book.specs.declared.outcome.RoomDenial.TheVariants.{Full, TooLong}
 use Rattle.sng_book.specs.declared.outcome.Outcome.{Outcome}
 use Rattle.sng_book.specs.declared.outcome.Outcome.TheVariants.{Allowed, Denied}
 use Rattle.sng_book.specs.declared.out.Out.{Out}
@@ -125,15 +126,17 @@ full_by : (n m : ℕ) → nat_le m n ≡ not (nat_lt n m)
 full_by n m = grind (arith, nat_tests)
 
 arrival_if : (sendable room : Bool)
-    → (if sendable then (if not room then Denied (Full place.Queue) else Allowed) else Denied TooLong)
-    ≡ (if not sendable then Denied TooLong else (if not room then Denied (Full place.Queue) else Allowed))
+    → (if sendable then (if not room then Denied (Room (Full place.Queue)) else Allowed)
+    else Denied (Room TooLong))
+    ≡ (if not sendable then Denied (Room TooLong)
+    else (if not room then Denied (Room (Full place.Queue)) else Allowed))
 arrival_if true room = refl
 arrival_if false room = refl
 
 arrival_same : (b : Buffer) (m : Message)
     → arrival b m
-    ≡ (if is_too_long m then Denied TooLong
-    else (if not (nat_lt (length b.waiting) MAX_QUEUED) then Denied (Full place.Queue) else Allowed))
+    ≡ (if is_too_long m then Denied (Room TooLong)
+    else (if not (nat_lt (length b.waiting) MAX_QUEUED) then Denied (Room (Full place.Queue)) else Allowed))
 arrival_same b m =
     rw (full_by (length b.waiting) MAX_QUEUED)
     (arrival_if (nat_le (length m.name) MAX_WAITING_NAME && nat_le (length m.payload) MAX_WAITING_PAYLOAD)
@@ -203,12 +206,12 @@ came_as h s p x m Allowed state shown rest stays =
     ∙ ap (λ b. if b then handed_out (mailing h x.id x.address) (m ∷ []) else []) (free_shown h x shown)
 
 answer_if : (h : List Row) (x : Client) (m : Message) (long room : Bool)
-    → answer_as h x m (if long then Denied TooLong
-    else (if not room then Denied (Full place.Queue) else Allowed))
+    → answer_as h x m (if long then Denied (Room TooLong)
+    else (if not room then Denied (Room (Full place.Queue)) else Allowed))
     ≡ (if long
-    then Note (note.Hand x.id m.name (Denied TooLong)) ∷ []
+    then Note (note.Hand x.id m.name (Denied (Room TooLong))) ∷ []
     else (if not room
-    then Note (note.Hand x.id m.name (Denied (Full place.Queue))) ∷ []
+    then Note (note.Hand x.id m.name (Denied (Room (Full place.Queue)))) ∷ []
     else (if is_ready h x.id then handed_out (mailing h x.id x.address) (m ∷ []) else [])))
 answer_if h x m true room = refl
 answer_if h x m false true = refl

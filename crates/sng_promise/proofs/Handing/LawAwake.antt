@@ -13,7 +13,8 @@ use Rattle.sng_ids.specs.Ids.{is_full_for}
 use Rattle.sng_queue.specs.Messages.{Message}
 use Rattle.sng_book.specs.declared.decision.Decision.TheVariants as note
 use Rattle.sng_book.specs.declared.outcome.Place.TheVariants as place
-use Rattle.sng_book.specs.declared.outcome.Denial.TheVariants.{Full}
+use Rattle.sng_book.specs.declared.outcome.Denial.TheVariants.{Room}
+use Rattle.sng_book.specs.declared.outcome.RoomDenial.TheVariants.{Full}
 use Rattle.sng_book.specs.declared.outcome.Outcome.{Outcome}
 use Rattle.sng_book.specs.declared.outcome.Outcome.TheVariants.{Allowed, Denied}
 use Rattle.sng_book.specs.declared.out.Out.{Out}
@@ -102,7 +103,7 @@ crowded_opens : (c : Mailing) (m : Message) (rest : Bool) → knows c m.name ≡
 crowded_opens c m rest is full = ap (λ o. opens_by c m o rest) (denied c m.name is full)
   where
     denied : (c : Mailing) (name : List ℕ) → knows c name ≡ false → is_crowded c name ≡ true
-        → judged (full_rule c name) ≡ Denied (Full place.Ids)
+        → judged (full_rule c name) ≡ Denied (Room (Full place.Ids))
     denied c name is full = rw (is, full) refl
 
 announced_opens : (c : Mailing) (m : Message) (rest : Bool) → knows c m.name ≡ false

@@ -9,7 +9,8 @@ use Rattle.sng_queue.specs.Buffers.{Buffer, settle}
 use Rattle.sng_frames.specs.declared.messages.acks.TopicAck.{TopicAck}
 use Rattle.sng_book.specs.declared.address.Address.{Address}
 use Rattle.sng_book.specs.declared.decision.Decision.TheVariants as note
-use Rattle.sng_book.specs.declared.outcome.Denial.TheVariants.{ClientRefused}
+use Rattle.sng_book.specs.declared.outcome.Denial.TheVariants.{Peer}
+use Rattle.sng_book.specs.declared.outcome.PeerDenial.TheVariants.{ClientRefused}
 use Rattle.sng_book.specs.declared.outcome.Outcome.TheVariants.{Denied}
 use Rattle.sng_book.specs.declared.out.Out.{Out}
 use Rattle.sng_book.specs.declared.out.Out.TheVariants.{Note}
@@ -124,7 +125,7 @@ refused_part : (h : List Row) (s : State) (from : Address) (r : TopicAck) (dropp
 refused_part h s from r dropped x [] takes some settles state shown at = absurd (some refl)
 refused_part h s from r dropped x (m ∷ more) takes some settles state shown at =
     let c = ByMessage from (ToConfirm r) in
-    let said : Out = Note (note.Hand x.id m.name (Denied (ClientRefused r.code.0))) in
+    let said : Out = Note (note.Hand x.id m.name (Denied (Peer (ClientRefused r.code.0)))) in
     ap
     (λ b. said ∷ all_out s c dropped (handed_over s.policy (let y : Client = record x { buffer = b } in y))
     (let z : Client = record x { heard = s.clock; buffer = b } in z))

@@ -13,7 +13,9 @@ use Rattle.sng_queue.specs.Buffers.{settle}
 use Rattle.sng_book.specs.declared.decision.Decision.TheVariants as note
 use Rattle.sng_book.specs.declared.outcome.Place.TheVariants as place
 use Rattle.sng_book.specs.declared.outcome.Denial.{Denial}
-use Rattle.sng_book.specs.declared.outcome.Denial.TheVariants.{NoScope, MissingSub, Full}
+use Rattle.sng_book.specs.declared.outcome.Denial.TheVariants.{Grant, Room}
+use Rattle.sng_book.specs.declared.outcome.GrantDenial.TheVariants.{NoScope, MissingSub}
+use Rattle.sng_book.specs.declared.outcome.RoomDenial.TheVariants.{Full}
 use Rattle.sng_book.specs.declared.outcome.Outcome.{Outcome}
 use Rattle.sng_book.specs.declared.outcome.Outcome.TheVariants.{Allowed, Denied}
 use Rattle.sng_book.specs.declared.out.Out.{Out}
@@ -117,7 +119,7 @@ Offered a dropped told known m more x o =
 abbrev pub full_rule : Mailing → List ℕ → List Rule
 full_rule c name = (
   not (knows c name) && (not (is_among name c.told) && not (nat_lt (length c.told) MAX_TOPIC_IDS)),
-  Full place.Ids,
+  Room (Full place.Ids),
 ) ∷ []
 
 -- what the laws say of it, where the client knows the name, where no id is left, and where one is announced
@@ -141,11 +143,11 @@ is_crowded c name = not (is_among name c.told) && not (nat_lt (length c.told) MA
 crowded_one : (c : Mailing) (m : Message) (rest : List Out) → knows c m.name ≡ false
     → is_crowded c m.name ≡ true
     → handed_one c m (judged (full_rule c m.name)) rest
-    ≡ Note (note.Hand c.id m.name (Denied (Full place.Ids))) ∷ rest
+    ≡ Note (note.Hand c.id m.name (Denied (Room (Full place.Ids)))) ∷ rest
 crowded_one c m rest is full = ap (λ o. handed_one c m o rest) (denied c m.name is full)
   where
     denied : (c : Mailing) (name : List ℕ) → knows c name ≡ false → is_crowded c name ≡ true
-        → judged (full_rule c name) ≡ Denied (Full place.Ids)
+        → judged (full_rule c name) ≡ Denied (Room (Full place.Ids))
     denied c name is full = rw (is, full) refl
 
 announced_one : (c : Mailing) (m : Message) (rest : List Out) → knows c m.name ≡ false
@@ -183,7 +185,7 @@ unknown_turn : (a : Around) (dropped : List Release) (told known : List (List �
     ≡ handed_one (mail a x told known) m (judged (full_rule (mail a x told known) m.name))
     (handed_out (mail a x told known) more)
 unknown_turn a dropped told known m more x true within rest full unknown =
-    ap (λ outs. Note (note.Hand x.id m.name (Denied (Full place.Ids))) ∷ outs) (rest x within)
+    ap (λ outs. Note (note.Hand x.id m.name (Denied (Room (Full place.Ids)))) ∷ outs) (rest x within)
     ∙ sym (crowded_one (mail a x told known) m (handed_out (mail a x told known) more) unknown
     (sym (full_marked m.name told known) ∙ full))
 unknown_turn a dropped told known m more x false within rest full unknown =
@@ -220,7 +222,7 @@ judged_append (rule ∷ rules) more =
     ∙ judged_if rule.0 rule.1 (judged rules) (judged more)
 
 unturned : (l g : Bool) (id name : List ℕ)
-    → turned (judged ((l, NoScope id) ∷ (g, MissingSub name) ∷ [])) ≡ false
+    → turned (judged ((l, Grant (NoScope id)) ∷ (g, Grant (MissingSub name)) ∷ [])) ≡ false
 unturned true g id name = refl
 unturned false true id name = refl
 unturned false false id name = refl

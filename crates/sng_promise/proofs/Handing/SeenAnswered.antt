@@ -15,7 +15,8 @@ use Rattle.sng_book.specs.Denials.{is_allowed}
 use Rattle.sng_book.specs.declared.address.Address.{Address}
 use Rattle.sng_book.specs.declared.decision.Decision.TheVariants as note
 use Rattle.sng_book.specs.declared.decision.Who.TheVariants as who
-use Rattle.sng_book.specs.declared.outcome.Denial.TheVariants.{ClientRefused}
+use Rattle.sng_book.specs.declared.outcome.Denial.TheVariants.{Peer}
+use Rattle.sng_book.specs.declared.outcome.PeerDenial.TheVariants.{ClientRefused}
 use Rattle.sng_book.specs.declared.outcome.Outcome.{Outcome}
 use Rattle.sng_book.specs.declared.outcome.Outcome.TheVariants.{Allowed, Denied}
 use Rattle.sng_history.specs.Causes.{Statement, StatesTopic, StatesMessage, UpdatesTopic, UpdatesMessage}
@@ -179,12 +180,12 @@ refused_waiting a due v x code (m ∷ more) name so is front unawaited shown =
     let full : x.buffer ≡ record { waiting = m ∷ more; exchange = e } =
     ap (λ w. let b : Buffer = record { waiting = w; exchange = e } in b) is in
     let settled : settle x.buffer ≡ idle_with more = ap settle full ∙ rw unawaited refl in
-    subst (λ b. Moved a x.id due (note.Hand x.id m.name (Denied (ClientRefused code))
+    subst (λ b. Moved a x.id due (note.Hand x.id m.name (Denied (Peer (ClientRefused code)))
     ∷ handed_over a.policy (record x { buffer = b })) v x)
     (sym settled)
-    (denied_moved a x.id due (handed_over a.policy y) v x m more e (ClientRefused code) refl
+    (denied_moved a x.id due (handed_over a.policy y) v x m more e (Peer (ClientRefused code)) refl
     so full unawaited shown
-    (λ after. handed_moved a due (come_out v m.name (Denied (ClientRefused code))) y after))
+    (λ after. handed_moved a due (come_out v m.name (Denied (Peer (ClientRefused code)))) y after))
 
 -- the announced front may be refused
 refusable : (a : Around) (v : View) (x : Client) (r : TopicAck) (name : List ℕ)

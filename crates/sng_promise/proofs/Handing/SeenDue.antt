@@ -28,7 +28,9 @@ use Rattle.sng_book.specs.declared.address.Address.{Address}
 use Rattle.sng_book.specs.declared.decision.Decision.{Decision}
 use Rattle.sng_book.specs.declared.decision.Decision.TheVariants as note
 use Rattle.sng_book.specs.declared.outcome.Place.TheVariants as place
-use Rattle.sng_book.specs.declared.outcome.Denial.TheVariants.{Full, BrokerRefused}
+use Rattle.sng_book.specs.declared.outcome.Denial.TheVariants.{Room, Peer}
+use Rattle.sng_book.specs.declared.outcome.RoomDenial.TheVariants.{Full}
+use Rattle.sng_book.specs.declared.outcome.PeerDenial.TheVariants.{BrokerRefused}
 use Rattle.sng_book.specs.declared.outcome.Outcome.{Outcome}
 use Rattle.sng_book.specs.declared.outcome.Outcome.TheVariants.{Allowed, Denied}
 use Rattle.sng_book.specs.declared.event.Event.{Event}
@@ -111,7 +113,7 @@ offered_waits : (id : List ℕ) (m : Message) (known full : Bool) (more : List D
     → is_back id (offered id m known full more) ≡ false
 offered_waits id m true full more rest =
     hand_waits id m.name Allowed (behind m.qos more) refl (behind_waits id m.qos more rest)
-offered_waits id m false true more rest = hand_waits id m.name (Denied (Full place.Ids)) more refl rest
+offered_waits id m false true more rest = hand_waits id m.name (Denied (Room (Full place.Ids))) more refl rest
 offered_waits id m false false more rest = refl
 
 judged_waits : (policy : Policy) (id : List ℕ) (ids : Ids) (m : Message) (o : Outcome) (more : List Decision)
@@ -142,7 +144,8 @@ end_back : (x : Client) (f : Option (List ℕ)) → is_back x.id (refused_end x 
 end_back x None = refl
 end_back x (Some text) = by_holding (holds text x)
   where
-    by_holding : (b : Bool) → is_back x.id (if b then note.End x.id text (Denied BrokerRefused) ∷ [] else [])
+    by_holding : (b : Bool)
+        → is_back x.id (if b then note.End x.id text (Denied (Peer BrokerRefused)) ∷ [] else [])
         ≡ false
     by_holding true = refl
     by_holding false = refl

@@ -5,25 +5,27 @@ use Rattle.std.proofs.Common.{if◌then◌else◌}
 use Rattle.std.specs.Prelude.{◌&&◌, is_some, is_none, Option, Some, None}
 use Rattle.sng_text.specs.declared.qos.Qos.{Qos}
 use Rattle.sng_text.specs.declared.qos.Qos.TheVariants.{AtMostOnce, AtLeastOnce}
-use Rattle.sng_policy.specs.declared.grant.Grant.{Grant}
-use Rattle.sng_policy.specs.declared.grant.Grant.TheVariants as grant
+use Rattle.sng_policy.specs.declared.grant.NameGrant.{NameGrant}
+use Rattle.sng_policy.specs.declared.grant.NameGrant.TheVariants as on_name
+use Rattle.sng_policy.specs.declared.permission.Permission.TheVariants as permission
 use Rattle.sng_policy.specs.Grants.{receive_grant}
 use Rattle.sng_states.specs.States.{takes_messages}
 use Rattle.sng_ids.specs.Ids.{id_for, is_full_for}
 use Rattle.sng_queue.specs.declared.exchange.Exchange.{Exchange}
 use Rattle.sng_queue.specs.Messages.{Message}
 use Rattle.sng_queue.specs.Buffers.{Buffer, nothing, settle}
-use Rattle.sng_outbox.specs.declared.origin.Origin.TheVariants as origin
 use Rattle.sng_grants.specs.declared.policy.Policy.{Policy}
 use Rattle.sng_book.specs.declared.decision.Decision.{Decision}
 use Rattle.sng_book.specs.declared.decision.Decision.TheVariants as note
 use Rattle.sng_book.specs.declared.outcome.Place.TheVariants as place
-use Rattle.sng_book.specs.declared.outcome.Denial.TheVariants.{Full, Gone}
+use Rattle.sng_book.specs.declared.outcome.Denial.TheVariants.{Room, Peer}
+use Rattle.sng_book.specs.declared.outcome.RoomDenial.TheVariants.{Full}
+use Rattle.sng_book.specs.declared.outcome.PeerDenial.TheVariants.{Gone}
 use Rattle.sng_book.specs.declared.outcome.Outcome.{Outcome}
 use Rattle.sng_book.specs.declared.outcome.Outcome.TheVariants.{Allowed, Denied}
 use Rattle.sng_history.specs.Handing.{Known, known_as}
 use Rattle.sng_history.specs.Clients.{Client, Around, handed, note_by}
-use Rattle.sng_history.specs.Verdicts.{outcome_of}
+use Rattle.sng_history.specs.Verdicts.{name_outcome}
 use Rattle.sng_history.specs.Outgoing.{receive, behind, offered, judged_turn, turns, is_free, handed_over}
 use Rattle.sng_history.specs.Outgoing.{all_gone}
 use Rattle.sng_laws.specs.ViewsHanding.{is_refused_at_once}
@@ -79,9 +81,9 @@ offered_moved : (a : Around) (id : List ℕ) (due : List Message) (m : Message) 
 offered_moved a id due m more notes v x (Some known) full knows t =
     known_moved a id due m more notes v x known m.qos knows refl t
 offered_moved a id due m more notes v x None true knows t =
-    denied_moved a id due notes v x m more None (Full place.Ids) refl
+    denied_moved a id due notes v x m more None (Room (Full place.Ids)) refl
     (free_may (occasion_by a.cause) (at v x) (turn_free a id due m more notes v x t)) t.is refl t.shown
-    (t.rest (come_out v m.name (Denied (Full place.Ids))) x.number)
+    (t.rest (come_out v m.name (Denied (Room (Full place.Ids)))) x.number)
 offered_moved a id due m more notes v x None false knows t = announced_moved a id due m more notes v x knows t
 
 -- what the policy denies as a message has its turn
@@ -89,13 +91,11 @@ abbrev pub DeniedByPolicy : Outcome → Type 0
 DeniedByPolicy Allowed = Unit {0}
 DeniedByPolicy (Denied rule) = (by : Occasion) (now : Moment) → may_deny by now ≡ true → IsDeniedSo by rule now
 
-grant_denies : (id name : List ℕ) (g : Grant) → DeniedByPolicy (outcome_of (origin.Client id) name g)
-grant_denies id name grant.Allowed = tt
-grant_denies id name grant.NoScope = λ by now may. may
-grant_denies id name grant.UnknownSource = λ by now may. may
-grant_denies id name grant.MissingPub = λ by now may. tt
-grant_denies id name grant.MissingSub = λ by now may. may
-grant_denies id name (grant.Uncovered gap) = λ by now may. may
+grant_denies : (id name : List ℕ) (g : NameGrant)
+    → DeniedByPolicy (name_outcome permission.Subscribe (Some id) name g)
+grant_denies id name on_name.Allowed = tt
+grant_denies id name on_name.Unlisted = λ by now may. may
+grant_denies id name on_name.Missing = λ by now may. may
 
 pub policy_denies : (policy : Policy) (id name : List ℕ) → DeniedByPolicy (receive policy id name)
 policy_denies policy id name = grant_denies id name (receive_grant policy id name)
@@ -114,14 +114,11 @@ judged_moved a id due m more notes v x (Denied rule) refused denies t =
     (t.rest (come_out v m.name (Denied rule)) x.number)
 
 -- the policy refuses nothing before its turn
-grant_waits : (id name : List ℕ) (g : Grant)
-    → is_refused_at_once (outcome_of (origin.Client id) name g) ≡ false
-grant_waits id name grant.Allowed = refl
-grant_waits id name grant.NoScope = refl
-grant_waits id name grant.UnknownSource = refl
-grant_waits id name grant.MissingPub = refl
-grant_waits id name grant.MissingSub = refl
-grant_waits id name (grant.Uncovered gap) = refl
+grant_waits : (id name : List ℕ) (g : NameGrant)
+    → is_refused_at_once (name_outcome permission.Subscribe (Some id) name g) ≡ false
+grant_waits id name on_name.Allowed = refl
+grant_waits id name on_name.Unlisted = refl
+grant_waits id name on_name.Missing = refl
 
 pub never_refused : (policy : Policy) (id name : List ℕ) → is_refused_at_once (receive policy id name) ≡ false
 never_refused policy id name = grant_waits id name (receive_grant policy id name)
@@ -163,7 +160,7 @@ handed_moved a due v x shown = free_moved a due v x (is_free x) refl shown
 -- ---- what waits is gone
 
 gone_client : (a : Around) (name : List ℕ) (x : Client) → x.buffer ≡ nothing
-    → handed a name (Denied Gone) x ≡ record x { buffer = nothing }
+    → handed a name (Denied (Peer Gone)) x ≡ record x { buffer = nothing }
 gone_client a name x empty = ap (λ b. let y : Client = record x { buffer = settle b } in y) empty
 
 pub gone_moved : (a : Around) (id : List ℕ) (due waiting : List Message) (v : View) (x : Client)
@@ -182,11 +179,12 @@ gone_moved a id due [] v x empty none settling telling given =
       front = rw none tt;
     })
 gone_moved a id due (m ∷ more) v x empty none settling telling given = (
-  denied_step a id m.name Gone v x (ap is_idle none),
-  moved_so a id due (all_gone id more) (view_by a id due (note.Hand id m.name (Denied Gone)) v)
-      (come_out v m.name (Denied Gone))
-      (note_by a (note.Hand id m.name (Denied Gone)) x) (record x { buffer = nothing })
-      (view_denied a id due m.name Gone v refl) (gone_client a m.name x empty)
-      (gone_moved a id due more (come_out v m.name (Denied Gone)) (record x { buffer = nothing }) refl refl
-      (settling_next due v.progress.settled v.settled m more (Denied Gone) settling) telling given),
+  denied_step a id m.name (Peer Gone) v x (ap is_idle none),
+  moved_so a id due (all_gone id more) (view_by a id due (note.Hand id m.name (Denied (Peer Gone))) v)
+      (come_out v m.name (Denied (Peer Gone)))
+      (note_by a (note.Hand id m.name (Denied (Peer Gone))) x) (record x { buffer = nothing })
+      (view_denied a id due m.name (Peer Gone) v refl) (gone_client a m.name x empty)
+      (gone_moved a id due more (come_out v m.name (Denied (Peer Gone))) (record x { buffer = nothing })
+      refl refl
+      (settling_next due v.progress.settled v.settled m more (Denied (Peer Gone)) settling) telling given),
 )

@@ -13,7 +13,9 @@ use Rattle.sng_book.specs.declared.decision.Decision.TheVariants as note
 use Rattle.sng_book.specs.declared.decision.Who.TheVariants as who
 use Rattle.sng_book.specs.declared.outcome.Place.TheVariants as place
 use Rattle.sng_book.specs.declared.outcome.Denial.{Denial}
-use Rattle.sng_book.specs.declared.outcome.Denial.TheVariants.{BrokerRefused, Full, TooLong}
+use Rattle.sng_book.specs.declared.outcome.Denial.TheVariants.{Room, Peer}
+use Rattle.sng_book.specs.declared.outcome.RoomDenial.TheVariants.{Full, TooLong}
+use Rattle.sng_book.specs.declared.outcome.PeerDenial.TheVariants.{BrokerRefused}
 use Rattle.sng_book.specs.declared.outcome.Outcome.{Outcome}
 use Rattle.sng_book.specs.declared.outcome.Outcome.TheVariants.{Allowed, Denied}
 use Rattle.sng_history.specs.Causes.{Cause}
@@ -53,13 +55,14 @@ due_with (Some m) b due = due_by (arrival b m) m due
 
 -- a message that does not wait is refused in its own row
 sendable_by : (full sendable : Bool) (rule : Denial)
-    → (let o : Outcome = if sendable then (if full then Denied (Full place.Queue) else Allowed)
-    else Denied TooLong in o) ≡ Denied rule
+    → (let o : Outcome = if sendable then (if full then Denied (Room (Full place.Queue)) else Allowed)
+    else Denied (Room TooLong) in o) ≡ Denied rule
     → is_turned_away rule ≡ true
 sendable_by true true rule is =
-    let e : Full place.Queue ≡ rule = cc in subst (λ r. is_turned_away r ≡ true) e refl
+    let e : Room (Full place.Queue) ≡ rule = cc in subst (λ r. is_turned_away r ≡ true) e refl
 sendable_by false true rule is = absurd cc
-sendable_by full false rule is = let e : TooLong ≡ rule = cc in subst (λ r. is_turned_away r ≡ true) e refl
+sendable_by full false rule is =
+    let e : Room TooLong ≡ rule = cc in subst (λ r. is_turned_away r ≡ true) e refl
 
 pub refused_rule : (b : Buffer) (m : Message) (rule : Denial) → arrival b m ≡ Denied rule
     → is_turned_away rule ≡ true
@@ -89,8 +92,8 @@ due_shown due v x (Some m) shown = came_shown due v x m (arrival x.buffer m) sho
 -- one that is turned away as a packet comes is noted, which moves nothing
 denied_so : (by : Occasion) (rule : Denial) (now : Moment) → by ≡ AtPacket → is_turned_away rule ≡ true
     → IsDeniedSo by rule now
-denied_so by TooLong now is turned = ap is_at_packet is
-denied_so by (Full place.Queue) now is turned = ap is_at_packet is
+denied_so by (Room TooLong) now is turned = ap is_at_packet is
+denied_so by (Room (Full place.Queue)) now is turned = ap is_at_packet is
 denied_so by rule now is turned = absurd cc
 
 away_by : (a : Around) (id : List ℕ) (due : List Message) (notes : List Decision) (v : View) (x : Client)
@@ -119,7 +122,7 @@ ended_by : (a : Around) (due : List Message) (v : View) (x : Client) (b : Buffer
     (text : List ℕ) (ends : Bool)
     → occasion_by a.cause ≡ AtPacket → Shown due v x
     → Moved a x.id due
-    ((if ends then note.End x.id text (Denied BrokerRefused) ∷ [] else [])
+    ((if ends then note.End x.id text (Denied (Peer BrokerRefused)) ∷ [] else [])
     ++ (turned_away x.id m b ++ handed_over a.policy x)) v x
 ended_by a due v x b m text true comes shown =
     (record { phase = λ m fits. refl; turn = tt }, came_moved a due v (without text x) b m comes shown)

@@ -12,7 +12,8 @@ use Rattle.sng_book.specs.declared.address.Address.{Address}
 use Rattle.sng_book.specs.declared.decision.Decision.TheVariants as note
 use Rattle.sng_book.specs.declared.decision.Who.TheVariants as who
 use Rattle.sng_book.specs.declared.outcome.Denial.{Denial}
-use Rattle.sng_book.specs.declared.outcome.Denial.TheVariants.{NotSupported}
+use Rattle.sng_book.specs.declared.outcome.Denial.TheVariants.{Form}
+use Rattle.sng_book.specs.declared.outcome.FormDenial.TheVariants.{NotSupported}
 use Rattle.sng_book.specs.declared.outcome.Outcome.{Outcome}
 use Rattle.sng_book.specs.declared.outcome.Outcome.TheVariants.{Allowed, Denied}
 use Rattle.sng_history.specs.Causes.{Request, ToPing, ToLeave, ToRegister, ToPublish, ToSubscribe}
@@ -128,9 +129,9 @@ request_moved s from (ToAcknowledge r) due v x shown =
 request_moved s from (ToState statement) due v x shown = statement_moved s from statement due v x shown
 request_moved s from (Untaken message) due v x shown =
     let a = around s (ByMessage from (Untaken message)) in
-    quiet_shown a x.id due (denied_note message (who.Client x.id) NotSupported) v
+    quiet_shown a x.id due (denied_note message (who.Client x.id) (Form NotSupported)) v
     (record x { heard = s.clock })
-    (quiet_denied a x.id due message NotSupported) shown
+    (quiet_denied a x.id due message (Form NotSupported)) shown
 
 pub message_moved : (s : State) (from : Address) (request : Request) (due : List Message) (v : View)
     (x : Client)

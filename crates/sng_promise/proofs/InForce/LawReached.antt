@@ -11,7 +11,8 @@ use Rattle.sng_frames.specs.declared.return_code.TheConstants.ReturnCode.{ACCEPT
 use Rattle.sng_book.specs.declared.address.Address.{Address}
 use Rattle.sng_book.specs.declared.decision.Decision.TheVariants as note
 use Rattle.sng_book.specs.declared.decision.Who.TheVariants as who
-use Rattle.sng_book.specs.declared.outcome.Denial.TheVariants.{BadName}
+use Rattle.sng_book.specs.declared.outcome.Denial.TheVariants.{Form}
+use Rattle.sng_book.specs.declared.outcome.FormDenial.TheVariants.{BadName}
 use Rattle.sng_book.specs.declared.outcome.Outcome.{Outcome}
 use Rattle.sng_book.specs.declared.outcome.Outcome.TheVariants.{Allowed, Denied}
 use Rattle.sng_book.specs.declared.out.Out.{Out}
@@ -127,7 +128,7 @@ dropped_reach true (Some packet_id) = tt
 dropped_reach false (Some packet_id) = tt
 
 delivered_reach : (named place : Bool) (packet_id : Option ℕ)
-    → Reaches false ((if named then [] else Note (note.Frame who.Broker (Denied BadName)) ∷ [])
+    → Reaches false ((if named then [] else Note (note.Frame who.Broker (Denied (Form BadName))) ∷ [])
     ++ dropped place packet_id)
 delivered_reach true place packet_id = dropped_reach place packet_id
 delivered_reach false place packet_id = dropped_reach place packet_id

@@ -20,7 +20,8 @@ use Rattle.sng_book.specs.declared.address.Address.{Address}
 use Rattle.sng_book.specs.declared.decision.Decision.{Decision}
 use Rattle.sng_book.specs.declared.decision.Decision.TheVariants as note
 use Rattle.sng_book.specs.declared.outcome.Denial.{Denial}
-use Rattle.sng_book.specs.declared.outcome.Denial.TheVariants.{NoSession, OutOfTurn}
+use Rattle.sng_book.specs.declared.outcome.Denial.TheVariants.{Form}
+use Rattle.sng_book.specs.declared.outcome.FormDenial.TheVariants.{NoSession, OutOfTurn}
 use Rattle.sng_book.specs.declared.outcome.Outcome.{Outcome}
 use Rattle.sng_book.specs.declared.outcome.Outcome.TheVariants.{Allowed, Denied}
 use Rattle.sng_book.specs.declared.out.Out.{Out}
@@ -109,11 +110,11 @@ farewell_reach (Some request) to =
 
 ping_reach : (to : Address) (client : Option (List ℕ)) (rule : Denial)
     → Reaches false (denied_to (ToPing client) to rule)
-ping_reach to client NoSession = dismissed_reach to
+ping_reach to client (Form NoSession) = dismissed_reach to
 ping_reach to client _ = tt
 
 ended_reach : (to : Address) (rule : Denial) → Reaches false (dialogue_ended to rule)
-ended_reach to OutOfTurn = tt
+ended_reach to (Form OutOfTurn) = tt
 ended_reach to rule = connack_reach to (code_of rule)
 
 stated_reach : (statement : Statement) (to : Address) (rule : Denial)

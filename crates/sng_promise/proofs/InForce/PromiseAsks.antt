@@ -18,8 +18,9 @@ use Rattle.sng_book.specs.declared.decision.Decision.TheVariants as note
 use Rattle.sng_book.specs.declared.decision.Who.{Who}
 use Rattle.sng_book.specs.declared.decision.Who.TheVariants as who
 use Rattle.sng_book.specs.declared.outcome.Denial.{Denial}
-use Rattle.sng_book.specs.declared.outcome.Denial.TheVariants.{NoScope, UnknownSource, BadName, BadFilter}
-use Rattle.sng_book.specs.declared.outcome.Denial.TheVariants.{OutOfTurn}
+use Rattle.sng_book.specs.declared.outcome.Denial.TheVariants.{Form, Grant}
+use Rattle.sng_book.specs.declared.outcome.FormDenial.TheVariants.{BadName, BadFilter, OutOfTurn}
+use Rattle.sng_book.specs.declared.outcome.GrantDenial.TheVariants.{NoScope, UnknownSource}
 use Rattle.sng_book.specs.declared.outcome.Outcome.{Outcome}
 use Rattle.sng_book.specs.declared.outcome.Outcome.TheVariants.{Allowed, Denied}
 use Rattle.sng_history.specs.Clients.{Client}
@@ -65,20 +66,20 @@ normal_form (Some ids) id = told_form id (name_of id ids)
 
 name_form : (policy : Policy) (ids : Option Ids) (type : TopicIdType) (id : ℕ)
     → IsForm (name_in policy ids type id)
-name_form policy ids Short id = form_if (is_name (octets_of id)) (octets_of id) BadName refl
+name_form policy ids Short id = form_if (is_name (octets_of id)) (octets_of id) (Form BadName) refl
 name_form policy ids Predefined id = predefined_form id (topic policy id)
 name_form policy ids Normal id = normal_form ids id
 name_form policy ids Reserved id = refl
 
 text_form : (text : List ℕ) → IsForm (as_filter text)
-text_form text = form_if (is_filter text) text BadFilter refl
+text_form text = form_if (is_filter text) text (Form BadFilter) refl
 
 topic_form : (id : ℕ) (name : Option (List ℕ)) → IsForm (predefined_filter id name)
 topic_form id None = refl
 topic_form id (Some name) = text_form name
 
 short_form : (b : Bool) (text : List ℕ)
-    → (let read : Result (List ℕ) Denial = if b then as_filter text else Err BadName in IsForm read)
+    → (let read : Result (List ℕ) Denial = if b then as_filter text else Err (Form BadName) in IsForm read)
 short_form true text = text_form text
 short_form false text = refl
 
@@ -96,12 +97,12 @@ IsFirst policy whom Allowed = Unit {0}
 IsFirst policy whom (Denied rule) = IsUnread policy whom (Denied rule)
 
 pub listed_first : (policy : Policy) (id : List ℕ) (b : Bool) → lists policy id ≡ b
-    → IsFirst policy (who.Client id) (if b then Allowed else Denied (NoScope id))
+    → IsFirst policy (who.Client id) (if b then Allowed else Denied (Grant (NoScope id)))
 listed_first policy id true is = tt
 listed_first policy id false is = inr (refl, is)
 
 pub turn_first : (policy : Policy) (whom : Who) (b : Bool)
-    → IsFirst policy whom (if b then Allowed else Denied OutOfTurn)
+    → IsFirst policy whom (if b then Allowed else Denied (Form OutOfTurn))
 turn_first policy whom true = tt
 turn_first policy whom false = inl refl
 
@@ -132,7 +133,7 @@ judged_register : (policy : Policy) (x : Client) (text : List ℕ) (may : Outcom
     → IsFirst policy (who.Client x.id) may
     → Stands policy (register_by policy x text may)
 judged_register policy x text Allowed first =
-    read_register policy x (name_given text) (form_if (is_name text) text BadName refl)
+    read_register policy x (name_given text) (form_if (is_name text) text (Form BadName) refl)
 judged_register policy x text (Denied rule) first = first
 
 pub register_stands : (policy : Policy) (x : Client) (text : List ℕ)
@@ -172,7 +173,7 @@ source_stands s ip p = by_listed (lists_source s.policy ip) refl
         → Stands s.policy
         (if b
         then named_ask s ip (name_in s.policy None p.flags.id_type p.topic_id)
-        else note.Publish (who.Source ip) None (Denied UnknownSource))
+        else note.Publish (who.Source ip) None (Denied (Grant UnknownSource)))
     by_listed true is =
         read_source s ip (name_in s.policy None p.flags.id_type p.topic_id)
         (name_form s.policy None p.flags.id_type p.topic_id)
@@ -213,7 +214,7 @@ pub unsubscribe_stands : (policy : Policy) (x : Client) (r : TopicRequest)
 unsubscribe_stands policy x r = by_turn (is_active x.phase)
   where
     by_turn : (active : Bool) → Stands policy
-        (unsubscribe_by policy x r (if active then Allowed else Denied OutOfTurn))
+        (unsubscribe_by policy x r (if active then Allowed else Denied (Form OutOfTurn)))
     by_turn true =
         read_unsubscribe policy x (filter_in policy r.flags.id_type r.topic)
         (filter_form policy r.flags.id_type r.topic)

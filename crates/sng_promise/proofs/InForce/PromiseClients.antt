@@ -14,8 +14,9 @@ use Rattle.sng_book.specs.declared.decision.Decision.{Decision}
 use Rattle.sng_book.specs.declared.decision.Decision.TheVariants as note
 use Rattle.sng_book.specs.declared.decision.Who.{Who}
 use Rattle.sng_book.specs.declared.decision.Who.TheVariants as who
-use Rattle.sng_book.specs.declared.outcome.Denial.TheVariants.{NotSupported, NoSession, OutOfTurn}
-use Rattle.sng_book.specs.declared.outcome.Denial.TheVariants.{BrokerRefused}
+use Rattle.sng_book.specs.declared.outcome.Denial.TheVariants.{Form, Peer}
+use Rattle.sng_book.specs.declared.outcome.FormDenial.TheVariants.{NotSupported, NoSession, OutOfTurn}
+use Rattle.sng_book.specs.declared.outcome.PeerDenial.TheVariants.{BrokerRefused}
 use Rattle.sng_book.specs.declared.outcome.Outcome.{Outcome}
 use Rattle.sng_book.specs.declared.outcome.Outcome.TheVariants.{Allowed, Denied}
 use Rattle.sng_history.specs.Causes.{Request, ToPing, ToLeave, ToSleep, ToRegister, ToPublish, ToSubscribe}
@@ -63,7 +64,7 @@ every_either policy false xs ys one two = two
 -- ---- what is no ask
 
 pub untaken_stands : (policy : Policy) (message : SnFrame) (whom : Who)
-    → Stands policy (denied_note message whom NotSupported)
+    → Stands policy (denied_note message whom (Form NotSupported))
 untaken_stands policy (frame.Register r) whom = inl refl
 untaken_stands policy (frame.Publish p) whom = inl refl
 untaken_stands policy (frame.Subscribe r) whom = inl refl
@@ -80,7 +81,7 @@ every_turn policy id = ((refl, refl), tt)
 -- a PINGREQ that is denied
 every_ping : (policy : Policy) (id : List ℕ) (other : Bool) (turn : Bool)
     → Every (Stands policy) (denial_of id
-    (if other then Denied NoSession else (if turn then Allowed else Denied OutOfTurn)))
+    (if other then Denied (Form NoSession) else (if turn then Allowed else Denied (Form OutOfTurn))))
 every_ping policy id true turn = ((refl, refl), tt)
 every_ping policy id false true = tt
 every_ping policy id false false = ((refl, refl), tt)
@@ -192,7 +193,7 @@ every_refused : (policy : Policy) (x : Client) (text : Option (List ℕ))
     → Every (Stands policy) (refused_end x text)
 every_refused policy x None = tt
 every_refused policy x (Some text) =
-    every_if (Stands policy) (holds text x) (note.End x.id text (Denied BrokerRefused) ∷ []) (tt, tt)
+    every_if (Stands policy) (holds text x) (note.End x.id text (Denied (Peer BrokerRefused)) ∷ []) (tt, tt)
 
 -- ---- a tick
 

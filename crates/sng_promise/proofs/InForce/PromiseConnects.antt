@@ -7,7 +7,10 @@ use Rattle.sng_policy.specs.Grants.{lists}
 use Rattle.sng_frames.specs.declared.messages.connect.Connect.{Connect}
 use Rattle.sng_book.specs.declared.decision.Decision.TheVariants as note
 use Rattle.sng_book.specs.declared.outcome.Place.TheVariants as place
-use Rattle.sng_book.specs.declared.outcome.Denial.TheVariants.{NotSupported, NoScope, Full}
+use Rattle.sng_book.specs.declared.outcome.Denial.TheVariants.{Form, Grant, Room}
+use Rattle.sng_book.specs.declared.outcome.FormDenial.TheVariants.{NotSupported}
+use Rattle.sng_book.specs.declared.outcome.GrantDenial.TheVariants.{NoScope}
+use Rattle.sng_book.specs.declared.outcome.RoomDenial.TheVariants.{Full}
 use Rattle.sng_book.specs.declared.outcome.Outcome.TheVariants.{Allowed, Denied}
 use Rattle.sng_history.specs.declared.limits.TheConstants.{MAX_CLIENTS}
 use Rattle.sng_history.specs.Clients.{Client}
@@ -19,9 +22,9 @@ use Rattle.sng_history.proofs.Own.{same_means}
 -- the form, then the policy, then room
 may_connect : (policy : Policy) (id : List ℕ) (form listed roomy : Bool) → lists policy id ≡ listed
     → MayConnect policy id
-    (and_then (if form then Allowed else Denied NotSupported)
-    (and_then (if listed then Allowed else Denied (NoScope id))
-    (if roomy then Allowed else Denied (Full place.Clients))))
+    (and_then (if form then Allowed else Denied (Form NotSupported))
+    (and_then (if listed then Allowed else Denied (Grant (NoScope id)))
+    (if roomy then Allowed else Denied (Room (Full place.Clients)))))
 may_connect policy id false listed roomy is = inl refl
 may_connect policy id true false roomy is = inr (refl, is)
 may_connect policy id true true true is = is

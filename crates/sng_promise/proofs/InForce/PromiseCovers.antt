@@ -13,11 +13,13 @@ use Rattle.sng_cover.specs.declared.answer.Cover.TheVariants as cover
 use Rattle.sng_policy.specs.Grants.{lists, is_granted, grant_by, grant_of_cover, subscribe_grant}
 use Rattle.sng_policy.specs.Laws.{HasFilters}
 use Rattle.sng_policy.specs.declared.permission.Permission.TheVariants.{Subscribe}
-use Rattle.sng_policy.specs.declared.grant.Grant.TheVariants as grant
+use Rattle.sng_policy.specs.declared.grant.NameGrant.TheVariants as on_name
 use Rattle.sng_policy.proofs.SubscriptionLemmas.{subscribing_is_receiving}
 use Rattle.sng_book.specs.declared.decision.Who.TheVariants as who
 use Rattle.sng_book.specs.declared.outcome.Place.TheVariants as place
-use Rattle.sng_book.specs.declared.outcome.Denial.TheVariants.{NoScope, Uncovered, UpstreamDown, Full}
+use Rattle.sng_book.specs.declared.outcome.Denial.TheVariants.{Grant, Room}
+use Rattle.sng_book.specs.declared.outcome.GrantDenial.TheVariants.{NoScope, Uncovered}
+use Rattle.sng_book.specs.declared.outcome.RoomDenial.TheVariants.{UpstreamDown, Full}
 use Rattle.sng_book.specs.declared.outcome.Outcome.{Outcome}
 use Rattle.sng_book.specs.declared.outcome.Outcome.TheVariants.{Allowed, Denied}
 use Rattle.sng_history.specs.Verdicts.{and_then, filter_outcome, coverage}
@@ -26,22 +28,22 @@ use Rattle.sng_laws.specs.LawsPromise.{IsIncluded, IsGap, MaySubscribe, MayEnd}
 
 -- ---- what may be received
 
-granted_name : (b : Bool) → (if b then grant.Allowed else grant.MissingSub) ≡ grant.Allowed → b ≡ true
+granted_name : (b : Bool) → (if b then on_name.Allowed else on_name.Missing) ≡ on_name.Allowed → b ≡ true
 granted_name true is = refl
 granted_name false is = absurd cc
 
-missing_name : (b : Bool) → (if b then grant.Allowed else grant.MissingSub) ≡ grant.MissingSub → b ≡ false
+missing_name : (b : Bool) → (if b then on_name.Allowed else on_name.Missing) ≡ on_name.Missing → b ≡ false
 missing_name true is = absurd cc
 missing_name false is = refl
 
 received : (scope : Option (List Pair)) (name : List ℕ)
-    → grant_by Subscribe grant.NoScope grant.MissingSub scope name ≡ grant.Allowed
+    → grant_by Subscribe scope name ≡ on_name.Allowed
     → may_receive scope name ≡ true
 received None name is = absurd cc
 received (Some pairs) name is = granted_name (is_granted Subscribe pairs name) is
 
 unreceived : (scope : Option (List Pair)) (name : List ℕ)
-    → grant_by Subscribe grant.NoScope grant.MissingSub scope name ≡ grant.MissingSub
+    → grant_by Subscribe scope name ≡ on_name.Missing
     → may_receive scope name ≡ false
 unreceived None name is = refl
 unreceived (Some pairs) name is = missing_name (is_granted Subscribe pairs name) is
@@ -51,9 +53,9 @@ unreceived (Some pairs) name is = missing_name (is_granted Subscribe pairs name)
 -- it allows what is included, and denies for want of a scope, or with a gap
 record Answers (policy : Policy) (id text : List ℕ) (P : Outcome → Type 0) : Type 0 where
   included : IsIncluded policy id text → P Allowed
-  unlisted : lists policy id ≡ false → P (Denied (NoScope id))
+  unlisted : lists policy id ≡ false → P (Denied (Grant (NoScope id)))
   uncovered : (gap : List ℕ) → (HasFilters (scope_of policy.clients id) → IsGap policy id text gap)
-      → P (Denied (Uncovered text gap))
+      → P (Denied (Grant (Uncovered text gap)))
 
 -- what the client's scope covers, where it has one
 by_cover : (policy : Policy) (id text : List ℕ) (P : Outcome → Type 0) (pairs : List Pair) (answer : Cover)
@@ -122,10 +124,10 @@ ends policy id text is =
 room_kept : (policy : Policy) (id text : List ℕ) (up ids full fits : Bool) → IsIncluded policy id text
     → Says policy id text
     (if up then
-    (if ids then Denied (Full place.Ids) else
-    (if full then Denied (Full place.Subscriptions)
-    else (if fits then Allowed else Denied (Full place.Outbox))))
-    else Denied UpstreamDown)
+    (if ids then Denied (Room (Full place.Ids)) else
+    (if full then Denied (Room (Full place.Subscriptions))
+    else (if fits then Allowed else Denied (Room (Full place.Outbox)))))
+    else Denied (Room UpstreamDown))
 room_kept policy id text false ids full fits included = included
 room_kept policy id text true true full fits included = included
 room_kept policy id text true false true fits included = included
@@ -137,9 +139,9 @@ pub covers_first : (policy : Policy) (id text : List ℕ) (verdict : Outcome) (u
     → Says policy id text
     (and_then verdict
     (if up then
-    (if ids then Denied (Full place.Ids) else
-    (if full then Denied (Full place.Subscriptions)
-    else (if fits then Allowed else Denied (Full place.Outbox))))
-    else Denied UpstreamDown))
+    (if ids then Denied (Room (Full place.Ids)) else
+    (if full then Denied (Room (Full place.Subscriptions))
+    else (if fits then Allowed else Denied (Room (Full place.Outbox)))))
+    else Denied (Room UpstreamDown)))
 covers_first policy id text Allowed up ids full fits says = room_kept policy id text up ids full fits says
 covers_first policy id text (Denied rule) up ids full fits says = says

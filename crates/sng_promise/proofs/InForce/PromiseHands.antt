@@ -16,7 +16,9 @@ use Rattle.sng_frames.specs.declared.messages.acks.TopicAck.{TopicAck}
 use Rattle.sng_book.specs.declared.decision.Decision.{Decision}
 use Rattle.sng_book.specs.declared.outcome.Place.TheVariants as place
 use Rattle.sng_book.specs.declared.outcome.Denial.{Denial}
-use Rattle.sng_book.specs.declared.outcome.Denial.TheVariants.{NoScope, MissingSub, Full, TooLong}
+use Rattle.sng_book.specs.declared.outcome.Denial.TheVariants.{Grant, Room}
+use Rattle.sng_book.specs.declared.outcome.GrantDenial.TheVariants.{NoScope, MissingSub}
+use Rattle.sng_book.specs.declared.outcome.RoomDenial.TheVariants.{Full, TooLong}
 use Rattle.sng_book.specs.declared.outcome.Outcome.{Outcome}
 use Rattle.sng_book.specs.declared.outcome.Outcome.TheVariants.{Allowed, Denied}
 use Rattle.sng_history.specs.Arriving.{joins, turned_away_by, turned_away}
@@ -43,8 +45,9 @@ AsDenied policy id name (Denied rule) = IsDenial policy id name rule
 
 denial_by : (policy : Policy) (id name : List ℕ) (unlisted unmatched : Bool)
     → judged (receive_rules policy id name)
-    ≡ judged ((unlisted, NoScope id) ∷ (unmatched, MissingSub name) ∷ [])
-    → AsDenied policy id name (judged ((unlisted, NoScope id) ∷ (unmatched, MissingSub name) ∷ []))
+    ≡ judged ((unlisted, Grant (NoScope id)) ∷ (unmatched, Grant (MissingSub name)) ∷ [])
+    → AsDenied policy id name (judged ((unlisted, Grant (NoScope id))
+    ∷ (unmatched, Grant (MissingSub name)) ∷ []))
 denial_by policy id name true unmatched is = is
 denial_by policy id name false true is = is
 denial_by policy id name false false is = tt
@@ -109,8 +112,9 @@ every_away policy id (Some m) b =
   where
     away_by : (sendable full : Bool)
         → Every (Stands policy)
-        (turned_away_by id m.name (if sendable then (if full then Denied (Full place.Queue) else Allowed)
-        else Denied TooLong))
+        (turned_away_by id m.name (if sendable
+        then (if full then Denied (Room (Full place.Queue)) else Allowed)
+        else Denied (Room TooLong)))
     away_by true true = (tt, tt)
     away_by true false = tt
     away_by false full = (tt, tt)

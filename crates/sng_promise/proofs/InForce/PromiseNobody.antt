@@ -14,7 +14,8 @@ use Rattle.sng_book.specs.Whom.{who_of}
 use Rattle.sng_book.specs.declared.address.Address.{Address}
 use Rattle.sng_book.specs.declared.decision.Decision.TheVariants as note
 use Rattle.sng_book.specs.declared.decision.Who.TheVariants as who
-use Rattle.sng_book.specs.declared.outcome.Denial.TheVariants.{BadName}
+use Rattle.sng_book.specs.declared.outcome.Denial.TheVariants.{Form}
+use Rattle.sng_book.specs.declared.outcome.FormDenial.TheVariants.{BadName}
 use Rattle.sng_book.specs.declared.outcome.Outcome.{Outcome}
 use Rattle.sng_book.specs.declared.outcome.Outcome.TheVariants.{Allowed, Denied}
 use Rattle.sng_book.specs.declared.out.Out.TheVariants.{Note}
@@ -155,7 +156,8 @@ each_dropped policy true (Some packet_id) = tt
 each_dropped policy false (Some packet_id) = (tt, tt)
 
 each_delivered : (policy : Policy) (named place : Bool) (packet_id : Option ℕ)
-    → EachNote (Stands policy) ((if named then [] else Note (note.Frame who.Broker (Denied BadName)) ∷ [])
+    → EachNote (Stands policy) ((if named then [] else Note (note.Frame who.Broker (Denied (Form BadName)))
+    ∷ [])
     ++ dropped place packet_id)
 each_delivered policy true place packet_id = each_dropped policy place packet_id
 each_delivered policy false place packet_id = ((refl, refl), each_dropped policy place packet_id)

@@ -9,8 +9,9 @@ use Rattle.sng_outbox.specs.declared.origin.Origin.{Origin}
 use Rattle.sng_outbox.specs.declared.origin.Origin.TheVariants as origin
 use Rattle.sng_book.specs.declared.outcome.Place.TheVariants as place
 use Rattle.sng_book.specs.declared.outcome.Denial.{Denial}
-use Rattle.sng_book.specs.declared.outcome.Denial.TheVariants.{NoScope, UnknownSource, MissingPub}
-use Rattle.sng_book.specs.declared.outcome.Denial.TheVariants.{UpstreamDown, Full}
+use Rattle.sng_book.specs.declared.outcome.Denial.TheVariants.{Grant, Room}
+use Rattle.sng_book.specs.declared.outcome.GrantDenial.TheVariants.{NoScope, UnknownSource, MissingPub}
+use Rattle.sng_book.specs.declared.outcome.RoomDenial.TheVariants.{UpstreamDown, Full}
 use Rattle.sng_book.specs.declared.outcome.Outcome.{Outcome}
 use Rattle.sng_book.specs.declared.outcome.Outcome.TheVariants.{Allowed, Denied}
 use Rattle.sng_history.specs.Links.{Link}
@@ -45,10 +46,12 @@ pub publish_own : (policy : Policy) (asker : Origin) (name : List ℕ)
     → IsOwn (judged (publish_rules policy asker name))
 publish_own policy (origin.Client id) name =
     let scope = scope_of policy.clients id in
-    two_own (not (is_some scope)) (not (may_publish scope name)) (NoScope id) (MissingPub name) refl refl
+    two_own (not (is_some scope)) (not (may_publish scope name)) (Grant (NoScope id))
+    (Grant (MissingPub name)) refl refl
 publish_own policy (origin.Source ip) name =
     let scope = scope_of policy.sources ip in
-    two_own (not (is_some scope)) (not (may_publish scope name)) UnknownSource (MissingPub name) refl refl
+    two_own (not (is_some scope)) (not (may_publish scope name)) (Grant UnknownSource)
+    (Grant (MissingPub name)) refl refl
 
 -- ---- room
 
@@ -59,14 +62,14 @@ room_if false o rule one two = two
 
 pub link_room : (link : Link) (q : Qos) → IsRoom (room_in link q)
 link_room link q =
-    room_if (has_flight link q) (if has_place link then Allowed else Denied (Full place.Outbox))
-    (Full place.InFlight)
-    (room_if (has_place link) Allowed (Full place.Outbox) tt refl) refl
+    room_if (has_flight link q) (if has_place link then Allowed else Denied (Room (Full place.Outbox)))
+    (Room (Full place.InFlight))
+    (room_if (has_place link) Allowed (Room (Full place.Outbox)) tt refl) refl
 
 pub publish_room : (s : State) (q : Qos) → IsRoom (room s q)
-publish_room s q = room_if s.up (room_in s.link q) UpstreamDown (link_room s.link q) refl
+publish_room s q = room_if s.up (room_in s.link q) (Room UpstreamDown) (link_room s.link q) refl
 
-ids_room : (b : Bool) → IsRoom (if b then Denied (Full place.Ids) else Allowed)
+ids_room : (b : Bool) → IsRoom (if b then Denied (Room (Full place.Ids)) else Allowed)
 ids_room true = refl
 ids_room false = tt
 

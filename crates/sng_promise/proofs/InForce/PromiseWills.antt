@@ -10,7 +10,8 @@ use Rattle.sng_outbox.specs.declared.origin.Origin.TheVariants as origin
 use Rattle.sng_book.specs.Denials.{is_allowed}
 use Rattle.sng_book.specs.declared.decision.Who.{Who}
 use Rattle.sng_book.specs.declared.decision.Who.TheVariants as who
-use Rattle.sng_book.specs.declared.outcome.Denial.TheVariants.{BadName}
+use Rattle.sng_book.specs.declared.outcome.Denial.TheVariants.{Form}
+use Rattle.sng_book.specs.declared.outcome.FormDenial.TheVariants.{BadName}
 use Rattle.sng_book.specs.declared.outcome.Outcome.{Outcome}
 use Rattle.sng_book.specs.declared.outcome.Outcome.TheVariants.{Allowed, Denied}
 use Rattle.sng_history.specs.Causes.{Statement, StatesTopic, StatesMessage, UpdatesTopic, UpdatesMessage}
@@ -44,7 +45,7 @@ statement_first policy (UpdatesMessage message) x =
     (turn_first policy (who.Client x.id) (is_some x.wills.will))
 
 name_first : (policy : Policy) (whom : Who) (b : Bool)
-    → IsFirst policy whom (if b then Allowed else Denied BadName)
+    → IsFirst policy whom (if b then Allowed else Denied (Form BadName))
 name_first policy whom true = tt
 name_first policy whom false = inl refl
 

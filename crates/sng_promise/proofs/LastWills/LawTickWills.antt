@@ -14,7 +14,8 @@ use Rattle.sng_outbox.specs.declared.origin.Origin.TheVariants as origin
 use Rattle.sng_outbox.specs.declared.limits.TheConstants.{MAX_IN_FLIGHT, MAX_OUTBOX_ITEMS}
 use Rattle.sng_book.specs.Denials.{is_allowed}
 use Rattle.sng_book.specs.declared.outcome.Place.TheVariants as place
-use Rattle.sng_book.specs.declared.outcome.Denial.TheVariants.{Full}
+use Rattle.sng_book.specs.declared.outcome.Denial.TheVariants.{Room}
+use Rattle.sng_book.specs.declared.outcome.RoomDenial.TheVariants.{Full}
 use Rattle.sng_book.specs.declared.outcome.Outcome.{Outcome}
 use Rattle.sng_book.specs.declared.outcome.Outcome.TheVariants.{Allowed, Denied}
 use Rattle.sng_book.specs.declared.row.Row.{Row}
@@ -66,14 +67,15 @@ waiting_load h link flights =
     flights
 
 place_by : (r : Bool)
-    → (if r then Allowed else Denied (Full place.Outbox))
-    ≡ judged ((false, Full place.InFlight) ∷ (not r, Full place.Outbox) ∷ [])
+    → (if r then Allowed else Denied (Room (Full place.Outbox)))
+    ≡ judged ((false, Room (Full place.InFlight)) ∷ (not r, Room (Full place.Outbox)) ∷ [])
 place_by true = refl
 place_by false = refl
 
 room_both : (f r : Bool)
-    → (if f then (if r then Allowed else Denied (Full place.Outbox)) else Denied (Full place.InFlight))
-    ≡ judged ((not f, Full place.InFlight) ∷ (not r, Full place.Outbox) ∷ [])
+    → (if f then (if r then Allowed else Denied (Room (Full place.Outbox)))
+    else Denied (Room (Full place.InFlight)))
+    ≡ judged ((not f, Room (Full place.InFlight)) ∷ (not r, Room (Full place.Outbox)) ∷ [])
 room_both true true = refl
 room_both true false = refl
 room_both false r = refl
@@ -85,15 +87,15 @@ room_at : (h : List Row) (link : Link) (q : Qos) → Crowds h link
       is_at_least_once q
           && not (nat_lt (length (filter (λ one. is_at_least_once one.qos) (publications link.waiting))
           + length (in_flight h)) MAX_IN_FLIGHT),
-      Full place.InFlight,
+      Room (Full place.InFlight),
     )
-    ∷ (not (nat_lt (length link.waiting) MAX_OUTBOX_ITEMS), Full place.Outbox)
+    ∷ (not (nat_lt (length link.waiting) MAX_OUTBOX_ITEMS), Room (Full place.Outbox))
     ∷ [])
 room_at h link AtMostOnce flights = place_by (nat_lt (length link.waiting) MAX_OUTBOX_ITEMS)
 room_at h link AtLeastOnce flights =
     let free = nat_lt (length link.waiting) MAX_OUTBOX_ITEMS in
-    ap (λ n. if nat_lt n MAX_IN_FLIGHT then (if free then Allowed else Denied (Full place.Outbox))
-    else Denied (Full place.InFlight))
+    ap (λ n. if nat_lt n MAX_IN_FLIGHT then (if free then Allowed else Denied (Room (Full place.Outbox)))
+    else Denied (Room (Full place.InFlight)))
     (waiting_load h link flights)
     ∙ room_both (nat_lt (length (filter (λ one. is_at_least_once one.qos) (publications link.waiting))
     + length (in_flight h)) MAX_IN_FLIGHT) free

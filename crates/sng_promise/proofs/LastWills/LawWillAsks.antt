@@ -16,7 +16,9 @@ use Rattle.sng_book.specs.declared.address.Address.{Address}
 use Rattle.sng_book.specs.declared.decision.Decision.TheVariants as note
 use Rattle.sng_book.specs.declared.decision.Who.TheVariants as who
 use Rattle.sng_book.specs.declared.outcome.Denial.{Denial}
-use Rattle.sng_book.specs.declared.outcome.Denial.TheVariants.{NoScope, BadName, OutOfTurn}
+use Rattle.sng_book.specs.declared.outcome.Denial.TheVariants.{Form, Grant}
+use Rattle.sng_book.specs.declared.outcome.FormDenial.TheVariants.{BadName, OutOfTurn}
+use Rattle.sng_book.specs.declared.outcome.GrantDenial.TheVariants.{NoScope}
 use Rattle.sng_book.specs.declared.outcome.Outcome.{Outcome}
 use Rattle.sng_book.specs.declared.outcome.Outcome.TheVariants.{Allowed, Denied}
 use Rattle.sng_book.specs.declared.row.Row.{Row}
@@ -135,8 +137,8 @@ topic_judged policy id (Some text) =
     (may_publish (scope_of policy.clients id) text) refl refl refl
 
 both_read : (id : List ℕ) (l n : Bool)
-    → is_allowed (and_then (if l then Allowed else Denied (NoScope id))
-    (if n then Allowed else Denied BadName)) ≡ (l && n)
+    → is_allowed (and_then (if l then Allowed else Denied (Grant (NoScope id)))
+    (if n then Allowed else Denied (Form BadName))) ≡ (l && n)
 both_read id true true = refl
 both_read id true false = refl
 both_read id false n = refl
@@ -150,7 +152,8 @@ read_shown policy id (Some text) = both_read id (lists policy id) (is_name text)
 
 verdict_by : (policy : Policy) (x : Client) (statement : Statement) (has : Bool) (topic : Option (List ℕ))
     → statement_turn statement x ≡ turn has → (has ≡ true → topic_at statement x ≡ topic)
-    → statement_verdict policy statement x ≡ judged ((not has, OutOfTurn) ∷ topic_rules policy x.id topic)
+    → statement_verdict policy statement x
+    ≡ judged ((not has, Form OutOfTurn) ∷ topic_rules policy x.id topic)
 verdict_by policy x statement false topic is same = rw is refl
 verdict_by policy x statement true topic is same = rw (is, same refl) (topic_judged policy x.id topic)
 
@@ -162,7 +165,7 @@ verdict_shown h s x statement state shown =
     (turn_shown h x statement shown)
     (topic_shown h x statement shown)
     ∙ ap (λ policy. judged
-    ((not (has_turn h x.id statement), OutOfTurn) ∷ topic_rules policy x.id (topic_of h x.id statement)))
+    ((not (has_turn h x.id statement), Form OutOfTurn) ∷ topic_rules policy x.id (topic_of h x.id statement)))
     state.policy
 
 object_by : (policy : Policy) (x : Client) (statement : Statement) (has : Bool) (topic : Option (List ℕ))
@@ -200,8 +203,8 @@ ask_shown h s x statement state shown =
 
 ended_same : (to : Address) (rule : Denial)
     → dialogue_ended to rule ≡ (if is_out_of_turn rule then [] else connack_to to (code_for rule) ∷ [])
-ended_same to OutOfTurn = refl
-ended_same to rule = refl
+ended_same to (Form OutOfTurn) = refl
+ended_same to rule = ap (λ code. connack_to to code ∷ []) (code_same rule)
 
 pub replied_same : (from : Address) (statement : Statement) (y : Client) (name : Option (List ℕ))
     (o : Outcome)

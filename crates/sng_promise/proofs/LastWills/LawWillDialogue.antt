@@ -18,7 +18,10 @@ use Rattle.sng_book.specs.declared.address.Address.{Address}
 use Rattle.sng_book.specs.declared.decision.Decision.{Decision}
 use Rattle.sng_book.specs.declared.decision.Decision.TheVariants as note
 use Rattle.sng_book.specs.declared.outcome.Denial.{Denial}
-use Rattle.sng_book.specs.declared.outcome.Denial.TheVariants.{NoScope, BadName, MissingPub, OutOfTurn, Gone}
+use Rattle.sng_book.specs.declared.outcome.Denial.TheVariants.{Form, Grant, Peer}
+use Rattle.sng_book.specs.declared.outcome.FormDenial.TheVariants.{BadName, OutOfTurn}
+use Rattle.sng_book.specs.declared.outcome.GrantDenial.TheVariants.{NoScope, MissingPub}
+use Rattle.sng_book.specs.declared.outcome.PeerDenial.TheVariants.{Gone}
 use Rattle.sng_book.specs.declared.outcome.Outcome.{Outcome}
 use Rattle.sng_book.specs.declared.outcome.Outcome.TheVariants.{Allowed, Denied}
 use Rattle.sng_book.specs.declared.out.Out.{Out}
@@ -76,15 +79,17 @@ in_dialogue_turn h x b shown is =
     ap is_in_dialogue (sym shown.phase) ∙ left_holds (is_in_dialogue (phase_of x.id h)) b is
 
 abbrev gone_notes : List ℕ → List Message → List Out
-gone_notes id waiting = map (λ m. Note (note.Hand id m.name (Denied Gone))) waiting
+gone_notes id waiting = map (λ m. Note (note.Hand id m.name (Denied (Peer Gone)))) waiting
 
 -- no rule about the topic is one of turn
 rule_by : (l n g : Bool) (id text : List ℕ) (rule : Denial)
-    → judged ((not l, NoScope id) ∷ (not n, BadName) ∷ (not g, MissingPub text) ∷ []) ≡ Denied rule
+    → judged ((not l, Grant (NoScope id)) ∷ (not n, Form BadName) ∷ (not g, Grant (MissingPub text)) ∷ [])
+    ≡ Denied rule
     → is_out_of_turn rule ≡ false
-rule_by false n g id text rule is = (let e : NoScope id ≡ rule = cc in ap is_out_of_turn (sym e))
-rule_by true false g id text rule is = (let e : BadName ≡ rule = cc in ap is_out_of_turn (sym e))
-rule_by true true false id text rule is = (let e : MissingPub text ≡ rule = cc in ap is_out_of_turn (sym e))
+rule_by false n g id text rule is = (let e : Grant (NoScope id) ≡ rule = cc in ap is_out_of_turn (sym e))
+rule_by true false g id text rule is = (let e : Form BadName ≡ rule = cc in ap is_out_of_turn (sym e))
+rule_by true true false id text rule is =
+    (let e : Grant (MissingPub text) ≡ rule = cc in ap is_out_of_turn (sym e))
 rule_by true true true id text rule is = absurd cc
 
 rule_in_turn : (policy : Policy) (id : List ℕ) (topic : Option (List ℕ)) (rule : Denial)
@@ -196,13 +201,13 @@ pub denied_follows : (h : List Row) (s : State) (from : Address) (statement : St
     (dropped : List Release)
     (x : Client) (has : Bool)
     (policy : Policy) (topic : Option (List ℕ)) (rule : Denial)
-    → judged ((not has, OutOfTurn) ∷ topic_rules policy x.id topic) ≡ Denied rule → ClientShown h x
+    → judged ((not has, Form OutOfTurn) ∷ topic_rules policy x.id topic) ≡ Denied rule → ClientShown h x
     → is_drained x ≡ false
     → let_out (by_cause s (ByMessage from (ToState statement))) dropped (heard_if true s.clock x)
     (goes_on s.policy statement x has (Denied rule))
     ≡ broken_off h x.id rule
 denied_follows h s from statement dropped x false policy topic rule is shown busy =
-    let same : OutOfTurn ≡ rule = cc in
+    let same : Form OutOfTurn ≡ rule = cc in
     settled [] (heard_if true s.clock x) busy ∙ ap (broken_off h x.id) same
 denied_follows h s from statement dropped x true policy topic rule is shown busy =
     broken_let_out h s from statement dropped x (heard_if true s.clock x) rule refl

@@ -8,7 +8,8 @@ use Rattle.sng_frames.specs.declared.messages.will.WillTopic.{WillTopic}
 use Rattle.sng_book.specs.declared.address.Address.{Address}
 use Rattle.sng_book.specs.declared.decision.Decision.TheVariants as note
 use Rattle.sng_book.specs.declared.decision.Who.TheVariants as who
-use Rattle.sng_book.specs.declared.outcome.Denial.TheVariants.{OutOfTurn}
+use Rattle.sng_book.specs.declared.outcome.Denial.TheVariants.{Form}
+use Rattle.sng_book.specs.declared.outcome.FormDenial.TheVariants.{OutOfTurn}
 use Rattle.sng_book.specs.declared.outcome.Outcome.{Outcome}
 use Rattle.sng_book.specs.declared.outcome.Outcome.TheVariants.{Allowed, Denied}
 use Rattle.sng_book.specs.declared.out.Out.TheVariants.{Note}
@@ -49,7 +50,8 @@ use Rattle.sng_promise.proofs.LastWills.LawWillDialogue.{goes_on_shown}
 abbrev FollowsBy : List Row → State → Address → Statement → List Release → Client → Bool → Outcome → Type 0
 FollowsBy h s from statement dropped x has o =
     has_turn h x.id statement ≡ has
-    → judged ((not has, OutOfTurn) ∷ topic_rules (policy_in_force h) x.id (topic_of h x.id statement)) ≡ o
+    → judged ((not has, Form OutOfTurn) ∷ topic_rules (policy_in_force h) x.id (topic_of h x.id statement))
+    ≡ o
     → let_out (by_cause s (ByMessage from (ToState statement))) dropped
     (stated_by (Some statement) o (heard_if true s.clock x))
     (goes_on s.policy statement x has o)

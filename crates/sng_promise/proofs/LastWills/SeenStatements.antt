@@ -14,7 +14,9 @@ use Rattle.sng_book.specs.declared.decision.Decision.TheVariants as note
 use Rattle.sng_book.specs.declared.decision.Who.{Who}
 use Rattle.sng_book.specs.declared.decision.Who.TheVariants as who
 use Rattle.sng_book.specs.declared.outcome.Denial.{Denial}
-use Rattle.sng_book.specs.declared.outcome.Denial.TheVariants.{NotSupported, BrokerRefused}
+use Rattle.sng_book.specs.declared.outcome.Denial.TheVariants.{Form, Peer}
+use Rattle.sng_book.specs.declared.outcome.FormDenial.TheVariants.{NotSupported}
+use Rattle.sng_book.specs.declared.outcome.PeerDenial.TheVariants.{BrokerRefused}
 use Rattle.sng_book.specs.declared.outcome.Outcome.{Outcome}
 use Rattle.sng_book.specs.declared.outcome.Outcome.TheVariants.{Allowed, Denied}
 use Rattle.sng_history.specs.Causes.{Statement, StatesTopic, StatesMessage, UpdatesTopic, UpdatesMessage}
@@ -158,8 +160,8 @@ pub keeps_refused : (a : Around) (m : Option Spoken) (id : List ℕ) (x : Client
     → Every (Keeps a m id) (refused_end x text)
 keeps_refused a m id x None = tt
 keeps_refused a m id x (Some text) =
-    every_if (Keeps a m id) (holds text x) (note.End x.id text (Denied BrokerRefused) ∷ [])
-    (keeps_end a m id x.id text (Denied BrokerRefused), tt)
+    every_if (Keeps a m id) (holds text x) (note.End x.id text (Denied (Peer BrokerRefused)) ∷ [])
+    (keeps_end a m id x.id text (Denied (Peer BrokerRefused)), tt)
 
 keeps_still : (a : Around) (m : Option Spoken) (id : List ℕ) (message : SnFrame) (whom : Who) (rule : Denial)
     → Keeps a m id (denied_note message whom rule)
@@ -219,7 +221,8 @@ keeps_to s a m (ToAcknowledge r) x none =
     keeps_answered a m x.id (handed_over s.policy (closed x)) (is_acknowledging r x)
     (every_handed (Keeps a m x.id) s.policy (closed x) (keeps_messages a m x.id x.id))
 keeps_to s a m (ToState statement) x none = absurd cc
-keeps_to s a m (Untaken message) x none = (keeps_still a m x.id message (who.Client x.id) NotSupported, tt)
+keeps_to s a m (Untaken message) x none =
+    (keeps_still a m x.id message (who.Client x.id) (Form NotSupported), tt)
 
 keeps_entering : (s : State) (a : Around) (m : Option Spoken) (from : Address) (connect : Connect)
     (x : Client) (o : Outcome)

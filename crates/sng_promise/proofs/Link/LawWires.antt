@@ -20,7 +20,8 @@ use Rattle.sng_frames.specs.declared.frame.SnFrame.TheVariants as frame
 use Rattle.sng_book.specs.declared.address.Address.{Address}
 use Rattle.sng_book.specs.declared.decision.Decision.TheVariants as note
 use Rattle.sng_book.specs.declared.decision.Who.TheVariants as who
-use Rattle.sng_book.specs.declared.outcome.Denial.TheVariants.{BadName}
+use Rattle.sng_book.specs.declared.outcome.Denial.TheVariants.{Form}
+use Rattle.sng_book.specs.declared.outcome.FormDenial.TheVariants.{BadName}
 use Rattle.sng_book.specs.declared.outcome.Outcome.{Outcome}
 use Rattle.sng_book.specs.declared.outcome.Outcome.TheVariants.{Allowed, Denied}
 use Rattle.sng_book.specs.declared.out.Out.{Out}
@@ -201,7 +202,7 @@ datagram_still s from (Err broke) =
 -- ---- a packet of the broker
 
 misnamed_wires : (good : Bool) (outs : List Out) → wires_in outs ≡ []
-    → wires_in ((if good then [] else Note (note.Frame who.Broker (Denied BadName)) ∷ []) ++ outs) ≡ []
+    → wires_in ((if good then [] else Note (note.Frame who.Broker (Denied (Form BadName))) ∷ []) ++ outs) ≡ []
 misnamed_wires true outs none = none
 misnamed_wires false outs none = none
 

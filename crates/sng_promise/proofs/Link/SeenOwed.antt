@@ -15,7 +15,9 @@ use Rattle.sng_book.specs.declared.address.Address.{Address}
 use Rattle.sng_book.specs.declared.decision.Decision.{Decision}
 use Rattle.sng_book.specs.declared.decision.Decision.TheVariants as note
 use Rattle.sng_book.specs.declared.decision.Who.TheVariants as who
-use Rattle.sng_book.specs.declared.outcome.Denial.TheVariants.{BadName, BrokerRefused}
+use Rattle.sng_book.specs.declared.outcome.Denial.TheVariants.{Form, Peer}
+use Rattle.sng_book.specs.declared.outcome.FormDenial.TheVariants.{BadName}
+use Rattle.sng_book.specs.declared.outcome.PeerDenial.TheVariants.{BrokerRefused}
 use Rattle.sng_book.specs.declared.outcome.Outcome.{Outcome}
 use Rattle.sng_book.specs.declared.outcome.Outcome.TheVariants.{Allowed, Denied}
 use Rattle.sng_book.specs.declared.out.Out.{Out}
@@ -54,7 +56,8 @@ owed_waits false place packet_id = refl
 
 -- whether the name is one or not
 named_waits : (good : Bool) (outs : List Out)
-    → is_outbox_noted ((if good then [] else Note (note.Frame who.Broker (Denied BadName)) ∷ []) ++ outs)
+    → is_outbox_noted ((if good then [] else Note (note.Frame who.Broker (Denied (Form BadName))) ∷ [])
+    ++ outs)
     ≡ is_outbox_noted outs
 named_waits true outs = refl
 named_waits false outs = refl
@@ -127,7 +130,7 @@ messages_unnoted a client =
 refused_unnoted : (a : Around) (x : Client) (text : Option (List ℕ)) → Every (Unnoted a) (refused_end x text)
 refused_unnoted a x None = tt
 refused_unnoted a x (Some text) =
-    every_if (Unnoted a) (holds text x) (note.End x.id text (Denied BrokerRefused) ∷ [])
+    every_if (Unnoted a) (holds text x) (note.End x.id text (Denied (Peer BrokerRefused)) ∷ [])
     (record { itself = refl; behind = λ y rest. refl }, tt)
 
 pub spell_unnoted : (a : Around) (x : Client) (notes : List Decision) (rest : List Out)

@@ -18,8 +18,9 @@ use Rattle.sng_book.specs.declared.address.Address.{Address}
 use Rattle.sng_book.specs.declared.decision.Decision.{Decision}
 use Rattle.sng_book.specs.declared.decision.Decision.TheVariants as note
 use Rattle.sng_book.specs.declared.decision.Who.TheVariants as who
-use Rattle.sng_book.specs.declared.outcome.Denial.TheVariants.{BrokerRefused, NotSupported}
-use Rattle.sng_book.specs.declared.outcome.Denial.TheVariants.{OutOfTurn}
+use Rattle.sng_book.specs.declared.outcome.Denial.TheVariants.{Form, Peer}
+use Rattle.sng_book.specs.declared.outcome.FormDenial.TheVariants.{NotSupported, OutOfTurn}
+use Rattle.sng_book.specs.declared.outcome.PeerDenial.TheVariants.{BrokerRefused}
 use Rattle.sng_book.specs.declared.outcome.Outcome.{Outcome}
 use Rattle.sng_book.specs.declared.outcome.Outcome.TheVariants.{Allowed, Denied}
 use Rattle.sng_history.specs.Causes.{Request, ToPing, ToLeave, ToSleep, ToRegister, ToPublish, ToSubscribe}
@@ -100,7 +101,7 @@ turn_told : (id client : List ℕ) (b : Bool) (notes : List Decision) → OneTol
     → OneTold id (if b then notes else out_of_turn client)
 turn_told id client b notes told =
     told_either id b notes (out_of_turn client) told
-    (one_told id (note.Frame (who.Client client) (Denied OutOfTurn)))
+    (one_told id (note.Frame (who.Client client) (Denied (Form OutOfTurn))))
 
 -- a statement of a will tells none, and as the dialogue ends what waits is handed over, or gone
 goes_on_told : (policy : Policy) (statement : Statement) (x : Client) (id : List ℕ) (o : Outcome)
@@ -136,7 +137,7 @@ request_told s (ToPing client) x id =
     (told_if id (is_waking client x) (handed_over s.policy (awake x)) (handed_told id s.policy (awake x)))
 request_told s (ToSleep duration) x id =
     told_either id (is_due_messages x.phase) [] (out_of_turn x.id) (none_told id)
-    (one_told id (note.Frame (who.Client x.id) (Denied OutOfTurn)))
+    (one_told id (note.Frame (who.Client x.id) (Denied (Form OutOfTurn))))
 request_told s ToLeave x id = left_told id x
 request_told s (ToRegister r) x id = one_told id (register_ask s.policy x r.name)
 request_told s (ToPublish p) x id = one_told id (publish_ask s x p)
@@ -148,13 +149,14 @@ request_told s (ToAcknowledge r) x id =
     turn_told id x.id (is_acknowledging r x) (handed_over s.policy (closed x))
     (handed_told id s.policy (closed x))
 request_told s (ToState statement) x id = statement_told s.policy statement x id
-request_told s (Untaken message) x id = one_told id (denied_note message (who.Client x.id) NotSupported)
+request_told s (Untaken message) x id =
+    one_told id (denied_note message (who.Client x.id) (Form NotSupported))
 
 -- subscriptions end, of which no note tells an id
 refused_mute : (id : List ℕ) (x : Client) (text : Option (List ℕ)) → Every (Mute id) (refused_end x text)
 refused_mute id x None = tt
 refused_mute id x (Some text) =
-    every_if (Mute id) (holds text x) (note.End x.id text (Denied BrokerRefused) ∷ [])
+    every_if (Mute id) (holds text x) (note.End x.id text (Denied (Peer BrokerRefused)) ∷ [])
     (λ r names none. refl, tt)
 
 end_mute : (id own text : List ℕ) (o : Outcome) → Every (Mute id) (end_of own text o)

@@ -14,8 +14,9 @@ use Rattle.sng_frames.specs.declared.messages.subscribe.TopicRequest.{TopicReque
 use Rattle.sng_book.specs.Denials.{is_allowed}
 use Rattle.sng_book.specs.declared.decision.Decision.{Decision}
 use Rattle.sng_book.specs.declared.decision.Decision.TheVariants as note
-use Rattle.sng_book.specs.declared.outcome.Denial.TheVariants.{ClientRefused}
-use Rattle.sng_book.specs.declared.outcome.Denial.TheVariants.{Full, Gone}
+use Rattle.sng_book.specs.declared.outcome.Denial.TheVariants.{Room, Peer}
+use Rattle.sng_book.specs.declared.outcome.RoomDenial.TheVariants.{Full}
+use Rattle.sng_book.specs.declared.outcome.PeerDenial.TheVariants.{ClientRefused, Gone}
 use Rattle.sng_book.specs.declared.outcome.Place.TheVariants as place
 use Rattle.sng_book.specs.declared.outcome.Outcome.{Outcome}
 use Rattle.sng_book.specs.declared.outcome.Outcome.TheVariants.{Allowed, Denied}
@@ -131,7 +132,7 @@ offered_told id client m true full more told =
     behind_told id (note.Hand client m.name Allowed) (behind m.qos more) (hand_mute id client m.name Allowed)
     (quality_told id m.qos more told)
 offered_told id client m false true more told =
-    let o = Denied (Full place.Ids) in
+    let o = Denied (Room (Full place.Ids)) in
     behind_told id (note.Hand client m.name o) more (hand_mute id client m.name o) told
 offered_told id client m false false more told = one_told id (note.Announce client m.name)
 
@@ -158,12 +159,12 @@ handed_told id policy x =
 
 pub gone_mute : (id client : List ℕ) (waiting : List Message) → Every (Mute id) (all_gone client waiting)
 gone_mute id client [] = tt
-gone_mute id client (m ∷ more) = (hand_mute id client m.name (Denied Gone), gone_mute id client more)
+gone_mute id client (m ∷ more) = (hand_mute id client m.name (Denied (Peer Gone)), gone_mute id client more)
 
 pub refusal_mute : (id client : List ℕ) (code : ℕ) (waiting : List Message)
     → Every (Mute id) (refusals client code waiting)
 refusal_mute id client code [] = tt
-refusal_mute id client code (m ∷ more) = (hand_mute id client m.name (Denied (ClientRefused code)), tt)
+refusal_mute id client code (m ∷ more) = (hand_mute id client m.name (Denied (Peer (ClientRefused code))), tt)
 
 turned_mute : (id client name : List ℕ) (o : Outcome) → Every (Mute id) (turned_away_by client name o)
 turned_mute id client name Allowed = tt

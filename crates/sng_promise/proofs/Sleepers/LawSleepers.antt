@@ -18,7 +18,8 @@ use Rattle.sng_book.specs.declared.address.Address.{Address}
 use Rattle.sng_book.specs.declared.decision.Decision.TheVariants as note
 use Rattle.sng_book.specs.declared.decision.Who.TheVariants as who
 use Rattle.sng_book.specs.declared.outcome.Denial.{Denial}
-use Rattle.sng_book.specs.declared.outcome.Denial.TheVariants.{BadName}
+use Rattle.sng_book.specs.declared.outcome.Denial.TheVariants.{Form}
+use Rattle.sng_book.specs.declared.outcome.FormDenial.TheVariants.{BadName}
 use Rattle.sng_book.specs.declared.outcome.Outcome.TheVariants.{Denied}
 use Rattle.sng_book.specs.declared.event.Event.{Event}
 use Rattle.sng_book.specs.declared.event.Event.TheVariants.{Datagram, Broker, Up, Down, Take, Replace, Tick}
@@ -96,7 +97,7 @@ broken_away id s from rule place off sleep =
     (Note (note.Frame (who.Address from) (Denied rule)) ∷ []) place refl off sleep refl
 
 misnamed_none : (good : Bool) (outs : List Out) → NoneSent outs
-    → NoneSent ((if good then [] else Note (note.Frame who.Broker (Denied BadName)) ∷ []) ++ outs)
+    → NoneSent ((if good then [] else Note (note.Frame who.Broker (Denied (Form BadName))) ∷ []) ++ outs)
 misnamed_none true outs none = none
 misnamed_none false outs none = none
 

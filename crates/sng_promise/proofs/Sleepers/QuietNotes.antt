@@ -12,7 +12,8 @@ use Rattle.sng_outbox.specs.declared.item.Publication.{Publication}
 use Rattle.sng_book.specs.declared.decision.Decision.{Decision}
 use Rattle.sng_book.specs.declared.decision.Decision.TheVariants as note
 use Rattle.sng_book.specs.declared.outcome.Denial.{Denial}
-use Rattle.sng_book.specs.declared.outcome.Denial.TheVariants.{BrokerRefused}
+use Rattle.sng_book.specs.declared.outcome.Denial.TheVariants.{Peer}
+use Rattle.sng_book.specs.declared.outcome.PeerDenial.TheVariants.{BrokerRefused}
 use Rattle.sng_book.specs.declared.outcome.Outcome.{Outcome}
 use Rattle.sng_book.specs.declared.outcome.Outcome.TheVariants.{Allowed, Denied}
 use Rattle.sng_book.specs.declared.out.Out.{Out}
@@ -92,8 +93,8 @@ pub quiet_refused : (a : Around) (x : Client) (filter : Option (List ℕ))
     → Every (Quiet a) (refused_end x filter)
 quiet_refused a x None = tt
 quiet_refused a x (Some filter) =
-    every_if (Quiet a) (holds filter x) (note.End x.id filter (Denied BrokerRefused) ∷ [])
-    (quiet_end a x.id filter (Denied BrokerRefused), tt)
+    every_if (Quiet a) (holds filter x) (note.End x.id filter (Denied (Peer BrokerRefused)) ∷ [])
+    (quiet_end a x.id filter (Denied (Peer BrokerRefused)), tt)
 
 quiet_turned : (a : Around) (client name : List ℕ) (o : Outcome)
     → Every (Quiet a) (turned_away_by client name o)

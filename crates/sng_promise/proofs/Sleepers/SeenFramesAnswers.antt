@@ -10,7 +10,8 @@ use Rattle.sng_frames.specs.declared.frame.SnFrame.TheVariants as frame
 use Rattle.sng_book.specs.declared.address.Address.{Address}
 use Rattle.sng_book.specs.declared.decision.Decision.TheVariants as note
 use Rattle.sng_book.specs.declared.outcome.Denial.{Denial}
-use Rattle.sng_book.specs.declared.outcome.Denial.TheVariants.{NoSession, OutOfTurn}
+use Rattle.sng_book.specs.declared.outcome.Denial.TheVariants.{Form}
+use Rattle.sng_book.specs.declared.outcome.FormDenial.TheVariants.{NoSession, OutOfTurn}
 use Rattle.sng_book.specs.declared.outcome.Outcome.{Outcome}
 use Rattle.sng_book.specs.declared.outcome.Outcome.TheVariants.{Allowed, Denied}
 use Rattle.sng_book.specs.declared.out.Out.{Out}
@@ -122,11 +123,11 @@ refused_none to message code = tt
 
 ping_none : (to : Address) (client : Option (List ℕ)) (rule : Denial)
     → NoPong (denied_to (ToPing client) to rule)
-ping_none to client NoSession = dismissed_none to
+ping_none to client (Form NoSession) = dismissed_none to
 ping_none to client _ = tt
 
 ended_none : (to : Address) (rule : Denial) → NoPong (dialogue_ended to rule)
-ended_none to OutOfTurn = tt
+ended_none to (Form OutOfTurn) = tt
 ended_none to rule = connack_none to (code_of rule)
 
 statement_refused_none : (statement : Statement) (to : Address) (rule : Denial)

@@ -17,7 +17,8 @@ use Rattle.sng_book.specs.declared.address.Address.{Address}
 use Rattle.sng_book.specs.declared.decision.Decision.{Decision}
 use Rattle.sng_book.specs.declared.decision.Decision.TheVariants as note
 use Rattle.sng_book.specs.declared.outcome.Denial.{Denial}
-use Rattle.sng_book.specs.declared.outcome.Denial.TheVariants.{NoSession, OutOfTurn}
+use Rattle.sng_book.specs.declared.outcome.Denial.TheVariants.{Form}
+use Rattle.sng_book.specs.declared.outcome.FormDenial.TheVariants.{NoSession, OutOfTurn}
 use Rattle.sng_book.specs.declared.outcome.Outcome.{Outcome}
 use Rattle.sng_book.specs.declared.outcome.Outcome.TheVariants.{Allowed, Denied}
 use Rattle.sng_book.specs.declared.out.Out.{Out}
@@ -68,11 +69,11 @@ farewell_to (Some request) place = if_to place (takes_leave request) (dismissed 
 
 ping_to : (place : Address) (client : Option (List ℕ)) (rule : Denial)
     → AllTo place (denied_to (ToPing client) place rule)
-ping_to place client NoSession = (refl, tt)
+ping_to place client (Form NoSession) = (refl, tt)
 ping_to place client _ = tt
 
 ended_to : (place : Address) (rule : Denial) → AllTo place (dialogue_ended place rule)
-ended_to place OutOfTurn = tt
+ended_to place (Form OutOfTurn) = tt
 ended_to place _ = (refl, tt)
 
 statement_refused_to : (statement : Statement) (place : Address) (rule : Denial)

@@ -5,8 +5,8 @@ use Rattle.std.specs.Prelude.{◌&&◌, ◌||◌, not, Option, Some, None}
 use Rattle.std.specs.Str.{bytes_eq}
 use Rattle.sng_grants.specs.declared.policy.Policy.{Policy}
 use Rattle.sng_policy.specs.Grants.{subscribe_grant}
-use Rattle.sng_policy.specs.declared.grant.Grant.{Grant}
-use Rattle.sng_policy.specs.declared.grant.Grant.TheVariants as grant
+use Rattle.sng_policy.specs.declared.grant.FilterGrant.{FilterGrant}
+use Rattle.sng_policy.specs.declared.grant.FilterGrant.TheVariants as on_filter
 use Rattle.sng_policy.proofs.SubscriptionLemmas.{subscribing_is_receiving}
 use Rattle.sng_fan.specs.declared.held.Held.{Held}
 use Rattle.sng_fan.specs.Subscriptions.{has_text, stands, without_filter}
@@ -40,14 +40,11 @@ use Rattle.sng_history.proofs.Booleans.{or_neither}
 
 -- ---- each is allowed
 
-allowed_grant : (client text : List ℕ) (g : Grant) → filter_outcome client text g ≡ Allowed
-    → g ≡ grant.Allowed
-allowed_grant client text grant.Allowed is = refl
-allowed_grant client text grant.NoScope is = absurd cc
-allowed_grant client text grant.UnknownSource is = absurd cc
-allowed_grant client text grant.MissingPub is = absurd cc
-allowed_grant client text grant.MissingSub is = absurd cc
-allowed_grant client text (grant.Uncovered gap) is = absurd cc
+allowed_grant : (client text : List ℕ) (g : FilterGrant) → filter_outcome client text g ≡ Allowed
+    → g ≡ on_filter.Allowed
+allowed_grant client text on_filter.Allowed is = refl
+allowed_grant client text on_filter.Unlisted is = absurd cc
+allowed_grant client text (on_filter.Uncovered gap) is = absurd cc
 
 covered_by : (policy : Policy) (client text : List ℕ) (h : Held) (held : List Held) (b : Bool)
     → has_text text h ≡ b → (b || stands held text) ≡ true → AllCovered policy client (h ∷ held)

@@ -10,7 +10,8 @@ use Rattle.sng_outbox.specs.declared.limits.TheConstants.{MAX_OUTBOX_ITEMS}
 use Rattle.sng_frames.specs.Reading.{frame_of}
 use Rattle.sng_book.specs.declared.address.Address.{Address}
 use Rattle.sng_book.specs.declared.decision.Decision.TheVariants as note
-use Rattle.sng_book.specs.declared.outcome.Denial.TheVariants.{Gone}
+use Rattle.sng_book.specs.declared.outcome.Denial.TheVariants.{Peer}
+use Rattle.sng_book.specs.declared.outcome.PeerDenial.TheVariants.{Gone}
 use Rattle.sng_book.specs.declared.outcome.Outcome.{Outcome}
 use Rattle.sng_book.specs.declared.outcome.Outcome.TheVariants.{Allowed, Denied}
 use Rattle.sng_book.specs.declared.event.Event.{Event}
@@ -60,7 +61,7 @@ lost_both id (Send to datagram ∷ xs) ys none = lost_both id xs ys none
 lost_both id (Wire packet ∷ xs) ys none = lost_both id xs ys none
 
 gone_unlost : (id client : List ℕ) (waiting : List Message)
-    → is_lost_in id (map (λ m. Note (note.Hand client m.name (Denied Gone))) waiting) ≡ false
+    → is_lost_in id (map (λ m. Note (note.Hand client m.name (Denied (Peer Gone)))) waiting) ≡ false
 gone_unlost id client [] = refl
 gone_unlost id client (m ∷ more) = gone_unlost id client more
 

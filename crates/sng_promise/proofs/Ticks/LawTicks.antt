@@ -11,7 +11,8 @@ use Rattle.sng_outbox.specs.declared.item.Publication.{Publication}
 use Rattle.sng_outbox.specs.declared.origin.Origin.TheVariants as origin
 use Rattle.sng_book.specs.declared.decision.Decision.{Decision}
 use Rattle.sng_book.specs.declared.decision.Decision.TheVariants as note
-use Rattle.sng_book.specs.declared.outcome.Denial.TheVariants.{Gone}
+use Rattle.sng_book.specs.declared.outcome.Denial.TheVariants.{Peer}
+use Rattle.sng_book.specs.declared.outcome.PeerDenial.TheVariants.{Gone}
 use Rattle.sng_book.specs.declared.outcome.Outcome.{Outcome}
 use Rattle.sng_book.specs.declared.outcome.Outcome.TheVariants.{Allowed, Denied}
 use Rattle.sng_book.specs.declared.out.Out.{Out}
@@ -106,7 +107,7 @@ lost_spelled h s came link x flights shown =
     (spelled_both a [] gone dropped (lost x)
     ∙ (ap (λ outs. outs ++ spell a [] (notes_by a gone (lost x)) dropped)
     (gone_spelled a [] id x.buffer.waiting (lost x)
-    ∙ ap (λ waiting. map (λ m. Note (note.Hand id m.name (Denied Gone))) waiting) shown.waiting)
+    ∙ ap (λ waiting. map (λ m. Note (note.Hand id m.name (Denied (Peer Gone)))) waiting) shown.waiting)
     ∙ ap (λ outs. gone_answer h id ++ outs)
     (will_spelled h s came link (notes_by a gone (lost x)) id x.wills.will flights
     ∙ ap (λ will. will_refused h link.waiting id (published_for id will)) shown.will)))

@@ -19,7 +19,9 @@ use Rattle.sng_book.specs.declared.decision.Decision.{Decision}
 use Rattle.sng_book.specs.declared.decision.Decision.TheVariants as note
 use Rattle.sng_book.specs.declared.decision.Who.{Who}
 use Rattle.sng_book.specs.declared.decision.Who.TheVariants as who
-use Rattle.sng_book.specs.declared.outcome.Denial.TheVariants.{NotSupported, BrokerRefused}
+use Rattle.sng_book.specs.declared.outcome.Denial.TheVariants.{Form, Peer}
+use Rattle.sng_book.specs.declared.outcome.FormDenial.TheVariants.{NotSupported}
+use Rattle.sng_book.specs.declared.outcome.PeerDenial.TheVariants.{BrokerRefused}
 use Rattle.sng_book.specs.declared.outcome.Outcome.{Outcome}
 use Rattle.sng_book.specs.declared.outcome.Outcome.TheVariants.{Allowed, Denied}
 use Rattle.sng_book.specs.declared.out.Out.{Out}
@@ -78,7 +80,7 @@ every_denial : (client : List ℕ) (o : Outcome) → Every Unlosing (denial_of c
 every_denial client Allowed = tt
 every_denial client (Denied rule) = (λ id. refl, tt)
 
-untaken_unlosing : (message : SnFrame) (whom : Who) → Unlosing (denied_note message whom NotSupported)
+untaken_unlosing : (message : SnFrame) (whom : Who) → Unlosing (denied_note message whom (Form NotSupported))
 untaken_unlosing (frame.Register r) whom = λ id. refl
 untaken_unlosing (frame.Publish p) whom = λ id. refl
 untaken_unlosing (frame.Subscribe r) whom = λ id. refl
@@ -148,7 +150,8 @@ every_ends policy client (h ∷ held) =
 every_refused : (x : Client) (filter : Option (List ℕ)) → Every Unlosing (refused_end x filter)
 every_refused x None = tt
 every_refused x (Some filter) =
-    every_if Unlosing (holds filter x) (note.End x.id filter (Denied BrokerRefused) ∷ []) (λ id. refl, tt)
+    every_if Unlosing (holds filter x) (note.End x.id filter (Denied (Peer BrokerRefused)) ∷ [])
+    (λ id. refl, tt)
 
 abbrev pub is_tick : Cause → Bool
 is_tick (ByTick clock) = true

@@ -22,7 +22,8 @@ use Rattle.sng_frames.specs.declared.flags.TopicIdType.TheVariants.{Normal, Pred
 use Rattle.sng_frames.specs.declared.messages.subscribe.TopicRequest.{TopicRequest}
 use Rattle.sng_book.specs.declared.address.Address.{Address}
 use Rattle.sng_book.specs.declared.outcome.Denial.{Denial}
-use Rattle.sng_book.specs.declared.outcome.Denial.TheVariants.{BadFilter, BadName}
+use Rattle.sng_book.specs.declared.outcome.Denial.TheVariants.{Form}
+use Rattle.sng_book.specs.declared.outcome.FormDenial.TheVariants.{BadName, BadFilter}
 use Rattle.sng_book.specs.declared.outcome.Outcome.{Outcome}
 use Rattle.sng_book.specs.declared.outcome.Outcome.TheVariants.{Allowed, Denied}
 use Rattle.sng_history.specs.Causes.{Request, ToPing, ToLeave, ToRegister, ToPublish, ToSubscribe, ToState}
@@ -62,17 +63,19 @@ given_filter given text rule false fits is = absurd cc
 predefined_is : (id : ℕ) (name : Option (List ℕ)) (text : List ℕ) → predefined_filter id name ≡ Ok text
     → is_filter text ≡ true
 predefined_is id None text is = absurd cc
-predefined_is id (Some name) text is = given_filter name text BadFilter (is_filter name) (λ is. is) is
+predefined_is id (Some name) text is = given_filter name text (Form BadFilter) (is_filter name) (λ is. is) is
 
 short_is : (given text : List ℕ) (b : Bool)
-    → (let read : Result (List ℕ) Denial = if b then as_filter given else Err BadName in read) ≡ Ok text
+    → (let read : Result (List ℕ) Denial = if b then as_filter given else Err (Form BadName) in read)
+    ≡ Ok text
     → is_filter text ≡ true
-short_is given text true is = given_filter given text BadFilter (is_filter given) (λ is. is) is
+short_is given text true is = given_filter given text (Form BadFilter) (is_filter given) (λ is. is) is
 short_is given text false is = absurd cc
 
 pub named_filter : (policy : Policy) (type : TopicIdType) (given text : List ℕ)
     → filter_in policy type given ≡ Ok text → is_filter text ≡ true
-named_filter policy Normal given text is = given_filter given text BadFilter (is_filter given) (λ is. is) is
+named_filter policy Normal given text is =
+    given_filter given text (Form BadFilter) (is_filter given) (λ is. is) is
 named_filter policy Short given text is = short_is given text (is_name given) is
 named_filter policy Predefined given text is =
     predefined_is (id_in given) (topic policy (id_in given)) text is

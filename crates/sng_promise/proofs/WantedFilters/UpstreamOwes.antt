@@ -12,7 +12,8 @@ use Rattle.mqtt_frames.specs.declared.packet.Packet.TheVariants as packet
 use Rattle.sng_outbox.specs.declared.item.Item.{Item}
 use Rattle.sng_outbox.specs.declared.item.Item.TheVariants as item
 use Rattle.sng_book.specs.declared.decision.Decision.TheVariants as note
-use Rattle.sng_book.specs.declared.outcome.Denial.TheVariants.{BrokerRefused}
+use Rattle.sng_book.specs.declared.outcome.Denial.TheVariants.{Peer}
+use Rattle.sng_book.specs.declared.outcome.PeerDenial.TheVariants.{BrokerRefused}
 use Rattle.sng_book.specs.declared.outcome.Outcome.TheVariants.{Denied}
 use Rattle.sng_book.specs.declared.event.Event.TheVariants.{Up, Take}
 use Rattle.sng_history.specs.Causes.{ByPacket, ByUp, ByTake}
@@ -95,7 +96,7 @@ without_stands (h ∷ held) gone text =
 
 refused_by : (a : Around) (x y : Client) (gone text : List ℕ) (there : Bool) → holds gone x ≡ there
     → y.filters ≡ x.filters
-    → holds text (notes_by a (if there then note.End x.id gone (Denied BrokerRefused) ∷ [] else []) y)
+    → holds text (notes_by a (if there then note.End x.id gone (Denied (Peer BrokerRefused)) ∷ [] else []) y)
     ≡ (holds text x && not (bytes_eq text gone))
 refused_by a x y gone text true is same =
     ap (λ held. stands (without_filter held gone) text) same ∙ without_stands x.filters gone text

@@ -8,7 +8,7 @@ use super::members_within;
 use crate::scope_form::scope_from;
 use crate::{Clients, PolicyFault};
 use serde_json::{Map, Value};
-use sng_grants::MAX_CLIENTS;
+use sng_grants::MAX_POLICY_CLIENTS;
 use sng_text::{ClientId, TextFault};
 use std::alloc::Global;
 
@@ -20,12 +20,12 @@ pub fn clients_in(alloc: Global, policy: &Value) -> Result<Clients, PolicyFault>
 {
     match policy.get("clients") {
         None => Ok(Clients::new(alloc)),
-        Some(clients) => clients_of(alloc, members_within(clients, MAX_CLIENTS)?),
+        Some(clients) => clients_of(alloc, members_within(clients, MAX_POLICY_CLIENTS)?),
     }
 }
 
 fn clients_of(alloc: Global, members: &Map<String, Value>) -> Result<Clients, PolicyFault>
-    requires { length members.now.entries ≤ MAX_CLIENTS }
+    requires { length members.now.entries ≤ MAX_POLICY_CLIENTS }
     ensures ok { IfOk result (λ c. clients_onto [] (members_view members.now.entries) ≡ Ok c) }
     ensures err { IfErr result (λ e. (e ≡ PolicyFault.Memory)
         ⊎ (clients_onto [] (members_view members.now.entries) ≡ Err e)) }

@@ -3,7 +3,8 @@ use Rattle.std.proofs.Common.{[], ◌∷◌, ◌++◌, slice_get, sym, ap, ◌�
 use Rattle.std.specs.Option.{option_copied}
 use Rattle.std.proofs.lemmas.List.{append_assoc}
 use Rattle.sng_book.specs.declared.decision.Decision.TheVariants as note
-use Rattle.sng_book.specs.declared.outcome.Denial.TheVariants.{ClientRefused}
+use Rattle.sng_book.specs.declared.outcome.Denial.TheVariants.{Peer}
+use Rattle.sng_book.specs.declared.outcome.PeerDenial.TheVariants.{ClientRefused}
 use Rattle.sng_book.specs.declared.outcome.Outcome.TheVariants.{Denied}
 use Rattle.sng_book.specs.declared.out.Out.TheVariants.{Note}
 use Rattle.sng_history.specs.Entering.{heard_at}
@@ -29,7 +30,7 @@ returns-clause-outs c =
     let x = client_at c.args.sessions.now c.args.place in
     let policy = c.args.policy.now in
     let outs = c.args.outs in
-    let refused = Denied (ClientRefused c.args.code) in
+    let refused = Denied (Peer (ClientRefused c.args.code)) in
     let there = one-waits x.buffer.waiting c.in-Some.front.now
     (ap (λ b. slice_get b.waiting 0) (sym c.queue.ensures)
     ∙ (sym c.at.ensures ∙ ap option_copied c.in-Some.is)) in

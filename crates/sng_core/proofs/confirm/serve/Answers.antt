@@ -5,6 +5,7 @@ use Rattle.sng_sessions.specs.Handed.{answered, handed_by}
 use Rattle.sng_sessions.specs.Moving.{moved_at}
 use Rattle.sng_sessions.specs.Standing.{client_at}
 use Rattle.sng_sessions.proofs.MovedLists.{moved_at-twice}
+use Rattle.sng_turns.specs.Serving.{more_by, first_by}
 use Rattle.sng_core.specs.Confirming.{served_next}
 use Rattle.sng_core.proofs.ConfirmLemmas.{moved-here}
 use Rattle.sng_core.proofs.confirm.serve.Goals as goal
@@ -16,12 +17,12 @@ returns-clause-next c =
     let x = client_at xs place in
     let h = c.in_ok-handed.handed in
     let clock = c.args.clock in
-    let more = c.args.confirming in
+    let more = more_by c.args.settled in
     c.change.ensures
     ∙ (ap (moved_at place drained) (c.hand.ensures
-    ∙ (ap (moved_at place (handed_by clock h)) c.answer.ensures
+    ∙ (ap (moved_at place (handed_by clock h)) c.settle.ensures
     ∙ moved_at-twice (answered clock more) (handed_by clock h) place xs))
     ∙ (moved_at-twice (λ y. handed_by clock h (answered clock more y)) drained place xs
     ∙ moved-here (λ y. drained (handed_by clock h (answered clock more y)))
-    (served_next c.args.policy.now clock more c.args.first) xs place c.requires.place
+    (served_next c.args.policy.now clock more (first_by c.args.settled)) xs place c.requires.place
     (ap (λ g. drained (handed_by clock g (answered clock more x))) c.in_ok-handed.ensures.plan)))

@@ -1,7 +1,7 @@
 use Rattle.std.proofs.Common.{◌≡◌, ◌≤◌, length, Err, ap, sym, subst, ◌∙◌, rules, arith}
 use Rattle.sng_gateway.proofs.PlayLemmas.{GoesOn-line, Halts, Halts-end, Halts-play, Halts-read}
-use Rattle.sng_gateway.specs.declared.limits.TheConstants.{MAX_LINE}
-use Rattle.sng_gateway.specs.Input.{IsFirstLine}
+use Rattle.sng_script.specs.declared.limits.TheConstants.{MAX_LINE}
+use Rattle.sng_script.specs.Input.{IsFirstLine}
 use Rattle.sng_gateway.proofs.play.play_on.Goals as goal
 
 pub returns-in_err-read_line : goal.returns-in_err-read_line

@@ -1,7 +1,8 @@
 -- One more is gone.
 use Rattle.std.proofs.Common.{[], ◌∷◌, ◌++◌, sym, ap, ◌∙◌}
 use Rattle.sng_book.specs.declared.decision.Decision.TheVariants as note
-use Rattle.sng_book.specs.declared.outcome.Denial.TheVariants.{Gone}
+use Rattle.sng_book.specs.declared.outcome.Denial.TheVariants.{Peer}
+use Rattle.sng_book.specs.declared.outcome.PeerDenial.TheVariants.{Gone}
 use Rattle.sng_book.specs.declared.outcome.Outcome.TheVariants.{Denied}
 use Rattle.sng_book.specs.declared.out.Out.TheVariants.{Note}
 use Rattle.std.specs.Option.{option_copied}
@@ -14,5 +15,5 @@ loop-place-preserved c =
     c.loop-place.outs _ _
     (sym c.at.ensures ∙ ap option_copied c.in-Some.is) c.loop-place.invariant
     (c.in_ok-note_hand.ensures ∙ ap
-    (λ name. c.loop-place.outs ++ Note (note.Hand c.args.id.now name (Denied Gone)) ∷ [])
+    (λ name. c.loop-place.outs ++ Note (note.Hand c.args.id.now name (Denied (Peer Gone))) ∷ [])
     c.name.ensures.value)

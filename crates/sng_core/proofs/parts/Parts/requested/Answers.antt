@@ -1,0 +1,14 @@
+-- A PUBLISH is carried on.
+use Rattle.std.proofs.Common.{◌≡◌, IfOk, subst, sym}
+use Rattle.sng_core.specs.Requesting.{request_outs}
+use Rattle.sng_core.specs.Forms.{client_at, carried_outs}
+use Rattle.sng_core.proofs.parts.Parts.requested.Goals as goal
+
+pub returns-in-Publish-clause-outs : goal.returns-in-Publish-clause-outs
+returns-in-Publish-clause-outs c =
+    let place = c.args.place in
+    let p = c.in-Publish.publish in
+    subst (λ request. IfOk c.carry.result (λ outs. outs ≡ request_outs c.args.self.now place request))
+    (sym c.in-Publish.is)
+    (subst (λ s. IfOk c.carry.result (λ outs. outs ≡ carried_outs s p (client_at s.clients place)))
+    c.self.view_is c.carry.ensures.outs)

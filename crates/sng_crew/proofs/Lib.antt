@@ -1,0 +1,5 @@
+pub mod Least
+pub mod Writing
+pub mod Turns
+pub mod Feeding
+pub mod Places

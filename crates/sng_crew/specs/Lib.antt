@@ -1,0 +1,6 @@
+pub mod Gathering
+pub mod Devices
+pub mod Wires
+pub mod Streaming
+pub mod Turning
+pub mod Running

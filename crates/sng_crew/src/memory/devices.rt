@@ -1,0 +1,120 @@
+//! Datagrams over memory.
+ghost use Rattle.std.specs.Prelude.{◌≡◌, ◌++◌, ◌∷◌, [], not, take, true};
+
+use crate::memory::Calls;
+use sng_book::Address;
+use sng_desk::{Datagrams, Got};
+use sng_text::Octets;
+use std::alloc::Global;
+
+/// Gives some datagrams, and keeps what is passed to it.
+#[derive(Debug, Drop)]
+pub struct MemoryDatagrams {
+    datagrams: Vec<(Address, Octets)>,
+    next: usize,
+    kept: Vec<(Address, Octets)>,
+    calls: Calls,
+    failures: u64,
+    unsent: u64,
+    has_lost: bool,
+    is_over: bool,
+}
+
+impl MemoryDatagrams {
+    /// It gives these datagrams, and has ended then.
+    pub fn new(alloc: Global, datagrams: Vec<(Address, Octets)>, calls: Calls) -> MemoryDatagrams {
+        MemoryDatagrams {
+            datagrams,
+            next: 0,
+            kept: Vec::new(alloc),
+            calls,
+            failures: 0,
+            unsent: 0,
+            has_lost: false,
+            is_over: false,
+        }
+    }
+
+    /// What was passed to it, in order, that which was lost among it.
+    pub fn kept(&self) -> &[(Address, Octets)] {
+        self.kept.as_slice()
+    }
+
+    /// How many datagrams were lost that were passed to it.
+    pub fn unsent(&self) -> u64 {
+        self.unsent
+    }
+
+    /// Keeps a datagram that was passed to it, as long as there is memory.
+    fn keep(&mut self, to: Address, datagram: &Octets)
+        ensures told { not self.new.has_lost ≡ true → not self.old.has_lost ≡ true }
+        ensures kept { not self.new.has_lost ≡ true → self.new.kept.items ≡ self.old.kept.items
+            ++ (to, datagram.now) ∷ [] }
+        ensures gave { (self.new.next ≡ self.old.next) × (self.new.datagrams ≡ self.old.datagrams) }
+        ensures counts { (self.new.failures ≡ self.old.failures) × (self.new.unsent ≡ self.old.unsent) }
+        ensures over { self.new.is_over ≡ self.old.is_over }
+    {
+        let Ok(copy) = datagram.copy() else {
+            self.has_lost = true;
+            return;
+        };
+        let Ok(()) = self.kept.push((to, copy)) else {
+            self.has_lost = true;
+            return;
+        };
+    }
+
+    /// How many calls there were.
+    pub fn calls(&self) -> &Calls {
+        &self.calls
+    }
+}
+
+impl Datagrams for MemoryDatagrams {
+    ghost tells = { λ m. not m.has_lost };
+
+    ghost gave = { λ m. take m.next m.datagrams.items };
+
+    ghost passed = { λ m. m.kept.items };
+
+    ghost failures = { λ m. m.failures };
+
+    ghost unsent = { λ m. m.unsent };
+
+    ghost has_ended = { λ m. m.is_over };
+
+    fn receive(&mut self) -> Got<(Address, Octets)> {
+        if self.calls.fails() && self.failures < u64::MAX {
+            self.failures += 1;
+            return Got::Failed;
+        }
+        if self.datagrams.len() <= self.next {
+            self.is_over = true;
+            return Got::Ended;
+        }
+        let (from, datagram) = &self.datagrams[self.next];
+        let from = *from;
+        let Ok(copy) = datagram.copy() else {
+            if self.failures == u64::MAX {
+                return Got::Nothing;
+            }
+            self.failures += 1;
+            return Got::Failed;
+        };
+        self.next += 1;
+        Got::Came((from, copy))
+    }
+
+    fn send(&mut self, to: Address, datagram: &Octets) -> bool {
+        self.keep(to, datagram);
+        if self.calls.fails() && self.unsent < u64::MAX {
+            self.unsent += 1;
+            return false;
+        }
+        true
+    }
+
+    fn ended(&self) -> bool {
+        self.is_over
+    }
+}

@@ -1,0 +1,30 @@
+//! A gate that lets all through.
+ghost use Rattle.std.specs.Prelude.{false};
+
+use sng_desk::{ActFault, Gate, Receipt, WorkerFault};
+
+/// A gate that is always open.
+#[derive(Debug, Drop)]
+pub struct OpenGate;
+
+impl Gate for OpenGate {
+    ghost may_stop = { λ _. false };
+
+    fn before(&self, _by: u16) -> bool {
+        true
+    }
+
+    fn stops(&self) -> bool {
+        false
+    }
+
+    fn after(&self, _by: u16, _receipt: &Receipt) {}
+
+    fn refused(&self, _by: u16, _fault: ActFault) {}
+
+    fn short(&self, _by: u16) {}
+
+    fn over(&self, _by: u16, _fault: Option<WorkerFault>) {}
+
+    fn halt(&self) {}
+}

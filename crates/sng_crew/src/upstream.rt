@@ -1,0 +1,179 @@
+//! The worker at the connection to the broker. A turn of it is `Gate::before`, one try to connect with its
+//! first packet, or one read with an act for each packet that it completes, then Take; then the wires of the
+//! turn's receipts are written until a write fails, and its datagrams are sent.
+ghost use Rattle.std.specs.Prelude.{◌≡◌, ◌≤◌, true};
+ghost use Rattle.sng_desk.specs.Sights.{Share as share_sight};
+ghost use Rattle.sng_crew.specs.Turning.{Below, HasEnded, NextFor, Taken, Worked, is_connected, may_try};
+
+use crate::answering::{answer, down};
+use crate::connection::{Opening, Stage, Terms, Upstream};
+use crate::hearing::{Fed, hear};
+use crate::limits::MAX_TURN_EVENTS;
+use crate::passing::{send_all, settle, settle_bytes};
+use crate::stages::{TurnEnd, has_given_up, stage_next};
+use mqtt_frames::Stream;
+use sng_desk::{Datagrams, Desk, Gate, Hand, Log, Next, Share, WorkerEnd, WorkerFault};
+use std::alloc::Global;
+use std::sync::{Mutex, Wait};
+
+/// The worker at the connection, between two turns.
+#[derive(Drop)]
+struct BrokerWorker<U, D> {
+    up: U,
+    sink: D,
+    stage: Stage,
+    stream: Stream,
+    hand: Hand,
+}
+
+impl<U: Upstream, D: Datagrams> BrokerWorker<U, D> {
+    /// A turn at a connection: one ask, an act for each event, and then what goes out.
+    fn listen<R: Wait, G: Gate>(
+        &mut self,
+        rt: &R,
+        alloc: Global,
+        desk: &Mutex<Desk>,
+        gate: &G,
+        terms: &Terms,
+    )
+        requires connected { is_connected self.old.stage ≡ true }
+        requires below { Below terms.now.tries self.old.stage }
+        requires room { MAX_TURN_EVENTS ≤ self.old.hand.log.spare }
+        ensures taken { Taken U.tells U.did D.tells D.passed terms.now self.old.up self.old.sink
+            self.old.stage self.old.stream self.old.hand.log.trail self.old.hand.share self.new.up
+            self.new.sink self.new.stage self.new.stream self.new.hand.log.trail self.new.hand.share }
+        ensures below { Below terms.now.tries self.new.stage }
+    {
+        let from = self.hand.log.count();
+        let Fed { packets, broken } = hear(alloc, &mut self.up, &mut self.stream);
+        let said = answer(&mut self.hand, rt, desk, gate, self.stage, packets, broken);
+        let close = settle(&mut self.up, self.hand.log.receipts_from(from), said.stays);
+        let told = down(&mut self.hand, rt, desk, gate, close, said.up);
+        send_all(&mut self.sink, self.hand.log.receipts_from(from));
+        let turn = TurnEnd {
+            close,
+            opened: false,
+            greeted: said.greeted,
+            up: said.up,
+            told,
+        };
+        self.stage = stage_next(self.stage, turn, terms.tries);
+    }
+
+    /// A turn without a connection: one try, and its first packet. The answer is that no further connection
+    /// comes.
+    fn open(&mut self, alloc: Global, terms: &Terms) -> bool
+        requires away { may_try terms.now.tries self.old.stage ≡ true }
+        requires below { Below terms.now.tries self.old.stage }
+        ensures taken { Taken U.tells U.did D.tells D.passed terms.now self.old.up self.old.sink
+            self.old.stage self.old.stream self.old.hand.log.trail self.old.hand.share self.new.up
+            self.new.sink self.new.stage self.new.stream self.new.hand.log.trail self.new.hand.share }
+        ensures below { Below terms.now.tries self.new.stage }
+        ensures ended { result ≡ true → U.has_ended self.new.up ≡ true }
+    {
+        match self.up.connect() {
+            Opening::NoneLeft => true,
+            Opening::Missed => {
+                let close = settle_bytes(&mut self.up, &[], false);
+                self.stage = stage_next(self.stage, TurnEnd::of_try(close, false), terms.tries);
+                false
+            }
+            Opening::Made => {
+                self.stream = Stream::new(alloc);
+                let close = settle_bytes(&mut self.up, terms.greeting.as_slice(), true);
+                self.stage = stage_next(self.stage, TurnEnd::of_try(close, true), terms.tries);
+                false
+            }
+        }
+    }
+
+    /// One turn, or none where the last one was the last.
+    fn turn<R: Wait, G: Gate>(
+        &mut self,
+        rt: &R,
+        alloc: Global,
+        desk: &Mutex<Desk>,
+        gate: &G,
+        terms: &Terms,
+    ) -> Next
+        requires { Below terms.now.tries self.old.stage }
+        ensures worked { (up : U) (sink : D) (share : share_sight)
+            → Worked U.tells U.did D.tells D.passed terms.now up sink share self.old.stage self.old.stream
+            self.old.up self.old.sink self.old.hand.log.trail self.old.hand.share
+            → Worked U.tells U.did D.tells D.passed terms.now up sink share self.new.stage self.new.stream
+            self.new.up self.new.sink self.new.hand.log.trail self.new.hand.share }
+        ensures over { NextFor terms.now.tries result self.new.stage (U.has_ended self.new.up)
+            (G.may_stop gate.now) self.new.hand.log.trail }
+        ensures below { Below terms.now.tries self.new.stage }
+    {
+        if self.hand.log.is_full() {
+            return Next::Over(Some(WorkerFault::BookFull));
+        }
+        if let Stage::Fallen = self.stage {
+            return Next::Over(Some(WorkerFault::Refused));
+        }
+        if has_given_up(self.stage, terms.tries) {
+            return Next::Over(Some(WorkerFault::GaveUp));
+        }
+        if !gate.before(self.hand.log.by()) {
+            return Next::Over(None);
+        }
+        if self.hand.log.room(MAX_TURN_EVENTS).is_err() {
+            gate.short(self.hand.log.by());
+            return Next::On;
+        }
+        if let Stage::Away(_) = self.stage {
+            if self.open(alloc, terms) {
+                return Next::Over(None);
+            }
+            return Next::On;
+        }
+        self.listen(rt, alloc, desk, gate, terms);
+        Next::On
+    }
+}
+
+/// A worker at the connection to the broker.
+pub fn upstream_worker<R: Wait, U: Upstream, D: Datagrams, G: Gate>(
+    rt: &R,
+    alloc: Global,
+    desk: &Mutex<Desk>,
+    share: Share,
+    source: U,
+    sender: D,
+    terms: &Terms,
+    gate: &G,
+) -> WorkerEnd<U, D>
+    ensures { HasEnded U.tells U.did D.tells D.passed U.has_ended terms.now source sender share
+        (G.may_stop gate.now) result }
+{
+    let log = Log::new(alloc, share.tag());
+    let mut worker = BrokerWorker {
+        up: source,
+        sink: sender,
+        stage: Stage::Away(0),
+        stream: Stream::new(alloc),
+        hand: Hand { share, log },
+    };
+    for _ in rt.forever() {
+        if let Next::Over(fault) = worker.turn(rt, alloc, desk, gate, terms) {
+            gate.over(worker.hand.log.by(), fault);
+            let BrokerWorker {
+                up,
+                sink,
+                stage: _,
+                stream: _,
+                hand,
+            } = worker;
+            let Hand { share, log } = hand;
+            return WorkerEnd {
+                trail: log.into_trail(),
+                share,
+                source: up,
+                sender: sink,
+                fault,
+            };
+        }
+    }
+    unreachable!()
+}

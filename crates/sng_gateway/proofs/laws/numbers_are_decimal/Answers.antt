@@ -1,5 +1,0 @@
-use Rattle.sng_gateway.proofs.NumberLemmas.{numbers_are_decimal}
-use Rattle.sng_gateway.proofs.laws.numbers_are_decimal.Goals as goal
-
-pub returns : goal.returns
-returns c = numbers_are_decimal

@@ -1,8 +1,0 @@
-use Rattle.std.proofs.Common.{◌≡◌, ◌++◌}
-use Rattle.sng_gateway.specs.Warnings.{sources_lines}
-use Rattle.sng_gateway.proofs.warnings.push_sources.Given as goal
-
-abbrev pub invariant-loop-source : goal.invariant-loop-source
-invariant-loop-source l =
-    l.lines.items ++ sources_lines l.topics l.source-iterator
-    ≡ l.fn.lines.items ++ sources_lines l.topics l.sources

@@ -1,0 +1,109 @@
+//! What the policy says, as an outcome: to a publish, to a message for a client, and to a subscription (RFC
+//! 9431, 2.3). What a policy answers becomes a denial here alone. An `Err` is a failed allocation, for a
+//! denial that shows who asks, a name or a filter.
+ghost use Rattle.std.specs.Prelude.{◌≡◌, IfOk};
+ghost use Rattle.std.specs.Option.{option_copied};
+ghost use Rattle.sng_history.specs.Verdicts.{exit, coverage, name_outcome, filter_outcome, unlisted, missing};
+ghost use Rattle.sng_history.specs.Outgoing.{receive};
+
+use sng_book::{Denial, GrantDenial, Outcome};
+use sng_grants::Policy;
+use sng_outbox::Origin;
+use sng_policy::{
+    FilterGrant, NameGrant, Permission, may_publish, may_receive, may_subscribe, source_may_publish,
+};
+use sng_text::{ClientId, TopicFilter, TopicName};
+use std::alloc::{AllocError, Global};
+
+/// The judgement of a publish under the name, as it is asked for and again as it leaves.
+pub fn exit(policy: &Policy, origin: &Origin, name: &TopicName) -> Result<Outcome, AllocError>
+    ensures { IfOk result (λ outcome. outcome ≡ exit policy.now origin.now name.now) }
+{
+    match origin {
+        Origin::Client(client) => {
+            let grant = may_publish(policy, client, name);
+            name_outcome(Permission::Publish, Some(client), name, grant)
+        }
+        Origin::Source(source) => {
+            let grant = source_may_publish(policy, *source, name);
+            name_outcome(Permission::Publish, None, name, grant)
+        }
+    }
+}
+
+/// The judgement of a message for the client under the name.
+pub fn receive(policy: &Policy, client: &ClientId, name: &TopicName) -> Result<Outcome, AllocError>
+    ensures { IfOk result (λ outcome. outcome ≡ receive policy.now client.now name.now) }
+{
+    let grant = may_receive(policy, client, name);
+    name_outcome(Permission::Subscribe, Some(client), name, grant)
+}
+
+/// The judgement of a subscription of the client by the filter.
+pub fn coverage(
+    alloc: Global,
+    policy: &Policy,
+    client: &ClientId,
+    filter: &TopicFilter,
+) -> Result<Outcome, AllocError>
+    ensures { IfOk result (λ outcome. outcome ≡ coverage policy.now client.now filter.now) }
+{
+    let grant = may_subscribe(alloc, policy, client, filter)?;
+    filter_outcome(client, filter, grant)
+}
+
+/// What a policy answers about a name to an ask for the permission, by a client or else by a source.
+fn name_outcome(
+    needed: Permission,
+    asker: Option<&ClientId>,
+    name: &TopicName,
+    grant: NameGrant,
+) -> Result<Outcome, AllocError>
+    ensures { IfOk result (λ outcome.
+        outcome ≡ name_outcome needed (option_copied asker.entry) name.now grant) }
+{
+    match grant {
+        NameGrant::Allowed => Ok(Outcome::Allowed),
+        NameGrant::Unlisted => Ok(Outcome::Denied(Denial::Grant(unlisted(asker)?))),
+        NameGrant::Missing => Ok(Outcome::Denied(Denial::Grant(missing(needed, name)?))),
+    }
+}
+
+/// What a policy answers about a filter.
+fn filter_outcome(
+    client: &ClientId,
+    filter: &TopicFilter,
+    grant: FilterGrant,
+) -> Result<Outcome, AllocError>
+    ensures { IfOk result (λ outcome. outcome ≡ filter_outcome client.now filter.now grant) }
+{
+    match grant {
+        FilterGrant::Allowed => Ok(Outcome::Allowed),
+        FilterGrant::Unlisted => Ok(Outcome::Denied(Denial::Grant(GrantDenial::NoScope(
+            client.copy()?,
+        )))),
+        FilterGrant::Uncovered(gap) => {
+            Ok(Outcome::Denied(Denial::Grant(GrantDenial::Uncovered(filter.copy()?, gap))))
+        }
+    }
+}
+
+/// The denial of who is not listed.
+fn unlisted(asker: Option<&ClientId>) -> Result<GrantDenial, AllocError>
+    ensures { IfOk result (λ denial. denial ≡ unlisted (option_copied asker.entry)) }
+{
+    match asker {
+        Some(client) => Ok(GrantDenial::NoScope(client.copy()?)),
+        None => Ok(GrantDenial::UnknownSource),
+    }
+}
+
+/// The denial for want of a pair with the permission.
+fn missing(needed: Permission, name: &TopicName) -> Result<GrantDenial, AllocError>
+    ensures { IfOk result (λ denial. denial ≡ missing needed name.now) }
+{
+    match needed {
+        Permission::Publish => Ok(GrantDenial::MissingPub(name.copy()?)),
+        Permission::Subscribe => Ok(GrantDenial::MissingSub(name.copy()?)),
+    }
+}

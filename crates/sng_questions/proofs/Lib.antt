@@ -1,0 +1,2 @@
+pub mod ShortNameLemmas
+pub mod PublishingLemmas

@@ -1,0 +1,9 @@
+pub mod Covers
+pub mod Inquiries
+pub mod Answers
+pub mod Places
+pub mod ShortNames
+pub mod Publishing
+pub mod Redundant
+pub mod Warnings
+pub mod Reports

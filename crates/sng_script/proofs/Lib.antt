@@ -1,0 +1,4 @@
+pub mod InputLemmas
+pub mod NumberLemmas
+pub mod PieceLemmas
+pub mod FileLemmas

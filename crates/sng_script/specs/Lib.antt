@@ -1,0 +1,8 @@
+pub mod Statuses
+pub mod Lines
+pub mod Obstacles
+pub mod Refused
+pub mod Input
+pub mod Laws
+pub mod PolicyTexts
+pub mod EventTexts

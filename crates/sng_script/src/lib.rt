@@ -1,0 +1,24 @@
+//! Scripts as lines: what a line says, and the line that says an event. Beside it, what each command does
+//! with its input and as it ends.
+#![tactic(auto)]
+
+mod datagram;
+pub mod ending;
+pub mod event_line;
+pub mod file;
+pub mod input;
+pub mod laws;
+pub mod limits;
+mod number;
+pub mod obstacle;
+pub mod policy_text;
+pub mod reader;
+pub mod refused;
+pub mod script;
+pub mod sender;
+pub mod status;
+
+pub use limits::{MAX_LINE, MAX_READS};
+pub use obstacle::Obstacle;
+pub use script::{Line, LineFault, line_of};
+pub use status::Status;
