@@ -19,6 +19,7 @@ pub mod OneEnds
 pub mod UnsubscribeEnds
 pub mod UnsubscribeHeld
 pub mod UnsubscribeRows
+pub mod ReplacingSteps
 pub mod ReplacingHeld
 pub mod ReplacingEnding
 pub mod ReplacingClient

@@ -21,7 +21,7 @@ use Rattle.sng_history.specs.Verdicts.{coverage}
 use Rattle.sng_history.specs.Lawful.{end_of, ends_under}
 use Rattle.sng_history.specs.Whole.{spell}
 use Rattle.sng_endings.specs.declared.replacing.SubscriptionEnd.{SubscriptionEnd}
-use Rattle.sng_core.specs.Replacing.{ended_next, all_next, all_outs}
+use Rattle.sng_core.proofs.ReplacingSteps.{ended_next, all_next, all_outs}
 use Rattle.sng_endings.specs.Replacing.{ended_clients, ended_notes, ending_of, endings_by}
 use Rattle.sng_history.proofs.Own.{same_self, flip}
 use Rattle.sng_history.proofs.Booleans.{or_neither}
