@@ -78,7 +78,8 @@ away_release f client earlier (x ∷ xs) away =
     ∙ rw (others_release client x.id (others earlier xs) (ended x (f x)) away.0)
     (away_release f client (earlier ++ f x ∷ []) xs away.1)
 
-next_append : (s : State) (one two : List SubscriptionEnd) → all_next s (one ++ two) ≡ all_next (all_next s one) two
+next_append : (s : State) (one two : List SubscriptionEnd)
+    → all_next s (one ++ two) ≡ all_next (all_next s one) two
 next_append s [] two = refl
 next_append s (e ∷ one) two = next_append (ended_next s e) one two
 
