@@ -15,6 +15,7 @@ ghost use Rattle.sng_history.specs.Arriving.{sent_at};
 
 use crate::answers::only;
 use crate::parts::Parts;
+use bytes::Bytes;
 use mqtt_frames::{Packet, Publish, SubscribeAck, SubscribeCode};
 use sng_book::{Decision, Denial, FormDenial, Out, Outcome, Outs, OutsPair, PeerDenial, Who};
 use sng_sessions::Sessions;
@@ -108,7 +109,7 @@ impl Parts {
                 let qos = sent_at(packet_id);
                 let message = Incoming {
                     name,
-                    payload,
+                    payload: Bytes::from_vec(payload.into_vec())?,
                     qos,
                     retain,
                     fixed,

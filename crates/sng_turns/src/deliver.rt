@@ -13,19 +13,21 @@ ghost use Rattle.sng_turns.specs.Delivering.{deliver_outs, deliver_kept, all_out
 use crate::hand_over::is_open;
 use crate::known::{KnownId, known_id};
 use crate::turn::{Mail, Recipient, note_hand, take_turn};
+use bytes::Bytes;
 use sng_book::{Denial, Outcome, Outs, Place, RoomDenial};
 use sng_grants::Policy;
 use sng_history::receive;
 use sng_queue::Waiting;
 use sng_sessions::{Opens, Sessions};
-use sng_text::{Octets, Qos, TopicName};
+use sng_text::{Qos, TopicName};
 use std::alloc::{AllocError, Global};
 
 /// A message of the broker under a topic name.
 #[derive(Drop)]
 pub struct Incoming {
     pub name: TopicName,
-    pub payload: Octets,
+    /// All for whom it comes to wait share it.
+    pub payload: Bytes,
     pub qos: Qos,
     pub retain: bool,
     /// The topic id that its name has for each client, where it has one.
@@ -137,7 +139,7 @@ fn arrive(
 {
     let id = sessions.id(place);
     let message = arrival.message;
-    if !Waiting::is_sendable(&message.name, &message.payload) {
+    if !Waiting::is_sendable(&message.name, message.payload.as_slice()) {
         return note_hand(
             id,
             &message.name,
@@ -195,7 +197,7 @@ fn turn(
     let known = known_id(message.fixed, to.ids, None, &message.name);
     let mail = Mail {
         name: &message.name,
-        payload: &message.payload,
+        payload: message.payload.as_slice(),
         qos: arrival.qos,
         retain: message.retain,
     };
@@ -233,7 +235,7 @@ fn keep(
 {
     let Arrival { message, qos } = arrival;
     let name = message.name.copy()?;
-    let payload = message.payload.copy()?;
+    let payload = message.payload.clone()?;
     let message = Waiting::new(name, payload, qos, message.retain);
     kept.push(Kept {
         place,
