@@ -26,6 +26,7 @@ pub mod ReplacingClient
 pub mod ReplacingLost
 pub mod Replacing
 pub mod RefusedFilters
+mod RefusedPlaces
 pub mod Refusing
 pub mod Releasing
 pub mod ReleasingLink
