@@ -50,8 +50,11 @@ counted [] h later =
     let one : ◌≡◌ {A = ℕ} (cond (has_text h.filter h) 1 0) 1 = ap (λ b. cond b 1 0) (itself h.filter) in
     omega (arith, one, sum_by-cons (λ x. cond (has_text h.filter x) 1 0) h later)
 counted (g ∷ before) h later =
-    omega (arith, counted before h later,
-    sum_by-cons (λ x. cond (has_text h.filter x) 1 0) g (before ++ h ∷ later))
+    omega (
+      arith,
+      counted before h later,
+      sum_by-cons (λ x. cond (has_text h.filter x) 1 0) g (before ++ h ∷ later),
+    )
 
 -- so where it stands once, its QoS is the one that is held
 one_held : (before : List Held) (h : Held) (later : List Held)
@@ -123,25 +126,25 @@ unique held name None None once none is = refl
 unique held name None (Some qos) once none is =
     let split = is.1.3 in
     let stood : stands held is.1.1.filter ≡ true =
-        subst (λ hs. stands hs is.1.1.filter ≡ true) (sym split) (stands_among is.1.0 is.1.1 is.1.2) in
+    subst (λ hs. stands hs is.1.1.filter ≡ true) (sym split) (stands_among is.1.0 is.1.1 is.1.2) in
     let none_there : is_some (qos_held held is.1.1.filter) ≡ false = ap is_some (none is.1.1.filter is.1.4) in
     absurd (true≢false (sym stood ∙ sym (some-held held is.1.1.filter) ∙ none_there))
 unique held name (Some qos) None once is none =
     let there = among held is.1.0 qos is.1.2 in
     let fits : matches there.1.filter name ≡ true = ap (λ f. matches f name) there.4 ∙ is.1.1 in
     let not_there : matches there.1.filter name ≡ false =
-        none_of there.0 there.1 there.2 name (subst (λ hs. NoneMatches hs name) there.3 none) in
+    none_of there.0 there.1 there.2 name (subst (λ hs. NoneMatches hs name) there.3 none) in
     absurd (true≢false (sym fits ∙ not_there))
 unique held name (Some qos) (Some own) once is other =
     let there = among held is.1.0 qos is.1.2 in
     let fits : matches there.1.filter name ≡ true = ap (λ f. matches f name) there.4 ∙ is.1.1 in
     let over : greater own there.1.qos ≡ own =
-        not_greater own there.0 there.1 there.2 name (subst (λ hs. NoneOfThese own hs name) there.3 other.0)
-        fits in
+    not_greater own there.0 there.1 there.2 name (subst (λ hs. NoneOfThese own hs name) there.3 other.0)
+    fits in
     let held_so : qos_held held other.1.1.filter ≡ Some other.1.1.qos =
-        subst (λ hs. qos_held hs other.1.1.filter ≡ Some other.1.1.qos) (sym other.1.3)
-        (one_held other.1.0 other.1.1 other.1.2
-        (subst (λ hs. count_by (has_text other.1.1.filter) hs ≤ 1) other.1.3 (once.0 other.1.1.filter))) in
+    subst (λ hs. qos_held hs other.1.1.filter ≡ Some other.1.1.qos) (sym other.1.3)
+    (one_held other.1.0 other.1.1 other.1.2
+    (subst (λ hs. count_by (has_text other.1.1.filter) hs ≤ 1) other.1.3 (once.0 other.1.1.filter))) in
     let under : greater qos other.1.1.qos ≡ qos = is.0 other.1.1.filter other.1.1.qos other.1.4 held_so in
     ap Some (each_as_great qos own
     (ap (greater qos) (sym other.1.5) ∙ under)

@@ -45,7 +45,7 @@ held-with (h ∷ held) filter text qos =
         ≡ (if b then Some qos else (if a then Some h.qos else qos_held held text))
     past true true first second apart =
         let same : bytes_eq h.filter filter ≡ true =
-            ap (λ t. bytes_eq h.filter t) (same_text filter text second) ∙ first in
+        ap (λ t. bytes_eq h.filter t) (same_text filter text second) ∙ first in
         let never : true ≡ false = sym same ∙ apart in absurd (cc)
     past true false first second apart = refl
     past false b first second apart = refl
@@ -86,7 +86,7 @@ held-without (h ∷ held) filter text = by (bytes_eq h.filter filter) refl (held
         ≡ (if b then None else (if a then Some h.qos else qos_held held text))
     past true true first second apart =
         let same : bytes_eq h.filter filter ≡ true =
-            ap (λ t. bytes_eq h.filter t) (same_text filter text second) ∙ first in
+        ap (λ t. bytes_eq h.filter t) (same_text filter text second) ∙ first in
         let never : true ≡ false = sym same ∙ apart in absurd (cc)
     past true false first second apart = refl
     past false b first second apart = refl

@@ -75,7 +75,7 @@ nowhere_beside text (x ∷ xs) zero none =
 nowhere_beside text (x ∷ xs) (suc place) none =
     let first : holds text x ≡ false = none zero (λ same. absurd (omega (arith, same))) in
     let rest = nowhere_beside text xs place
-        (λ other apart. none (suc other) (λ same. apart (omega (arith, same)))) in
+    (λ other apart. none (suc other) (λ same. apart (omega (arith, same)))) in
     past (holds text x) (is_held (take place xs) text) (is_held (drop (suc place) xs) text) first rest
   where
     past : (a b c : Bool) → a ≡ false → (b || c) ≡ false → ((a || b) || c) ≡ false

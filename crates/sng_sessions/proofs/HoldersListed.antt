@@ -101,23 +101,23 @@ one_listed name place x xs h holders later sorted from all = by (place == h.clie
     by true is =
         let here : place ≡ h.client = eqb-true place h.client is in
         let found : greatest_qos x.filters name ≡ Some h.qos =
-            first ∙ (ap (λ n. qos_of n (h ∷ holders)) here ∙ first_found h holders) in
+        first ∙ (ap (λ n. qos_of n (h ∷ holders)) here ∙ first_found h holders) in
         let same : h ≡ record { client = place; qos = h.qos } =
-            ap (λ c. let holder : Holder = record { client = c; qos = h.qos } in holder) (sym here) in
+        ap (λ c. let holder : Holder = record { client = c; qos = h.qos } in holder) (sym here) in
         let rest : holders ≡ holders_from (suc place) name xs =
-            later holders (sorted_tail nat_cmp h.client (map (λ h. h.client) holders) sorted)
-            (subst (λ p. AreFrom (suc p) holders) (sym here) above)
-            (λ n. past here n ∙ all (suc n)) in
+        later holders (sorted_tail nat_cmp h.client (map (λ h. h.client) holders) sorted)
+        (subst (λ p. AreFrom (suc p) holders) (sym here) above)
+        (λ n. past here n ∙ all (suc n)) in
         rw found (λ i. same i ∷ rest i)
     by false is =
         let more : suc place ≤ h.client = omega (arith, from.0, eqb-false place h.client is) in
         let behind_it : AreFrom (suc place) (h ∷ holders) =
-            (more, from_later (suc h.client) (suc place) holders (omega (arith, more)) above) in
+        (more, from_later (suc h.client) (suc place) holders (omega (arith, more)) above) in
         let none : greatest_qos x.filters name ≡ None =
-            first ∙ before_first (suc place) place (h ∷ holders) (omega arith) behind_it in
+        first ∙ before_first (suc place) place (h ∷ holders) (omega arith) behind_it in
         let rest : h ∷ holders ≡ holders_from (suc place) name xs =
-            later (h ∷ holders) sorted behind_it
-            (λ n. ap (λ m. qos_of m (h ∷ holders)) (shift n) ∙ all (suc n)) in
+        later (h ∷ holders) sorted behind_it
+        (λ n. ap (λ m. qos_of m (h ∷ holders)) (shift n) ∙ all (suc n)) in
         rw none rest
 
 listed : (name : List ℕ) (place : ℕ) (xs : List Client) → IsListed name place xs
@@ -125,11 +125,11 @@ listed name place [] [] sorted from all = refl
 listed name place [] (h ∷ holders) sorted from all =
     let at : h.client - place + place ≡ h.client = omega (arith, from.0) in
     let there : is_some (qos_of (h.client - place + place) (h ∷ holders)) ≡ true =
-        ap (λ n. is_some (qos_of n (h ∷ holders))) at ∙ ap is_some (first_found h holders) in
+    ap (λ n. is_some (qos_of n (h ∷ holders))) at ∙ ap is_some (first_found h holders) in
     absurd (true≢false (sym there ∙ ap is_some (all (h.client - place))))
 listed name place (x ∷ xs) [] sorted from all =
     let rest : [] ≡ holders_from (suc place) name xs =
-        listed name (suc place) xs [] sorted tt (λ n. all (suc n)) in
+    listed name (suc place) xs [] sorted tt (λ n. all (suc n)) in
     rw (sym (all 0)) rest
 listed name place (x ∷ xs) (h ∷ holders) sorted from all =
     one_listed name place x xs h holders (listed name (suc place) xs) sorted from all

@@ -95,19 +95,19 @@ one_listed filter place x xs p places later sorted from all = by (place == p) re
         let here : place ≡ p = eqb-true place p is in
         let found : holds filter x ≡ true = first ∙ (ap (λ n. is_in n (p ∷ places)) here ∙ first_found p places) in
         let rest : places ≡ places_from (suc place) filter xs =
-            later places (sorted_tail nat_cmp p places sorted)
-            (subst (λ q. AreFrom (suc q) places) (sym here) above)
-            (λ n. past here n ∙ all (suc n)) in
+        later places (sorted_tail nat_cmp p places sorted)
+        (subst (λ q. AreFrom (suc q) places) (sym here) above)
+        (λ n. past here n ∙ all (suc n)) in
         let back : p ≡ place = sym here in
         rw found (λ i. back i ∷ rest i)
     by false is =
         let more : suc place ≤ p = omega (arith, from.0, eqb-false place p is) in
         let behind_it : AreFrom (suc place) (p ∷ places) =
-            (more, from_later (suc p) (suc place) places (omega (arith, more)) above) in
+        (more, from_later (suc p) (suc place) places (omega (arith, more)) above) in
         let none : holds filter x ≡ false =
-            first ∙ before_first (suc place) place (p ∷ places) (omega arith) behind_it in
+        first ∙ before_first (suc place) place (p ∷ places) (omega arith) behind_it in
         let rest : p ∷ places ≡ places_from (suc place) filter xs =
-            later (p ∷ places) sorted behind_it (λ n. ap (λ m. is_in m (p ∷ places)) (shift n) ∙ all (suc n)) in
+        later (p ∷ places) sorted behind_it (λ n. ap (λ m. is_in m (p ∷ places)) (shift n) ∙ all (suc n)) in
         rw none rest
 
 listed : (filter : List ℕ) (place : ℕ) (xs : List Client) → IsListed filter place xs
@@ -115,11 +115,11 @@ listed filter place [] [] sorted from all = refl
 listed filter place [] (p ∷ places) sorted from all =
     let at : p - place + place ≡ p = omega (arith, from.0) in
     let there : is_in (p - place + place) (p ∷ places) ≡ true =
-        ap (λ n. is_in n (p ∷ places)) at ∙ first_found p places in
+    ap (λ n. is_in n (p ∷ places)) at ∙ first_found p places in
     absurd (true≢false (sym there ∙ all (p - place)))
 listed filter place (x ∷ xs) [] sorted from all =
     let rest : [] ≡ places_from (suc place) filter xs =
-        listed filter (suc place) xs [] sorted tt (λ n. all (suc n)) in
+    listed filter (suc place) xs [] sorted tt (λ n. all (suc n)) in
     rw (sym (all 0)) rest
 listed filter place (x ∷ xs) (p ∷ places) sorted from all =
     one_listed filter place x xs p places (listed filter (suc place) xs) sorted from all

@@ -50,8 +50,8 @@ pub keeps-set : (before now : Node) (entries : List (List ℕ × Session)) (plac
 keeps-set before now entries place session after f found moves says others keeps =
     let x = client_at (clients_of entries) place in
     let filters_are : after.filters ≡ (f x).filters =
-        sym (ap (λ y. y.filters) (moves x.id))
-        ∙ ap (λ y. (f y).filters) (session-there entries place session found) in
+    sym (ap (λ y. y.filters) (moves x.id))
+    ∙ ap (λ y. (f y).filters) (session-there entries place session found) in
     subst (Keeps now) (sym (clients-set entries place session after f found moves))
     (keeps-moved before now f (clients_of entries) place (found-within entries place session found)
     (subst (SaysHeld now place) filters_are says) others keeps)

@@ -23,9 +23,9 @@ stand-requires-clause-held c =
 pub returns-in_err-stand-clause-err : goal.returns-in_err-stand-clause-err
 returns-in_err-stand-clause-err c =
     let same =
-        clients-same c.args.clients.now.entries c.args.place c.in-Some.session.now c.stand.new.session
-        (sym c.get_index_mut.ensures.value ∙ ap option_copied_mut c.in-Some.is)
-        (λ id. ap (λ s. client_of (id, s)) (sym c.in_err-stand.ensures.err)) in
+    clients-same c.args.clients.now.entries c.args.place c.in-Some.session.now c.stand.new.session
+    (sym c.get_index_mut.ensures.value ∙ ap option_copied_mut c.in-Some.is)
+    (λ id. ap (λ s. client_of (id, s)) (sym c.in_err-stand.ensures.err)) in
     search (rules, same)
 
 pub returns-in_err-stand-clause-kept : goal.returns-in_err-stand-clause-kept

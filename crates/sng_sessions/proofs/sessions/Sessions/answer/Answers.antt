@@ -16,5 +16,5 @@ invariant_of-self c =
           ∙ holds_at-kept (λ x. is_here x from) (answered c.args.clock c.args.id)
           (here-kept keeps from) _ c.args.place place),
       keeps-kept c.self.inside.standing (answered c.args.clock c.args.id)
-      (filters-kept keeps) _ _ c.args.place c.answer_at.ensures c.self.invariant.1,
+          (filters-kept keeps) _ _ c.args.place c.answer_at.ensures c.self.invariant.1,
     )

@@ -16,5 +16,5 @@ invariant_of-self c =
           ∙ holds_at-kept (λ x. is_here x from) (delivered c.args.clock c.args.message c.args.opens)
           (here-kept keeps from) _ c.args.place place),
       keeps-kept c.self.inside.standing (delivered c.args.clock c.args.message c.args.opens)
-      (filters-kept keeps) _ _ c.args.place c.deliver_at.ensures c.self.invariant.1,
+          (filters-kept keeps) _ _ c.args.place c.deliver_at.ensures c.self.invariant.1,
     )

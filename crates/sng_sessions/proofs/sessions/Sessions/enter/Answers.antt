@@ -22,8 +22,8 @@ invariant_of-self-in_err-reserve-in-None c =
     let indexed : Indexed (get same_address c.reserve.new.self)
     (clients_of c.reserve-in-None.new.self.entries) = search rules in
     let kept : Keeps c.self.inside.standing (clients_of c.reserve-in-None.new.self.entries) =
-        subst (λ entries. Keeps c.self.inside.standing (clients_of entries))
-        (sym c.reserve-in-None.ensures.entries) c.self.invariant.1 in
+    subst (λ entries. Keeps c.self.inside.standing (clients_of entries))
+    (sym c.reserve-in-None.ensures.entries) c.self.invariant.1 in
     (indexed, kept)
 
 pub invariant_of-self-in-None : goal.invariant_of-self-in-None

@@ -16,5 +16,5 @@ invariant_of-self c =
           ∙ holds_at-kept (λ x. is_here x from) (handed_by c.args.clock c.args.handed)
           (here-kept keeps from) _ c.args.place place),
       keeps-kept c.self.inside.standing (handed_by c.args.clock c.args.handed)
-      (filters-kept keeps) _ _ c.args.place c.hand_at.ensures c.self.invariant.1,
+          (filters-kept keeps) _ _ c.args.place c.hand_at.ensures c.self.invariant.1,
     )

@@ -20,10 +20,10 @@ stand_at-requires-clause-fits c =
 pub tell_if-requires : goal.tell_if-requires
 tell_if-requires c =
     let ids_are =
-        ap (λ xs. (client_at xs c.args.place).ids) c.in_ok-stand_at.ensures.ok
-        ∙ (ids-moved (standing_at c.args.filter c.args.qos) (λ x. refl)
-        (clients_of c.self.inside.clients.entries) c.args.place
-        ∙ ap (λ xs. (client_at xs c.args.place).ids) c.self.view_is) in
+    ap (λ xs. (client_at xs c.args.place).ids) c.in_ok-stand_at.ensures.ok
+    ∙ (ids-moved (standing_at c.args.filter c.args.qos) (λ x. refl)
+    (clients_of c.self.inside.clients.entries) c.args.place
+    ∙ ap (λ xs. (client_at xs c.args.place).ids) c.self.view_is) in
     subst (λ ids. ForSome c.args.name (λ n. is_full_for n ids ≡ false)) (sym ids_are) c.requires.names
 
 pub invariant_of-self-2 : goal.invariant_of-self-2
