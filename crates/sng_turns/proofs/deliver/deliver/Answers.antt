@@ -7,11 +7,23 @@ use Rattle.sng_turns.proofs.deliver.deliver.Goals as goal
 
 pub deliver_each-requires-clause-within : goal.deliver_each-requires-clause-within
 deliver_each-requires-clause-within c =
-    subst (AreWithin c.args.sessions.now) (sym c.in_ok-holders.ensures)
+    subst (AreWithin c.args.sessions.now) (sym (c.as_slice.ensures.value ∙ c.in_ok-holders.ensures))
     (all-within c.args.message.now.name c.args.sessions.now)
 
 pub returns-clause-outs : goal.returns-clause-outs
-returns-clause-outs c = ?
+returns-clause-outs c =
+    let holders_are = c.as_slice.ensures.value ∙ c.in_ok-holders.ensures in
+    on_ok_weaker c.deliver_each.result
+    (λ said. said ∙ ap (λ outs. c.args.outs.now ++ outs)
+    (ap (holders_outs c.args.policy.now c.args.message.now c.args.sessions.now) holders_are
+    ∙ outs-all c.args.policy.now c.args.message.now c.args.sessions.now))
+    c.deliver_each.ensures.outs
 
 pub returns-clause-kept : goal.returns-clause-kept
-returns-clause-kept c = ?
+returns-clause-kept c =
+    let holders_are = c.as_slice.ensures.value ∙ c.in_ok-holders.ensures in
+    IfOk-weaker c.deliver_each.result _ _
+    (λ kept is. is
+    ∙ (ap (holders_kept c.args.policy.now c.args.message.now c.args.sessions.now) holders_are
+    ∙ kept-all c.args.policy.now c.args.message.now c.args.sessions.now))
+    c.deliver_each.ensures.kept
