@@ -14,8 +14,8 @@ pub enum Holding {
     One,
     /// One filter of so many clients, which matches the name.
     Many(u32),
-    /// 8,192 filters along one chain of 100 levels, and a name of 100 levels that goes down the chain and that
-    /// none of them matches.
+    /// 8,192 filters along one chain of 100 levels, and a name of 100 levels that goes down the chain and
+    /// that none of them matches.
     Chain,
     /// `+`, `+/+` and so on up to 32 levels of each of 256 clients, and a name of 40 levels.
     Wildcards,

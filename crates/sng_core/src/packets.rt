@@ -179,7 +179,8 @@ fn is_refused(codes: &[SubscribeCode]) -> bool
     }
 }
 
-/// The notes that the broker refuses the filter, of the clients at these places, for whom it stands, in order.
+/// The notes that the broker refuses the filter, of the clients at these places, for whom it stands, in
+/// order.
 fn ends(
     alloc: Global,
     sessions: &Sessions,

@@ -28,7 +28,7 @@ settled-waits (packet ∷ packets) (Fault fault) waits = tt
 fed-waits : (before : State) (piece : List ℕ) → WaitsIn (fed before piece).1
 fed-waits (Reading held) piece =
     settled-waits (read_all (held ++ piece)).packets (read_all (held ++ piece)).ending
-        (read_all-waits (held ++ piece))
+    (read_all-waits (held ++ piece))
 fed-waits (Kept fault) piece = tt
 fed-waits Failed piece = tt
 
@@ -63,10 +63,10 @@ asked : (packets : List Packet) (s later : State) (answer : Result (List Packet)
 asked packets (Reading held) later answer waits reads is =
     let e : (Ok [], Reading held) ≡ (answer, later) = sym (fed-nothing held waits) ∙ is in
     ap (λ (p : Result (List Packet) StreamFault × State).
-        record { packets = packets; fault = fault_in p.0; stream = p.1 }) e
+    record { packets = packets; fault = fault_in p.0; stream = p.1 }) e
 asked packets (Kept fault) later answer waits reads is =
     ap (λ (p : Result (List Packet) StreamFault × State).
-        record { packets = packets; fault = fault_in p.0; stream = p.1 }) is
+    record { packets = packets; fault = fault_in p.0; stream = p.1 }) is
 asked packets Failed later answer waits reads is = absurd (reads refl)
 
 -- packets came, and an empty piece behind them is answered so
@@ -76,10 +76,10 @@ pub arrival-asked : (before s later : State) (piece : List ℕ) (packets : List 
     → arrival before piece ≡ record { packets = packets; fault = fault_in answer; stream = later }
 arrival-asked before s later piece packets answer is next =
     let first : arrival before piece ≡ arrival_by (Ok packets) s =
-        ap (λ (p : Result (List Packet) StreamFault × State). arrival_by p.0 p.1) is in
+    ap (λ (p : Result (List Packet) StreamFault × State). arrival_by p.0 p.1) is in
     let state : (fed before piece).1 ≡ s = ap (λ (p : Result (List Packet) StreamFault × State). p.1) is in
     first ∙ asked packets s later answer (subst WaitsIn state (fed-waits before piece))
-        (fed-reads before piece packets s is) next
+    (fed-reads before piece packets s is) next
 
 -- a fault came at once
 pub arrival-fault : (before later : State) (piece : List ℕ) (fault : StreamFault)

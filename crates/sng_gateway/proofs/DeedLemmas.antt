@@ -16,9 +16,15 @@ Does-then [] more text others before between after does next =
     let here = subst (λ s. Does s more others after) does.1 next in
     subst (λ t. Does before more (t ++ others) after) (sym does.0) here
 Does-then (Step event ∷ deeds) more text others before between after does next =
-    let later = Does-then deeds more does.2 others does.0 between after does.5 next in
-    (does.0, does.1, does.2 ++ others, does.3, ap (λ t. t ++ others) does.4
-        ∙ append_assoc does.1 does.2 others, later)
+    let later = Does-then deeds more does.2 others does.0 between after does.5 next in (
+      does.0,
+      does.1,
+      does.2 ++ others,
+      does.3,
+      ap (λ t. t ++ others) does.4
+          ∙ append_assoc does.1 does.2 others,
+      later,
+    )
 Does-then (Tell told ∷ deeds) more text others before between after does next =
     let later = Does-then deeds more does.0 others before between after does.2 next in
     (does.0 ++ others, ap (λ t. t ++ others) does.1 ∙ append_assoc told does.0 others, later)
@@ -45,9 +51,9 @@ pub Adds-packet : (packets : List Packet) (packet : Packet) (held between holds 
     → Adds before (packet_deeds (packets ++ packet ∷ [])) held holds after
 Adds-packet packets packet held between holds before middle after first next =
     subst (λ deeds. Adds before deeds held holds after)
-        (sym (map-append (λ p. Step (events.Broker p)) packets (packet ∷ [])))
+    (sym (map-append (λ p. Step (events.Broker p)) packets (packet ∷ [])))
     (Adds-then (packet_deeds packets) (Step (events.Broker packet) ∷ []) held between holds before middle
-        after first next)
+    after first next)
 
 -- a text is told, and then deeds are done
 pub Adds-told : (told : List ℕ) (deeds : List Deed) (held between holds : List ℕ) (before after : Standing)
@@ -85,7 +91,7 @@ Comes-piece piece held between holds came before middle after none is first next
     let deeds = packet_deeds came.packets ++ fault_deeds came.fault in
     let taken : Standing = record before { stream = came.stream } in
     let all = Adds-then (packet_deeds came.packets) (fault_deeds came.fault) held between holds taken middle
-        after first next in
+    after first next in
     let does : Does taken deeds holds after = Adds-whole deeds held holds taken after none all in
     subst (λ (a : Arrival). Does (record before { stream = a.stream })
-        (packet_deeds a.packets ++ fault_deeds a.fault) holds after) (sym is) does
+    (packet_deeds a.packets ++ fault_deeds a.fault) holds after) (sym is) does

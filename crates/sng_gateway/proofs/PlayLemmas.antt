@@ -58,8 +58,12 @@ written_row rows before event text after stands step =
     let counted : after.rows ≡ length (row ∷ rows) = omega (arith, step.counted, stands.counted) in
     record {
       now = row ∷ rows;
-      writes = (step.outs, refl, step.printed ∙ ap (λ number. row_text number 0 (kind_of event) step.outs)
-          counted);
+      writes = (
+        step.outs,
+        refl,
+        step.printed ∙ ap (λ number. row_text number 0 (kind_of event) step.outs)
+            counted,
+      );
       stands = record { lawful = kept.0; leads = kept.1; counted = counted };
     }
 
@@ -90,27 +94,49 @@ written rows before (Step event ∷ deeds) text after stands does =
     }
 written rows before (Tell told ∷ deeds) text after stands does =
     let later = written rows before deeds does.0 after stands does.2 in
-    record { now = later.now; writes = (does.0, does.1, later.writes); stands = later.stands;
-        same = later.same }
+    record {
+      now = later.now;
+      writes = (does.0, does.1, later.writes);
+      stands = later.stands;
+      same = later.same;
+    }
 
 -- one more line behind those that wrote
 AllWrite-more : (lines : List (List ℕ)) (bytes : List ℕ) (line : Line) (before between rows : List Row)
     (stream last : State)
     (text more : List ℕ) → length bytes ≤ MAX_LINE → line_of bytes ≡ Some line
-        → AllWrite before stream lines text between last
+    → AllWrite before stream lines text between last
     → Writes between (deeds_of last line) more rows
     → AllWrite before stream (lines ++ bytes ∷ []) (text ++ more) rows (stream_by last line)
 AllWrite-more [] bytes line before between rows stream last text more few read all writes =
     let there = subst (λ h. Writes h (deeds_of last line) more rows) all.1 writes in
     let here = subst (λ s. Writes before (deeds_of s line) more rows) all.2 there in
-    let same = ap (λ s. stream_by s line) all.2 in
-    (line, more, rows, [], few, read, here, (refl, refl, same), ap (λ t. t ++ more) all.0
-        ∙ sym (append-nil more))
+    let same = ap (λ s. stream_by s line) all.2 in (
+      line,
+      more,
+      rows,
+      [],
+      few,
+      read,
+      here,
+      (refl, refl, same),
+      ap (λ t. t ++ more) all.0
+          ∙ sym (append-nil more),
+    )
 AllWrite-more (first ∷ lines) bytes line before between rows stream last text more few read all writes =
     let rest = AllWrite-more lines bytes line all.2 between rows (stream_by stream all.0) last all.3 more few
-        read all.7 writes in
-    (all.0, all.1, all.2, all.3 ++ more, all.4, all.5, all.6, rest, ap (λ t. t ++ more) all.8
-        ∙ append_assoc all.1 all.3 more)
+    read all.7 writes in (
+      all.0,
+      all.1,
+      all.2,
+      all.3 ++ more,
+      all.4,
+      all.5,
+      all.6,
+      rest,
+      ap (λ t. t ++ more) all.8
+          ∙ append_assoc all.1 all.3 more,
+    )
 
 pub starts : (script : List (List ℕ)) (held : Option (List ℕ)) (standing : Standing)
     → Leads opening [] standing.state → standing.rows ≡ 0 → standing.stream ≡ Reading []
@@ -137,11 +163,11 @@ goes_on script left bytes held between holds number standing after way few playe
     let stands : StandsAfter way.rows taken =
     record { lawful = way.stands.lawful; leads = way.stands.leads; counted = way.stands.counted } in
     let wrote =
-        written way.rows taken (deeds_of standing.stream line) played.text after stands played.comes in
+    written way.rows taken (deeds_of standing.stream line) played.text after stands played.comes in
     let lines = way.before ++ bytes ∷ [] in
     let text = way.text ++ played.text in
     let more = AllWrite-more way.before bytes line [] way.rows wrote.now (Reading []) standing.stream way.text
-        played.text few played.read way.written wrote.writes in
+    played.text few played.read way.written wrote.writes in
     record {
       before = lines;
       text = text;
@@ -163,9 +189,11 @@ pub ends : (script : List (List ℕ)) (held holds : Option (List ℕ)) (number :
     → UnderWay script [] held holds number standing
     → (text : List ℕ) × ArePlayed script text × Appends held holds text
 ends script held holds number standing way =
-    let all : way.before ≡ script = sym (way.split ∙ append-nil way.before) in
-    (way.text, subst (λ l. ArePlayed l way.text) all (played script [] held holds number standing way),
-        way.grown)
+    let all : way.before ≡ script = sym (way.split ∙ append-nil way.before) in (
+      way.text,
+      subst (λ l. ArePlayed l way.text) all (played script [] held holds number standing way),
+      way.grown,
+    )
 
 -- the next line cannot be read
 pub stops : (script left : List (List ℕ)) (bytes : List ℕ) (held between holds : Option (List ℕ)) (number : ℕ)
@@ -238,7 +266,7 @@ Halts-end None left held holds number standing way end = tt
 Halts-end (Some bytes) None held holds number standing way end = absurd way
 Halts-end (Some bytes) (Some rest) held holds number standing way end =
     ends (lines_of bytes) held holds number standing
-        (subst (λ l. UnderWay (lines_of bytes) (lines_of l) held holds number standing) end way)
+    (subst (λ l. UnderWay (lines_of bytes) (lines_of l) held holds number standing) end way)
 
 -- the next line is too long
 pub Halts-long : (input left held holds : Option (List ℕ)) (number : ℕ) (standing : Standing)
@@ -249,7 +277,7 @@ Halts-long (Some bytes) None held holds number standing way long = absurd way
 Halts-long (Some bytes) (Some rest) held holds number standing way (line, others, split, many) =
     stops (lines_of bytes) others line held holds holds number standing
     (subst (λ l. UnderWay (lines_of bytes) l held holds number standing) split way) (inr many)
-        (Keeps-refl holds)
+    (Keeps-refl holds)
 
 -- the line that was read is none of a script
 pub Halts-unreadable : (input left rest held between holds : Option (List ℕ)) (line : List ℕ) (number : ℕ)
@@ -279,10 +307,16 @@ Halts-memory (Some bytes) (Some rest) held between holds number told standing wa
 -- there is no memory to begin with
 pub Halts-first : (input held : Option (List ℕ)) (told : ℕ) → Halts input (Err OutOfMemory) told held held
 Halts-first None held told = tt
-Halts-first (Some bytes) held told =
-    ([], [], record { rest = lines_of bytes; split = refl;
-        played = record { rows = []; stream = Reading []; lawful = tt; written = (refl, refl, refl) } },
-        Appends-nil held)
+Halts-first (Some bytes) held told = (
+  [],
+  [],
+  record {
+    rest = lines_of bytes;
+    split = refl;
+    played = record { rows = []; stream = Reading []; lawful = tt; written = (refl, refl, refl) };
+  },
+  Appends-nil held,
+)
 
 -- a line could not be read for one of these reasons
 pub Halts-read : (input left held holds : Option (List ℕ)) (number : ℕ) (standing : Standing)
@@ -304,7 +338,7 @@ pub Halts-play : (input left rest held between holds : Option (List ℕ)) (line 
     → Halts input (Err stop) number held holds
 Halts-play input left rest held between holds line number standing Unreadable way first unreadable keeps =
     Halts-unreadable input left rest held between holds line number standing way first (unreadable refl)
-        (keeps (λ is. absurd (cc)))
+    (keeps (λ is. absurd (cc)))
 Halts-play input left rest held between holds line number standing OutOfMemory way first unreadable keeps =
     Halts-memory input left held between holds number number standing way (keeps (λ is. absurd (cc)))
 Halts-play None left rest held between holds line number standing Failed way first unreadable keeps = tt
@@ -322,9 +356,13 @@ outcome (Some bytes) held between holds statuses.Done played number halts (is, k
     (text, all, Appends-kept held between holds text grown keeps)
 outcome (Some bytes) held between holds statuses.Unreadable played number halts (is, told) =
     let (before, text, stop, grown, numbered) =
-        subst (λ r. IsHalt r number (lines_of bytes) held between) is halts in
-    (before, text, stop, subst (λ n. Appends held holds (text ++ unreadable_text n)) numbered
-        (Appends-trans held between holds text (unreadable_text number) grown told))
+    subst (λ r. IsHalt r number (lines_of bytes) held between) is halts in (
+      before,
+      text,
+      stop,
+      subst (λ n. Appends held holds (text ++ unreadable_text n)) numbered
+          (Appends-trans held between holds text (unreadable_text number) grown told),
+    )
 outcome (Some bytes) held between holds statuses.OutOfMemory played number halts (is, told) =
     let (before, text, break, grown) = subst (λ r. IsHalt r number (lines_of bytes) held between) is halts in
     (before, text, break, Appends-trans held between holds text _ grown told)

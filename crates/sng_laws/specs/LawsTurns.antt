@@ -165,5 +165,5 @@ EachInTurn id (row ∷ earlier) =
     let rows = row ∷ earlier in
     EachInTurn id earlier
     × AllInTurn (policy_in_force rows) (occasion_of row.event) id (due_of id rows) (message_at row.event)
-        row.outs
+    row.outs
     (moment_at id row.event earlier)

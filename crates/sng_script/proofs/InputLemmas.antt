@@ -16,7 +16,7 @@ lines_of-line : (line rest : List ℕ) → IsWithinLine line → lines_of (line 
 lines_of-line [] rest within = refl
 lines_of-line (byte ∷ line) rest within =
     ap (λ is. if is then [] ∷ lines_of (line ++ 10 ∷ rest) else onto_first byte
-        (lines_of (line ++ 10 ∷ rest))) (ne_eqb byte 10 (All-head (λ b. b ≢ 10) byte line within))
+    (lines_of (line ++ 10 ∷ rest))) (ne_eqb byte 10 (All-head (λ b. b ≢ 10) byte line within))
     ∙ ap (onto_first byte) (lines_of-line line rest (All-tail (λ b. b ≢ 10) byte line within))
 
 -- the last line, without one
@@ -24,10 +24,10 @@ lines_of-last : (byte : ℕ) (line : List ℕ) → IsWithinLine (byte ∷ line)
     → lines_of (byte ∷ line) ≡ (byte ∷ line) ∷ []
 lines_of-last byte [] within =
     ap (λ is. if is then [] ∷ [] else onto_first byte [])
-        (ne_eqb byte 10 (All-head (λ b. b ≢ 10) byte [] within))
+    (ne_eqb byte 10 (All-head (λ b. b ≢ 10) byte [] within))
 lines_of-last byte (next ∷ line) within =
     ap (λ is. if is then [] ∷ lines_of (next ∷ line) else onto_first byte (lines_of (next ∷ line)))
-        (ne_eqb byte 10 (All-head (λ b. b ≢ 10) byte (next ∷ line) within))
+    (ne_eqb byte 10 (All-head (λ b. b ≢ 10) byte (next ∷ line) within))
     ∙ ap (onto_first byte) (lines_of-last next line (All-tail (λ b. b ≢ 10) byte (next ∷ line) within))
 
 -- there is a first line, and it has so many bytes at least
@@ -47,17 +47,21 @@ begins-onto byte count (line ∷ rest) (inl none) =
     record { line = byte ∷ line; rest = rest; split = refl; long = omega arith }
 begins-onto byte count (line ∷ rest) (inr begins) =
     let same : line ≡ begins.line = cc begins.split in
-    record { line = byte ∷ line; rest = rest; split = refl;
-        long = omega (arith, begins.long, ap length same) }
+    record {
+      line = byte ∷ line;
+      rest = rest;
+      split = refl;
+      long = omega (arith, begins.long, ap length same);
+    }
 
 begins : (front rest : List ℕ) → IsWithinLine front
     → (length front ≡ 0) ⊎ Begins (length front) (lines_of (front ++ rest))
 begins [] rest within = inl refl
 begins (byte ∷ front) rest within =
     let onto = begins-onto byte (length front) (lines_of (front ++ rest))
-        (begins front rest (All-tail (λ b. b ≢ 10) byte front within)) in
+    (begins front rest (All-tail (λ b. b ≢ 10) byte front within)) in
     let same = ap (λ is. if is then [] ∷ lines_of (front ++ rest) else onto_first byte
-        (lines_of (front ++ rest))) (ne_eqb byte 10 (All-head (λ b. b ≢ 10) byte front within)) in
+    (lines_of (front ++ rest))) (ne_eqb byte 10 (All-head (λ b. b ≢ 10) byte front within)) in
     inr (subst (Begins (suc (length front))) (sym same) onto)
 
 -- ---- what was read so far of a line, and what comes then
@@ -105,7 +109,7 @@ whole_line left between stays text new within taken (front, appended, here, more
     let line = text ++ front in
     let all : Consumes left stays (line ++ 10 ∷ []) =
     subst (Consumes left stays) (sym (append_assoc text front (10 ∷ [])))
-        (Consumes-trans left between stays text (front ++ 10 ∷ []) taken more) in
+    (Consumes-trans left between stays text (front ++ 10 ∷ []) taken more) in
     subst (Ends Feed left stays) (sym appended) (goes_on text front within here, all)
 
 -- the input ended
@@ -136,11 +140,16 @@ is_too_long (Some bytes) None text within taken long = absurd taken
 is_too_long (Some bytes) (Some rest) text within taken (front, here, many, (later, split)) =
     let whole = text ++ front in
     let same : bytes ≡ whole ++ later =
-        taken ∙ ap (λ l. text ++ l) split ∙ sym (append_assoc text front later) in
+    taken ∙ ap (λ l. text ++ l) split ∙ sym (append_assoc text front later) in
     elim (begins whole later (goes_on text front within here)) [
       | inl none ↦ absurd (omega (arith, none, many, length-append text front))
-      | inr first ↦ (first.line, first.rest, ap lines_of same
-          ∙ first.split, omega (arith, first.long, many, length-append text front))
+      | inr first ↦ (
+        first.line,
+        first.rest,
+        ap lines_of same
+            ∙ first.split,
+        omega (arith, first.long, many, length-append text front),
+      )
     ]
 
 -- what was shown of the input is a front of it, and so is a front of that
@@ -149,6 +158,8 @@ pub is_front : (left : Option (List ℕ)) (shown front more : List ℕ)
     → shown ≡ front ++ more → IfSome left (λ bytes. (rest : List ℕ) × (bytes ≡ front ++ rest))
 is_front None shown front more starts split = tt
 is_front (Some bytes) shown front more starts split =
-    let rest = drop (length shown) bytes in
-    (more ++ rest, starts_with_rest bytes shown starts ∙ ap (λ l. l ++ rest) split
-        ∙ append_assoc front more rest)
+    let rest = drop (length shown) bytes in (
+      more ++ rest,
+      starts_with_rest bytes shown starts ∙ ap (λ l. l ++ rest) split
+          ∙ append_assoc front more rest,
+    )

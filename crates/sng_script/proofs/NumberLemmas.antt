@@ -60,7 +60,7 @@ spelled-more n text many before = is_number-more text (48 + n % 10) before (digi
 pub numbers_are_decimal : NumbersAreDecimal
 numbers_are_decimal number fits =
     let spelled : is_number (decimal number) ≡ true =
-        decimal_by_steps Spelled spelled-one spelled-more number fits in
+    decimal_by_steps Spelled spelled-one spelled-more number fits in
     let value : number_onto 0 (decimal number) ≡ number = digits_value-decimal numerals number fits in
     number_of-number (decimal number) spelled (omega (arith, value)) ∙ ap Some value
 

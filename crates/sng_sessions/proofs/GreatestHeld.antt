@@ -1,5 +1,6 @@
 -- The greatest QoS that the tree finds for a client is the greatest among its filters that match.
-use Rattle.std.proofs.Common.{◌≡◌, ℕ, ◌+◌, ◌≤◌, Bool, true, false, ◌||◌, List, [], ◌∷◌, ◌++◌, Option, Some, None}
+use Rattle.std.proofs.Common.{◌≡◌, ℕ, ◌+◌, ◌≤◌, Bool, true, false, ◌||◌, List, [], ◌∷◌, ◌++◌, Option, Some}
+use Rattle.std.proofs.Common.{None}
 use Rattle.std.proofs.Common.{is_some, if◌then◌else◌, cond, refl, sym, ap, ◌∙◌, subst, true≢false, arith}
 use Rattle.std.specs.List.{count_by}
 use Rattle.std.proofs.lemmas.List.Sums.{sum_by-cons}
@@ -35,7 +36,8 @@ each_as_great AtLeastOnce AtMostOnce first second = second
 each_as_great AtLeastOnce AtLeastOnce first second = refl
 
 -- it stands where it is one of them
-stands_among : (before : List Held) (h : Held) (later : List Held) → stands (before ++ h ∷ later) h.filter ≡ true
+stands_among : (before : List Held) (h : Held) (later : List Held)
+    → stands (before ++ h ∷ later) h.filter ≡ true
 stands_among [] h later = rw (itself h.filter) refl
 stands_among (g ∷ before) h later = rw (stands_among before h later) (past (has_text h.filter g))
   where

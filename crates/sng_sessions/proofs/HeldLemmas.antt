@@ -1,5 +1,6 @@
 -- At which QoS a filter is held, as the filters of one client change.
-use Rattle.std.proofs.Common.{◌≡◌, ℕ, Bool, true, false, not, ◌&&◌, ◌||◌, List, [], ◌∷◌, Option, Some, None, is_some}
+use Rattle.std.proofs.Common.{◌≡◌, ℕ, Bool, true, false, not, ◌&&◌, ◌||◌, List, [], ◌∷◌, Option, Some, None}
+use Rattle.std.proofs.Common.{is_some}
 use Rattle.std.proofs.Common.{if◌then◌else◌, refl, sym, ap, ◌∙◌}
 use Rattle.std.specs.Str.{bytes_eq}
 use Rattle.std.specs.Cmp.Lexicographic.{bytes_decides}
@@ -56,7 +57,8 @@ held-with (h ∷ held) filter text qos =
         → qos_held (with_filter (h ∷ held) filter qos) text
         ≡ (if bytes_eq filter text then Some qos else qos_held (h ∷ held) text)
     by true is rest =
-        rw is (ap (λ t. if bytes_eq t text then Some qos else qos_held held text) (same_text h.filter filter is)
+        rw is (ap (λ t. if bytes_eq t text then Some qos else qos_held held text)
+        (same_text h.filter filter is)
         ∙ over (bytes_eq filter text) (bytes_eq h.filter text)
         (ap (λ t. bytes_eq t text) (same_text h.filter filter is)))
       where

@@ -35,7 +35,8 @@ client-other f [] place other apart = refl
 client-other f (x ∷ xs) zero zero apart = absurd (apart refl)
 client-other f (x ∷ xs) zero (suc other) apart = refl
 client-other f (x ∷ xs) (suc place) zero apart = refl
-client-other f (x ∷ xs) (suc place) (suc other) apart = client-other f xs place other (λ same. apart (ap suc same))
+client-other f (x ∷ xs) (suc place) (suc other) apart =
+    client-other f xs place other (λ same. apart (ap suc same))
 
 -- one client holds other filters now, and the tree says so
 pub keeps-moved : (before after : Node) (f : Client → Client) (xs : List Client) (place : ℕ)
@@ -73,7 +74,8 @@ filters-kept-at f keeps (x ∷ xs) (suc place) (suc other) = filters-kept-at f k
 pub keeps-kept : (root : Node) (f : Client → Client) → ((x : Client) → (f x).filters ≡ x.filters)
     → (xs ys : List Client) (place : ℕ) → ys ≡ moved_at place f xs → Keeps root xs → Keeps root ys
 keeps-kept root f same xs ys place is keeps =
-    subst (Keeps root) (sym is) (keeps-same root xs (moved_at place f xs) (filters-kept-at f same xs place) keeps)
+    subst (Keeps root) (sym is) (keeps-same root xs (moved_at place f xs) (filters-kept-at f same xs place)
+    keeps)
 
 -- the same of a move of each client
 pub filters-mapped : (f : Client → Client) → ((x : Client) → (f x).filters ≡ x.filters) → (xs : List Client)
@@ -129,7 +131,8 @@ says-without before after place held filter moves says = (
 pub others-moved : (before after : Node) (place : ℕ) (filter : List ℕ) (now : Option Qos)
     → MovesAt before after place filter now → SameOfOthers before after place
 others-moved before after place filter now moves other text apart =
-    moves other text ∙ ap (λ same. if same && bytes_eq filter text then now else qos_at before other text) apart
+    moves other text ∙ ap (λ same. if same && bytes_eq filter text then now else qos_at before other text)
+    apart
 
 -- no filter stands any more
 abbrev pub Clears : Node → Node → ℕ → List Held → Type 0

@@ -1,5 +1,7 @@
--- A list in order that has each place at which a filter stands, and no other, is that of the clients in order.
-use Rattle.std.proofs.Common.{◌≡◌, ℕ, zero, suc, ◌+◌, ◌-◌, ◌<◌, ◌≤◌, ◌==◌, ◌||◌, Bool, true, false, List, [], ◌∷◌}
+-- A list in order that has each place at which a filter stands, and no other, is that of the clients in
+-- order.
+use Rattle.std.proofs.Common.{◌≡◌, ℕ, zero, suc, ◌+◌, ◌-◌, ◌<◌, ◌≤◌, ◌==◌, ◌||◌, Bool, true, false, List, []}
+use Rattle.std.proofs.Common.{◌∷◌}
 use Rattle.std.proofs.Common.{◌++◌, map, cond, nat_lt, zero-add, refl, sym, ap, ◌∙◌, subst, true≢false, arith}
 use Rattle.std.proofs.Common.{Less, Equal, Greater}
 use Rattle.std.proofs.lemmas.Bool.{eqb-true, eqb-false, eq-eqb, ltb-true}
@@ -64,7 +66,8 @@ SaysOf filter place xs places = (n : ℕ) → is_in (n + place) places ≡ holds
 -- the list is that of the clients from a place on
 abbrev IsListed : List ℕ → ℕ → List Client → Type 0
 IsListed filter place xs =
-    (places : List ℕ) → IsStrictlySortedBy nat_cmp places → AreFrom place places → SaysOf filter place xs places
+    (places : List ℕ) → IsStrictlySortedBy nat_cmp places → AreFrom place places
+    → SaysOf filter place xs places
     → places ≡ places_from place filter xs
 
 one_listed : (filter : List ℕ) (place : ℕ) (x : Client) (xs : List Client) (p : ℕ) (places : List ℕ)
@@ -93,7 +96,8 @@ one_listed filter place x xs p places later sorted from all = by (place == p) re
     by : (b : Bool) → (place == p) ≡ b → p ∷ places ≡ places_from place filter (x ∷ xs)
     by true is =
         let here : place ≡ p = eqb-true place p is in
-        let found : holds filter x ≡ true = first ∙ (ap (λ n. is_in n (p ∷ places)) here ∙ first_found p places) in
+        let found : holds filter x ≡ true =
+        first ∙ (ap (λ n. is_in n (p ∷ places)) here ∙ first_found p places) in
         let rest : places ≡ places_from (suc place) filter xs =
         later places (sorted_tail nat_cmp p places sorted)
         (subst (λ q. AreFrom (suc q) places) (sym here) above)

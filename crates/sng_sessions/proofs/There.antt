@@ -1,5 +1,6 @@
 -- The session at a place is the client's, and what the tree of filters says of it follows a write.
-use Rattle.std.proofs.Common.{◌≡◌, ℕ, zero, suc, ◌<◌, Bool, true, false, List, [], ◌∷◌, ◌++◌, map, length, Some}
+use Rattle.std.proofs.Common.{◌≡◌, ℕ, zero, suc, ◌<◌, Bool, true, false, List, [], ◌∷◌, ◌++◌, map, length}
+use Rattle.std.proofs.Common.{Some}
 use Rattle.std.proofs.Common.{slice_get, is_some, refl, sym, ap, ◌∙◌, subst, true≢false, arith}
 use Rattle.std.specs.Map.{values_of}
 use Rattle.std.specs.Str.{bytes_eq}

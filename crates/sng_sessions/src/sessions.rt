@@ -196,16 +196,17 @@ impl Sessions {
         self.clients[place].filters.stands(filter)
     }
 
-    /// The clients for whom a filter stands that matches the name, by their places and in order, each once and
-    /// with the greatest QoS among its filters that match. Looks at no other client. Only memory can fail.
+    /// The clients for whom a filter stands that matches the name, by their places and in order, each once
+    /// and with the greatest QoS among its filters that match. Looks at no other client. Only memory can
+    /// fail.
     pub fn holders(&self, alloc: Global, name: &TopicName) -> Result<Vec<Holder>, AllocError>
         ensures { IfOk result (λ list. list.items ≡ holders_from 0 name.now self.now) }
     {
         self.standing.holders(alloc, name)
     }
 
-    /// The places of the clients for whom the filter stands, in order. Looks at no other client. Only memory can
-    /// fail.
+    /// The places of the clients for whom the filter stands, in order. Looks at no other client. Only memory
+    /// can fail.
     pub fn holding(&self, alloc: Global, filter: &TopicFilter) -> Result<Vec<usize>, AllocError>
         ensures { IfOk result (λ list. list.items ≡ places_from 0 filter.now self.now) }
     {

@@ -1,4 +1,5 @@
-//! Which filters stand for a client (MQTT-SN 1.2, 6.9), together with the tree of those that stand for anybody.
+//! Which filters stand for a client (MQTT-SN 1.2, 6.9), together with the tree of those that stand for
+//! anybody.
 ghost use Rattle.std.specs.Prelude.{◌≡◌, [], false, OnOk, OnErr};
 ghost use Rattle.sng_fan.specs.Subscriptions.{is_full, with_filter, without_filter};
 ghost use Rattle.sng_history.specs.Clients.{without};

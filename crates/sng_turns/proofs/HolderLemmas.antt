@@ -19,7 +19,8 @@ use Rattle.sng_turns.specs.Delivering.{due_outs, due_kept, deliver_outs, deliver
 use Rattle.sng_turns.specs.Delivering.{held_outs, held_kept, holders_outs, holders_kept, AreWithin}
 
 -- one client
-one_outs : (policy : Policy) (i : Incoming) (zs : List Client) (place : ℕ) (x : Client) (holders : List Holder)
+one_outs : (policy : Policy) (i : Incoming) (zs : List Client) (place : ℕ) (x : Client)
+    (holders : List Holder)
     (found : Option Qos) → client_at zs place ≡ x
     → holders_outs policy i zs (holder_at place found ++ holders)
     ≡ due_outs policy i x (if is_due_messages x.phase then option_map (lesser i.qos) found else None)
@@ -36,11 +37,13 @@ one_outs policy i zs place x holders (Some qos) is =
   where
     by : (b : Bool) → is_due_messages x.phase ≡ b
         → held_outs policy i x qos ++ holders_outs policy i zs holders
-        ≡ due_outs policy i x (if b then Some (lesser i.qos qos) else None) ++ holders_outs policy i zs holders
+        ≡ due_outs policy i x (if b then Some (lesser i.qos qos) else None)
+        ++ holders_outs policy i zs holders
     by true due = rw due refl
     by false due = rw due refl
 
-one_kept : (policy : Policy) (i : Incoming) (zs : List Client) (place : ℕ) (x : Client) (holders : List Holder)
+one_kept : (policy : Policy) (i : Incoming) (zs : List Client) (place : ℕ) (x : Client)
+    (holders : List Holder)
     (found : Option Qos) → client_at zs place ≡ x
     → holders_kept policy i zs (holder_at place found ++ holders)
     ≡ due_kept policy place i x (if is_due_messages x.phase then option_map (lesser i.qos) found else None)

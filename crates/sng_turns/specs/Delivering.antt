@@ -1,6 +1,7 @@
 -- What a message of the broker lets out for each client to whom it is due, and what is kept of it, with no
 -- notes.
-use Rattle.std.specs.Prelude.{ℕ, suc, ◌<◌, nat_le, List, [], ◌∷◌, ◌++◌, length, if◌then◌else◌, Option, Some, None}
+use Rattle.std.specs.Prelude.{ℕ, suc, ◌<◌, nat_le, List, [], ◌∷◌, ◌++◌, length, if◌then◌else◌, Option, Some}
+use Rattle.std.specs.Prelude.{None}
 use Rattle.std.specs.Option.{option_map}
 use Rattle.sng_text.specs.declared.qos.Qos.{Qos}
 use Rattle.sng_grants.specs.declared.policy.Policy.{Policy}

@@ -193,7 +193,7 @@ own_tells : (told : Names) (s : State) (from : Address) (connect : Connect) (x :
     → Ready told s (ByConnect from connect) x
     → (let c = ByConnect from connect in
     AllTell told (spell (around s c) [] (let_in s.clock from connect x)
-        (entering_notes s from connect x Allowed)))
+    (entering_notes s from connect x Allowed)))
 own_tells told s from connect x is may ready =
     let c = ByConnect from connect in
     let a = around s c in
@@ -233,10 +233,10 @@ around_tells : (told : Names) (connect : Connect) (from : Address) (clean : Bool
     → AllTell told (around_welcome clean own (welcome connect from))
 around_tells told connect from true own all =
     tell_both told own (welcome connect from ∷ []) all
-        (welcome_tells told connect from connect.flags.will refl)
+    (welcome_tells told connect from connect.flags.will refl)
 around_tells told connect from false own all =
     tell_both told (welcome connect from ∷ []) own (welcome_tells told connect from connect.flags.will refl)
-        all
+    all
 
 entry_tells : (told : Names) (s : State) (from : Address) (connect : Connect) (o : Outcome)
     → entry s connect ≡ o → Each (Ready told s (ByConnect from connect)) s.clients

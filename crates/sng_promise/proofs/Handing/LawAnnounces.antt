@@ -135,7 +135,7 @@ announced_so a dropped told id client name notes v x same is none tells = record
   stands = subst (λ k. told_as k (told client) ≡ Some name) (sym is)
       (subst (λ names. told_as (id_told name v.told) names ≡ Some name) (sym (ap told same ∙ tells))
       (stays_told (subscribe_of a.cause) id notes (with_name (Some name) v.told) (id_told name v.told) name
-          none
+      none
       (told_names name v.told)));
 }
 
@@ -184,7 +184,7 @@ spell_tells a dropped told id due (said ∷ notes) v x moved about none tells =
           (said_so a dropped told id due said notes v x moved about.0 both.1 tells),
       tell_both told frames rest (tell_sent told frames (frames_sent a dropped x said))
           (spell_tells a dropped told id due notes (view_by a id due said v) (note_by a said x) moved.1
-              about.1
+          about.1
           both.1 tells),
     )
 

@@ -65,9 +65,11 @@ announced_moved a id due m more notes v x unknown t =
       record {
         phase = λ m fits. refl;
         turn = (
-          λ own.
-              (turn_free a id due m more notes v x t, meant_at a v x m.name None t.shown.telling.marks
-                  unknown),
+          λ own. (
+            turn_free a id due m more notes v x t,
+            meant_at a v x m.name None t.shown.telling.marks
+                unknown,
+          ),
           ap (id_for m.name) t.shown.telling.marks ∙ id_marked m.name v.told v.known,
         );
       },

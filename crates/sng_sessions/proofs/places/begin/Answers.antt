@@ -13,5 +13,6 @@ returns-clause-held c =
           (sym (ap (λ s. s.filters) w.session-is ∙ w.end_all.ensures.filters)) w.end_all.ensures.held)
       | else-connect w ↦
           subst (λ root. SaysHeld root c.args.place c.if-connect.session.filters) (sym w.standing-is)
-          (subst (SaysHeld c.args.standing.now c.args.place) (sym (ap (λ s. s.filters) w.session-is)) c.requires)
+          (subst (SaysHeld c.args.standing.now c.args.place) (sym (ap (λ s. s.filters) w.session-is))
+          c.requires)
     ]
