@@ -12,7 +12,7 @@ use std::thread::Threads;
 
 /// What waits for standard output, and for standard error.
 #[derive(Drop)]
-pub struct Boards {
+pub struct StandardBoards {
     pub output: Arc<Board, Global>,
     pub errors: Arc<Board, Global>,
 }
@@ -20,7 +20,7 @@ pub struct Boards {
 /// The boards of standard output and standard error, at which their writers have begun.
 pub fn boards<
     R: Threads + Wait + Net + Clock + Print + Eprint + Copy + Send + AllocGlobal + 'static,
->(rt: &R) -> Result<Boards, NotBegun> {
+>(rt: &R) -> Result<StandardBoards, NotBegun> {
     let (errors, errors_ear) = board(rt)?;
     start_errors(rt, Arc::try_clone(&errors)?, errors_ear)?;
     let (output, output_ear) = board(rt)?;
@@ -30,7 +30,7 @@ pub fn boards<
         Arc::try_clone(&errors)?,
         output_ear,
     )?;
-    Ok(Boards { output, errors })
+    Ok(StandardBoards { output, errors })
 }
 
 /// A board, and the ear of whoever writes what is posted at it.
