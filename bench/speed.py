@@ -26,6 +26,12 @@ JOBS = [
     ('judge-granted', 40, '256 clients x 31 filters, each granted by a pair'),
     ('judge-denied', 40, '256 clients x 31 filters, each uncovered'),
     ('same-scope', 2000, 'the scopes of 256 clients under two policies'),
+    ('holders-none', 200_000, 'a name that none of 8,192 filters matches'),
+    ('holders-one', 200_000, 'a name that one of 8,192 filters matches'),
+    ('holders-256', 2_000, 'a name that a filter of 256 clients matches'),
+    ('holders-4096', 100, 'a name that a filter of 4,096 clients matches'),
+    ('holders-chain', 20_000, 'a name of 100 levels, along 8,192 filters that leave it on the way'),
+    ('holders-wildcards', 20_000, 'a name of 40 levels, by 256 clients with 32 filters of `+` each'),
     ('decode', 5_000_000, 'read a small PUBLISH'),
     ('encode', 5_000_000, 'write a small PUBLISH'),
 ]

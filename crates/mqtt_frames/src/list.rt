@@ -1,7 +1,7 @@
-//! A list inside a packet.
-ghost use Rattle.std.specs.Prelude.{◌≡◌};
+//! Values in order, of which contracts see the list: the filters of a packet, the receipts of a worker.
+ghost use Rattle.std.specs.Prelude.{◌≡◌, ◌++◌, ◌∷◌, [], OnOk, OnErr};
 
-use std::alloc::Global;
+use std::alloc::{AllocFailed, Global};
 use std::marker::Model;
 
 /// Values in order. Contracts see their list.
@@ -27,6 +27,14 @@ impl<T> From<Vec<T>> for List<T> {
 }
 
 impl<T> List<T> {
+    /// Adds one behind the others. An `Err` leaves them as they were.
+    pub fn push(&mut self, item: T) -> Result<(), AllocFailed<T>>
+        ensures ok { OnOk result (self.new ≡ self.old ++ item ∷ []) }
+        ensures err { OnErr result (self.new ≡ self.old) }
+    {
+        self.items.push(item)
+    }
+
     /// The values, as a slice.
     pub fn as_slice(&self) -> &[T]
         ensures { result.now ≡ self.now }

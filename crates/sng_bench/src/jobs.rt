@@ -1,4 +1,5 @@
 //! The jobs, each over inputs that are made once.
+use crate::holding::{Holding, holders_times};
 use crate::judging::{self, Coverage};
 use crate::policies;
 use mqtt_frames::{
@@ -44,6 +45,8 @@ pub enum Job {
     Judge(Coverage),
     /// Asking of each of these clients whether its scope is the same under a policy that replaces this one.
     SameScope,
+    /// Finding who holds a filter that matches a name.
+    Holders(Holding),
     /// Reading a small PUBLISH of MQTT-SN.
     Decode,
     /// Writing it.
@@ -81,6 +84,12 @@ impl Job {
             "judge-granted" => Some(Job::Judge(Coverage::Granted)),
             "judge-denied" => Some(Job::Judge(Coverage::Denied)),
             "same-scope" => Some(Job::SameScope),
+            "holders-none" => Some(Job::Holders(Holding::Nobody)),
+            "holders-one" => Some(Job::Holders(Holding::One)),
+            "holders-256" => Some(Job::Holders(Holding::Many(256))),
+            "holders-4096" => Some(Job::Holders(Holding::Many(4096))),
+            "holders-chain" => Some(Job::Holders(Holding::Chain)),
+            "holders-wildcards" => Some(Job::Holders(Holding::Wildcards)),
             "decode" => Some(Job::Decode),
             "encode" => Some(Job::Encode),
             "feed-small-1" => Some(Job::Feed(Packets::Small, 1)),
@@ -110,6 +119,7 @@ impl Job {
             Job::ReadPolicy => judging::read_times(alloc, times),
             Job::Judge(standing) => judging::judge_times(alloc, standing, times),
             Job::SameScope => judging::same_times(alloc, times),
+            Job::Holders(holding) => holders_times(alloc, holding, times),
             Job::Decode => decode_times(alloc, times),
             Job::Encode => encode_times(alloc, times),
             Job::Feed(packets, size) => feed_times(alloc, packets, size, times),

@@ -3,6 +3,7 @@
 //! does nothing.
 #![tactic(auto)]
 
+mod holding;
 mod jobs;
 mod judging;
 mod policies;

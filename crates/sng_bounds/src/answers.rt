@@ -23,14 +23,16 @@ pub struct Answers {
 impl Answers {
     /// Nothing left.
     pub fn new(alloc: Global) -> Result<Answers, AllocError>
-        ensures { IfOk result (λ answers. (to : Address) → kept_in answers.counts.items to ≡ nothing_counted) }
+        ensures { IfOk result (λ answers. (to : Address)
+            → kept_in answers.counts.items to ≡ nothing_counted) }
     {
         Ok(Answers {
             counts: vec![in alloc; Count::new(); SLOTS]?,
         })
     }
 
-    /// Whether one more may leave for the address in this second, counted from any moment. It is counted then.
+    /// Whether one more may leave for the address in this second, counted from any moment. It is counted
+    /// then.
     pub fn take(&mut self, to: Address, second: u64) -> bool
         ensures may { IsTrue result ↔ (count_in self.old.counts.items to second < ANSWERS_A_SECOND) }
         ensures counted { IsTrue result → count_in self.new.counts.items to second

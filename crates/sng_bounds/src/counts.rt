@@ -1,5 +1,5 @@
-//! What is counted of an address in a second. Addresses share slots, so that the room is the same however many
-//! there are.
+//! What is counted of an address in a second. Addresses share slots, so that the room is the same however
+//! many there are.
 ghost use Rattle.std.specs.Prelude.{◌≡◌, ◌+◌, ◌<◌, min};
 ghost use Rattle.sng_bounds.specs.Counts.{count_at, nothing_counted, slot_of};
 

@@ -19,12 +19,14 @@ pub mod OneEnds
 pub mod UnsubscribeEnds
 pub mod UnsubscribeHeld
 pub mod UnsubscribeRows
+pub mod ReplacingSteps
 pub mod ReplacingHeld
 pub mod ReplacingEnding
 pub mod ReplacingClient
 pub mod ReplacingLost
 pub mod Replacing
 pub mod RefusedFilters
+mod RefusedPlaces
 pub mod Refusing
 pub mod Releasing
 pub mod ReleasingLink

@@ -6,8 +6,6 @@ use Rattle.std.specs.List.{find}
 use Rattle.std.specs.Option.{option_map}
 use Rattle.std.specs.Str.{bytes_eq}
 use Rattle.std.proofs.lemmas.List.{append-nil}
-use Rattle.std.proofs.lemmas.Grind.{flat_map-append}
-use Rattle.std.proofs.Math.Seq.{take-suc}
 use Rattle.sng_fan.specs.declared.held.Held.{Held}
 use Rattle.sng_fan.specs.Subscriptions.{has_text, stands, without_filter}
 use Rattle.sng_history.specs.Clients.{Client, blank, without}
@@ -19,25 +17,8 @@ use Rattle.sng_history.specs.State.{State}
 use Rattle.sng_history.proofs.Own.{same_self}
 use Rattle.sng_history.proofs.Booleans.{or_right}
 use Rattle.sng_history.proofs.OneEnds.{without_stands}
-use Rattle.sng_sessions.specs.Moving.{moved_at}
-use Rattle.sng_sessions.specs.Standing.{client_at}
-use Rattle.sng_core.specs.Refusing.{end_note, end_notes, refused_clients, refused_wanted}
+use Rattle.sng_core.specs.Refusing.{refused_clients, refused_wanted}
 use Rattle.sng_core.specs.Refusing.{packet_link, packet_next}
-
--- ---- one client more
-
-pub ends_more : (filter : List ℕ) (xs : List Client) (i : ℕ) → i < length xs
-    → end_notes filter (take i xs) ++ end_note filter (client_at xs i) ≡ end_notes filter (take (suc i) xs)
-ends_more filter xs i within =
-    sym (ap (end_notes filter) (take-suc xs i (blank []) within)
-    ∙ (flat_map-append (end_note filter) (take i xs) (client_at xs i ∷ [])
-    ∙ ap (λ outs. end_notes filter (take i xs) ++ outs) (append-nil (end_note filter (client_at xs i)))))
-
-pub moved_more : (f : Client → Client) (xs : List Client) (i : ℕ) → i < length xs
-    → moved_at i f (map f (take i xs) ++ drop i xs) ≡ map f (take (suc i) xs) ++ drop (suc i) xs
-moved_more f [] i within = absurd (omega (arith, within))
-moved_more f (x ∷ xs) zero within = refl
-moved_more f (x ∷ xs) (suc i) within = ap (λ ys. f x ∷ ys) (moved_more f xs i (omega (arith, within)))
 
 -- ---- nothing is open with the packet id
 

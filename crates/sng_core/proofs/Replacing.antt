@@ -24,7 +24,7 @@ use Rattle.sng_history.specs.Whole.{spell}
 use Rattle.sng_history.specs.Steps.{outs_by, next_by, client_next, clients_next}
 use Rattle.sng_history.specs.Good.{Each, Away, Distinct, Good}
 use Rattle.sng_endings.specs.declared.replacing.SubscriptionEnd.{SubscriptionEnd}
-use Rattle.sng_core.specs.Replacing.{ended_next, ended_outs, all_next, all_outs}
+use Rattle.sng_core.proofs.ReplacingSteps.{moved_of, ended_next, ended_outs, all_next, all_outs}
 use Rattle.sng_endings.specs.Replacing as apart
 use Rattle.sng_endings.specs.Replacing.{moved, endings_by, endings_from}
 use Rattle.sng_history.proofs.Endless.{each_wanted, all_still}
@@ -78,7 +78,8 @@ away_release f client earlier (x ∷ xs) away =
     ∙ rw (others_release client x.id (others earlier xs) (ended x (f x)) away.0)
     (away_release f client (earlier ++ f x ∷ []) xs away.1)
 
-next_append : (s : State) (one two : List SubscriptionEnd) → all_next s (one ++ two) ≡ all_next (all_next s one) two
+next_append : (s : State) (one two : List SubscriptionEnd)
+    → all_next s (one ++ two) ≡ all_next (all_next s one) two
 next_append s [] two = refl
 next_append s (e ∷ one) two = next_append (ended_next s e) one two
 
@@ -232,28 +233,10 @@ replaced_next s policy good =
 
 -- ---- what ends, over the clients and the link alone
 
--- it moves nothing else
-all_moved : (s : State) (endings : List SubscriptionEnd)
-    → (let m = apart.all_next (moved s.link s.clients) endings in
-    all_next s endings ≡ record s { clients = m.clients; link = m.link })
-all_moved s [] = refl
-all_moved s (e ∷ endings) = all_moved (ended_next s e) endings
-
-all_said : (s : State) (endings : List SubscriptionEnd)
-    → all_outs s endings ≡ apart.all_outs (moved s.link s.clients) endings
-all_said s [] = refl
-all_said s (e ∷ endings) = ap (λ outs. ended_outs s e ++ outs) (all_said (ended_next s e) endings)
-
-pub said_by : (s : State) (policy : Policy) → Good s
-    → apart.all_outs (moved s.link s.clients) (endings_from policy 0 s.clients) ≡ outs_by s (ByReplace policy)
-said_by s policy good = sym (all_said s (endings_from policy 0 s.clients)) ∙ replaced_outs s policy good
-
 pub moved_by : (s : State) (policy in_force : Policy) (link : Link) (clients : List Client) → Good s
     → in_force ≡ policy
-    → moved link clients ≡ apart.all_next (moved s.link s.clients) (endings_from policy 0 s.clients)
+    → moved link clients ≡ apart.all_next (moved_of s) (endings_from policy 0 s.clients)
     → record s { policy = in_force; link = link; clients = clients } ≡ next_by s (ByReplace policy)
 moved_by s policy in_force link clients good policy_is moved_is =
     (λ i. record s { policy = policy_is i; link = (moved_is i).link; clients = (moved_is i).clients })
-    ∙ (ap (λ (t : State). let u : State = record t { policy = policy } in u)
-    (sym (all_moved s (endings_from policy 0 s.clients)))
-    ∙ replaced_next s policy good)
+    ∙ replaced_next s policy good

@@ -21,7 +21,7 @@ use Rattle.sng_history.specs.Verdicts.{coverage}
 use Rattle.sng_history.specs.Lawful.{end_of, ends_under}
 use Rattle.sng_history.specs.Whole.{spell}
 use Rattle.sng_endings.specs.declared.replacing.SubscriptionEnd.{SubscriptionEnd}
-use Rattle.sng_core.specs.Replacing.{ended_next, all_next, all_outs}
+use Rattle.sng_core.proofs.ReplacingSteps.{ended_next, all_next, all_outs}
 use Rattle.sng_endings.specs.Replacing.{ended_clients, ended_notes, ending_of, endings_by}
 use Rattle.sng_history.proofs.Own.{same_self, flip}
 use Rattle.sng_history.proofs.Booleans.{or_neither}
@@ -71,7 +71,8 @@ one_next : (s : State) (a : Around) (policy : Policy) (place : ℕ) (client : Li
 one_next s a policy place client earlier xs h rest z releases Allowed is later = later z releases
 one_next s a policy place client earlier xs h rest z releases (Denied rule) is later =
     let text = h.filter in
-    let e : SubscriptionEnd = record { place = place; filter = text; note = note.End client text (Denied rule) } in
+    let e : SubscriptionEnd =
+    record { place = place; filter = text; note = note.End client text (Denied rule) } in
     let y = without text z in
     let held = is_held (Middle earlier z xs text) text in
     let more = releases_of client (others earlier xs) (lost policy client rest) in
@@ -171,7 +172,8 @@ one_outs s a dropped policy place client earlier xs h rest z releases later Allo
 one_outs s a dropped policy place client earlier xs h rest z releases later
     (Denied rule) own is drops once none un then_none more =
     let text = h.filter in
-    let e : SubscriptionEnd = record { place = place; filter = text; note = note.End client text (Denied rule) } in
+    let e : SubscriptionEnd =
+    record { place = place; filter = text; note = note.End client text (Denied rule) } in
     let held = is_held (Middle earlier z xs text) text in
     let behind = releases_of client (others earlier xs) (lost policy client rest) in
     let link = (course s (earlier ++ z ∷ xs) releases).link in

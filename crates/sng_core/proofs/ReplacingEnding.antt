@@ -22,7 +22,7 @@ use Rattle.sng_history.specs.Standing.{places_left, unsubscribes, dropped_of, is
 use Rattle.sng_history.specs.Standing.{still_wanted}
 use Rattle.sng_history.specs.State.{State}
 use Rattle.sng_endings.specs.declared.replacing.SubscriptionEnd.{SubscriptionEnd}
-use Rattle.sng_core.specs.Replacing.{ended_next}
+use Rattle.sng_core.proofs.ReplacingSteps.{ended_next}
 use Rattle.sng_endings.specs.Replacing.{let_go, ended_clients, ended_link}
 use Rattle.sng_history.proofs.Own.{same_self}
 use Rattle.sng_history.proofs.Booleans.{or_neither, or_yes}

@@ -77,37 +77,51 @@ here s from (asks.Unsubscribe r) place good at =
     subst (Carries s from (asks.Unsubscribe r)) at
     (unsubscribes s from r (place_at from s.clients) (unsubscribe_row s from r good))
 here s from (asks.Ping client) None good at =
-    subst (Found s from (ToPing client) (ping_outs s.policy client) (ping_next s.policy s.clock client)) at (ping_row s from client good)
+    subst (Found s from (ToPing client) (ping_outs s.policy client) (ping_next s.policy s.clock client)) at
+    (ping_row s from client good)
 here s from (asks.Ping client) (Some place) good at =
-    subst (Found s from (ToPing client) (ping_outs s.policy client) (ping_next s.policy s.clock client)) at (ping_row s from client good)
+    subst (Found s from (ToPing client) (ping_outs s.policy client) (ping_next s.policy s.clock client)) at
+    (ping_row s from client good)
 here s from asks.Leave None good at =
     subst (Found s from ToLeave left_outs (left_at s.clock)) at (leave_row s from good)
 here s from asks.Leave (Some place) good at =
     subst (Found s from ToLeave left_outs (left_at s.clock)) at (leave_row s from good)
 here s from (asks.Sleep duration) None good at =
-    subst (Found s from (ToSleep duration) slept_outs (slept s.clock duration)) at (sleep_row s from duration good)
+    subst (Found s from (ToSleep duration) slept_outs (slept s.clock duration)) at
+    (sleep_row s from duration good)
 here s from (asks.Sleep duration) (Some place) good at =
-    subst (Found s from (ToSleep duration) slept_outs (slept s.clock duration)) at (sleep_row s from duration good)
+    subst (Found s from (ToSleep duration) slept_outs (slept s.clock duration)) at
+    (sleep_row s from duration good)
 here s from (asks.Register r) None good at =
-    subst (Found s from (ToRegister r) (register_outs s.policy r.msg_id r.name) (register_next s.policy s.clock r.name)) at (register_row s from r good)
+    subst (Found s from (ToRegister r) (register_outs s.policy r.msg_id r.name)
+    (register_next s.policy s.clock r.name)) at (register_row s from r good)
 here s from (asks.Register r) (Some place) good at =
-    subst (Found s from (ToRegister r) (register_outs s.policy r.msg_id r.name) (register_next s.policy s.clock r.name)) at (register_row s from r good)
+    subst (Found s from (ToRegister r) (register_outs s.policy r.msg_id r.name)
+    (register_next s.policy s.clock r.name)) at (register_row s from r good)
 here s from (asks.Confirm r) None good at =
-    subst (Found s from (ToConfirm r) (confirm_outs s.policy r) (confirm_next s.policy s.clock r)) at (confirm_row s from r good)
+    subst (Found s from (ToConfirm r) (confirm_outs s.policy r) (confirm_next s.policy s.clock r)) at
+    (confirm_row s from r good)
 here s from (asks.Confirm r) (Some place) good at =
-    subst (Found s from (ToConfirm r) (confirm_outs s.policy r) (confirm_next s.policy s.clock r)) at (confirm_row s from r good)
+    subst (Found s from (ToConfirm r) (confirm_outs s.policy r) (confirm_next s.policy s.clock r)) at
+    (confirm_row s from r good)
 here s from (asks.Acknowledge r) None good at =
-    subst (Found s from (ToAcknowledge r) (acknowledge_outs s.policy r) (acknowledge_next s.policy s.clock r)) at (acknowledge_row s from r good)
+    subst (Found s from (ToAcknowledge r) (acknowledge_outs s.policy r) (acknowledge_next s.policy s.clock r))
+    at (acknowledge_row s from r good)
 here s from (asks.Acknowledge r) (Some place) good at =
-    subst (Found s from (ToAcknowledge r) (acknowledge_outs s.policy r) (acknowledge_next s.policy s.clock r)) at (acknowledge_row s from r good)
+    subst (Found s from (ToAcknowledge r) (acknowledge_outs s.policy r) (acknowledge_next s.policy s.clock r))
+    at (acknowledge_row s from r good)
 here s from (asks.State statement) None good at =
-    subst (Found s from (ToState (said statement)) (statement_outs s.policy (said statement)) (statement_next s.policy s.clock (said statement))) at (state_row s from (said statement) good)
+    subst (Found s from (ToState (said statement)) (statement_outs s.policy (said statement))
+    (statement_next s.policy s.clock (said statement))) at (state_row s from (said statement) good)
 here s from (asks.State statement) (Some place) good at =
-    subst (Found s from (ToState (said statement)) (statement_outs s.policy (said statement)) (statement_next s.policy s.clock (said statement))) at (state_row s from (said statement) good)
+    subst (Found s from (ToState (said statement)) (statement_outs s.policy (said statement))
+    (statement_next s.policy s.clock (said statement))) at (state_row s from (said statement) good)
 here s from (asks.Untaken message) None good at =
-    subst (Found s from (Untaken message) (unsupported_outs message) (heard_at s.clock)) at (unsupported_row s from message good)
+    subst (Found s from (Untaken message) (unsupported_outs message) (heard_at s.clock)) at
+    (unsupported_row s from message good)
 here s from (asks.Untaken message) (Some place) good at =
-    subst (Found s from (Untaken message) (unsupported_outs message) (heard_at s.clock)) at (unsupported_row s from message good)
+    subst (Found s from (Untaken message) (unsupported_outs message) (heard_at s.clock)) at
+    (unsupported_row s from message good)
 
 -- what a request makes, where the place is that of the client at the address
 pub request_row : (s : State) (from : Address) (request : SessionRequest) (place : Option ℕ) → Good s

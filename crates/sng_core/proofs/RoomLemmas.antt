@@ -59,7 +59,8 @@ room_same link AtLeastOnce =
     if_not (nat_lt n MAX_IN_FLIGHT) places (Denied (denial.Room (Full place.InFlight)))
     ∙ (ap (λ b. if b then Denied (denial.Room (Full place.InFlight)) else places)
     (sym (flight_test n (nat_lt n MAX_IN_FLIGHT) refl))
-    ∙ ap (λ o. if (room_of link).flights == 0 then Denied (denial.Room (Full place.InFlight)) else o) (place_same link))
+    ∙ ap (λ o. if (room_of link).flights == 0 then Denied (denial.Room (Full place.InFlight)) else o)
+    (place_same link))
 
 -- ---- what is left of it
 

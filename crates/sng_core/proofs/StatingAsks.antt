@@ -101,7 +101,8 @@ ask_in_turn policy statement x has =
     ∙ ap (λ j. note.Will (who.Client x.id) j.name j.outcome) (sym (judged_is policy x.id topic)))
 
 untimely_by : (client : List ℕ) (has : Bool) (read granted : Outcome) (topic : Option (List ℕ)) → has ≡ false
-    → noted_as client (turn has) read granted topic ≡ note.Will (who.Client client) None (Denied (Form OutOfTurn))
+    → noted_as client (turn has) read granted topic
+    ≡ note.Will (who.Client client) None (Denied (Form OutOfTurn))
 untimely_by client true read granted topic is = absurd cc
 untimely_by client false read granted topic is = refl
 

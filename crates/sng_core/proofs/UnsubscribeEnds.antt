@@ -31,7 +31,7 @@ use Rattle.sng_history.proofs.SaysParts.{part_for}
 use Rattle.sng_history.proofs.Endless.{EachIn, each_in, none_ended}
 use Rattle.sng_history.proofs.Holding.{flipped}
 use Rattle.sng_history.proofs.Booleans.{and_yes}
-use Rattle.sng_sessions.proofs.CountLemmas.{stands-without}
+use Rattle.sng_sessions.proofs.HeldLemmas.{stands-without}
 use Rattle.sng_core.specs.Forms.{client_at, heard_at}
 use Rattle.sng_core.specs.Subscribing.{unsubscribe_named, unsubscribe_by, unsubscribe_judged, others_hold}
 use Rattle.sng_core.specs.Subscribing.{holds_alone, let_go, told_of}

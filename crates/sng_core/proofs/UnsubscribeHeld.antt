@@ -20,7 +20,7 @@ use Rattle.sng_history.specs.Good.{Good}
 use Rattle.sng_history.proofs.Own.{same_means, same_self}
 use Rattle.sng_history.proofs.Endless.{EachWanted, each_wanted, all_still}
 use Rattle.sng_sessions.specs.Moving.{moved_at}
-use Rattle.sng_sessions.proofs.CountLemmas.{stands-without}
+use Rattle.sng_sessions.proofs.HeldLemmas.{stands-without}
 use Rattle.sng_sessions.proofs.MovedLists.{take-moved, drop-moved}
 use Rattle.sng_core.specs.Forms.{client_at, heard_at}
 use Rattle.sng_core.specs.Subscribing.{others_hold}

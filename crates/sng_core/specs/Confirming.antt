@@ -46,7 +46,8 @@ confirming_next policy clock r x =
     else refusing_next policy clock x x.buffer.waiting
 
 abbrev pub confirm_outs : Policy → TopicAck → Client → List Out
-confirm_outs policy r x = if is_confirming r x then confirming_outs policy r x else broken_outs (Form OutOfTurn) x
+confirm_outs policy r x =
+    if is_confirming r x then confirming_outs policy r x else broken_outs (Form OutOfTurn) x
 
 abbrev pub confirm_next : Policy → ℕ → TopicAck → Client → Client
 confirm_next policy clock r x =

@@ -51,7 +51,8 @@ left_outs x = Note (note.Left x.id) ∷ dismissed x.address ∷ gone_outs x.id x
 -- a client's message that is not taken
 abbrev pub unsupported_outs : SnFrame → Client → List Out
 unsupported_outs message x =
-    Note (denied_note message (who.Client x.id) (Form NotSupported)) ∷ refused x.address message (Form NotSupported)
+    Note (denied_note message (who.Client x.id) (Form NotSupported)) ∷ refused x.address message
+    (Form NotSupported)
 
 -- a datagram of a client that is not a message
 abbrev pub broken_outs : Denial → Client → List Out

@@ -22,7 +22,8 @@ use Rattle.sng_turns.specs.Delivering.{incoming, all_outs, all_kept, keep_all}
 
 -- the end of a filter that the broker refuses, of a client for whom it stands
 abbrev pub end_note : List ℕ → Client → List Out
-end_note filter x = if holds filter x then Note (note.End x.id filter (Denied (Peer BrokerRefused))) ∷ [] else []
+end_note filter x =
+    if holds filter x then Note (note.End x.id filter (Denied (Peer BrokerRefused))) ∷ [] else []
 
 abbrev pub end_notes : List ℕ → List Client → List Out
 end_notes filter xs = flat_map (end_note filter) xs

@@ -72,7 +72,8 @@ request_next s place (asks.Subscribe r) = stood s r (Some place)
 request_next s place (asks.Unsubscribe r) = ended s r (Some place)
 request_next s place (asks.Confirm r) = moved_in s place (confirm_next s.policy s.clock r)
 request_next s place (asks.Acknowledge r) = moved_in s place (acknowledge_next s.policy s.clock r)
-request_next s place (asks.State statement) = moved_in s place (statement_next s.policy s.clock (said statement))
+request_next s place (asks.State statement) =
+    moved_in s place (statement_next s.policy s.clock (said statement))
 request_next s place (asks.Untaken message) = moved_in s place (heard_at s.clock)
 
 -- from an address at which the client at the place is, or nobody

@@ -1,6 +1,7 @@
 //! What a denied message is noted as, and the datagrams that answer a client (MQTT-SN 1.2, 5.4 and 6.14).
 ghost use Rattle.std.specs.Prelude.{◌≡◌, ◌∷◌, ◌++◌, [], IfOk, OnOk};
-ghost use Rattle.sng_history.specs.Answers.{denied_note, code_of, form_code, room_code, refused, dismissed, connack, welcome};
+ghost use Rattle.sng_history.specs.Answers.{denied_note, code_of, form_code, room_code, refused, dismissed};
+ghost use Rattle.sng_history.specs.Answers.{connack, welcome};
 ghost use Rattle.sng_history.specs.Answers.{no_flags};
 ghost use Rattle.sng_frames.specs.Writing.{written};
 

@@ -1,5 +1,5 @@
-//! What the gateway counts where it is asked: its clients by state, what stands and waits for them, what waits
-//! for the broker, and what the policy in force lists. Nothing changes by it.
+//! What the gateway counts where it is asked: its clients by state, what stands and waits for them, what
+//! waits for the broker, and what the policy in force lists. Nothing changes by it.
 ghost use Rattle.std.specs.Prelude.{◌≡◌, ◌≤◌, ◌+◌, length};
 ghost use Rattle.sng_history.specs.Good.{Good};
 ghost use Rattle.sng_history.specs.declared.limits.TheConstants.{MAX_CLIENTS};

@@ -182,7 +182,8 @@ fn out_of_turn(
     place: usize,
 ) -> Result<OutsPair, AllocError>
     requires { place < length sessions.old }
-    ensures outs { IfOk result (λ outs. outs ≡ broken_outs (Denial.Form FormDenial.OutOfTurn) (client_at sessions.old place)) }
+    ensures outs { IfOk result (λ outs. outs ≡ broken_outs (Denial.Form FormDenial.OutOfTurn)
+        (client_at sessions.old place)) }
     ensures next { OnOk result (sessions.new ≡ moved_at place (heard_at clock) sessions.old) }
     ensures err { OnErr result (sessions.new ≡ sessions.old) }
 {

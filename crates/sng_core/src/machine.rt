@@ -51,8 +51,8 @@ impl Core {
     }
 
     /// What is counted of the state: clients by state, what stands and waits for them, what waits for the
-    /// broker and is in flight to it, and how much the policy in force lists. One walk over the clients; takes
-    /// no memory.
+    /// broker and is in flight to it, and how much the policy in force lists. One walk over the clients;
+    /// takes no memory.
     pub fn census(&self) -> Census
         ensures { result ≡ census_of self.now }
     {

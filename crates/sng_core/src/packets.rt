@@ -9,12 +9,14 @@ ghost use Rattle.sng_history.specs.Packets.{Delivers, Grants, Refuses, subscribe
 ghost use Rattle.sng_history.specs.Packets.{dropped};
 ghost use Rattle.sng_history.specs.Steps.{outs_by, next_by};
 ghost use Rattle.sng_sessions.specs.Standing.{client_at};
-ghost use Rattle.sng_core.specs.Refusing.{end_note, end_notes, named_outs, named_kept, packet_outs};
+ghost use Rattle.sng_sessions.specs.Holding.{places_from};
+ghost use Rattle.sng_core.specs.Refusing.{end_notes, named_outs, named_kept, packet_outs};
 ghost use Rattle.sng_core.specs.Refusing.{packet_next};
 ghost use Rattle.sng_history.specs.Arriving.{sent_at};
 
 use crate::answers::only;
 use crate::parts::Parts;
+use bytes::Bytes;
 use mqtt_frames::{Packet, Publish, SubscribeAck, SubscribeCode};
 use sng_book::{Decision, Denial, FormDenial, Out, Outcome, Outs, OutsPair, PeerDenial, Who};
 use sng_sessions::Sessions;
@@ -108,7 +110,7 @@ impl Parts {
                 let qos = sent_at(packet_id);
                 let message = Incoming {
                     name,
-                    payload,
+                    payload: Bytes::from_vec(payload.into_vec())?,
                     qos,
                     retain,
                     fixed,
@@ -155,8 +157,10 @@ impl Parts {
             return Ok(OutsPair::empty(alloc));
         };
         let filter = open.copy()?;
-        let outs = ends(alloc, &self.sessions, &filter)?;
-        end_for_all(&mut self.sessions, &filter);
+        let holding = self.sessions.holding(alloc, &filter)?;
+        let places = holding.as_slice();
+        let outs = ends(alloc, &self.sessions, &filter, places)?;
+        end_for_all(&mut self.sessions, &filter, places);
         self.link.subscribe_ack(packet_id);
         self.link.unwant(&filter);
         Ok(outs)
@@ -175,42 +179,34 @@ fn is_refused(codes: &[SubscribeCode]) -> bool
     }
 }
 
-/// The notes that the broker refuses the filter, of each client for whom it stands, in order.
-fn ends(alloc: Global, sessions: &Sessions, filter: &TopicFilter) -> Result<OutsPair, AllocError>
+/// The notes that the broker refuses the filter, of the clients at these places, for whom it stands, in
+/// order.
+fn ends(
+    alloc: Global,
+    sessions: &Sessions,
+    filter: &TopicFilter,
+    places: &[usize],
+) -> Result<OutsPair, AllocError>
+    requires { places.now ≡ places_from 0 filter.now sessions.now }
     ensures { IfOk result (λ outs. outs ≡ end_notes filter.now sessions.now) }
 {
     let mut outs = Outs::new(alloc);
-    for place in 0..sessions.len() {
-        end(sessions, place, filter, &mut outs)?;
+    for place in places {
+        let denied = Outcome::Denied(Denial::Peer(PeerDenial::BrokerRefused));
+        let note = Decision::End(sessions.id(*place).copy()?, filter.copy()?, denied);
+        outs.push(Out::Note(note))?;
     }
     let outs = OutsPair::of(alloc, outs)?;
     Ok(outs)
 }
 
-/// The note of the client at this place, where the filter stands for it.
-fn end(
-    sessions: &Sessions,
-    place: usize,
-    filter: &TopicFilter,
-    outs: &mut Outs,
-) -> Result<(), AllocError>
-    requires { place < length sessions.now }
-    ensures { OnOk result (outs.new ≡ outs.old ++ end_note filter.now (client_at sessions.now place)) }
-{
-    if sessions.holds(place, filter) {
-        let denied = Outcome::Denied(Denial::Peer(PeerDenial::BrokerRefused));
-        let note = Decision::End(sessions.id(place).copy()?, filter.copy()?, denied);
-        outs.push(Out::Note(note))?;
-    }
-    Ok(())
-}
-
-/// The filter stands for nobody any more. Takes no memory.
-fn end_for_all(sessions: &mut Sessions, filter: &TopicFilter)
+/// The filter stands no more for the clients at these places, for whom it stood: for nobody. Takes no memory.
+fn end_for_all(sessions: &mut Sessions, filter: &TopicFilter, places: &[usize])
+    requires { places.now ≡ places_from 0 filter.now sessions.old }
     ensures { sessions.new ≡ map (without filter.now) sessions.old }
 {
-    for place in 0..sessions.len() {
-        sessions.end(place, filter);
+    for place in places {
+        sessions.end(*place, filter);
     }
 }
 

@@ -186,11 +186,10 @@ impl Parts {
     {
         let item = filter.copy()?;
         let wanted = filter.copy()?;
-        let counted = filter.copy()?;
         let name = name_told(alloc, request.flags.id_type, &filter)?;
         let qos = granted(request.flags.qos);
         self.sessions
-            .subscribe(place, name, filter, counted, qos, self.clock)?;
+            .subscribe(alloc, place, name, filter, qos, self.clock)?;
         self.link.subscribe(item, wanted);
         Ok(())
     }

@@ -19,7 +19,8 @@ pub struct Fed {
 /// Asks a connection for a piece, and the stream for its packets. Where the connection is lost, or there is
 /// no memory for the piece, it is broken.
 pub fn hear<U: Upstream>(alloc: Global, up: &mut U, stream: &mut Stream) -> Fed
-    ensures heard { Heard U.tells U.did up.old up.new stream.old stream.new result.packets.items result.broken }
+    ensures heard { Heard U.tells U.did up.old up.new stream.old stream.new result.packets.items
+        result.broken }
     ensures few { length result.packets.items ≤ MAX_PACKETS }
 {
     match up.read() {

@@ -1,5 +1,5 @@
-//! The workers of a gateway at one desk: the one at the connection to the broker, all of them on threads of their
-//! own, and the book against what they say of it.
+//! The workers of a gateway at one desk: the one at the connection to the broker, all of them on threads of
+//! their own, and the book against what they say of it.
 #![tactic(auto)]
 
 mod answering;

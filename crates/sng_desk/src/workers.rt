@@ -54,7 +54,8 @@ pub fn ticker<R: Wait, B: Beats, D: Datagrams, G: Gate>(
     gate: &G,
 ) -> WorkerEnd<B, D>
     ensures { HasEnded B.tells (λ b. tick_events (B.gave b)) B.failures B.has_ended D.tells D.passed source
-        sender share (G.may_stop gate.now) result.source result.sender result.trail result.share result.fault }
+        sender share (G.may_stop gate.now) result.source result.sender result.trail result.share
+        result.fault }
 {
     let source = Clock {
         beats: source,

@@ -57,7 +57,8 @@ client_more policy xs place before now all within so_far now_is =
     ∙ (sym (ap (λ ys. before ++ endings_from policy place ys) cut) ∙ so_far)
     )
 
-pub clients_all : (policy : Policy) (xs : List Client) (place : ℕ) (now all : List SubscriptionEnd) → length xs ≤ place
+pub clients_all : (policy : Policy) (xs : List Client) (place : ℕ) (now all : List SubscriptionEnd)
+    → length xs ≤ place
     → now ++ endings_from policy place (drop place xs) ≡ all → now ≡ all
 clients_all policy xs place now all past is =
     sym (append-nil now) ∙ (ap (λ ys. now ++ endings_from policy place ys) (sym (past_end xs place past))
@@ -114,7 +115,8 @@ pub record Ended (first now : Moved) (before said : List Out) (endings : List Su
   pub next : now ≡ all_next first endings
   pub outs : said ≡ before ++ all_outs first endings
 
-pub ended_more : (first now after : Moved) (before outs more : List Out) (endings : List SubscriptionEnd) (e : SubscriptionEnd)
+pub ended_more : (first now after : Moved) (before outs more : List Out) (endings : List SubscriptionEnd)
+    (e : SubscriptionEnd)
     → Ended first now before outs endings
     → after ≡ ended_next now e → more ≡ outs ++ ended_outs now e
     → Ended first after before more (endings ++ e ∷ [])

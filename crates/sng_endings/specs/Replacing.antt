@@ -1,5 +1,5 @@
--- What of the subscriptions ends as another policy comes into force: one ending after another, in the order in
--- which they come.
+-- What of the subscriptions ends as another policy comes into force: one ending after another, in the order
+-- in which they come.
 use Rattle.std.specs.Prelude.{ℕ, suc, List, [], ◌∷◌, ◌++◌, if◌then◌else◌, Option, Some, None}
 use Rattle.sng_grants.specs.declared.policy.Policy.{Policy}
 use Rattle.sng_fan.specs.declared.held.Held.{Held}

@@ -167,8 +167,8 @@ fn end_one(
     }
 }
 
-/// The filter stands for nobody any more: it is wanted no more, and the broker is told so where there is place;
-/// else that is noted. Takes no memory.
+/// The filter stands for nobody any more: it is wanted no more, and the broker is told so where there is
+/// place; else that is noted. Takes no memory.
 fn let_go(filter: TopicFilter, link: &mut Link, outs: &mut ReservedOuts)
     requires { 1 ≤ outs.old.spare }
     ensures link { link.new ≡ let_go link.old filter }

@@ -32,7 +32,8 @@ pub record StandsAfter (rows : List Row) (standing : Standing) : Type 0 where
   pub counted : standing.rows ≡ length rows
 
 -- lines before are played, and those that are left are still to come
-pub record UnderWay (script left : List (List ℕ)) (held holds : Option (List ℕ)) (number : ℕ) (standing : Standing)
+pub record UnderWay (script left : List (List ℕ)) (held holds : Option (List ℕ)) (number : ℕ)
+    (standing : Standing)
     : Type 0 where
   pub before : List (List ℕ)
   pub text : List ℕ
@@ -57,12 +58,18 @@ written_row rows before event text after stands step =
     let counted : after.rows ≡ length (row ∷ rows) = omega (arith, step.counted, stands.counted) in
     record {
       now = row ∷ rows;
-      writes = (step.outs, refl, step.printed ∙ ap (λ number. row_text number 0 (kind_of event) step.outs) counted);
+      writes = (
+        step.outs,
+        refl,
+        step.printed ∙ ap (λ number. row_text number 0 (kind_of event) step.outs)
+            counted,
+      );
       stands = record { lawful = kept.0; leads = kept.1; counted = counted };
     }
 
 -- deeds that come after rows write their text after them, and the gateway stands after its rows
-pub record Written (rows : List Row) (before : Standing) (deeds : List Deed) (text : List ℕ) (after : Standing) : Type 0 where
+pub record Written (rows : List Row) (before : Standing) (deeds : List Deed) (text : List ℕ)
+    (after : Standing) : Type 0 where
   pub now : List Row
   pub writes : Writes rows deeds text now
   pub stands : StandsAfter now after
@@ -87,21 +94,49 @@ written rows before (Step event ∷ deeds) text after stands does =
     }
 written rows before (Tell told ∷ deeds) text after stands does =
     let later = written rows before deeds does.0 after stands does.2 in
-    record { now = later.now; writes = (does.0, does.1, later.writes); stands = later.stands; same = later.same }
+    record {
+      now = later.now;
+      writes = (does.0, does.1, later.writes);
+      stands = later.stands;
+      same = later.same;
+    }
 
 -- one more line behind those that wrote
-AllWrite-more : (lines : List (List ℕ)) (bytes : List ℕ) (line : Line) (before between rows : List Row) (stream last : State)
-    (text more : List ℕ) → length bytes ≤ MAX_LINE → line_of bytes ≡ Some line → AllWrite before stream lines text between last
+AllWrite-more : (lines : List (List ℕ)) (bytes : List ℕ) (line : Line) (before between rows : List Row)
+    (stream last : State)
+    (text more : List ℕ) → length bytes ≤ MAX_LINE → line_of bytes ≡ Some line
+    → AllWrite before stream lines text between last
     → Writes between (deeds_of last line) more rows
     → AllWrite before stream (lines ++ bytes ∷ []) (text ++ more) rows (stream_by last line)
 AllWrite-more [] bytes line before between rows stream last text more few read all writes =
     let there = subst (λ h. Writes h (deeds_of last line) more rows) all.1 writes in
     let here = subst (λ s. Writes before (deeds_of s line) more rows) all.2 there in
-    let same = ap (λ s. stream_by s line) all.2 in
-    (line, more, rows, [], few, read, here, (refl, refl, same), ap (λ t. t ++ more) all.0 ∙ sym (append-nil more))
+    let same = ap (λ s. stream_by s line) all.2 in (
+      line,
+      more,
+      rows,
+      [],
+      few,
+      read,
+      here,
+      (refl, refl, same),
+      ap (λ t. t ++ more) all.0
+          ∙ sym (append-nil more),
+    )
 AllWrite-more (first ∷ lines) bytes line before between rows stream last text more few read all writes =
-    let rest = AllWrite-more lines bytes line all.2 between rows (stream_by stream all.0) last all.3 more few read all.7 writes in
-    (all.0, all.1, all.2, all.3 ++ more, all.4, all.5, all.6, rest, ap (λ t. t ++ more) all.8 ∙ append_assoc all.1 all.3 more)
+    let rest = AllWrite-more lines bytes line all.2 between rows (stream_by stream all.0) last all.3 more few
+    read all.7 writes in (
+      all.0,
+      all.1,
+      all.2,
+      all.3 ++ more,
+      all.4,
+      all.5,
+      all.6,
+      rest,
+      ap (λ t. t ++ more) all.8
+          ∙ append_assoc all.1 all.3 more,
+    )
 
 pub starts : (script : List (List ℕ)) (held : Option (List ℕ)) (standing : Standing)
     → Leads opening [] standing.state → standing.rows ≡ 0 → standing.stream ≡ Reading []
@@ -117,7 +152,8 @@ starts script held standing leads none new = record {
   numbered = refl;
 }
 
-pub goes_on : (script left : List (List ℕ)) (bytes : List ℕ) (held between holds : Option (List ℕ)) (number : ℕ) (standing after : Standing)
+pub goes_on : (script left : List (List ℕ)) (bytes : List ℕ) (held between holds : Option (List ℕ))
+    (number : ℕ) (standing after : Standing)
     → UnderWay script (bytes ∷ left) held between number standing
     → length bytes ≤ MAX_LINE → IsPlayed standing bytes between holds after
     → UnderWay script left held holds (number + 1) after
@@ -126,10 +162,12 @@ goes_on script left bytes held between holds number standing after way few playe
     let taken : Standing = record standing { stream = stream_by standing.stream line } in
     let stands : StandsAfter way.rows taken =
     record { lawful = way.stands.lawful; leads = way.stands.leads; counted = way.stands.counted } in
-    let wrote = written way.rows taken (deeds_of standing.stream line) played.text after stands played.comes in
+    let wrote =
+    written way.rows taken (deeds_of standing.stream line) played.text after stands played.comes in
     let lines = way.before ++ bytes ∷ [] in
     let text = way.text ++ played.text in
-    let more = AllWrite-more way.before bytes line [] way.rows wrote.now (Reading []) standing.stream way.text played.text few played.read way.written wrote.writes in
+    let more = AllWrite-more way.before bytes line [] way.rows wrote.now (Reading []) standing.stream way.text
+    played.text few played.read way.written wrote.writes in
     record {
       before = lines;
       text = text;
@@ -143,20 +181,26 @@ goes_on script left bytes held between holds number standing after way few playe
 
 played : (script left : List (List ℕ)) (held holds : Option (List ℕ)) (number : ℕ) (standing : Standing)
     → (way : UnderWay script left held holds number standing) → ArePlayed way.before way.text
-played script left held holds number standing way = record { rows = way.rows; stream = standing.stream; lawful = way.stands.lawful; written = way.written }
+played script left held holds number standing way =
+    record { rows = way.rows; stream = standing.stream; lawful = way.stands.lawful; written = way.written }
 
 -- no line is left
 pub ends : (script : List (List ℕ)) (held holds : Option (List ℕ)) (number : ℕ) (standing : Standing)
     → UnderWay script [] held holds number standing
     → (text : List ℕ) × ArePlayed script text × Appends held holds text
 ends script held holds number standing way =
-    let all : way.before ≡ script = sym (way.split ∙ append-nil way.before) in
-    (way.text, subst (λ l. ArePlayed l way.text) all (played script [] held holds number standing way), way.grown)
+    let all : way.before ≡ script = sym (way.split ∙ append-nil way.before) in (
+      way.text,
+      subst (λ l. ArePlayed l way.text) all (played script [] held holds number standing way),
+      way.grown,
+    )
 
 -- the next line cannot be read
-pub stops : (script left : List (List ℕ)) (bytes : List ℕ) (held between holds : Option (List ℕ)) (number : ℕ) (standing : Standing)
+pub stops : (script left : List (List ℕ)) (bytes : List ℕ) (held between holds : Option (List ℕ)) (number : ℕ)
+    (standing : Standing)
     → UnderWay script (bytes ∷ left) held between number standing → IsUnreadable bytes → Keeps between holds
-    → (before : List (List ℕ)) × (text : List ℕ) × StopsAt script before text × Appends held holds text × (number ≡ length before + 1)
+    → (before : List (List ℕ)) × (text : List ℕ) × StopsAt script before text × Appends held holds text
+    × (number ≡ length before + 1)
 stops script left bytes held between holds number standing way unreadable keeps =
     let stop : StopsAt script way.before way.text = record {
       line = bytes;
@@ -168,7 +212,8 @@ stops script left bytes held between holds number standing way unreadable keeps 
     (way.before, way.text, stop, Appends-kept held between holds way.text way.grown keeps, way.numbered)
 
 -- there is no memory for the next line
-pub breaks_off : (script left : List (List ℕ)) (held between holds : Option (List ℕ)) (number : ℕ) (standing : Standing)
+pub breaks_off : (script left : List (List ℕ)) (held between holds : Option (List ℕ)) (number : ℕ)
+    (standing : Standing)
     → UnderWay script left held between number standing → Keeps between holds
     → (before : List (List ℕ)) × (text : List ℕ) × BreaksOff script before text × Appends held holds text
 breaks_off script left held between holds number standing way keeps =
@@ -185,24 +230,32 @@ breaks_off script left held between holds number standing way keeps =
 abbrev pub GoesOn : (input left held holds : Option (List ℕ)) (number : ℕ) (standing : Standing) → Type 0
 GoesOn None left held holds number standing = ⊤
 GoesOn (Some bytes) None held holds number standing = ⊥
-GoesOn (Some bytes) (Some rest) held holds number standing = UnderWay (lines_of bytes) (lines_of rest) held holds number standing
+GoesOn (Some bytes) (Some rest) held holds number standing =
+    UnderWay (lines_of bytes) (lines_of rest) held holds number standing
 
 -- what has to be shown of the end, as far as the bytes are known
 abbrev pub Halts : Option (List ℕ) → Result (Unit {0}) Obstacle → ℕ → (held holds : Option (List ℕ)) → Type 0
-Halts input result number held holds = IfSome input (λ script. IsHalt result number (lines_of script) held holds)
+Halts input result number held holds =
+    IfSome input (λ script. IsHalt result number (lines_of script) held holds)
 
-pub GoesOn-start : (input held : Option (List ℕ)) (standing : Standing) → Leads opening [] standing.state → standing.rows ≡ 0
+pub GoesOn-start : (input held : Option (List ℕ)) (standing : Standing) → Leads opening [] standing.state
+    → standing.rows ≡ 0
     → standing.stream ≡ Reading [] → GoesOn input input held held 1 standing
 GoesOn-start None held standing leads none new = tt
 GoesOn-start (Some bytes) held standing leads none new = starts (lines_of bytes) held standing leads none new
 
-pub GoesOn-line : (input left rest held between holds : Option (List ℕ)) (line : List ℕ) (number : ℕ) (standing after : Standing)
-    → GoesOn input left held between number standing → IsFirstLine left rest line → length line ≤ MAX_LINE → IsPlayed standing line between holds after
+pub GoesOn-line : (input left rest held between holds : Option (List ℕ)) (line : List ℕ) (number : ℕ)
+    (standing after : Standing)
+    → GoesOn input left held between number standing → IsFirstLine left rest line → length line ≤ MAX_LINE
+    → IsPlayed standing line between holds after
     → GoesOn input rest held holds (number + 1) after
 GoesOn-line None left rest held between holds line number standing after way first few played = tt
-GoesOn-line (Some bytes) None rest held between holds line number standing after way first few played = absurd way
-GoesOn-line (Some bytes) (Some here) None held between holds line number standing after way first few played = absurd first
-GoesOn-line (Some bytes) (Some here) (Some later) held between holds line number standing after way first few played =
+GoesOn-line (Some bytes) None rest held between holds line number standing after way first few played =
+    absurd way
+GoesOn-line (Some bytes) (Some here) None held between holds line number standing after way first few played =
+    absurd first
+GoesOn-line (Some bytes) (Some here) (Some later) held between holds line number standing after way first few
+    played =
     goes_on (lines_of bytes) (lines_of later) line held between holds number standing after
     (subst (λ l. UnderWay (lines_of bytes) l held between number standing) first way) few played
 
@@ -212,31 +265,40 @@ pub Halts-end : (input left held holds : Option (List ℕ)) (number : ℕ) (stan
 Halts-end None left held holds number standing way end = tt
 Halts-end (Some bytes) None held holds number standing way end = absurd way
 Halts-end (Some bytes) (Some rest) held holds number standing way end =
-    ends (lines_of bytes) held holds number standing (subst (λ l. UnderWay (lines_of bytes) (lines_of l) held holds number standing) end way)
+    ends (lines_of bytes) held holds number standing
+    (subst (λ l. UnderWay (lines_of bytes) (lines_of l) held holds number standing) end way)
 
 -- the next line is too long
 pub Halts-long : (input left held holds : Option (List ℕ)) (number : ℕ) (standing : Standing)
-    → GoesOn input left held holds number standing → BeginsTooLong left → Halts input (Err Unreadable) number held holds
+    → GoesOn input left held holds number standing → BeginsTooLong left
+    → Halts input (Err Unreadable) number held holds
 Halts-long None left held holds number standing way long = tt
 Halts-long (Some bytes) None held holds number standing way long = absurd way
 Halts-long (Some bytes) (Some rest) held holds number standing way (line, others, split, many) =
     stops (lines_of bytes) others line held holds holds number standing
-    (subst (λ l. UnderWay (lines_of bytes) l held holds number standing) split way) (inr many) (Keeps-refl holds)
+    (subst (λ l. UnderWay (lines_of bytes) l held holds number standing) split way) (inr many)
+    (Keeps-refl holds)
 
 -- the line that was read is none of a script
-pub Halts-unreadable : (input left rest held between holds : Option (List ℕ)) (line : List ℕ) (number : ℕ) (standing : Standing)
-    → GoesOn input left held between number standing → IsFirstLine left rest line → line_of line ≡ None → Keeps between holds
+pub Halts-unreadable : (input left rest held between holds : Option (List ℕ)) (line : List ℕ) (number : ℕ)
+    (standing : Standing)
+    → GoesOn input left held between number standing → IsFirstLine left rest line → line_of line ≡ None
+    → Keeps between holds
     → Halts input (Err Unreadable) number held holds
 Halts-unreadable None left rest held between holds line number standing way first unreadable keeps = tt
-Halts-unreadable (Some bytes) None rest held between holds line number standing way first unreadable keeps = absurd way
-Halts-unreadable (Some bytes) (Some here) None held between holds line number standing way first unreadable keeps = absurd first
-Halts-unreadable (Some bytes) (Some here) (Some later) held between holds line number standing way first unreadable keeps =
+Halts-unreadable (Some bytes) None rest held between holds line number standing way first unreadable keeps =
+    absurd way
+Halts-unreadable (Some bytes) (Some here) None held between holds line number standing way first unreadable
+    keeps = absurd first
+Halts-unreadable (Some bytes) (Some here) (Some later) held between holds line number standing way first
+    unreadable keeps =
     stops (lines_of bytes) (lines_of later) line held between holds number standing
     (subst (λ l. UnderWay (lines_of bytes) l held between number standing) first way) (inl unreadable) keeps
 
 -- there is no memory
 pub Halts-memory : (input left held between holds : Option (List ℕ)) (number told : ℕ) (standing : Standing)
-    → GoesOn input left held between number standing → Keeps between holds → Halts input (Err OutOfMemory) told held holds
+    → GoesOn input left held between number standing → Keeps between holds
+    → Halts input (Err OutOfMemory) told held holds
 Halts-memory None left held between holds number told standing way keeps = tt
 Halts-memory (Some bytes) None held between holds number told standing way keeps = absurd way
 Halts-memory (Some bytes) (Some rest) held between holds number told standing way keeps =
@@ -245,30 +307,47 @@ Halts-memory (Some bytes) (Some rest) held between holds number told standing wa
 -- there is no memory to begin with
 pub Halts-first : (input held : Option (List ℕ)) (told : ℕ) → Halts input (Err OutOfMemory) told held held
 Halts-first None held told = tt
-Halts-first (Some bytes) held told =
-    ([], [], record { rest = lines_of bytes; split = refl; played = record { rows = []; stream = Reading []; lawful = tt; written = (refl, refl, refl) } }, Appends-nil held)
+Halts-first (Some bytes) held told = (
+  [],
+  [],
+  record {
+    rest = lines_of bytes;
+    split = refl;
+    played = record { rows = []; stream = Reading []; lawful = tt; written = (refl, refl, refl) };
+  },
+  Appends-nil held,
+)
 
 -- a line could not be read for one of these reasons
-pub Halts-read : (input left held holds : Option (List ℕ)) (number : ℕ) (standing : Standing) (stop : Obstacle)
-    → GoesOn input left held holds number standing → (stop ≡ Unreadable → BeginsTooLong left) → Halts input (Err stop) number held holds
-Halts-read input left held holds number standing Unreadable way long = Halts-long input left held holds number standing way (long refl)
-Halts-read input left held holds number standing OutOfMemory way long = Halts-memory input left held holds holds number number standing way (Keeps-refl holds)
+pub Halts-read : (input left held holds : Option (List ℕ)) (number : ℕ) (standing : Standing)
+    (stop : Obstacle)
+    → GoesOn input left held holds number standing → (stop ≡ Unreadable → BeginsTooLong left)
+    → Halts input (Err stop) number held holds
+Halts-read input left held holds number standing Unreadable way long =
+    Halts-long input left held holds number standing way (long refl)
+Halts-read input left held holds number standing OutOfMemory way long =
+    Halts-memory input left held holds holds number number standing way (Keeps-refl holds)
 Halts-read None left held holds number standing Failed way long = tt
 Halts-read (Some bytes) left held holds number standing Failed way long = tt
 
 -- a line could not be played for one of these reasons
-pub Halts-play : (input left rest held between holds : Option (List ℕ)) (line : List ℕ) (number : ℕ) (standing : Standing) (stop : Obstacle)
+pub Halts-play : (input left rest held between holds : Option (List ℕ)) (line : List ℕ) (number : ℕ)
+    (standing : Standing) (stop : Obstacle)
     → GoesOn input left held between number standing → IsFirstLine left rest line
-    → (stop ≡ Unreadable → line_of line ≡ None) → (stop ≢ Failed → Keeps between holds) → Halts input (Err stop) number held holds
+    → (stop ≡ Unreadable → line_of line ≡ None) → (stop ≢ Failed → Keeps between holds)
+    → Halts input (Err stop) number held holds
 Halts-play input left rest held between holds line number standing Unreadable way first unreadable keeps =
-    Halts-unreadable input left rest held between holds line number standing way first (unreadable refl) (keeps (λ is. absurd (cc)))
+    Halts-unreadable input left rest held between holds line number standing way first (unreadable refl)
+    (keeps (λ is. absurd (cc)))
 Halts-play input left rest held between holds line number standing OutOfMemory way first unreadable keeps =
     Halts-memory input left held between holds number number standing way (keeps (λ is. absurd (cc)))
 Halts-play None left rest held between holds line number standing Failed way first unreadable keeps = tt
-Halts-play (Some bytes) left rest held between holds line number standing Failed way first unreadable keeps = tt
+Halts-play (Some bytes) left rest held between holds line number standing Failed way first unreadable keeps =
+    tt
 
 -- how a script comes out whose lines came to an end so
-pub outcome : (input held between holds : Option (List ℕ)) (status : Status) (played : Result (Unit {0}) Obstacle) (number : ℕ)
+pub outcome : (input held between holds : Option (List ℕ)) (status : Status)
+    (played : Result (Unit {0}) Obstacle) (number : ℕ)
     → Halts input played number held between → Finishes status played number between holds
     → IfSome input (λ script. IsOutcome status (lines_of script) held holds)
 outcome None held between holds status played number halts finishes = tt
@@ -276,8 +355,14 @@ outcome (Some bytes) held between holds statuses.Done played number halts (is, k
     let (text, all, grown) = subst (λ r. IsHalt r number (lines_of bytes) held between) is halts in
     (text, all, Appends-kept held between holds text grown keeps)
 outcome (Some bytes) held between holds statuses.Unreadable played number halts (is, told) =
-    let (before, text, stop, grown, numbered) = subst (λ r. IsHalt r number (lines_of bytes) held between) is halts in
-    (before, text, stop, subst (λ n. Appends held holds (text ++ unreadable_text n)) numbered (Appends-trans held between holds text (unreadable_text number) grown told))
+    let (before, text, stop, grown, numbered) =
+    subst (λ r. IsHalt r number (lines_of bytes) held between) is halts in (
+      before,
+      text,
+      stop,
+      subst (λ n. Appends held holds (text ++ unreadable_text n)) numbered
+          (Appends-trans held between holds text (unreadable_text number) grown told),
+    )
 outcome (Some bytes) held between holds statuses.OutOfMemory played number halts (is, told) =
     let (before, text, break, grown) = subst (λ r. IsHalt r number (lines_of bytes) held between) is halts in
     (before, text, break, Appends-trans held between holds text _ grown told)

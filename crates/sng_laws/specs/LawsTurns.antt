@@ -125,9 +125,9 @@ abbrev pub may_deny : Occasion → Moment → Bool
 may_deny by now = is_free_at now || (is_at_tick by && is_judged_again now)
 
 -- by the policy, and for want of an id, in its turn alone; by the client, as its REGACK with this code
--- refuses the id that is announced; as it came, just as a packet of the broker comes; and as it is gone, where
--- nothing is open any more. So before its answer an announced front is denied at a tick alone. No message is
--- denied for another reason
+-- refuses the id that is announced; as it came, just as a packet of the broker comes; and as it is gone,
+-- where nothing is open any more. So before its answer an announced front is denied at a tick alone. No
+-- message is denied for another reason
 abbrev pub IsDeniedSo : Occasion → Denial → Moment → Type 0
 IsDeniedSo by (Grant rule) now = may_deny by now ≡ true
 IsDeniedSo by (Room (Full place.Ids)) now = may_deny by now ≡ true
@@ -164,5 +164,6 @@ EachInTurn id [] = Unit {0}
 EachInTurn id (row ∷ earlier) =
     let rows = row ∷ earlier in
     EachInTurn id earlier
-    × AllInTurn (policy_in_force rows) (occasion_of row.event) id (due_of id rows) (message_at row.event) row.outs
+    × AllInTurn (policy_in_force rows) (occasion_of row.event) id (due_of id rows) (message_at row.event)
+    row.outs
     (moment_at id row.event earlier)

@@ -229,7 +229,8 @@ scope part name (object ms) = refl
 -- ---- members
 
 -- one test, and what follows it
-tested : {F : Type 0} (place : Location) (o : Option F) (flaw : F → Flaw) (c rest : Result Unit Stop) → c ≡ rest
+tested : {F : Type 0} (place : Location) (o : Option F) (flaw : F → Flaw) (c rest : Result Unit Stop)
+    → c ≡ rest
     → unless o (λ fault. stop_at place (flaw fault)) >>= (λ checked. c)
     ≡ ends_at place (option_map flaw o) rest
 tested place None flaw c rest is = is

@@ -91,7 +91,8 @@ pair_alone : (d : Data) (place : Spot → Location) (w : Data) → Spots d place
 pair_alone d place w spots i e is =
     one_more d (test (place (Pair i)) IsPair e) [] (spots (Pair i) e is) (nothing d)
 
-pair : (d : Data) (place : Spot → Location) (w : Data) → Spots d place w → (i : ℕ) (e : Data) → at i w ≡ Some e
+pair : (d : Data) (place : Spot → Location) (w : Data) → Spots d place w → (i : ℕ) (e : Data)
+    → at i w ≡ Some e
     → Standing d (pair_tests place i e)
 pair d place w spots i (array (item a (item b no_items))) is =
     let filter : option_and_then (at 0) (at i w) ≡ Some a = ap (option_and_then (at 0)) is in
@@ -124,7 +125,8 @@ pair d place w spots i (number n) is = pair_alone d place w spots i _ is
 pair d place w spots i (string text) is = pair_alone d place w spots i _ is
 pair d place w spots i (object ms) is = pair_alone d place w spots i _ is
 
-array_of : (d : Data) (place : Spot → Location) (w : Data) → Spots d place w → Standing d (array_tests place w)
+array_of : (d : Data) (place : Spot → Location) (w : Data) → Spots d place w
+    → Standing d (array_tests place w)
 array_of d place w spots =
     one_more d (test (place Whole) (IsAtMost MAX_PAIRS) w) (pairs_tests place 0 (items_in w))
     (spots Whole w refl)

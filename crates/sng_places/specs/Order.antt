@@ -202,7 +202,8 @@ members_tests part rule tests (member name d ms) =
     test (places.Name part name) rule (string name)
     ∷ (tests (places.Value part name) d ++ members_tests part rule tests ms)
 
-abbrev pub part_tests : Part → ℕ → Rule → ((Form → Spot → Location) → Data → List Test) → Option Data → List Test
+abbrev pub part_tests : Part → ℕ → Rule → ((Form → Spot → Location) → Data → List Test) → Option Data
+    → List Test
 part_tests part most rule tests None = []
 part_tests part most rule tests (Some d) =
     test (places.Part part) IsObject d

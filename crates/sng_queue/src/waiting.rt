@@ -4,15 +4,16 @@ ghost use Rattle.sng_queue.specs.declared.limits.TheConstants.{MAX_WAITING_NAME,
 ghost use Rattle.sng_queue.specs.Messages.{message, is_sendable};
 
 use crate::{MAX_WAITING_NAME, MAX_WAITING_PAYLOAD};
-use sng_text::{Octets, Qos, TopicName};
+use bytes::Bytes;
+use sng_text::{Qos, TopicName};
 use std::marker::Model;
 
 /// A message for one client, as it will be sent (MQTT-SN 1.2, 5.4.12): one datagram can carry its payload,
-/// and one its name. No call takes memory.
+/// and one its name. The payload is shared by all for whom the message waits. No call takes memory.
 #[derive(Debug, Drop)]
 pub struct Waiting {
     name: TopicName,
-    payload: Octets,
+    payload: Bytes,
     qos: Qos,
     retain: bool,
 }
@@ -30,14 +31,14 @@ impl Model for Waiting {
 
 impl Waiting {
     /// Whether one datagram can carry the payload, and one the name.
-    pub fn is_sendable(name: &TopicName, payload: &Octets) -> bool
+    pub fn is_sendable(name: &TopicName, payload: &[u8]) -> bool
         ensures { result ≡ is_sendable name.now payload.now }
     {
         name.text().len() <= MAX_WAITING_NAME && payload.len() <= MAX_WAITING_PAYLOAD
     }
 
     /// The message of these parts.
-    pub fn new(name: TopicName, payload: Octets, qos: Qos, retain: bool) -> Waiting
+    pub fn new(name: TopicName, payload: Bytes, qos: Qos, retain: bool) -> Waiting
         requires { is_sendable name payload ≡ true }
         ensures { result ≡ message name payload qos retain }
     {
@@ -58,11 +59,11 @@ impl Waiting {
     }
 
     /// The payload.
-    pub fn payload(&self) -> &Octets
+    pub fn payload(&self) -> &[u8]
         ensures value { result.now ≡ self.now.payload }
         ensures within { length self.now.payload ≤ MAX_WAITING_PAYLOAD }
     {
-        &self.payload
+        self.payload.as_slice()
     }
 
     /// The QoS at which it is sent.

@@ -32,9 +32,11 @@ number_of-number : (text : List ℕ) → is_number text ≡ true → number_onto
 number_of-number [] is fits = absurd (cc)
 number_of-number (b ∷ bs) is fits = digits_onto-number 0 (b ∷ bs) is fits
 
-are_digits-more : (text : List ℕ) (b : ℕ) → are_digits text ≡ true → is_digit b ≡ true → are_digits (text ++ b ∷ []) ≡ true
+are_digits-more : (text : List ℕ) (b : ℕ) → are_digits text ≡ true → is_digit b ≡ true
+    → are_digits (text ++ b ∷ []) ≡ true
 are_digits-more [] b are is = and_from _ _ is refl
-are_digits-more (a ∷ text) b are is = let p = and_parts _ _ are in and_from _ _ p.0 (are_digits-more text b p.1 is)
+are_digits-more (a ∷ text) b are is =
+    let p = and_parts _ _ are in and_from _ _ p.0 (are_digits-more text b p.1 is)
 
 abbrev Spelled : ℕ → List ℕ → Type 0
 Spelled n text = is_number text ≡ true
@@ -45,16 +47,20 @@ digit n few = and_from _ _ (le-leb 48 (48 + n) (omega arith)) (le-leb (48 + n) 5
 spelled-one : (n : ℕ) → n < 10 → Spelled n ((48 + n) ∷ [])
 spelled-one n few = and_from _ _ (digit n few) refl
 
-is_number-more : (text : List ℕ) (b : ℕ) → is_number text ≡ true → is_digit b ≡ true → is_number (text ++ b ∷ []) ≡ true
+is_number-more : (text : List ℕ) (b : ℕ) → is_number text ≡ true → is_digit b ≡ true
+    → is_number (text ++ b ∷ []) ≡ true
 is_number-more [] b is last = absurd (cc)
-is_number-more (a ∷ text) b is last = let p = and_parts _ _ is in and_from _ _ p.0 (are_digits-more text b p.1 last)
+is_number-more (a ∷ text) b is last =
+    let p = and_parts _ _ is in and_from _ _ p.0 (are_digits-more text b p.1 last)
 
-spelled-more : (n : ℕ) (text : List ℕ) → 10 ≤ n → Spelled (n / 10) text → Spelled n (text ++ ((48 + n % 10) ∷ []))
+spelled-more : (n : ℕ) (text : List ℕ) → 10 ≤ n → Spelled (n / 10) text
+    → Spelled n (text ++ ((48 + n % 10) ∷ []))
 spelled-more n text many before = is_number-more text (48 + n % 10) before (digit (n % 10) (omega arith))
 
 pub numbers_are_decimal : NumbersAreDecimal
 numbers_are_decimal number fits =
-    let spelled : is_number (decimal number) ≡ true = decimal_by_steps Spelled spelled-one spelled-more number fits in
+    let spelled : is_number (decimal number) ≡ true =
+    decimal_by_steps Spelled spelled-one spelled-more number fits in
     let value : number_onto 0 (decimal number) ≡ number = digits_value-decimal numerals number fits in
     number_of-number (decimal number) spelled (omega (arith, value)) ∙ ap Some value
 

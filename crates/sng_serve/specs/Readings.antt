@@ -5,7 +5,8 @@ use Rattle.sng_desk.specs.declared.source.Got.{Got}
 use Rattle.sng_desk.specs.declared.source.Got.TheVariants.{Came, Nothing, Failed, Ended}
 use Rattle.sng_script.specs.Input.{IsFirstLine}
 use Rattle.sng_grants.specs.declared.policy.Policy.{Policy}
-use Rattle.sng_operator.specs.Commands.{Request, ForNothing, ForPolicy, ForReload, ForStatus, ForRows, ForHelp, ForEnd, NotKnown, asked_by}
+use Rattle.sng_operator.specs.Commands.{Request, ForNothing, ForPolicy, ForReload, ForStatus, ForRows}
+use Rattle.sng_operator.specs.Commands.{ForHelp, ForEnd, NotKnown, asked_by}
 use Rattle.sng_scope.specs.Policies.{policy_of}
 
 -- the policy that came, where one did, is that of the text
@@ -15,7 +16,8 @@ IsPolicyOf text Nothing = Unit {0}
 IsPolicyOf text Failed = ⊥
 IsPolicyOf text Ended = ⊥
 
--- what a request comes to: a policy comes of the text that it names alone, or of that of the file; `quit` ends it
+-- what a request comes to: a policy comes of the text that it names alone, or of that of the file; `quit`
+-- ends it
 abbrev pub IsAnswer : Request → Got Policy → Type 0
 IsAnswer ForNothing got = got ≡ Nothing
 IsAnswer (ForPolicy text) got = IsPolicyOf text got

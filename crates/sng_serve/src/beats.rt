@@ -1,6 +1,7 @@
 //! The clock of the gateway: a beat each second, told in ms since the start.
 ghost use Rattle.std.specs.Prelude.{◌≡◌, ◌≢◌, ◌≤◌, ◌<◌, ◌↔◌, [], false};
-ghost use Rattle.sng_desk.specs.declared.source.Got.TheVariants.{Ended as ended_answer, Failed as failed_answer};
+ghost use Rattle.sng_desk.specs.declared.source.Got.TheVariants.{Ended as ended_answer};
+ghost use Rattle.sng_desk.specs.declared.source.Got.TheVariants.{Failed as failed_answer};
 
 use crate::bell::Ear;
 use crate::hub::Hub;
@@ -126,8 +127,8 @@ impl<'a, R: Clock + Wait> SystemBeats<'a, R> {
         self.beat_unless_held(now)
     }
 
-    /// Whether the beat that is due waits a step longer: behind a gap a device's PINGREQ may lie in the socket
-    /// that is read before its client is taken for lost.
+    /// Whether the beat that is due waits a step longer: behind a gap a device's PINGREQ may lie in the
+    /// socket that is read before its client is taken for lost.
     fn is_held(&mut self, now: Duration) -> bool
         ensures failures { self.new.failures ≡ self.old.failures }
     {

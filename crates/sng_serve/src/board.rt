@@ -13,8 +13,8 @@ use std::thread;
 /// So many texts wait at most: one more is lost, and counted.
 pub const PLACES: usize = 256;
 
-/// How often the board is tried, which others hold for an instant alone: each try that fails leaves the processor
-/// to them.
+/// How often the board is tried, which others hold for an instant alone: each try that fails leaves the
+/// processor to them.
 const TRIES: u32 = 1_000_000;
 
 /// A text, and how many rows it has.

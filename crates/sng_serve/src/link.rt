@@ -323,8 +323,8 @@ impl<'a, R: Clock + Net + Wait + AllocGlobal> Upstream for BrokerLink<'a, R> {
         }
     }
 
-    /// The worker has the token with what the broker sent. A connection that is over, and a look at what waits
-    /// for the broker, send nothing to devices.
+    /// The worker has the token with what the broker sent. A connection that is over, and a look at what
+    /// waits for the broker, send nothing to devices.
     fn read(&mut self) -> ReadAnswer {
         let answer = self.listen();
         if let ReadAnswer::Piece(_) = &answer {

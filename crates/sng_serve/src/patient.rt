@@ -89,8 +89,8 @@ impl InputWatch {
     }
 }
 
-/// Passes on what its reader gives, once there is something to read. Once the gateway stops it is given up: each
-/// read fails.
+/// Passes on what its reader gives, once there is something to read. Once the gateway stops it is given up:
+/// each read fails.
 #[derive(Drop)]
 pub struct PatientReader<'a, R: Clock, I> {
     rt: &'a R,

@@ -1,11 +1,12 @@
-//! What an operator says while the gateway serves, a line of standard input each: policies, and the commands of
-//! `commands.rt`.
+//! What an operator says while the gateway serves, a line of standard input each: policies, and the commands
+//! of `commands.rt`.
 ghost use Rattle.std.specs.Prelude.{◌≡◌, ◌≢◌, ◌≤◌, ◌<◌, ◌↔◌, ◌⊎◌, [], false, true};
 ghost use Rattle.sng_desk.specs.Acts.{Moves};
 ghost use Rattle.sng_desk.specs.Working.{given_by};
 ghost use Rattle.sng_operator.specs.Commands.{ForReload, asked_by};
 ghost use Rattle.sng_serve.specs.Readings.{CannotRead, IsAnswer, IsPolicyOf, IsTurn};
-ghost use Rattle.sng_desk.specs.declared.source.Got.TheVariants.{Ended as ended_answer, Failed as failed_answer};
+ghost use Rattle.sng_desk.specs.declared.source.Got.TheVariants.{Ended as ended_answer};
+ghost use Rattle.sng_desk.specs.declared.source.Got.TheVariants.{Failed as failed_answer};
 
 use crate::hub::Hub;
 use crate::patient::PatientInput;
@@ -68,8 +69,8 @@ impl<'a, R: Files + AllocGlobal, I: PatientInput + Drop> OperatorPolicies<'a, R,
         self.lost_input
     }
 
-    /// What the next line asks for: it is taken whole, and exactly what stands behind it is left. The end of the
-    /// input stops all where no file has the policy, and so does an input that cannot be read.
+    /// What the next line asks for: it is taken whole, and exactly what stands behind it is left. The end of
+    /// the input stops all where no file has the policy, and so does an input that cannot be read.
     fn read(&mut self) -> Got<Policy>
         ensures turn { IsTurn (I.remaining self.old.input) (I.remaining self.new.input)
             (I.given_up self.new.input) self.old.lost_input self.new.lost_input result }
@@ -202,8 +203,8 @@ impl<'a, R: Files + AllocGlobal, I: PatientInput + Drop> Policies for OperatorPo
     }
 }
 
-/// The policy that the text is, with its warnings told. One that is refused is told, and replaces nothing; one
-/// that is in force already makes no event.
+/// The policy that the text is, with its warnings told. One that is refused is told, and replaces nothing;
+/// one that is in force already makes no event.
 fn give<R: AllocGlobal>(rt: &R, hub: &Hub, in_force: &mut InForce, text: &[u8]) -> Got<Policy>
     ensures { IsPolicyOf text.now result }
 {

@@ -9,7 +9,8 @@ use std::str;
 /// So many lines are told of one text at most.
 const MOST_LINES: usize = 20;
 
-/// Tells the warnings of a text that is accepted, and of any other what its first fault is and where it stands.
+/// Tells the warnings of a text that is accepted, and of any other what its first fault is and where it
+/// stands.
 pub fn tell_report<R: AllocGlobal>(rt: &R, hub: &Hub, text: &[u8]) {
     match report_of(rt.alloc(), text) {
         Ok(report) => match report.status {

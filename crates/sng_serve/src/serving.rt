@@ -199,8 +199,8 @@ where
     Ok(finish(rt, hub, desk.into_inner(), beginning, ran, printed))
 }
 
-/// Runs the workers at the socket, the broker, the clock and standard input. Here stands that each of them may go
-/// to a thread of its own.
+/// Runs the workers at the socket, the broker, the clock and standard input. Here stands that each of them
+/// may go to a thread of its own.
 fn run_crew<
     'a,
     R: Threads + Wait + Sync + Net + Clock + Files + Input + Print + Eprint + AllocGlobal,
@@ -335,8 +335,8 @@ fn accounts_of<R: Clock + Net + Wait + Files + Input + Print + Eprint + AllocGlo
     Ok(accounts)
 }
 
-/// Prints how many rows were closed, or that they were not, and waits until all is printed, as far as that takes
-/// no longer than there is patience for.
+/// Prints how many rows were closed, or that they were not, and waits until all is printed, as far as that
+/// takes no longer than there is patience for.
 fn tell_closed<R: Clock + AllocGlobal>(
     rt: &R,
     hub: &Hub,

@@ -1,7 +1,8 @@
 //! The socket of the devices as a source of datagrams. All workers share one socket, and one of them reads it
 //! at a time. It takes the token with what it read, before the next one reads, so what comes has an order.
 ghost use Rattle.std.specs.Prelude.{◌≡◌, ◌≢◌, ◌≤◌, ◌<◌, ◌↔◌, [], false};
-ghost use Rattle.sng_desk.specs.declared.source.Got.TheVariants.{Ended as ended_answer, Failed as failed_answer};
+ghost use Rattle.sng_desk.specs.declared.source.Got.TheVariants.{Ended as ended_answer};
+ghost use Rattle.sng_desk.specs.declared.source.Got.TheVariants.{Failed as failed_answer};
 
 use crate::hub::Hub;
 use sng_book::Address;

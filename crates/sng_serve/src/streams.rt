@@ -10,25 +10,36 @@ use std::rt::Clock;
 use std::sync::{Arc, Wait};
 use std::thread::Threads;
 
+/// What waits for standard output, and for standard error.
+#[derive(Drop)]
+pub struct StandardBoards {
+    pub output: Arc<Board, Global>,
+    pub errors: Arc<Board, Global>,
+}
+
 /// The boards of standard output and standard error, at which their writers have begun.
 pub fn boards<
     R: Threads + Wait + Net + Clock + Print + Eprint + Copy + Send + AllocGlobal + 'static,
->(rt: &R) -> Result<(Arc<Board, Global>, Arc<Board, Global>), NotBegun> {
-    let alloc = rt.alloc();
-    let (output_ear, output_bell) = Ear::new(rt, alloc)?;
-    let (errors_ear, errors_bell) = Ear::new(rt, alloc)?;
-    let output = board(alloc, output_bell)?;
-    let errors = board(alloc, errors_bell)?;
+>(rt: &R) -> Result<StandardBoards, NotBegun> {
+    let (errors, errors_ear) = board(rt)?;
     start_errors(rt, Arc::try_clone(&errors)?, errors_ear)?;
+    let (output, output_ear) = board(rt)?;
     start_output(
         rt,
         Arc::try_clone(&output)?,
         Arc::try_clone(&errors)?,
         output_ear,
     )?;
-    Ok((output, errors))
+    Ok(StandardBoards { output, errors })
 }
 
-fn board(alloc: Global, bell: Bell) -> Result<Arc<Board, Global>, AllocError> {
+/// A board, and the ear of whoever writes what is posted at it.
+fn board<R: Net + AllocGlobal>(rt: &R) -> Result<(Arc<Board, Global>, Ear), NotBegun> {
+    let alloc = rt.alloc();
+    let (ear, bell) = Ear::new(rt, alloc)?;
+    Ok((shared(alloc, bell)?, ear))
+}
+
+fn shared(alloc: Global, bell: Bell) -> Result<Arc<Board, Global>, AllocError> {
     Ok(Arc::new(alloc, Board::new(alloc, bell)?)?)
 }

@@ -171,8 +171,8 @@ impl Wire {
         self.receive()
     }
 
-    /// The next piece of what came in, of `MAX_READ` bytes at most, which is then given. It is empty where nothing
-    /// is left.
+    /// The next piece of what came in, of `MAX_READ` bytes at most, which is then given. It is empty where
+    /// nothing is left.
     pub fn piece(&mut self, alloc: Global) -> Result<Vec<u8>, AllocError>
         ensures { IfOk result (λ piece. length piece.items ≤ MAX_READ) }
     {

@@ -1,5 +1,5 @@
-//! The threads that write to standard output and standard error. They own what they use, so that a stream that
-//! takes nothing any more does not keep the program from ending: it cuts them off.
+//! The threads that write to standard output and standard error. They own what they use, so that a stream
+//! that takes nothing any more does not keep the program from ending: it cuts them off.
 
 use crate::bell::Ear;
 use crate::board::Board;
@@ -95,8 +95,8 @@ fn write_output<R: Wait + Clock + Print>(rt: &R, output: &Board, errors: &Board,
     unreachable!()
 }
 
-/// Writes the text to its end. What cannot be written is tried again until it can be, so that no row is left out
-/// or printed in part; the first such failure is told, and the end of it.
+/// Writes the text to its end. What cannot be written is tried again until it can be, so that no row is left
+/// out or printed in part; the first such failure is told, and the end of it.
 fn write_text<R: Wait + Clock + Print>(rt: &R, errors: &Board, text: &[u8]) {
     let mut left = text;
     let mut has_failed = false;

@@ -1,9 +1,14 @@
-pub mod CountLemmas
+pub mod HeldLemmas
+mod KeptLemmas
+mod HoldersLemmas
+mod GreatestHeld
+mod HoldersListed
+mod PlacesListed
 pub mod MovedLists
 pub mod HandedLemmas
 mod IdLemmas
 mod Looks
 mod Moves
-mod Counted
+mod There
 mod WillLemmas
 mod SleepLemmas

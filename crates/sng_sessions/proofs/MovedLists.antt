@@ -19,6 +19,14 @@ filters-moved f keeps [] place = refl
 filters-moved f keeps (x ∷ xs) zero = keeps x
 filters-moved f keeps (x ∷ xs) (suc place) = filters-moved f keeps xs place
 
+-- a move that keeps the ids, read at its place
+pub ids-moved : (f : Client → Client) → ((x : Client) → (f x).ids ≡ x.ids)
+    → (xs : List Client) (place : ℕ)
+    → (client_at (moved_at place f xs) place).ids ≡ (client_at xs place).ids
+ids-moved f keeps [] place = refl
+ids-moved f keeps (x ∷ xs) zero = keeps x
+ids-moved f keeps (x ∷ xs) (suc place) = ids-moved f keeps xs place
+
 -- the clients before the place
 pub take-moved : (f : Client → Client) (place : ℕ) (xs : List Client)
     → take place (moved_at place f xs) ≡ take place xs

@@ -1,6 +1,7 @@
 pub mod Standing
 pub mod Moving
-pub mod Counts
+pub mod Kept
+pub mod Holding
 pub mod Places
 pub mod Handed
 pub mod Willing

@@ -1,10 +1,9 @@
 //! The clients of the gateway, by where each stands among them (MQTT-SN 1.2, 6.2 to 6.5, 6.9 and 6.14): what
 //! is kept of each, an index from addresses to clients, so that a message finds its client by one look-up,
-//! and for how many clients each filter stands.
+//! and the tree of filters, so that a name finds who is due its messages.
 #![tactic(auto)]
 
 pub mod handing;
-mod holders;
 pub mod ids;
 mod places;
 pub mod session;

@@ -9,19 +9,17 @@ ghost use Rattle.sng_states.specs.States.{has_session};
 ghost use Rattle.sng_history.specs.Clients.{same_address};
 ghost use Rattle.sng_ids.specs.Ids.{is_full_for};
 ghost use Rattle.sng_book.specs.declared.outcome.Outcome.TheVariants.{Allowed};
-ghost use Rattle.sng_fan.specs.Subscriptions.{stands};
 ghost use Rattle.sng_queue.specs.Buffers.{nothing};
 ghost use Rattle.sng_wills.specs.declared.will.Stage.TheVariants.{Closed};
 ghost use Rattle.sng_sessions.specs.Willing.{phase_opened, wills_opened};
 ghost use Rattle.sng_history.specs.Clients.{let_in, lost, told};
 ghost use Rattle.sng_history.specs.State.{is_known};
 ghost use Rattle.sng_history.specs.Entering.{heard_at, left_at, entered};
-ghost use Rattle.sng_sessions.specs.Counts.{count_of, one_if, Counted, Follows};
+ghost use Rattle.sng_sessions.specs.Kept.{SaysHeld, SameOfOthers, Keeps};
 ghost use Rattle.sng_sessions.specs.Standing.{client_at, told_at};
 ghost use Rattle.sng_sessions.specs.Places.{clients_of, holds_at, stands_at, is_place, presence_in, was_at};
 ghost use Rattle.sng_sessions.specs.Places.{Indexed, moved_at, vacated, settled};
 
-use crate::holders::Holders;
 use crate::ids::ClientIds;
 use crate::session::{Presence, Session};
 use crate::subscribing::end_all;
@@ -30,6 +28,7 @@ use sng_book::Address;
 use sng_fan::subscriptions::Subscriptions;
 use sng_frames::Connect;
 use sng_queue::Queue;
+use sng_standing::Standing;
 use sng_states::ClientState;
 use sng_text::{ClientId, TopicName};
 use sng_wills::WillDialogue;
@@ -137,50 +136,50 @@ pub fn admit(
 pub fn readmit(
     clients: &mut IndexMap<ClientId, Session>,
     places: &mut IndexMap<Address, usize>,
-    holders: &mut Holders,
+    standing: &mut Standing,
     place: usize,
     from: Address,
     connect: &Connect,
     clock: u64,
 )
     requires indexed { Indexed (get same_address places.old) (clients_of clients.old.entries) }
-    requires counted { Counted holders.old.held (clients_of clients.old.entries) }
+    requires kept { Keeps standing.old (clients_of clients.old.entries) }
     requires place { position (bytes_eq connect.now.client_id) (keys clients.old) ≡ Some place }
     requires place_room { 0 < spare places.old }
     ensures clients { clients_of clients.new.entries
         ≡ entered clock from connect.now (clients_of clients.old.entries) }
     ensures indexed { Indexed (get same_address places.new) (clients_of clients.new.entries) }
-    ensures counted { Counted holders.new.held (clients_of clients.new.entries) }
+    ensures kept { Keeps standing.new (clients_of clients.new.entries) }
 {
     // `len` is called for its clause that the keys are apart.
     let _count = clients.len();
     vacate(clients, places, from, &connect.client_id, clock);
-    return_at(clients, places, holders, place, from, connect, clock);
+    return_at(clients, places, standing, place, from, connect, clock);
 }
 
 /// The client at this place is at the address from now on, where nobody else is, as its CONNECT is accepted.
 fn return_at(
     clients: &mut IndexMap<ClientId, Session>,
     places: &mut IndexMap<Address, usize>,
-    holders: &mut Holders,
+    standing: &mut Standing,
     place: usize,
     from: Address,
     connect: &Connect,
     clock: u64,
 )
     requires indexed { Indexed (get same_address places.old) (clients_of clients.old.entries) }
-    requires counted { Counted holders.old.held (clients_of clients.old.entries) }
+    requires kept { Keeps standing.old (clients_of clients.old.entries) }
     requires alone { (other : ℕ) → stands_at from (clients_of clients.old.entries) other ≡ true
         → is_place place other ≡ true }
     requires place_room { 0 < spare places.old }
     ensures clients { clients_of clients.new.entries
         ≡ moved_at place (let_in clock from connect.now) (clients_of clients.old.entries) }
     ensures indexed { Indexed (get same_address places.new) (clients_of clients.new.entries) }
-    ensures counted { Counted holders.new.held (clients_of clients.new.entries) }
+    ensures kept { Keeps standing.new (clients_of clients.new.entries) }
 {
     if let Some(session) = clients.get_index_mut(place) {
         release(places, Some(session.presence));
-        begin(session, holders, from, connect, clock);
+        begin(session, standing, place, from, connect, clock);
         match places.insert(from, place) {
             Ok(_) => {}
             Err(_) => unreachable!(),
@@ -190,8 +189,15 @@ fn return_at(
 
 /// A session begins anew, with no exchange open: a clean one ends what stood and waited for its client, and
 /// its will (MQTT-SN 1.2, 6.2 and 6.3).
-fn begin(session: &mut Session, holders: &mut Holders, from: Address, connect: &Connect, clock: u64)
-    requires { (text : List ℕ) → one_if (stands session.old.filters text) ≤ count_of holders.old.held text }
+fn begin(
+    session: &mut Session,
+    standing: &mut Standing,
+    place: usize,
+    from: Address,
+    connect: &Connect,
+    clock: u64,
+)
+    requires { SaysHeld standing.old place session.old.filters }
     ensures presence { session.new.presence ≡ record {
       address = from;
       phase = phase_opened connect.now.flags.will;
@@ -205,11 +211,12 @@ fn begin(session: &mut Session, holders: &mut Holders, from: Address, connect: &
     ensures filters { session.new.filters ≡ (if connect.now.flags.clean then [] else session.old.filters) }
     ensures wills { session.new.wills
         ≡ wills_opened connect.now.flags.clean connect.now.flags.will session.old.wills }
-    ensures counts { Follows holders.old.held holders.new.held session.old.filters session.new.filters }
+    ensures held { SaysHeld standing.new place session.new.filters }
+    ensures others { SameOfOthers standing.old standing.new place }
 {
     session.queue.close();
     if connect.flags.clean {
-        end_all(&mut session.filters, holders);
+        end_all(&mut session.filters, standing, place);
         session.queue.empty();
     }
     open(&mut session.wills, connect.flags.clean, connect.flags.will);

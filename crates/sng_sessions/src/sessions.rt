@@ -1,6 +1,6 @@
 //! The clients of the gateway, in the order in which each was accepted first, and where each is.
 ghost use Rattle.std.specs.Prelude.{◌≡◌, ◌<◌, ◌+◌, ◌||◌, [], length, take, drop, false, Some, IfSome, OnOk};
-ghost use Rattle.std.specs.Prelude.{OnErr};
+ghost use Rattle.std.specs.Prelude.{OnErr, IfOk};
 ghost use Rattle.std.specs.Option.{ForSome};
 ghost use Rattle.sng_fan.specs.Subscriptions.{is_full, IsOneClients};
 ghost use Rattle.sng_fan.specs.Greatest.{greatest_qos};
@@ -13,12 +13,12 @@ ghost use Rattle.sng_book.specs.declared.outcome.Outcome.TheVariants.{Allowed};
 ghost use Rattle.sng_history.specs.Entering.{heard_at, left_at, entered};
 ghost use Rattle.sng_sessions.specs.Standing.{place_at, place_of, client_at, told_at, subscribed_at};
 ghost use Rattle.sng_sessions.specs.Places.{moved_at};
+ghost use Rattle.sng_sessions.specs.Holding.{holders_from, places_from};
 ghost use Rattle.sng_sessions.specs.Handed.{delivered, handed_by, answered};
 ghost use Rattle.sng_sessions.specs.Sleeping.{changed};
 ghost use Rattle.sng_sessions.specs.Willing.{stating_at};
 
 use crate::handing::{Handed, Opens, answer_at, deliver_at, hand_at};
-use crate::holders::Holders;
 use crate::ids::ClientIds;
 use crate::places::{admit, hear_at, leave_at, lose_at, readmit, tell_at, tell_if};
 use crate::session::Session;
@@ -32,6 +32,7 @@ use sng_fan::subscriptions::Subscriptions;
 use sng_frames::Connect;
 use sng_ids::IdTable;
 use sng_queue::{Queue, Waiting};
+use sng_standing::{Holder, Standing};
 use sng_states::ClientState;
 use sng_text::{ClientId, Qos, TopicFilter, TopicName};
 use sng_wills::WillDialogue;
@@ -44,24 +45,24 @@ use std::marker::Model;
 pub struct Sessions {
     clients: IndexMap<ClientId, Session>,
     places: IndexMap<Address, usize>,
-    holders: Holders,
+    standing: Standing,
 }
 
 impl Model for Sessions {
     ghost use Rattle.std.specs.Prelude.{List};
     ghost use Rattle.indexmap.specs.IndexMap.{get};
     ghost use Rattle.sng_history.specs.Clients.{Client, same_address};
-    ghost use Rattle.sng_sessions.specs.Counts.{Counted};
+    ghost use Rattle.sng_sessions.specs.Kept.{Keeps};
     ghost use Rattle.sng_sessions.specs.Places.{clients_of, Indexed};
 
     ghost Value = { List Client };
 
     ghost view = { λ s. clients_of s.clients.entries };
 
-    // An address leads to the client that is there, so no two clients are at one; and for each filter the
-    // holders say for how many clients it stands.
+    // An address leads to the client that is there, so no two clients are at one; and the tree of filters
+    // says what each client holds.
     ghost invariant = { λ s. Indexed (get same_address s.places) (clients_of s.clients.entries)
-        × Counted s.holders.held (clients_of s.clients.entries) };
+        × Keeps s.standing (clients_of s.clients.entries) };
 }
 
 impl Sessions {
@@ -72,7 +73,7 @@ impl Sessions {
         Sessions {
             clients: IndexMap::new(alloc),
             places: IndexMap::new(alloc),
-            holders: Holders::new(alloc),
+            standing: Standing::new(alloc),
         }
     }
 
@@ -195,11 +196,28 @@ impl Sessions {
         self.clients[place].filters.stands(filter)
     }
 
+    /// The clients for whom a filter stands that matches the name, by their places and in order, each once
+    /// and with the greatest QoS among its filters that match. Looks at no other client. Only memory can
+    /// fail.
+    pub fn holders(&self, alloc: Global, name: &TopicName) -> Result<Vec<Holder>, AllocError>
+        ensures { IfOk result (λ list. list.items ≡ holders_from 0 name.now self.now) }
+    {
+        self.standing.holders(alloc, name)
+    }
+
+    /// The places of the clients for whom the filter stands, in order. Looks at no other client. Only memory
+    /// can fail.
+    pub fn holding(&self, alloc: Global, filter: &TopicFilter) -> Result<Vec<usize>, AllocError>
+        ensures { IfOk result (λ list. list.items ≡ places_from 0 filter.now self.now) }
+    {
+        self.standing.clients(alloc, filter)
+    }
+
     /// Whether the filter stands for any client: one look-up. Takes no memory.
     pub fn is_held(&self, filter: &TopicFilter) -> bool
         ensures { result ≡ is_held self.now filter.now }
     {
-        self.holders.count(filter) > 0
+        self.standing.is_held(filter)
     }
 
     /// Whether the filter stands for a client other than the one at this place: one look-up. Takes no memory.
@@ -208,8 +226,7 @@ impl Sessions {
         ensures { result ≡ (is_held (take place self.now) filter.now
             || is_held (drop (place + 1) self.now) filter.now) }
     {
-        let own = if self.holds(place, filter) { 1 } else { 0 };
-        self.holders.count(filter) > own
+        self.standing.is_held_by_others(place, filter)
     }
 
     /// The client at this place is heard, and is told the id that the name has from now on. Takes no memory.
@@ -281,34 +298,26 @@ impl Sessions {
     }
 
     /// The client at this place is heard, and the filter stands for it at this QoS; where it stood it keeps
-    /// its place. Where a name is given, the client is told the id that this has from now on. The copy is
-    /// what the filter is counted by where nobody held it. An `Err` is a failed allocation; nothing changed.
+    /// its place. Where a name is given, the client is told the id that this has from now on. An `Err` is a
+    /// failed allocation; nothing changed.
     pub fn subscribe(
         &mut self,
+        alloc: Global,
         place: usize,
         name: Option<TopicName>,
         filter: TopicFilter,
-        copy: TopicFilter,
         qos: Qos,
         clock: u64,
     ) -> Result<(), AllocError>
-        requires copy { copy ≡ filter }
         requires fits { is_full (client_at self.old place).filters filter ≡ false }
         requires names { ForSome name (λ n. is_full_for n (client_at self.old place).ids ≡ false) }
         ensures ok { OnOk result (self.new
             ≡ moved_at place (subscribed_at clock name filter qos) self.old) }
         ensures err { OnErr result (self.new ≡ self.old) }
     {
-        self.holders.room()?;
+        let (clients, standing) = (&mut self.clients, &mut self.standing);
+        stand_at(clients, standing, alloc, place, filter, qos)?;
         tell_if(&mut self.clients, place, name, clock);
-        stand_at(
-            &mut self.clients,
-            &mut self.holders,
-            place,
-            filter,
-            copy,
-            qos,
-        );
         Ok(())
     }
 
@@ -324,7 +333,7 @@ impl Sessions {
     pub fn end(&mut self, place: usize, filter: &TopicFilter)
         ensures { self.new ≡ moved_at place (without filter.now) self.old }
     {
-        end_at(&mut self.clients, &mut self.holders, place, filter);
+        end_at(&mut self.clients, &mut self.standing, place, filter);
     }
 
     /// A CONNECT from this address is accepted: whoever else is there leaves. An `Err` is a failed
@@ -346,7 +355,7 @@ impl Sessions {
                 readmit(
                     clients,
                     places,
-                    &mut self.holders,
+                    &mut self.standing,
                     place,
                     from,
                     &connect,

@@ -1,3 +1,4 @@
 pub mod KnownLemmas
 pub mod HandOverLemmas
 pub mod DeliverLemmas
+mod HolderLemmas

@@ -1,6 +1,7 @@
 -- What a message of the broker lets out for each client to whom it is due, and what is kept of it, with no
 -- notes.
-use Rattle.std.specs.Prelude.{ℕ, suc, nat_le, List, [], ◌∷◌, ◌++◌, length, if◌then◌else◌, Option, Some, None}
+use Rattle.std.specs.Prelude.{ℕ, suc, ◌<◌, nat_le, List, [], ◌∷◌, ◌++◌, length, if◌then◌else◌, Option, Some}
+use Rattle.std.specs.Prelude.{None}
 use Rattle.std.specs.Option.{option_map}
 use Rattle.sng_text.specs.declared.qos.Qos.{Qos}
 use Rattle.sng_grants.specs.declared.policy.Policy.{Policy}
@@ -20,6 +21,8 @@ use Rattle.sng_history.specs.Arriving.{lesser, sent_at}
 use Rattle.sng_history.specs.Clients.{Client}
 use Rattle.sng_history.specs.Outgoing.{is_free}
 use Rattle.sng_sessions.specs.Moving.{moved_at}
+use Rattle.sng_sessions.specs.Standing.{client_at}
+use Rattle.sng_standing.specs.declared.holder.Holder.{Holder}
 use Rattle.sng_sessions.specs.Handed.{delivered}
 use Rattle.sng_sessions.specs.declared.handing.Opens.{Opens}
 use Rattle.sng_sessions.specs.declared.handing.Opens.TheVariants.{Nothing}
@@ -98,6 +101,31 @@ all_outs policy i (x ∷ xs) = deliver_outs policy i x ++ all_outs policy i xs
 abbrev pub all_kept : Policy → Incoming → ℕ → List Client → List Kept
 all_kept policy i place [] = []
 all_kept policy i place (x ∷ xs) = deliver_kept policy i place x ++ all_kept policy i (suc place) xs
+
+-- the same for a client whose greatest QoS among its filters that match is this
+abbrev pub held_outs : Policy → Incoming → Client → Qos → List Out
+held_outs policy i x qos =
+    if is_due_messages x.phase then arrive_outs policy (message_at i (lesser i.qos qos)) x else []
+
+abbrev pub held_kept : Policy → ℕ → Incoming → Client → Qos → List Kept
+held_kept policy place i x qos =
+    if is_due_messages x.phase then arrive_kept policy place (message_at i (lesser i.qos qos)) x else []
+
+-- and for such clients in order, each at its place among all
+abbrev pub holders_outs : Policy → Incoming → List Client → List Holder → List Out
+holders_outs policy i xs [] = []
+holders_outs policy i xs (h ∷ holders) =
+    held_outs policy i (client_at xs h.client) h.qos ++ holders_outs policy i xs holders
+
+abbrev pub holders_kept : Policy → Incoming → List Client → List Holder → List Kept
+holders_kept policy i xs [] = []
+holders_kept policy i xs (h ∷ holders) =
+    held_kept policy h.client i (client_at xs h.client) h.qos ++ holders_kept policy i xs holders
+
+-- each is one of the clients
+abbrev pub AreWithin : List Client → List Holder → Type 0
+AreWithin xs [] = Unit {0}
+AreWithin xs (h ∷ holders) = (h.client < length xs) × AreWithin xs holders
 
 -- what is kept joins what waits for its client, one after another
 abbrev pub keep_all : ℕ → List Kept → List Client → List Client

@@ -7,25 +7,29 @@ ghost use Rattle.sng_history.specs.Arriving.{lesser};
 ghost use Rattle.sng_history.specs.Outgoing.{is_free};
 ghost use Rattle.sng_sessions.specs.Standing.{client_at};
 ghost use Rattle.sng_turns.specs.HandingOver.{fixed_id, message_outs, message_opens};
-ghost use Rattle.sng_turns.specs.Delivering.{due_at, arrived, arrive_outs, arrive_kept, kept_opened};
-ghost use Rattle.sng_turns.specs.Delivering.{deliver_outs, deliver_kept, all_outs, all_kept, keep_all};
+ghost use Rattle.sng_turns.specs.Delivering.{arrived, arrive_outs, arrive_kept, kept_opened};
+ghost use Rattle.sng_turns.specs.Delivering.{held_outs, held_kept, holders_outs, holders_kept, AreWithin};
+ghost use Rattle.sng_turns.specs.Delivering.{all_outs, all_kept, keep_all};
 
 use crate::hand_over::is_open;
 use crate::known::{KnownId, known_id};
 use crate::turn::{Mail, Recipient, note_hand, take_turn};
+use bytes::Bytes;
 use sng_book::{Denial, Outcome, Outs, Place, RoomDenial};
 use sng_grants::Policy;
 use sng_history::receive;
 use sng_queue::Waiting;
 use sng_sessions::{Opens, Sessions};
-use sng_text::{Octets, Qos, TopicName};
+use sng_standing::Holder;
+use sng_text::{Qos, TopicName};
 use std::alloc::{AllocError, Global};
 
 /// A message of the broker under a topic name.
 #[derive(Drop)]
 pub struct Incoming {
     pub name: TopicName,
-    pub payload: Octets,
+    /// All for whom it comes to wait share it.
+    pub payload: Bytes,
     pub qos: Qos,
     pub retain: bool,
     /// The topic id that its name has for each client, where it has one.
@@ -47,7 +51,8 @@ pub struct Kept {
     pub opens: Opens,
 }
 
-/// The message goes to each client to whom it is due, in order. Answers what is kept of it.
+/// The message goes to each client to whom it is due, in order: once, at the lesser of its own QoS and the
+/// greatest that is granted among the client's filters that match. Answers what is kept of it.
 pub fn deliver(
     alloc: Global,
     policy: &Policy,
@@ -59,52 +64,59 @@ pub fn deliver(
     ensures outs { OnOk result (outs.new ≡ outs.old ++ all_outs policy.now message.now sessions.now) }
     ensures kept { IfOk result (λ kept. kept.items ≡ all_kept policy.now message.now 0 sessions.now) }
 {
+    let holders = sessions.holders(alloc, &message.name)?;
+    deliver_each(alloc, policy, message, sessions, holders.as_slice(), outs)
+}
+
+/// The message goes to each of these clients, with the greatest QoS among its filters that match, where it is
+/// due messages.
+fn deliver_each(
+    alloc: Global,
+    policy: &Policy,
+    message: &Incoming,
+    sessions: &Sessions,
+    holders: &[Holder],
+    outs: &mut Outs,
+) -> Result<Vec<Kept>, AllocError>
+    requires fixed { message.now.fixed ≡ fixed_id policy.now message.now.name }
+    requires within { AreWithin sessions.now holders.now }
+    ensures outs { OnOk result (outs.new
+        ≡ outs.old ++ holders_outs policy.now message.now sessions.now holders.now) }
+    ensures kept { IfOk result (λ kept. kept.items
+        ≡ holders_kept policy.now message.now sessions.now holders.now) }
+{
     let mut kept = Vec::new(alloc);
-    for place in 0..sessions.len() {
-        deliver_to(alloc, policy, message, sessions, place, outs, &mut kept)?;
+    for holder in holders {
+        deliver_to(alloc, policy, message, sessions, *holder, outs, &mut kept)?;
     }
     Ok(kept)
 }
 
-/// The message goes to the client at this place, where it is due to it.
+/// The message goes to this client, where it is due messages.
 fn deliver_to(
     alloc: Global,
     policy: &Policy,
     message: &Incoming,
     sessions: &Sessions,
-    place: usize,
+    to: Holder,
     outs: &mut Outs,
     kept: &mut Vec<Kept>,
 ) -> Result<(), AllocError>
     requires fixed { message.now.fixed ≡ fixed_id policy.now message.now.name }
-    requires place { place < length sessions.now }
+    requires place { to.client < length sessions.now }
     ensures outs { OnOk result (outs.new ≡ outs.old
-        ++ deliver_outs policy.now message.now (client_at sessions.now place)) }
+        ++ held_outs policy.now message.now (client_at sessions.now to.client) to.qos) }
     ensures kept { OnOk result (kept.new.items ≡ kept.old.items
-        ++ deliver_kept policy.now message.now place (client_at sessions.now place)) }
+        ++ held_kept policy.now to.client message.now (client_at sessions.now to.client) to.qos) }
 {
-    match due_at(message, sessions, place) {
-        Some(qos) => {
-            let arrival = Arrival { message, qos };
-            arrive(alloc, policy, arrival, sessions, place, outs, kept)
-        }
-        None => Ok(()),
+    if !sessions.phase(to.client).is_due_messages() {
+        return Ok(());
     }
-}
-
-/// The QoS at which the message is due to the client at this place, where it is due: once, at the lesser of
-/// its own and the greatest that is granted among the filters that match. Takes no memory.
-fn due_at(message: &Incoming, sessions: &Sessions, place: usize) -> Option<Qos>
-    requires { place < length sessions.now }
-    ensures { result ≡ due_at message.now (client_at sessions.now place) }
-{
-    if !sessions.phase(place).is_due_messages() {
-        return None;
-    }
-    match sessions.greatest(place, &message.name) {
-        Some(granted) => Some(lesser(message.qos, granted)),
-        None => None,
-    }
+    let arrival = Arrival {
+        message,
+        qos: lesser(message.qos, to.qos),
+    };
+    arrive(alloc, policy, arrival, sessions, to.client, outs, kept)
 }
 
 /// The lesser of two levels of QoS.
@@ -137,7 +149,7 @@ fn arrive(
 {
     let id = sessions.id(place);
     let message = arrival.message;
-    if !Waiting::is_sendable(&message.name, &message.payload) {
+    if !Waiting::is_sendable(&message.name, message.payload.as_slice()) {
         return note_hand(
             id,
             &message.name,
@@ -195,7 +207,7 @@ fn turn(
     let known = known_id(message.fixed, to.ids, None, &message.name);
     let mail = Mail {
         name: &message.name,
-        payload: &message.payload,
+        payload: message.payload.as_slice(),
         qos: arrival.qos,
         retain: message.retain,
     };
@@ -233,7 +245,7 @@ fn keep(
 {
     let Arrival { message, qos } = arrival;
     let name = message.name.copy()?;
-    let payload = message.payload.copy()?;
+    let payload = message.payload.clone()?;
     let message = Waiting::new(name, payload, qos, message.retain);
     kept.push(Kept {
         place,

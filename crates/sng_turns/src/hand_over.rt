@@ -27,7 +27,8 @@ pub fn hand_over(
 ) -> Result<Handed, AllocError>
     requires { first ≤ length queue.now.waiting }
     ensures outs { OnOk result (outs.new ≡ outs.old ++ hand_outs policy.now to.entry.id.now to.entry.address
-        to.entry.ids.now.ids (id_or_none to.entry.confirming) to.entry.number (drop first queue.now.waiting)) }
+        to.entry.ids.now.ids (id_or_none to.entry.confirming) to.entry.number
+        (drop first queue.now.waiting)) }
     ensures plan { IfOk result (λ handed. handed
         ≡ hand_plan policy.now to.entry.id.now to.entry.ids.now.ids (id_or_none to.entry.confirming) first
         (drop first queue.now.waiting)) }

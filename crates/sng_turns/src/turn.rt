@@ -35,7 +35,7 @@ pub struct Recipient<'a> {
 #[derive(Clone, Copy)]
 pub struct Mail<'a> {
     pub name: &'a TopicName,
-    pub payload: &'a Octets,
+    pub payload: &'a [u8],
     pub qos: Qos,
     pub retain: bool,
 }
@@ -139,8 +139,7 @@ fn publish(
 {
     let flags = publish_flags(mail.qos, mail.retain, known.kind);
     let msg_id = msg_id_of(mail.qos, to.number);
-    let payload = mail.payload.as_slice();
-    let datagram = write_publish(alloc, flags, known.id, msg_id, payload)?;
+    let datagram = write_publish(alloc, flags, known.id, msg_id, mail.payload)?;
     Ok(Out::Send(to.address, Octets::from(datagram)))
 }
 
@@ -212,7 +211,7 @@ pub fn repeat_publish(
 {
     let mut flags = publish_flags(message.qos(), message.retain(), kind);
     flags.dup = true;
-    let payload = message.payload().as_slice();
-    let datagram = write_publish(alloc, flags, sent.topic_id, sent.msg_id, payload)?;
+    let (id, msg_id) = (sent.topic_id, sent.msg_id);
+    let datagram = write_publish(alloc, flags, id, msg_id, message.payload())?;
     Ok(Out::Send(to, Octets::from(datagram)))
 }

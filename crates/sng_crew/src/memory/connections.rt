@@ -5,7 +5,7 @@ ghost use Rattle.sng_crew.specs.Devices.{IsShort, read_call, wrote_call};
 use crate::connection::{Call, Opening, ReadAnswer, Upstream, Written};
 use crate::limits::MAX_READ;
 use crate::memory::Calls;
-use sng_desk::Items;
+use mqtt_frames::List;
 use sng_text::Octets;
 use std::alloc::Global;
 
@@ -18,7 +18,7 @@ pub struct MemoryUpstream {
     next: usize,
     at_most: usize,
     calls: Calls,
-    did: Items<Call>,
+    did: List<Call>,
     has_lost: bool,
     is_over: bool,
 }
@@ -38,7 +38,7 @@ impl MemoryUpstream {
             next: 0,
             at_most,
             calls,
-            did: Items::from(Vec::new(alloc)),
+            did: List::from(Vec::new(alloc)),
             has_lost: false,
             is_over: false,
         }

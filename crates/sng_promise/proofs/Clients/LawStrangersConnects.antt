@@ -61,7 +61,8 @@ beside_if s from connect x id false is =
     (rw is (beside_notes s from connect x id (is_here x from) (entry s connect)))
 
 -- what waits for the one that connects is gone, or is handed over
-pub entering_modest : (s : State) (from : Address) (connect : Connect) (x : Client) (id : List ℕ) (o : Outcome)
+pub entering_modest : (s : State) (from : Address) (connect : Connect) (x : Client) (id : List ℕ)
+    (o : Outcome)
     → Every (Modest id) (entering_notes s from connect x o)
 entering_modest s from connect x id (Denied rule) = tt
 entering_modest s from connect x id Allowed = by_clean connect.flags.clean

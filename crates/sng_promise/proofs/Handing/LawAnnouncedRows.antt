@@ -192,7 +192,8 @@ own_tells : (told : Names) (s : State) (from : Address) (connect : Connect) (x :
     → bytes_eq connect.client_id x.id ≡ true → entry s connect ≡ Allowed
     → Ready told s (ByConnect from connect) x
     → (let c = ByConnect from connect in
-    AllTell told (spell (around s c) [] (let_in s.clock from connect x) (entering_notes s from connect x Allowed)))
+    AllTell told (spell (around s c) [] (let_in s.clock from connect x)
+    (entering_notes s from connect x Allowed)))
 own_tells told s from connect x is may ready =
     let c = ByConnect from connect in
     let a = around s c in
@@ -231,9 +232,11 @@ around_tells : (told : Names) (connect : Connect) (from : Address) (clean : Bool
     → AllTell told own
     → AllTell told (around_welcome clean own (welcome connect from))
 around_tells told connect from true own all =
-    tell_both told own (welcome connect from ∷ []) all (welcome_tells told connect from connect.flags.will refl)
+    tell_both told own (welcome connect from ∷ []) all
+    (welcome_tells told connect from connect.flags.will refl)
 around_tells told connect from false own all =
-    tell_both told (welcome connect from ∷ []) own (welcome_tells told connect from connect.flags.will refl) all
+    tell_both told (welcome connect from ∷ []) own (welcome_tells told connect from connect.flags.will refl)
+    all
 
 entry_tells : (told : Names) (s : State) (from : Address) (connect : Connect) (o : Outcome)
     → entry s connect ≡ o → Each (Ready told s (ByConnect from connect)) s.clients
@@ -396,7 +399,8 @@ ready by h s e x shown mailed own =
     }
 
 tell_row : (by : ℕ) (h : List Row) (s : State) (e : Event) → Stands h s
-    → AllTell (λ client. names_told client (record { by = by; event = e; outs = outs_of s e } ∷ h)) (outs_of s e)
+    → AllTell (λ client. names_told client (record { by = by; event = e; outs = outs_of s e } ∷ h))
+    (outs_of s e)
 tell_row by h s e st =
     let c = cause_of e in
     let outs = outs_of s e in

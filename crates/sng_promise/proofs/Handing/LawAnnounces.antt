@@ -134,7 +134,8 @@ announced_so a dropped told id client name notes v x same is none tells = record
   register = refl;
   stands = subst (λ k. told_as k (told client) ≡ Some name) (sym is)
       (subst (λ names. told_as (id_told name v.told) names ≡ Some name) (sym (ap told same ∙ tells))
-      (stays_told (subscribe_of a.cause) id notes (with_name (Some name) v.told) (id_told name v.told) name none
+      (stays_told (subscribe_of a.cause) id notes (with_name (Some name) v.told) (id_told name v.told) name
+      none
       (told_names name v.told)));
 }
 
@@ -182,7 +183,8 @@ spell_tells a dropped told id due (said ∷ notes) v x moved about none tells =
       so_both told said frames rest
           (said_so a dropped told id due said notes v x moved about.0 both.1 tells),
       tell_both told frames rest (tell_sent told frames (frames_sent a dropped x said))
-          (spell_tells a dropped told id due notes (view_by a id due said v) (note_by a said x) moved.1 about.1
+          (spell_tells a dropped told id due notes (view_by a id due said v) (note_by a said x) moved.1
+          about.1
           both.1 tells),
     )
 

@@ -128,7 +128,8 @@ connect_calm id client o rest none policy by due m now =
     ((if bytes_eq id client then note.Connect client o ∷ [] else []) ++ notes) now) (sym none)
     (by_name (bytes_eq id client))
   where
-    by_name : (b : Bool) → InNotes policy by id due m ((if b then note.Connect client o ∷ [] else []) ++ []) now
+    by_name : (b : Bool) → InNotes policy by id due m ((if b then note.Connect client o ∷ [] else []) ++ [])
+        now
     by_name true = (tt, tt)
     by_name false = tt
 

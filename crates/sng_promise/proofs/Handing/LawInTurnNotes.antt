@@ -106,13 +106,15 @@ moment_other m id due _ now other = refl
 not_own : (T : Type 0) (b : Bool) → b ≡ false → b ≡ true → T
 not_own T b is own = absurd (let e : false ≡ true = sym is ∙ own in cc)
 
-turn_other : (policy : Policy) (by : Occasion) (id : List ℕ) (said : Decision) (now : Moment) → is_of id said ≡ false
+turn_other : (policy : Policy) (by : Occasion) (id : List ℕ) (said : Decision) (now : Moment)
+    → is_of id said ≡ false
     → NoteInTurn policy by id said now
 turn_other policy by id (note.Hand client name Allowed) now other =
     λ own. not_own _ (bytes_eq id client) other own
 turn_other policy by id (note.Hand client name (Denied rule)) now other =
     λ own. not_own _ (bytes_eq id client) other own
-turn_other policy by id (note.Announce client name) now other = λ own. not_own _ (bytes_eq id client) other own
+turn_other policy by id (note.Announce client name) now other =
+    λ own. not_own _ (bytes_eq id client) other own
 turn_other policy by id (note.Connect client outcome) now other = tt
 turn_other policy by id (note.Left client) now other = tt
 turn_other policy by id (note.Register whom name outcome) now other = tt
@@ -135,7 +137,8 @@ note_turns : (policy : Policy) (by : Occasion) (id : List ℕ) (due : List Messa
     → AllInTurn policy by id due m outs later)
     → InNotes policy by id due m ((if b then said ∷ [] else []) ++ notes_of id outs) now
     → AllInTurn policy by id due m (Note said ∷ outs) now
-note_turns policy by id due m said outs now true is rest own = (own.0, rest (moment_by m id due said now) own.1)
+note_turns policy by id due m said outs now true is rest own =
+    (own.0, rest (moment_by m id due said now) own.1)
 note_turns policy by id due m said outs now false is rest own = (
   turn_other policy by id said now is,
   rest (moment_by m id due said now)
@@ -149,5 +152,6 @@ outs_turns policy by id due m [] now turns = tt
 outs_turns policy by id due m (Note said ∷ outs) now turns =
     note_turns policy by id due m said outs now (is_of id said) refl
     (λ later. outs_turns policy by id due m outs later) turns
-outs_turns policy by id due m (Send to datagram ∷ outs) now turns = outs_turns policy by id due m outs now turns
+outs_turns policy by id due m (Send to datagram ∷ outs) now turns =
+    outs_turns policy by id due m outs now turns
 outs_turns policy by id due m (Wire packet ∷ outs) now turns = outs_turns policy by id due m outs now turns

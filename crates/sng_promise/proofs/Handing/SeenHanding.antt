@@ -65,8 +65,11 @@ announced_moved a id due m more notes v x unknown t =
       record {
         phase = λ m fits. refl;
         turn = (
-          λ own.
-              (turn_free a id due m more notes v x t, meant_at a v x m.name None t.shown.telling.marks unknown),
+          λ own. (
+            turn_free a id due m more notes v x t,
+            meant_at a v x m.name None t.shown.telling.marks
+                unknown,
+          ),
           ap (id_for m.name) t.shown.telling.marks ∙ id_marked m.name v.told v.known,
         );
       },
@@ -89,7 +92,8 @@ offered_moved a id due m more notes v x None false knows t = announced_moved a i
 -- what the policy denies as a message has its turn
 abbrev pub DeniedByPolicy : Outcome → Type 0
 DeniedByPolicy Allowed = Unit {0}
-DeniedByPolicy (Denied rule) = (by : Occasion) (now : Moment) → may_deny by now ≡ true → IsDeniedSo by rule now
+DeniedByPolicy (Denied rule) =
+    (by : Occasion) (now : Moment) → may_deny by now ≡ true → IsDeniedSo by rule now
 
 grant_denies : (id name : List ℕ) (g : NameGrant)
     → DeniedByPolicy (name_outcome permission.Subscribe (Some id) name g)

@@ -116,7 +116,8 @@ came_moved : (a : Around) (due : List Message) (v : View) (x : Client) (b : Buff
     → Moved a x.id due (turned_away x.id m b ++ handed_over a.policy x) v x
 came_moved a due v x b None comes shown = handed_moved a due v x shown
 came_moved a due v x b (Some m) comes shown =
-    away_by a x.id due (handed_over a.policy x) v x b m (arrival b m) comes refl (handed_moved a due v x shown)
+    away_by a x.id due (handed_over a.policy x) v x b m (arrival b m) comes refl
+    (handed_moved a due v x shown)
 
 ended_by : (a : Around) (due : List Message) (v : View) (x : Client) (b : Buffer) (m : Option Message)
     (text : List ℕ) (ends : Bool)

@@ -79,7 +79,8 @@ name_subscribed_told h row from r id l brought at may tells =
     subscribe_law h row from r l brought
     ∙ ap (answer_to (subscribe_stranger from) (subscribe_answer h from r)) at in
     let read : subscribe_in (message_at row.event) ≡ Some r =
-    ap (λ e. subscribe_in (message_at e)) brought.event ∙ ap (λ d. subscribe_in (message_in d)) brought.reads in
+    ap (λ e. subscribe_in (message_at e)) brought.event
+    ∙ ap (λ d. subscribe_in (message_in d)) brought.reads in
     let text = or_empty meant_as in
     let asked = allowed_form (is_active (phase_of id h)) (lists policy id) id (form_rules policy r)
     (gap_rule policy id text ∷ room_rules h id r.flags.id_type text) may in

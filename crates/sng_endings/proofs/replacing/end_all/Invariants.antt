@@ -5,6 +5,7 @@ use Rattle.sng_endings.proofs.replacing.end_all.Given as goal
 
 abbrev pub invariant-loop-ending : goal.invariant-loop-ending
 invariant-loop-ending l = record {
-  ended : Ended (moved l.fn.link l.fn.sessions) (moved l.link l.sessions) l.fn.outs.outs l.outs.outs l.yielded;
+  ended : Ended (moved l.fn.link l.fn.sessions) (moved l.link l.sessions) l.fn.outs.outs l.outs.outs
+      l.yielded;
   room : length l.ending-iterator.rest.items * 2 ≤ l.outs.spare;
 }

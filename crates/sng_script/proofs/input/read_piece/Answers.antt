@@ -14,8 +14,14 @@ returns-in_err-keep-in-Some-clause-long g c =
     λ is.
     let kept : c.keep.result ≡ Err Unreadable = search rules in
     let within : IsWithinLine front = c.in-Some.ensures.before in
-    let long : MAX_LINE < length c.args.text.now.items + length front = search (rules, c.keep.ensures.long kept) in
-    (front, within, long, is_front _ shown front (drop at shown) c.in-Ok.ensures.front (sym (take-append-drop at shown)))
+    let long : MAX_LINE < length c.args.text.now.items + length front =
+    search (rules, c.keep.ensures.long kept) in (
+      front,
+      within,
+      long,
+      is_front _ shown front (drop at shown) c.in-Ok.ensures.front
+          (sym (take-append-drop at shown)),
+    )
 
 pub returns-in_err-keep-in-None-clause-long : goal.returns-in_err-keep-in-None-clause-long
 returns-in_err-keep-in-None-clause-long g c =
@@ -23,5 +29,6 @@ returns-in_err-keep-in-None-clause-long g c =
     λ is.
     let kept : c.keep-in-None.result ≡ Err Unreadable = search rules in
     let within : IsWithinLine shown = c.in-None.ensures.none in
-    let long : MAX_LINE < length c.args.text.now.items + length shown = search (rules, c.keep-in-None.ensures.long kept) in
+    let long : MAX_LINE < length c.args.text.now.items + length shown =
+    search (rules, c.keep-in-None.ensures.long kept) in
     (shown, within, long, is_front _ shown shown _ c.in-Ok.ensures.front (sym (append-nil shown)))

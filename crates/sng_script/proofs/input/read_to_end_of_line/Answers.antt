@@ -10,8 +10,10 @@ returns-in_err-read_piece-clause-long g c = λ is.
 
 pub returns-in-Whole-clause-ok : goal.returns-in-Whole-clause-ok
 returns-in-Whole-clause-ok g c =
-    whole_line _ _ _ _ _ c.loop.invariant.within c.loop.invariant.taken (rw c.in-Whole.is at c.in_ok-read_piece.ensures.ok)
+    whole_line _ _ _ _ _ c.loop.invariant.within c.loop.invariant.taken
+    (rw c.in-Whole.is at c.in_ok-read_piece.ensures.ok)
 
 pub returns-in-End-clause-ok : goal.returns-in-End-clause-ok
 returns-in-End-clause-ok g c =
-    last_line _ _ _ _ _ c.loop.invariant.within c.loop.invariant.taken (rw c.in-End.is at c.in_ok-read_piece.ensures.ok)
+    last_line _ _ _ _ _ c.loop.invariant.within c.loop.invariant.taken
+    (rw c.in-End.is at c.in_ok-read_piece.ensures.ok)

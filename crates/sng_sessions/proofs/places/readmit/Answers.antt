@@ -1,19 +1,20 @@
 -- Once the address is clear, the client returns there.
 use Rattle.std.proofs.Common.{◌≡◌, true, sym, ap, ◌∙◌, subst}
 use Rattle.sng_history.specs.Clients.{let_in}
-use Rattle.sng_sessions.specs.Counts.{holder_count}
+use Rattle.sng_sessions.specs.Kept.{Keeps}
 use Rattle.sng_sessions.specs.Places.{clients_of, stands_at, is_place, moved_at, vacated}
-use Rattle.sng_sessions.proofs.CountLemmas.{holder_count-map}
+use Rattle.sng_sessions.proofs.KeptLemmas.{keeps-same, filters-mapped}
 use Rattle.sng_sessions.proofs.Looks.{distinct}
 use Rattle.sng_sessions.proofs.Moves.{named-found, vacated-filters, vacated-sole, returned-entered}
 use Rattle.sng_sessions.proofs.places.readmit.Goals as goal
 
-pub return_at-requires-clause-counted : goal.return_at-requires-clause-counted
-return_at-requires-clause-counted c =
+pub return_at-requires-clause-kept : goal.return_at-requires-clause-kept
+return_at-requires-clause-kept c =
     let id = c.args.connect.now.client_id in
-    λ text. c.requires.counted text ∙ sym (ap (holder_count text) c.vacate.ensures.clients
-    ∙ holder_count-map text (vacated c.args.clock c.args.from id)
-    (vacated-filters c.args.clock c.args.from id) (clients_of c.args.clients.now.entries))
+    subst (Keeps c.args.standing.now) (sym c.vacate.ensures.clients)
+    (keeps-same c.args.standing.now (clients_of c.args.clients.now.entries) _
+    (filters-mapped (vacated c.args.clock c.args.from id) (vacated-filters c.args.clock c.args.from id)
+    (clients_of c.args.clients.now.entries)) c.requires.kept)
 
 pub return_at-requires-clause-alone : goal.return_at-requires-clause-alone
 return_at-requires-clause-alone c =

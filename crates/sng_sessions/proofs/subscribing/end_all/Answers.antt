@@ -1,8 +1,10 @@
--- Each filter stood once.
-use Rattle.sng_sessions.proofs.CountLemmas.{follows-cleared}
+-- The tree of filters says that the session holds nothing.
+use Rattle.std.proofs.Common.{subst}
+use Rattle.sng_sessions.proofs.KeptLemmas.{Clears, says-cleared}
 use Rattle.sng_sessions.proofs.subscribing.end_all.Goals as goal
 
-pub returns-clause-counts : goal.returns-clause-counts
-returns-clause-counts c =
-    follows-cleared _ _ c.args.filters.now c.filters.ensures.once c.requires
-    (λ text. rw (← c.filters.ensures.value) (c.release_all.ensures text))
+pub returns-clause-held : goal.returns-clause-held
+returns-clause-held c =
+    says-cleared c.args.standing.now c.end_client.new.self c.args.place c.args.filters.now
+    (subst (Clears c.args.standing.now c.end_client.new.self c.args.place) c.filters.ensures.value
+    c.end_client.ensures) c.requires

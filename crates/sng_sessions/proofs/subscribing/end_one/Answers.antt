@@ -1,14 +1,12 @@
--- Where the filter stood, one holds it less.
-use Rattle.std.proofs.Common.{refl, sym, ◌∙◌}
-use Rattle.sng_sessions.proofs.CountLemmas.{follows-ended, follows-absent}
+-- The tree of filters says what the session holds still.
+use Rattle.std.proofs.Common.{sym, subst}
+use Rattle.sng_sessions.specs.Kept.{SaysHeld}
+use Rattle.sng_sessions.proofs.KeptLemmas.{says-without}
 use Rattle.sng_sessions.proofs.subscribing.end_one.Goals as goal
 
-pub returns-then-end-clause-counts : goal.returns-then-end-clause-counts
-returns-then-end-clause-counts c =
-    follows-ended _ _ c.args.session.now.filters _ c.args.filter.now
-    (sym c.end.ensures.stood ∙ c.if-end.true) c.requires c.end.ensures.rest c.release.ensures
-
-pub returns-else-end-clause-counts : goal.returns-else-end-clause-counts
-returns-else-end-clause-counts c =
-    follows-absent c.args.holders.now.held _ c.args.session.now.filters _ c.args.filter.now
-    (sym c.end.ensures.stood ∙ c.if-end.false) c.end.ensures.rest refl
+pub returns-clause-held : goal.returns-clause-held
+returns-clause-held c =
+    subst (SaysHeld c.end-2.new.self c.args.place) (sym c.end.ensures.rest)
+    (says-without c.args.standing.now c.end-2.new.self c.args.place c.args.session.now.filters
+    c.args.filter.now
+    c.end-2.ensures.rest c.requires)

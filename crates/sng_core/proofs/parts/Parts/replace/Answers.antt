@@ -4,7 +4,7 @@ use Rattle.sng_history.specs.State.{State}
 use Rattle.sng_history.specs.Steps.{outs_by, next_by}
 use Rattle.sng_history.specs.Good.{Good}
 use Rattle.sng_core.specs.contracts.parts.Parts.{the_view}
-use Rattle.sng_core.proofs.Replacing.{said_by, moved_by}
+use Rattle.sng_core.proofs.Replacing.{replaced_outs, moved_by}
 use Rattle.sng_core.proofs.parts.Parts.replace.Goals as goal
 
 pub returns-clause-outs : goal.returns-clause-outs
@@ -12,7 +12,7 @@ returns-clause-outs c =
     let s : State = the_view c.self.inside in
     let good : Good s = subst Good (sym c.self.view_is) c.requires in
     c.in_ok-outs.ensures.outs
-    ∙ (said_by s c.args.policy good ∙ ap (λ t. outs_by t (ByReplace c.args.policy)) c.self.view_is)
+    ∙ (replaced_outs s c.args.policy good ∙ ap (λ t. outs_by t (ByReplace c.args.policy)) c.self.view_is)
 
 pub returns-clause-next : goal.returns-clause-next
 returns-clause-next c =

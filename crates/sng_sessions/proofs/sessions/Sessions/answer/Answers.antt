@@ -1,10 +1,9 @@
 -- The client is where it was, and holds what it held.
 use Rattle.std.proofs.Common.{sym, ap, ◌∙◌}
 use Rattle.sng_history.specs.Clients.{is_here}
-use Rattle.sng_sessions.specs.Counts.{holder_count}
 use Rattle.sng_sessions.specs.Handed.{answered}
 use Rattle.sng_sessions.specs.Places.{holds_at}
-use Rattle.sng_sessions.proofs.CountLemmas.{holder_count-kept}
+use Rattle.sng_sessions.proofs.KeptLemmas.{keeps-kept}
 use Rattle.sng_sessions.proofs.HandedLemmas.{here-kept, filters-kept, answered-keeps}
 use Rattle.sng_sessions.proofs.Moves.{holds_at-kept}
 use Rattle.sng_sessions.proofs.sessions.Sessions.answer.Goals as goal
@@ -16,6 +15,6 @@ invariant_of-self c =
           ∙ sym (ap (λ xs. holds_at (λ x. is_here x from) xs place) c.answer_at.ensures
           ∙ holds_at-kept (λ x. is_here x from) (answered c.args.clock c.args.id)
           (here-kept keeps from) _ c.args.place place),
-      λ text. c.self.invariant.1 text ∙ sym (ap (holder_count text) c.answer_at.ensures
-          ∙ holder_count-kept text (answered c.args.clock c.args.id) (filters-kept keeps) _ c.args.place),
+      keeps-kept c.self.inside.standing (answered c.args.clock c.args.id)
+          (filters-kept keeps) _ _ c.args.place c.answer_at.ensures c.self.invariant.1,
     )

@@ -1,10 +1,9 @@
 -- The client is where it was, and holds what it held.
 use Rattle.std.proofs.Common.{sym, ap, ◌∙◌}
 use Rattle.sng_history.specs.Clients.{is_here}
-use Rattle.sng_sessions.specs.Counts.{holder_count}
 use Rattle.sng_sessions.specs.Places.{holds_at}
 use Rattle.sng_sessions.specs.Sleeping.{changed}
-use Rattle.sng_sessions.proofs.CountLemmas.{holder_count-kept}
+use Rattle.sng_sessions.proofs.KeptLemmas.{keeps-kept}
 use Rattle.sng_sessions.proofs.Moves.{holds_at-kept}
 use Rattle.sng_sessions.proofs.SleepLemmas.{changed-here, changed-filters}
 use Rattle.sng_sessions.proofs.sessions.Sessions.change.Goals as goal
@@ -15,7 +14,6 @@ invariant_of-self c = (
       ∙ sym (ap (λ xs. holds_at (λ x. is_here x from) xs place) c.change_at.ensures
       ∙ holds_at-kept (λ x. is_here x from) (changed c.args.clock c.args.change)
       (changed-here c.args.clock c.args.change from) _ c.args.place place),
-  λ text. c.self.invariant.1 text ∙ sym (ap (holder_count text) c.change_at.ensures
-      ∙ holder_count-kept text (changed c.args.clock c.args.change)
-      (changed-filters c.args.clock c.args.change) _ c.args.place),
+  keeps-kept c.self.inside.standing (changed c.args.clock c.args.change)
+      (changed-filters c.args.clock c.args.change) _ _ c.args.place c.change_at.ensures c.self.invariant.1,
 )

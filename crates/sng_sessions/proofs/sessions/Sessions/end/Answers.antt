@@ -10,5 +10,5 @@ invariant_of-self c = (
   λ from place. c.self.invariant.0 from place
       ∙ sym (ap (λ xs. holds_at (λ x. is_here x from) xs place) c.end_at.ensures.clients
       ∙ holds_at-kept (λ x. is_here x from) (without c.args.filter.now) (λ x. refl) _ c.args.place place),
-  c.end_at.ensures.counted,
+  c.end_at.ensures.kept,
 )

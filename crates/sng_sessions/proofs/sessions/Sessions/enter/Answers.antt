@@ -1,10 +1,12 @@
 -- A client that was not known holds nothing at first.
-use Rattle.std.proofs.Common.{is_some, sym, ap, ◌∙◌}
+use Rattle.std.proofs.Common.{is_some, sym, ap, ◌∙◌, subst, rules}
 use Rattle.sng_history.specs.Entering.{entered}
 use Rattle.sng_history.specs.State.{is_known}
-use Rattle.sng_sessions.specs.Counts.{holder_count}
-use Rattle.sng_sessions.specs.Places.{clients_of}
-use Rattle.sng_sessions.proofs.Counted.{entered-count}
+use Rattle.sng_sessions.specs.Kept.{Keeps}
+use Rattle.indexmap.specs.IndexMap.{get}
+use Rattle.sng_history.specs.Clients.{same_address}
+use Rattle.sng_sessions.specs.Places.{clients_of, Indexed}
+use Rattle.sng_sessions.proofs.There.{keeps-entered}
 use Rattle.sng_sessions.proofs.Moves.{known-found}
 use Rattle.sng_sessions.proofs.sessions.Sessions.enter.Goals as goal
 
@@ -15,6 +17,15 @@ admit-requires-clause-new c =
     ∙ known-found id c.self.inside.clients.entries ∙ sym c.get_index_of.ensures.found
     ∙ ap is_some c.in-None.is
 
+pub invariant_of-self-in_err-reserve-in-None : goal.invariant_of-self-in_err-reserve-in-None
+invariant_of-self-in_err-reserve-in-None c =
+    let indexed : Indexed (get same_address c.reserve.new.self)
+    (clients_of c.reserve-in-None.new.self.entries) = search rules in
+    let kept : Keeps c.self.inside.standing (clients_of c.reserve-in-None.new.self.entries) =
+    subst (λ entries. Keeps c.self.inside.standing (clients_of entries))
+    (sym c.reserve-in-None.ensures.entries) c.self.invariant.1 in
+    (indexed, kept)
+
 pub invariant_of-self-in-None : goal.invariant_of-self-in-None
 invariant_of-self-in-None c =
     let id = c.args.connect.client_id in
@@ -23,11 +34,10 @@ invariant_of-self-in-None c =
     ∙ ap is_some c.in-None.is in
     let same = c.reserve-in-None.ensures.entries in (
       c.admit.ensures.indexed,
-      λ text. c.self.invariant.1 text ∙ sym (ap (holder_count text) c.admit.ensures.clients
-          ∙ ap (λ entries. holder_count text
-          (entered c.args.clock c.args.from c.args.connect (clients_of entries))) same
-          ∙ entered-count text c.args.clock c.args.from c.args.connect
-          (clients_of c.self.inside.clients.entries) new),
+      subst (Keeps c.self.inside.standing) (sym (c.admit.ensures.clients
+          ∙ ap (λ entries. entered c.args.clock c.args.from c.args.connect (clients_of entries)) same))
+          (keeps-entered c.self.inside.standing c.args.clock c.args.from c.args.connect
+          (clients_of c.self.inside.clients.entries) new c.self.invariant.1),
     )
 
 pub returns-in_ok-reserve-in-None-clause-ok : goal.returns-in_ok-reserve-in-None-clause-ok

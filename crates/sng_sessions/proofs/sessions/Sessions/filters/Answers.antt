@@ -2,7 +2,7 @@
 use Rattle.std.proofs.Common.{◌≡◌, ◌∙◌, subst}
 use Rattle.sng_fan.specs.Subscriptions.{IsOneClients}
 use Rattle.sng_sessions.specs.Standing.{client_at}
-use Rattle.sng_sessions.proofs.Counted.{filters-there}
+use Rattle.sng_sessions.proofs.There.{filters-there}
 use Rattle.sng_sessions.proofs.sessions.Sessions.filters.Goals as goal
 
 pub returns-clause-value : goal.returns-clause-value

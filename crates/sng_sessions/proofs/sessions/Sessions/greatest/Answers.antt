@@ -2,7 +2,7 @@
 use Rattle.std.proofs.Common.{◌≡◌, ap, ◌∙◌, subst}
 use Rattle.sng_fan.specs.Greatest.{greatest_qos}
 use Rattle.sng_sessions.specs.Standing.{client_at}
-use Rattle.sng_sessions.proofs.Counted.{filters-there}
+use Rattle.sng_sessions.proofs.There.{filters-there}
 use Rattle.sng_sessions.proofs.sessions.Sessions.greatest.Goals as goal
 
 pub returns : goal.returns

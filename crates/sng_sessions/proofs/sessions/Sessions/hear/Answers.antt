@@ -2,9 +2,8 @@
 use Rattle.std.proofs.Common.{refl, sym, ap, ◌∙◌}
 use Rattle.sng_history.specs.Clients.{is_here}
 use Rattle.sng_history.specs.Entering.{heard_at}
-use Rattle.sng_sessions.specs.Counts.{holder_count}
 use Rattle.sng_sessions.specs.Places.{holds_at}
-use Rattle.sng_sessions.proofs.CountLemmas.{holder_count-kept}
+use Rattle.sng_sessions.proofs.KeptLemmas.{keeps-kept}
 use Rattle.sng_sessions.proofs.Moves.{holds_at-kept}
 use Rattle.sng_sessions.proofs.sessions.Sessions.hear.Goals as goal
 
@@ -13,6 +12,6 @@ invariant_of-self c = (
   λ from place. c.self.invariant.0 from place
       ∙ sym (ap (λ xs. holds_at (λ x. is_here x from) xs place) c.hear_at.ensures
       ∙ holds_at-kept (λ x. is_here x from) (heard_at c.args.clock) (λ x. refl) _ c.args.place place),
-  λ text. c.self.invariant.1 text ∙ sym (ap (holder_count text) c.hear_at.ensures
-      ∙ holder_count-kept text (heard_at c.args.clock) (λ x. refl) _ c.args.place),
+  keeps-kept c.self.inside.standing (heard_at c.args.clock)
+      (λ x. refl) _ _ c.args.place c.hear_at.ensures c.self.invariant.1,
 )

@@ -3,7 +3,7 @@ use Rattle.std.proofs.Common.{◌≡◌, ap, ◌∙◌, subst}
 use Rattle.sng_fan.specs.Subscriptions.{stands}
 use Rattle.sng_history.specs.Standing.{holds}
 use Rattle.sng_sessions.specs.Standing.{client_at}
-use Rattle.sng_sessions.proofs.Counted.{filters-there}
+use Rattle.sng_sessions.proofs.There.{filters-there}
 use Rattle.sng_sessions.proofs.sessions.Sessions.holds.Goals as goal
 
 pub returns : goal.returns

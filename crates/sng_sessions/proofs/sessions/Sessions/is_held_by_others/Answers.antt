@@ -1,19 +1,12 @@
--- Others hold a filter where more do than this client.
-use Rattle.std.proofs.Common.{◌≡◌, nat_lt, sym, ap, ◌∙◌}
-use Rattle.sng_sessions.specs.Counts.{holder_count, one_if}
-use Rattle.sng_sessions.proofs.CountLemmas.{held-others}
+-- Another client holds the filter exactly where the tree says so.
+use Rattle.std.proofs.Common.{◌≡◌, ◌+◌, ◌||◌, take, drop, subst}
+use Rattle.sng_history.specs.Standing.{is_held}
+use Rattle.sng_sessions.proofs.HoldersLemmas.{held-beside}
 use Rattle.sng_sessions.proofs.sessions.Sessions.is_held_by_others.Goals as goal
-use Rattle.sng_sessions.proofs.sessions.Sessions.is_held_by_others.Goals.{then-holds, else-holds}
 
 pub returns : goal.returns
 returns c =
-    let text = c.args.filter.now in
-    let own : c.if-holds.own ≡ one_if c.holds.result =
-    elim c.if-holds.branch [
-      | then-holds w ↦ w.own-is
-          ∙ ap one_if (sym w.if-holds.true)
-      | else-holds w ↦ w.own-is ∙ ap one_if (sym w.if-holds.false)
-    ] in
-    ap (λ n. nat_lt n c.count.result) (own ∙ ap one_if c.holds.ensures)
-    ∙ held-others text c.args.self.now c.args.place c.count.result
-    (c.count.ensures ∙ c.self.invariant.1 text ∙ ap (holder_count text) c.self.view_is)
+    subst (λ xs. c.is_held_by_others.result ≡ (is_held (take c.args.place xs) c.args.filter.now
+    || is_held (drop (c.args.place + 1) xs) c.args.filter.now)) c.self.view_is
+    (held-beside c.self.inside.standing _ c.args.filter.now c.args.place c.is_held_by_others.result
+    c.self.invariant.1 c.is_held_by_others.ensures)

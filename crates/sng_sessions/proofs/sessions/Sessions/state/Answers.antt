@@ -1,10 +1,9 @@
 -- The client is where it was, and holds what it held.
 use Rattle.std.proofs.Common.{refl, sym, ap, ◌∙◌}
 use Rattle.sng_history.specs.Clients.{is_here}
-use Rattle.sng_sessions.specs.Counts.{holder_count}
 use Rattle.sng_sessions.specs.Places.{holds_at}
 use Rattle.sng_sessions.specs.Willing.{stating_at}
-use Rattle.sng_sessions.proofs.CountLemmas.{holder_count-kept}
+use Rattle.sng_sessions.proofs.KeptLemmas.{keeps-kept}
 use Rattle.sng_sessions.proofs.Moves.{holds_at-kept}
 use Rattle.sng_sessions.proofs.WillLemmas.{stating-here}
 use Rattle.sng_sessions.proofs.sessions.Sessions.state.Goals as goal
@@ -15,6 +14,6 @@ invariant_of-self c = (
       ∙ sym (ap (λ xs. holds_at (λ x. is_here x from) xs place) c.state_at.ensures
       ∙ holds_at-kept (λ x. is_here x from) (stating_at c.args.clock c.args.stating)
       (stating-here c.args.clock c.args.stating from) _ c.args.place place),
-  λ text. c.self.invariant.1 text ∙ sym (ap (holder_count text) c.state_at.ensures
-      ∙ holder_count-kept text (stating_at c.args.clock c.args.stating) (λ x. refl) _ c.args.place),
+  keeps-kept c.self.inside.standing (stating_at c.args.clock c.args.stating)
+      (λ x. refl) _ _ c.args.place c.state_at.ensures c.self.invariant.1,
 )

@@ -2,10 +2,9 @@
 use Rattle.std.proofs.Common.{refl, sym, ap, ◌∙◌, Some}
 use Rattle.sng_book.specs.declared.outcome.Outcome.TheVariants.{Allowed}
 use Rattle.sng_history.specs.Clients.{is_here}
-use Rattle.sng_sessions.specs.Counts.{holder_count}
 use Rattle.sng_sessions.specs.Standing.{told_at}
 use Rattle.sng_sessions.specs.Places.{holds_at}
-use Rattle.sng_sessions.proofs.CountLemmas.{holder_count-kept}
+use Rattle.sng_sessions.proofs.KeptLemmas.{keeps-kept}
 use Rattle.sng_sessions.proofs.Moves.{holds_at-kept}
 use Rattle.sng_sessions.proofs.sessions.Sessions.tell.Goals as goal
 
@@ -15,6 +14,6 @@ invariant_of-self c = (
       ∙ sym (ap (λ xs. holds_at (λ x. is_here x from) xs place) c.tell_at.ensures
       ∙ holds_at-kept (λ x. is_here x from) (told_at c.args.clock (Some c.args.name) Allowed)
       (λ x. refl) _ c.args.place place),
-  λ text. c.self.invariant.1 text ∙ sym (ap (holder_count text) c.tell_at.ensures
-      ∙ holder_count-kept text (told_at c.args.clock (Some c.args.name) Allowed) (λ x. refl) _ c.args.place),
+  keeps-kept c.self.inside.standing (told_at c.args.clock (Some c.args.name) Allowed)
+      (λ x. refl) _ _ c.args.place c.tell_at.ensures c.self.invariant.1,
 )

@@ -1,0 +1,16 @@
+pub mod AllFound
+pub mod AllMatch
+pub mod Clients
+pub mod Ended
+pub mod Failures
+pub mod Filters
+pub mod Held
+pub mod InPlace
+pub mod Joins
+pub mod Levels
+pub mod Listed
+pub mod Matched
+pub mod Moved
+pub mod Parts
+pub mod Reserved
+pub mod Walked

@@ -1,0 +1,4 @@
+pub mod Greatest
+pub mod Holders
+pub mod Standing
+pub mod Tree
