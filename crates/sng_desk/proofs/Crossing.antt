@@ -6,8 +6,8 @@ use denote.Struct.Declared.{shape}
 use Rattle.std.specs.contracts.snapshot.Snapshot as Snapshot
 use Rattle.std.proofs.Crossing.{crosses}
 use Rattle.sng_book.proofs.book.Book.TheSendSync as book
-use Rattle.sng_core.proofs.machine.Core.TheSendSync as core
 use Rattle.sng_core.specs.contracts.machine.Core as Core
+use Rattle.sng_desk.proofs.CoreCrossing.{core_send}
 use Rattle.sng_desk.specs.contracts.desk.Desk as Desk
 use Rattle.sng_desk.specs.contracts.desk.Desk.TheInside as inside
 
@@ -19,7 +19,7 @@ fields_send = struct_send (shape inside.the_type) (
   search sendable,
   (
     first_send,
-    (core.the_send, (book.the_send, (search sendable, tt))),
+    (core_send, (book.the_send, (search sendable, tt))),
   ),
 )
 

@@ -1,4 +1,5 @@
 pub mod Spanning
 pub mod Acting
 pub mod Going
+pub mod CoreCrossing
 pub mod Crossing
