@@ -4,7 +4,8 @@
 Measures the memory of payloads that wait, through SNG (if none is given, the build that `rt run` leaves in
 crates/sng/out/sng): 256 clients fall asleep, and 64 messages of 1,024 octets at QoS 0 come to wait for each.
 Prints by how much the most memory that the program held exceeds that of the same script without the messages,
-and of the same script with messages of one octet. Fails where the program refuses a line, or a message does
+and of the same script with messages of one octet. The C library fills all memory that it gives out, so the
+room of the queues is in memory before the messages come. Fails where the program refuses a line, or a message does
 not wait for each."""
 import os
 import subprocess
@@ -43,7 +44,8 @@ def memory_of(program, lines, woken):
     """The most memory in KiB once all lines are played and nothing is done any more. The clients wake up then,
     and so many messages must be handed over."""
     text = '\n'.join(said(number, b'\x16' + client(number)) for number in range(CLIENTS)) + '\n'
-    with subprocess.Popen([program, 'play'], stdin=subprocess.PIPE, stdout=subprocess.PIPE) as process:
+    filled = dict(os.environ, MALLOC_PERTURB_='85')
+    with subprocess.Popen([program, 'play'], stdin=subprocess.PIPE, stdout=subprocess.PIPE, env=filled) as process:
         process.stdin.write(('\n'.join(lines) + '\n').encode())
         process.stdin.flush()
         start, before = time.monotonic(), -1

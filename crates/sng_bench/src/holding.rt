@@ -79,7 +79,7 @@ fn chain(alloc: Global, standing: &mut Standing) -> Result<(), NotDone> {
     for client in 0..CLIENTS {
         for number in 0..FILTERS {
             let depth = (client + number * 3) % (LEVELS - 1) + 1;
-            let text = levels(alloc, "l/", depth, "other")?;
+            let text = levels(alloc, "l/", depth, "o")?;
             add(alloc, standing, client, text.as_str())?;
         }
     }
