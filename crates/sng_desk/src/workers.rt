@@ -24,7 +24,7 @@ pub fn udp_worker<R: Wait, D: Datagrams, G: Gate>(
     source: D,
     gate: &G,
 ) -> WorkerEnd<D, NoSender>
-    ensures { HasEnded D.tells (λ d. datagram_events (D.gave d)) D.failures D.has_ended D.tells D.passed
+    ensures ended { HasEnded D.tells (λ d. datagram_events (D.gave d)) D.failures D.has_ended D.tells D.passed
         source source share (G.may_stop gate.now) result.source result.source result.trail result.share
         result.fault }
     ensures uncut { result.volumes.items ≡ [] }
@@ -98,7 +98,7 @@ pub fn policy_worker<R: Wait, P: Policies, G: Gate>(
     source: P,
     gate: &G,
 ) -> WorkerEnd<P, NoSender>
-    ensures { HasEnded P.tells (λ p. replace_events (P.gave p)) P.failures P.has_ended (λ p. false) (λ p. [])
+    ensures ended { HasEnded P.tells (λ p. replace_events (P.gave p)) P.failures P.has_ended (λ p. false) (λ p. [])
         source source share (G.may_stop gate.now) result.source result.source result.trail result.share
         result.fault }
     ensures uncut { result.volumes.items ≡ [] }
