@@ -2,7 +2,7 @@
 //! 4.6).
 #![tactic(auto)]
 
-pub mod comparing;
+mod comparing;
 pub mod copying;
 pub mod in_flight;
 pub mod item;

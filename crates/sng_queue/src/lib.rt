@@ -1,7 +1,7 @@
 //! What one client still has to get, and the exchange with it that is open (MQTT-SN 1.2, 6.5, 6.6 and 6.14).
 #![tactic(auto)]
 
-pub mod comparing;
+mod comparing;
 pub mod copying;
 pub mod exchange;
 pub mod kind;
