@@ -8,7 +8,7 @@ use sng_text::{Compare, TopicName};
 use std::alloc::AllocError;
 
 impl IdTable {
-    /// A table of the same ids, in memory of its own and without room for more. Only memory can fail.
+    /// A table of the same ids, in memory of its own and with no room made for more. Only memory can fail.
     pub fn copy(&self) -> Result<IdTable, AllocError>
         ensures { IfOk result (λ table. table.ids ≡ self.now.ids) }
     {
