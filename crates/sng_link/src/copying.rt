@@ -34,7 +34,8 @@ impl Model for LinkCopy {
 }
 
 impl LinkCopy {
-    /// Whether nothing waits, nothing is in flight or wanted, and nothing was sent.
+    /// Whether it is as that of a new link: nothing waits, is in flight or is wanted, no packet id was given,
+    /// and the time counts from 0.
     pub fn is_idle(&self) -> bool
         ensures { IsTrue result ↔ (self.now ≡ idle) }
     {

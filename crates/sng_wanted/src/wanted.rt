@@ -22,8 +22,8 @@ const NUMBERS: usize = 65_536;
 
 /// The filters that stand for anybody, in order of first standing, each with the packet id of its open
 /// SUBSCRIBE. Found by filter and by packet id in one look-up each. Room for `MAX_WANTED` is made once, so no
-/// later call but `filters` and `copy` takes memory. One that ends stays where it is, and is swept out later. Contracts see those that
-/// stand.
+/// later call but `filters` and `copy` takes memory. One that ends stays where it is, and is swept out later.
+/// Contracts see those that stand.
 #[derive(Drop)]
 pub struct Wanted {
     filters: IndexMap<TopicFilter, Want>,
