@@ -9,7 +9,7 @@ use Rattle.std.specs.contracts.impls.GlobalAllocator.TheImpl.{ghosts}
 use Rattle.std.proofs.Crossing.{Arc-send}
 use Rattle.sng_book.proofs.book.Book.TheSendSync as book
 use Rattle.sng_core.proofs.copying.CoreCopy.TheSendSync as copy
-use Rattle.sng_core.proofs.machine.Core.TheSendSync as core
+use Rattle.sng_core.proofs.Crossing.{core_send}
 use Rattle.sng_core.specs.contracts.copying.CoreCopy as CoreCopy
 use Rattle.sng_desk.specs.contracts.desk.Desk as Desk
 use Rattle.sng_desk.specs.contracts.desk.Desk.TheInside as inside
@@ -22,7 +22,7 @@ fields_send = struct_send (shape inside.the_type) (
   search sendable,
   (
     search sendable,
-    (opened_send, (core.the_send, (book.the_send, (search sendable, tt)))),
+    (opened_send, (core_send, (book.the_send, (search sendable, tt)))),
   ),
 )
 
