@@ -4,7 +4,7 @@ use Rattle.std.proofs.Common.{IfSome, refl}
 use Rattle.sng_text.specs.ClientIds.{is_client_id}
 use Rattle.sng_text.specs.Ipv4.{IsAddress, ipv4_of}
 use Rattle.sng_text.proofs.Ipv4Lemmas.{ipv4_of-octets}
-use Rattle.sng_scope.specs.Bounds.{IsTopicId}
+use Rattle.sng_grants.specs.Topics.{IsTopicId}
 use Rattle.sng_scope.specs.Numerals.{topic_id_of}
 use Rattle.sng_scope.specs.Policies.{client_of}
 use Rattle.sng_scope.specs.declared.fault.PolicyFault.{PolicyFault}
