@@ -17,8 +17,8 @@ use std::marker::Model;
 /// Topic names by predefined topic id.
 pub type Names = Listed<u16, TopicName, MAX_TOPICS>;
 
-/// The topic name of each predefined topic id, with an index by name. No id is one of the two that are reserved
-/// (MQTT-SN 1.2, 5.3.11). Contracts see the list of ids with their names, in the order of the ids.
+/// The topic name of each predefined topic id, with an index by name. No id is one of the two that are
+/// reserved (MQTT-SN 1.2, 5.3.11). Contracts see the list of ids with their names, in the order of the ids.
 #[derive(Debug, Drop)]
 pub struct Topics {
     names: Names,

@@ -68,7 +68,8 @@ module _ {K X : Type 0} (R : K → K → Ordering) (total : IsTotalOrder R) wher
       ∙ sym (goes_there R e (insert_entry R es b y) a x is)
       ∙ sym (ap (λ l. insert_entry R l a x) (goes_behind R e es b y above))
   swaps-cons Greater e es a b x y is below later =
-      let above : R b e.0 ≡ Greater = above_from R total e.0 b (total.trans e.0 a b (below_from R total a e.0 is) below) in
+      let first : R e.0 a ≡ Less = below_from R total a e.0 is in
+      let above : R b e.0 ≡ Greater = above_from R total e.0 b (total.trans e.0 a b first below) in
       ap (λ l. insert_entry R l b y) (goes_behind R e es a x is)
       ∙ goes_behind R e (insert_entry R es a x) b y above
       ∙ ap (λ l. e ∷ l) later

@@ -10,3 +10,4 @@ pub mod OntoLemmas
 pub mod ScopeBackLemmas
 pub mod PolicyBackLemmas
 pub mod WriteLemmas
+pub mod ShapeLemmas

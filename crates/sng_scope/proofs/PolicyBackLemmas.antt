@@ -127,7 +127,7 @@ said R key value name data_of total P Q keys values (e ∷ es) ks vs = (
   keys e.0 (All-head P e.0 (keys_of es) ks),
   values e.1 (All-head Q e.1 (values_of es) vs),
   said R key value name data_of total P Q keys values es (All-tail P e.0 (keys_of es) ks)
-  (All-tail Q e.1 (values_of es) vs),
+      (All-tail Q e.1 (values_of es) vs),
 )
 
 clients-read : (clients : List (List ℕ × List Pair))

@@ -1,6 +1,6 @@
 -- A scope is read from what is written of it.
-use Rattle.std.proofs.Common.{◌≡◌, ℕ, suc, ◌≤◌, Bool, true, false, List, [], ◌∷◌, length, Result, Ok, Err, All}
-use Rattle.std.proofs.Common.{cond, ltb, refl, sym, ap, ◌∙◌, arith}
+use Rattle.std.proofs.Common.{◌≡◌, suc, Bool, true, false, cond, ltb, List, [], ◌∷◌, length, Result, Ok, Err}
+use Rattle.std.proofs.Common.{All, ap, refl, ◌∙◌, arith, ℕ}
 use Rattle.std.proofs.lemmas.Bool.{le-ltb}
 use Rattle.std.proofs.lemmas.List.Elements.{All-head, All-tail}
 use Rattle.serde_json.specs.Data.{Data, array, Items, no_items, item}

@@ -1,5 +1,5 @@
--- The canonical text of a policy: JSON on one line (RFC 8259) of version 1, without blanks, its members in the
--- byte order of their names.
+-- The canonical text of a policy: JSON on one line (RFC 8259) of version 1, without blanks, its members in
+-- the byte order of their names.
 use Rattle.std.specs.Prelude.{ℕ, Bool, true, false, List, [], ◌∷◌, map, codes}
 use Rattle.std.specs.Fmt.{decimal}
 use Rattle.std.specs.List.{join_with_byte}

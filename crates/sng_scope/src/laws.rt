@@ -19,8 +19,8 @@ pub fn topic_ids_are_decimal()
     ensures { TopicIdsAreDecimal }
 {}
 
-/// What is written of a policy that keeps to its bounds is read as this policy: each client, source and topic,
-/// each pair in its place, and each permission.
+/// What is written of a policy that keeps to its bounds is read as this policy: each client, source and
+/// topic, each pair in its place, and each permission.
 pub fn policies_are_read_back()
     ensures { PoliciesAreReadBack }
 {}

@@ -22,12 +22,14 @@ pub fn write_policy(alloc: Global, policy: &Policy) -> Result<Vec<u8>, AllocErro
     ensures text { IfOk result (λ text. text.items ≡ policy_text policy.now) }
     ensures read { IfOk result (λ text. policy_of text.items ≡ Ok policy.now) }
 {
-    policy_value(alloc, policy)?.to_vec(alloc)
+    let value = policy_value(alloc, policy)?;
+    let text = value.to_vec(alloc)?;
+    Ok(text)
 }
 
 /// The policy as JSON, which shows that it keeps to its bounds.
 fn policy_value(alloc: Global, policy: &Policy) -> Result<Value, AllocError>
-    ensures data { IfOk result (λ v. view v ≡ policy_data policy.now) }
+    ensures json { IfOk result (λ v. view v ≡ policy_data policy.now) }
     ensures within { IfOk result (λ v. IsPolicy policy.now) }
     ensures ordered { IfOk result (λ v. IsInOrder policy.now) }
 {
@@ -39,5 +41,5 @@ fn policy_value(alloc: Global, policy: &Policy) -> Result<Value, AllocError>
     put(&mut members, alloc, "sources", sources)?;
     put(&mut members, alloc, "topics", topics)?;
     put(&mut members, alloc, "version", Value::from(1u8))?;
-    Ok(Value::Object(members))
+    Ok(Value::from(members))
 }

@@ -19,10 +19,10 @@ use std::alloc::{AllocError, Global};
 
 /// The scopes by client id.
 pub fn clients_value(alloc: Global, clients: &Clients) -> Result<Value, AllocError>
-    ensures data { IfOk result (λ v. view v ≡ clients_data clients.now) }
+    ensures json { IfOk result (λ v. view v ≡ clients_data clients.now) }
     ensures within { IfOk result
         (λ v. AreWithin MAX_POLICY_CLIENTS (λ client. is_client_id client ≡ true) IsScope clients.now) }
-    ensures ordered { AreInOrder clients.now }
+    ensures ordered { IfOk result (λ v. AreInOrder clients.now) }
 {
     let mut members = Map::new(alloc);
     let _count = clients.len();
@@ -30,14 +30,14 @@ pub fn clients_value(alloc: Global, clients: &Clients) -> Result<Value, AllocErr
         let value = scope_value(alloc, scope)?;
         put(&mut members, alloc, text_of(client.text()), value)?;
     }
-    Ok(Value::Object(members))
+    Ok(Value::from(members))
 }
 
 /// The scopes by IPv4 address.
 pub fn sources_value(alloc: Global, sources: &Sources) -> Result<Value, AllocError>
-    ensures data { IfOk result (λ v. view v ≡ sources_data sources.now) }
+    ensures json { IfOk result (λ v. view v ≡ sources_data sources.now) }
     ensures within { IfOk result (λ v. AreWithin MAX_SOURCES IsAddress IsScope sources.now) }
-    ensures ordered { AreInOrder sources.now }
+    ensures ordered { IfOk result (λ v. AreInOrder sources.now) }
 {
     let mut members = Map::new(alloc);
     let _count = sources.len();
@@ -46,15 +46,15 @@ pub fn sources_value(alloc: Global, sources: &Sources) -> Result<Value, AllocErr
         let name = dotted_of(alloc, *source)?;
         put(&mut members, alloc, name.as_str(), value)?;
     }
-    Ok(Value::Object(members))
+    Ok(Value::from(members))
 }
 
 /// The topic names by topic id.
 pub fn topics_value(alloc: Global, topics: &Topics) -> Result<Value, AllocError>
-    ensures data { IfOk result (λ v. view v ≡ topics_data topics.now) }
+    ensures json { IfOk result (λ v. view v ≡ topics_data topics.now) }
     ensures within { IfOk result
         (λ v. AreWithin MAX_TOPICS IsTopicId (λ name. is_name name ≡ true) topics.now) }
-    ensures ordered { AreIdsInOrder topics.now }
+    ensures ordered { IfOk result (λ v. AreIdsInOrder topics.now) }
 {
     let mut members = Map::new(alloc);
     let _count = topics.len();
@@ -63,5 +63,5 @@ pub fn topics_value(alloc: Global, topics: &Topics) -> Result<Value, AllocError>
         let name = decimal_of(alloc, *id)?;
         put(&mut members, alloc, name.as_str(), value)?;
     }
-    Ok(Value::Object(members))
+    Ok(Value::from(members))
 }

@@ -1,4 +1,5 @@
-//! Scopes as JSON: the list of pairs of a topic filter and the permissions on it (RFC 9237, 2; RFC 9431, 2.3).
+//! Scopes as JSON: the list of pairs of a topic filter and the permissions on it (RFC 9237, 2; RFC 9431,
+//! 2.3).
 ghost use Rattle.std.specs.Prelude.{◌≡◌, true, All, IfOk};
 ghost use Rattle.serde_json.specs.Data.{array};
 ghost use Rattle.serde_json.specs.View.{view, items_view};
@@ -13,7 +14,7 @@ use std::alloc::{AllocError, Global};
 
 /// The scope as an array of its pairs, which shows that it keeps to its bounds.
 pub fn scope_value(alloc: Global, scope: &Scope) -> Result<Value, AllocError>
-    ensures data { IfOk result (λ v. view v ≡ scope_data scope.now) }
+    ensures json { IfOk result (λ v. view v ≡ scope_data scope.now) }
     ensures within { IfOk result (λ v. IsScope scope.now) }
 {
     pairs_value(alloc, scope.pairs())
@@ -27,7 +28,7 @@ fn pairs_value(alloc: Global, pairs: &[Pair]) -> Result<Value, AllocError>
     for pair in pairs {
         items.push(pair_value(alloc, pair)?)?;
     }
-    Ok(Value::Array(items))
+    Ok(Value::from(items))
 }
 
 /// `[filter, permissions]`.
@@ -39,7 +40,7 @@ fn pair_value(alloc: Global, pair: &Pair) -> Result<Value, AllocError>
     let mut items = Vec::new(alloc);
     push(&mut items, filter)?;
     push(&mut items, permissions)?;
-    Ok(Value::Array(items))
+    Ok(Value::from(items))
 }
 
 /// The permissions, `pub` before `sub`.
@@ -53,5 +54,5 @@ fn permissions_value(alloc: Global, publishes: bool, subscribes: bool) -> Result
     if subscribes {
         push(&mut items, Value::try_from_str(alloc, "sub")?)?;
     }
-    Ok(Value::Array(items))
+    Ok(Value::from(items))
 }

@@ -1,9 +1,10 @@
 //! Texts as JSON strings: those that are UTF-8, and keys in decimal.
-ghost use Rattle.std.specs.Prelude.{◌≡◌, ◌++◌, IfOk, OnOk, string_bytes, codes};
+ghost use Rattle.std.specs.Prelude.{◌≡◌, IfOk, string_bytes};
 ghost use Rattle.std.specs.Fmt.{decimal};
 ghost use Rattle.std.specs.Str.{IsUtf8};
 ghost use Rattle.serde_json.specs.Data.{string};
 ghost use Rattle.serde_json.specs.View.{view};
+ghost use Rattle.sng_text.specs.Ipv4.{IsAddress};
 ghost use Rattle.sng_scope.specs.Written.{dotted};
 
 use serde_json::Value;
@@ -37,7 +38,8 @@ pub fn decimal_of(alloc: Global, number: u16) -> Result<String, AllocError>
 
 /// The address in dotted decimal.
 pub fn dotted_of(alloc: Global, address: [u8; 4]) -> Result<String, AllocError>
-    ensures { IfOk result (λ text. string_bytes text ≡ dotted address) }
+    ensures text { IfOk result (λ text. string_bytes text ≡ dotted address) }
+    ensures within { IfOk result (λ text. IsAddress address) }
 {
     let [first, second, third, fourth] = address;
     format!(in alloc; "{first}.{second}.{third}.{fourth}")

@@ -11,7 +11,7 @@ abbrev pub invariant-loop-client : goal.invariant-loop-client
 invariant-loop-client l = record {
   written : with_members (λ client. client) scope_data (members_view l.members.entries) l.client-iterator
       ≡ with_members (λ client. client) scope_data no_members l.clients;
-  keys : All (λ client. is_client_id client ≡ true) (keys_of l.client-iterator) → All (λ client. is_client_id client ≡ true) (keys_of l.clients);
-  values : All IsScope (values_of l.client-iterator)
-      → All IsScope (values_of l.clients);
+  keys : All (λ client. is_client_id client ≡ true) (keys_of l.client-iterator)
+      → All (λ client. is_client_id client ≡ true) (keys_of l.clients);
+  values : All IsScope (values_of l.client-iterator) → All IsScope (values_of l.clients);
 }

@@ -1,8 +1,7 @@
-use Rattle.std.proofs.Common.{◌≡◌, ◌++◌, drop, map}
-use Rattle.serde_json.specs.View.{view, items_of}
+use Rattle.std.proofs.Common.{◌≡◌, take, map}
+use Rattle.serde_json.specs.View.{view}
 use Rattle.sng_scope.specs.Written.{pair_data}
 use Rattle.sng_scope.proofs.write.scopes.pairs_value.Given as goal
 
 abbrev pub invariant-loop-pair : goal.invariant-loop-pair
-invariant-loop-pair l =
-    map view l.items.items ++ map pair_data (drop l.pair-index l.pairs) ≡ map pair_data l.pairs
+invariant-loop-pair l = map view l.items.items ≡ map pair_data (take l.pair-index l.pairs)
