@@ -11,3 +11,4 @@ pub mod ScopeBackLemmas
 pub mod PolicyBackLemmas
 pub mod WriteLemmas
 pub mod ShapeLemmas
+pub mod DottedLemmas

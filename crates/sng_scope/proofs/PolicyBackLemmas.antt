@@ -16,7 +16,6 @@ use Rattle.serde_json.specs.Events.{members_len}
 use Rattle.sng_text.specs.ClientIds.{is_client_id}
 use Rattle.sng_text.specs.Ipv4.{IsAddress, ipv4_of}
 use Rattle.sng_text.specs.Texts.{is_name}
-use Rattle.sng_text.proofs.AddressLemmas.{addresses_are_decimal}
 use Rattle.sng_grants.specs.Laws.{AreInOrder, AreIdsInOrder}
 use Rattle.sng_grants.specs.Scopes.{IsScope}
 use Rattle.sng_grants.specs.declared.limits.TheConstants.{MAX_POLICY_CLIENTS, MAX_SOURCES, MAX_TOPICS}
@@ -34,6 +33,7 @@ use Rattle.sng_scope.specs.Written.{scope_data, with_members, clients_data, dott
 use Rattle.sng_scope.specs.Written.{policy_data}
 use Rattle.sng_scope.specs.declared.fault.PolicyFault.{PolicyFault}
 use Rattle.sng_scope.specs.declared.fault.PolicyFault.TheVariants.{BadSource, BadTopicId, TooMany}
+use Rattle.sng_scope.proofs.DottedLemmas.{dotted-read}
 use Rattle.sng_scope.proofs.LawLemmas.{topic_ids_are_decimal}
 use Rattle.sng_scope.proofs.OntoLemmas.{onto, reads, AreSaid}
 use Rattle.sng_scope.proofs.ScopeBackLemmas.{scope-read}
@@ -108,7 +108,7 @@ client-read client is = rw is refl
 
 source-read : (source : List ℕ) → IsAddress source → source_of (dotted source) ≡ Ok source
 source-read source is =
-    ap (λ o. ok_or o BadSource) ((addresses_are_decimal (dotted source) source).1 (is, refl))
+    ap (λ o. ok_or o BadSource) (dotted-read source is)
 
 id-read : (id : ℕ) → IsTopicId id → id_from (decimal id) ≡ Ok id
 id-read id is =

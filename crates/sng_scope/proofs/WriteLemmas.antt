@@ -1,9 +1,7 @@
--- What is written: one member more, texts of UTF-8, and addresses in dotted decimal.
-use Rattle.std.proofs.Common.{◌≡◌, ℕ, ◌==◌, Bool, true, false, cond, not, ltb, List, [], ◌∷◌, ◌++◌, length}
-use Rattle.std.proofs.Common.{Option, Some, None, refl, sym, ap, ◌∙◌, codes, arith, append_assoc, slice_index}
+-- What is written: one member more, and texts of UTF-8.
+use Rattle.std.proofs.Common.{◌≡◌, ℕ, ◌==◌, Bool, true, false, cond, not, ltb, List, ◌∷◌, length, Option}
+use Rattle.std.proofs.Common.{Some, refl, sym, ap, ◌∙◌}
 use Rattle.std.proofs.lemmas.Str.{IsUtf8-from_is_utf8}
-use Rattle.std.specs.Fmt.{decimal}
-use Rattle.std.specs.List.{join_with_byte}
 use Rattle.std.specs.Prelude.{is_none}
 use Rattle.std.specs.Str.{is_utf8, IsUtf8}
 use Rattle.serde_json.specs.Data.{Data, Members, put}
@@ -12,7 +10,7 @@ use Rattle.sng_text.specs.Texts.{is_filter, is_name}
 use Rattle.sng_text.specs.declared.fault.TextFault.{TextFault}
 use Rattle.sng_text.specs.declared.fault.TextFault.TheVariants.{Empty, TooLong, NotUtf8}
 use Rattle.sng_text.specs.declared.limits.TheConstants.{MAX_FILTER, MAX_NAME}
-use Rattle.sng_scope.specs.Written.{dotted, with_members}
+use Rattle.sng_scope.specs.Written.{with_members}
 
 -- ---- one member more
 
@@ -51,20 +49,3 @@ pub name-utf8 : (text : List ℕ) → is_name text ≡ true → IsUtf8 text
 name-utf8 text is =
     IsUtf8-from_is_utf8 text
     (name_utf8 (length text == 0) (ltb MAX_NAME (length text)) (is_utf8 text) _ Empty TooLong NotUtf8 is)
-
--- ---- addresses
-
-four : (a b c d : List ℕ)
-    → join_with_byte 46 (a ∷ b ∷ c ∷ d ∷ []) ≡ a ++ codes "." ++ b ++ codes "." ++ c ++ codes "." ++ d
-four a b c d = sym (simp (append_assoc) refl)
-
--- four numbers between points
-pub dotted-four : (ip : List ℕ) → length ip ≡ 4
-    → dotted ip ≡ decimal (slice_index ip 0) ++ codes "." ++ decimal (slice_index ip 1) ++ codes "."
-    ++ decimal (slice_index ip 2) ++ codes "." ++ decimal (slice_index ip 3)
-dotted-four [] is = absurd (omega arith)
-dotted-four (a ∷ []) is = absurd (omega arith)
-dotted-four (a ∷ b ∷ []) is = absurd (omega arith)
-dotted-four (a ∷ b ∷ c ∷ []) is = absurd (omega arith)
-dotted-four (a ∷ b ∷ c ∷ d ∷ []) is = four (decimal a) (decimal b) (decimal c) (decimal d)
-dotted-four (a ∷ b ∷ c ∷ d ∷ e ∷ ip) is = absurd (omega arith)

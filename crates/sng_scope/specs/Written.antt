@@ -1,8 +1,7 @@
 -- The canonical text of a policy: JSON on one line (RFC 8259) of version 1, without blanks, its members in
 -- the byte order of their names.
-use Rattle.std.specs.Prelude.{ℕ, Bool, true, false, List, [], ◌∷◌, map, codes}
+use Rattle.std.specs.Prelude.{ℕ, Bool, true, false, List, [], ◌∷◌, ◌++◌, map, codes, slice_index}
 use Rattle.std.specs.Fmt.{decimal}
-use Rattle.std.specs.List.{join_with_byte}
 use Rattle.serde_json.specs.Data.{Data, number, unsigned, string, array, object, Items, no_items, item}
 use Rattle.serde_json.specs.Data.{Members, no_members, member, put}
 use Rattle.serde_json.specs.View.{items_of}
@@ -38,9 +37,11 @@ with_members name value ms (e ∷ es) = with_members name value (put (name e.0) 
 abbrev pub clients_data : List (List ℕ × List Pair) → Data
 clients_data clients = object (with_members (λ client. client) scope_data no_members clients)
 
--- four decimal numbers, parted by points, byte 46
+-- four decimal numbers, parted by points
 abbrev pub dotted : List ℕ → List ℕ
-dotted octets = join_with_byte 46 (map decimal octets)
+dotted octets =
+    decimal (slice_index octets 0) ++ codes "." ++ decimal (slice_index octets 1) ++ codes "."
+    ++ decimal (slice_index octets 2) ++ codes "." ++ decimal (slice_index octets 3)
 
 abbrev pub sources_data : List (List ℕ × List Pair) → Data
 sources_data sources = object (with_members dotted scope_data no_members sources)

@@ -12,7 +12,7 @@ mod texts;
 
 use crate::Policy;
 use entries::{clients_value, sources_value, topics_value};
-use serde_json::{Map, Value, put};
+use serde_json::{Value, json};
 use std::alloc::{AllocError, Global};
 
 /// The canonical text of the policy: an object of version 1 on one line, without blanks, its members in the
@@ -36,10 +36,5 @@ fn policy_value(alloc: Global, policy: &Policy) -> Result<Value, AllocError>
     let clients = clients_value(alloc, &policy.clients)?;
     let sources = sources_value(alloc, &policy.sources)?;
     let topics = topics_value(alloc, &policy.topics)?;
-    let mut members = Map::new(alloc);
-    put(&mut members, alloc, "clients", clients)?;
-    put(&mut members, alloc, "sources", sources)?;
-    put(&mut members, alloc, "topics", topics)?;
-    put(&mut members, alloc, "version", Value::from(1u8))?;
-    Ok(Value::from(members))
+    json!(in alloc; {"clients": clients, "sources": sources, "topics": topics, "version": 1u8})
 }

@@ -7,9 +7,9 @@ ghost use Rattle.sng_grants.specs.Scopes.{IsScope};
 ghost use Rattle.sng_text.specs.Texts.{is_filter};
 ghost use Rattle.sng_scope.specs.Written.{permissions_data, pair_data, scope_data};
 
-use super::texts::string_of;
+use super::texts::text_of;
 use crate::{Pair, Scope};
-use serde_json::{Value, push};
+use serde_json::{Value, json};
 use std::alloc::{AllocError, Global};
 
 /// The scope as an array of its pairs, which shows that it keeps to its bounds.
@@ -35,24 +35,18 @@ fn pairs_value(alloc: Global, pairs: &[Pair]) -> Result<Value, AllocError>
 fn pair_value(alloc: Global, pair: &Pair) -> Result<Value, AllocError>
     ensures { IfOk result (λ v. view v ≡ pair_data pair.now) }
 {
-    let filter = string_of(alloc, pair.filter.text())?;
     let permissions = permissions_value(alloc, pair.publishes, pair.subscribes)?;
-    let mut items = Vec::new(alloc);
-    push(&mut items, filter)?;
-    push(&mut items, permissions)?;
-    Ok(Value::from(items))
+    json!(in alloc; [text_of(pair.filter.text()), permissions])
 }
 
 /// The permissions, `pub` before `sub`.
 fn permissions_value(alloc: Global, publishes: bool, subscribes: bool) -> Result<Value, AllocError>
     ensures { IfOk result (λ v. view v ≡ array (permissions_data publishes subscribes)) }
 {
-    let mut items = Vec::new(alloc);
-    if publishes {
-        push(&mut items, Value::try_from_str(alloc, "pub")?)?;
+    match (publishes, subscribes) {
+        (true, true) => json!(in alloc; ["pub", "sub"]),
+        (true, false) => json!(in alloc; ["pub"]),
+        (false, true) => json!(in alloc; ["sub"]),
+        (false, false) => json!(in alloc; []),
     }
-    if subscribes {
-        push(&mut items, Value::try_from_str(alloc, "sub")?)?;
-    }
-    Ok(Value::from(items))
 }
