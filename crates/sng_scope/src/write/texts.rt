@@ -1,5 +1,5 @@
 //! Texts as JSON strings: those that are UTF-8, and keys in decimal.
-ghost use Rattle.std.specs.Prelude.{◌≡◌, IfOk, string_bytes};
+ghost use Rattle.std.specs.Prelude.{◌≡◌, ◌++◌, IfOk, OnOk, string_bytes, codes};
 ghost use Rattle.std.specs.Fmt.{decimal};
 ghost use Rattle.std.specs.Str.{IsUtf8};
 ghost use Rattle.serde_json.specs.Data.{string};
@@ -42,5 +42,19 @@ pub fn dotted_of(alloc: Global, address: [u8; 4]) -> Result<String, AllocError>
     ensures within { IfOk result (λ text. IsAddress address) }
 {
     let [first, second, third, fourth] = address;
-    format!(in alloc; "{first}.{second}.{third}.{fourth}")
+    let mut text = decimal_of(alloc, u16::from(first))?;
+    push_part(alloc, &mut text, second)?;
+    push_part(alloc, &mut text, third)?;
+    push_part(alloc, &mut text, fourth)?;
+    Ok(text)
+}
+
+/// Appends a point and the number.
+fn push_part(alloc: Global, text: &mut String, number: u8) -> Result<(), AllocError>
+    ensures { OnOk result
+        (string_bytes text.new ≡ string_bytes text.old ++ codes "." ++ decimal number) }
+{
+    let digits = decimal_of(alloc, u16::from(number))?;
+    text.push_str(".")?;
+    text.push_str(digits.as_str())
 }

@@ -1,5 +1,6 @@
 use Rattle.std.proofs.Common.{◌≡◌, ℕ, true, List, All, sym, ap, subst, ◌∙◌}
 use Rattle.std.proofs.lemmas.List.Elements.{All-nil, All-cons}
+use Rattle.std.specs.Str.{IsUtf8}
 use Rattle.std.specs.Map.{keys_of, values_of}
 use Rattle.serde_json.specs.Data.{put}
 use Rattle.serde_json.specs.View.{view, members_view}
@@ -17,7 +18,8 @@ abbrev Entries : Type 0
 Entries = List (List ℕ × List Pair)
 
 pub text_of-requires : goal.text_of-requires
-text_of-requires c = client-utf8 c.in-Some.client.now c.text.ensures.client_id
+text_of-requires c =
+    subst IsUtf8 (sym c.text.ensures.value) (client-utf8 c.in-Some.client.now c.text.ensures.client_id)
 
 pub loop-client-preserved : goal.loop-client-preserved
 loop-client-preserved c =
@@ -46,7 +48,7 @@ returns-clause-within c =
     let l = c.loop-client.invariant in
     let none = c.in-None.ensures.steps.0 in
     record {
-      few = c.len.ensures.few;
+      few = c.len-count.ensures.few;
       keys = l.keys (subst (λ (es : Entries). All IsClient (keys_of es)) (sym none) (All-nil IsClient));
       values = l.values (subst (λ (es : Entries). All IsScope (values_of es)) (sym none) (All-nil IsScope));
     }

@@ -26,7 +26,7 @@ loop-source-preserved c =
           steps
           (c.in_ok-put.ensures.ok
           ∙ ap (λ k. put k (view c.in_ok-value.value) (members_view c.loop-source.members.entries))
-          (c.as_str.ensures ∙ c.in_ok-name.ensures.text)
+          (c.as_str.ensures.value ∙ c.in_ok-name.ensures.text)
           ∙ ap (λ d. put (dotted source) d (members_view c.loop-source.members.entries))
           c.in_ok-value.ensures.json)
           l.written;
@@ -41,7 +41,7 @@ returns-clause-within c =
     let l = c.loop-source.invariant in
     let none = c.in-None.ensures.steps.0 in
     record {
-      few = c.len.ensures.few;
+      few = c.len-count.ensures.few;
       keys = l.keys (subst (λ (es : Entries). All IsAddress (keys_of es)) (sym none) (All-nil IsAddress));
       values = l.values (subst (λ (es : Entries). All IsScope (values_of es)) (sym none) (All-nil IsScope));
     }
