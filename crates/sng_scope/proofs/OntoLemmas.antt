@@ -1,7 +1,7 @@
 -- Members that are read one after another into entries in the order of their keys, and members that entries
 -- are written as: these are read as those entries.
-use Rattle.std.proofs.Common.{◌≡◌, ℕ, suc, ◌+◌, ◌≤◌, List, [], ◌∷◌, ◌++◌, length, Ordering, Less, Equal}
-use Rattle.std.proofs.Common.{Greater, nat_cmp, is_eq, Result, Ok, refl, sym, ap, ◌∙◌, arith, append-nil}
+use Rattle.std.proofs.Common.{◌≡◌, ℕ, ◌+◌, List, [], ◌∷◌, ◌++◌, Ordering, Less, Equal}
+use Rattle.std.proofs.Common.{Greater, nat_cmp, is_eq, Result, Ok, refl, sym, ap, ◌∙◌, append-nil}
 use Rattle.std.proofs.Common.{append_assoc}
 use Rattle.std.proofs.lemmas.Cmp.{tied_itself}
 use Rattle.std.proofs.lemmas.Map.Text.{is_eq-slice_cmp}
@@ -14,7 +14,6 @@ use Rattle.std.specs.List.Sorted.{IsStrictlySortedBy}
 use Rattle.std.specs.Map.{keys_of}
 use Rattle.std.specs.Ordering.{match_ordering}
 use Rattle.serde_json.specs.Data.{Data, Members, no_members, member, put}
-use Rattle.serde_json.specs.Events.{members_len}
 use Rattle.sng_scope.specs.Steps.{◌>>=◌}
 use Rattle.sng_scope.specs.Written.{with_members}
 use Rattle.sng_scope.specs.declared.fault.PolicyFault.{PolicyFault}

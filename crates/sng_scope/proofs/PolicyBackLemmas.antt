@@ -1,7 +1,7 @@
 -- A policy is read from what is written of it.
-use Rattle.std.proofs.Common.{◌≡◌, ℕ, suc, ◌+◌, ◌≤◌, ◌<◌, Bool, true, false, List, [], ◌∷◌, length, map}
-use Rattle.std.proofs.Common.{Ordering, Less, Equal, Greater, Option, Some, Result, Ok, Err, ok_or, All, cond}
-use Rattle.std.proofs.Common.{ltb, codes, nat_cmp, refl, sym, ap, ◌∙◌, arith}
+use Rattle.std.proofs.Common.{◌≡◌, ℕ, suc, ◌+◌, ◌≤◌, true, List, [], ◌∷◌, length}
+use Rattle.std.proofs.Common.{Ordering, Less, Equal, Greater, Some, Result, Ok, Err, ok_or, All}
+use Rattle.std.proofs.Common.{nat_cmp, refl, ap, ◌∙◌, arith}
 use Rattle.std.proofs.lemmas.Bool.{le-ltb}
 use Rattle.std.proofs.lemmas.Cmp.{nat_cmp_total, nat_list_cmp_total}
 use Rattle.std.proofs.lemmas.List.Elements.{All-head, All-tail}
@@ -19,20 +19,18 @@ use Rattle.sng_text.specs.Texts.{is_name}
 use Rattle.sng_grants.specs.Laws.{AreInOrder, AreIdsInOrder}
 use Rattle.sng_grants.specs.Scopes.{IsScope}
 use Rattle.sng_grants.specs.declared.limits.TheConstants.{MAX_POLICY_CLIENTS, MAX_SOURCES, MAX_TOPICS}
-use Rattle.sng_grants.specs.declared.policy.Policy.{Policy}
 use Rattle.sng_grants.specs.declared.scope.Pair.{Pair}
 use Rattle.sng_grants.specs.Topics.{IsTopicId}
-use Rattle.sng_scope.specs.Bounds.{AreWithin, IsPolicy}
-use Rattle.sng_scope.specs.Laws.{IsInOrder, PoliciesAreReadBack}
+use Rattle.sng_scope.specs.Bounds.{AreWithin}
+use Rattle.sng_scope.specs.Laws.{PoliciesAreReadBack}
 use Rattle.sng_scope.specs.Numerals.{topic_id_of}
 use Rattle.sng_scope.specs.Policies.{client_of, name_of_data, clients_onto, sources_onto, topics_onto}
-use Rattle.sng_scope.specs.Policies.{clients_of, sources_of, topics_of, members_within, policy_of_data}
+use Rattle.sng_scope.specs.Policies.{clients_of, sources_of, topics_of, members_within}
 use Rattle.sng_scope.specs.Steps.{◌>>=◌}
 use Rattle.sng_scope.specs.Texts.{scope_of_data}
 use Rattle.sng_scope.specs.Written.{scope_data, with_members, clients_data, dotted, sources_data, topics_data}
-use Rattle.sng_scope.specs.Written.{policy_data}
 use Rattle.sng_scope.specs.declared.fault.PolicyFault.{PolicyFault}
-use Rattle.sng_scope.specs.declared.fault.PolicyFault.TheVariants.{BadSource, BadTopicId, TooMany}
+use Rattle.sng_scope.specs.declared.fault.PolicyFault.TheVariants.{BadSource, BadTopicId}
 use Rattle.sng_scope.proofs.DottedLemmas.{dotted-read}
 use Rattle.sng_scope.proofs.LawLemmas.{topic_ids_are_decimal}
 use Rattle.sng_scope.proofs.OntoLemmas.{onto, reads, AreSaid}

@@ -3,13 +3,12 @@ use Rattle.std.proofs.Common.{◌≡◌, suc, Bool, true, false, cond, ltb, List
 use Rattle.std.proofs.Common.{All, ap, refl, ◌∙◌, arith, ℕ}
 use Rattle.std.proofs.lemmas.Bool.{le-ltb}
 use Rattle.std.proofs.lemmas.List.Elements.{All-head, All-tail}
-use Rattle.serde_json.specs.Data.{Data, array, Items, no_items, item}
 use Rattle.serde_json.specs.Events.{items_len}
 use Rattle.sng_text.specs.Texts.{is_filter}
 use Rattle.sng_grants.specs.Scopes.{IsScope}
 use Rattle.sng_grants.specs.declared.limits.TheConstants.{MAX_PAIRS}
 use Rattle.sng_grants.specs.declared.scope.Pair.{Pair}
-use Rattle.sng_scope.specs.Scopes.{pair_of, pairs_of, scope_of_items}
+use Rattle.sng_scope.specs.Scopes.{pair_of, pairs_of}
 use Rattle.sng_scope.specs.Steps.{◌>>=◌}
 use Rattle.sng_scope.specs.Texts.{scope_of_data}
 use Rattle.sng_scope.specs.Written.{pair_data, pairs_data, scope_data}

@@ -1,13 +1,13 @@
 -- What is written of a policy is shallow and has no float.
 use Rattle.std.proofs.Common.{◌≡◌, ℕ, ◌≤◌, max, Bool, true, false, ◌||◌, List, [], ◌∷◌, Ordering, Less, Equal}
-use Rattle.std.proofs.Common.{Greater, nat_cmp, refl, ap, ◌∙◌, arith}
+use Rattle.std.proofs.Common.{Greater, nat_cmp, refl, arith}
 use Rattle.std.specs.Cmp.Lexicographic.{slice_cmp}
 use Rattle.std.specs.Fmt.{decimal}
 use Rattle.std.specs.Ordering.{match_ordering}
 use Rattle.serde_json.specs.Data.{Data, string, Members, no_members, member, put, depth, items_depth}
 use Rattle.serde_json.specs.Data.{members_depth}
 use Rattle.serde_json.specs.Read.{max_depth}
-use Rattle.serde_json.specs.Written.{has_float, items_have_float, members_have_float}
+use Rattle.serde_json.specs.Written.{has_float, members_have_float}
 use Rattle.sng_grants.specs.declared.policy.Policy.{Policy}
 use Rattle.sng_grants.specs.declared.scope.Pair.{Pair}
 use Rattle.sng_scope.specs.Written.{pair_data, pairs_data, scope_data, with_members, dotted, policy_data}
