@@ -12,6 +12,9 @@ from live_room import Gateway
 from live_sessions import S1, SOURCE
 
 RUNNING = os.path.join(os.path.dirname(os.path.dirname(os.path.abspath(__file__))), 'docs', 'running.md')
+# The rows after which the book is cut at a beat of the clock, and messages of MQTT-SN.
+VOLUME_ROWS = 4096
+PINGREQ, PINGRESP = 0x16, 0x17
 CHECKS = ('sed -n ', 'grep -E ', 'sng check script')
 
 
@@ -206,5 +209,23 @@ def a_stop_under_load(room):
         flooding.join(SECONDS)
 
 
-ALONE = (rows_that_are_lawful, denials_are_told, a_stuck_standard_error, a_stuck_standard_output,
+def a_book_in_volumes(room):
+    """Under load the book is cut three times, at beats of a second: each row is printed once, by its number, as
+    it is made or as the gateway stops."""
+    for option, verbose in ((), True), (('--rows',), False):
+        gateway = room.gateway(free_port(), *option, connected=False, verbose=verbose, policy=S1)
+        device = room.device(gateway)
+        device.connect('s1')
+        for _ in range(3):
+            for _ in range(VOLUME_ROWS + 10):
+                device.send(PINGREQ)
+                device.receive(PINGRESP)
+            time.sleep(1.2)
+        rows = gateway.close()
+        wanted(rows > 3 * VOLUME_ROWS, 'three volumes, and not %d rows' % rows)
+        told = [line for line in gateway.lines['err'] if 'not printed' in line]
+        wanted(not told, 'all rows printed: %r' % told)
+
+
+ALONE = (rows_that_are_lawful, a_book_in_volumes, denials_are_told, a_stuck_standard_error, a_stuck_standard_output,
          an_output_that_fails_for_a_while, a_stop_under_load)

@@ -3,6 +3,7 @@
 
 mod acknowledgements;
 mod bare;
+mod comparing;
 mod connect;
 mod copying;
 pub mod fault;

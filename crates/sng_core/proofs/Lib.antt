@@ -46,3 +46,4 @@ pub mod StatingAsks
 pub mod StatingParts
 pub mod StatingRows
 pub mod RequestRows
+pub mod Crossing

@@ -7,6 +7,7 @@ mod answers;
 pub mod census;
 mod confirm;
 mod connection;
+pub mod copying;
 mod datagram;
 mod entry;
 mod filters;
@@ -31,5 +32,6 @@ mod unsubscribe;
 mod verdict;
 
 pub use census::Census;
+pub use copying::CoreCopy;
 pub use history::run;
 pub use machine::Core;

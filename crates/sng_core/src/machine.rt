@@ -5,6 +5,7 @@ ghost use Rattle.sng_history.specs.Lawful.{Keeps};
 ghost use Rattle.sng_core.specs.Census.{census_of};
 
 use crate::census::Census;
+use crate::copying::{CoreCopy, copy_of};
 use crate::parts::Parts;
 use sng_book::{Event, OutsPair};
 use std::alloc::{AllocError, Global};
@@ -57,5 +58,11 @@ impl Core {
         ensures { result ≡ census_of self.now }
     {
         self.parts.census()
+    }
+    /// An equal state, in memory for what this one holds. Only memory can fail.
+    pub fn copy(&self, alloc: Global) -> Result<CoreCopy, AllocError>
+        ensures { IfOk result (λ c. c ≡ self.now) }
+    {
+        copy_of(&self.parts, alloc)
     }
 }

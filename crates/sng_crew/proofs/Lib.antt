@@ -3,3 +3,4 @@ pub mod Writing
 pub mod Turns
 pub mod Feeding
 pub mod Places
+pub mod Joined

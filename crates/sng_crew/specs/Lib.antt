@@ -4,3 +4,4 @@ pub mod Wires
 pub mod Streaming
 pub mod Turning
 pub mod Running
+pub mod Volumes

@@ -6,6 +6,7 @@ mod answering;
 pub mod closing;
 pub mod connection;
 mod hearing;
+mod joining;
 pub mod laws;
 pub mod limits;
 pub mod memory;

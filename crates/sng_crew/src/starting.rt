@@ -205,7 +205,7 @@ pub fn start_upstream<
     Ok(handle)
 }
 
-/// Starts the worker at a clock.
+/// Starts the worker at a clock, which cuts the book at so many rows.
 pub fn start_ticker<
     's,
     E,
@@ -221,6 +221,7 @@ pub fn start_ticker<
     desk: &'s M,
     post: SendingPost<B, D>,
     gate: &'s G,
+    rows: u64,
     may_stop: bool,
 ) -> Result<PromisedHandle<WorkerEnd<B, D>, TickerPromise<B, D>>, NotStarted>
     requires { may_stop ≡ G.may_stop gate.now }
@@ -240,7 +241,7 @@ pub fn start_ticker<
         may_stop,
     };
     let Ok(handle) = scope.spawn_with(promise, move || {
-        ticker(rt, alloc, desk.desk(), share, source, sender, gate)
+        ticker(rt, alloc, desk.desk(), share, source, sender, gate, rows)
     }) else {
         return Err(halted(gate));
     };

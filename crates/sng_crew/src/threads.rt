@@ -46,6 +46,8 @@ pub struct Crew<D, U, B, P> {
     pub ticker: SendingPost<B, D>,
     /// The one at policies.
     pub policies: Post<P>,
+    /// After a beat of the clock the book is cut where its open volume has at least so many rows.
+    pub rows: u64,
 }
 
 /// What all workers left.
@@ -102,6 +104,7 @@ pub fn run_workers<
         upstream,
         ticker,
         policies,
+        rows,
     } = crew;
     thread::scope(
         thread::scope_env(),
@@ -123,7 +126,7 @@ pub fn run_workers<
         {
             let handles = start_all(scope, rt, alloc, desk, udp, gate, may_stop)?;
             let up = start_upstream(scope, rt, alloc, desk, upstream, terms, gate, may_stop)?;
-            let tick = start_ticker(scope, rt, alloc, desk, ticker, gate, may_stop)?;
+            let tick = start_ticker(scope, rt, alloc, desk, ticker, gate, rows, may_stop)?;
             let load = start_loader(scope, rt, alloc, desk, policies, gate, may_stop)?;
             let upstream = up.join(rt);
             let ticker = tick.join(rt);

@@ -171,6 +171,7 @@ pub fn upstream_worker<R: Wait, U: Upstream, D: Datagrams, G: Gate>(
                 share,
                 source: up,
                 sender: sink,
+                volumes: Vec::new(alloc),
                 fault,
             };
         }

@@ -3,23 +3,26 @@
 -- `Rattle.std.proofs.Crossing` and `sendable` of `denote.Param.Send`.
 use denote.Param.Send.{IsSend, struct_send, recorded_send, view_send, sendable}
 use denote.Struct.Declared.{shape}
-use Rattle.std.specs.contracts.snapshot.Snapshot as Snapshot
-use Rattle.std.proofs.Crossing.{crosses}
+use Rattle.std.specs.contracts.sync.Arc as Arc
+use Rattle.std.specs.contracts.alloc.Global as Heap
+use Rattle.std.specs.contracts.impls.GlobalAllocator.TheImpl.{ghosts}
+use Rattle.std.proofs.Crossing.{Arc-send}
 use Rattle.sng_book.proofs.book.Book.TheSendSync as book
-use Rattle.sng_core.specs.contracts.machine.Core as Core
-use Rattle.sng_desk.proofs.CoreCrossing.{core_send}
+use Rattle.sng_core.proofs.copying.CoreCopy.TheSendSync as copy
+use Rattle.sng_core.proofs.Crossing.{core_send}
+use Rattle.sng_core.specs.contracts.copying.CoreCopy as CoreCopy
 use Rattle.sng_desk.specs.contracts.desk.Desk as Desk
 use Rattle.sng_desk.specs.contracts.desk.Desk.TheInside as inside
 
-first_send : IsSend (Snapshot.the_row Core.the_row)
-first_send = search crosses depth 20
+opened_send : IsSend (Arc.the_row CoreCopy.the_row Heap.the_row ghosts)
+opened_send = Arc-send CoreCopy.the_row copy.the_send copy.the_sync
 
 fields_send : IsSend (inside.the_field).row
 fields_send = struct_send (shape inside.the_type) (
   search sendable,
   (
-    first_send,
-    (core_send, (book.the_send, (search sendable, tt))),
+    search sendable,
+    (opened_send, (core_send, (book.the_send, (search sendable, tt)))),
   ),
 )
 

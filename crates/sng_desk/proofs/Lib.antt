@@ -1,5 +1,4 @@
 pub mod Spanning
 pub mod Acting
 pub mod Going
-pub mod CoreCrossing
 pub mod Crossing

@@ -1,6 +1,7 @@
 //! What a turn of a worker leads to, and what a worker leaves.
 use crate::desk::Share;
 use crate::trail::Trail;
+use crate::volume::Volume;
 use thiserror::Error;
 
 /// Why a worker gave up.
@@ -40,6 +41,8 @@ pub struct WorkerEnd<S, D> {
     pub source: S,
     /// What it sent by; `NoSender` where that is its source, or it sends nothing.
     pub sender: D,
+    /// The volumes that it cut out, in order. Only the worker at a clock cuts.
+    pub volumes: Vec<Volume>,
     /// Why it gave up, where it did.
     pub fault: Option<WorkerFault>,
 }

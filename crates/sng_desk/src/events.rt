@@ -8,9 +8,13 @@ ghost use Rattle.sng_desk.specs.Acts.{Moves};
 ghost use Rattle.sng_desk.specs.Working.{given_by};
 ghost use Rattle.sng_desk.specs.Sources.{datagram_events, tick_events, replace_events};
 
+use crate::cutting::Cuts;
+use crate::desk::Desk;
+use crate::gate::Gate;
 use crate::source::{Beats, Datagrams, Got, Policies};
 use sng_book::{Address, Event};
 use sng_text::Octets;
+use std::sync::{Mutex, Wait};
 
 /// A source of events, and a way to send what comes of them.
 pub trait Source: Drop {
@@ -46,6 +50,12 @@ pub trait Source: Drop {
         ensures given { Moves tells gave self.old self.new [] }
         ensures passed { Moves told passed self.old self.new ((to, datagram.now) ∷ []) }
         ensures failures { failures self.new ≡ failures self.old };
+
+    /// What it does at the desk after an act, once what came of that was passed on.
+    fn tend<R: Wait, G: Gate>(&mut self, rt: &R, desk: &Mutex<Desk>, gate: &G, by: u16)
+        ensures given { Moves tells gave self.old self.new [] }
+        ensures passed { Moves told passed self.old self.new [] }
+        ensures failures { failures self.new ≡ failures self.old };
 }
 
 /// Datagrams, sent by what they came from.
@@ -79,13 +89,16 @@ impl<D: Datagrams> Source for Devices<D> {
     fn send(&mut self, to: Address, datagram: &Octets) {
         let _sent = self.datagrams.send(to, datagram);
     }
+
+    fn tend<R: Wait, G: Gate>(&mut self, _rt: &R, _desk: &Mutex<Desk>, _gate: &G, _by: u16) {}
 }
 
-/// Clock values, and datagrams to send by.
-#[derive(Debug, Drop)]
+/// Clock values, datagrams to send by, and the volumes that are cut at the beats.
+#[derive(Drop)]
 pub struct Clock<B, D> {
     pub beats: B,
     pub sender: D,
+    pub cuts: Cuts,
 }
 
 impl<B: Beats, D: Datagrams> Source for Clock<B, D> {
@@ -112,6 +125,10 @@ impl<B: Beats, D: Datagrams> Source for Clock<B, D> {
 
     fn send(&mut self, to: Address, datagram: &Octets) {
         let _sent = self.sender.send(to, datagram);
+    }
+
+    fn tend<R: Wait, G: Gate>(&mut self, rt: &R, desk: &Mutex<Desk>, gate: &G, by: u16) {
+        self.cuts.tend(rt, desk, gate, by);
     }
 }
 
@@ -144,4 +161,6 @@ impl<P: Policies> Source for Loader<P> {
     }
 
     fn send(&mut self, _to: Address, _datagram: &Octets) {}
+
+    fn tend<R: Wait, G: Gate>(&mut self, _rt: &R, _desk: &Mutex<Desk>, _gate: &G, _by: u16) {}
 }

@@ -4,6 +4,7 @@ ghost use Rattle.std.specs.Prelude.{◌≡◌, Bool, true, false};
 use crate::desk::Receipt;
 use crate::ending::WorkerFault;
 use crate::fault::ActFault;
+use crate::volume::Volume;
 
 /// What lets workers go on, and hears what comes of them. All workers share one, so each call but `stops`
 /// says by its first value which worker calls.
@@ -21,6 +22,9 @@ pub trait Gate {
 
     /// After each act, once the lock is free: what came of it.
     fn after(&self, by: u16, receipt: &Receipt);
+
+    /// After each cut, once the lock is free: the rows that left the desk.
+    fn cut(&self, by: u16, volume: &Volume);
 
     /// An act was refused, and why.
     fn refused(&self, by: u16, fault: ActFault);

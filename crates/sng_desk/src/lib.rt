@@ -1,6 +1,7 @@
-//! The locked desk: one gateway and one book, and a worker at a source of events.
+//! The locked desk: one gateway and one book, which is cut into volumes, and a worker at a source of events.
 #![tactic(auto)]
 
+pub mod cutting;
 pub mod desk;
 pub mod ending;
 mod events;
@@ -9,9 +10,11 @@ pub mod gate;
 pub mod hand;
 pub mod source;
 pub mod trail;
+pub mod volume;
 mod workers;
 mod working;
 
+pub use cutting::cut_when;
 pub use desk::{Desk, Draft, Receipt, Share, act_locked};
 pub use ending::{Next, NoSender, WorkerEnd, WorkerFault};
 pub use fault::{ActFault, NotActed};
@@ -19,4 +22,5 @@ pub use gate::Gate;
 pub use hand::Hand;
 pub use source::{Beats, Datagrams, Got, Policies};
 pub use trail::{Log, Refusal, Trail};
+pub use volume::{SharedRows, Volume};
 pub use workers::{policy_worker, ticker, udp_worker};

@@ -54,7 +54,7 @@ impl<S: Source> SourceWorker<S> {
         }
     }
 
-    /// Acts on an event, and sends what comes of it.
+    /// Acts on an event, sends what comes of it, and lets the source tend the desk.
     fn serve<R: Wait, G: Gate>(&mut self, rt: &R, desk: &Mutex<Desk>, gate: &G, event: Event)
         requires { 1 ≤ self.old.hand.log.spare }
         ensures { Served S.tells S.gave S.failures S.told S.passed event self.old.source
@@ -64,6 +64,7 @@ impl<S: Source> SourceWorker<S> {
         let from = self.hand.log.count();
         let _taken = self.hand.act(rt, desk, gate, event);
         send_all(&mut self.source, self.hand.log.receipts_from(from));
+        self.source.tend(rt, desk, gate, self.hand.log.by());
     }
 }
 

@@ -1,8 +1,9 @@
 //! One filter that stands for a client.
-ghost use Rattle.std.specs.Prelude.{◌≡◌};
+ghost use Rattle.std.specs.Prelude.{◌≡◌, IfOk};
 ghost use Rattle.sng_fan.specs.Subscriptions.{has_text};
 
-use sng_text::{Qos, TopicFilter};
+use sng_text::{Compare, Qos, TopicFilter};
+use std::alloc::AllocError;
 
 /// A filter that stands for a client.
 #[derive(Debug, Drop)]
@@ -18,5 +19,21 @@ impl Held {
         ensures { result ≡ has_text filter.now self.now }
     {
         self.filter.text() == filter.text()
+    }
+
+    /// An equal filter at the same QoS, in memory of its own. Only memory can fail.
+    pub fn copy(&self) -> Result<Held, AllocError>
+        ensures { IfOk result (λ held. held ≡ self.now) }
+    {
+        Ok(Held {
+            filter: self.filter.copy()?,
+            qos: self.qos,
+        })
+    }
+}
+
+impl Compare for Held {
+    fn same(&self, other: &Held) -> bool {
+        self.filter.same(&other.filter) && self.qos == other.qos
     }
 }

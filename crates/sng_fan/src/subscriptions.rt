@@ -13,7 +13,7 @@ use std::alloc::{AllocError, Global};
 use std::marker::Model;
 
 /// The filters that stand for one client, in order of first standing, each once. Room for as many as may
-/// stand is made once, so no later call takes memory. Contracts see the list.
+/// stand is made once, so no later call but `copy` takes memory. Contracts see the list.
 #[derive(Debug, Drop)]
 pub struct Subscriptions {
     held: Vec<Held>,
@@ -48,6 +48,17 @@ impl Subscriptions {
         ensures once { IsOneClients self.now }
     {
         self.held.as_slice()
+    }
+
+    /// The filters that stand, in memory of their own. Only memory can fail.
+    pub fn copy(&self) -> Result<Vec<Held>, AllocError>
+        ensures { IfOk result (λ held. held.items ≡ self.now) }
+    {
+        let mut copies = Vec::with_capacity(*self.held.allocator(), self.held.len())?;
+        for held in &self.held {
+            copies.push(held.copy()?)?;
+        }
+        Ok(copies)
     }
 
     /// Whether the filter stands.

@@ -1,10 +1,14 @@
 -- The topic names of predefined topic ids (MQTT-SN 1.2, 6.7), in the order of the ids.
-use Rattle.std.specs.Prelude.{ℕ, List, [], ◌∷◌, if◌then◌else◌, Some, None}
+use Rattle.std.specs.Prelude.{ℕ, ◌≤◌, List, [], ◌∷◌, if◌then◌else◌, Some, None}
 use Rattle.std.specs.declared.option.Option.{Option}
 use Rattle.std.specs.Ordering.{nat_cmp}
 use Rattle.std.specs.BTreeMap.{is_at, insert_entry}
 use Rattle.std.specs.Map.{lookup}
 use Rattle.std.specs.Str.{bytes_eq}
+
+-- neither of the two that are reserved (MQTT-SN 1.2, 5.3.11)
+abbrev pub IsTopicId : ℕ → Type 0
+IsTopicId id = (1 ≤ id) × (id ≤ 65534)
 
 -- the topic name of an id
 abbrev pub name_of : List (ℕ × List ℕ) → ℕ → Option (List ℕ)

@@ -2,6 +2,7 @@
 //! pairs of AIF-MQTT), and their look-ups. `sng_scope` reads them from texts.
 #![tactic(auto)]
 
+mod comparing;
 pub mod laws;
 pub mod limits;
 pub mod listed;

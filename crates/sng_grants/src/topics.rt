@@ -1,9 +1,11 @@
 //! Predefined topics, found by topic id and by name (MQTT-SN 1.2, 6.7).
-ghost use Rattle.std.specs.Prelude.{◌≡◌, ◌≤◌, ◌↔◌, ℕ, List, [], length, IsTrue, IfOk};
+ghost use Rattle.std.specs.Prelude.{◌≡◌, ◌≤◌, ◌↔◌, ℕ, List, [], length, All, IsTrue, IfOk};
 ghost use Rattle.std.specs.HashMap.{get};
+ghost use Rattle.std.specs.Map.{keys_of};
 ghost use Rattle.std.specs.Option.{option_copied};
 ghost use Rattle.std.specs.Str.{bytes_eq};
-ghost use Rattle.sng_grants.specs.Topics.{name_of, id_of};
+ghost use Rattle.sng_grants.specs.Laws.{AreIdsInOrder};
+ghost use Rattle.sng_grants.specs.Topics.{IsTopicId, name_of, id_of};
 
 use crate::{Listed, MAX_TOPICS};
 use sng_text::TopicName;
@@ -15,8 +17,8 @@ use std::marker::Model;
 /// Topic names by predefined topic id.
 pub type Names = Listed<u16, TopicName, MAX_TOPICS>;
 
-/// The topic name of each predefined topic id, with an index by name. Contracts see the list of ids with
-/// their names, in the order of the ids.
+/// The topic name of each predefined topic id, with an index by name. No id is one of the two that are
+/// reserved (MQTT-SN 1.2, 5.3.11). Contracts see the list of ids with their names, in the order of the ids.
 #[derive(Debug, Drop)]
 pub struct Topics {
     names: Names,
@@ -24,16 +26,18 @@ pub struct Topics {
 }
 
 impl Model for Topics {
-    ghost use Rattle.std.specs.Prelude.{List, ℕ, ◌≡◌};
+    ghost use Rattle.std.specs.Prelude.{List, ℕ, ◌≡◌, All};
     ghost use Rattle.std.specs.HashMap.{get};
+    ghost use Rattle.std.specs.Map.{keys_of};
     ghost use Rattle.std.specs.Str.{bytes_eq};
-    ghost use Rattle.sng_grants.specs.Topics.{id_of};
+    ghost use Rattle.sng_grants.specs.Topics.{IsTopicId, id_of};
 
     ghost Value = { List (ℕ × List ℕ) };
 
     ghost view = { λ t. t.names };
 
-    ghost invariant = { λ t. (name : List ℕ) → get bytes_eq t.ids name ≡ id_of t.names name };
+    ghost invariant = { λ t. All IsTopicId (keys_of t.names)
+        × ((name : List ℕ) → get bytes_eq t.ids name ≡ id_of t.names name) };
 }
 
 impl Topics {
@@ -47,8 +51,9 @@ impl Topics {
         }
     }
 
-    /// The topics with these names. Only memory can fail.
+    /// The topics with these names, of ids that are not reserved. Only memory can fail.
     pub fn of(alloc: Global, names: Names) -> Result<Topics, AllocError>
+        requires { All IsTopicId (keys_of names) }
         ensures { IfOk result (λ t. t ≡ names) }
     {
         let ids = ids_of(alloc, &names)?;
@@ -59,6 +64,8 @@ impl Topics {
     pub fn len(&self) -> usize
         ensures len { result ≡ length self.now }
         ensures few { length self.now ≤ MAX_TOPICS }
+        ensures ordered { AreIdsInOrder self.now }
+        ensures ids { All IsTopicId (keys_of self.now) }
     {
         self.names.len()
     }

@@ -1,2 +1,3 @@
+pub mod CopyLemmas
 pub mod IdLemmas
 pub mod NameLemmas

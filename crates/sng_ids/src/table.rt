@@ -7,6 +7,8 @@ ghost use Rattle.sng_ids.specs.declared.limits.TheConstants.{MAX_TOPIC_IDS};
 ghost use Rattle.sng_ids.specs.Ids.{id_for, place_of, is_full_for, with_name, confirmed, id_of, name_of};
 ghost use Rattle.sng_ids.specs.Ids.{taken_back};
 
+mod copying;
+
 use crate::{IdFault, MAX_TOPIC_IDS};
 use indexmap::IndexMap;
 use sng_text::TopicName;

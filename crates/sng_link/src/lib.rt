@@ -3,11 +3,13 @@
 #![tactic(auto)]
 
 mod again;
+pub mod copying;
 mod leaving;
 pub mod link;
 pub mod room;
 mod step;
 mod taking;
 
+pub use copying::LinkCopy;
 pub use link::Link;
 pub use room::Room;

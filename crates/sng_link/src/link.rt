@@ -13,6 +13,7 @@ ghost use Rattle.sng_wanted.specs.declared.limits.TheConstants.{MAX_WANTED};
 ghost use Rattle.sng_link.specs.Flights.{without_wanted};
 ghost use Rattle.sng_link.specs.Rooms.{room_of};
 
+use crate::LinkCopy;
 use crate::again::begin;
 use crate::room::Room;
 use crate::taking::take;
@@ -300,6 +301,18 @@ impl Link {
             &mut self.wanted,
         )?;
         Ok(outs)
+    }
+
+    /// What is kept of the link, in memory of its own for just that. Only memory can fail.
+    pub fn copy(&self, alloc: Global) -> Result<LinkCopy, AllocError>
+        ensures { IfOk result (λ c. c ≡ self.now) }
+    {
+        Ok(LinkCopy {
+            sending: self.outbox.copy(alloc)?,
+            last: self.ids.last(),
+            wanted: self.wanted.copy(alloc)?,
+            pinged: self.pinged,
+        })
     }
 }
 

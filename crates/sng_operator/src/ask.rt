@@ -44,6 +44,8 @@ pub struct Words<'a> {
     pub policy: Option<&'a str>,
     /// Rows are printed as they are made.
     pub is_verbose: bool,
+    /// All rows are printed as the gateway stops.
+    pub prints_rows: bool,
 }
 
 /// What the words ask for.
@@ -60,6 +62,7 @@ pub struct Ask {
     pub file: Option<String>,
     pub text: Option<Vec<u8>>,
     pub is_verbose: bool,
+    pub prints_rows: bool,
 }
 
 /// An option whose word is an address.
@@ -143,6 +146,7 @@ pub fn ask_of<'a, R: Files + AllocGlobal>(rt: &R, words: &Words<'a>) -> Result<A
         file,
         text,
         is_verbose: words.is_verbose,
+        prints_rows: words.prints_rows,
     })
 }
 

@@ -1,9 +1,10 @@
 //! What leaves for the broker (MQTT 3.1.1, 2.2.1).
-ghost use Rattle.std.specs.Prelude.{◌≡◌};
+ghost use Rattle.std.specs.Prelude.{◌≡◌, IfOk};
 ghost use Rattle.sng_outbox.specs.Sending.{is_publish, asks_for_ack};
 
 use crate::Origin;
 use sng_text::{Octets, Qos, TopicFilter, TopicName};
+use std::alloc::AllocError;
 
 /// A publish that was allowed when it was asked for. It is judged again as it leaves.
 #[derive(Debug, Drop)]
@@ -13,6 +14,21 @@ pub struct Publication {
     pub payload: Octets,
     pub qos: Qos,
     pub retain: bool,
+}
+
+impl Publication {
+    /// An equal publish, in memory of its own. Only memory can fail.
+    pub fn copy(&self) -> Result<Publication, AllocError>
+        ensures { IfOk result (λ p. p ≡ self.now) }
+    {
+        Ok(Publication {
+            origin: self.origin.copy()?,
+            name: self.name.copy()?,
+            payload: self.payload.copy()?,
+            qos: self.qos,
+            retain: self.retain,
+        })
+    }
 }
 
 /// What waits for the broker, a control packet each (MQTT 3.1.1, 2.2.1).
@@ -45,6 +61,19 @@ impl Item {
         match self {
             Item::Publish(publication) => publication.qos == Qos::AtLeastOnce,
             Item::Subscribe(_) | Item::Unsubscribe(_) | Item::Acknowledge(_) | Item::Ping => false,
+        }
+    }
+
+    /// An equal item, in memory of its own. Only memory can fail.
+    pub fn copy(&self) -> Result<Item, AllocError>
+        ensures { IfOk result (λ i. i ≡ self.now) }
+    {
+        match self {
+            Item::Publish(publication) => Ok(Item::Publish(publication.copy()?)),
+            Item::Subscribe(filter) => Ok(Item::Subscribe(filter.copy()?)),
+            Item::Unsubscribe(filter) => Ok(Item::Unsubscribe(filter.copy()?)),
+            Item::Acknowledge(packet_id) => Ok(Item::Acknowledge(*packet_id)),
+            Item::Ping => Ok(Item::Ping),
         }
     }
 }

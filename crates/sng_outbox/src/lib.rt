@@ -2,6 +2,8 @@
 //! 4.6).
 #![tactic(auto)]
 
+mod comparing;
+pub mod copying;
 pub mod in_flight;
 pub mod item;
 pub mod laws;
@@ -10,6 +12,7 @@ pub mod origin;
 pub mod outbox;
 pub mod packet_ids;
 
+pub use copying::OutboxCopy;
 pub use in_flight::InFlight;
 pub use item::{Item, Publication};
 pub use limits::{MAX_IN_FLIGHT, MAX_OUTBOX_ITEMS};

@@ -12,7 +12,7 @@ ghost use Rattle.sng_outbox.specs.declared.limits.TheConstants.{MAX_OUTBOX_ITEMS
 ghost use Rattle.sng_outbox.specs.Sending.{nothing, publishes, asks_for_ack, load, has_room, has_id};
 ghost use Rattle.sng_outbox.specs.Sending.{is_in_flight, without_first};
 
-use crate::{InFlight, Item, MAX_IN_FLIGHT, MAX_OUTBOX_ITEMS, Publication};
+use crate::{InFlight, Item, MAX_IN_FLIGHT, MAX_OUTBOX_ITEMS, OutboxCopy, Publication};
 use std::alloc::{AllocError, Global};
 use std::collections::VecDeque;
 use std::collections::vec_deque::Iter;
@@ -20,7 +20,7 @@ use std::marker::Model;
 
 /// The items that wait for the broker, the oldest first, and the publishes in flight, in the order of their
 /// sending. Of publishes of QoS 1 no more than `MAX_IN_FLIGHT` wait or are in flight. Room for all is made
-/// once, so no later call takes memory. Contracts see the two lists.
+/// once, so no later call but `copy` takes memory. Contracts see the two lists.
 #[derive(Debug, Drop)]
 pub struct Outbox {
     waiting: VecDeque<Item>,
@@ -208,6 +208,13 @@ impl Outbox {
         if place < self.in_flight.len() {
             let _forgotten = self.in_flight.remove(place);
         }
+    }
+
+    /// What waits and what is in flight, in memory of its own for just these. Only memory can fail.
+    pub fn copy(&self, alloc: Global) -> Result<OutboxCopy, AllocError>
+        ensures { IfOk result (λ c. c ≡ self.now) }
+    {
+        OutboxCopy::of(alloc, &self.waiting, &self.in_flight)
     }
 }
 

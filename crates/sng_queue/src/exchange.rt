@@ -1,8 +1,9 @@
 //! What was sent to a client and waits for its answer.
-ghost use Rattle.std.specs.Prelude.{◌≡◌, ◌<◌};
+ghost use Rattle.std.specs.Prelude.{◌≡◌, ◌<◌, IfOk};
 ghost use Rattle.sng_queue.specs.declared.limits.TheConstants.{MAX_TRIES};
 
 use crate::{TopicIdKind, Waiting};
+use std::alloc::AllocError;
 
 /// The frame of an exchange, as it was sent.
 #[derive(Clone, Copy, Debug, PartialEq, Eq)]
@@ -71,6 +72,18 @@ impl Exchange {
         match self {
             Exchange::Announcing(sending) => sending.repeat(clock),
             Exchange::Acknowledging(sending, _, _) => sending.repeat(clock),
+        }
+    }
+
+    /// An equal exchange, in memory of its own but for a payload, which the two share. Only memory can fail.
+    pub fn copy(&self) -> Result<Exchange, AllocError>
+        ensures { IfOk result (λ e. e ≡ self.now) }
+    {
+        match self {
+            Exchange::Announcing(sending) => Ok(Exchange::Announcing(*sending)),
+            Exchange::Acknowledging(sending, kind, message) => {
+                Ok(Exchange::Acknowledging(*sending, *kind, message.copy()?))
+            }
         }
     }
 }

@@ -8,14 +8,14 @@ ghost use Rattle.sng_queue.specs.Messages.{Message};
 ghost use Rattle.sng_queue.specs.Exchanges.{IsExchangeOn, repeat, MayRepeat};
 ghost use Rattle.sng_queue.specs.Buffers.{nothing, settled, settle, announce, await_ack};
 
-use crate::{Exchange, MAX_QUEUED, Sending, TopicIdKind, Waiting};
+use crate::{Exchange, MAX_QUEUED, QueueCopy, Sending, TopicIdKind, Waiting};
 use circular_buffer::{HeapCircularBuffer, Iter};
 use std::alloc::{AllocError, Global};
 use std::marker::Model;
 
 /// The messages that wait for a client, the oldest first, and at most one exchange: a topic id is announced
 /// for the front, or a message that left the front waits for its PUBACK. Room for all is made once, so no
-/// later call takes memory. Contracts see the list and the exchange.
+/// later call but `copy` takes memory. Contracts see the list and the exchange.
 #[derive(Debug, Drop)]
 pub struct Queue {
     waiting: HeapCircularBuffer<Waiting>,
@@ -168,5 +168,13 @@ impl Queue {
     {
         self.close();
         self.waiting.clear();
+    }
+
+    /// What waits and the open exchange, in memory of its own for just these but for the payloads, which the
+    /// two share. Only memory can fail.
+    pub fn copy(&self, alloc: Global) -> Result<QueueCopy, AllocError>
+        ensures { IfOk result (λ c. c ≡ self.now) }
+    {
+        QueueCopy::of(alloc, &self.waiting, &self.exchange)
     }
 }

@@ -1,15 +1,17 @@
 //! A message that waits for a client.
-ghost use Rattle.std.specs.Prelude.{◌≡◌, ◌≤◌, true, length};
+ghost use Rattle.std.specs.Prelude.{◌≡◌, ◌≤◌, true, length, IfOk};
 ghost use Rattle.sng_queue.specs.declared.limits.TheConstants.{MAX_WAITING_NAME, MAX_WAITING_PAYLOAD};
 ghost use Rattle.sng_queue.specs.Messages.{message, is_sendable};
 
 use crate::{MAX_WAITING_NAME, MAX_WAITING_PAYLOAD};
 use bytes::Bytes;
 use sng_text::{Qos, TopicName};
+use std::alloc::AllocError;
 use std::marker::Model;
 
 /// A message for one client, as it will be sent (MQTT-SN 1.2, 5.4.12): one datagram can carry its payload,
-/// and one its name. The payload is shared by all for whom the message waits. No call takes memory.
+/// and one its name. The payload is shared by all for whom the message waits. No call but
+/// `copy` takes memory.
 #[derive(Debug, Drop)]
 pub struct Waiting {
     name: TopicName,
@@ -78,5 +80,17 @@ impl Waiting {
         ensures { result ≡ self.now.retain }
     {
         self.retain
+    }
+
+    /// An equal message, in memory of its own but for the payload, which the two share. Only memory can fail.
+    pub fn copy(&self) -> Result<Waiting, AllocError>
+        ensures { IfOk result (λ w. w ≡ self.now) }
+    {
+        Ok(Waiting {
+            name: self.name.copy()?,
+            payload: self.payload.clone()?,
+            qos: self.qos,
+            retain: self.retain,
+        })
     }
 }

@@ -19,7 +19,7 @@ use Rattle.sng_scope.proofs.KeyLemmas.{client_of-client, ipv4_of-address, topic_
 use Rattle.sng_text.specs.Ipv4.{IsAddress, ipv4_of}
 use Rattle.sng_grants.specs.declared.limits.TheConstants.{MAX_POLICY_CLIENTS, MAX_PAIRS, MAX_SOURCES}
 use Rattle.sng_grants.specs.declared.limits.TheConstants.{MAX_TOPICS}
-use Rattle.sng_scope.specs.Bounds.{IsTopicId, AreWithin, IsPolicy, ScopesAreBounded, PoliciesAreBounded}
+use Rattle.sng_scope.specs.Bounds.{AreWithin, IsPolicy, ScopesAreBounded, PoliciesAreBounded}
 use Rattle.sng_grants.specs.Scopes.{IsScope}
 use Rattle.sng_scope.specs.Numerals.{topic_id_of}
 use Rattle.sng_scope.specs.Policies.{client_of, name_of_data, clients_onto, sources_onto, topics_onto}
@@ -28,7 +28,7 @@ use Rattle.sng_scope.specs.Policies.{parts_of, policy_of_data}
 use Rattle.sng_scope.specs.Scopes.{are_texts, are_permissions, pair_parts, pair_of, pairs_of, scope_of_items}
 use Rattle.sng_grants.specs.Sources.{with_scope}
 use Rattle.sng_scope.specs.Texts.{value_of, items_of_text, scope_of_encoded, scope_of_data}
-use Rattle.sng_grants.specs.Topics.{with_name}
+use Rattle.sng_grants.specs.Topics.{IsTopicId, with_name}
 use Rattle.sng_scope.specs.Steps.{◌>>=◌}
 use Rattle.sng_grants.specs.declared.scope.Pair.{Pair}
 use Rattle.sng_grants.specs.declared.policy.Policy.{Policy}

@@ -5,3 +5,10 @@ pub mod NumeralLemmas
 pub mod LawLemmas
 pub mod KeyLemmas
 pub mod BoundLemmas
+pub mod InsertLemmas
+pub mod OntoLemmas
+pub mod ScopeBackLemmas
+pub mod PolicyBackLemmas
+pub mod WriteLemmas
+pub mod ShapeLemmas
+pub mod DottedLemmas

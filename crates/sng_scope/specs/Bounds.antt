@@ -6,14 +6,11 @@ use Rattle.sng_text.specs.Ipv4.{IsAddress}
 use Rattle.sng_text.specs.Texts.{is_name}
 use Rattle.sng_grants.specs.declared.limits.TheConstants.{MAX_POLICY_CLIENTS, MAX_SOURCES, MAX_TOPICS}
 use Rattle.sng_grants.specs.Scopes.{IsScope}
+use Rattle.sng_grants.specs.Topics.{IsTopicId}
 use Rattle.sng_scope.specs.Policies.{policy_of}
 use Rattle.sng_scope.specs.Texts.{scope_of_text}
 use Rattle.sng_grants.specs.declared.scope.Pair.{Pair}
 use Rattle.sng_grants.specs.declared.policy.Policy.{Policy}
-
--- neither of the two that are reserved
-abbrev pub IsTopicId : ℕ → Type 0
-IsTopicId id = (1 ≤ id) × (id ≤ 65534)
 
 -- at most so many entries, each with a key and a value as they must be
 pub record AreWithin {K V : Type 0} (most : ℕ) (IsKey : K → Type 0) (IsValue : V → Type 0)

@@ -1,9 +1,25 @@
--- The law of topic ids as texts.
-use Rattle.std.specs.Prelude.{◌≡◌, ℕ, ◌≤◌, ◌↔◌, List, Some}
+-- The laws of topic ids as texts, and of policies as they are written.
+use Rattle.std.specs.Prelude.{◌≡◌, ℕ, ◌≤◌, ◌↔◌, List, Some, Ok}
 use Rattle.std.specs.Fmt.{decimal}
+use Rattle.sng_grants.specs.Laws.{AreInOrder, AreIdsInOrder}
+use Rattle.sng_grants.specs.declared.policy.Policy.{Policy}
+use Rattle.sng_scope.specs.Bounds.{IsPolicy}
 use Rattle.sng_scope.specs.Numerals.{topic_id_of}
+use Rattle.sng_scope.specs.Policies.{policy_of_data}
+use Rattle.sng_scope.specs.Written.{policy_data}
 
 -- a topic id's text is the number from 1 to 65534 in decimal: each such number has one text
 abbrev pub TopicIdsAreDecimal : Type 0
 TopicIdsAreDecimal =
     (text : List ℕ) (id : ℕ) → (topic_id_of text ≡ Some id) ↔ ((1 ≤ id) × (id ≤ 65534) × (text ≡ decimal id))
+
+-- the keys of each part are in order, and none stands twice
+pub record IsInOrder (policy : Policy) : Type 0 where
+  pub clients : AreInOrder policy.clients
+  pub sources : AreInOrder policy.sources
+  pub topics : AreIdsInOrder policy.topics
+
+-- what is written of a policy is read as this policy
+abbrev pub PoliciesAreReadBack : Type 0
+PoliciesAreReadBack =
+    (policy : Policy) → IsPolicy policy → IsInOrder policy → policy_of_data (policy_data policy) ≡ Ok policy

@@ -6,3 +6,4 @@ pub mod Texts
 pub mod Policies
 pub mod Bounds
 pub mod Laws
+pub mod Written

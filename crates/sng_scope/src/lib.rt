@@ -1,5 +1,5 @@
-//! Scopes and policies from their texts (RFC 9237, RFC 9431: the list of pairs of AIF-MQTT). What they are as
-//! values stands in `sng_grants`.
+//! Scopes and policies from their texts, and policies as texts (RFC 9237, RFC 9431: the list of pairs of
+//! AIF-MQTT). What they are as values stands in `sng_grants`.
 #![tactic(auto)]
 
 pub mod fault;
@@ -11,6 +11,7 @@ mod permissions;
 pub mod read;
 mod scope_form;
 mod topic_id;
+pub mod write;
 
 pub use fault::PolicyFault;
 pub use json_text::value_from;
@@ -20,3 +21,4 @@ pub use read::{read_policy, read_scope};
 pub use scope_form::bytes_from;
 pub use sng_grants::{Clients, Pair, Policy, Scope, Sources, Topics};
 pub use topic_id::topic_id_from;
+pub use write::write_policy;

@@ -3,6 +3,7 @@
 
 use crate::bell::Bell;
 use crate::board::Board;
+use crate::shelf::Shelf;
 use crate::tally::Tally;
 use crate::token::Token;
 use sng_bounds::answers::Answers;
@@ -47,6 +48,8 @@ pub struct Hub {
     pub passed_over: Tally,
     /// Datagrams that were passed over in a flood.
     pub flooded: Tally,
+    /// The rows that were cut out of the book, for whoever prints rows.
+    pub shelf: Shelf,
     /// Wakes the worker at the connection to the broker.
     pub upstream: Bell,
     /// Wakes the ticker.
@@ -62,6 +65,7 @@ impl Hub {
     pub fn new(
         answers: Answers,
         flood: Flood,
+        shelf: Shelf,
         upstream: Bell,
         clock: Bell,
         printer: Bell,
@@ -88,6 +92,7 @@ impl Hub {
             held_back: Tally::new(),
             passed_over: Tally::new(),
             flooded: Tally::new(),
+            shelf,
             upstream,
             clock,
             printer,

@@ -15,7 +15,9 @@ pub mod patient;
 mod policies;
 mod printing;
 mod reports;
+mod rows;
 pub mod serving;
+pub mod shelf;
 mod show_status;
 pub mod socket;
 mod streams;
@@ -29,7 +31,7 @@ mod watch;
 mod wire;
 mod writers;
 
-pub use limits::{FULL_ROWS, MAX_WORKERS, NEARLY_FULL_ROWS};
+pub use limits::{FULL_ROWS, MAX_WORKERS, NEARLY_FULL_ROWS, VOLUME_ROWS};
 pub use serving::serve;
 pub use sng_bounds::FloodLimits;
 pub use sng_operator::{End, Words};

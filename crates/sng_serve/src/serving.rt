@@ -12,6 +12,7 @@ use crate::opening::{Ears, NotBegun, ServingCrew, Shared, crew_of, make_shared, 
 use crate::patient::StandardInput;
 use crate::policies::OperatorPolicies;
 use crate::printing::{Printed, start_printer};
+use crate::rows::print_all;
 use crate::socket::Socket;
 use crate::switch::Switch;
 use crate::tell::tell;
@@ -193,10 +194,12 @@ where
     let beginning = begin_first(rt, hub, &mut desk, &mut shares, &ask)?;
     tell_open(hub, socket);
     let gate = Switch::new(rt, hub, Roles::new(ask.workers));
+    let prints_rows = ask.prints_rows;
     let (crew, terms) = crew_of(rt, hub, ask, shares, socket, ears)?;
     let desk = Mutex::new(desk);
     let (ran, printed) = run_crew(rt, hub, &desk, crew, &terms, &gate, printer);
-    Ok(finish(rt, hub, desk.into_inner(), beginning, ran, printed))
+    let desk = desk.into_inner();
+    Ok(finish(rt, hub, desk, beginning, ran, printed, prints_rows))
 }
 
 /// Runs the workers at the socket, the broker, the clock and standard input. Here stands that each of them
@@ -271,6 +274,7 @@ fn run<
         upstream,
         ticker,
         policies,
+        rows,
     } = crew;
     thread::scope(thread::scope_env(), rt, |scope| {
         let Some(printer) = start_printer(scope, rt, desk, hub, ear) else {
@@ -281,6 +285,7 @@ fn run<
             upstream,
             ticker,
             policies,
+            rows,
         };
         let ran = run_workers(rt, rt.alloc(), desk, crew, terms, gate);
         hub.end();
@@ -288,8 +293,8 @@ fn run<
     })
 }
 
-/// Holds what the workers left against the book, and prints what comes of it. Where standard input could not
-/// be read, nothing is printed.
+/// Holds what the workers left against the book, and prints what comes of it, behind its rows where they were
+/// asked for. Where standard input could not be read, nothing is printed.
 fn finish<R: Clock + Net + Wait + Files + Input + Print + Eprint + AllocGlobal>(
     rt: &R,
     hub: &Hub,
@@ -297,6 +302,7 @@ fn finish<R: Clock + Net + Wait + Files + Input + Print + Eprint + AllocGlobal>(
     beginning: Beginning,
     ran: Result<Left<'_, R>, NotStarted>,
     printed: Printed,
+    prints_rows: bool,
 ) -> End {
     let Ok(ended) = ran else {
         hub.tell("a thread was refused: a limit of processes, or memory");
@@ -309,7 +315,17 @@ fn finish<R: Clock + Net + Wait + Files + Input + Print + Eprint + AllocGlobal>(
     if lost_input {
         return End::from(Status::Failed);
     }
-    let status = tell_closed(rt, hub, accounts.close(desk), printed);
+    let closed = accounts.close(desk);
+    let printed = match &closed {
+        Some(closed) if prints_rows => printed.and_left(print_all(rt, hub, closed)),
+        _ => printed,
+    };
+    let status = tell_closed(
+        rt,
+        hub,
+        closed.map(|closed| closed.desk.rows_made()),
+        printed,
+    );
     match (status, hub.halt()) {
         (Status::Done, Some(why)) => End::Halted(why),
         (status, _) => End::from(status),
@@ -340,7 +356,7 @@ fn accounts_of<R: Clock + Net + Wait + Files + Input + Print + Eprint + AllocGlo
 fn tell_closed<R: Clock + AllocGlobal>(
     rt: &R,
     hub: &Hub,
-    rows: Option<usize>,
+    rows: Option<u64>,
     printed: Printed,
 ) -> Status {
     let status = match rows {
@@ -368,7 +384,7 @@ fn tell_closed<R: Clock + AllocGlobal>(
 }
 
 /// The last line.
-fn closing_line(alloc: Global, rows: Option<usize>) -> Result<String, AllocError> {
+fn closing_line(alloc: Global, rows: Option<u64>) -> Result<String, AllocError> {
     match rows {
         Some(count) => format!(in alloc; "closed {count} rows\n"),
         None => format!(in alloc; "not closed\n"),

@@ -1,5 +1,5 @@
 //! `status`: the desk is held while it is counted, and the lines are posted when it is free again.
-ghost use Rattle.std.specs.Prelude.{◌≡◌, length};
+ghost use Rattle.std.specs.Prelude.{◌≡◌, ◌+◌, length};
 ghost use Rattle.sng_core.specs.Census.{census_of};
 
 use crate::hub::Hub;
@@ -21,12 +21,12 @@ pub fn show_status<R: Wait + AllocGlobal>(rt: &R, hub: &Hub, desk: &Mutex<Desk>)
 /// How the gateway stands now. It takes no memory, and one walk over the clients.
 pub fn overview_of(desk: &Desk) -> Overview
     ensures census { result.census ≡ census_of desk.now.state }
-    ensures rows { result.rows ≡ length desk.now.rows }
+    ensures rows { result.rows ≡ desk.now.before + length desk.now.rows }
     ensures limit { result.limit ≡ desk.now.limit }
 {
     Overview {
         census: desk.census(),
-        rows: desk.book().len() as u64,
+        rows: desk.rows_made(),
         limit: desk.limit(),
     }
 }

@@ -7,7 +7,7 @@ use crate::limits::{FULL_ROWS, NEARLY_FULL_ROWS};
 use crate::socket::second_of;
 use crate::tally::Tally;
 use sng_book::Event;
-use sng_desk::{ActFault, Gate, Receipt, WorkerFault};
+use sng_desk::{ActFault, Gate, Receipt, Volume, WorkerFault};
 use sng_operator::denials::denies_all;
 use sng_operator::ends::Halt;
 use sng_operator::roles::{Role, Roles};
@@ -136,6 +136,11 @@ impl<'a, R: Clock + Wait> Gate for Switch<'a, R> {
 
     fn stops(&self) -> bool {
         true
+    }
+
+    fn cut(&self, _by: u16, volume: &Volume) {
+        let _placed = self.hub.shelf.put(self.rt, volume);
+        self.hub.printer.ring();
     }
 
     fn refused(&self, by: u16, fault: ActFault) {

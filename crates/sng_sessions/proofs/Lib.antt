@@ -12,3 +12,4 @@ mod Moves
 mod There
 mod WillLemmas
 mod SleepLemmas
+pub mod Crossing

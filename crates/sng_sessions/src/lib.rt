@@ -3,6 +3,7 @@
 //! and the tree of filters, so that a name finds who is due its messages.
 #![tactic(auto)]
 
+pub mod copying;
 pub mod handing;
 pub mod ids;
 mod places;
@@ -12,6 +13,7 @@ pub mod sleeping;
 mod subscribing;
 pub mod wills;
 
+pub use copying::{ClientCopy, SessionsCopy};
 pub use handing::{Handed, Opens, number_after};
 pub use sessions::Sessions;
 pub use sleeping::{Change, is_tried_out, is_unanswered};

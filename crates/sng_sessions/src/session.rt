@@ -8,6 +8,7 @@ use sng_book::Address;
 use sng_fan::subscriptions::Subscriptions;
 use sng_queue::Queue;
 use sng_states::{ClientState, overdue};
+use sng_text::Compare;
 use sng_wills::WillDialogue;
 
 /// Where a client is, and how it stands with the gateway.
@@ -30,6 +31,15 @@ impl Presence {
         ensures { result ≡ (has_session self.now.phase && overdue self.now.duration self.now.heard clock) }
     {
         self.phase.has_session() && overdue(self.duration, self.heard, clock)
+    }
+}
+
+impl Compare for Presence {
+    fn same(&self, other: &Presence) -> bool {
+        self.address == other.address
+            && self.phase == other.phase
+            && self.duration == other.duration
+            && self.heard == other.heard
     }
 }
 

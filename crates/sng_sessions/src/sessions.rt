@@ -18,6 +18,7 @@ ghost use Rattle.sng_sessions.specs.Handed.{delivered, handed_by, answered};
 ghost use Rattle.sng_sessions.specs.Sleeping.{changed};
 ghost use Rattle.sng_sessions.specs.Willing.{stating_at};
 
+use crate::copying::SessionsCopy;
 use crate::handing::{Handed, Opens, answer_at, deliver_at, hand_at};
 use crate::ids::ClientIds;
 use crate::places::{admit, hear_at, leave_at, lose_at, readmit, tell_at, tell_if};
@@ -75,6 +76,14 @@ impl Sessions {
             places: IndexMap::new(alloc),
             standing: Standing::new(alloc),
         }
+    }
+
+    /// The clients as they are now, in memory of their own for just these but for the payloads that wait,
+    /// which the two share. Only memory can fail.
+    pub fn copy(&self, alloc: Global) -> Result<SessionsCopy, AllocError>
+        ensures { IfOk result (λ copy. copy ≡ self.now) }
+    {
+        SessionsCopy::of(alloc, &self.clients)
     }
 
     /// How many clients there are. Takes no memory.

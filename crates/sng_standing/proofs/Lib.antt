@@ -14,3 +14,4 @@ pub mod Moved
 pub mod Parts
 pub mod Reserved
 pub mod Walked
+pub mod Crossing

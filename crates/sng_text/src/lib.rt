@@ -6,6 +6,7 @@
 pub mod bytes;
 pub mod client;
 pub mod common;
+pub mod comparing;
 pub mod fault;
 pub mod filter;
 pub mod ipv4;
@@ -21,6 +22,7 @@ mod reading;
 
 pub use client::ClientId;
 pub use common::past_common;
+pub use comparing::{Compare, all_same, entries_same};
 pub use fault::{RefusedText, TextFault};
 pub use filter::TopicFilter;
 pub use ipv4::read_ipv4;

@@ -326,6 +326,13 @@ pub texts_more : (all : List (List ℕ)) (copies : List (List ℕ)) (k : List �
 texts_more all copies k Ended es is = rw (append-nil copies) is
 texts_more all copies k (Stands o) es is = append_assoc copies (k ∷ []) (texts_shown es) ∙ is
 
+-- those that stand, of which one more is copied
+pub copied_more : (all copies : List Wanted) (k : List ℕ) (w : Want) (es : List Entry)
+    → copies ++ shown ((k, w) ∷ es) ≡ all → (copies ++ shown ((k, w) ∷ [])) ++ shown es ≡ all
+copied_more all copies k Ended es is = rw (append-nil copies) is
+copied_more all copies k (Stands o) es is =
+    append_assoc copies (record { filter = k; open_id = o } ∷ []) (shown es) ∙ is
+
 pub drop_all : (es : List Entry) → drop (length es) es ≡ []
 drop_all [] = refl
 drop_all (e ∷ es) = drop_all es

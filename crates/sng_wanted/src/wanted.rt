@@ -9,6 +9,7 @@ ghost use Rattle.sng_history.specs.Packets.{filter_open};
 ghost use Rattle.sng_wanted.specs.Filters.{without_wanted, reopened, id_for, IsFree};
 ghost use Rattle.sng_wanted.specs.Shown.{shown};
 
+use crate::WantedCopy;
 use crate::places::{ROOM, change, make_room, place_open, standing};
 use crate::want::Want;
 use indexmap::IndexMap;
@@ -21,8 +22,8 @@ const NUMBERS: usize = 65_536;
 
 /// The filters that stand for anybody, in order of first standing, each with the packet id of its open
 /// SUBSCRIBE. Found by filter and by packet id in one look-up each. Room for `MAX_WANTED` is made once, so no
-/// later call takes memory. One that ends stays where it is, and is swept out later. Contracts see those that
-/// stand.
+/// later call but `filters` and `copy` takes memory. One that ends stays where it is, and is swept out later.
+/// Contracts see those that stand.
 #[derive(Drop)]
 pub struct Wanted {
     filters: IndexMap<TopicFilter, Want>,
@@ -171,6 +172,14 @@ impl Wanted {
             copy_standing(&mut filters, filter, *want)?;
         }
         Ok(filters)
+    }
+
+    /// The filters that stand, in order, each with the packet id of its open SUBSCRIBE, in memory of its own
+    /// for just these. Only memory can fail.
+    pub fn copy(&self, alloc: Global) -> Result<WantedCopy, AllocError>
+        ensures { IfOk result (λ c. c ≡ self.now) }
+    {
+        WantedCopy::of(alloc, &self.filters, self.count)
     }
 }
 

@@ -1,19 +1,19 @@
 //! The dialogue about a client's will, and its will (MQTT-SN 1.2, 6.2: WILLTOPICREQ, WILLTOPIC, WILLMSGREQ,
 //! WILLMSG; 6.4: WILLTOPICUPD and WILLMSGUPD).
-ghost use Rattle.std.specs.Prelude.{◌≡◌, None, unwrap_or};
+ghost use Rattle.std.specs.Prelude.{◌≡◌, None, unwrap_or, IfOk};
 ghost use Rattle.std.specs.Option.{option_copied};
 ghost use Rattle.sng_wills.specs.declared.will.Stage.TheVariants.{Closed, TopicAwaited};
 ghost use Rattle.sng_wills.specs.Wills.{stated_topic, after_topic, after_message, after_topic_update};
 ghost use Rattle.sng_wills.specs.Wills.{after_message_update, answer};
 
 use crate::{Stage, StatedTopic, Will, WillFault};
-use sng_text::{Octets, Qos, TopicName};
-use std::alloc::Global;
+use sng_text::{Compare, Octets, Qos, TopicName};
+use std::alloc::{AllocError, Global};
 use std::marker::Model;
 use std::mem;
 
 /// A client's will, where it has one, and how far the dialogue about it has come. Contracts see the two. No
-/// call takes memory.
+/// call but `copy` takes memory.
 #[derive(Debug, Drop)]
 pub struct WillDialogue {
     stage: Stage,
@@ -39,6 +39,21 @@ impl WillDialogue {
             will: None,
             alloc,
         }
+    }
+
+    /// An equal dialogue and will, in memory of their own. Only memory can fail.
+    pub fn copy(&self) -> Result<WillDialogue, AllocError>
+        ensures { IfOk result (λ wills. wills ≡ self.now) }
+    {
+        let will = match &self.will {
+            None => None,
+            Some(will) => Some(will.copy()?),
+        };
+        Ok(WillDialogue {
+            stage: self.stage.copy()?,
+            will,
+            alloc: self.alloc,
+        })
     }
 
     /// Opens a dialogue, in place of one that is open. The will stays.
@@ -166,5 +181,11 @@ impl WillDialogue {
             }
             _ => Err(WillFault::OutOfTurn(payload)),
         }
+    }
+}
+
+impl Compare for WillDialogue {
+    fn same(&self, other: &WillDialogue) -> bool {
+        self.stage.same(&other.stage) && self.will.same(&other.will)
     }
 }

@@ -65,7 +65,12 @@ fn with_policy<'a>(alloc: Global, command: Command<'a>) -> Result<Command<'a>, A
         .long("verbose")
         .help("Prints rows as they are made")
         .action(ArgAction::SetTrue);
-    command.arg(verbose)
+    let command = command.arg(verbose)?;
+    let rows = Arg::new(alloc, "rows")
+        .long("rows")
+        .help("Prints all rows as the gateway stops")
+        .action(ArgAction::SetTrue);
+    command.arg(rows)
 }
 
 /// The command with the options that say what is passed over in a flood.
@@ -95,6 +100,7 @@ pub fn serve_words<'a>(matches: &ArgMatches<'a>) -> Words<'a> {
         flood: flood_limits(matches),
         policy: matches.get_str("FILE"),
         is_verbose: matches.get_flag("verbose"),
+        prints_rows: matches.get_flag("rows"),
     }
 }
 

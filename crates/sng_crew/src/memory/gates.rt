@@ -1,7 +1,7 @@
 //! A gate that lets all through.
 ghost use Rattle.std.specs.Prelude.{false};
 
-use sng_desk::{ActFault, Gate, Receipt, WorkerFault};
+use sng_desk::{ActFault, Gate, Receipt, Volume, WorkerFault};
 
 /// A gate that is always open.
 #[derive(Debug, Drop)]
@@ -19,6 +19,8 @@ impl Gate for OpenGate {
     }
 
     fn after(&self, _by: u16, _receipt: &Receipt) {}
+
+    fn cut(&self, _by: u16, _volume: &Volume) {}
 
     fn refused(&self, _by: u16, _fault: ActFault) {}
 

@@ -24,6 +24,7 @@ pub fn topics_in(alloc: Global, policy: &Value) -> Result<Topics, PolicyFault>
     }
 }
 
+#[tactic(auto, using(crate::proofs::KeyLemmas::ids_more))]
 fn topics_of(alloc: Global, members: &Map<String, Value>) -> Result<Topics, PolicyFault>
     requires { length members.now.entries ≤ MAX_TOPICS }
     ensures ok { IfOk result (λ t. topics_onto [] (members_view members.now.entries) ≡ Ok t) }

@@ -1,0 +1,184 @@
+-- A policy is read from what is written of it.
+use Rattle.std.proofs.Common.{◌≡◌, ℕ, suc, ◌+◌, ◌≤◌, true, List, [], ◌∷◌, length}
+use Rattle.std.proofs.Common.{Ordering, Less, Equal, Greater, Some, Result, Ok, Err, ok_or, All}
+use Rattle.std.proofs.Common.{nat_cmp, refl, ap, ◌∙◌, arith}
+use Rattle.std.proofs.lemmas.Bool.{le-ltb}
+use Rattle.std.proofs.lemmas.Cmp.{nat_cmp_total, nat_list_cmp_total}
+use Rattle.std.proofs.lemmas.List.Elements.{All-head, All-tail}
+use Rattle.std.specs.BTreeMap.{insert_entry}
+use Rattle.std.specs.Cmp.{IsTotalOrder}
+use Rattle.std.specs.Cmp.Lexicographic.{slice_cmp}
+use Rattle.std.specs.Fmt.{decimal}
+use Rattle.std.specs.Map.{keys_of, values_of}
+use Rattle.std.specs.Ordering.{match_ordering}
+use Rattle.serde_json.specs.Data.{Data, string, Members, no_members, member, object, put}
+use Rattle.serde_json.specs.Events.{members_len}
+use Rattle.sng_text.specs.ClientIds.{is_client_id}
+use Rattle.sng_text.specs.Ipv4.{IsAddress, ipv4_of}
+use Rattle.sng_text.specs.Texts.{is_name}
+use Rattle.sng_grants.specs.Laws.{AreInOrder, AreIdsInOrder}
+use Rattle.sng_grants.specs.Scopes.{IsScope}
+use Rattle.sng_grants.specs.declared.limits.TheConstants.{MAX_POLICY_CLIENTS, MAX_SOURCES, MAX_TOPICS}
+use Rattle.sng_grants.specs.declared.scope.Pair.{Pair}
+use Rattle.sng_grants.specs.Topics.{IsTopicId}
+use Rattle.sng_scope.specs.Bounds.{AreWithin}
+use Rattle.sng_scope.specs.Laws.{PoliciesAreReadBack}
+use Rattle.sng_scope.specs.Numerals.{topic_id_of}
+use Rattle.sng_scope.specs.Policies.{client_of, name_of_data, clients_onto, sources_onto, topics_onto}
+use Rattle.sng_scope.specs.Policies.{clients_of, sources_of, topics_of, members_within}
+use Rattle.sng_scope.specs.Steps.{◌>>=◌}
+use Rattle.sng_scope.specs.Texts.{scope_of_data}
+use Rattle.sng_scope.specs.Written.{scope_data, with_members, clients_data, dotted, sources_data, topics_data}
+use Rattle.sng_scope.specs.declared.fault.PolicyFault.{PolicyFault}
+use Rattle.sng_scope.specs.declared.fault.PolicyFault.TheVariants.{BadSource, BadTopicId}
+use Rattle.sng_scope.proofs.DottedLemmas.{dotted-read}
+use Rattle.sng_scope.proofs.LawLemmas.{topic_ids_are_decimal}
+use Rattle.sng_scope.proofs.OntoLemmas.{onto, reads, AreSaid}
+use Rattle.sng_scope.proofs.ScopeBackLemmas.{scope-read}
+
+-- ---- the members of clients, sources and topics are taken in one way
+
+same_steps : {A B E : Type 0} (r : Result A E) (f g : A → Result B E) → ((a : A) → f a ≡ g a)
+    → (r >>= f) ≡ (r >>= g)
+same_steps (Ok a) f g same = same a
+same_steps (Err e) f g same = refl
+
+abbrev by_bytes : List ℕ → List ℕ → Ordering
+by_bytes = slice_cmp nat_cmp
+
+abbrev source_of : List ℕ → Result (List ℕ) PolicyFault
+source_of name = ok_or (ipv4_of name) BadSource
+
+abbrev id_from : List ℕ → Result ℕ PolicyFault
+id_from name = ok_or (topic_id_of name) BadTopicId
+
+clients-onto : (ms : Members) (found : List (List ℕ × List Pair))
+    → clients_onto found ms ≡ onto by_bytes client_of scope_of_data found ms
+clients-onto no_members found = refl
+clients-onto (member name d ms) found =
+    same_steps (client_of name) _ _ (λ client. same_steps (scope_of_data d) _ _
+    (λ scope. clients-onto ms (insert_entry by_bytes found client scope)))
+
+sources-onto : (ms : Members) (found : List (List ℕ × List Pair))
+    → sources_onto found ms ≡ onto by_bytes source_of scope_of_data found ms
+sources-onto no_members found = refl
+sources-onto (member name d ms) found =
+    same_steps (source_of name) _ _ (λ source. same_steps (scope_of_data d) _ _
+    (λ scope. sources-onto ms (insert_entry by_bytes found source scope)))
+
+topics-onto : (ms : Members) (found : List (ℕ × List ℕ))
+    → topics_onto found ms ≡ onto nat_cmp id_from name_of_data found ms
+topics-onto no_members found = refl
+topics-onto (member name d ms) found =
+    same_steps (id_from name) _ _ (λ id. same_steps (name_of_data d) _ _
+    (λ topic. topics-onto ms (insert_entry nat_cmp found id topic)))
+
+-- ---- how many members are written
+
+put-few_at : (o : Ordering) (n l : List ℕ) (d e : Data) (ms later : Members)
+    → members_len later ≤ suc (members_len ms)
+    → members_len (match_ordering o (member n d (member l e ms)) (member l d ms) (member l e later))
+    ≤ suc (suc (members_len ms))
+put-few_at Less n l d e ms later few = omega arith
+put-few_at Equal n l d e ms later few = omega arith
+put-few_at Greater n l d e ms later few = omega arith
+
+put-few : (n : List ℕ) (d : Data) (ms : Members) → members_len (put n d ms) ≤ suc (members_len ms)
+put-few n d no_members = omega arith
+put-few n d (member l e ms) =
+    put-few_at (slice_cmp nat_cmp n l) n l d e ms (put n d ms) (put-few n d ms)
+
+with-few : {K V : Type 0} (name : K → List ℕ) (value : V → Data) (es : List (K × V)) (ms : Members)
+    → members_len (with_members name value ms es) ≤ members_len ms + length es
+with-few name value [] ms = omega arith
+with-few name value (e ∷ es) ms =
+    let one = put-few (name e.0) (value e.1) ms in
+    let more = with-few name value es (put (name e.0) (value e.1) ms) in
+    omega arith
+
+within : (most : ℕ) (ms : Members) → members_len ms ≤ most → members_within most (object ms) ≡ Ok ms
+within most ms few = rw (le-ltb most (members_len ms) few) refl
+
+-- ---- each part
+
+client-read : (client : List ℕ) → is_client_id client ≡ true → client_of client ≡ Ok client
+client-read client is = rw is refl
+
+source-read : (source : List ℕ) → IsAddress source → source_of (dotted source) ≡ Ok source
+source-read source is =
+    ap (λ o. ok_or o BadSource) (dotted-read source is)
+
+id-read : (id : ℕ) → IsTopicId id → id_from (decimal id) ≡ Ok id
+id-read id is =
+    ap (λ o. ok_or o BadTopicId) ((topic_ids_are_decimal (decimal id) id).1 (is.0, is.1, refl))
+
+name-read : (name : List ℕ) → is_name name ≡ true → name_of_data (string name) ≡ Ok name
+name-read name is = rw is refl
+
+said : {K V : Type 0} (R : K → K → Ordering) (key : List ℕ → Result K PolicyFault)
+    (value : Data → Result V PolicyFault) (name : K → List ℕ) (data_of : V → Data) → (total : IsTotalOrder R)
+    → (P : K → Type 0) (Q : V → Type 0) → ((k : K) → P k → key (name k) ≡ Ok k)
+    → ((v : V) → Q v → value (data_of v) ≡ Ok v) → (es : List (K × V)) → All P (keys_of es)
+    → All Q (values_of es) → AreSaid R total key value name data_of es
+said R key value name data_of total P Q keys values [] ks vs = tt
+said R key value name data_of total P Q keys values (e ∷ es) ks vs = (
+  keys e.0 (All-head P e.0 (keys_of es) ks),
+  values e.1 (All-head Q e.1 (values_of es) vs),
+  said R key value name data_of total P Q keys values es (All-tail P e.0 (keys_of es) ks)
+      (All-tail Q e.1 (values_of es) vs),
+)
+
+clients-read : (clients : List (List ℕ × List Pair))
+    → AreWithin MAX_POLICY_CLIENTS (λ client. is_client_id client ≡ true) IsScope clients
+    → AreInOrder clients → clients_of (Some (clients_data clients)) ≡ Ok clients
+clients-read clients are sorted =
+    let ms = with_members (λ (client : List ℕ). client) scope_data no_members clients in
+    let few = with-few (λ (client : List ℕ). client) scope_data clients no_members in
+    ap (λ r. r >>= clients_onto []) (within MAX_POLICY_CLIENTS ms (omega (arith, are.few)))
+    ∙ clients-onto ms []
+    ∙ reads by_bytes nat_list_cmp_total client_of scope_of_data (λ client. client) scope_data clients
+    (said by_bytes client_of scope_of_data (λ client. client) scope_data nat_list_cmp_total _ IsScope
+    client-read scope-read clients are.keys are.values)
+    sorted
+
+sources-read : (sources : List (List ℕ × List Pair)) → AreWithin MAX_SOURCES IsAddress IsScope sources
+    → AreInOrder sources → sources_of (Some (sources_data sources)) ≡ Ok sources
+sources-read sources are sorted =
+    let ms = with_members dotted scope_data no_members sources in
+    let few = with-few dotted scope_data sources no_members in
+    ap (λ r. r >>= sources_onto []) (within MAX_SOURCES ms (omega (arith, are.few)))
+    ∙ sources-onto ms []
+    ∙ reads by_bytes nat_list_cmp_total source_of scope_of_data dotted scope_data sources
+    (said by_bytes source_of scope_of_data dotted scope_data nat_list_cmp_total IsAddress IsScope source-read
+    scope-read sources are.keys are.values)
+    sorted
+
+topics-read : (topics : List (ℕ × List ℕ))
+    → AreWithin MAX_TOPICS IsTopicId (λ name. is_name name ≡ true) topics → AreIdsInOrder topics
+    → topics_of (Some (topics_data topics)) ≡ Ok topics
+topics-read topics are sorted =
+    let ms = with_members decimal string no_members topics in
+    let few = with-few decimal string topics no_members in
+    ap (λ r. r >>= topics_onto []) (within MAX_TOPICS ms (omega (arith, are.few)))
+    ∙ topics-onto ms []
+    ∙ reads nat_cmp nat_cmp_total id_from name_of_data decimal string topics
+    (said nat_cmp id_from name_of_data decimal string nat_cmp_total IsTopicId (λ name. is_name name ≡ true)
+    id-read name-read topics are.keys are.values)
+    sorted
+
+-- ---- the policy
+
+three_steps : {A B C D E : Type 0} (r : Result A E) (s : Result B E) (t : Result C E) (a : A) (b : B) (c : C)
+    (f : A → B → C → Result D E) → r ≡ Ok a → s ≡ Ok b → t ≡ Ok c
+    → (r >>= (λ x. s >>= (λ y. t >>= (λ z. f x y z)))) ≡ f a b c
+three_steps r s t a b c f first second third = rw (first, second, third) refl
+
+pub policies_are_read_back : PoliciesAreReadBack
+policies_are_read_back policy is sorted =
+    three_steps (clients_of (Some (clients_data policy.clients)))
+    (sources_of (Some (sources_data policy.sources))) (topics_of (Some (topics_data policy.topics)))
+    policy.clients policy.sources policy.topics
+    (λ clients sources topics. Ok (record { clients = clients; sources = sources; topics = topics }))
+    (clients-read policy.clients is.clients sorted.clients)
+    (sources-read policy.sources is.sources sorted.sources)
+    (topics-read policy.topics is.topics sorted.topics)

@@ -1,0 +1,47 @@
+use Rattle.std.proofs.Common.{ℕ, List, All, sym, ap, subst, ◌∙◌}
+use Rattle.std.proofs.lemmas.List.Elements.{All-nil, All-cons}
+use Rattle.std.specs.Map.{keys_of, values_of}
+use Rattle.serde_json.specs.Data.{put}
+use Rattle.serde_json.specs.View.{view, members_view}
+use Rattle.sng_text.specs.Ipv4.{IsAddress}
+use Rattle.sng_grants.specs.Scopes.{IsScope}
+use Rattle.sng_grants.specs.declared.scope.Pair.{Pair}
+use Rattle.sng_scope.specs.Written.{dotted, scope_data}
+use Rattle.sng_scope.proofs.WriteLemmas.{written_more}
+use Rattle.sng_scope.proofs.write.entries.sources_value.Goals as goal
+
+abbrev Entries : Type 0
+Entries = List (List ℕ × List Pair)
+
+pub loop-source-preserved : goal.loop-source-preserved
+loop-source-preserved c =
+    let l = c.loop-source.invariant in
+    let steps = c.in-Some.ensures.steps in
+    let source = c.in-Some.source.now in
+    let scope = c.in-Some.scope.now in
+    record {
+      written =
+          written_more dotted scope_data (members_view c.loop-source.members.entries)
+          (members_view c.put.new.map.entries) c.loop-source.source-iterator c.next.new.self (source, scope) _
+          steps
+          (c.in_ok-put.ensures.ok
+          ∙ ap (λ k. put k (view c.in_ok-value.value) (members_view c.loop-source.members.entries))
+          (c.as_str.ensures.value ∙ c.in_ok-name.ensures.text)
+          ∙ ap (λ d. put (dotted source) d (members_view c.loop-source.members.entries))
+          c.in_ok-value.ensures.json)
+          l.written;
+      keys = λ rest. l.keys (subst (λ (es : Entries). All IsAddress (keys_of es)) (sym steps)
+          (All-cons IsAddress source (keys_of c.next.new.self) c.in_ok-name.ensures.within rest));
+      values = λ rest. l.values (subst (λ (es : Entries). All IsScope (values_of es)) (sym steps)
+          (All-cons IsScope scope (values_of c.next.new.self) c.in_ok-value.ensures.within rest));
+    }
+
+pub returns-clause-within : goal.returns-clause-within
+returns-clause-within c =
+    let l = c.loop-source.invariant in
+    let none = c.in-None.ensures.steps.0 in
+    record {
+      few = c.len-count.ensures.few;
+      keys = l.keys (subst (λ (es : Entries). All IsAddress (keys_of es)) (sym none) (All-nil IsAddress));
+      values = l.values (subst (λ (es : Entries). All IsScope (values_of es)) (sym none) (All-nil IsScope));
+    }

@@ -1,0 +1,40 @@
+//! Policies as texts in JSON (RFC 8259).
+ghost use Rattle.std.specs.Prelude.{◌≡◌, IfOk, Ok};
+ghost use Rattle.serde_json.specs.View.{view};
+ghost use Rattle.sng_scope.specs.Bounds.{IsPolicy};
+ghost use Rattle.sng_scope.specs.Laws.{IsInOrder};
+ghost use Rattle.sng_scope.specs.Policies.{policy_of};
+ghost use Rattle.sng_scope.specs.Written.{policy_data, policy_text};
+
+mod entries;
+mod scopes;
+mod texts;
+
+use crate::Policy;
+use entries::{clients_value, sources_value, topics_value};
+use serde_json::{Value, json};
+use std::alloc::{AllocError, Global};
+
+/// The canonical text of the policy: an object of version 1 on one line, without blanks, its members in the
+/// byte order of their names, and all four of them there. `read_policy` reads it as this very policy. Only
+/// memory can fail.
+pub fn write_policy(alloc: Global, policy: &Policy) -> Result<Vec<u8>, AllocError>
+    ensures text { IfOk result (λ text. text.items ≡ policy_text policy.now) }
+    ensures read { IfOk result (λ text. policy_of text.items ≡ Ok policy.now) }
+{
+    let value = policy_value(alloc, policy)?;
+    let text = value.to_vec(alloc)?;
+    Ok(text)
+}
+
+/// The policy as JSON, which shows that it keeps to its bounds.
+fn policy_value(alloc: Global, policy: &Policy) -> Result<Value, AllocError>
+    ensures json { IfOk result (λ v. view v ≡ policy_data policy.now) }
+    ensures within { IfOk result (λ v. IsPolicy policy.now) }
+    ensures ordered { IfOk result (λ v. IsInOrder policy.now) }
+{
+    let clients = clients_value(alloc, &policy.clients)?;
+    let sources = sources_value(alloc, &policy.sources)?;
+    let topics = topics_value(alloc, &policy.topics)?;
+    json!(in alloc; {"clients": clients, "sources": sources, "topics": topics, "version": 1u8})
+}
