@@ -19,7 +19,7 @@ PROVED = os.path.join(ROOT, 'crates', 'sng', 'out', 'sng')
 MAKER = os.path.join(ROOT, 'packaging', 'man.py')
 COMMANDS = ('play', 'check', 'cover', 'may', 'policy', 'serve', 'broker')
 # Options in examples of other programs
-OF_OTHERS = {'--base64url'}
+OF_OTHERS = {'--base64url', '--offline'}
 
 
 def run(*words):
