@@ -7,7 +7,8 @@ tests/lines.table, which cannot be read; the scripts of full_places.py; the poli
 the questions of tests/cover.table and tests/may.table; the reports on policy texts of policy_reports.py, with
 their warnings where the proved program runs; books of a script, its own and others; command lines, good and
 bad; output that cannot be written; a line without end under a limit of memory. The numbers in the help have
-to be those of the constants. A search over names (cover_search.py) answers the first table of questions too,
+to be those of the constants. Behind what is wrong with a command line stands an example that works
+(command_examples.py). A search over names (cover_search.py) answers the first table of questions too,
 memory_errors.py reads which lines of the sources make an error of memory, and promise_lines.py counts the
 definitions of the promise. Uses the proved program where one lies in crates/sng/out that is newer than every
 source, and else one build without proof, which leaves out what it cannot run, and says what.
@@ -320,6 +321,9 @@ def main():
     results.append(('numbers-in-the-help', is_helped_right(proved)))
     search = subprocess.run([sys.executable, os.path.join(HERE, 'cover_search.py')], timeout=SECONDS)
     results.append(('cover.table-by-a-search-over-names', search.returncode == 0))
+    if proved:
+        examples = subprocess.run([sys.executable, os.path.join(HERE, 'command_examples.py')], timeout=SECONDS)
+        results.append(('examples-on-the-command-line', examples.returncode == 0))
     errors = subprocess.run([sys.executable, os.path.join(HERE, 'memory_errors.py')], timeout=SECONDS)
     results.append(('errors-of-memory-in-the-sources', errors.returncode == 0))
     told = subprocess.run([sys.executable, os.path.join(HERE, 'promise_lines.py')], timeout=SECONDS)

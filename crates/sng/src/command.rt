@@ -5,11 +5,13 @@ ghost use Rattle.clap.specs.declared.error.ErrorKind.TheVariants.{DisplayHelp, D
 
 mod books;
 mod escape;
+mod examples;
 mod questions;
 mod services;
 
 use clap::{ArgMatches, Command, Error};
 pub use escape::filters_among;
+pub use examples::example_of;
 pub use questions::MayWords;
 use sng_script::Status;
 use sng_serve::Words as ServeWords;

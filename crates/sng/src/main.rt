@@ -40,7 +40,10 @@ fn main(rt: HostRuntime) -> ExitCode {
             Ok(Chosen::Broker(listen)) => {
                 End::from(serving::broker(&rt, words.as_slice(), listen))
             }
-            Err(error) => End::from(report(&rt, &error)),
+            Err(error) => {
+                let command = texts.get(1).map(String::as_str).unwrap_or("");
+                End::from(report(&rt, &error, command))
+            }
         },
         Err(AllocError) => End::from(out_of_memory(&rt)),
     };

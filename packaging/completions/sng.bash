@@ -1,0 +1,44 @@
+# Completion of `sng` for bash: /usr/share/bash-completion/completions/sng. tests/completions.py holds it
+# against the help of the program.
+
+_sng() {
+  local current=${COMP_WORDS[COMP_CWORD]} before=${COMP_WORDS[COMP_CWORD - 1]}
+  local command=${COMP_WORDS[1]} options='' words='' files=''
+  COMPREPLY=()
+  if [ "$COMP_CWORD" -eq 1 ]; then
+    command=''
+  fi
+  case $command in
+    '') options='-h --help -V --version' words='play check cover may policy serve broker help' ;;
+    play) options='-h --help' ;;
+    check) options='-h --help' files=yes ;;
+    cover) options='-h --help' ;;
+    may) options='--policy --source -h --help' words='publish receive subscribe' ;;
+    policy) options='-h --help' files=yes ;;
+    serve)
+      options='--listen --broker --id --workers --tries --policy --verbose --rows --flood-each --flood-all
+        -h --help'
+      ;;
+    broker) options='--listen -h --help' ;;
+    help) words='play check cover may policy serve broker help' ;;
+  esac
+  case $before in
+    --policy) options='' words='' files=yes ;;
+    --workers) options='' words='1 2 3 4 5 6 7 8' ;;
+    --listen | --broker | --id | --tries | --source | --flood-each | --flood-all) return ;;
+  esac
+  case $current in
+    -*) mapfile -t COMPREPLY < <(compgen -W "$options" -- "$current") ;;
+    *)
+      mapfile -t COMPREPLY < <(compgen -W "$words" -- "$current")
+      if [ -n "$files" ]; then
+        compopt -o filenames 2>/dev/null
+        mapfile -t COMPREPLY < <(compgen -f -- "$current")
+      elif [ -z "$words" ] && [ -z "$current" ]; then
+        mapfile -t COMPREPLY < <(compgen -W "$options" -- "$current")
+      fi
+      ;;
+  esac
+}
+
+complete -F _sng sng

@@ -1,0 +1,49 @@
+# Completion of `sng` for fish: /usr/share/fish/vendor_completions.d/sng.fish. tests/completions.py holds it
+# against the help of the program.
+
+set -l first __fish_use_subcommand
+set -l behind __fish_seen_subcommand_from
+
+complete -c sng -f
+complete -c sng -s h -l help -d 'Print help'
+complete -c sng -n $first -s V -l version -d 'Print version'
+
+complete -c sng -n $first -a play -d 'Plays a script of events from standard input'
+complete -c sng -n $first -a check \
+    -d 'Tells whether the rows of standard input are the lawful history of a script'
+complete -c sng -n $first -a cover \
+    -d 'Tells whether a topic filter matches only names that granted ones match'
+complete -c sng -n $first -a may -d 'Tells what a policy allows'
+complete -c sng -n $first -a policy -d 'Checks a policy, and shows where its first fault stands'
+complete -c sng -n $first -a serve \
+    -d 'Serves between MQTT-SN devices and an MQTT broker, until `quit` or the end of input'
+complete -c sng -n $first -a broker \
+    -d 'A small MQTT broker for tests, until it is stopped from outside'
+complete -c sng -n $first -a help -d 'Print this message or the help of the given subcommand(s)'
+
+complete -c sng -n "$behind check" -F
+complete -c sng -n "$behind policy" -F
+complete -c sng -n "$behind help" -a 'play check cover may policy serve broker help'
+
+complete -c sng -n "$behind may" -l policy -rF -d 'The file of the policy'
+complete -c sng -n "$behind may" -l source -x \
+    -d 'Asks for the source with this IPv4 address: CLIENT is left out'
+complete -c sng -n "$behind may" -a 'publish receive subscribe'
+
+complete -c sng -n "$behind serve" -l listen -x -d 'Where devices are listened to, IP:PORT'
+complete -c sng -n "$behind serve" -l broker -x -d 'Where the broker is, IP:PORT'
+complete -c sng -n "$behind serve" -l id -x -d 'The client id of the gateway at the broker'
+complete -c sng -n "$behind serve" -l workers -x -a '1 2 3 4 5 6 7 8' \
+    -d 'How many workers read datagrams, from 1 to 8'
+complete -c sng -n "$behind serve" -l tries -x \
+    -d 'How many tries to connect may fail in a row: 5 where it is left out; 0 is no end'
+complete -c sng -n "$behind serve" -l policy -rF \
+    -d 'The file of the policy, read at the start and on a line `reload`'
+complete -c sng -n "$behind serve" -l verbose -d 'Prints rows as they are made'
+complete -c sng -n "$behind serve" -l rows -d 'Prints all rows as the gateway stops'
+complete -c sng -n "$behind serve" -l flood-each -x \
+    -d 'How many denied datagrams a second one stranger may send: 50 where it is left out'
+complete -c sng -n "$behind serve" -l flood-all -x \
+    -d 'How many all strangers together may send: 1000 where it is left out'
+
+complete -c sng -n "$behind broker" -l listen -x -d 'Where clients are listened to, IP:PORT'
