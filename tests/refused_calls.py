@@ -11,8 +11,8 @@ Each run plays one input, and one allocation of it is refused: `rt try --fail-al
 number, and the program first takes and gives back memory so often that it is the one that is wanted. The
 inputs are SCRIPTS (6) random scripts, for the steps of a core, for the acts and cuts of a desk with the
 gathering behind them, and for a run over all events at once; and lines with policy texts, scopes, questions
-about filters, datagrams and packets. What is printed has to be what the model says, or what it is without any
-refusal. The last lines say how many allocations were refused to each call; the exit status is 1 where
+about filters, datagrams and packets. What is printed has to be what the model says, or what stands beside the
+line here. The last lines say how many allocations were refused to each call; the exit status is 1 where
 something is wrong, or where a call of CALLS met no refusal.
 
 It builds once, which takes a minute or two of a processor, and makes some thousands of runs."""
@@ -35,14 +35,19 @@ NAME = 'refused_calls'
 # The allocation that is refused; the program makes one before it burns any
 REFUSED, BEFORE = 4000, 1
 # Scripts of so many lines, no longer than the program reads, are drawn from these seeds on
-SCRIPTS, LINES, MOST_BYTES, FIRST_SEED = 6, 24, 12_000, 5000
+SCRIPTS, LINES, MOST_BYTES, FIRST_SEED = 6, 24, 2500, 5000
+# Rows that few scripts have: each script has one of the first kind or the second, by turns
 RARE = (b' 0 tick\n', b' 0 down\n')
-# Allocations that a script may make in the program's calls, and every how many of them one is refused
-MOST, STRIDE = 400, 40
+# Allocations that an input may make in the program's calls
+MOST = 800
 # The calls that have to meet a refusal
 CALLS = ('Core::new', 'Core::step', 'Core::copy', 'Event::copy', 'Desk::new', 'Desk::act', 'Desk::cut', 'run',
          'print_row', 'line_of', 'Stream::feed', 'read_policy', 'write_policy', 'read_scope', 'cover',
          'sng_frames::decode', 'sng_frames::encode', 'mqtt_frames::encode')
+# Of these it is told how often they met a refusal by the kind of their event
+BY_KIND, NOTHING = ('Core::step', 'Desk::act'), 'nothing'
+# Memory of the program itself
+OWN = ('Vec', 'Log::room')
 # Letters of the program: steps, acts, a run, and calls one by one
 STEPS, ACTS, RUN, ONE_BY_ONE = 's', 'a', 'r', 'p'
 # Lines for calls one by one, each with what it prints
@@ -141,46 +146,62 @@ def run_all(cases):
 
 
 def cases_of(name, letter, text):
-    """A case for each allocation that may be refused, from the last of them to the first."""
-    for place in range(1, MOST + 1, STRIDE):
+    """A case for each allocation that may be refused."""
+    for place in range(1, MOST + 1):
         burnt = REFUSED - BEFORE - place
         yield '%sx%05d' % (name, place), b'%06d%s\n' % (burnt, letter.encode()) + text
 
 
-def judge(name, found, wanted, printed):
-    """The call that met the refusal, and what is wrong with this case."""
-    rows, met = printed.rpartition(b'met ')[::2]
+def judge(wanted, printed):
+    """The call that met the refusal, with the kind of its row where that is a step or an act, and what is
+    wrong."""
+    rows, _, met = printed.rpartition(b'met ')
     said = re.fullmatch(r'(\S+) (\d+)( wrong .*)?\n', met.decode(errors='replace'))
     if not said:
-        return None, '%s: no end: %r' % (name, printed[-200:])
-    if said[3]:
-        return said[1], '%s: %s at row %s:%s' % (name, said[1], said[2], said[3])
+        return NOTHING, 'no end: %r' % printed[-200:]
+    call, row, wrong = said.groups()
+    if wrong:
+        return call, '%s at row %s:%s' % (call, row, wrong)
     if rows != wanted:
         line, one, other = random_scripts.difference(rows, wanted)
-        return said[1], '%s: %s at row %s: line %d is %r, and not %r' % (name, *said.groups()[:2], line,
-                                                                         one[:200], other[:200])
-    return said[1], None
+        return call, '%s at row %s: line %d is %r, and not %r' % (call, row, line, one[:200], other[:200])
+    kind = re.search(rb'^row %s 0 (\w+)$' % row.encode(), wanted, re.M) if call in BY_KIND else None
+    return '%s of %s' % (call, kind[1].decode()) if kind else call, None
+
+
+def report(met, faults):
+    """Prints what was met, and answers whether nothing is wrong and each call met a refusal."""
+    for what in faults:
+        print(what)
+    for call, times in sorted(met.items()):
+        print('%s: %d refusals' % (call, times))
+    missing = [call for call in CALLS if not any(name.split(' of ')[0] == call for name in met)]
+    for call in missing:
+        print('no refusal:', call)
+    return not faults and not missing
 
 
 def main():
     count = int(sys.argv[1]) if len(sys.argv) > 1 else SCRIPTS
     given = list(inputs(count))
-    cases, wanted = {}, {}
-    for name, letter, text, printed in given:
-        for case, whole in cases_of(name, letter, text):
-            cases[case], wanted[case] = whole, printed
-    found = run_all(cases)
-    met, kinds, faults = collections.Counter(), collections.Counter(), 0
-    for case in cases:
-        call, fault = judge(case, found, wanted[case], found.get(case, b''))
-        met[call] += 1
-        if fault:
-            faults += 1
-            print(fault)
-    for call, times in sorted(met.items(), key=str):
-        print('%s: %d' % (call, times))
-    print('%d passed, %d failed' % (len(cases) - faults, faults))
-    return 1 if faults else 0
+    cases = {name: dict(cases_of(name, letter, text)) for name, letter, text, _ in given}
+    found = run_all({case: text for whole in cases.values() for case, text in whole.items()})
+    met, faults = collections.Counter(), []
+    for name, _, _, wanted in given:
+        calls_met = []
+        for case in cases[name]:
+            call, fault = judge(wanted, found.get(case, b''))
+            calls_met.append(call)
+            if fault:
+                faults.append('%s: %s' % (case, fault))
+        if calls_met[-1] != NOTHING:
+            faults.append('%s makes more than %d allocations' % (name, MOST))
+        met.update(call for call in calls_met if call != NOTHING and call not in OWN)
+    is_right = report(met, faults)
+    tried = sum(met.values())
+    print('%d allocations refused in %d inputs' % (tried, len(given)))
+    print('%d passed, %d failed' % (tried - len(faults), len(faults)))
+    return 0 if is_right and tried else 1
 
 
 if __name__ == '__main__':
