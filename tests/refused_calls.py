@@ -1,23 +1,25 @@
 #!/usr/bin/env python3
-"""refused_calls.py [SCRIPTS]
+"""refused_calls.py [CASES [SEED]]
 
-Refuses memory to the calls that take it, one allocation after the other, and makes each call that met the
-refusal again: tests/refused/ is a program without proof that does this, and looks at what is behind the
-refusal. A refused step or act leaves the state the same as a copy from before, and the book without a new
-row; a refused cut leaves the book; the same call, made again, answers what it would have answered, as this
-script finds by what is printed then.
+Refuses memory to the calls that take it, one allocation a run, and makes each call that met it again:
+tests/refused/ is a program without proof that does this, and looks at what is behind the refusal. A refused
+step or act leaves the state the same as a copy from before, and the book without a new row; a refused cut
+leaves the book; the same call, made again, answers what it would have answered, as this script finds by what
+is printed then.
 
 Each run plays one input, and one allocation of it is refused: `rt try --fail-alloc` refuses that of a fixed
-number, and the program first takes and gives back memory so often that it is the one that is wanted. The
-inputs are SCRIPTS (6) random scripts, for the steps of a core, for the acts and cuts of a desk with the
-gathering behind them, and for a run over all events at once; and lines with policy texts, scopes, questions
-about filters, datagrams and packets. What is printed has to be what the model says, or what stands beside the
-line here. The last lines say how many allocations were refused to each call; the exit status is 1 where
-something is wrong, or where a call of CALLS met no refusal.
+number, and the program first takes and gives back memory so often that it is the one that is wanted. Of all
+that may be refused CASES (200) are drawn from SEED (1), and the first of each input; with 0 none is left out.
+The inputs are six random scripts, for the steps of a core, for the acts and cuts of a desk with the gathering
+behind them, and for a run over all events at once; and lines with policy texts, scopes, questions about
+filters, datagrams and packets. What is printed has to be what the model says, or what stands beside the line
+here. The last lines say how many allocations were refused to each call, and to which of CALLS none was; the
+exit status is 1 where something is wrong, or where none is left out and a call met no refusal.
 
-It builds once, which takes a minute or two of a processor, and makes some thousands of runs."""
+It builds once, which takes three minutes of a processor, and each run takes half a second."""
 import collections
 import os
+import random
 import re
 import shutil
 import subprocess
@@ -32,6 +34,7 @@ import random_scripts
 
 SOURCES = os.path.join(end_to_end.HERE, 'refused')
 NAME = 'refused_calls'
+CASES, SEED = 200, 1
 # The allocation that is refused; the program makes one before it burns any
 REFUSED, BEFORE = 4000, 1
 # Scripts of so many lines, no longer than the program reads, are drawn from these seeds on
@@ -40,7 +43,7 @@ SCRIPTS, LINES, MOST_BYTES, FIRST_SEED = 6, 24, 2500, 5000
 RARE = (b' 0 tick\n', b' 0 down\n')
 # Allocations that an input may make in the program's calls
 MOST = 800
-# The calls that have to meet a refusal
+# The calls that are to meet a refusal
 CALLS = ('Core::new', 'Core::step', 'Core::copy', 'Event::copy', 'Desk::new', 'Desk::act', 'Desk::cut', 'run',
          'print_row', 'line_of', 'Stream::feed', 'read_policy', 'write_policy', 'read_scope', 'cover',
          'sng_frames::decode', 'sng_frames::encode', 'mqtt_frames::encode')
@@ -100,9 +103,9 @@ def scripts(count):
     return found
 
 
-def inputs(count):
-    """By a name, the letter of what is to be done with an input, that, and what is to be printed."""
-    drawn = scripts(count)
+def inputs():
+    """The name of each input, the letter of what is to be done with it, itself, and what is to be printed."""
+    drawn = scripts(SCRIPTS)
     for place, (text, printed) in enumerate(drawn):
         yield 'steps%d' % place, STEPS, text, printed
         yield 'acts%d' % place, ACTS, text, printed
@@ -145,11 +148,17 @@ def run_all(cases):
     return dict(zip((name.decode() for name in parts[::2]), parts[1::2]))
 
 
-def cases_of(name, letter, text):
-    """A case for each allocation that may be refused."""
-    for place in range(1, MOST + 1):
-        burnt = REFUSED - BEFORE - place
-        yield '%sx%05d' % (name, place), b'%06d%s\n' % (burnt, letter.encode()) + text
+def drawn_places(names, count, seed):
+    """An input and a place among its allocations, for each case, in any order."""
+    first = [(name, 1) for name in names]
+    further = [(name, place) for name in names for place in range(2, MOST + 1)]
+    drawn = random.Random(seed).sample(further, count or len(further))
+    return first + drawn
+
+
+def case(letter, text, place):
+    """What the program is given, so that this allocation of it is refused."""
+    return b'%06d%s\n' % (REFUSED - BEFORE - place, letter.encode()) + text
 
 
 def judge(wanted, printed):
@@ -170,7 +179,7 @@ def judge(wanted, printed):
 
 
 def report(met, faults):
-    """Prints what was met, and answers whether nothing is wrong and each call met a refusal."""
+    """Prints what was met, and answers which calls were not."""
     for what in faults:
         print(what)
     for call, times in sorted(met.items()):
@@ -178,30 +187,30 @@ def report(met, faults):
     missing = [call for call in CALLS if not any(name.split(' of ')[0] == call for name in met)]
     for call in missing:
         print('no refusal:', call)
-    return not faults and not missing
+    return missing
 
 
 def main():
-    count = int(sys.argv[1]) if len(sys.argv) > 1 else SCRIPTS
-    given = list(inputs(count))
-    cases = {name: dict(cases_of(name, letter, text)) for name, letter, text, _ in given}
-    found = run_all({case: text for whole in cases.values() for case, text in whole.items()})
+    words = [int(word) for word in sys.argv[1:]]
+    count, seed = (words + [CASES, SEED][len(words):])[:2]
+    given = {name: rest for name, *rest in inputs()}
+    places = dict(enumerate(drawn_places(given, count, seed)))
+    texts = {'c%05d' % number: case(*given[name][:2], place) for number, (name, place) in places.items()}
+    found = run_all(texts)
     met, faults = collections.Counter(), []
-    for name, _, _, wanted in given:
-        calls_met = []
-        for case in cases[name]:
-            call, fault = judge(wanted, found.get(case, b''))
-            calls_met.append(call)
-            if fault:
-                faults.append('%s: %s' % (case, fault))
-        if calls_met[-1] != NOTHING:
+    for number, (name, place) in places.items():
+        call, fault = judge(given[name][2], found.get('c%05d' % number, b''))
+        if fault:
+            faults.append('%s, allocation %d: %s' % (name, place, fault))
+        elif place == MOST and call != NOTHING:
             faults.append('%s makes more than %d allocations' % (name, MOST))
-        met.update(call for call in calls_met if call != NOTHING and call not in OWN)
-    is_right = report(met, faults)
+        if call != NOTHING and call not in OWN:
+            met[call] += 1
+    missing = report(met, faults)
     tried = sum(met.values())
-    print('%d allocations refused in %d inputs' % (tried, len(given)))
-    print('%d passed, %d failed' % (tried - len(faults), len(faults)))
-    return 0 if is_right and tried else 1
+    print('%d allocations refused in %d runs over %d inputs' % (tried, len(places), len(given)))
+    print('%d passed, %d failed' % (len(places) - len(faults), len(faults)))
+    return 1 if faults or not tried or missing and not count else 0
 
 
 if __name__ == '__main__':
