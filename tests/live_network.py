@@ -66,11 +66,12 @@ def its_own_address(room):
 
 
 class Network:
-    """A network of its own for this thread, and for what it starts, with a slow interface to a far end."""
+    """A network of its own for this thread, and for what it starts, with an interface to a far end: a slow one,
+    where nothing else is said."""
 
-    def __init__(self, room):
+    def __init__(self, room, is_slow=True):
         self.libc = ctypes.CDLL(None, use_errno=True)
-        self.room = room
+        self.room, self.is_slow = room, is_slow
         self.home = os.open('/proc/self/ns/net', os.O_RDONLY)
 
     def enter_new(self):
@@ -92,7 +93,8 @@ class Network:
             run('ip', 'link', 'set', 'far', 'netns', str(keeper.child.pid))
             run('ip', 'addr', 'add', NEAR + '/24', 'dev', 'slow')
             run('ip', 'link', 'set', 'slow', 'up')
-            run(*'tc qdisc add dev slow root tbf rate 64kbit burst 3000 limit 4000000'.split())
+            if self.is_slow:
+                run(*'tc qdisc add dev slow root tbf rate 64kbit burst 3000 limit 4000000'.split())
             self.enter(far)
             run('ip', 'addr', 'add', FAR + '/24', 'dev', 'far')
             run('ip', 'link', 'set', 'far', 'up')

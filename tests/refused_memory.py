@@ -6,9 +6,9 @@ until two turns in a row refuse none or TURNS are made. A test that meets the re
 of memory, or at a comparison whose left side is one; where it ends otherwise, what is said of it is printed,
 and the exit status is 1.
 
-NAMEs are those of the files in tests/calls; without any it takes them all, in one build a turn, but
-sng_serve: there a worker on a thread of its own meets the refusal, and goes on without what it wanted. A turn
-takes half a minute for one file and some two minutes for all, so the gate leaves this out."""
+NAMEs are those of the files in tests/calls; without any it takes them all, in one build a turn, but those of
+WORKING: there a worker meets the refusal, and goes on without what it wanted. A turn takes half a minute for
+one file and some two minutes for all, so the gate leaves this out."""
 import re
 import sys
 
@@ -16,6 +16,7 @@ sys.dont_write_bytecode = True
 import calls
 
 TURNS = 120
+WORKING = ('sng_serve', 'sng_crew_sends')
 OF_MEMORY = re.compile(r'(error: |left: Err\()(AllocError|AllocFailed \{.*\}|OutOfMemory|(\w+::)?Memory)\)?$')
 
 
@@ -55,7 +56,7 @@ def refuse(names):
 
 
 def main():
-    names = sys.argv[1:] or [name for name in calls.files([]) if name != 'sng_serve']
+    names = sys.argv[1:] or [name for name in calls.files([]) if name not in WORKING]
     return 0 if refuse(names) else 1
 
 
