@@ -22,7 +22,8 @@ pub fn begin(
     mut share: Share,
     policy: Option<Policy>,
 ) -> Result<Beginning, ActFault>
-    ensures begun { IfOk result (λ b. Begun policy desk.old.rows desk.new.rows b.trail b.share share) }
+    ensures begun { IfOk result (λ b. Begun policy desk.new.before desk.old.rows desk.new.rows b.trail b.share
+        share) }
     ensures err { OnErr result (desk.new.rows ≡ desk.old.rows) }
 {
     let mut log = Log::new(alloc, share.tag());
