@@ -8,9 +8,9 @@ mod escape;
 mod questions;
 mod services;
 
-use clap::{ArgMatches, Command, Error};
+use clap::{Arg, ArgMatches, Command, Error};
 pub use escape::filters_among;
-pub use questions::MayWords;
+pub use questions::{MayWords, PolicyWords};
 use sng_script::Status;
 use sng_serve::Words as ServeWords;
 use std::alloc::{AllocError, Global};
@@ -25,12 +25,14 @@ pub enum Chosen<'a> {
     Play,
     /// Checks a book from standard input against the script of this file.
     Check(&'a str),
+    /// Checks the books on disk in this folder.
+    CheckBook(&'a str),
     /// Answers whether a filter is covered by granted ones.
     Cover,
     /// Answers what a policy says to a question.
     May(MayWords<'a>),
-    /// Checks the policy of the file, and that of standard input where there is none.
-    Policy(Option<&'a str>),
+    /// Checks a policy, or prints its canonical text.
+    Policy(PolicyWords<'a>),
     /// Serves between devices and a broker.
     Serve(ServeWords<'a>),
     /// Serves MQTT clients at this address, for tests.
@@ -47,10 +49,13 @@ pub fn read_command(alloc: Global, words: &[String]) -> Result<Chosen<'_>, Error
 /// What was matched. Those of its words that are required are there.
 fn choice<'a>(matches: &ArgMatches<'a>) -> Chosen<'a> {
     match matches.subcommand() {
-        Some(("check", asked)) => Chosen::Check(books::script_word(asked)),
+        Some(("check", asked)) => match books::folder_word(asked) {
+            Some(folder) => Chosen::CheckBook(folder),
+            None => Chosen::Check(books::script_word(asked)),
+        },
         Some(("cover", _)) => Chosen::Cover,
         Some(("may", asked)) => Chosen::May(questions::may_words(asked)),
-        Some(("policy", asked)) => Chosen::Policy(questions::policy_word(asked)),
+        Some(("policy", asked)) => Chosen::Policy(questions::policy_words(asked)),
         Some(("serve", asked)) => Chosen::Serve(services::serve_words(asked)),
         Some(("broker", asked)) => Chosen::Broker(services::broker_word(asked)),
         _ => Chosen::Play,
@@ -78,6 +83,17 @@ fn with<'a>(
 ) -> Result<Command<'a>, AllocError> {
     match more {
         Ok(more) => command.subcommand(more),
+        Err(error) => Err(error),
+    }
+}
+
+/// The command with this word behind the others.
+fn with_word<'a>(
+    command: Command<'a>,
+    word: Result<Arg<'a>, AllocError>,
+) -> Result<Command<'a>, AllocError> {
+    match word {
+        Ok(word) => command.arg(word),
         Err(error) => Err(error),
     }
 }

@@ -9,7 +9,7 @@ mod compare;
 mod judging;
 pub mod laws;
 pub mod mismatch;
-mod report;
+pub mod report;
 
 pub use checking::check;
 pub use judging::judge;
