@@ -12,7 +12,7 @@ import command_help
 from roff import escaped, guarded, inline, plain, roff
 
 ROOT = os.path.dirname(os.path.dirname(os.path.abspath(__file__)))
-POLICY_FILE, DEFAULTS, PIPE = '/etc/sng/policy.json', '/etc/default/sng', '/run/sng.control'
+CONFIG_FILE, POLICY_FILE, PIPE = '/etc/sng/sng.toml', '/etc/sng/policy.json', '/run/sng.control'
 DOCUMENTS = '/usr/share/doc/sng'
 
 
@@ -101,9 +101,9 @@ def serve_page(version, found, running):
     out += ['.SH SYNOPSIS'] + synopsis(found.usage)
     out += ['.SH OPTIONS'] + entries(found, options_of(part_of_table(text, first)))
     out += ['.SH DESCRIPTION'] + roff(without_table(text, first), top=1)
-    out += ['.SH FILES', '.TP', '.I ' + plain(POLICY_FILE), 'The policy of the service, see',
-            '.BR sng\\-policy (5).', '.TP', '.I ' + plain(DEFAULTS),
-            'The addresses and the id of the service.', '.TP', '.I ' + PIPE,
+    out += ['.SH FILES', '.TP', '.I ' + plain(CONFIG_FILE), 'The configuration of the service.',
+            '.TP', '.I ' + plain(POLICY_FILE), 'The policy of the service, see',
+            '.BR sng\\-policy (5).', '.TP', '.I ' + PIPE,
             'Its standard input, to which root may write commands.']
     return out + see_also(('sng', 1), ('sng-policy', 5), ('mosquitto', 8))
 

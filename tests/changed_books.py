@@ -113,6 +113,20 @@ def id_at(line):
     return None if datagram.startswith(b'01') else {b'0a': 4, b'0b': 4, b'13': 6}.get(datagram[2:4])
 
 
+def other_msg_id(draw, lines):
+    """A PUBREC or PUBCOMP has another MsgId, or is the other one of the two."""
+    sent = [place for place, line in enumerate(lines)
+            if line.startswith(b'send ') and line.split()[-1][:4] in (b'040f', b'040e')]
+    if not sent:
+        return None
+    place = draw.choice(sent)
+    *before, datagram = lines[place].split()
+    msg_id = draw.choice((b'%04x' % draw.randrange(65_536), datagram[4:]))
+    kind = datagram[:4] if msg_id != datagram[4:] else draw.choice((b'040e', b'040f'))
+    changed = b' '.join([*before, kind + msg_id]) + b'\n'
+    return b''.join(lines[:place] + [changed] + lines[place + 1:])
+
+
 def cut_off(draw, lines):
     """The book ends before its end: behind a line, or within one."""
     place = draw.randrange(len(lines))
@@ -126,7 +140,7 @@ def gone_on(draw, lines):
 
 
 KINDS = (other_byte, other_out, other_row, other_order, other_order_of_rows, other_order_of_exits,
-         other_topic_id, cut_off, gone_on)
+         other_topic_id, other_msg_id, cut_off, gone_on)
 
 
 @dataclass

@@ -44,7 +44,8 @@ MEMORY = 512 * 1024 * 1024
 SHORT = 16 * 1024 * 1024
 # The texts of the help that have a number, with the constants that they tell of, and where these stand
 HELP_SOURCES = sorted(glob.glob(os.path.join(ROOT, 'crates/sng/src/command/*.rt')))
-LIMITS = os.path.join(ROOT, 'crates/sng_serve/src/limits.rt')
+HELP_CONSTANTS = [os.path.join(ROOT, 'crates/%s.rt' % name)
+                  for name in ('sng_config/src/limits', 'sng_operator/src/ask')]
 HELP_TEXTS = (
     'How many workers read datagrams, from 1 to {MAX_WORKERS}',
     'How many tries to connect may fail in a row: {USUAL_TRIES} where it is left out; 0 is no end',
@@ -140,8 +141,13 @@ def checks():
     for report in policy_reports.reports():
         yield Case('policy-' + report.name, ['policy'], report.text, report.status, report.printed,
                    report.warned)
+    for report in policy_reports.prints():
+        yield Case('policy-' + report.name, ['policy', '--print'], report.text, report.status, report.printed,
+                   report.warned)
     for name, words, status, printed in (
             ('of-a-file', ['policy', POLICY], 0, b'policy ok: 3 clients, 1 sources, 1 topics\n'),
+            ('print-of-a-file', ['policy', '--print', POLICY], 0,
+             policy_reports.canonical(read(os.path.join(HERE, POLICY)))),
             ('that-is-no-json', ['policy', 'cover.table'], 1,
              b'refused policy 1 NotJson\n%s\nat line 1, column 1: not JSON\n'
              % policy_reports.SENTENCES['1 NotJson'].encode()),
@@ -201,7 +207,7 @@ def command_lines():
 def constants():
     """The numbers of the constants that the help tells of, and of the fields of such a constant, by name."""
     found = {}
-    for source in HELP_SOURCES + [LIMITS]:
+    for source in HELP_CONSTANTS:
         text = read(source).decode()
         for name, number in re.findall(r'(?:const |^ {4})(\w+): (?:\w+ = )?([\d_]+)[;,]$', text, re.MULTILINE):
             found[name] = int(number)

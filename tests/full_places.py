@@ -8,7 +8,7 @@ client that is lost, and a ping.
 """
 ADDRESS, OTHER_ADDRESS = '10.0.0.9:4000', '10.0.0.9:4001'
 MOST_IDS, MOST_SUBSCRIPTIONS, MOST_IN_FLIGHT, MOST_ITEMS = 128, 32, 128, 512
-MOST_WAITING, MOST_PAYLOAD, MOST_NAME = 64, 2039, 2040
+MOST_WAITING, MOST_PAYLOAD, MOST_NAME, MOST_OPEN = 64, 2039, 2040, 16
 CONNECT, CONNECT_OTHER = '08040401003c7331', '08040401003c7332'
 CONNECT_AGAIN = '08040001003c7331'
 POLICY = 'policy {"version":1,"clients":{"s1":[["#",["pub"]]]},"topics":{"4":"t/4"}}'
@@ -144,14 +144,20 @@ def ids_that_fill():
 
 
 def in_flight_that_fills():
-    """Of publishes at QoS 1 as many are taken as may be in flight or wait. Those at QoS 0 are taken still,
-    and each PUBACK makes room for one more."""
+    """Of publishes at QoS 1 and 2 as many are taken as may be in flight or wait. Those at QoS 0 are taken
+    still, repeats are answered, and each PUBACK makes room for one more."""
     story = Story()
     story.begin()
     allowed, full = 'publish s1 t/4 allowed', 'publish s1 t/4 22 Full InFlight'
-    for number in range(1, MOST_IN_FLIGHT + 1):
+    for number in range(1, MOST_OPEN + 1):
+        story.hear(publish(0x41, 4, number), allowed, '040f%04x' % number)
+    for number in range(MOST_OPEN + 1, MOST_IN_FLIGHT + 1):
         story.hear(publish(0x21, 4, number), allowed, '070d0004%04x00' % number)
     story.hear(publish(0x21, 4, 129), full, '070d0004008101')
+    story.hear(publish(0x41, 4, 129), 'publish s1 t/4 22 Full Exchanges', '070d0004008101')
+    story.answer('04100010', 'send %s 040e0010' % ADDRESS)
+    story.hear(publish(0x41, 4, 129), full, '070d0004008101')
+    story.answer(publish(0xc1, 4, 1), 'send %s 040f0001' % ADDRESS)
     story.hear(publish(0x01, 4, 0), allowed)
     left = []
     for packet_id in range(1, MOST_IN_FLIGHT + 1):
@@ -177,6 +183,7 @@ def acknowledgements_that_fill():
     story.row('broker', 'note outbox broker - 22 Full Outbox')
     story.hear(publish(0x01, 4, 0), 'publish s1 t/4 22 Full Outbox', '070d0004000001')
     story.hear(publish(0x21, 4, 9), 'publish s1 t/4 22 Full Outbox', '070d0004000901')
+    story.hear(publish(0x41, 4, 9), 'publish s1 t/4 22 Full Outbox', '070d0004000901')
     story.give('take', 'take', *['wire 4002%04x' % packet_id for packet_id in range(1, MOST_ITEMS + 1)])
     story.give('broker ' + packets[-1], 'broker')
     story.hear(publish(0x21, 4, 10), 'publish s1 t/4 allowed', '070d0004000a00')

@@ -6,8 +6,9 @@ model in gateway_model.py says. What plays them is SNG, or else the proved progr
 as in random_scripts.py.
 
 Datagrams: of every length from 2 to 12 octets, with a right Length of one octet, and each MsgType; the other
-octets are all 00, and then all FF. Each comes from each of PLACES: from a client in each of the four states
-with a session, from where one left or was lost, and from where none ever was. Behind each a PINGREQ shows
+octets are all 00, all FF, and all 42, which is a PUBLISH at QoS 2 that is allowed. Each comes from each of
+PLACES: from a client in each of the four states with a session, and from one with a publish at QoS 2 that
+waits for PUBREL; from where one left or was lost, and from where none ever was. Behind each a PINGREQ shows
 where that left the client.
 
 Packets: every first byte, with Remaining Lengths of one to four bytes at their edges, with lengths that are
@@ -25,15 +26,20 @@ import gateway_model
 import random_scripts
 from gateway_model import ACTIVE, ASLEEP, AWAKE, DIALOGUE, remaining_length
 
-LENGTHS, FILLINGS = range(2, 13), (0x00, 0xff)
+# As the octets of a PUBLISH the last of these is QoS 2, the short name `BB` and the MsgId 0x4242
+LENGTHS, FILLINGS = range(2, 13), (0x00, 0xff, 0x42)
 AT, ELSEWHERE = '10.0.0.9:4000', '10.0.0.9:4001'
-BEGIN = ('policy {"version":1,"clients":{"s1":[["t/#",["pub","sub"]]]},'
+BEGIN = ('policy {"version":1,"clients":{"s1":[["t/#",["pub","sub"]],["BB",["pub"]]]},'
          '"sources":{"10.0.0.9":[["#",["pub"]]]},"topics":{"1":"t/1"}}', 'up')
 PING = '0216'
 # What a client says: CONNECT, with a will, with a Duration of 1 s, SUBSCRIBE t/#, DISCONNECT, with a Duration
 CONNECT, STATES_A_WILL, CONNECT_FOR_A_SECOND = '08040401003c7331', '08040c01003c7331', '0804040100017331'
 SUBSCRIBE, DISCONNECT, SLEEP, WAKE = '0812200002742f23', '0218', '0418003c', '04167331'
 MESSAGE = '32080003742f31000178'
+# Without a clean session, so that what is open stays so, and a publish at QoS 2
+CONNECT_AGAIN, PUBLISH_ONCE = '08040001003c7331', '090c42424242426869'
+# The state of a client that is active, with a publish at QoS 2 that waits for PUBREL
+OPEN = 'open'
 # A client that was granted a second is lost after one and a half
 SILENCE = 1500
 
@@ -60,6 +66,11 @@ def says(octets, address=AT):
 
 def active(_):
     return [says(CONNECT)]
+
+
+def with_an_open_id(_):
+    """It is opened in the first turn, and again where PUBREL closed it; else the publish is a repeat."""
+    return [says(CONNECT_AGAIN), says(PUBLISH_ONCE)]
 
 
 def in_a_dialogue(_):
@@ -89,7 +100,7 @@ def nobody(_):
 
 
 # What leads to where a datagram comes from, and the state of the client that is there then
-PLACES = ((active, ACTIVE), (in_a_dialogue, DIALOGUE), (asleep, ASLEEP), (awake, AWAKE), (left, None),
+PLACES = ((active, ACTIVE), (with_an_open_id, OPEN), (in_a_dialogue, DIALOGUE), (asleep, ASLEEP), (awake, AWAKE), (left, None),
           (lost, None), (nobody, None))
 
 
@@ -111,7 +122,7 @@ class Script:
     def state(self):
         """The state of the client at the address that hostile datagrams come from."""
         client = self.gateway.client_at(AT.encode())
-        return client.state if client else None
+        return OPEN if client and client.open else client.state if client else None
 
     def text(self):
         return '\n'.join(self.lines + ['']).encode()

@@ -36,9 +36,12 @@ ALONE = (session_cases.the_test_broker, program_cases.a_test_broker_that_does_no
          program_cases.an_unreachable_broker, program_cases.a_broker_that_says_nothing,
          program_cases.a_hostile_broker, program_cases.the_end_of_the_input,
          program_cases.a_service_without_input, program_cases.the_version, program_cases.a_start_that_fails,
+         program_cases.a_configuration_file, program_cases.the_command_line_goes_before_the_file,
+         program_cases.a_configuration_at_fault,
          program_cases.an_input_that_cannot_be_read, program_cases.a_full_disk)
 ALONE = (ALONE + operator_cases.ALONE + row_cases.ALONE + broker_cases.ALONE + fault_cases.ALONE
-         + limit_cases.ALONE + network_cases.ALONE + order_cases.ALONE + hostile_cases.ALONE)
+         + limit_cases.ALONE + network_cases.ALONE + order_cases.ALONE + hostile_cases.ALONE
+         + flood_cases.ALONE)
 BESIDE_A_BROKER = (session_cases.a_publish_without_a_session, session_cases.a_session_that_publishes,
                    session_cases.a_subscription, session_cases.a_policy_that_ends_a_subscription,
                    program_cases.a_broker_that_comes_back, program_cases.a_subscription_outlives_the_broker,

@@ -59,6 +59,16 @@ class Device:
         answer = self.receive(0x0d)
         wanted(answer[2:4] == number and answer[4] == code, 'a PUBACK with code %d' % code)
 
+    def publish_once(self, topic, number, payload, flags=0x40):
+        """A PUBLISH at QoS 2 with this MsgId, and its PUBREC."""
+        self.send(0x0c, bytes([flags]) + topic + number + payload)
+        wanted(self.receive(0x0f) == number, 'a PUBREC of this MsgId')
+
+    def release(self, number):
+        """A PUBREL, and its PUBCOMP."""
+        self.send(0x10, number)
+        wanted(self.receive(0x0e) == number, 'a PUBCOMP of this MsgId')
+
     def publish_short(self, name, payload):
         """A PUBLISH at QoS -1 by a short name: no session, and no answer."""
         self.send(0x0c, b'\x62' + name.encode() + b'\0\0' + payload)

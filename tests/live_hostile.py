@@ -47,9 +47,10 @@ def no_worker_ended(gateway, before):
 class Served:
     """A gateway at this listener, with a device that has a session and a subscription that stands."""
 
-    def __init__(self, room, listener, *more, connected=True):
+    def __init__(self, room, listener, *more, connected=True, verbose=True):
         self.room, self.listener = room, listener
-        self.gateway = room.gateway(listener.port, *more, connected=False, policy=POLICY, workers=1)
+        self.gateway = room.gateway(listener.port, *more, connected=False, verbose=verbose, policy=POLICY,
+                                    workers=1)
         if connected:
             self.accepts()
         self.device = room.device(self.gateway)
@@ -227,6 +228,35 @@ def a_broker_that_resets_in_a_packet(room):
         served.ends(2, 1)
 
 
+def a_reset_behind_a_publish_at_qos_2(room):
+    """The device sends its publish again while there is no connection, and over the next one, until it
+    releases it: it is answered each time, and the broker is sent it once over each connection."""
+    with Listener() as listener:
+        served = Served(room, listener, '--tries', '0')
+        topic, number = served.device.register('t/2'), served.device.next_id()
+        served.device.publish_once(topic, number, b'kept')
+        sent = read_packet(served.stream)
+        wanted(sent[:1] == b'\x32' and sent.endswith(b'kept'), 'a PUBLISH, and not %s' % sent.hex())
+        resets(served.stream)
+        served.gateway.line('err', 'lost: Connection reset by peer')
+        served.device.publish_once(topic, number, b'kept', flags=0xc0)
+        served.accepts()
+        again = read_packet(served.stream)
+        wanted(again == sent, 'the same PUBLISH, and not %s' % again.hex())
+        served.device.publish_once(topic, number, b'kept', flags=0xc0)
+        served.device.release(number)
+        served.device.release(number)
+        served.goes_on()
+        served.stream.settimeout(0.5)
+        try:
+            more = read_packet(served.stream)
+        except socket.timeout:
+            more = b''
+        wanted(not more, 'nothing more for the broker, and not %s' % more.hex())
+        served.ends(2, 1)
+        wanted(len(served.gateway.notes('publish s1 t/2 allowed')) == 1, 'one publish that was asked for')
+
+
 def a_packet_that_is_too_long(room):
     """One of 70,000 bytes is a row, and one of 70,001 ends the connection."""
     with Listener() as listener:
@@ -272,7 +302,7 @@ def a_broker_that_stops_reading(room):
         served.device.handed(b'\0\1', b'x')
         served.is_served()
         served.is_whole()
-        served.gateway.close(verbose=False)
+        served.gateway.close(verbose=False, seconds=6 * SECONDS)
 
 
 def publish(publisher, count):
@@ -389,5 +419,6 @@ def a_buffer_that_overflows(room):
 
 
 ALONE = (brokers_that_fail_five_times, a_broker_that_never_answers, a_broker_that_closes_after_each_byte,
-         a_broker_that_resets_in_a_packet, a_packet_that_is_too_long, a_broker_that_stops_reading,
-         a_device_that_went_away, a_network_that_vanishes, a_buffer_that_overflows)
+         a_broker_that_resets_in_a_packet, a_reset_behind_a_publish_at_qos_2, a_packet_that_is_too_long,
+         a_broker_that_stops_reading, a_device_that_went_away, a_network_that_vanishes,
+         a_buffer_that_overflows)

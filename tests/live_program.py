@@ -1,10 +1,12 @@
 """Cases of tests/live.py: how the program starts and ends, its policies, and brokers that fail."""
+import json
 import os
 import socket
 import subprocess
 import time
 
 from live_parts import HOST, free_port, wanted
+from live_room import Gateway
 from live_sessions import S1, SOURCE
 
 
@@ -171,6 +173,85 @@ def a_start_that_fails(room):
             words = good[:7] + [number]
             status, printed = room.run('serve', *words)
             wanted((status, printed) == (2, ''), '%r: status 2, and not %d' % (words, status))
+
+
+def configured(room, *words, **settings):
+    """A gateway that a configuration file starts, and words of the command line. Once it listens."""
+    text = ''.join('%s = %s\n' % (name.replace('_', '-'), json.dumps(value))
+                   for name, value in settings.items())
+    gateway = room.keep(Gateway([room.program, 'serve', '--config', room.file('sng.toml', text), *words]))
+    gateway.port = int(gateway.line('err', r'listening on [\d.]+:(\d+)')[1])
+    return gateway
+
+
+def a_configuration_file(room):
+    broker = room.test_broker()
+    policy = room.file('policy.json', json.dumps(SOURCE))
+    gateway = configured(room, listen=HOST + ':0', broker='%s:%d' % (HOST, broker.port), id='gw1', workers=2,
+                         policy=policy, verbose=True, rows=True)
+    gateway.line('err', 'connected')
+    heard = room.subscriber(broker, 'ab', 1)
+    room.device(gateway).publish_short('ab', b'x')
+    heard.hears('ab', 'x')
+    gateway.line('out', '^note publish .* ab allowed')
+    gateway.say('reload')
+    gateway.line('err', 'policy unchanged: nothing to do')
+    gateway.say('quit')
+    wanted(gateway.ended() == 0, 'status 0')
+    rows = [line for line in gateway.lines['out'] if line.startswith('row 1 ')]
+    wanted(len(rows) == 2, 'each row as it is made and at the end')
+
+
+def the_command_line_goes_before_the_file(room):
+    """Each of its words does, also before one that is no address; a switch that is on stays on."""
+    port = free_port()
+    policy = room.file('policy.json', json.dumps(SOURCE))
+    gateway = configured(room, '--broker', '%s:%d' % (HOST, port), '--tries', '2', '--workers', '1',
+                         listen=HOST + ':0', broker='nowhere', id='gw1', workers=8, tries=1, policy=policy,
+                         rows=True)
+    gateway.line('err', 'policy in force')
+    gateway.line('err', 'gave up after 2 tries')
+    gateway.say('quit')
+    wanted(gateway.ended() == 0, 'status 0')
+    wanted(any(line.startswith('row 1 ') for line in gateway.lines['out']), 'rows')
+    gateway = configured(room, '--listen', HOST + ':0', listen='nowhere', broker='%s:%d' % (HOST, port),
+                         id='gw1', workers=1, tries=1)
+    gateway.line('err', 'gave up after 1 tries')
+    gateway.kill()
+
+
+def a_configuration_at_fault(room):
+    """Nothing is started, and what is wrong is told with the file and the line; the file's faults first."""
+    good = 'listen = "%s:0"\nbroker = "%s:1883"\nid = "gw1"\nworkers = 1\n' % (HOST, HOST)
+    path = os.path.join(room.folder, 'sng.toml')
+
+    def case(text, told, *words):
+        room.file('sng.toml', text)
+        came = room.told('serve', '--config', path, *words)
+        told = 'sng: %s\n' % told.replace('FILE', path)
+        wanted(came == (1, '', told), '%r: %r, and not %r' % (text, told, came))
+    names = 'listen, broker, id, workers, policy, tries, flood-each, flood-all, verbose, rows'
+    case(good + 'listne = "x"\n', 'FILE, line 5: `listne` is not a setting; the settings are ' + names)
+    case(good + '\nid = "gw2"', 'FILE, line 6: `id` is set on line 3 already')
+    case(good + 'tries = "5"', 'FILE, line 5: `tries` wants a whole number from 0 to 4294967295')
+    case(good.replace('= 1\n', '= 9\n'), 'FILE, line 4: `workers` wants a whole number from 1 to 8')
+    case(good + 'policy = p.json', 'FILE, line 5, column 10: invalid value, expected a string, number, '
+         'boolean, date-time, array or inline table')
+    case(good + '[policy]', 'FILE, line 5: there are no tables here: each line is NAME = VALUE')
+    case(good.replace(HOST + ':0', '1.2.3'),
+         'FILE, line 1: listen 1.2.3: not an IPv4 address with a port, as 0.0.0.0:1884')
+    case(good.replace('gw1', 'x' * 24),
+         'FILE, line 3: id %s: not a client id of 1 to 23 characters' % ('x' * 24))
+    case(good + 'policy = "/none.json"',
+         'FILE, line 5: policy /none.json: cannot be read: No such file or directory (os error 2)')
+    case(good.replace('workers', '#'),
+         '--workers is missing: neither the command line nor the configuration file has it')
+    case('x', 'FILE, line 1, column 2: key with no value, expected `=`', '--listen', 'nowhere')
+    came = room.told('serve', '--config', path + 'x', '--listen', 'nowhere')
+    told = 'sng: --config %sx: cannot be read: No such file or directory (os error 2)\n' % path
+    wanted(came == (1, '', told), '%r, and not %r' % (told, came))
+    status = room.told('serve', '--listen', HOST + ':0', '--broker', HOST + ':1883', '--id', 'gw1')[0]
+    wanted(status == 2, 'status 2, and not %d' % status)
 
 
 def an_input_that_cannot_be_read(room):

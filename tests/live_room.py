@@ -131,10 +131,10 @@ class Gateway(Process):
         if self.is_verbose:
             self.line('out', '^row .* replace$', count=before + 1)
 
-    def close(self, status=0, verbose=True):
+    def close(self, status=0, verbose=True, seconds=SECONDS):
         """Stops it, checks how it ends, and answers how many rows it closed."""
         self.say('quit')
-        came = self.ended()
+        came = self.ended(seconds)
         wanted(came == status, 'status %d, and not %d: %r' % (status, came, self.lines['err'][-3:]))
         last = self.lines['out'][-1] if self.lines['out'] else ''
         found = re.fullmatch(r'closed (\d+) rows', last)

@@ -28,14 +28,14 @@ from live_room import Gateway, Room
 ROOT = os.path.dirname(os.path.dirname(os.path.abspath(__file__)))
 PROVED = os.path.join(ROOT, 'crates', 'sng', 'out', 'sng')
 UNIT = '/usr/lib/systemd/system/sng.service'
-POLICY, DEFAULTS, PIPE = '/etc/sng/policy.json', '/etc/default/sng', '/run/sng.control'
-LEFT = ('/usr/bin/sng', '/etc/sng', DEFAULTS, UNIT, '/usr/share/doc/sng')
+CONFIG, POLICY, PIPE = '/etc/sng/sng.toml', '/etc/sng/policy.json', '/run/sng.control'
+LEFT = ('/usr/bin/sng', '/etc/sng', UNIT, '/usr/share/doc/sng')
 # What systemd-analyze may find at most, on its scale from 0 to 10
 EXPOSURE = 2.0
 NOBODY = 65534
 # The files beside the documents and the examples
 FILES = {
-    '/usr/bin/sng', UNIT, '/usr/lib/systemd/system/sng.socket', POLICY, DEFAULTS,
+    '/usr/bin/sng', UNIT, '/usr/lib/systemd/system/sng.socket', CONFIG, POLICY,
     '/usr/share/man/man1/sng.1.gz', '/usr/share/man/man5/sng-policy.5.gz',
     '/usr/share/man/man8/sng-serve.8.gz', '/usr/share/bash-completion/completions/sng',
     '/usr/share/zsh/vendor-completions/_sng', '/usr/share/fish/vendor_completions.d/sng.fish',
@@ -139,16 +139,19 @@ def how_systemd_rates_it(base):
 
 
 def as_the_unit(room, base, port):
-    """The gateway as the unit starts it, but for its ports: its environment, its pipe, its umask."""
+    """The gateway as the unit starts it, with the configuration as it is installed but for its ports and,
+    in a folder, the place of the policy; in no environment, and with the unit's pipe and umask."""
     text = read(base + UNIT)
-    variables = unit_file.environment(text, lambda name: read(base + name))
-    words = unit_file.started(text, variables)
-    usual = '--listen 0.0.0.0:1884 --broker 127.0.0.1:1883 --id gw1 --workers 1 --tries 0 --policy'
-    wanted(words == ['/usr/bin/sng', 'serve', *usual.split(), POLICY], 'the usual words, and not %s' % words)
-    variables.update(LISTEN=HOST + ':0', BROKER='%s:%d' % (HOST, port))
-    words = [base + word if word in ('/usr/bin/sng', POLICY) else word
-             for word in unit_file.started(text, variables)]
-    more = {'env': variables, 'cwd': '/', 'umask': int(unit_file.settings(text)['UMask'][0], 8)}
+    words = unit_file.started(text)
+    wanted(words == ['/usr/bin/sng', 'serve', '--config', CONFIG], 'the usual words, and not %s' % words)
+    config = read(base + CONFIG)
+    for usual, here in (('0.0.0.0:1884', HOST + ':0'), ('127.0.0.1:1883', '%s:%d' % (HOST, port)),
+                        (POLICY, base + POLICY)):
+        wanted(config.count('"%s"' % usual) == 1, 'the usual %s' % usual)
+        config = config.replace('"%s"' % usual, '"%s"' % here)
+    words = [base + words[0], *words[1:-1], room.file('sng.toml', config)]
+    os.chmod(room.folder, 0o755)
+    more = {'env': {}, 'cwd': '/', 'umask': int(unit_file.settings(text)['UMask'][0], 8)}
     if os.geteuid() == 0:
         more.update(user=NOBODY, group=NOBODY, extra_groups=[])
     try:

@@ -2,7 +2,10 @@
 
 Policy texts with what `sng policy` prints of them, for end_to_end.py: those of tests/places.table and of
 tests/warnings.table, and those at the limits of a policy and one past them, which are too long for a table.
+For `sng policy --print`, the canonical text of each policy text that is accepted, as Python's json writes it.
 """
+import base64
+import json
 import os
 from collections import namedtuple
 
@@ -94,3 +97,35 @@ def reports():
     yield from limits()
     yield from warnings()
     yield from all_texts()
+
+
+def pairs_of(scope_value):
+    """The pairs of a scope, which may be a text of unpadded base64url, with `pub` before `sub`."""
+    if isinstance(scope_value, str):
+        scope_value = json.loads(base64.urlsafe_b64decode(scope_value + '=' * (-len(scope_value) % 4)))
+    return [[asked, [word for word in ('pub', 'sub') if word in words]] for asked, words in scope_value]
+
+
+def canonical(text):
+    """The canonical text of an accepted policy, as bytes."""
+    value = json.loads(text)
+    parts = {part: value.get(part, {}) for part in ('clients', 'sources', 'topics')}
+    for part in ('clients', 'sources'):
+        parts[part] = {name: pairs_of(given) for name, given in parts[part].items()}
+    parts['version'] = 1
+    return json.dumps(parts, ensure_ascii=False, separators=(',', ':'), sort_keys=True).encode() + b'\n'
+
+
+def prints():
+    """What `--print` makes of each policy text: the canonical text, which prints itself, or the report."""
+    for name, said, text in policy_texts.all_texts():
+        if said == policy_texts.ACCEPTED:
+            printed = canonical(text)
+            yield Report('print-' + name, text, 0, printed, None)
+            yield Report('print-again-' + name, printed, 0, printed, None)
+        else:
+            yield Report('print-' + name, text, 1, None, None)
+    for report in faults():
+        yield report._replace(name='print-' + report.name)
+    for report in warnings():
+        yield report._replace(name='print-' + report.name, printed=canonical(report.text))

@@ -139,7 +139,10 @@ note register * - 6
 note register * * 10
 note register * * 22 Full Ids
 note publish * * allowed
-note publish * - 2
+note publish * * allowed | send * 040f*
+row * 0 datagram | send * 040f*
+row * 0 datagram | send * 040e*
+row * 0 datagram | send * 040e* | row * 0 datagram | send * 040e*
 note publish * - 3
 note publish * - 4
 note publish * - 5
@@ -149,6 +152,7 @@ note publish * - 9 UnknownId normal
 note publish * - 9 UnknownId predefined
 note publish * * 10
 note publish * * 21
+note publish * * 22 Full Exchanges
 note publish * * 22 Full InFlight
 note publish * * 22 Full Outbox
 note subscribe * * allowed
@@ -227,7 +231,8 @@ WEIGHTS = {
     'broker_fault': 2, 'turn': 4, 'empty': 0.5, 'answer': 6, 'delivery': 18, 'burst': 0.4,
     'busy_connect': 1, 'busy_disconnect': 0.5, 'tick': 3, 'lapse': 0.5, 'will_connect': 3, 'will_update': 3,
     'stray_will': 1, 'last_will': 0.5, 'published_will': 1.5, 'sign_of_life': 1, 'sleep': 2, 'wake': 4,
-    'nap': 5, 'late': 1.5, 'late_and_denied': 1, 'withdrawal': 3,
+    'nap': 5, 'late': 1.5, 'late_and_denied': 1, 'withdrawal': 3, 'qos_2_publish': 4, 'release': 2,
+    'repeated': 3,
 }
 # Those that no script leaves out, and those that some scripts are about
 ALWAYS = ('policy', 'up', 'take', 'connect', 'register', 'publish', 'subscribe')
@@ -252,6 +257,9 @@ BEHIND = ('answer', 'answer', 'answer', 'late', 'late', 'sleep', 'wake', 'take')
 # What may come just before a client is lost, whether it is heard by that or not
 SIGNS = ('source_publish', 'source_publish', 'malformed', 'other_frame', 'pingreq', 'register', 'bad_connect',
          'answer')
+# What may come between a publish at QoS 2 and its repeat, beside an absence of the client
+BEFORE_A_REPEAT = ('policy', 'less_policy', 'withdrawal', 'take', 'down', 'up', 'tick', 'publish', 'register',
+                   'qos_2_publish', 'release', 'busy_connect', 'delivery')
 # What may become of a will that waits for the broker
 PUBLISHED = (['take'], ['policy', 'take'], ['withdrawal', 'take'], ['down', 'up', 'take'],
              ['take', 'policy', 'up'])
@@ -763,6 +771,107 @@ class World:
         return self.sent(0x0c, self.flags(qos, id_type), self.topic(id_type), self.message_id(),
                          self.payload())
 
+    def published_by(self, client, qos, msg_id):
+        """A PUBLISH of a client, mostly under a topic id by which it may."""
+        policy = self.gateway.policy
+        ids = [(gateway_model.NORMAL, number(place), name) for place, name in enumerate(client.topics, 1)]
+        ids += [(gateway_model.PREDEFINED, number(it), name) for it, name in policy.topics.items()]
+        ids += [(gateway_model.SHORT, name.encode(), name.encode()) for name in self.names
+                if len(name.encode()) == 2]
+        scope = policy.clients.get(client.name, [])
+        granted = [(id_type, topic) for id_type, topic, name in ids
+                   if gateway_model.grants(scope, 'pub', name)]
+        id_type = self.one((0, 1, 2, 3))
+        if granted and self.chance(0.9):
+            id_type, topic = self.one(granted)
+        else:
+            topic = self.topic(id_type)
+        return self.sent(0x0c, self.flags(qos, id_type), topic, msg_id, self.payload(),
+                         address=client.address.decode())
+
+    def publisher(self):
+        """A client that may publish now, if there is one, mostly one with open MsgIds."""
+        active = [client for client in self.present() if gateway_model.is_active(client)]
+        counting = [client for client in active if client.open]
+        return self.one(counting if counting and self.chance(0.6) else active or [None])
+
+    def open_id(self, client):
+        """A MsgId that is open, if there is one."""
+        return self.one(sorted(client.open) or [self.message_id()])
+
+    def qos_2_publish(self):
+        """A PUBLISH at QoS 2, now and then a repeat, or one at another QoS with an open MsgId."""
+        client = self.publisher()
+        if client is None:
+            return self.connect()
+        msg_id = self.open_id(client) if self.chance(0.3) else self.message_id()
+        return self.published_by(client, self.one((2, 2, 2, 2, 2, 2, 1, 0)), msg_id)
+
+    def many_qos_2_publishes(self):
+        """A client publishes under many MsgIds in a row, and repeats the last of them at times."""
+        client = self.publisher()
+        if client is None:
+            return self.connect()
+        first = self.among(0, 40)
+        for it in range(first, first + self.among(8, 20)):
+            line = self.published_by(client, 2, number(it))
+            self.lines += [line] * self.one((1, 1, 1, 1, 2))
+        return self.release()
+
+    def release(self):
+        """A PUBREL, mostly of a MsgId that is open, now and then twice, or from elsewhere."""
+        client = self.publisher()
+        if client is None:
+            return self.sent(0x10, self.message_id())
+        msg_id = self.open_id(client) if self.chance(0.8) else self.message_id()
+        line = self.sent(0x10, msg_id, address=None if self.chance(0.1) else client.address.decode())
+        self.lines += [line] * self.chance(0.3)
+        return line
+
+    def repeated(self):
+        """A client publishes at QoS 2, and mostly repeats that once something came between; then it releases
+        the MsgId, or connects clean, and uses it anew, or leaves it open."""
+        client = self.publisher()
+        if client is None:
+            return self.connect()
+        msg_id, place = self.open_id(client) if self.chance(0.2) else self.message_id(), len(self.lines)
+        self.lines.append(self.published_by(client, 2, msg_id))
+        if self.chance(0.5):
+            self.absence(client, msg_id)
+        else:
+            self.say(*(self.one(BEFORE_A_REPEAT) for _ in range(self.one((0, 1, 1, 2)))))
+        if self.chance(0.4):
+            self.lines.append(self.less_policy(client.name))
+        client = self.gateway.clients[client.name]
+        if client not in self.present():
+            return None
+        again = self.lines[place] if self.chance(0.3) else self.published_by(client, 2, msg_id)
+        self.lines.append(again)
+        end = self.one(('open', 'released', 'released', 'released twice', 'cleaned'))
+        address = client.address.decode()
+        if end.startswith('released'):
+            self.lines += [self.sent(0x10, msg_id, address=address)] * (1 + end.endswith('twice'))
+        elif end == 'cleaned':
+            self.lines.append(self.sent(4, b'\4\1', self.duration(), client.name, address=address))
+        return again if end != 'open' and self.chance(0.6) else None
+
+    def absence(self, client, msg_id):
+        """A client sleeps, leaves, is put out or is lost; mostly it connects again, and its MsgIds are those
+        of before. Meanwhile it may publish and release, which is out of turn, or has no session."""
+        address = client.address.decode()
+        other = self.client()
+        ways = [self.sent(0x18, number(300), address=address), self.sent(0x18, address=address),
+                self.sent(4, b'\0\1', self.duration(), other, address=address)]
+        ways += [self.ticked(self.end_of(client))] if client.duration else []
+        self.lines.append(self.one(ways))
+        if self.chance(0.5):
+            self.lines.append(self.sent(0x0c, self.flags(2, 0), number(1), msg_id, address=address))
+        if self.chance(0.5):
+            self.lines.append(self.sent(0x10, msg_id, address=address))
+        if self.chance(0.9):
+            flags = bytes([self.one((0, 0, 0, 0, 4))])
+            self.lines.append(self.sent(4, flags, b'\1', self.duration(), client.name, address=address))
+
     def flood(self):
         """A client, if there is one, publishes the same many times."""
         clients = [client for client in self.present() if gateway_model.is_active(client)]
@@ -808,7 +917,7 @@ class World:
     def other_frame(self):
         """A message that is not taken, or one that only a gateway sends."""
         kind, part = self.one([
-            (0x05, b'\0'), (0x06, b''), (0x08, b''), (0x0e, b'\0\1'), (0x0f, b'\0\1'), (0x10, b'\0\1'),
+            (0x05, b'\0'), (0x06, b''), (0x08, b''), (0x0e, b'\0\1'), (0x0f, b'\0\1'),
             (0x13, b'\0\0\1\0\1\0'), (0x15, b'\0\1'), (0x17, b''), (0x1b, b'\0'), (0x1d, b'\0'),
             (0x00, b'\1\0\0'), (0x01, b'\0'), (0x02, b'\1'), (0xfe, b'\1\2\3'),
         ])
@@ -978,6 +1087,14 @@ def many_naps(world):
           wake=2, late=3, late_and_denied=3, withdrawal=3)
 
 
+def many_open_ids(world):
+    """Clients publish at QoS 2 under as many MsgIds as may be open, repeat some and release some; they sleep
+    and are lost, and policies change."""
+    world.predefined = 0.8
+    heavy(world, 400, policy=2, register=10, publish=5, qos_2_publish=40, many_qos_2_publishes=6, release=12,
+          repeated=12, take=4, broker_puback=3, up=1, down=0.3, connect=3, tick=1, withdrawal=1)
+
+
 def many_in_flight(world):
     """Publishes of QoS 1 wait and are in flight, as many as may be; clients with a will are lost beside
     them."""
@@ -1035,7 +1152,7 @@ def many_packet_ids(world):
 # The kinds of the first scripts; all others are mixed
 LONG = ([many_ids] * 2 + [many_subscriptions] * 2 + [many_holders] * 3 + [many_in_flight] * 2
         + [many_items] * 3 + [many_messages] * 3 + [many_wills] * 4 + [many_naps] * 8
-        + [many_clients, many_packet_ids])
+        + [many_clients, many_packet_ids] + [many_open_ids] * 3)
 
 
 def script(seed):

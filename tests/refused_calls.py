@@ -1,5 +1,5 @@
 #!/usr/bin/env python3
-"""refused_calls.py [CASES [SEED]]
+"""refused_calls.py [--all]
 
 Refuses memory to the calls that take it, one allocation a run, and makes each call that met it again:
 tests/refused/ is a program without proof that does this, and looks at what is behind the refusal. A refused
@@ -8,15 +8,24 @@ leaves the book; the same call, made again, answers what it would have answered,
 is printed then.
 
 Each run plays one input, and one allocation of it is refused: `rt try --fail-alloc` refuses that of a fixed
-number, and the program first takes and gives back memory so often that it is the one that is wanted. Of all
-that may be refused CASES (200) are drawn from SEED (1), and the first of each input; with 0 none is left out.
-The inputs are six random scripts, for the steps of a core, for the acts and cuts of a desk with the gathering
-behind them, and for a run over all events at once; and lines with policy texts, scopes, questions about
-filters, datagrams and packets. What is printed has to be what the model says, or what stands beside the line
-here. The last lines say how many allocations were refused to each call, and to which of CALLS none was; the
-exit status is 1 where something is wrong, or where none is left out and a call met no refusal.
+number, and the program first takes and gives back memory so often that it is the one that is wanted. So every
+allocation of an input is refused in turn, up to a run whose calls meet no refusal: behind them the program
+goes on until one is refused, which tells how many allocations the input makes. A call may withstand a refusal
+and tell of none: a table that grows asks for less where more is refused. Then, too, all has to be printed.
 
-It builds once, which takes three minutes of a processor, and each run takes half a second."""
+The inputs are a script in which each kind of event comes (refused_kinds.py), and random scripts, each for the
+steps of a core, for the acts and cuts of a desk with the gathering behind them, and for a run over all events
+at once; and lines with policy texts, scopes, questions about filters, datagrams and packets. What is printed
+has to be what the model says, or what stands beside the line here.
+
+Without --all the steps of the script of each kind and the lines are tried as a whole, and of all else DRAWN
+allocations, which are drawn from SEED; the gate does this. The last lines say how many allocations were
+refused to each call by the kind of its event or of what it was about, and which calls take no memory. The
+exit status is 1 where something is wrong, or where an input that was tried as a whole left a call without a
+refusal that is not one of FREE.
+
+It builds once, and with --all once more before, to count the allocations of each input. A build takes some
+three minutes of a processor, and each run a tenth of a second."""
 import collections
 import os
 import random
@@ -31,28 +40,40 @@ import calls
 import end_to_end
 import gateway_model
 import random_scripts
+import refused_kinds
 
 SOURCES = os.path.join(end_to_end.HERE, 'refused')
 NAME = 'refused_calls'
-CASES, SEED = 200, 1
-# The allocation that is refused; the program makes one before it burns any
-REFUSED, BEFORE = 4000, 1
-# Scripts of so many lines, no longer than the program reads, are drawn from these seeds on
-SCRIPTS, LINES, MOST_BYTES, FIRST_SEED = 6, 24, 2500, 5000
-# Rows that few scripts have: each script has one of the first kind or the second, by turns
-RARE = (b' 0 tick\n', b' 0 down\n')
-# Allocations that an input may make in the program's calls
-MOST = 800
-# The calls that are to meet a refusal
-CALLS = ('Core::new', 'Core::step', 'Core::copy', 'Event::copy', 'Desk::new', 'Desk::act', 'Desk::cut', 'run',
-         'print_row', 'line_of', 'Stream::feed', 'read_policy', 'write_policy', 'read_scope', 'cover',
-         'sng_frames::decode', 'sng_frames::encode', 'mqtt_frames::encode')
-# Of these it is told how often they met a refusal by the kind of their event
-BY_KIND, NOTHING = ('Core::step', 'Desk::act'), 'nothing'
+DRAWN, SEED = 100, 1
+# The allocation that is refused; the program makes some before it burns any
+REFUSED, BEFORE = 4000, 3
+# No input makes so many allocations
+MOST = 3000
+# Random scripts of so many lines, no longer than this, are those of these seeds; the gate takes the first few
+LINES, MOST_BYTES, SEEDS, FEW = 24, 12_000, range(5000, 6000), 6
+# Letters of the program: steps, compared with a core that the same events led to or with a copy from before;
+# acts, a run, and calls one by one
+STEPS, COPIED_STEPS, ACTS, RUN, ONE_BY_ONE = 's', 'k', 'a', 'r', 'p'
+# By the letter of an input the calls that are made for each of its rows, and the others
+BY_ROW = {STEPS: ('Core::step',), COPIED_STEPS: ('Core::step',), ACTS: ('Desk::act',), RUN: ()}
+OTHERS = {STEPS: ('Core::new', 'line_of', 'Stream::feed'), COPIED_STEPS: ('Core::copy', 'Event::copy'),
+          ACTS: ('Desk::new', 'Desk::cut', 'gather'), RUN: ('run', 'print_row')}
+NOTHING, WITHSTOOD = 'nothing', 'withstood'
 # Memory of the program itself
-OWN = ('Vec', 'Log::room')
-# Letters of the program: steps, acts, a run, and calls one by one
-STEPS, ACTS, RUN, ONE_BY_ONE = 's', 'a', 'r', 'p'
+OWN = ('Vec', 'TopicFilter::read')
+# What takes no memory: `gather`, steps without outs that keep nothing new, an inclusion that holds, and
+# decoding what has no text
+FREE = {
+    'gather', 'cover of what is included',
+    *('Core::step of ' + kind for kind in (
+        'Down', 'PINGRESP of the broker', 'PUBACK of the broker', 'Replace', 'SUBACK of the broker',
+        'Take of nothing', 'UNSUBACK of the broker')),
+    *('sng_frames::decode of ' + kind for kind in (
+        'CONNACK', 'DISCONNECT', 'DISCONNECT with a Duration', 'PINGREQ', 'PINGRESP', 'PUBACK', 'PUBCOMP',
+        'PUBREC', 'PUBREL', 'REGACK', 'SUBACK', 'UNSUBACK', 'WILLMSGREQ', 'WILLMSGRESP', 'WILLTOPICREQ',
+        'WILLTOPICRESP')),
+}
+
 # Lines for calls one by one, each with what it prints
 POLICIES = (
     ('{"version":1,"clients":{"s1":[["t/1",["pub"]],["a/#",["sub"]]],"s2":"W1siYWIiLFsicHViIl1dXQ"},'
@@ -74,15 +95,53 @@ PACKETS = ('100f00044d5154540402003c0003677731', '20020000', '30060003742f3178',
            '40020001', '820800020003742f2301', '9003000201', 'a20700020003742f23', 'b0020002', 'c000', 'd000',
            'e000')
 
+# What is played: the letter, the input, what is to be printed, the calls of each of its rows, all calls that
+# are made, and how many allocations are refused in turn at most
+Input = collections.namedtuple('Input', 'letter text printed by_row calls most')
+# Which call met a refusal, for which row; how many allocations behind all calls that was; what is wrong
+Met = collections.namedtuple('Met', 'call row behind fault')
+
+
+def pieces(octets):
+    """The same octets in two pieces, the second of one byte."""
+    return octets[:-2] + ' ' + octets[-2:]
+
+
+def frame_lines(octets):
+    """The line of a datagram, and the calls that it makes."""
+    kind = refused_kinds.frame_kind(bytes.fromhex(octets))
+    return 'd ' + octets, octets, ['sng_frames::%s of %s' % (name, kind) for name in ('decode', 'encode')]
+
+
+def packet_lines(octets, given):
+    """The line of a packet that is fed as is `given`, and the calls that it makes."""
+    packets, _ = gateway_model.Stream().feed(bytes.fromhex(octets))
+    kind = refused_kinds.packet_kind(packets[0])
+    return 'm ' + given, octets, ['Stream::feed of ' + kind, 'mqtt_frames::encode of ' + kind]
+
 
 def one_by_one():
-    """The lines of the calls that keep nothing, and what they print."""
-    lines = [('p ' + text, said) for text, said in POLICIES]
-    lines += [('s ' + text, said) for text, said in SCOPES]
-    lines += [('c ' + text, said) for text, said in INCLUSIONS]
-    lines += [('b from 10.0.0.9:4000 ' + octets, octets) for octets in FRAMES]
-    lines += [('b broker ' + octets, octets) for octets in PACKETS]
-    return [''.join(part + '\n' for part in parts).encode() for parts in zip(*lines)]
+    """The lines of the calls that keep nothing."""
+    lines = []
+    for text, said in POLICIES:
+        is_read = said.startswith('{')
+        lines.append(('p ' + text, said, ['read_policy of ' + ('a policy' if is_read else said)]
+                      + ['write_policy'] * is_read))
+    lines += [('s ' + text, said, ['read_scope of ' + (said if said.startswith('Bad') else 'a scope')])
+              for text, said in SCOPES]
+    lines += [('c ' + text, said, ['cover of what is ' + said.split(' ')[0]]) for text, said in INCLUSIONS]
+    lines += [frame_lines(octets) for octets in FRAMES]
+    lines += [packet_lines(octets, given) for octets in PACKETS for given in (octets, pieces(octets))]
+    text, printed = [''.join(line[place] + '\n' for line in lines).encode() for place in (0, 1)]
+    rows = [made for _, _, made in lines]
+    return Input(ONE_BY_ONE, text, printed, rows, {call for made in rows for call in made}, 380)
+
+
+def plays(letter, text, printed, most):
+    """A script, played in the way of this letter."""
+    rows = [['%s of %s' % (call, kind) for call in BY_ROW[letter]] for kind in refused_kinds.row_kinds(text)]
+    made = {*OTHERS[letter], *(call for row in rows for call in row)}
+    return Input(letter, text, printed, rows, made, most)
 
 
 def is_fit(text, printed):
@@ -91,26 +150,38 @@ def is_fit(text, printed):
             and b'\n\n' not in text)
 
 
-def scripts(count):
-    """Random scripts with what the model prints for them, by turns with a row of each rare kind."""
-    found, seed = [], FIRST_SEED
-    while len(found) < count:
+def scripts(most):
+    """Random scripts with what the model prints for them, so many at most. Each has a kind of event that none
+    before it has; together they have each kind, if they may be so many."""
+    missing = set(refused_kinds.row_kinds(refused_kinds.every_kind()))
+    found = []
+    for seed in SEEDS:
         text = random_scripts.script_of_lines(seed, LINES)
         status, printed = gateway_model.play(text)
-        if status == 0 and is_fit(text, printed) and RARE[len(found) % len(RARE)] in printed:
-            found.append((text, printed))
-        seed += 1
+        if status == 0 and is_fit(text, printed):
+            kinds = set(refused_kinds.row_kinds(text))
+            if kinds & missing:
+                missing -= kinds
+                found.append((text, printed))
+        if not missing or len(found) == most:
+            break
     return found
 
 
-def inputs():
-    """The name of each input, the letter of what is to be done with it, itself, and what is to be printed."""
-    drawn = scripts(SCRIPTS)
-    for place, (text, printed) in enumerate(drawn):
-        yield 'steps%d' % place, STEPS, text, printed
-        yield 'acts%d' % place, ACTS, text, printed
-    yield 'run', RUN, *drawn[0]
-    yield 'calls', ONE_BY_ONE, *one_by_one()
+def inputs(most_scripts):
+    """The inputs by their names: those that the gate tries as a whole, and the others."""
+    each = refused_kinds.every_kind()
+    printed = gateway_model.play(each)[1]
+    whole = {'steps of each kind': plays(STEPS, each, printed, 950), 'calls': one_by_one()}
+    drawn = {'acts of each kind': plays(ACTS, each, printed, 1250),
+             'a run of each kind': plays(RUN, each, printed, 1250)}
+    for place, (text, printed) in enumerate(scripts(most_scripts), 1):
+        drawn['steps %d' % place] = plays(STEPS, text, printed, 350)
+        if place <= FEW:
+            drawn['acts %d' % place] = plays(ACTS, text, printed, 500)
+        if place <= FEW // 2:
+            drawn['steps with copies %d' % place] = plays(COPIED_STEPS, text, printed, 900)
+    return whole, drawn
 
 
 def lay(room):
@@ -134,83 +205,133 @@ def lay(room):
 
 
 def run_all(cases):
-    """What is printed for each case, by its name."""
+    """What is printed for each case, in order: each is an input, and the place of the allocation of it that
+    is refused."""
     with tempfile.TemporaryDirectory() as room, tempfile.TemporaryDirectory() as folder:
-        for name, text in cases.items():
-            with open(os.path.join(folder, name), 'wb') as file:
-                file.write(text)
+        for number, (one, place) in enumerate(cases):
+            path = os.path.join(folder, 'c%06d' % number)
+            with open(path, 'wb') as file:
+                file.write(one.text)
+            with open(path + '.args', 'w') as file:
+                file.write('%d\n%s\n' % (REFUSED - BEFORE - place, one.letter))
         words = ['rt', 'try', '--steps', '1', '--fail-alloc', str(REFUSED), '--cases', folder]
         done = subprocess.run(words, cwd=lay(room), stdin=subprocess.DEVNULL, stdout=subprocess.PIPE,
                               stderr=subprocess.PIPE)
     if not re.search(rb'^case=', done.stderr, re.M):
         raise SystemExit('the cases were not run\n' + done.stderr.decode(errors='replace')[-3000:])
-    parts = re.split(rb'^== (\w+)\n', done.stdout, flags=re.M)[1:]
-    return dict(zip((name.decode() for name in parts[::2]), parts[1::2]))
+    parts = re.split(rb'^== c(\d+)\n', done.stdout, flags=re.M)[1:]
+    printed = dict(zip(map(int, parts[::2]), parts[1::2]))
+    return [printed.get(number, b'') for number in range(len(cases))]
 
 
-def drawn_places(names, count, seed):
-    """An input and a place among its allocations, for each case, in any order."""
-    first = [(name, 1) for name in names]
-    further = [(name, place) for name in names for place in range(2, MOST + 1)]
-    drawn = random.Random(seed).sample(further, count or len(further))
-    return first + drawn
-
-
-def case(letter, text, place):
-    """What the program is given, so that this allocation of it is refused."""
-    return b'%06d%s\n' % (REFUSED - BEFORE - place, letter.encode()) + text
-
-
-def judge(wanted, printed):
-    """The call that met the refusal, with the kind of its row where that is a step or an act, and what is
-    wrong."""
-    rows, _, met = printed.rpartition(b'met ')
-    said = re.fullmatch(r'(\S+) (\d+)( wrong .*)?\n', met.decode(errors='replace'))
+def judge(one, place, printed):
+    """What a run met."""
+    text, _, met = printed.rpartition(b'met ')
+    said = re.fullmatch(r'(\S+) (\d+) (\d+)(?: wrong (.*))?\n', met.decode(errors='replace'))
     if not said:
-        return NOTHING, 'no end: %r' % printed[-200:]
-    call, row, wrong = said.groups()
-    if wrong:
-        return call, '%s at row %s:%s' % (call, row, wrong)
-    if rows != wanted:
-        line, one, other = random_scripts.difference(rows, wanted)
-        return call, '%s at row %s: line %d is %r, and not %r' % (call, row, line, one[:200], other[:200])
-    kind = re.search(rb'^row %s 0 (\w+)$' % row.encode(), wanted, re.M) if call in BY_KIND else None
-    return '%s of %s' % (call, kind[1].decode()) if kind else call, None
+        return Met(NOTHING, 0, 0, 'no end: %r' % printed[-200:])
+    call, row, behind, wrong = said[1], int(said[2]), int(said[3]), said[4]
+    if not wrong and text != one.printed:
+        wrong = 'line %d is %.200r, and not %.200r' % random_scripts.difference(text, one.printed)
+    if call == NOTHING and not behind:
+        call = WITHSTOOD
+    if row:
+        call = next((name for name in one.by_row[row - 1] if name.split(' of ')[0] == call), call)
+    return Met(call, row, behind, wrong and '%s at row %d: %s' % (call, row, wrong))
 
 
-def report(met, faults):
-    """Prints what was met, and answers which calls were not."""
-    for what in faults:
-        print(what)
-    for call, times in sorted(met.items()):
-        print('%s: %d refusals' % (call, times))
-    missing = [call for call in CALLS if not any(name.split(' of ')[0] == call for name in met)]
-    for call in missing:
-        print('no refusal:', call)
-    return missing
+def all_places(given):
+    """Each allocation of these inputs that is to be refused, up to one behind their last."""
+    return [(name, place) for name, one in given.items() for place in range(1, one.most + 1)]
+
+
+def drawn_places(whole, drawn):
+    """Those of the gate."""
+    return all_places(whole) + random.Random(SEED).sample(all_places(drawn), DRAWN)
+
+
+def tried(given, places):
+    """What the run of each of these places met."""
+    printed = run_all([(given[name], place) for name, place in places])
+    return [judge(given[name], place, text) for (name, place), text in zip(places, printed)]
+
+
+def counted(given):
+    """The inputs, each with one refusal more than it makes allocations, by runs whose calls meet none."""
+    places = [(name, MOST) for name in given]
+    found = tried(given, places)
+    faults = list(faults_of(places, found))
+    if faults:
+        raise SystemExit('\n'.join(faults))
+    return {name: given[name]._replace(most=MOST - met.behind + 1) for (name, _), met in zip(places, found)}
+
+
+def unknown_kinds(given):
+    """Kinds of events of random scripts that the script of each kind lacks."""
+    known = set(refused_kinds.row_kinds(refused_kinds.every_kind()))
+    for one in given.values():
+        for call in one.calls:
+            name, _, kind = call.partition(' of ')
+            if name in ('Core::step', 'Desk::act') and kind not in known:
+                yield 'a kind of event that refused_kinds.py does not say: ' + kind
+
+
+def faults_of(places, found):
+    for (name, place), met in zip(places, found):
+        if met.fault:
+            yield '%s, allocation %d: %s' % (name, place, met.fault)
+
+
+def withstood(places, found):
+    """By which call each refusal was withstood that none told of: as those of the allocations before it and
+    behind it say, where these were refused, too."""
+    met = dict(zip(places, found))
+    for name, place in places:
+        if met[name, place].call == WITHSTOOD:
+            before = next((met[name, other].call for other in range(place, 0, -1)
+                           if met.get((name, other)) and met[name, other].call != WITHSTOOD), NOTHING)
+            behind = next((met[name, other].call for other in range(place, MOST)
+                           if met.get((name, other)) and met[name, other].call != WITHSTOOD), NOTHING)
+            yield before if before == behind else 'between %s and %s' % (before, behind)
+
+
+def cut_short(given, places, found):
+    """The inputs that were to be tried as a whole, and are not: their last run met a refusal, too."""
+    met = dict(zip(places, found))
+    return ['%s makes more than %d allocations' % (name, one.most) for name, one in given.items()
+            if met[name, one.most].call != NOTHING]
+
+
+def report(refused, wanted):
+    """Prints how often memory was refused to each call, and answers what is wrong with that: `wanted` are
+    the calls of the inputs that were tried as a whole."""
+    for call, times in sorted(refused.items()):
+        print('%s: %d' % (call, times))
+    for call in sorted(wanted & FREE):
+        print('%s: takes no memory' % call)
+    return (['no refusal: ' + call for call in sorted(wanted - FREE) if not refused[call]]
+            + ['takes memory: ' + call for call in sorted(FREE) if refused[call]])
 
 
 def main():
-    words = [int(word) for word in sys.argv[1:]]
-    count, seed = (words + [CASES, SEED][len(words):])[:2]
-    given = {name: rest for name, *rest in inputs()}
-    places = dict(enumerate(drawn_places(given, count, seed)))
-    texts = {'c%05d' % number: case(*given[name][:2], place) for number, (name, place) in places.items()}
-    found = run_all(texts)
-    met, faults = collections.Counter(), []
-    for number, (name, place) in places.items():
-        call, fault = judge(given[name][2], found.get('c%05d' % number, b''))
-        if fault:
-            faults.append('%s, allocation %d: %s' % (name, place, fault))
-        elif place == MOST and call != NOTHING:
-            faults.append('%s makes more than %d allocations' % (name, MOST))
-        if call != NOTHING and call not in OWN:
-            met[call] += 1
-    missing = report(met, faults)
-    tried = sum(met.values())
-    print('%d allocations refused in %d runs over %d inputs' % (tried, len(places), len(given)))
-    print('%d passed, %d failed' % (len(places) - len(faults), len(faults)))
-    return 1 if faults or not tried or missing and not count else 0
+    is_all = '--all' in sys.argv[1:]
+    whole, drawn = inputs(len(SEEDS) if is_all else FEW)
+    if is_all:
+        whole, drawn = counted({**whole, **drawn}), {}
+    given = {**whole, **drawn}
+    places = all_places(whole) if is_all else drawn_places(whole, drawn)
+    found = tried(given, places)
+    refused = collections.Counter(met.call for met in found if met.call not in (NOTHING, WITHSTOOD, *OWN))
+    for call, times in sorted(collections.Counter(withstood(places, found)).items()):
+        print('withstood, %s: %d' % (call, times))
+    faults = [*faults_of(places, found), *cut_short(whole, places, found), *unknown_kinds(given),
+              *report(refused, {call for one in whole.values() for call in one.calls})]
+    for fault in faults:
+        print(fault)
+    print('%d allocations refused in %d runs over %d inputs'
+          % (sum(refused.values()), len(places), len(given)))
+    print('%d passed, %d failed' % (len(places), len(faults)))
+    return 1 if faults or not refused else 0
 
 
 if __name__ == '__main__':

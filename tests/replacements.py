@@ -1,6 +1,9 @@
 """What scripts meet at replacements, for random_scripts.py, as no line that is printed shows it by itself:
-which messages, exchanges, publishes, wills and filters were under way as a policy came into force, what that
-did to their grant, and what became of them."""
+which messages, exchanges, publishes, wills, filters and open MsgIds were under way as a policy came into
+force, what that did to their grant, and what became of them. And what else came between a publish at QoS 2
+and its repeat, or the next publish with its MsgId."""
+from dataclasses import dataclass
+
 import gateway_model
 from gateway_model import ALLOWED, Denied, Gateway
 
@@ -37,7 +40,22 @@ will taken denied
 will returned allowed
 filter taken undelivered
 filter returned undelivered
+opened kept repeated
+opened taken repeated
+opened returned repeated
+opened taken released
+opened asleep repeated
+opened left repeated
+opened lost repeated
+opened released published
+opened cleaned published
 """.strip().splitlines()
+
+
+@dataclass
+class Opened:
+    """A MsgId that a publish at QoS 2 under this name opened."""
+    name: bytes
 
 
 class Watched(Gateway):
@@ -47,6 +65,9 @@ class Watched(Gateway):
         super().__init__()
         # By its identity each thing that is under way, with its fate; and the filters that a policy ended
         self.fates, self.ended, self.met = {}, {}, set()
+        # By its client and itself each MsgId that is open; how its client was away since; and what ended one
+        # that is open no more
+        self.opened, self.away, self.closed = {}, {}, {}
 
     def fate(self, thing):
         return self.fates.get(id(thing), (thing, None))[1]
@@ -80,6 +101,8 @@ class Watched(Gateway):
                     yield False, client.name, 'sub', thing
             if client.will:
                 yield False, client.name, 'pub', client.will
+        for (name, _), thing in self.opened.items():
+            yield False, name, 'pub', thing
         for item in [*self.outbox, *self.in_flight.values()]:
             if isinstance(item, gateway_model.Publish):
                 yield item.of_source, item.who, 'pub', item
@@ -122,7 +145,54 @@ class Watched(Gateway):
     def on_puback(self, address, frame):
         self.watch_answer(address, 'acknowledged', super().on_puback, frame)
 
+    def on_publish(self, address, frame):
+        client = self.client_at(address)
+        was_open = set(client.open) if client else set()
+        super().on_publish(address, frame)
+        if client is None or frame.qos != 2 or not gateway_model.is_active(client):
+            return
+        key = client.name, frame.msg_id
+        if frame.msg_id in was_open:
+            self.tell_repeat(self.opened[key])
+        elif frame.msg_id in client.open:
+            self.opened[key] = Opened(self.outbox[-1].name)
+            self.tell('opened', self.closed.pop(key, None), 'published')
+
+    def tell_repeat(self, opened):
+        self.tell('opened', self.fate(opened), 'repeated')
+        for away in self.away.get(id(opened), ()):
+            self.tell('opened', away, 'repeated')
+
+    def on_pubrel(self, address, frame):
+        super().on_pubrel(address, frame)
+        client = self.client_at(address)
+        if client and frame.msg_id not in client.open:
+            self.close(client.name, frame.msg_id, 'released')
+
+    def close(self, name, msg_id, end):
+        opened = self.opened.pop((name, msg_id), None)
+        if opened:
+            self.tell('opened', self.fate(opened), end)
+            self.closed[name, msg_id] = end
+
+    def on_connect(self, address, frame):
+        super().on_connect(address, frame)
+        for name, msg_id in list(self.opened):
+            if msg_id not in self.clients[name].open:
+                self.close(name, msg_id, 'cleaned')
+
+    def be_away(self, client, way):
+        for (name, _), opened in self.opened.items():
+            if name == client.name:
+                self.away.setdefault(id(opened), set()).add(way)
+
+    def leave(self, client):
+        self.be_away(client, 'left')
+        super().leave(client)
+
     def on_disconnect(self, address, frame):
+        if frame.duration and self.client_at(address):
+            self.be_away(self.client_at(address), 'asleep')
         self.watch_answer(address, 'asleep' if frame.duration else 'left', super().on_disconnect, frame)
 
     def watch_answer(self, address, end, answer, frame):
@@ -142,6 +212,7 @@ class Watched(Gateway):
 
     def lose(self, client):
         will, waiting = client.will, len(self.outbox)
+        self.be_away(client, 'lost')
         super().lose(client)
         if len(self.outbox) > waiting:
             self.fates['forward', id(self.outbox[-1])] = self.outbox[-1], self.fate(will)

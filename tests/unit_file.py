@@ -1,9 +1,8 @@
-"""What a unit of systemd says, for tests that start what it starts: its words with the variables of its
-environment, and its filter of system calls."""
+"""What a unit of systemd says, for tests that start what it starts: its words, and its filter of system
+calls."""
 import collections
 import ctypes
 import errno
-import re
 import shutil
 import subprocess
 
@@ -22,20 +21,11 @@ def settings(text):
     return found
 
 
-def environment(text, read):
-    """The variables of Environment= and of the files of EnvironmentFile=, which `read` reads."""
-    found = settings(text)
-    lines = [word for value in found['Environment'] for word in value.split()]
-    for name in found['EnvironmentFile']:
-        lines += [line for line in read(name.lstrip('-')).splitlines() if line and not line.startswith('#')]
-    return dict(line.split('=', 1) for line in lines)
-
-
-def started(text, variables):
-    """The words of ExecStart=."""
+def started(text):
+    """The words of ExecStart=, which have no variables."""
     commands = settings(text)['ExecStart']
-    wanted(len(commands) == 1, 'one ExecStart')
-    return [re.sub(r'\$\{(\w+)\}', lambda name: variables[name[1]], word) for word in commands[0].split()]
+    wanted(len(commands) == 1 and '$' not in commands[0], 'one ExecStart, without variables')
+    return commands[0].split()
 
 
 def system_calls(text):

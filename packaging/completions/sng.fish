@@ -26,10 +26,13 @@ complete -c sng -n "$behind policy" -F
 complete -c sng -n "$behind help" -a 'play check cover may policy serve broker help'
 
 complete -c sng -n "$behind may" -l policy -rF -d 'The file of the policy'
+complete -c sng -n "$behind policy" -l print -d 'Prints the policy as one line, the same for all texts of it'
 complete -c sng -n "$behind may" -l source -x \
     -d 'Asks for the source with this IPv4 address: CLIENT is left out'
 complete -c sng -n "$behind may" -a 'publish receive subscribe'
 
+complete -c sng -n "$behind serve" -l config -rF \
+    -d 'The file that says, in TOML, what the other options leave out'
 complete -c sng -n "$behind serve" -l listen -x -d 'Where devices are listened to, IP:PORT'
 complete -c sng -n "$behind serve" -l broker -x -d 'Where the broker is, IP:PORT'
 complete -c sng -n "$behind serve" -l id -x -d 'The client id of the gateway at the broker'

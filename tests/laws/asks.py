@@ -1,6 +1,6 @@
 """What clients and sources ask for, each judged by the first rule that forbids it: REGISTER, PUBLISH,
 SUBSCRIBE and UNSUBSCRIBE (docs/model.md, the tables; docs/formats.md)."""
-from laws import clients, ids, link, standing
+from laws import clients, ids, link, repeats, standing
 from laws.book import law
 from laws.ends import released
 from laws.frames import two, written
@@ -94,14 +94,19 @@ def source_publishes(book, frame, where):
 
 @law
 def publishes(book, client, frame, where, state):
-    """A PUBLISH at QoS 0 or 1 is noted with its verdict, and answered by PUBACK at QoS 1, and at QoS 0
-    where it is denied; an allowed one waits for the broker, with its QoS and Retain."""
+    """A PUBLISH at QoS 0, 1 or 2 that is no repeat is noted with its verdict, and answered by PUBACK where
+    it is denied, and else by PUBACK at QoS 1 and by PUBREC at QoS 2, where its MsgId is open from then on;
+    an allowed one waits for the broker, with its Retain, and its QoS or 1 where that is 2."""
+    if repeats.is_repeat(book, client, frame, state):
+        repeats.repeats(book, frame, where)
+        return
     try:
-        forbid(frame.qos == 2, '2 NotSupported')
         active_and_listed(book, client, state)
         name = published_name(book, frame, ids.told(book, client))
         forbid_unless_allowed(book.policy.publish_outcome(client, name), name)
         forbid(not link.is_up(book), '21 UpstreamDown', name)
+        is_one_more = frame.qos == 2 and len(repeats.opened(book, client)) >= repeats.MOST_OPEN
+        forbid(is_one_more, '22 Full Exchanges', name)
         lacks = link.lacks_place(book, frame.qos)
         forbid(lacks, lacks, name)
         outcome, about = 'allowed', shown(name)
@@ -109,9 +114,12 @@ def publishes(book, client, frame, where, state):
         outcome, about = denied.outcome, denied.read
     book.noted('publish', shown(client), about, outcome)
     if outcome == 'allowed':
-        item = link.Item('publish', client, name, frame.text, frame.qos, frame.is_retained)
+        item = link.Item('publish', client, name, frame.text, min(frame.qos, 1), frame.is_retained)
         book.tell('joined', None, item)
-    if outcome != 'allowed' or frame.qos:
+    if outcome == 'allowed' and frame.qos == 2:
+        book.tell('opened', client, frame.message_id)
+        repeats.received(book, frame, where)
+    elif outcome != 'allowed' or frame.qos:
         book.sent(where, written(0x0d, frame.topic_id, frame.message_id, code_of(outcome)))
 
 

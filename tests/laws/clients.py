@@ -3,7 +3,8 @@
 The entries of a client are, in order: `connect`, its accepted CONNECT; `came`, a frame from where it was;
 `due`, a message that came to wait for it; `left`, `lost`, `announce`, `hand`, `retry`, `register`,
 `subscribe`, `unsubscribe`, `end` and `will`, the notes of it that are allowed or that settle something;
-`retry denied`; `accepted` and `acknowledged`, its REGACK with code 00 and its PUBACK in turn; and `slept
+`retry denied`; `accepted` and `acknowledged`, its REGACK with code 00 and its PUBACK in turn; `opened` and
+`closed`, its PUBLISH at QoS 2 that was allowed and its PUBREL in turn, each with its MsgId; and `slept
 again`, a PINGRESP that was sent to it while it was awake. A `hand` of a message that was turned away is
 none of them.
 """

@@ -65,7 +65,7 @@ class Frame:
         octets = self.body[2:4] if self.message == 'connect' else self.body
         return int.from_bytes(octets, 'big') if octets else None
 
-    # REGISTER, REGACK, PUBACK, PUBLISH, SUBSCRIBE, UNSUBSCRIBE and the messages about wills
+    # REGISTER, REGACK, PUBACK, PUBLISH, PUBREL, SUBSCRIBE, UNSUBSCRIBE and the messages about wills
 
     @property
     def topic_id(self):
@@ -73,7 +73,7 @@ class Frame:
 
     @property
     def message_id(self):
-        at = {'publish': 3, 'subscribe': 1, 'unsubscribe': 1}.get(self.message, 2)
+        at = {'publish': 3, 'subscribe': 1, 'unsubscribe': 1, 'pubrel': 0}.get(self.message, 2)
         return self.body[at:at + 2]
 
     @property

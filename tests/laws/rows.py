@@ -1,5 +1,5 @@
 """Each row of a book, judged by its event: the whole of it, and nothing else."""
-from laws import asks, clients, ends, entering, exits, handing, link, ticks, wills
+from laws import asks, clients, ends, entering, exits, handing, link, repeats, ticks, wills
 from laws.book import Unlawful, law
 from laws.frames import MALFORMED, UNSUPPORTED
 from laws.scripts import events_of
@@ -11,7 +11,7 @@ OF_SESSIONS = {
     'register': asks.registers, 'publish': asks.publishes, 'subscribe': asks.subscribes,
     'unsubscribe': asks.unsubscribes, 'willtopic': wills.states_will, 'willmsg': wills.states_will,
     'willtopicupd': wills.updates_will, 'willmsgupd': wills.updates_will, 'pingreq': entering.pings,
-    'disconnect': entering.disconnects,
+    'disconnect': entering.disconnects, 'pubrel': repeats.releases,
 }
 ANSWERS = {'regack': handing.confirms, 'puback': handing.acknowledges}
 
@@ -114,7 +114,7 @@ def stranger(book, frame, where):
     taken from anybody is denied by 2, and nothing answers."""
     kind = ASKS.get(frame.message, 'frame')
     is_taken = frame.message in OF_SESSIONS or frame.message in ANSWERS
-    if not is_taken or (frame.message == 'publish' and frame.qos == 2):
+    if not is_taken:
         book.noted(kind, where, '-', '2 NotSupported')
     else:
         book.noted(kind, where, '-', '4 NoSession')

@@ -9,10 +9,10 @@ mod examples;
 mod questions;
 mod services;
 
-use clap::{ArgMatches, Command, Error};
+use clap::{Arg, ArgMatches, Command, Error};
 pub use escape::filters_among;
 pub use examples::example_of;
-pub use questions::MayWords;
+pub use questions::{MayWords, PolicyWords};
 use sng_script::Status;
 use sng_serve::Words as ServeWords;
 use std::alloc::{AllocError, Global};
@@ -31,8 +31,8 @@ pub enum Chosen<'a> {
     Cover,
     /// Answers what a policy says to a question.
     May(MayWords<'a>),
-    /// Checks the policy of the file, and that of standard input where there is none.
-    Policy(Option<&'a str>),
+    /// Checks a policy, or prints its canonical text.
+    Policy(PolicyWords<'a>),
     /// Serves between devices and a broker.
     Serve(ServeWords<'a>),
     /// Serves MQTT clients at this address, for tests.
@@ -52,7 +52,7 @@ fn choice<'a>(matches: &ArgMatches<'a>) -> Chosen<'a> {
         Some(("check", asked)) => Chosen::Check(books::script_word(asked)),
         Some(("cover", _)) => Chosen::Cover,
         Some(("may", asked)) => Chosen::May(questions::may_words(asked)),
-        Some(("policy", asked)) => Chosen::Policy(questions::policy_word(asked)),
+        Some(("policy", asked)) => Chosen::Policy(questions::policy_words(asked)),
         Some(("serve", asked)) => Chosen::Serve(services::serve_words(asked)),
         Some(("broker", asked)) => Chosen::Broker(services::broker_word(asked)),
         _ => Chosen::Play,
@@ -80,6 +80,17 @@ fn with<'a>(
 ) -> Result<Command<'a>, AllocError> {
     match more {
         Ok(more) => command.subcommand(more),
+        Err(error) => Err(error),
+    }
+}
+
+/// The command with one more word.
+fn with_word<'a>(
+    command: Command<'a>,
+    word: Result<Arg<'a>, AllocError>,
+) -> Result<Command<'a>, AllocError> {
+    match word {
+        Ok(word) => command.arg(word),
         Err(error) => Err(error),
     }
 }

@@ -35,7 +35,7 @@ fn main(rt: HostRuntime) -> ExitCode {
                 End::from(status)
             }
             Ok(Chosen::May(asked)) => End::from(may::answer(&rt, words.as_slice(), &asked)),
-            Ok(Chosen::Policy(path)) => End::from(policy::check(&rt, words.as_slice(), path)),
+            Ok(Chosen::Policy(asked)) => End::from(policy::check(&rt, words.as_slice(), asked)),
             Ok(Chosen::Serve(asked)) => serving::serve(&rt, words.as_slice(), &asked),
             Ok(Chosen::Broker(listen)) => {
                 End::from(serving::broker(&rt, words.as_slice(), listen))

@@ -1,7 +1,9 @@
 //! `sng policy ..`: the text that it checks.
+use crate::command::PolicyWords;
 use crate::file::{file_text, first_no_text, report_file, report_word};
 use crate::report::out_of_memory;
-use sng_questions::report::report_of;
+use sng_questions::canonical::canonical_of;
+use sng_questions::report::{Report, report_of};
 use sng_script::Status;
 use sng_script::ending::end;
 use sng_script::file::read_text;
@@ -11,29 +13,39 @@ use std::io::Write;
 use std::rt::Files;
 use std::{io, str};
 
-/// Checks the policy text of the file, and of standard input where there is none.
+/// Checks the policy text of the file, and of standard input where there is none, or prints its canonical
+/// text.
 pub fn check<R: Files + Input + Print + Eprint + AllocGlobal>(
     rt: &R,
     words: &[Octets],
-    path: Option<&str>,
+    asked: PolicyWords<'_>,
 ) -> Status {
     if let Some(place) = first_no_text(words) {
         return report_word(rt, place);
     }
-    let (name, text) = match path {
+    let (name, text) = match asked.file {
         Some(path) => (path, file_text(rt, path)),
         None => ("standard input", read_text(rt.alloc(), rt.reader())),
     };
     match text {
-        Ok(text) => print_report(rt, text.as_slice()),
+        Ok(text) => print_report(rt, told(rt, text.as_slice(), asked.is_printed)),
         Err(error) => report_file(rt, name, &error),
     }
 }
 
-/// Prints what the check of the text comes to, and its warnings on standard error. A warning that cannot be
-/// printed changes nothing.
-fn print_report<R: Print + Eprint + AllocGlobal>(rt: &R, text: &[u8]) -> Status {
-    match report_of(rt.alloc(), text) {
+/// What is told of the text.
+fn told<R: AllocGlobal>(rt: &R, text: &[u8], is_printed: bool) -> Result<Report, AllocError> {
+    if is_printed {
+        canonical_of(rt.alloc(), text)
+    } else {
+        report_of(rt.alloc(), text)
+    }
+}
+
+/// Prints what is told of a text, and its warnings on standard error. A warning that cannot be printed
+/// changes nothing.
+fn print_report<R: Print + Eprint>(rt: &R, told: Result<Report, AllocError>) -> Status {
+    match told {
         Ok(report) => {
             if let Ok(warnings) = str::from_utf8(report.warnings.as_slice()) {
                 let _ = rt.eprint(warnings);

@@ -13,6 +13,7 @@ pub mod AgainRows
 pub mod Asked
 pub mod Rows
 pub mod PublishRows
+pub mod ReceiveRows
 pub mod IdleRows
 pub mod SubscribeRows
 pub mod OneEnds

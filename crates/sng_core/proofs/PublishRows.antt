@@ -152,7 +152,7 @@ publish_moves s from p x here =
     let a = around s (ByMessage from (ToPublish p)) in
     rw here (ap (λ said. note_by a said (heard_at s.clock x)) (sym (publish_said s x p)))
 
-items_asked : (id : List ℕ) (p : Publish) (name : Option (List ℕ)) (o : Outcome)
+pub items_asked : (id : List ℕ) (p : Publish) (name : Option (List ℕ)) (o : Outcome)
     → items_of (publication_by id p name o) ≡ item_asked (who.Client id) name o p
 items_asked id p (Some name) Allowed = refl
 items_asked id p (Some name) (Denied rule) = refl
@@ -182,7 +182,7 @@ publish_nothing s from p at =
     (λ y off. rw off refl) (nobody_here from s.clients at)
 
 -- it wants no filter
-joined_publish : (wanted : List Wanted) (publication : Option Publication)
+pub joined_publish : (wanted : List Wanted) (publication : Option Publication)
     → joined_wanted wanted (items_of publication) ≡ wanted
 joined_publish wanted None = refl
 joined_publish wanted (Some publication) = refl

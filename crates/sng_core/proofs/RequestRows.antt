@@ -7,17 +7,18 @@ use Rattle.sng_book.specs.declared.address.Address.{Address}
 use Rattle.sng_book.specs.declared.out.Out.{Out}
 use Rattle.sng_history.specs.Causes.{Request as Asking, ToPing, ToLeave, ToSleep, ToRegister, ToPublish}
 use Rattle.sng_history.specs.Causes.{ToSubscribe, ToUnsubscribe, ToConfirm, ToAcknowledge, ToState}
-use Rattle.sng_history.specs.Causes.{Untaken, ByMessage}
+use Rattle.sng_history.specs.Causes.{ToPublishOnce, ToRelease, Untaken, ByMessage}
 use Rattle.sng_history.specs.Clients.{Client}
 use Rattle.sng_history.specs.Good.{Good}
 use Rattle.sng_history.specs.State.{State}
 use Rattle.sng_history.specs.Whole.{stranger_to}
-use Rattle.sng_sessions.specs.Sleeping.{slept}
+use Rattle.sng_sessions.specs.Sleeping.{slept, released_at}
 use Rattle.sng_core.specs.declared.request.SessionRequest.{SessionRequest}
 use Rattle.sng_core.specs.declared.request.SessionRequest.TheVariants as asks
 use Rattle.sng_core.specs.Confirming.{confirm_outs, confirm_next, acknowledge_outs, acknowledge_next}
 use Rattle.sng_core.specs.Forms.{place_at, at_place, moved_if, found_outs, heard_at, left_at, left_outs}
 use Rattle.sng_core.specs.Forms.{unsupported_outs, register_outs, register_next, carried_outs, carried}
+use Rattle.sng_core.specs.Receiving.{once_outs, once_next, released_outs}
 use Rattle.sng_core.specs.Requesting.{asked, requested_outs, requested_next}
 use Rattle.sng_core.specs.Sleeping.{slept_outs, ping_outs, ping_next}
 use Rattle.sng_core.specs.Stating.{said, statement_outs, statement_next}
@@ -25,6 +26,7 @@ use Rattle.sng_core.specs.Subscribing.{subscribe_outs, stood, unsubscribe_outs, 
 use Rattle.sng_core.proofs.ConfirmRows.{confirm_row, acknowledge_row}
 use Rattle.sng_core.proofs.IdleRows.{unsupported_row}
 use Rattle.sng_core.proofs.PublishRows.{register_row, publish_row}
+use Rattle.sng_core.proofs.ReceiveRows.{once_row, release_row}
 use Rattle.sng_core.proofs.Rows.{Makes, leave_row}
 use Rattle.sng_core.proofs.SleepRows.{sleep_row, ping_row}
 use Rattle.sng_core.proofs.StatingRows.{state_row}
@@ -37,7 +39,7 @@ Found s from request f g place =
     Makes s (ByMessage from request) (found_outs (stranger_to from request) f (at_place s.clients place))
     (record s { clients = moved_if place g s.clients })
 
--- that of a PUBLISH, a SUBSCRIBE and an UNSUBSCRIBE
+-- that of a PUBLISH at each QoS, a SUBSCRIBE and an UNSUBSCRIBE
 abbrev Carries : State → Address → SessionRequest → Option ℕ → Type 0
 Carries s from request place =
     Makes s (ByMessage from (asked request)) (requested_outs s from request place)
@@ -49,6 +51,13 @@ publishes : (s : State) (from : Address) (p : Publish) (place : Option ℕ)
     (carried s p place) → Carries s from (asks.Publish p) place
 publishes s from p None makes = makes
 publishes s from p (Some place) makes = makes
+
+receives : (s : State) (from : Address) (p : Publish) (place : Option ℕ)
+    → Makes s (ByMessage from (ToPublishOnce p))
+    (found_outs (stranger_to from (ToPublishOnce p)) (once_outs s p) (at_place s.clients place))
+    (once_next s p place) → Carries s from (asks.PublishOnce p) place
+receives s from p None makes = makes
+receives s from p (Some place) makes = makes
 
 subscribes : (s : State) (from : Address) (r : TopicRequest) (place : Option ℕ)
     → Makes s (ByMessage from (ToSubscribe r))
@@ -70,6 +79,15 @@ here : (s : State) (from : Address) (request : SessionRequest) (place : Option �
 here s from (asks.Publish p) place good at =
     subst (Carries s from (asks.Publish p)) at
     (publishes s from p (place_at from s.clients) (publish_row s from p good))
+here s from (asks.PublishOnce p) place good at =
+    subst (Carries s from (asks.PublishOnce p)) at
+    (receives s from p (place_at from s.clients) (once_row s from p good))
+here s from (asks.Release id) None good at =
+    subst (Found s from (ToRelease id) (released_outs id) (released_at s.clock id)) at
+    (release_row s from id good)
+here s from (asks.Release id) (Some place) good at =
+    subst (Found s from (ToRelease id) (released_outs id) (released_at s.clock id)) at
+    (release_row s from id good)
 here s from (asks.Subscribe r) place good at =
     subst (Carries s from (asks.Subscribe r)) at
     (subscribes s from r (place_at from s.clients) (subscribe_row s from r good))

@@ -12,6 +12,7 @@ ghost use Rattle.sng_core.specs.Requesting.{asked, request_outs, request_next};
 use crate::confirm::{acknowledge, confirm};
 use crate::messages::{broken, leave, unsupported};
 use crate::parts::Parts;
+use crate::receive::release;
 use crate::register::register;
 use crate::request::{Asked, SessionRequest, ask_of};
 use crate::sleep::{ping, sleep};
@@ -141,6 +142,8 @@ impl Parts {
         } = self;
         match request {
             SessionRequest::Publish(publish) => self.carry(alloc, place, publish),
+            SessionRequest::PublishOnce(publish) => self.receive(alloc, place, publish),
+            SessionRequest::Release(msg_id) => release(alloc, *clock, msg_id, sessions, place),
             SessionRequest::Subscribe(request) => self.subscribe(alloc, place, request),
             SessionRequest::Unsubscribe(request) => self.unsubscribe(alloc, place, request),
             SessionRequest::Ping(client) => ping(alloc, policy, *clock, client, sessions, place),

@@ -17,6 +17,7 @@ mod messages;
 mod packets;
 mod parts;
 mod publish;
+mod receive;
 mod register;
 mod replace;
 mod request;

@@ -49,20 +49,20 @@ impl Parts {
     }
 }
 
-/// The QoS at which a publish of a client goes on to the broker.
+/// The QoS at which a publish of a client goes on to the broker, which is 1 at most.
 fn qos_of(qos: FrameQos) -> Qos
     ensures { result ≡ qos_of qos }
 {
     match qos {
         FrameQos::AtMostOnce => Qos::AtMostOnce,
         FrameQos::AtLeastOnce => Qos::AtLeastOnce,
-        FrameQos::ExactlyOnce => Qos::AtMostOnce,
+        FrameQos::ExactlyOnce => Qos::AtLeastOnce,
         FrameQos::WithoutSession => Qos::AtMostOnce,
     }
 }
 
 /// How the PUBLISH of the client at this place comes out, given whether there is room for it.
-fn judged(
+pub fn judged(
     alloc: Global,
     policy: &Policy,
     room: Outcome,
@@ -181,7 +181,7 @@ fn puback(alloc: Global, to: Address, publish: &Publish, outs: &mut Outs) -> Res
 }
 
 /// The PUBACK with the publish's TopicId and MsgId and this code.
-fn puback_of(
+pub fn puback_of(
     alloc: Global,
     to: Address,
     publish: &Publish,
@@ -202,7 +202,7 @@ fn puback_of(
 }
 
 /// The publish that was asked for, where it was allowed. An `Err` is a failed allocation.
-fn publication(
+pub fn publication(
     id: &ClientId,
     publish: Publish,
     judged: Judged,

@@ -22,6 +22,10 @@ pub enum SessionRequest {
     Register(Register),
     /// A PUBLISH at QoS 0 or 1.
     Publish(Publish),
+    /// A PUBLISH at QoS 2.
+    PublishOnce(Publish),
+    /// A PUBREL, with the MsgId of the publish that it releases.
+    Release(u16),
     /// A SUBSCRIBE.
     Subscribe(TopicRequest),
     /// An UNSUBSCRIBE.
@@ -67,7 +71,7 @@ pub fn ask_of(frame: SnFrame) -> Asked
         SnFrame::PublishAck(answer) => Asked::Request(SessionRequest::Acknowledge(answer)),
         SnFrame::PublishComplete(id) => untaken(SnFrame::PublishComplete(id)),
         SnFrame::PublishReceived(id) => untaken(SnFrame::PublishReceived(id)),
-        SnFrame::PublishRelease(id) => untaken(SnFrame::PublishRelease(id)),
+        SnFrame::PublishRelease(id) => Asked::Request(SessionRequest::Release(id)),
         SnFrame::Subscribe(request) => Asked::Request(SessionRequest::Subscribe(request)),
         SnFrame::SubscribeAck(answer) => untaken(SnFrame::SubscribeAck(answer)),
         SnFrame::Unsubscribe(request) => Asked::Request(SessionRequest::Unsubscribe(request)),
@@ -88,7 +92,7 @@ fn published(publish: Publish) -> Asked
         FrameQos::WithoutSession => Asked::Source(publish),
         FrameQos::AtMostOnce => Asked::Request(SessionRequest::Publish(publish)),
         FrameQos::AtLeastOnce => Asked::Request(SessionRequest::Publish(publish)),
-        FrameQos::ExactlyOnce => untaken(SnFrame::Publish(publish)),
+        FrameQos::ExactlyOnce => Asked::Request(SessionRequest::PublishOnce(publish)),
     }
 }
 

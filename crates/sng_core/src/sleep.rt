@@ -10,7 +10,6 @@ ghost use Rattle.sng_core.specs.Sleeping.{own_ping_next, other_ping_outs, ping_o
 
 use crate::answers::{dismissed, only};
 use crate::messages::denied_frame;
-use crate::verdict::is_active;
 use sng_book::{Decision, Denial, FormDenial, Out, Outcome, Outs, OutsPair, Who};
 use sng_grants::Policy;
 use sng_sessions::{Change, Sessions};
@@ -144,7 +143,7 @@ fn pinged(
     ensures { IfOk result (λ outs. outs ≡ pinged is_named (client_at sessions.now place)) }
 {
     let phase = sessions.phase(place);
-    if is_active(phase) {
+    if phase.is_active() {
         only(alloc, pong(alloc, sessions.address(place))?)
     } else if is_named && phase.is_due_messages() {
         Ok(OutsPair::empty(alloc))

@@ -12,7 +12,7 @@ ghost use Rattle.sng_core.specs.Stating.{said, stating_of, IsRead, has_turn, gra
 ghost use Rattle.sng_core.specs.Stating.{statement_judged, topic_judged};
 
 use crate::filters::granted;
-use crate::verdict::{Judged, is_active, unread};
+use crate::verdict::{Judged, unread};
 use sng_book::{Denial, FormDenial, GrantDenial, Outcome};
 use sng_frames::WillTopic;
 use sng_grants::Policy;
@@ -47,8 +47,8 @@ pub fn has_turn(sessions: &Sessions, place: usize, statement: &Statement) -> boo
     match statement {
         Statement::Topic(_) => awaits_topic(wills.stage()),
         Statement::Message(_) => awaited_topic(wills.stage()).is_some(),
-        Statement::TopicUpdate(_) => is_active(sessions.phase(place)),
-        Statement::MessageUpdate(_) => is_active(sessions.phase(place)) && wills.will().is_some(),
+        Statement::TopicUpdate(_) => sessions.phase(place).is_active(),
+        Statement::MessageUpdate(_) => sessions.phase(place).is_active() && wills.will().is_some(),
     }
 }
 

@@ -25,6 +25,12 @@ pub fn stranger(
         SessionRequest::Sleep(_) => dismiss(alloc, from, Decision::Frame(who, denied)),
         SessionRequest::Register(_) => dismiss(alloc, from, Decision::Register(who, None, denied)),
         SessionRequest::Publish(_) => dismiss(alloc, from, Decision::Publish(who, None, denied)),
+        SessionRequest::PublishOnce(_) => dismiss(
+            alloc,
+            from,
+            Decision::Publish(who, None, denied),
+        ),
+        SessionRequest::Release(_) => dismiss(alloc, from, Decision::Frame(who, denied)),
         SessionRequest::Subscribe(_) => dismiss(
             alloc,
             from,

@@ -11,7 +11,6 @@ ghost use Rattle.sng_core.specs.Subscribing.{ended};
 
 use crate::filters::{JudgedFilter, copy_filter, filter_read, unread_filter};
 use crate::parts::Parts;
-use crate::verdict::is_active;
 use sng_book::{Address, Decision, Denial, FormDenial, Out, Outcome, Outs, OutsPair, Who};
 use sng_frames::{TopicRequest, write_unsubscribe_ack};
 use sng_sessions::Sessions;
@@ -51,7 +50,7 @@ impl Parts {
         ensures { IfOk result (λ j. j
             ≡ unsubscribe_judged self.now.policy request.now (client_at self.now.clients place)) }
     {
-        if !is_active(self.sessions.phase(place)) {
+        if !self.sessions.phase(place).is_active() {
             return Ok(unread_filter(Denial::Form(FormDenial::OutOfTurn)));
         }
         match filter_read(alloc, &self.policy, request)? {

@@ -6,7 +6,7 @@ ghost use Rattle.sng_ids.specs.Ids.{name_of};
 ghost use Rattle.sng_history.specs.declared.limits.TheConstants.{MAX_CLIENTS};
 ghost use Rattle.sng_history.specs.State.{is_known};
 ghost use Rattle.sng_history.specs.Verdicts.{verdict, room, and_then, name_in, octets_of, predefined_name};
-ghost use Rattle.sng_history.specs.Verdicts.{told_name, entry_by, may_ask, is_active};
+ghost use Rattle.sng_history.specs.Verdicts.{told_name, entry_by, may_ask};
 ghost use Rattle.sng_core.specs.Forms.{client_at, unread};
 
 use crate::parts::Parts;
@@ -18,7 +18,6 @@ use sng_ids::IdTable;
 use sng_outbox::Origin;
 use sng_policy::{lists, topic};
 use sng_sessions::Sessions;
-use sng_states::ClientState;
 use sng_text::{ClientId, Qos, TextFault, TopicName};
 use std::alloc::{AllocError, Global};
 
@@ -81,7 +80,7 @@ pub fn may_ask(policy: &Policy, sessions: &Sessions, place: usize) -> Result<Out
     requires { place < length sessions.now }
     ensures { IfOk result (λ outcome. outcome ≡ may_ask policy.now (client_at sessions.now place)) }
 {
-    if !is_active(sessions.phase(place)) {
+    if !sessions.phase(place).is_active() {
         return Ok(Outcome::Denied(Denial::Form(FormDenial::OutOfTurn)));
     }
     let id = sessions.id(place);
@@ -89,20 +88,6 @@ pub fn may_ask(policy: &Policy, sessions: &Sessions, place: usize) -> Result<Out
         Ok(Outcome::Allowed)
     } else {
         Ok(Outcome::Denied(Denial::Grant(GrantDenial::NoScope(id.copy()?))))
-    }
-}
-
-/// Whether a client is awake and connected.
-pub fn is_active(phase: ClientState) -> bool
-    ensures { result ≡ is_active phase }
-{
-    match phase {
-        ClientState::Active => true,
-        ClientState::Dialogue => false,
-        ClientState::Asleep => false,
-        ClientState::Awake => false,
-        ClientState::Disconnected => false,
-        ClientState::Lost => false,
     }
 }
 

@@ -21,7 +21,7 @@ use Rattle.sng_history.specs.Causes.{Cause}
 use Rattle.sng_history.specs.Causes.{ByConnect}
 use Rattle.sng_history.specs.Clients.{Around, Client, is_here}
 use Rattle.sng_history.specs.Clients.{start_by, announced, handed, subscribed, subscribe_of, unsubscribed}
-use Rattle.sng_history.specs.Clients.{drained}
+use Rattle.sng_history.specs.Clients.{drained, received, id_opened_of}
 use Rattle.sng_history.specs.Clients.{note_by, notes_by, client_by}
 use Rattle.sng_history.specs.State.{State, around}
 use Rattle.sng_history.specs.Verdicts.{entry}
@@ -33,7 +33,7 @@ use Rattle.sng_history.specs.Entering.{entered, served, serving, welcomed, heari
 use Rattle.sng_history.specs.Good.{Each, Distinct, OnePlace, AtRest}
 use Rattle.sng_history.proofs.Own.{each_all}
 use Rattle.sng_history.proofs.Steady.{Steady, Lasting, steady_lasts, start_lasts, announced_steady}
-use Rattle.sng_history.proofs.Steady.{handed_steady}
+use Rattle.sng_history.proofs.Steady.{handed_steady, received_steady}
 use Rattle.sng_history.proofs.Steady.{drained_lasts}
 use Rattle.sng_history.proofs.Hands.{Every, OfMessages}
 use Rattle.sng_history.proofs.Hands.{served_steady}
@@ -102,6 +102,11 @@ pub subscribe_settled : (a : Around) (whom : Who) (filter : Option (List ℕ)) (
     → Settled a (note.Subscribe whom filter outcome)
 subscribe_settled a whom filter outcome x at here =
     subscribed_stays (subscribe_of a.cause) filter outcome x at here
+
+pub publish_settled : (a : Around) (whom : Who) (name : Option (List ℕ)) (outcome : Outcome)
+    → Settled a (note.Publish whom name outcome)
+publish_settled a whom name outcome x =
+    let id = id_opened_of a.cause in steady_stays x (received id outcome x) (received_steady id outcome x)
 
 unsubscribed_stays : (filter : Option (List ℕ)) (outcome : Outcome) (x : Client)
     → Stays x (unsubscribed filter outcome x)

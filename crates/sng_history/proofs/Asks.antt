@@ -17,7 +17,8 @@ use Rattle.sng_history.specs.Clients.{Client}
 use Rattle.sng_history.specs.State.{State, qos_of}
 use Rattle.sng_history.specs.Verdicts.{exit, and_then, verdict, name_in, may_ask, name_given, id_room}
 use Rattle.sng_history.specs.Verdicts.{register_named, register_by, register_ask, publish_named, publish_by}
-use Rattle.sng_history.specs.Verdicts.{publish_ask}
+use Rattle.sng_history.specs.Verdicts.{publish_ask, once_room, publish_once_named, publish_once_by}
+use Rattle.sng_history.specs.Verdicts.{publish_once_ask}
 use Rattle.sng_history.specs.Verdicts.{coverage, in_turn, filter_in, subscribe_room, subscribe_named}
 use Rattle.sng_history.specs.Verdicts.{subscribe_by, subscribe_ask, unsubscribe_named, unsubscribe_by}
 use Rattle.sng_history.specs.Verdicts.{unsubscribe_ask}
@@ -60,6 +61,22 @@ judged_publish P s x p (Denied rule) all = all None (Denied rule)
 pub of_publish : (P : Decision → Type 0) (s : State) (x : Client) (p : Publish) → OfPublish P x
     → P (publish_ask s x p)
 of_publish P s x p all = judged_publish P s x p (may_ask s.policy x) all
+
+named_once : (P : Decision → Type 0) (s : State) (x : Client) (p : Publish) (named : Result (List ℕ) Denial)
+    → OfPublish P x → P (publish_once_named s x p named)
+named_once P s x p (Ok name) all =
+    all (Some name) (and_then (exit s.policy (origin.Client x.id) name) (once_room s x p))
+named_once P s x p (Err rule) all = all None (Denied rule)
+
+judged_once : (P : Decision → Type 0) (s : State) (x : Client) (p : Publish) (may : Outcome)
+    → OfPublish P x → P (publish_once_by s x p may)
+judged_once P s x p Allowed all =
+    named_once P s x p (name_in s.policy (Some x.ids) p.flags.id_type p.topic_id) all
+judged_once P s x p (Denied rule) all = all None (Denied rule)
+
+pub of_publish_once : (P : Decision → Type 0) (s : State) (x : Client) (p : Publish) → OfPublish P x
+    → P (publish_once_ask s x p)
+of_publish_once P s x p all = judged_once P s x p (may_ask s.policy x) all
 
 -- of each note of a SUBSCRIBE
 abbrev OfSubscribe : (Decision → Type 0) → Client → Type 0

@@ -5,7 +5,7 @@ use Rattle.std.specs.List.{flat_map}
 use Rattle.std.proofs.lemmas.List.{append-nil}
 use Rattle.sng_frames.specs.declared.messages.publish.Publish.{Publish}
 use Rattle.sng_outbox.specs.declared.item.Item.{Item}
-use Rattle.sng_states.specs.States.{is_due_messages}
+use Rattle.sng_states.specs.States.{is_due_messages, is_active}
 use Rattle.sng_frames.specs.declared.frame.SnFrame.{SnFrame}
 use Rattle.sng_frames.specs.declared.frame.SnFrame.TheVariants as frame
 use Rattle.sng_book.specs.declared.address.Address.{Address}
@@ -19,6 +19,7 @@ use Rattle.sng_history.specs.Causes.{Request, ToPing, ToLeave, ToSleep, ToRegist
 use Rattle.sng_history.specs.Causes.{ToUnsubscribe, ToConfirm, ToAcknowledge}
 use Rattle.sng_history.specs.Causes.{ToState, Untaken, publish_asked}
 use Rattle.sng_history.specs.Causes.{ByMessage}
+use Rattle.sng_history.specs.Causes.{ToPublishOnce, ToRelease}
 use Rattle.sng_history.specs.Clients.{Client, is_here, closed, is_confirming, is_acknowledging}
 use Rattle.sng_history.specs.State.{State, asked_by, joined}
 use Rattle.sng_history.specs.Verdicts.{ping_verdict}
@@ -40,6 +41,8 @@ use Rattle.sng_history.proofs.Endless.{Endless, endless_unsubscribes, endless_wa
 -- only a PUBLISH and a SUBSCRIBE ask for something
 abbrev pub is_quiet : Request → Bool
 is_quiet (ToPublish p) = false
+is_quiet (ToPublishOnce p) = false
+is_quiet (ToRelease id) = true
 is_quiet (ToSubscribe r) = false
 is_quiet (ToPing client) = true
 is_quiet (ToSleep duration) = true
@@ -112,6 +115,8 @@ request_asks s ToLeave x is =
 request_asks s (ToRegister r) x is =
     of_register (λ said. asked_by_all None (said ∷ []) ≡ []) s.policy x r.name (λ name o. refl)
 request_asks s (ToPublish p) x is = absurd cc
+request_asks s (ToPublishOnce p) x is = absurd cc
+request_asks s (ToRelease id) x is = turn_asks (is_active x.phase) x.id [] tt
 request_asks s (ToSubscribe r) x is = absurd cc
 request_asks s (ToUnsubscribe r) x is =
     of_unsubscribe (λ said. asked_by_all None (said ∷ []) ≡ []) s.policy x r (λ filter o. refl)

@@ -1,9 +1,10 @@
 -- No request but UNSUBSCRIBE ends a subscription.
 use Rattle.std.proofs.Common.{◌≡◌, ℕ, Bool, true, false, List, [], ◌∷◌, ◌++◌, refl, ap, ◌∙◌}
-use Rattle.std.specs.Prelude.{if◌then◌else◌, ◌||◌, filter, Option, Some, None}
+use Rattle.std.specs.Prelude.{if◌then◌else◌, ◌||◌, not, filter, Option, Some, None}
 use Rattle.std.specs.Str.{bytes_eq}
-use Rattle.sng_states.specs.States.{is_due_messages}
+use Rattle.sng_states.specs.States.{is_due_messages, is_active}
 use Rattle.sng_fan.specs.Subscriptions.{stands, with_filter}
+use Rattle.sng_frames.specs.declared.messages.publish.Publish.{Publish}
 use Rattle.sng_frames.specs.declared.messages.subscribe.TopicRequest.{TopicRequest}
 use Rattle.sng_frames.specs.declared.frame.SnFrame.{SnFrame}
 use Rattle.sng_frames.specs.declared.frame.SnFrame.TheVariants as frame
@@ -18,22 +19,25 @@ use Rattle.sng_history.specs.Causes.{Request, ToPing, ToLeave, ToSleep, ToRegist
 use Rattle.sng_history.specs.Causes.{ToUnsubscribe, ToConfirm, ToAcknowledge}
 use Rattle.sng_history.specs.Causes.{ToState, Untaken}
 use Rattle.sng_history.specs.Causes.{ByMessage}
+use Rattle.sng_history.specs.Causes.{ToPublishOnce, ToRelease}
 use Rattle.sng_history.specs.Requests.{granted}
 use Rattle.sng_history.specs.Clients.{Around, Client, is_here, closed, gone, is_confirming, is_acknowledging}
 use Rattle.sng_history.specs.Clients.{start_by, subscribed}
-use Rattle.sng_history.specs.Clients.{subscribe_of, statement_of, note_by, notes_by}
+use Rattle.sng_history.specs.Clients.{subscribe_of, statement_of, note_by, notes_by, received}
+use Rattle.sng_history.specs.Clients.{id_opened_of}
 use Rattle.sng_history.specs.State.{State, around}
-use Rattle.sng_history.specs.Verdicts.{ping_verdict, subscribe_ask}
+use Rattle.sng_history.specs.Verdicts.{ping_verdict, subscribe_ask, is_repeat, publish_once_ask}
 use Rattle.sng_history.specs.WillAsks.{statement_notes}
 use Rattle.sng_history.specs.Answers.{denied_note}
 use Rattle.sng_history.specs.Outgoing.{all_gone, out_of_turn, handed_over}
 use Rattle.sng_history.specs.Lawful.{denial_of, confirmations, woken_notes, fixed_to, fixed_for}
 use Rattle.sng_history.specs.Steps.{client_next}
-use Rattle.sng_history.proofs.Steady.{steady_self, start_filters, client_filters}
+use Rattle.sng_history.proofs.Steady.{steady_self, start_filters, client_filters, received_steady}
+use Rattle.sng_history.proofs.Steady.{denied_received}
 use Rattle.sng_history.proofs.Hands.{Every, every_append, every_handed, every_gone, every_woken}
 use Rattle.sng_history.proofs.Hands.{every_confirmation, Calm, messages_calm, notes_calm}
 use Rattle.sng_history.proofs.Statements.{denied_stated, statement_placid, placid_filters}
-use Rattle.sng_history.proofs.Asks.{of_register, of_publish}
+use Rattle.sng_history.proofs.Asks.{of_register, of_publish, of_publish_once}
 use Rattle.sng_history.proofs.FiltersKept.{subscribe_verdict, ask_cases}
 use Rattle.sng_history.proofs.Holding.{with_stands}
 use Rattle.sng_history.proofs.Endless.{Keeps, Endless}
@@ -58,7 +62,7 @@ denied_stays a x id frame.WillMessageRequest = refl
 denied_stays a x id (frame.WillMessage message) = denied_stated (statement_of a.cause) (Form NotSupported) x
 denied_stays a x id (frame.Register register) = refl
 denied_stays a x id (frame.RegisterAck answer) = refl
-denied_stays a x id (frame.Publish p) = refl
+denied_stays a x id (frame.Publish p) = denied_received (id_opened_of a.cause) (Form NotSupported) x
 denied_stays a x id (frame.PublishAck answer) = refl
 denied_stays a x id (frame.PublishComplete packet) = refl
 denied_stays a x id (frame.PublishReceived packet) = refl
@@ -96,6 +100,8 @@ is_still (ToRegister r) = true
 is_still (ToConfirm r) = true
 is_still (ToAcknowledge r) = true
 is_still (ToPublish p) = true
+is_still (ToPublishOnce p) = true
+is_still (ToRelease id) = true
 is_still (ToState statement) = true
 is_still (Untaken message) = true
 
@@ -108,6 +114,15 @@ turn_still : (a : Around) (turn : Bool) (x : Client) (notes : List Decision) →
     → (notes_by a (if turn then notes else out_of_turn x.id) (start_by a x)).filters ≡ x.filters
 turn_still a true x notes every = calm_still a (start_by a x) notes every ∙ start_filters a x
 turn_still a false x notes every = start_filters a x
+
+publish_still : (a : Around) (x : Client) (o : Outcome)
+    → (received (id_opened_of a.cause) o (start_by a x)).filters ≡ x.filters
+publish_still a x o = (received_steady (id_opened_of a.cause) o (start_by a x)).filters ∙ start_filters a x
+
+once_still : (a : Around) (s : State) (p : Publish) (x : Client) (first : Bool)
+    → (notes_by a (if first then publish_once_ask s x p ∷ [] else []) (start_by a x)).filters ≡ x.filters
+once_still a s p x true = of_publish_once (Still a x) s x p (λ name o. publish_still a x o)
+once_still a s p x false = start_filters a x
 
 still_to : (a : Around) (s : State) (request : Request) (x : Client) → is_still request ≡ true
     → (notes_by a (fixed_to s request x) (start_by a x)).filters ≡ x.filters
@@ -123,7 +138,9 @@ still_to a s ToLeave x is =
     calm_still a (gone (start_by a x)) (all_gone x.id x.buffer.waiting)
     (every_gone (Calm a) x.id x.buffer.waiting (messages_calm a x.id)) ∙ start_filters a x
 still_to a s (ToRegister r) x is = of_register (Still a x) s.policy x r.name (λ name o. start_filters a x)
-still_to a s (ToPublish p) x is = of_publish (Still a x) s x p (λ name o. start_filters a x)
+still_to a s (ToPublish p) x is = of_publish (Still a x) s x p (λ name o. publish_still a x o)
+still_to a s (ToPublishOnce p) x is = once_still a s p x (not (is_repeat p x))
+still_to a s (ToRelease id) x is = turn_still a (is_active x.phase) x [] tt
 still_to a s (ToSubscribe r) x is = absurd cc
 still_to a s (ToUnsubscribe r) x is = absurd cc
 still_to a s (ToConfirm r) x is =

@@ -15,6 +15,7 @@ use Rattle.sng_history.specs.Causes.{ToUnsubscribe, ToConfirm, ToAcknowledge}
 use Rattle.sng_history.specs.Causes.{ToState, Untaken, Cause}
 use Rattle.sng_history.specs.Causes.{ByConnect, ByMessage, BySource, ByBroken, ByPacket, ByUp, ByDown, ByTake}
 use Rattle.sng_history.specs.Causes.{ByReplace, ByTick}
+use Rattle.sng_history.specs.Causes.{ToPublishOnce, ToRelease}
 use Rattle.sng_history.specs.Requests.{granted}
 use Rattle.sng_history.specs.Clients.{Client, blank, is_here, start_by}
 use Rattle.sng_history.specs.Clients.{subscribed}
@@ -103,6 +104,8 @@ message_fit s from (ToSleep duration) x fit = quiet_fit s (ByMessage from (ToSle
 message_fit s from ToLeave x fit = quiet_fit s (ByMessage from ToLeave) x refl fit
 message_fit s from (ToRegister r) x fit = quiet_fit s (ByMessage from (ToRegister r)) x refl fit
 message_fit s from (ToPublish p) x fit = quiet_fit s (ByMessage from (ToPublish p)) x refl fit
+message_fit s from (ToPublishOnce p) x fit = quiet_fit s (ByMessage from (ToPublishOnce p)) x refl fit
+message_fit s from (ToRelease id) x fit = quiet_fit s (ByMessage from (ToRelease id)) x refl fit
 message_fit s from (ToUnsubscribe r) x fit = quiet_fit s (ByMessage from (ToUnsubscribe r)) x refl fit
 message_fit s from (ToConfirm r) x fit = quiet_fit s (ByMessage from (ToConfirm r)) x refl fit
 message_fit s from (ToAcknowledge r) x fit = quiet_fit s (ByMessage from (ToAcknowledge r)) x refl fit

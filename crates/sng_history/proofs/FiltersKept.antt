@@ -24,14 +24,14 @@ use Rattle.sng_history.specs.Causes.{ByReplace, ByTick}
 use Rattle.sng_history.specs.Requests.{gets_id}
 use Rattle.sng_history.specs.Clients.{Around, Client, start_by, cleaned, opened, entered_by}
 use Rattle.sng_history.specs.Clients.{unsubscribed}
-use Rattle.sng_history.specs.Clients.{subscribe_of, statement_of, note_by, notes_by}
+use Rattle.sng_history.specs.Clients.{subscribe_of, statement_of, id_opened_of, note_by, notes_by}
 use Rattle.sng_history.specs.Packets.{has_place}
 use Rattle.sng_history.specs.State.{State, around}
 use Rattle.sng_history.specs.Verdicts.{coverage, and_then, may_ask, filter_in, subscribe_room_in}
 use Rattle.sng_history.specs.Verdicts.{subscribe_room, subscribe_named, subscribe_by, subscribe_ask}
 use Rattle.sng_history.specs.Lawful.{fixed_for}
 use Rattle.sng_history.specs.Steps.{client_next}
-use Rattle.sng_history.proofs.Steady.{handed_steady, repeated_steady, client_filters}
+use Rattle.sng_history.proofs.Steady.{handed_steady, repeated_steady, client_filters, received_steady}
 use Rattle.sng_history.proofs.Steady.{start_filters}
 use Rattle.sng_history.proofs.Statements.{stated_keeps}
 use Rattle.sng_history.proofs.WaitingAcks.{allowed_second, up_room}
@@ -89,7 +89,8 @@ kept_note P l a (note.Unsubscribe whom text outcome) x quiet p = kept_unsubscrib
 kept_note P l a (note.End id text outcome) x quiet p = l.less x.filters text p
 kept_note P l a (note.Left id) x quiet p = p
 kept_note P l a (note.Register whom name outcome) x quiet p = p
-kept_note P l a (note.Publish whom name outcome) x quiet p = p
+kept_note P l a (note.Publish whom name outcome) x quiet p =
+    subst P (sym (received_steady (id_opened_of a.cause) outcome x).filters) p
 kept_note P l a (note.Will whom name outcome) x quiet p =
     subst P (sym (stated_keeps (statement_of a.cause) outcome x).filters) p
 kept_note P l a (note.Announce id name) x quiet p = p

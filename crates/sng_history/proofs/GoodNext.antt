@@ -19,7 +19,7 @@ use Rattle.sng_book.specs.declared.outcome.Place.TheVariants as place
 use Rattle.sng_book.specs.declared.outcome.Outcome.{Outcome}
 use Rattle.sng_book.specs.declared.outcome.Outcome.TheVariants.{Allowed, Denied}
 use Rattle.sng_book.specs.Denials.{is_allowed}
-use Rattle.sng_states.specs.States.{has_session, is_due_messages}
+use Rattle.sng_states.specs.States.{has_session, is_due_messages, is_active}
 use Rattle.sng_history.specs.declared.limits.TheConstants.{MAX_CLIENTS}
 use Rattle.sng_history.specs.Causes.{Statement, statement_asked}
 use Rattle.sng_history.specs.Causes.{Request, ToPing, ToLeave, ToSleep, ToRegister, ToPublish, ToSubscribe}
@@ -27,6 +27,7 @@ use Rattle.sng_history.specs.Causes.{ToUnsubscribe}
 use Rattle.sng_history.specs.Causes.{ToConfirm, ToAcknowledge, ToState, Untaken, Cause}
 use Rattle.sng_history.specs.Causes.{ByConnect, ByMessage, BySource, ByBroken, ByPacket, ByUp, ByDown, ByTake}
 use Rattle.sng_history.specs.Causes.{ByReplace, ByTick}
+use Rattle.sng_history.specs.Causes.{ToPublishOnce, ToRelease}
 use Rattle.sng_history.specs.Clients.{Around, Client, blank, same_address, is_here, closed, is_confirming}
 use Rattle.sng_history.specs.Clients.{is_acknowledging, message_due}
 use Rattle.sng_history.specs.Clients.{start_by}
@@ -37,7 +38,7 @@ use Rattle.sng_history.specs.WillAsks.{statement_notes}
 use Rattle.sng_history.specs.Packets.{answer_of, refused_filter}
 use Rattle.sng_history.specs.Standing.{holds}
 use Rattle.sng_history.specs.Verdicts.{ping_verdict, coverage, entry, entry_form, client_scope, entry_room}
-use Rattle.sng_history.specs.Verdicts.{and_then}
+use Rattle.sng_history.specs.Verdicts.{and_then, is_repeat, publish_once_ask}
 use Rattle.sng_history.specs.Lawful.{confirmations, fixed_to, fixed_for, denial_of, woken_notes}
 use Rattle.sng_history.specs.Lawful.{ends_under, refused_end}
 use Rattle.sng_history.specs.Steps.{newcomers_for, client_next, clients_next, next_by}
@@ -51,7 +52,8 @@ use Rattle.sng_history.proofs.Hands.{every_woken}
 use Rattle.sng_history.proofs.Hands.{every_delivered, every_confirmation}
 use Rattle.sng_history.proofs.Statements.{every_tick, statement_placid, placid_address}
 use Rattle.sng_history.proofs.Rests.{rest_next}
-use Rattle.sng_history.proofs.Asks.{of_register, of_publish, of_subscribe, of_unsubscribe}
+use Rattle.sng_history.proofs.Asks.{of_register, of_publish, of_publish_once, of_subscribe}
+use Rattle.sng_history.proofs.Asks.{of_unsubscribe}
 use Rattle.sng_history.proofs.WaitingAcks.{allowed_second}
 use Rattle.sng_history.proofs.Waiting.{few_next}
 use Rattle.sng_history.proofs.Kept.{client_id, map_distinct, present_distinct}
@@ -62,7 +64,8 @@ use Rattle.sng_history.proofs.Places.{Stays}
 use Rattle.sng_history.proofs.AddressesKept.{steady_stays, Settled, left_settled, messages_settled}
 use Rattle.sng_history.proofs.AddressesKept.{client_stays, settled_denial, settled_end, subscribe_settled}
 use Rattle.sng_history.proofs.AddressesKept.{unsubscribe_settled, settled_message, settled_turn, settled_for}
-use Rattle.sng_history.proofs.AddressesKept.{stay_each, stay_all, entry_places}
+use Rattle.sng_history.proofs.AddressesKept.{stay_each, stay_all, entry_places, publish_settled}
+use Rattle.sng_history.proofs.OpenKept.{few_open_next}
 use Rattle.sng_history.proofs.Booleans.{left_holds, right_holds}
 
 pub settled_ends : (a : Around) (policy : Policy) (client : List ℕ) (held : List Held)
@@ -91,7 +94,12 @@ settled_to a s ToLeave x quiet =
     (left_settled a x.id, every_gone (Settled a) x.id x.buffer.waiting (messages_settled a x.id))
 settled_to a s (ToRegister r) x quiet =
     (of_register (Settled a) s.policy x r.name (λ name o y at here. here), tt)
-settled_to a s (ToPublish p) x quiet = (of_publish (Settled a) s x p (λ name o y at here. here), tt)
+settled_to a s (ToPublish p) x quiet =
+    (of_publish (Settled a) s x p (λ name o. publish_settled a (who.Client x.id) name o), tt)
+settled_to a s (ToPublishOnce p) x quiet =
+    every_if (Settled a) (not (is_repeat p x)) (publish_once_ask s x p ∷ [])
+    (of_publish_once (Settled a) s x p (λ name o. publish_settled a (who.Client x.id) name o), tt)
+settled_to a s (ToRelease id) x quiet = settled_turn a (is_active x.phase) x.id [] tt
 settled_to a s (ToSubscribe r) x quiet =
     (of_subscribe (Settled a) s x r (λ filter o. subscribe_settled a (who.Client x.id) filter o), tt)
 settled_to a s (ToUnsubscribe r) x quiet = (
@@ -145,6 +153,8 @@ message_stays s from ToLeave x = other_stays s from ToLeave x refl
 message_stays s from (ToSleep duration) x = other_stays s from (ToSleep duration) x refl
 message_stays s from (ToRegister r) x = other_stays s from (ToRegister r) x refl
 message_stays s from (ToPublish p) x = other_stays s from (ToPublish p) x refl
+message_stays s from (ToPublishOnce p) x = other_stays s from (ToPublishOnce p) x refl
+message_stays s from (ToRelease id) x = other_stays s from (ToRelease id) x refl
 message_stays s from (ToSubscribe r) x = other_stays s from (ToSubscribe r) x refl
 message_stays s from (ToUnsubscribe r) x = other_stays s from (ToUnsubscribe r) x refl
 message_stays s from (ToConfirm r) x = other_stays s from (ToConfirm r) x refl
@@ -246,6 +256,7 @@ good_next s c good = record {
   most = rw (length-map (s.clients ++ newcomers_for s c)) (most_next s c good.most);
   few = few_next s c good.places good.few;
   once = once_next s c good;
+  few_open = few_open_next s c good.few_open;
   covered = covered_next s c good;
   wanted_once = wanted_once_next s c good;
   wanted_held = wanted_held_next s c good;
@@ -259,6 +270,7 @@ good_opening = record {
   most = omega arith;
   few = omega arith;
   once = tt;
+  few_open = tt;
   covered = tt;
   wanted_once = tt;
   wanted_held = λ filter. refl;

@@ -21,6 +21,7 @@ use Rattle.sng_history.specs.Causes.{ToUnsubscribe, ToConfirm, ToAcknowledge}
 use Rattle.sng_history.specs.Causes.{ToState, Untaken, Cause}
 use Rattle.sng_history.specs.Causes.{ByConnect, ByMessage, BySource, ByBroken, ByPacket, ByUp, ByDown, ByTake}
 use Rattle.sng_history.specs.Causes.{ByReplace, ByTick}
+use Rattle.sng_history.specs.Causes.{ToPublishOnce, ToRelease}
 use Rattle.sng_history.specs.Requests.{granted}
 use Rattle.sng_history.specs.Clients.{Client, is_here, start_by}
 use Rattle.sng_history.specs.Clients.{subscribed, subscribe_of, note_by, notes_by}
@@ -163,6 +164,8 @@ message_wanted s from (ToSleep duration) text held =
 message_wanted s from ToLeave text held = other_wanted s from ToLeave text refl refl held
 message_wanted s from (ToRegister r) text held = other_wanted s from (ToRegister r) text refl refl held
 message_wanted s from (ToPublish p) text held = other_wanted s from (ToPublish p) text refl refl held
+message_wanted s from (ToPublishOnce p) text held = other_wanted s from (ToPublishOnce p) text refl refl held
+message_wanted s from (ToRelease id) text held = other_wanted s from (ToRelease id) text refl refl held
 message_wanted s from (ToUnsubscribe r) text held = other_wanted s from (ToUnsubscribe r) text refl refl held
 message_wanted s from (ToConfirm r) text held = other_wanted s from (ToConfirm r) text refl refl held
 message_wanted s from (ToAcknowledge r) text held = other_wanted s from (ToAcknowledge r) text refl refl held

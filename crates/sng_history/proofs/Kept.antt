@@ -15,13 +15,14 @@ use Rattle.sng_history.specs.Causes.{Statement, Cause, ByConnect, ByMessage, ByS
 use Rattle.sng_history.specs.Causes.{ByUp, ByDown, ByTake, ByReplace, ByTick}
 use Rattle.sng_history.specs.Clients.{Around, Client, blank, start_by, cleaned, opened, let_in, entered_by}
 use Rattle.sng_history.specs.Clients.{stated_by, statement_of, subscribed, subscribe_of, unsubscribed}
-use Rattle.sng_history.specs.Clients.{note_by, notes_by, client_by}
+use Rattle.sng_history.specs.Clients.{id_opened_of, note_by, notes_by, client_by}
 use Rattle.sng_history.specs.State.{State, is_known}
 use Rattle.sng_history.specs.Verdicts.{entry}
 use Rattle.sng_history.specs.Steps.{newcomers_for}
 use Rattle.sng_history.specs.Good.{Away, Distinct}
 use Rattle.sng_history.proofs.Own.{flip}
 use Rattle.sng_history.proofs.Steady.{start_lasts, drained_lasts, handed_steady, repeated_steady}
+use Rattle.sng_history.proofs.Steady.{received_steady}
 use Rattle.sng_history.proofs.Booleans.{or_neither}
 
 cleaned_id : (clean : Bool) (x : Client) → (cleaned clean x).id ≡ x.id
@@ -78,6 +79,8 @@ note_id a (note.Connect id outcome) x =
     if_id (is_allowed outcome) (entered_by a.clock a.cause x) x (entered_id a.clock a.cause x)
 note_id a (note.Left id) x = refl
 note_id a (note.Register whom name outcome) x = refl
+note_id a (note.Publish whom name outcome) x =
+    (received_steady (id_opened_of a.cause) outcome x).id
 note_id a (note.Subscribe whom filter outcome) x = subscribed_id (subscribe_of a.cause) filter outcome x
 note_id a (note.Unsubscribe whom filter outcome) x = unsubscribed_id filter outcome x
 note_id a (note.Will whom name outcome) x = stated_id (statement_of a.cause) outcome x

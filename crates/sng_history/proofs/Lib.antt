@@ -23,6 +23,7 @@ pub mod Waiting
 pub mod FiltersKept
 pub mod FiltersFit
 pub mod Filters
+pub mod OpenKept
 pub mod WantedKept
 pub mod Wanted
 pub mod NothingNew

@@ -1,12 +1,12 @@
 -- After a message of its own a client has nothing left that could be handed over.
 use Rattle.std.proofs.Common.{◌≡◌, ℕ, Bool, true, false, List, [], ◌∷◌, ◌++◌, refl, ap, sym, ◌∙◌, subst}
-use Rattle.std.specs.Prelude.{if◌then◌else◌, ◌==◌, drop, Option, Some, None}
+use Rattle.std.specs.Prelude.{if◌then◌else◌, ◌==◌, not, drop, Option, Some, None}
 use Rattle.sng_grants.specs.declared.policy.Policy.{Policy}
 use Rattle.sng_fan.specs.declared.held.Held.{Held}
 use Rattle.sng_fan.specs.Subscriptions.{without_filter}
 use Rattle.sng_frames.specs.declared.messages.acks.TopicAck.{TopicAck}
 use Rattle.sng_frames.specs.declared.messages.subscribe.TopicRequest.{TopicRequest}
-use Rattle.sng_states.specs.States.{in_dialogue, takes_messages, is_due_messages, is_asleep}
+use Rattle.sng_states.specs.States.{in_dialogue, takes_messages, is_due_messages, is_active, is_asleep}
 use Rattle.sng_ids.specs.Ids.{confirmed}
 use Rattle.sng_queue.specs.Exchanges.{awaits_ack}
 use Rattle.sng_queue.specs.Messages.{Message}
@@ -19,22 +19,24 @@ use Rattle.sng_history.specs.Causes.{Request, ToPing, ToLeave, ToSleep, ToRegist
 use Rattle.sng_history.specs.Causes.{ToUnsubscribe}
 use Rattle.sng_history.specs.Causes.{ToConfirm, ToAcknowledge, ToState, Untaken}
 use Rattle.sng_history.specs.Causes.{ByMessage}
+use Rattle.sng_history.specs.Causes.{ToPublishOnce, ToRelease}
 use Rattle.sng_history.specs.Handing.{answers_announcement, ends_exchange}
 use Rattle.sng_history.specs.Clients.{Around, Client, is_here, closed, confirmed_with, is_confirming}
 use Rattle.sng_history.specs.Clients.{is_acknowledging, answered_by}
 use Rattle.sng_history.specs.Clients.{names_own, is_waking, awake, asleep}
 use Rattle.sng_history.specs.Clients.{start_by, subscribed, subscribe_of, unsubscribed, note_by}
-use Rattle.sng_history.specs.Clients.{notes_by}
+use Rattle.sng_history.specs.Clients.{notes_by, received, publish_released}
 use Rattle.sng_history.specs.State.{State, around}
-use Rattle.sng_history.specs.Verdicts.{ping_verdict, coverage}
+use Rattle.sng_history.specs.Verdicts.{ping_verdict, coverage, is_repeat, publish_once_ask}
 use Rattle.sng_history.specs.Outgoing.{handed_over, refusals, out_of_turn}
 use Rattle.sng_history.specs.Lawful.{denial_of, confirmations, woken_notes, fixed_to, fixed_for, end_of}
 use Rattle.sng_history.specs.Lawful.{ends_under}
 use Rattle.sng_history.specs.Steps.{client_next}
 use Rattle.sng_history.specs.Entering.{heard_at}
 use Rattle.sng_history.specs.Good.{AtRest}
-use Rattle.sng_history.proofs.Asks.{of_register, of_publish, of_subscribe, of_unsubscribe}
-use Rattle.sng_history.proofs.Hands.{Every}
+use Rattle.sng_history.proofs.Asks.{of_register, of_publish, of_publish_once, of_subscribe}
+use Rattle.sng_history.proofs.Asks.{of_unsubscribe}
+use Rattle.sng_history.proofs.Hands.{Every, every_if}
 use Rattle.sng_history.proofs.Steady.{asleep_settled, due_settled}
 use Rattle.sng_history.proofs.Served.{Rested, rested, rest_drained, InSession, rest_served, rest_heard}
 use Rattle.sng_history.proofs.Served.{rest_gone, taking}
@@ -65,6 +67,13 @@ restful_subscribe (Some r) None outcome x rest = rest
 restful_subscribe (Some r) (Some filter) Allowed x rest =
     record { handed = rest.handed; quiet = rest.quiet; away = rest.away; dialogue = rest.dialogue }
 restful_subscribe (Some r) (Some filter) (Denied rule) x rest = rest
+
+restful_received : (id : Option ℕ) (outcome : Outcome) (x : Client) → Rested x
+    → Rested (received id outcome x)
+restful_received None outcome x rest = rest
+restful_received (Some id) Allowed x rest =
+    record { handed = rest.handed; quiet = rest.quiet; away = rest.away; dialogue = rest.dialogue }
+restful_received (Some id) (Denied rule) x rest = rest
 
 restful_unsubscribe : (filter : Option (List ℕ)) (outcome : Outcome) (x : Client) → Rested x
     → Rested (unsubscribed filter outcome x)
@@ -203,6 +212,15 @@ rest_sleep a duration x true is rest =
     }
 rest_sleep a duration x false is rest = rest_heard a.clock x (rested x rest)
 
+-- a PUBREL
+rest_release : (a : Around) (id : ℕ) (x : Client) (turn : Bool) → AtRest x
+    → Rested (notes_by a (if turn then [] else out_of_turn x.id)
+    (if turn then publish_released id (heard_at a.clock x) else heard_at a.clock x))
+rest_release a id x true rest =
+    let at = rest_heard a.clock x (rested x rest) in
+    record { handed = at.handed; quiet = at.quiet; away = at.away; dialogue = at.dialogue }
+rest_release a id x false rest = rest_heard a.clock x (rested x rest)
+
 -- ---- each message
 
 rest_to : (s : State) (from : Address) (request : Request) (x : Client) → AtRest x
@@ -227,6 +245,15 @@ rest_to s from (ToPublish p) x rest =
     let a = around s (ByMessage from (ToPublish p)) in
     of_publish (Restful a) s x p (λ name o y at. at) (heard_at s.clock x)
     (rest_heard s.clock x (rested x rest))
+rest_to s from (ToPublishOnce p) x rest =
+    let a = around s (ByMessage from (ToPublishOnce p)) in
+    let notes : List Decision = publish_once_ask s x p ∷ [] in
+    notes_rest a (if not (is_repeat p x) then notes else []) (heard_at s.clock x)
+    (every_if (Restful a) (not (is_repeat p x)) notes
+    (of_publish_once (Restful a) s x p (λ name o y at. restful_received (Some p.msg_id) o y at), tt))
+    (rest_heard s.clock x (rested x rest))
+rest_to s from (ToRelease id) x rest =
+    rest_release (around s (ByMessage from (ToRelease id))) id x (is_active x.phase) rest
 rest_to s from (ToSubscribe r) x rest =
     let a = around s (ByMessage from (ToSubscribe r)) in
     of_subscribe (Restful a) s x r (λ filter o y at. restful_subscribe (subscribe_of a.cause) filter o y at)

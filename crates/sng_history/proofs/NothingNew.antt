@@ -2,7 +2,7 @@
 use Rattle.std.proofs.Common.{◌≡◌, ℕ, Bool, true, false, List, [], ◌∷◌, ◌++◌, map, refl, ap, sym, ◌∙◌}
 use Rattle.std.specs.Prelude.{if◌then◌else◌, ◌&&◌, ◌||◌, not, Option, Some, None}
 use Rattle.std.specs.List.{flat_map}
-use Rattle.sng_states.specs.States.{is_due_messages}
+use Rattle.sng_states.specs.States.{is_due_messages, is_active}
 use Rattle.sng_fan.specs.declared.held.Held.{Held}
 use Rattle.sng_fan.specs.Subscriptions.{has_text, stands, without_filter}
 use Rattle.sng_frames.specs.declared.messages.publish.Publish.{Publish}
@@ -22,21 +22,23 @@ use Rattle.sng_history.specs.Causes.{Request, ToPing, ToLeave, ToSleep, ToRegist
 use Rattle.sng_history.specs.Causes.{ToUnsubscribe, ToConfirm, ToAcknowledge}
 use Rattle.sng_history.specs.Causes.{ToState, Untaken, Cause, publish_asked}
 use Rattle.sng_history.specs.Causes.{ByMessage}
+use Rattle.sng_history.specs.Causes.{ToPublishOnce, ToRelease}
 use Rattle.sng_history.specs.Clients.{Client, is_here, closed, is_confirming, is_acknowledging}
 use Rattle.sng_history.specs.Clients.{subscribe_of}
 use Rattle.sng_history.specs.Links.{Wanted, wants}
 use Rattle.sng_history.specs.Standing.{holds, is_held, still_wanted}
 use Rattle.sng_history.specs.State.{State, item_for, item_asked, asked_by}
 use Rattle.sng_history.specs.State.{qos_of}
-use Rattle.sng_history.specs.Verdicts.{ping_verdict}
+use Rattle.sng_history.specs.Verdicts.{ping_verdict, is_repeat, publish_once_ask}
 use Rattle.sng_history.specs.Answers.{denied_note}
 use Rattle.sng_history.specs.Outgoing.{out_of_turn, handed_over}
 use Rattle.sng_history.specs.Lawful.{denial_of, confirmations, woken_notes, fixed_to, fixed_for}
 use Rattle.sng_history.specs.Steps.{newcomers_for, client_next, clients_next, asked_by_all, asked_for}
 use Rattle.sng_history.specs.Good.{Each}
+use Rattle.sng_history.proofs.Asks.{of_publish_once}
 use Rattle.sng_history.proofs.Asks.{of_register, of_publish, of_unsubscribe}
 use Rattle.sng_history.proofs.Hands.{Every, OfMessages, every_handed, every_append, every_gone, every_woken}
-use Rattle.sng_history.proofs.Hands.{every_confirmation}
+use Rattle.sng_history.proofs.Hands.{every_if, every_confirmation}
 use Rattle.sng_history.proofs.Statements.{every_statement}
 use Rattle.sng_history.proofs.FiltersKept.{Lasting, kept_next}
 use Rattle.sng_history.proofs.Filters.{Unheld}
@@ -135,6 +137,8 @@ is_other (ToSleep duration) = true
 is_other ToLeave = true
 is_other (ToRegister r) = true
 is_other (ToPublish p) = true
+is_other (ToPublishOnce p) = true
+is_other (ToRelease id) = true
 is_other (ToUnsubscribe r) = true
 is_other (ToConfirm r) = true
 is_other (ToAcknowledge r) = true
@@ -217,6 +221,13 @@ request_none s (ToRegister r) x is =
     (of_register (Unsubscribing None) s.policy x r.name (λ name o text. refl), tt)
 request_none s (ToPublish p) x is =
     (of_publish (Unsubscribing (Some p)) s x p (λ name o text. publish_item_none x.id name o p text), tt)
+request_none s (ToPublishOnce p) x is =
+    every_if (Unsubscribing (Some p)) (not (is_repeat p x)) (publish_once_ask s x p ∷ []) (
+      of_publish_once (Unsubscribing (Some p)) s x p
+          (λ name o text. publish_item_none x.id name o p text),
+      tt,
+    )
+request_none s (ToRelease id) x is = turn_none (is_active x.phase) x.id [] tt
 request_none s (ToSubscribe r) x is = absurd cc
 request_none s (ToUnsubscribe r) x is =
     (of_unsubscribe (Unsubscribing None) s.policy x r (λ filter o text. refl), tt)

@@ -21,6 +21,7 @@ use Rattle.sng_history.specs.Causes.{ToUnsubscribe, ToConfirm, ToAcknowledge, To
 use Rattle.sng_history.specs.Causes.{publish_asked}
 use Rattle.sng_history.specs.Causes.{ByConnect, ByMessage, BySource, ByBroken, ByPacket, ByUp, ByDown, ByTake}
 use Rattle.sng_history.specs.Causes.{ByReplace, ByTick}
+use Rattle.sng_history.specs.Causes.{ToPublishOnce, ToRelease}
 use Rattle.sng_history.specs.Clients.{Client, is_here, is_from}
 use Rattle.sng_history.specs.Notes.{notes_of, exits_in}
 use Rattle.sng_history.specs.State.{State, around, later, newcomers, asked_all, asked_in}
@@ -135,6 +136,8 @@ mute_stranger from (ToSleep duration) = record { notes = λ c. refl; exits = ref
 mute_stranger from ToLeave = record { notes = λ c. refl; exits = refl; asks = λ q. refl }
 mute_stranger from (ToRegister r) = record { notes = λ c. refl; exits = refl; asks = λ q. refl }
 mute_stranger from (ToPublish p) = record { notes = λ c. refl; exits = refl; asks = unasked_bye from }
+mute_stranger from (ToPublishOnce p) = record { notes = λ c. refl; exits = refl; asks = unasked_bye from }
+mute_stranger from (ToRelease id) = record { notes = λ c. refl; exits = refl; asks = λ q. refl }
 mute_stranger from (ToSubscribe r) = record { notes = λ c. refl; exits = refl; asks = λ q. refl }
 mute_stranger from (ToUnsubscribe r) = record { notes = λ c. refl; exits = refl; asks = λ q. refl }
 mute_stranger from (ToConfirm r) = record { notes = λ c. refl; exits = refl; asks = λ q. refl }

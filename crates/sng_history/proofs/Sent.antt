@@ -29,10 +29,12 @@ use Rattle.sng_history.specs.Causes.{Statement, StatesTopic, StatesMessage, Upda
 use Rattle.sng_history.specs.Causes.{Request, ToPing, ToLeave, ToSleep, ToRegister, ToPublish, ToSubscribe}
 use Rattle.sng_history.specs.Causes.{ToUnsubscribe, ToConfirm, ToAcknowledge, ToState, Untaken, Cause}
 use Rattle.sng_history.specs.Causes.{request_of}
+use Rattle.sng_history.specs.Causes.{ToPublishOnce, ToRelease}
 use Rattle.sng_history.specs.Handing.{Known, known_as, front, handed_outs, announced_again, repeated_outs}
 use Rattle.sng_history.specs.Clients.{Around, Client, is_drained}
 use Rattle.sng_history.specs.Standing.{Release, is_release, drop_notes}
-use Rattle.sng_history.specs.Verdicts.{is_active, ping_verdict}
+use Rattle.sng_history.specs.Verdicts.{is_active, ping_verdict, is_repeat}
+use Rattle.sng_history.specs.Answers.{pubrec, pubcomp}
 use Rattle.sng_history.specs.Answers.{refusal, code_of, sent_to, puback, dismissed, statement_answer}
 use Rattle.sng_history.specs.Answers.{dialogue_ended, statement_refused, pong}
 use Rattle.sng_history.specs.Whole.{takes_leave, farewell, denied_to, denied_by, granted_to, granted_by}
@@ -94,6 +96,8 @@ denied_to_sent ToLeave to rule = tt
 denied_to_sent (ToSleep duration) to rule = tt
 denied_to_sent (ToRegister r) to rule = refused_sent to (refusal (frame.Register r) (code_of rule))
 denied_to_sent (ToPublish p) to rule = refused_sent to (refusal (frame.Publish p) (code_of rule))
+denied_to_sent (ToPublishOnce p) to rule = refused_sent to (refusal (frame.Publish p) (code_of rule))
+denied_to_sent (ToRelease id) to rule = tt
 denied_to_sent (ToSubscribe r) to rule = refused_sent to (refusal (frame.Subscribe r) (code_of rule))
 denied_to_sent (ToUnsubscribe r) to rule = refused_sent to (refusal (frame.Unsubscribe r) (code_of rule))
 denied_to_sent (ToConfirm r) to rule = tt
@@ -126,6 +130,8 @@ granted_to_sent (ToSleep duration) x name = tt
 granted_to_sent (ToRegister r) x (Some name) = tt
 granted_to_sent (ToRegister r) x None = tt
 granted_to_sent (ToPublish p) x name = puback_sent x.address p p.flags.qos
+granted_to_sent (ToPublishOnce p) x name = tt
+granted_to_sent (ToRelease id) x name = tt
 granted_to_sent (ToSubscribe r) x (Some filter) = tt
 granted_to_sent (ToSubscribe r) x None = tt
 granted_to_sent (ToUnsubscribe r) x filter = tt
@@ -217,6 +223,8 @@ answer_to_sent ToLeave x = tt
 answer_to_sent (ToSleep duration) x = leave_sent (is_due_messages x.phase) x.address
 answer_to_sent (ToRegister r) x = tt
 answer_to_sent (ToPublish p) x = tt
+answer_to_sent (ToPublishOnce p) x = if_sent (is_repeat p x) (pubrec x.address p.msg_id ∷ []) tt
+answer_to_sent (ToRelease id) x = if_sent (is_active x.phase) (pubcomp x.address id ∷ []) tt
 answer_to_sent (ToSubscribe r) x = tt
 answer_to_sent (ToUnsubscribe r) x = tt
 answer_to_sent (ToConfirm r) x = tt

@@ -1,14 +1,17 @@
 -- What the answer of a client and a message of the broker leave of a client, before any note, and what
--- handing over leaves: all but when it was heard, its topic ids, the MsgId that was given last, and what
--- waits for it. Sleep and wake-up leave it where it is, and what stands for it.
+-- handing over leaves: all but when it was heard, its topic ids, the MsgId that was given last, what waits
+-- for it, and which MsgIds of its own are open. Sleep and wake-up leave it where it is, and what stands for
+-- it.
 use Rattle.std.proofs.Common.{◌≡◌, ℕ, Bool, true, false, List, refl, ap, sym, ◌∙◌}
 use Rattle.std.specs.Prelude.{◌==◌, ◌&&◌, if◌then◌else◌, is_none, slice_get, Option, Some, None}
 use Rattle.sng_states.specs.declared.state.ClientState.{ClientState}
 use Rattle.sng_states.specs.declared.state.ClientState.TheVariants.{Dialogue, Active, Asleep, Awake}
 use Rattle.sng_states.specs.declared.state.ClientState.TheVariants.{Disconnected, Lost}
-use Rattle.sng_states.specs.States.{has_session, in_dialogue, is_due_messages, is_asleep, is_awake}
+use Rattle.sng_states.specs.States.{has_session, in_dialogue, is_due_messages, is_active, is_asleep}
+use Rattle.sng_states.specs.States.{is_awake}
 use Rattle.sng_frames.specs.declared.messages.acks.TopicAck.{TopicAck}
 use Rattle.sng_book.specs.declared.decision.Decision.{Decision}
+use Rattle.sng_book.specs.declared.outcome.Denial.{Denial}
 use Rattle.sng_book.specs.declared.outcome.Outcome.{Outcome}
 use Rattle.sng_book.specs.declared.outcome.Outcome.TheVariants.{Allowed, Denied}
 use Rattle.sng_ids.specs.Ids.{confirmed}
@@ -18,10 +21,11 @@ use Rattle.sng_history.specs.Causes.{ToUnsubscribe, ToConfirm, ToAcknowledge, To
 use Rattle.sng_history.specs.Causes.{request_of}
 use Rattle.sng_history.specs.Causes.{ByConnect, ByMessage, BySource, ByBroken, ByPacket, ByUp, ByDown, ByTake}
 use Rattle.sng_history.specs.Causes.{ByReplace, ByTick}
+use Rattle.sng_history.specs.Causes.{ToPublishOnce, ToRelease}
 use Rattle.sng_history.specs.Clients.{Around, Client, is_author, is_confirming, is_acknowledging, is_waking}
 use Rattle.sng_history.specs.Clients.{closed, confirmed_with, asleep, awake}
 use Rattle.sng_history.specs.Clients.{names_own, answered_by, delivered_by, start_by, announced}
-use Rattle.sng_history.specs.Clients.{is_turned_away, handed, repeated}
+use Rattle.sng_history.specs.Clients.{is_turned_away, handed, repeated, publish_released, received}
 use Rattle.sng_history.specs.Clients.{notes_by, is_drained, drained, client_by}
 use Rattle.sng_history.proofs.Booleans.{left_holds}
 
@@ -70,6 +74,10 @@ confirmed_steady r x = by_code (r.code.0 == 0) r x
     by_code true r x =
         record { id = refl; address = refl; phase = refl; filters = refl; wills = refl; duration = refl }
     by_code false r x = steady_self x
+
+pub released_steady : (id : ℕ) (x : Client) → Steady x (publish_released id x)
+released_steady id x =
+    record { id = refl; address = refl; phase = refl; filters = refl; wills = refl; duration = refl }
 
 pub confirmed_id : (r : TopicAck) (x : Client) → (confirmed_with r x).id ≡ x.id
 confirmed_id r x = (confirmed_steady r x).id
@@ -186,6 +194,10 @@ answered_lasts (Some (ToSleep duration)) x = asleep_lasts duration x
 answered_lasts (Some ToLeave) x = lasting_self x
 answered_lasts (Some (ToRegister r)) x = lasting_self x
 answered_lasts (Some (ToPublish p)) x = lasting_self x
+answered_lasts (Some (ToPublishOnce p)) x = lasting_self x
+answered_lasts (Some (ToRelease id)) x =
+    steady_lasts x (answered_by (Some (ToRelease id)) x)
+    (steady_if (is_active x.phase) x (publish_released id x) x (released_steady id x) (steady_self x))
 answered_lasts (Some (ToSubscribe r)) x = lasting_self x
 answered_lasts (Some (ToUnsubscribe r)) x = lasting_self x
 answered_lasts (Some (ToState statement)) x = lasting_self x
@@ -238,6 +250,18 @@ pub repeated_steady : (clock : ℕ) (outcome : Outcome) (x : Client) → Steady 
 repeated_steady clock Allowed x =
     record { id = refl; address = refl; phase = refl; filters = refl; wills = refl; duration = refl }
 repeated_steady clock (Denied rule) x = closed_steady x
+
+-- ---- the note of a PUBLISH
+
+pub received_steady : (id : Option ℕ) (outcome : Outcome) (x : Client) → Steady x (received id outcome x)
+received_steady (Some id) Allowed x =
+    record { id = refl; address = refl; phase = refl; filters = refl; wills = refl; duration = refl }
+received_steady (Some id) (Denied rule) x = steady_self x
+received_steady None outcome x = steady_self x
+
+pub denied_received : (id : Option ℕ) (rule : Denial) (x : Client) → received id (Denied rule) x ≡ x
+denied_received (Some id) rule x = refl
+denied_received None rule x = refl
 
 -- ---- behind all notes
 

@@ -1,10 +1,10 @@
 -- The notes that a cause fixes of a client speak of that client.
 use Rattle.std.proofs.Common.{ℕ, Bool, true, false, List, [], ◌∷◌, ◌++◌, refl, subst}
-use Rattle.std.specs.Prelude.{◌≡◌, if◌then◌else◌, Option, Some, None}
+use Rattle.std.specs.Prelude.{◌≡◌, if◌then◌else◌, not, Option, Some, None}
 use Rattle.sng_grants.specs.declared.policy.Policy.{Policy}
 use Rattle.sng_fan.specs.declared.held.Held.{Held}
 use Rattle.std.specs.Str.{bytes_eq}
-use Rattle.sng_states.specs.States.{is_due_messages}
+use Rattle.sng_states.specs.States.{is_due_messages, is_active}
 use Rattle.sng_queue.specs.Messages.{Message}
 use Rattle.sng_frames.specs.declared.messages.connect.Connect.{Connect}
 use Rattle.sng_frames.specs.declared.frame.SnFrame.{SnFrame}
@@ -24,12 +24,13 @@ use Rattle.sng_history.specs.Causes.{Request, ToPing, ToLeave, ToSleep, ToRegist
 use Rattle.sng_history.specs.Causes.{ToUnsubscribe, ToConfirm, ToAcknowledge, ToState, Untaken, Cause}
 use Rattle.sng_history.specs.Causes.{ByConnect, ByMessage, BySource, ByBroken, ByPacket, ByUp, ByDown, ByTake}
 use Rattle.sng_history.specs.Causes.{ByReplace, ByTick}
+use Rattle.sng_history.specs.Causes.{ToPublishOnce, ToRelease}
 use Rattle.sng_history.specs.Clients.{Client, is_here, let_in, closed, is_confirming, is_acknowledging}
 use Rattle.sng_history.specs.Clients.{message_due}
 use Rattle.sng_history.specs.State.{State, later}
 use Rattle.sng_history.specs.Packets.{answer_of, refused_filter}
 use Rattle.sng_history.specs.Standing.{holds}
-use Rattle.sng_history.specs.Verdicts.{entry, ping_verdict, coverage}
+use Rattle.sng_history.specs.Verdicts.{entry, ping_verdict, coverage, is_repeat, publish_once_ask}
 use Rattle.sng_history.specs.Answers.{denied_note}
 use Rattle.sng_history.specs.Outgoing.{handed_over, all_gone, out_of_turn, delivered_notes}
 use Rattle.sng_history.specs.Lawful.{denial_of, confirmations, woken_notes, entering_notes, fixed_to, end_of}
@@ -39,6 +40,7 @@ use Rattle.sng_history.proofs.Hands.{OfMessages, every_append, every_if, every_h
 use Rattle.sng_history.proofs.Hands.{every_woken, every_delivered, every_confirmation}
 use Rattle.sng_history.proofs.Statements.{OfStatement, OfLost, every_statement, every_tick}
 use Rattle.sng_history.proofs.Kept.{let_in_id}
+use Rattle.sng_history.proofs.Asks.{of_publish_once}
 use Rattle.sng_history.proofs.Asks.{of_register, of_publish, of_subscribe, of_unsubscribe}
 
 about_denied : (c : List ℕ) (message : SnFrame) (rule : Denial)
@@ -178,6 +180,11 @@ told_to s (ToRegister r) x =
     (of_register (About x.id) s.policy x r.name (λ name o. record { of = λ d. refl; stays = refl }), tt)
 told_to s (ToPublish p) x =
     (of_publish (About x.id) s x p (λ name o. record { of = λ d. refl; stays = refl }), tt)
+told_to s (ToPublishOnce p) x =
+    about_if (not (is_repeat p x)) x.id (publish_once_ask s x p ∷ [])
+    (of_publish_once (About x.id) s x p (λ name o. record { of = λ d. refl; stays = refl }), tt)
+told_to s (ToRelease id) x =
+    about_either (is_active x.phase) x.id [] (out_of_turn x.id) tt (about_out x.id)
 told_to s (ToSubscribe r) x =
     (of_subscribe (About x.id) s x r (λ filter o. record { of = λ d. refl; stays = refl }), tt)
 told_to s (ToUnsubscribe r) x =

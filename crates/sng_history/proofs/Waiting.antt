@@ -1,7 +1,7 @@
 -- After a step no more publishes at QoS 1 wait for the broker or are in flight than may.
 use Rattle.std.proofs.Common.{◌≡◌, ◌≤◌, ◌+◌, ℕ, Bool, true, false, List, [], ◌∷◌, ◌++◌, length, refl, ap}
 use Rattle.std.proofs.Common.{◌∙◌, arith}
-use Rattle.std.specs.Prelude.{if◌then◌else◌, map, take, Option, Some, None}
+use Rattle.std.specs.Prelude.{if◌then◌else◌, not, map, take, Option, Some, None}
 use Rattle.std.specs.List.{flat_map}
 use Rattle.sng_text.specs.declared.qos.Qos.{Qos}
 use Rattle.sng_text.specs.declared.qos.Qos.TheVariants.{AtMostOnce, AtLeastOnce}
@@ -22,6 +22,7 @@ use Rattle.sng_history.specs.Causes.{ToUnsubscribe, ToConfirm, ToAcknowledge}
 use Rattle.sng_history.specs.Causes.{ToState, Untaken, Cause, publish_asked}
 use Rattle.sng_history.specs.Causes.{ByConnect, ByMessage, BySource, ByBroken, ByPacket, ByUp, ByDown, ByTake}
 use Rattle.sng_history.specs.Causes.{ByReplace, ByTick}
+use Rattle.sng_history.specs.Causes.{ToPublishOnce, ToRelease}
 use Rattle.sng_history.specs.Clients.{Client, is_here}
 use Rattle.sng_history.specs.Links.{Link}
 use Rattle.sng_history.specs.Links.{resumed, filters_wanted}
@@ -31,7 +32,7 @@ use Rattle.sng_history.specs.Room.{room_in}
 use Rattle.sng_history.specs.Ticking.{with_item, ticked}
 use Rattle.sng_history.specs.State.{State, later, subscribe_item, asked_by, link_moved}
 use Rattle.sng_history.specs.Standing.{Release, released, places_left}
-use Rattle.sng_history.specs.Verdicts.{source_ask}
+use Rattle.sng_history.specs.Verdicts.{source_ask, is_repeat}
 use Rattle.sng_history.specs.Exits.{exits_of}
 use Rattle.sng_history.specs.Lawful.{fixed_for, exits_for}
 use Rattle.sng_history.specs.Steps.{asked_by_all, asked_for, clients_next}
@@ -39,7 +40,7 @@ use Rattle.sng_history.specs.Good.{OnePlace}
 use Rattle.sng_history.proofs.WaitingItems.{waiting_next, let_go}
 use Rattle.sng_history.proofs.Ticked.{ticked_holds}
 use Rattle.sng_history.proofs.WaitingAcks.{acks, Few, acks_append, more, source_acks, flight_in, Fits}
-use Rattle.sng_history.proofs.WaitingAcks.{one_fits, sole, all_fit}
+use Rattle.sng_history.proofs.WaitingAcks.{one_fits, once_fits, sole, all_fit}
 use Rattle.sng_history.proofs.WaitingFlight.{answered_less, still_less, subscribes_flights, after_more}
 
 owed_acks : (place : Bool) (o : Option ℕ) → acks (acknowledgement place o) ≡ 0
@@ -118,6 +119,12 @@ asked_fits s from (ToPublish p) places few =
     λ x. asked_by_all (Some p) (fixed_for s (ByMessage from (ToPublish p)) x) in
     all_fit s adds s.clients few (λ x. one_fits s x p (is_here x from) few)
     (sole from adds s.clients (λ y off. rw off refl) places)
+asked_fits s from (ToPublishOnce p) places few =
+    let adds : Client → List Item =
+    λ x. asked_by_all (Some p) (fixed_for s (ByMessage from (ToPublishOnce p)) x) in
+    all_fit s adds s.clients few (λ x. once_fits s x p (is_here x from) (not (is_repeat p x)) few)
+    (sole from adds s.clients (λ y off. rw off refl) places)
+asked_fits s from (ToRelease id) places few = unasked_fits s from (ToRelease id) refl few
 asked_fits s from (ToPing client) places few = unasked_fits s from (ToPing client) refl few
 asked_fits s from (ToSleep duration) places few = unasked_fits s from (ToSleep duration) refl few
 asked_fits s from ToLeave places few = unasked_fits s from ToLeave refl few

@@ -33,7 +33,9 @@ use Rattle.sng_history.specs.Room.{has_flight, room_in}
 use Rattle.sng_history.specs.State.{State, item_for, asked_by, qos_of}
 use Rattle.sng_history.specs.Verdicts.{exit, and_then, room, verdict, named_ask, source_ask, name_in, may_ask}
 use Rattle.sng_history.specs.Verdicts.{publish_named, publish_by}
-use Rattle.sng_history.specs.Verdicts.{publish_ask}
+use Rattle.sng_history.specs.Verdicts.{publish_ask, once_room_in, once_room, publish_once_named}
+use Rattle.sng_history.specs.Verdicts.{publish_once_by, publish_once_ask}
+use Rattle.sng_states.specs.OpenIds.{is_full_for}
 use Rattle.sng_history.specs.Steps.{asked_by_all}
 use Rattle.sng_history.specs.Good.{Each, Apart, OnePlace}
 
@@ -145,6 +147,43 @@ one_fits s x p true few =
     subst (Fits s) (sym (append-nil (asked_by (Some p) (publish_ask s x p))))
     (judged_fits s x p (may_ask s.policy x) few)
 one_fits s x p false few = fits_none s few
+
+-- one at QoS 2 goes on at QoS 1
+once_in : (full : Bool) (o : Outcome)
+    → (if full then Denied (Room (Full place.Exchanges)) else o) ≡ Allowed → o ≡ Allowed
+once_in true o is = absurd cc
+once_in false o is = is
+
+once_flight : (s : State) (x : Client) (p : Publish) → once_room s x p ≡ Allowed
+    → load (record { waiting = s.link.waiting; in_flight = s.link.in_flight }) < MAX_IN_FLIGHT
+once_flight s x p is =
+    flight_in s.link (once_in (is_full_for p.msg_id x.unreleased) (room_in s.link AtLeastOnce)
+    (up_room s.up (once_room_in s x p) is))
+
+named_once : (s : State) (x : Client) (p : Publish) (named : Result (List ℕ) Denial)
+    → Few s.link.waiting s.link.in_flight → Fits s (asked_by (Some p) (publish_once_named s x p named))
+named_once s x p (Ok name) few =
+    let may = exit s.policy (origin.Client x.id) name in
+    item_acks (origin.Client x.id) name (qos_of p.flags.qos) p (and_then may (once_room s x p))
+    (acks s.link.waiting + length s.link.in_flight) few
+    (λ is once. once_flight s x p (allowed_second may (once_room s x p) is))
+named_once s x p (Err rule) few = fits_none s few
+
+judged_once : (s : State) (x : Client) (p : Publish) (may : Outcome) → Few s.link.waiting s.link.in_flight
+    → Fits s (asked_by (Some p) (publish_once_by s x p may))
+judged_once s x p Allowed few =
+    named_once s x p (name_in s.policy (Some x.ids) p.flags.id_type p.topic_id) few
+judged_once s x p (Denied rule) few = fits_none s few
+
+pub once_fits : (s : State) (x : Client) (p : Publish) (here first : Bool)
+    → Few s.link.waiting s.link.in_flight
+    → Fits s (asked_by_all (Some p)
+    (if here then (if first then publish_once_ask s x p ∷ [] else []) else []))
+once_fits s x p true true few =
+    subst (Fits s) (sym (append-nil (asked_by (Some p) (publish_once_ask s x p))))
+    (judged_once s x p (may_ask s.policy x) few)
+once_fits s x p true false few = fits_none s few
+once_fits s x p false first few = fits_none s few
 
 -- of those at the address there is one at most
 abbrev Sole : (Client → List Item) → List Client → Type 0

@@ -153,6 +153,13 @@ puback to p qos.AtMostOnce = []
 puback to p qos.ExactlyOnce = []
 puback to p qos.WithoutSession = []
 
+-- that of one at QoS 2 is PUBREC, which PUBREL and PUBCOMP follow (MQTT-SN 1.2, 5.4.14 and 6.6)
+abbrev pub pubrec : Address → ℕ → Out
+pubrec to msg_id = Send to (written (frame.PublishReceived msg_id))
+
+abbrev pub pubcomp : Address → ℕ → Out
+pubcomp to msg_id = Send to (written (frame.PublishComplete msg_id))
+
 -- the SUBACK of a SUBSCRIBE that is allowed says the QoS that is granted, and the topic id: the predefined
 -- one that came, or the one that a name gets; a filter with wildcards and a name of two octets have none
 -- (MQTT-SN 1.2, 5.4.16)

@@ -45,6 +45,10 @@ pub data Request : Type 0 where
   ToRegister : Register → Request
   -- a PUBLISH at QoS 0 or 1
   ToPublish : Publish → Request
+  -- a PUBLISH at QoS 2
+  ToPublishOnce : Publish → Request
+  -- a PUBREL, with the MsgId of the publish that it releases
+  ToRelease : ℕ → Request
   -- a SUBSCRIBE
   ToSubscribe : TopicRequest → Request
   -- an UNSUBSCRIBE
@@ -86,7 +90,7 @@ abbrev pub publish_cause : Address → Publish → FrameQos → Cause
 publish_cause from p qos.WithoutSession = BySource from p
 publish_cause from p qos.AtMostOnce = ByMessage from (ToPublish p)
 publish_cause from p qos.AtLeastOnce = ByMessage from (ToPublish p)
-publish_cause from p qos.ExactlyOnce = ByMessage from (Untaken (frame.Publish p))
+publish_cause from p qos.ExactlyOnce = ByMessage from (ToPublishOnce p)
 
 abbrev pub disconnect_cause : Address → Option ℕ → Cause
 disconnect_cause from None = ByMessage from ToLeave
@@ -107,7 +111,7 @@ frame_cause from (frame.RegisterAck answer) = ByMessage from (ToConfirm answer)
 frame_cause from (frame.PublishAck answer) = ByMessage from (ToAcknowledge answer)
 frame_cause from (frame.PublishComplete id) = ByMessage from (Untaken (frame.PublishComplete id))
 frame_cause from (frame.PublishReceived id) = ByMessage from (Untaken (frame.PublishReceived id))
-frame_cause from (frame.PublishRelease id) = ByMessage from (Untaken (frame.PublishRelease id))
+frame_cause from (frame.PublishRelease id) = ByMessage from (ToRelease id)
 frame_cause from (frame.Subscribe request) = ByMessage from (ToSubscribe request)
 frame_cause from (frame.SubscribeAck answer) = ByMessage from (Untaken (frame.SubscribeAck answer))
 frame_cause from (frame.Unsubscribe request) = ByMessage from (ToUnsubscribe request)
@@ -134,6 +138,8 @@ cause_of (event.Tick clock) = ByTick clock
 -- the PUBLISH of a session that the event holds, where it holds one
 abbrev pub publish_asked : Request → Option Publish
 publish_asked (ToPublish p) = Some p
+publish_asked (ToPublishOnce p) = Some p
+publish_asked (ToRelease id) = None
 publish_asked (ToPing client) = None
 publish_asked ToLeave = None
 publish_asked (ToSleep duration) = None
@@ -153,6 +159,8 @@ subscribe_asked ToLeave = None
 subscribe_asked (ToSleep duration) = None
 subscribe_asked (ToRegister r) = None
 subscribe_asked (ToPublish p) = None
+subscribe_asked (ToPublishOnce p) = None
+subscribe_asked (ToRelease id) = None
 subscribe_asked (ToUnsubscribe r) = None
 subscribe_asked (ToConfirm r) = None
 subscribe_asked (ToAcknowledge r) = None
@@ -167,11 +175,30 @@ statement_asked ToLeave = None
 statement_asked (ToSleep duration) = None
 statement_asked (ToRegister r) = None
 statement_asked (ToPublish p) = None
+statement_asked (ToPublishOnce p) = None
+statement_asked (ToRelease id) = None
 statement_asked (ToSubscribe r) = None
 statement_asked (ToUnsubscribe r) = None
 statement_asked (ToConfirm r) = None
 statement_asked (ToAcknowledge r) = None
 statement_asked (Untaken message) = None
+
+-- the MsgId that is open once the note of the PUBLISH allows it: one at QoS 2 (MQTT-SN 1.2, 6.6; MQTT 3.1.1,
+-- 4.3.3)
+abbrev pub id_opened : Request → Option ℕ
+id_opened (ToPublishOnce p) = Some p.msg_id
+id_opened (ToRelease id) = None
+id_opened (ToPublish p) = None
+id_opened (ToPing client) = None
+id_opened ToLeave = None
+id_opened (ToSleep duration) = None
+id_opened (ToRegister r) = None
+id_opened (ToSubscribe r) = None
+id_opened (ToUnsubscribe r) = None
+id_opened (ToConfirm r) = None
+id_opened (ToAcknowledge r) = None
+id_opened (ToState statement) = None
+id_opened (Untaken message) = None
 
 -- the message that it holds is about this
 abbrev pub request_of : Cause → Option Request

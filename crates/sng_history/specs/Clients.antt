@@ -8,7 +8,9 @@ use Rattle.sng_grants.specs.declared.policy.Policy.{Policy}
 use Rattle.sng_states.specs.declared.state.ClientState.{ClientState}
 use Rattle.sng_states.specs.declared.state.ClientState.TheVariants.{Dialogue, Active, Asleep, Awake}
 use Rattle.sng_states.specs.declared.state.ClientState.TheVariants.{Disconnected, Lost}
-use Rattle.sng_states.specs.States.{has_session, takes_messages, is_due_messages, is_asleep, is_awake}
+use Rattle.sng_states.specs.States.{has_session, takes_messages, is_due_messages, is_active, is_asleep}
+use Rattle.sng_states.specs.States.{is_awake}
+use Rattle.sng_states.specs.OpenIds.{admitted, without_id}
 use Rattle.sng_ids.specs.Ids.{Ids, id_for, with_name, confirmed}
 use Rattle.sng_queue.specs.Messages.{Message}
 use Rattle.sng_queue.specs.Exchanges.{repeat}
@@ -33,10 +35,11 @@ use Rattle.sng_book.specs.declared.outcome.RoomDenial.TheVariants.{UpstreamDown,
 use Rattle.sng_book.specs.declared.outcome.Outcome.{Outcome}
 use Rattle.sng_book.specs.declared.outcome.Outcome.TheVariants.{Allowed, Denied}
 use Rattle.sng_book.specs.Denials.{is_allowed}
-use Rattle.sng_history.specs.Causes.{Cause, request_of, subscribe_asked, statement_asked}
+use Rattle.sng_history.specs.Causes.{Cause, request_of, subscribe_asked, statement_asked, id_opened}
 use Rattle.sng_history.specs.Causes.{Statement, StatesTopic, StatesMessage, UpdatesTopic, UpdatesMessage}
 use Rattle.sng_history.specs.Causes.{Request, ToPing, ToLeave, ToSleep, ToRegister, ToPublish, ToSubscribe}
 use Rattle.sng_history.specs.Causes.{ToUnsubscribe, ToConfirm, ToAcknowledge, ToState, Untaken}
+use Rattle.sng_history.specs.Causes.{ToPublishOnce, ToRelease}
 use Rattle.sng_history.specs.Causes.{ByConnect, ByMessage, BySource, ByBroken, ByPacket, ByUp, ByDown, ByTake}
 use Rattle.sng_history.specs.Causes.{ByReplace, ByTick}
 use Rattle.sng_history.specs.Requests.{granted, gets_id}
@@ -61,6 +64,8 @@ pub record Client : Type 0 where
   pub filters : List Held
   -- its will, and the dialogue about it
   pub wills : Wills
+  -- the open MsgIds: those of its publishes at QoS 2 that it has not released yet
+  pub unreleased : List ℕ
   -- the Duration that it stated, in seconds, and the clock as it was last heard
   pub duration : ℕ
   pub heard : ℕ
@@ -90,6 +95,7 @@ blank id = record {
   buffer = nothing;
   filters = [];
   wills = record { stage = Closed; will = None };
+  unreleased = [];
   duration = 0;
   heard = 0;
 }
@@ -156,6 +162,10 @@ is_waking client x = is_asleep x.phase && names_own client x.id
 abbrev pub awake : Client → Client
 awake x = record x { phase = Awake }
 
+-- a PUBREL releases the publish with this MsgId, which is open no more
+abbrev pub publish_released : ℕ → Client → Client
+publish_released id x = record x { unreleased = without_id id x.unreleased }
+
 -- what a message does to its client before any note (MQTT-SN 1.2, 6.5, 6.6 and 6.14)
 abbrev pub answered_by : Option Request → Client → Client
 answered_by (Some (ToConfirm r)) x = if is_confirming r x then confirmed_with r x else x
@@ -165,6 +175,8 @@ answered_by (Some (ToSleep duration)) x = if is_due_messages x.phase then asleep
 answered_by (Some ToLeave) x = x
 answered_by (Some (ToRegister r)) x = x
 answered_by (Some (ToPublish p)) x = x
+answered_by (Some (ToPublishOnce p)) x = x
+answered_by (Some (ToRelease id)) x = if is_active x.phase then publish_released id x else x
 answered_by (Some (ToSubscribe r)) x = x
 answered_by (Some (ToUnsubscribe r)) x = x
 answered_by (Some (ToState statement)) x = x
@@ -199,11 +211,16 @@ start_by a x =
     else delivered_by a.cause x
 
 -- no exchange and no dialogue is open any more; a clean CONNECT ends also what stands and waits for the
--- client, and its will (MQTT-SN 1.2, 6.2 and 6.3)
+-- client, its will, and what is open of its own publishes (MQTT-SN 1.2, 6.2 and 6.3; MQTT 3.1.1, 3.1.2.4)
 abbrev pub cleaned : Bool → Client → Client
 cleaned clean x =
     if clean
-    then record x { filters = []; wills = record { stage = Closed; will = None }; buffer = nothing }
+    then record x {
+      filters = [];
+      wills = record { stage = Closed; will = None };
+      buffer = nothing;
+      unreleased = [];
+    }
     else record x { wills = record x.wills { stage = Closed }; buffer = record x.buffer { exchange = None } }
 
 -- a CONNECT with Will opens a dialogue, in which a WILLTOPIC is awaited; after any other the client is active
@@ -301,6 +318,12 @@ subscribed (Some r) (Some filter) (Denied rule) x = x
 subscribed (Some r) None outcome x = x
 subscribed None filter outcome x = x
 
+-- a PUBLISH at QoS 2 that is allowed is received: its MsgId is open until it is released
+abbrev pub received : Option ℕ → Outcome → Client → Client
+received (Some id) Allowed x = record x { unreleased = admitted id x.unreleased }
+received (Some id) (Denied rule) x = x
+received None outcome x = x
+
 -- the filter stands no more
 abbrev pub without : List ℕ → Client → Client
 without filter x = record x { filters = without_filter x.filters filter }
@@ -330,6 +353,7 @@ is_turned_away (Room (Full place.Queue)) = true
 is_turned_away (Room (Full place.Clients)) = false
 is_turned_away (Room (Full place.Ids)) = false
 is_turned_away (Room (Full place.Subscriptions)) = false
+is_turned_away (Room (Full place.Exchanges)) = false
 is_turned_away (Room (Full place.InFlight)) = false
 is_turned_away (Room (Full place.Outbox)) = false
 
@@ -352,6 +376,10 @@ subscribe_of c = option_and_then subscribe_asked (request_of c)
 abbrev pub statement_of : Cause → Option Statement
 statement_of c = option_and_then statement_asked (request_of c)
 
+-- the MsgId that is open where the PUBLISH is allowed that the cause is
+abbrev pub id_opened_of : Cause → Option ℕ
+id_opened_of c = option_and_then id_opened (request_of c)
+
 -- what is open is sent again, or is open no more
 abbrev pub repeated : ℕ → Outcome → Client → Client
 repeated clock Allowed x = record x { buffer = record x.buffer { exchange = repeat x.buffer.exchange clock } }
@@ -362,7 +390,7 @@ abbrev pub note_by : Around → Decision → Client → Client
 note_by a (note.Connect id outcome) x = if is_allowed outcome then entered_by a.clock a.cause x else x
 note_by a (note.Left id) x = gone x
 note_by a (note.Register who name outcome) x = record x { ids = registered name outcome x.ids }
-note_by a (note.Publish who name outcome) x = x
+note_by a (note.Publish who name outcome) x = received (id_opened_of a.cause) outcome x
 note_by a (note.Subscribe who filter outcome) x = subscribed (subscribe_of a.cause) filter outcome x
 note_by a (note.Unsubscribe who filter outcome) x = unsubscribed filter outcome x
 note_by a (note.Will who name outcome) x = stated_by (statement_of a.cause) outcome x

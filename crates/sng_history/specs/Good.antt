@@ -7,6 +7,7 @@ use Rattle.sng_grants.specs.declared.policy.Policy.{Policy}
 use Rattle.sng_fan.specs.Subscriptions.{IsOneClients}
 use Rattle.sng_fan.specs.declared.held.Held.{Held}
 use Rattle.sng_states.specs.States.{in_dialogue, has_session, takes_messages}
+use Rattle.sng_states.specs.OpenIds.{IsOpenIds}
 use Rattle.sng_outbox.specs.Sending.{load}
 use Rattle.sng_outbox.specs.declared.limits.TheConstants.{MAX_IN_FLIGHT}
 use Rattle.sng_queue.specs.Buffers.{nothing}
@@ -80,6 +81,8 @@ pub record Good (s : State) : Type 0 where
   -- each
   pub once : Each (λ x. IsOneClients x.filters) s.clients
   pub covered : Each (λ x. AllCovered s.policy x.id x.filters) s.clients
+  -- no more of its MsgIds are open than may be, each once
+  pub few_open : Each (λ x. IsOpenIds x.unreleased) s.clients
   -- just the filters that stand for somebody are wanted, each once
   pub wanted_once : WantedOnce s.link.wanted
   pub wanted_held : (filter : List ℕ) → wants s.link.wanted filter ≡ is_held s.clients filter

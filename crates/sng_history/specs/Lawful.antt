@@ -1,5 +1,5 @@
 -- Which histories are lawful.
-use Rattle.std.specs.Prelude.{ℕ, ◌≡◌, List, [], ◌∷◌, ◌++◌, ◌==◌, if◌then◌else◌, Option, Some, None}
+use Rattle.std.specs.Prelude.{ℕ, ◌≡◌, List, [], ◌∷◌, ◌++◌, ◌==◌, not, if◌then◌else◌, Option, Some, None}
 use Rattle.std.specs.Str.{bytes_eq}
 use Rattle.sng_grants.specs.declared.policy.Policy.{Policy}
 use Rattle.sng_fan.specs.declared.held.Held.{Held}
@@ -21,10 +21,11 @@ use Rattle.sng_book.specs.declared.out.Out.{Out}
 use Rattle.sng_book.specs.declared.row.Row.{Row}
 use Rattle.sng_history.specs.Causes.{Request, ToPing, ToLeave, ToSleep, ToRegister, ToPublish, ToSubscribe}
 use Rattle.sng_history.specs.Causes.{ToUnsubscribe, ToConfirm, ToAcknowledge, ToState, Untaken}
+use Rattle.sng_history.specs.Causes.{ToPublishOnce, ToRelease}
 use Rattle.sng_history.specs.Causes.{Cause, cause_of}
 use Rattle.sng_history.specs.Causes.{ByConnect, ByMessage, BySource, ByBroken, ByPacket, ByUp, ByDown, ByTake}
 use Rattle.sng_history.specs.Causes.{ByReplace, ByTick}
-use Rattle.sng_states.specs.States.{is_due_messages}
+use Rattle.sng_states.specs.States.{is_due_messages, is_active}
 use Rattle.sng_history.specs.Clients.{Client, is_here, let_in, closed, confirmed_with, is_confirming}
 use Rattle.sng_history.specs.Clients.{is_acknowledging, is_waking, awake, message_due}
 use Rattle.sng_history.specs.Notes.{notes_of, exits_in}
@@ -34,7 +35,7 @@ use Rattle.sng_history.specs.WillAsks.{statement_notes}
 use Rattle.sng_history.specs.Packets.{answer_of, refused_filter}
 use Rattle.sng_history.specs.Standing.{holds}
 use Rattle.sng_history.specs.Verdicts.{entry, ping_verdict, register_ask, publish_ask, subscribe_ask}
-use Rattle.sng_history.specs.Verdicts.{unsubscribe_ask, coverage}
+use Rattle.sng_history.specs.Verdicts.{unsubscribe_ask, coverage, publish_once_ask, is_repeat}
 use Rattle.sng_history.specs.Answers.{denied_note}
 use Rattle.sng_history.specs.Exits.{exits_of, agains_of}
 use Rattle.sng_history.specs.Outgoing.{all_gone, refusals, out_of_turn, handed_over, delivered_notes}
@@ -72,13 +73,15 @@ abbrev pub woken_notes : Policy → Option (List ℕ) → Client → List Decisi
 woken_notes policy client x = if is_waking client x then handed_over policy (awake x) else []
 
 -- the notes that a message fixes of the client from which it came: its ask with the verdict, that it leaves,
--- and any other message that is denied
+-- and any other message that is denied. A repeat of what was received makes none
 abbrev pub fixed_to : State → Request → Client → List Decision
 fixed_to s (ToPing client) x = denial_of x.id (ping_verdict client x) ++ woken_notes s.policy client x
 fixed_to s (ToSleep duration) x = if is_due_messages x.phase then [] else out_of_turn x.id
 fixed_to s ToLeave x = note.Left x.id ∷ all_gone x.id x.buffer.waiting
 fixed_to s (ToRegister r) x = register_ask s.policy x r.name ∷ []
 fixed_to s (ToPublish p) x = publish_ask s x p ∷ []
+fixed_to s (ToPublishOnce p) x = if not (is_repeat p x) then publish_once_ask s x p ∷ [] else []
+fixed_to s (ToRelease id) x = if is_active x.phase then [] else out_of_turn x.id
 fixed_to s (ToSubscribe r) x = subscribe_ask s x r ∷ []
 fixed_to s (ToUnsubscribe r) x = unsubscribe_ask s.policy x r ∷ []
 fixed_to s (ToConfirm r) x = if is_confirming r x then confirmations s.policy r x else out_of_turn x.id

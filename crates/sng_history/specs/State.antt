@@ -164,11 +164,11 @@ item_for asker name q p =
       retain = p.flags.retain;
     })
 
--- the QoS at which a publish of a client goes on to the broker
+-- the QoS at which a publish of a client goes on to the broker, which is 1 at most
 abbrev pub qos_of : FrameQos → Qos
 qos_of qos.AtMostOnce = AtMostOnce
 qos_of qos.AtLeastOnce = AtLeastOnce
-qos_of qos.ExactlyOnce = AtMostOnce
+qos_of qos.ExactlyOnce = AtLeastOnce
 qos_of qos.WithoutSession = AtMostOnce
 
 -- the item of a publish that was asked for, where it was allowed. Without a session it has QoS 0 upstream

@@ -2,13 +2,13 @@
 -- ask is its verdict: not a frame, not supported, out of turn, no session or no scope or an unknown source,
 -- the type of the topic id, not a topic name or not a topic filter, an id without a name, the missing grant,
 -- the broker's connection, the room.
-use Rattle.std.specs.Prelude.{ℕ, ◌/◌, ◌%◌, ◌==◌, ◌&&◌, ◌||◌, not, nat_lt, Bool, true, false, List, [], ◌∷◌}
+use Rattle.std.specs.Prelude.{ℕ, ◌/◌, ◌%◌, ◌==◌, ◌&&◌, ◌||◌, not, nat_lt, Bool, false, List, [], ◌∷◌}
 use Rattle.std.specs.Prelude.{length, if◌then◌else◌, Option, Some, None, Ok, Err}
 use Rattle.std.specs.Str.{bytes_eq}
 use Rattle.std.specs.declared.result.Result.{Result}
 use Rattle.sng_text.specs.Texts.{is_name, is_filter}
 use Rattle.sng_text.specs.declared.qos.Qos.{Qos}
-use Rattle.sng_text.specs.declared.qos.Qos.TheVariants.{AtMostOnce}
+use Rattle.sng_text.specs.declared.qos.Qos.TheVariants.{AtMostOnce, AtLeastOnce}
 use Rattle.sng_grants.specs.declared.policy.Policy.{Policy}
 use Rattle.sng_policy.specs.Grants.{publish_grant, source_grant, subscribe_grant, lists, lists_source, topic}
 use Rattle.sng_policy.specs.declared.grant.NameGrant.{NameGrant}
@@ -42,9 +42,8 @@ use Rattle.sng_book.specs.declared.outcome.Outcome.TheVariants.{Allowed, Denied}
 use Rattle.sng_fan.specs.Subscriptions.{is_full}
 use Rattle.sng_ids.specs.Ids.{Ids, name_of, is_full_for}
 use Rattle.sng_states.specs.States.{is_due_messages}
-use Rattle.sng_states.specs.declared.state.ClientState.{ClientState}
-use Rattle.sng_states.specs.declared.state.ClientState.TheVariants.{Dialogue, Active, Asleep, Awake}
-use Rattle.sng_states.specs.declared.state.ClientState.TheVariants.{Disconnected, Lost}
+pub use Rattle.sng_states.specs.States.{is_active}
+use Rattle.sng_states.specs.OpenIds as ids_open
 use Rattle.sng_history.specs.declared.limits.TheConstants.{MAX_CLIENTS}
 use Rattle.sng_history.specs.Clients.{Client}
 use Rattle.sng_history.specs.Packets.{has_place}
@@ -149,14 +148,6 @@ entry_by policy xs c =
 abbrev pub entry : State → Connect → Outcome
 entry s c = entry_by s.policy s.clients c
 
-abbrev pub is_active : ClientState → Bool
-is_active Active = true
-is_active Dialogue = false
-is_active Asleep = false
-is_active Awake = false
-is_active Disconnected = false
-is_active Lost = false
-
 -- a message of a client has its turn where the client is active
 abbrev pub in_turn : Client → Outcome
 in_turn x = if is_active x.phase then Allowed else Denied (Form OutOfTurn)
@@ -214,6 +205,39 @@ publish_by s x p (Denied rule) = note.Publish (who.Client x.id) None (Denied rul
 -- the note of a PUBLISH of a client (MQTT-SN 1.2, 5.4.12 and 6.6)
 abbrev pub publish_ask : State → Client → Publish → Decision
 publish_ask s x p = publish_by s x p (may_ask s.policy x)
+
+-- ---- publishes at QoS 2
+
+-- the PUBLISH repeats one that was received and is not released: it has its turn, and its MsgId is open,
+-- whatever else it says
+abbrev pub is_repeat : Publish → Client → Bool
+is_repeat p x = is_active x.phase && ids_open.has_id p.msg_id x.unreleased
+
+-- whether there is room for it: for one more open MsgId of the client, and for one more publish at QoS 1, as
+-- it goes on to the broker
+abbrev pub once_room_in : State → Client → Publish → Outcome
+once_room_in s x p =
+    if ids_open.is_full_for p.msg_id x.unreleased then Denied (Room (Full place.Exchanges))
+    else room_in s.link AtLeastOnce
+
+-- and whether there is a connection
+abbrev pub once_room : State → Client → Publish → Outcome
+once_room s x p = if s.up then once_room_in s x p else Denied (Room UpstreamDown)
+
+abbrev pub publish_once_named : State → Client → Publish → Result (List ℕ) Denial → Decision
+publish_once_named s x p (Ok name) =
+    note.Publish (who.Client x.id) (Some name)
+    (and_then (exit s.policy (origin.Client x.id) name) (once_room s x p))
+publish_once_named s x p (Err rule) = note.Publish (who.Client x.id) None (Denied rule)
+
+abbrev pub publish_once_by : State → Client → Publish → Outcome → Decision
+publish_once_by s x p Allowed =
+    publish_once_named s x p (name_in s.policy (Some x.ids) p.flags.id_type p.topic_id)
+publish_once_by s x p (Denied rule) = note.Publish (who.Client x.id) None (Denied rule)
+
+-- the note of a PUBLISH at QoS 2 that is no repeat (MQTT-SN 1.2, 5.4.12 and 6.6)
+abbrev pub publish_once_ask : State → Client → Publish → Decision
+publish_once_ask s x p = publish_once_by s x p (may_ask s.policy x)
 
 -- ---- subscriptions
 

@@ -21,6 +21,7 @@ use Rattle.sng_book.specs.declared.out.Out.{Out}
 use Rattle.sng_book.specs.declared.out.Out.TheVariants.{Note}
 use Rattle.sng_history.specs.Causes.{Request, ToPing, ToLeave, ToSleep, ToRegister, ToPublish, ToSubscribe}
 use Rattle.sng_history.specs.Causes.{ToUnsubscribe, ToConfirm, ToAcknowledge, ToState, Untaken}
+use Rattle.sng_history.specs.Causes.{ToPublishOnce, ToRelease}
 use Rattle.sng_history.specs.Causes.{Cause, request_of}
 use Rattle.sng_history.specs.Causes.{ByConnect, ByMessage, BySource, ByBroken, ByPacket, ByUp, ByDown, ByTake}
 use Rattle.sng_history.specs.Causes.{ByReplace, ByTick}
@@ -31,9 +32,10 @@ use Rattle.sng_history.specs.Standing.{Release, released, dropped_of, drop_note,
 use Rattle.sng_history.specs.Notes.{notes_of, exits_in}
 use Rattle.sng_history.specs.State.{State, around, later}
 use Rattle.sng_history.specs.Ticking.{with_wills, ping_dropped}
-use Rattle.sng_history.specs.Verdicts.{source_ask, entry, is_active, ping_verdict}
+use Rattle.sng_history.specs.Verdicts.{source_ask, entry, is_active, ping_verdict, is_repeat}
 use Rattle.sng_history.specs.Answers.{denied_note, code_of, refused, regack, puback, suback, unsuback}
 use Rattle.sng_history.specs.Answers.{statement_answer, statement_refused, dismissed, connack, welcome, pong}
+use Rattle.sng_history.specs.Answers.{pubrec, pubcomp}
 use Rattle.sng_history.specs.Exits.{leaving, beginning}
 use Rattle.sng_history.specs.Packets.{answer_of, answer_outs}
 
@@ -54,6 +56,8 @@ takes_leave (ToPing client) = false
 takes_leave (ToSleep duration) = false
 takes_leave (ToRegister r) = false
 takes_leave (ToPublish p) = false
+takes_leave (ToPublishOnce p) = false
+takes_leave (ToRelease id) = false
 takes_leave (ToSubscribe r) = false
 takes_leave (ToUnsubscribe r) = false
 takes_leave (ToConfirm r) = false
@@ -76,6 +80,8 @@ denied_to ToLeave to rule = []
 denied_to (ToSleep duration) to rule = []
 denied_to (ToRegister r) to rule = refused to (frame.Register r) rule
 denied_to (ToPublish p) to rule = refused to (frame.Publish p) rule
+denied_to (ToPublishOnce p) to rule = refused to (frame.Publish p) rule
+denied_to (ToRelease id) to rule = []
 denied_to (ToSubscribe r) to rule = refused to (frame.Subscribe r) rule
 denied_to (ToUnsubscribe r) to rule = refused to (frame.Unsubscribe r) rule
 denied_to (ToConfirm r) to rule = []
@@ -88,12 +94,14 @@ denied_by None to rule = []
 denied_by (Some request) to rule = denied_to request to rule
 
 -- the answer to a client's message that is allowed and noted under this name or filter: REGACK tells the id
--- that the name has then, PUBACK acknowledges a publish at QoS 1, and SUBACK and UNSUBACK a subscription and
--- its end
+-- that the name has then, PUBACK acknowledges a publish at QoS 1 and PUBREC one at QoS 2, and SUBACK and
+-- UNSUBACK a subscription and its end
 abbrev pub granted_to : Request → Client → Option (List ℕ) → List Out
 granted_to (ToRegister r) x (Some name) = regack x.address (id_for name x.ids) r.msg_id ∷ []
 granted_to (ToRegister r) x None = []
 granted_to (ToPublish p) x name = puback x.address p p.flags.qos
+granted_to (ToPublishOnce p) x name = pubrec x.address p.msg_id ∷ []
+granted_to (ToRelease id) x name = []
 granted_to (ToSubscribe r) x (Some filter) = suback x.address r x.ids filter ∷ []
 granted_to (ToSubscribe r) x None = []
 granted_to (ToUnsubscribe r) x filter = unsuback x.address r ∷ []
@@ -159,7 +167,8 @@ spell a dropped x (said ∷ notes) =
 -- ---- the part of a client
 
 -- the answer to a message that makes no note: a PINGREQ of an active client is answered by PINGRESP (MQTT-SN
--- 1.2, 6.11), and a DISCONNECT with Duration by DISCONNECT (6.14)
+-- 1.2, 6.11), a DISCONNECT with Duration by DISCONNECT (6.14), a PUBLISH that repeats one that was received
+-- by PUBREC, and a PUBREL by PUBCOMP (6.6)
 abbrev pub pong_by : Outcome → Address → List Out
 pong_by Allowed to = pong to ∷ []
 pong_by (Denied rule) to = []
@@ -170,6 +179,8 @@ answer_to (ToSleep duration) x = if is_due_messages x.phase then dismissed x.add
 answer_to ToLeave x = []
 answer_to (ToRegister r) x = []
 answer_to (ToPublish p) x = []
+answer_to (ToPublishOnce p) x = if is_repeat p x then pubrec x.address p.msg_id ∷ [] else []
+answer_to (ToRelease id) x = if is_active x.phase then pubcomp x.address id ∷ [] else []
 answer_to (ToSubscribe r) x = []
 answer_to (ToUnsubscribe r) x = []
 answer_to (ToConfirm r) x = []
@@ -211,6 +222,10 @@ stranger_to from (ToRegister r) =
     Note (note.Register (who.Address from) None (Denied (Form NoSession))) ∷ dismissed from ∷ []
 stranger_to from (ToPublish p) =
     Note (note.Publish (who.Address from) None (Denied (Form NoSession))) ∷ dismissed from ∷ []
+stranger_to from (ToPublishOnce p) =
+    Note (note.Publish (who.Address from) None (Denied (Form NoSession))) ∷ dismissed from ∷ []
+stranger_to from (ToRelease id) =
+    Note (note.Frame (who.Address from) (Denied (Form NoSession))) ∷ dismissed from ∷ []
 stranger_to from (ToSubscribe r) =
     Note (note.Subscribe (who.Address from) None (Denied (Form NoSession))) ∷ dismissed from ∷ []
 stranger_to from (ToUnsubscribe r) =

@@ -8,7 +8,6 @@ use Rattle.sng_grants.specs.Sources.{scope_of}
 use Rattle.sng_grants.specs.declared.policy.Policy.{Policy}
 use Rattle.sng_policy.specs.Grants.{lists, lists_source, topic}
 use Rattle.sng_states.specs.declared.state.ClientState.{ClientState}
-use Rattle.sng_states.specs.declared.state.ClientState.TheVariants.{Active}
 use Rattle.sng_states.specs.States.{has_session}
 use Rattle.sng_frames.specs.Reading.{frame_of}
 use Rattle.sng_frames.specs.Writing.{written}
@@ -46,6 +45,7 @@ use Rattle.sng_outbox.specs.declared.limits.TheConstants.{MAX_OUTBOX_ITEMS}
 use Rattle.sng_laws.specs.Views.{policy_in_force, is_up}
 use Rattle.sng_laws.specs.ViewsClients.{is_awaiting, is_asleep, phase_of, address_of, accepted, is_among}
 use Rattle.sng_laws.specs.ViewsClients.{those_at}
+pub use Rattle.sng_laws.specs.ViewsClients.{is_active}
 use Rattle.sng_laws.specs.ViewsLink.{waiting}
 use Rattle.sng_laws.specs.LawsRules.{Rule, judged, may_publish}
 use Rattle.sng_laws.specs.LawsEnds.{clean_answer}
@@ -193,10 +193,6 @@ answer_to stranger known (id ∷ ids) = flat_map known (id ∷ ids)
 -- by nobody: it is noted, and answered by DISCONNECT where it needs a session
 abbrev pub no_session : Address → List Out
 no_session from = Note (note.Frame (who.Address from) (Denied (Form NoSession))) ∷ bye from ∷ []
-
-abbrev pub is_active : Option ClientState → Bool
-is_active (Some Active) = true
-is_active other = false
 
 abbrev pub names_another : Option (List ℕ) → List ℕ → Bool
 names_another None id = false

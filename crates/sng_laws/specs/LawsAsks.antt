@@ -38,8 +38,11 @@ use Rattle.sng_book.specs.declared.out.Out.{Out}
 use Rattle.sng_book.specs.declared.out.Out.TheVariants.{Send, Note}
 use Rattle.sng_book.specs.declared.row.Row.{Row}
 use Rattle.sng_ids.specs.declared.limits.TheConstants.{MAX_TOPIC_IDS}
+use Rattle.sng_states.specs.declared.limits.TheConstants.{MAX_OPEN_IDS}
 use Rattle.sng_laws.specs.Views.{policy_in_force, is_up}
-use Rattle.sng_laws.specs.LawsHanding.{arrivals}
+use Rattle.sng_laws.specs.LawsHanding.{arrivals, out_of_turn}
+use Rattle.sng_laws.specs.ViewsMessages.{is_without_session, is_exactly_once}
+use Rattle.sng_laws.specs.ViewsOpenIds.{is_open, open_of}
 use Rattle.sng_laws.specs.ViewsHanding.{meant_for}
 use Rattle.sng_laws.specs.ViewsClients.{phase_of, address_of, accepted, is_among, names_told, id_told}
 use Rattle.sng_laws.specs.ViewsLink.{waiting, publications}
@@ -94,16 +97,14 @@ register_answer h from r id =
 
 -- ---- PUBLISH of a session (5.4.12, 5.4.13, 6.6 and 6.7)
 
--- QoS 0 or 1
+-- QoS 0, 1 or 2
 abbrev pub is_of_session : FrameQos → Bool
-is_of_session qos.AtMostOnce = true
-is_of_session qos.AtLeastOnce = true
-is_of_session qos.ExactlyOnce = false
-is_of_session qos.WithoutSession = false
+is_of_session q = not (is_without_session q)
 
--- QoS 1, at which PUBACK answers what is allowed
+-- QoS 1 or 2, at which what is allowed is answered, and waits at QoS 1
 abbrev pub is_acknowledged : FrameQos → Bool
 is_acknowledged qos.AtLeastOnce = true
+is_acknowledged qos.ExactlyOnce = true
 is_acknowledged other = false
 
 -- the type that stands for nothing
@@ -149,6 +150,10 @@ session_rules h id p =
     ∷ (not (may_publish (scope_of policy.clients id) name), Grant (MissingPub name))
     ∷ (not (is_up h), Room UpstreamDown)
     ∷ (
+      is_exactly_once p.flags.qos && not (nat_lt (length (open_of id h)) MAX_OPEN_IDS),
+      Room (Full place.Exchanges),
+    )
+    ∷ (
       is_acknowledged p.flags.qos && not (nat_lt (unacknowledged h) MAX_IN_FLIGHT),
       Room (Full place.InFlight),
     )
@@ -160,21 +165,53 @@ abbrev pub puback_to : Address → Publish → ReturnCode → Out
 puback_to to p code =
     Send to (written (frame.PublishAck (record { topic_id = p.topic_id; msg_id = p.msg_id; code = code })))
 
--- a publish that is denied is always answered, and one that is allowed at QoS 1
+-- PUBREC and PUBCOMP name a MsgId alone
+abbrev pub pubrec_to : Address → ℕ → Out
+pubrec_to to number = Send to (written (frame.PublishReceived number))
+
+abbrev pub pubcomp_to : Address → ℕ → Out
+pubcomp_to to number = Send to (written (frame.PublishComplete number))
+
+-- one that is allowed is answered at QoS 1 by PUBACK, and at QoS 2 by PUBREC
+abbrev pub accepted_to : Address → Publish → FrameQos → List Out
+accepted_to to p qos.AtMostOnce = []
+accepted_to to p qos.AtLeastOnce = puback_to to p ACCEPTED ∷ []
+accepted_to to p qos.ExactlyOnce = pubrec_to to p.msg_id ∷ []
+accepted_to to p qos.WithoutSession = []
+
+-- and one that is denied always by PUBACK
 abbrev pub puback : Address → Publish → Outcome → List Out
-puback to p Allowed = if is_acknowledged p.flags.qos then puback_to to p ACCEPTED ∷ [] else []
+puback to p Allowed = accepted_to to p p.flags.qos
 puback to p (Denied rule) = puback_to to p (code_for rule) ∷ []
 
 -- by nobody there is no session, either
 abbrev pub publish_stranger : Address → List Out
 publish_stranger from = Note (note.Publish (who.Address from) None (Denied (Form NoSession))) ∷ bye from ∷ []
 
+-- it repeats one that was allowed: it is at QoS 2, the client is active, and its MsgId is open, whatever else
+-- it says
+abbrev pub is_repeat : List Row → List ℕ → Publish → Bool
+is_repeat h id p =
+    is_exactly_once p.flags.qos && (is_active (phase_of id h) && is_open p.msg_id (open_of id h))
+
 -- of a client it is noted, with the name where the client may ask and the id stands for one
-abbrev pub publish_answer : List Row → Address → Publish → List ℕ → List Out
-publish_answer h from p id =
+abbrev pub asked_answer : List Row → Address → Publish → List ℕ → List Out
+asked_answer h from p id =
     let outcome = judged (session_rules h id p) in
     let name = name_meant (policy_in_force h) (names_told id h) p.flags.id_type p.topic_id in
     Note (note.Publish (who.Client id) (if may_ask h id then name else None) outcome) ∷ puback from p outcome
+
+-- but a repeat, which PUBREC answers alone
+abbrev pub publish_answer : List Row → Address → Publish → List ℕ → List Out
+publish_answer h from p id =
+    if is_repeat h id p then pubrec_to from p.msg_id ∷ [] else asked_answer h from p id
+
+-- ---- PUBREL (5.4.14 and 6.6)
+
+-- of an active client PUBCOMP answers it, without a note; else it is out of turn
+abbrev pub release_answer : List Row → Address → ℕ → List ℕ → List Out
+release_answer h from number id =
+    if is_active (phase_of id h) then pubcomp_to from number ∷ [] else out_of_turn id
 
 -- ---- packets of the broker (MQTT 3.1.1, 3.3)
 

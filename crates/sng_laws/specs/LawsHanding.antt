@@ -12,6 +12,7 @@ use Rattle.sng_grants.specs.Topics.{id_of}
 use Rattle.sng_queue.specs.Messages.{Message}
 use Rattle.sng_queue.specs.declared.limits.TheConstants.{MAX_QUEUED, MAX_WAITING_NAME, MAX_WAITING_PAYLOAD}
 use Rattle.sng_frames.specs.Writing.{written}
+use Rattle.sng_frames.specs.declared.flags.Flags.{Flags}
 use Rattle.sng_frames.specs.declared.flags.TopicIdType.{TopicIdType}
 use Rattle.sng_frames.specs.declared.flags.TopicIdType.TheVariants.{Normal, Predefined, Short}
 use Rattle.sng_frames.specs.declared.qos.FrameQos.{FrameQos}
@@ -38,7 +39,6 @@ use Rattle.sng_book.specs.declared.out.Out.TheVariants.{Send, Wire, Note}
 use Rattle.sng_book.specs.declared.row.Row.{Row}
 use Rattle.sng_ids.specs.declared.limits.TheConstants.{MAX_TOPIC_IDS}
 use Rattle.sng_laws.specs.LawsRules.{Rule, judged, receive_rules, IsDenial}
-use Rattle.sng_laws.specs.LawsUnsupported.{unset}
 use Rattle.sng_laws.specs.Views.{policy_in_force}
 use Rattle.sng_laws.specs.ViewsClients.{phase_of, is_among, with_name, names_told, id_told}
 use Rattle.sng_laws.specs.ViewsFlight.{number_in}
@@ -97,6 +97,18 @@ abbrev pub topic_meant : Mailing → List ℕ → TopicIdType × ℕ
 topic_meant c name =
     if length name == 2 then (Short, number_in name)
     else id_meant (id_of c.policy.topics name) (id_told name c.told)
+
+-- no flag is set
+abbrev pub unset : Flags
+unset =
+    record {
+      dup = false;
+      qos = qos.AtMostOnce;
+      retain = false;
+      will = false;
+      clean = false;
+      id_type = Normal;
+    }
 
 -- the PUBLISH has the payload, the Retain and the QoS of the message, and at QoS 1 the next MsgId
 abbrev pub publish_to : Mailing → Message → Out

@@ -43,7 +43,7 @@ use Rattle.sng_laws.specs.ViewsFlight.{in_flight}
 use Rattle.sng_laws.specs.ViewsLink.{waiting, publications, published_for, is_ping_due, pinged}
 use Rattle.sng_laws.specs.ViewsWills.{will_of}
 use Rattle.sng_laws.specs.LawsRules.{Rule, judged}
-use Rattle.sng_laws.specs.LawsUnsupported.{unset}
+use Rattle.sng_laws.specs.LawsHanding.{unset}
 use Rattle.sng_laws.specs.LawsHanding.{Mailing, mailing, frame_qos, handed_awake, is_awake}
 use Rattle.sng_laws.specs.LawsRules.{receive_rules}
 use Rattle.sng_laws.specs.LawsHanding.{gone_answer}

@@ -15,6 +15,7 @@ use Rattle.sng_laws.specs.ViewsFlight.{in_flight, last_id}
 use Rattle.sng_laws.specs.ViewsLink.{pinged}
 use Rattle.sng_laws.specs.ViewsWills.{stating_of, will_of, stage_shown}
 use Rattle.sng_laws.specs.ViewsStanding.{standing_of, wanted}
+use Rattle.sng_laws.specs.ViewsOpenIds.{is_open, open_of}
 
 -- the exchange is what the rows show to be open: the announcement of a name, or a message that was handed
 -- over, with the topic id and the MsgId of its first sending, the clock of its last one, and how often it was
@@ -47,6 +48,11 @@ pub record ClientShown (h : List Row) (x : Client) : Type 0 where
   -- its will, and how far the dialogue about it has come
   pub will : x.wills.will ≡ will_of x.id h
   pub stage : x.wills.stage ≡ stage_shown (phase_of x.id h) (stating_of x.id h).awaited
+
+-- the MsgIds that are kept as open of a client are those that the rows show to be, and as many
+pub record OpenShown (h : List Row) (x : Client) : Type 0 where
+  pub same : (number : ℕ) → is_open number x.unreleased ≡ is_open number (open_of x.id h)
+  pub many : length x.unreleased ≡ length (open_of x.id h)
 
 -- what the link holds beside what waits: the publishes in flight, the packet id that was given last, the
 -- filters that are wanted and when the connection began or was kept alive last are what the rows show

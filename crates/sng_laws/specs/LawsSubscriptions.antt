@@ -49,7 +49,7 @@ use Rattle.sng_laws.specs.ViewsStanding.{standing_of}
 use Rattle.sng_laws.specs.LawsRules.{Rule, judged}
 use Rattle.sng_laws.specs.LawsEnds.{Stays, texts_of, untold_note}
 use Rattle.sng_laws.specs.LawsAnswers.{bye, code_for, is_active, or_empty}
-use Rattle.sng_laws.specs.LawsUnsupported.{unset}
+use Rattle.sng_laws.specs.LawsHanding.{unset}
 use Rattle.sng_laws.specs.LawsAsks.{may_ask, is_reserved}
 
 -- ---- what a SUBSCRIBE or an UNSUBSCRIBE names (MQTT-SN 1.2, 5.4.15 and 5.4.17)

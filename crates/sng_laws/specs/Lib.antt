@@ -3,6 +3,7 @@ pub mod ViewsMessages
 pub mod ViewsClients
 pub mod ViewsWills
 pub mod ViewsStanding
+pub mod ViewsOpenIds
 pub mod ViewsHanding
 pub mod ViewsSendings
 pub mod ViewsLink
@@ -19,6 +20,7 @@ pub mod LawsTurns
 pub mod LawsAnswers
 pub mod LawsUnsupported
 pub mod LawsAsks
+pub mod LawsOnce
 pub mod LawsWills
 pub mod LawsLost
 pub mod LawsSleep

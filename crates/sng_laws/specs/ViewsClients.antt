@@ -110,6 +110,11 @@ phase_after m id (Note said ∷ outs) before = phase_after m id outs (phase_by m
 phase_after m id (Send to datagram ∷ outs) before = phase_after m id outs before
 phase_after m id (Wire packet ∷ outs) before = phase_after m id outs before
 
+-- it is connected, and neither is a dialogue open nor does it sleep
+abbrev pub is_active : Option ClientState → Bool
+is_active (Some Active) = true
+is_active other = false
+
 -- messages for the client wait for it: it is connected or sleeps, and no dialogue is open (MQTT-SN 1.2, 6.14)
 abbrev pub is_awaiting : Option ClientState → Bool
 is_awaiting (Some Active) = true

@@ -45,9 +45,10 @@ use Rattle.sng_laws.specs.ViewsStanding.{begun_by, standing_after, standing_of}
 
 -- ---- what was asked for
 
--- the QoS to the broker: QoS 1 stays, and any other goes on at QoS 0
+-- the QoS to the broker: QoS 1 stays, QoS 2 goes on at QoS 1, and any other at QoS 0
 abbrev pub qos_upstream : FrameQos → Qos
 qos_upstream qos.AtLeastOnce = AtLeastOnce
+qos_upstream qos.ExactlyOnce = AtLeastOnce
 qos_upstream other = AtMostOnce
 
 -- the publish of who asked for it, under the name of its note, with the payload and the Retain of its
@@ -56,7 +57,7 @@ abbrev pub publication : Origin → List ℕ → Qos → Publish → Publication
 publication asker name q p =
     record { origin = asker; name = name; payload = p.payload; qos = q; retain = p.flags.retain }
 
--- a client publishes at the QoS of its datagram, and a device without a session at QoS 0; nobody else
+-- a client publishes at the QoS of its datagram, 1 at most, and a device without a session at QoS 0; nobody else
 -- publishes
 abbrev pub publication_by : Who → Option (List ℕ) → Publish → List Publication
 publication_by (who.Client client) (Some name) p =
@@ -78,14 +79,9 @@ allowed_in p (Note said ∷ outs) = allowed_by p said ++ allowed_in p outs
 allowed_in p (Send to datagram ∷ outs) = allowed_in p outs
 allowed_in p (Wire packet ∷ outs) = allowed_in p outs
 
--- a PUBLISH at QoS 2 is not taken
-abbrev pub publish_taken : FrameQos → Publish → Option Publish
-publish_taken qos.ExactlyOnce p = None
-publish_taken other p = Some p
-
 -- the PUBLISH among messages
 abbrev pub publish_in : Option Message → Option Publish
-publish_in (Some (Publishes p)) = publish_taken p.flags.qos p
+publish_in (Some (Publishes p)) = Some p
 publish_in other = None
 
 -- the publish that a note allows, of the PUBLISH that the row holds

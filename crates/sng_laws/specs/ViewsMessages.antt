@@ -1,6 +1,7 @@
--- What message a datagram holds, as far as the views ask: a CONNECT, a REGISTER, a PUBLISH, a SUBSCRIBE, an
--- UNSUBSCRIBE, a REGACK, a PUBACK, one about a will, a PINGREQ, a DISCONNECT with Duration, or another one.
-use Rattle.std.specs.Prelude.{ℕ, Bool, true, false, List, Option, Some, None, Ok, Err}
+-- What message a datagram holds, as far as the views ask: a CONNECT, a REGISTER, a PUBLISH, a PUBREL, a
+-- SUBSCRIBE, an UNSUBSCRIBE, a REGACK, a PUBACK, one about a will, a PINGREQ, a DISCONNECT with Duration, or
+-- another one.
+use Rattle.std.specs.Prelude.{ℕ, Bool, true, false, List, Option, Some, None, Ok, Err, if◌then◌else◌}
 use Rattle.std.specs.declared.result.Result.{Result}
 use Rattle.sng_frames.specs.Reading.{frame_of}
 use Rattle.sng_frames.specs.declared.fault.FrameFault.{FrameFault}
@@ -21,6 +22,8 @@ pub data Message : Type 0 where
   Connects : Connect → Message
   Registers : Register → Message
   Publishes : Publish → Message
+  -- a PUBREL, with its MsgId
+  Releases : ℕ → Message
   Subscribes : TopicRequest → Message
   Unsubscribes : TopicRequest → Message
   -- a REGACK, and a PUBACK
@@ -37,6 +40,7 @@ abbrev pub message_of : SnFrame → Message
 message_of (frame.Connect connect) = Connects connect
 message_of (frame.Register register) = Registers register
 message_of (frame.Publish p) = Publishes p
+message_of (frame.PublishRelease number) = Releases number
 message_of (frame.Subscribe r) = Subscribes r
 message_of (frame.Unsubscribe r) = Unsubscribes r
 message_of (frame.WillTopic topic) = States (StatesTopic topic)
@@ -68,6 +72,16 @@ subscribe_in other = None
 abbrev pub is_without_session : FrameQos → Bool
 is_without_session qos.WithoutSession = true
 is_without_session other = false
+
+-- a PUBLISH at QoS 2
+abbrev pub is_exactly_once : FrameQos → Bool
+is_exactly_once qos.ExactlyOnce = true
+is_exactly_once other = false
+
+-- the MsgId of the PUBLISH at QoS 2 among messages
+abbrev pub number_opening : Option Message → Option ℕ
+number_opening (Some (Publishes p)) = if is_exactly_once p.flags.qos then Some p.msg_id else None
+number_opening other = None
 
 -- the statement of a will among messages
 abbrev pub statement_in : Option Message → Option Statement

@@ -1,3 +1,4 @@
+pub mod Configs
 pub mod Commands
 pub mod Denials
 pub mod Ends

@@ -2,9 +2,11 @@
 ghost use Rattle.std.specs.Prelude.{◌≡◌, IfOk};
 ghost use Rattle.sng_operator.specs.Readings.{gateway_connect};
 
+use crate::config::{Config, ConfigFault, Given};
 use mqtt_frames::encode_connect;
 use sng_book::Address;
 use sng_bounds::FloodLimits;
+use sng_config::{Name, NumberName, SwitchName, TextName};
 use sng_history::PING_MS;
 use sng_questions::report::{Report, report_of};
 use sng_scope::{PolicyFault, read_policy};
@@ -25,21 +27,34 @@ const MAX_ID_BYTES: usize = 4 * MAX_CLIENT_ID;
 /// which a PINGREQ is due, so that one that was lost is noticed in time.
 const KEEP_ALIVE: u16 = (2 * PING_MS / 1000) as u16;
 
-/// The words of the command line.
+/// How many tries to connect may fail, one after another, where nothing else is asked for.
+const USUAL_TRIES: u32 = 5;
+
+/// How many datagrams of strangers may be denied in a second, where nothing else is asked for.
+const USUAL_FLOOD: FloodLimits = FloodLimits {
+    each: 50,
+    all: 1000,
+};
+
+/// The words of the command line, of which each may be left out.
 #[derive(Clone, Copy, Debug, PartialEq, Eq)]
 pub struct Words<'a> {
+    /// The configuration file, which says what the words leave out.
+    pub config: Option<&'a str>,
     /// Where devices are listened to, as IP:PORT.
-    pub listen: &'a str,
+    pub listen: Option<&'a str>,
     /// Where the broker is, as IP:PORT.
-    pub broker: &'a str,
+    pub broker: Option<&'a str>,
     /// By which id the gateway is known to the broker.
-    pub id: &'a str,
+    pub id: Option<&'a str>,
     /// How many workers share the socket of the devices.
-    pub workers: u16,
-    /// How many tries to connect may fail, one after another.
-    pub tries: u32,
-    /// How many datagrams that made nothing but denials are acted on in a second.
-    pub flood: FloodLimits,
+    pub workers: Option<u32>,
+    /// How many tries to connect may fail, one after another; 0 is no end.
+    pub tries: Option<u32>,
+    /// How many datagrams of a stranger that made nothing but denials are acted on in a second.
+    pub flood_each: Option<u32>,
+    /// How many of all strangers together.
+    pub flood_all: Option<u32>,
     /// The file of the policy.
     pub policy: Option<&'a str>,
     /// Rows are printed as they are made.
@@ -48,7 +63,7 @@ pub struct Words<'a> {
     pub prints_rows: bool,
 }
 
-/// What the words ask for.
+/// What the words and the configuration file ask for.
 #[derive(Drop)]
 pub struct Ask {
     pub listen: SocketAddr,
@@ -65,53 +80,53 @@ pub struct Ask {
     pub prints_rows: bool,
 }
 
-/// An option whose word is an address.
-#[derive(Clone, Copy, Debug, PartialEq, Eq)]
-pub enum AddressOption {
-    Listen,
-    Broker,
-}
-
-impl Display for AddressOption {
-    fn fmt<W: Write>(&self, f: &mut Formatter<W>) -> fmt::Result {
-        f.write_str(match self {
-            AddressOption::Listen => "--listen",
-            AddressOption::Broker => "--broker",
-        })
-    }
-}
-
 /// Why nothing is started.
 #[derive(Drop)]
 pub enum Fault<'a> {
+    /// The configuration file sets nothing.
+    Config(&'a str, ConfigFault),
+    /// Neither the command line nor the configuration file has it.
+    Missing(Name),
     /// The word is no IPv4 address with a port.
-    Address(AddressOption, &'a str),
+    Address(Given<'a>),
     /// The word is no client id.
-    Id(&'a str),
+    Id(Given<'a>),
     /// The file of the policy cannot be read.
-    File(&'a str, Error),
+    File(Given<'a>, Error),
     /// The policy of the file is refused.
-    Policy(&'a str, PolicyFault, Report),
+    Policy(Given<'a>, PolicyFault, Report),
     Memory,
 }
 
 impl<'a> Display for Fault<'a> {
     fn fmt<W: Write>(&self, f: &mut Formatter<W>) -> fmt::Result {
         match self {
-            Fault::Address(option, word) => write!(
-                f,
-                "{option} {word}: not an IPv4 address with a port, as 0.0.0.0:1884"
-            ),
-            Fault::Id(word) => {
+            Fault::Config(path, ConfigFault::File(error)) => {
+                write!(f, "--config {path}: cannot be read: {error}")
+            }
+            Fault::Config(path, ConfigFault::Refused(fault)) => write!(f, "{path}, {fault}"),
+            Fault::Missing(name) => {
                 write!(
                     f,
-                    "--id {word}: not a client id of 1 to {MAX_CLIENT_ID} characters"
+                    "--{name} is missing: neither the command line nor the configuration file has it"
                 )
             }
-            Fault::File(path, error) => write!(f, "--policy {path}: cannot be read: {error}"),
-            Fault::Policy(path, fault, _) => {
+            Fault::Address(given) => {
+                write!(
+                    f,
+                    "{given}: not an IPv4 address with a port, as 0.0.0.0:1884"
+                )
+            }
+            Fault::Id(given) => {
+                write!(
+                    f,
+                    "{given}: not a client id of 1 to {MAX_CLIENT_ID} characters"
+                )
+            }
+            Fault::File(given, error) => write!(f, "{given}: cannot be read: {error}"),
+            Fault::Policy(given, fault, _) => {
                 let name = fault.name();
-                write!(f, "--policy {path}: refused: {name}")
+                write!(f, "{given}: refused: {name}")
             }
             Fault::Memory => f.write_str("out of memory"),
         }
@@ -124,15 +139,36 @@ impl<'a> From<AllocError> for Fault<'a> {
     }
 }
 
-/// Reads the words. The first of them that is not valid is the fault.
-pub fn ask_of<'a, R: Files + AllocGlobal>(rt: &R, words: &Words<'a>) -> Result<Ask, Fault<'a>> {
-    let listen = address_in(AddressOption::Listen, words.listen)?;
-    let broker = address_in(AddressOption::Broker, words.broker)?;
-    let greeting = greeting_of(rt.alloc(), words.id)?;
-    let (file, text) = match words.policy {
-        Some(path) => {
-            let text = policy_in(rt, path)?;
-            (Some(String::from_str(rt.alloc(), path)?), Some(text))
+/// The configuration file that the words name, where they name one.
+pub fn config_of<'a, R: Files + AllocGlobal>(
+    rt: &R,
+    words: &Words<'a>,
+) -> Result<Config<'a>, Fault<'a>> {
+    match words.config {
+        Some(path) => match Config::read(rt, path) {
+            Ok(config) => Ok(config),
+            Err(ConfigFault::Refused(sng_config::Fault::Memory)) => Err(Fault::Memory),
+            Err(fault) => Err(Fault::Config(path, fault)),
+        },
+        None => Ok(Config::none(rt.alloc())),
+    }
+}
+
+/// Reads the words, and what the file says in place of those that are left out. The first that is not there
+/// or not valid is the fault.
+pub fn ask_of<'a, R: Files + AllocGlobal>(
+    rt: &R,
+    words: &Words<'a>,
+    config: &'a Config<'a>,
+) -> Result<Ask, Fault<'a>> {
+    let listen = address_in(needed(config, TextName::Listen, words.listen)?)?;
+    let broker = address_in(needed(config, TextName::Broker, words.broker)?)?;
+    let greeting = greeting_in(rt.alloc(), needed(config, TextName::Id, words.id)?)?;
+    let workers = workers_in(words, config)?;
+    let (file, text) = match config.text(TextName::Policy, words.policy) {
+        Some(given) => {
+            let text = policy_in(rt, given)?;
+            (Some(String::from_str(rt.alloc(), given.word)?), Some(text))
         }
         None => (None, None),
     };
@@ -140,19 +176,61 @@ pub fn ask_of<'a, R: Files + AllocGlobal>(rt: &R, words: &Words<'a>) -> Result<A
         listen,
         broker,
         greeting,
-        workers: words.workers,
-        tries: words.tries,
-        flood: words.flood,
+        workers,
+        tries: tries_in(words, config),
+        flood: flood_in(words, config),
         file,
         text,
-        is_verbose: words.is_verbose,
-        prints_rows: words.prints_rows,
+        is_verbose: config.switch(SwitchName::Verbose, words.is_verbose),
+        prints_rows: config.switch(SwitchName::Rows, words.prints_rows),
     })
 }
 
-/// The address that the word of this option is.
-fn address_in(option: AddressOption, word: &str) -> Result<SocketAddr, Fault<'_>> {
-    socket_address_of(word).ok_or(Fault::Address(option, word))
+/// The text under a name that has to be there.
+fn needed<'a>(
+    config: &'a Config<'a>,
+    name: TextName,
+    word: Option<&'a str>,
+) -> Result<Given<'a>, Fault<'a>> {
+    config
+        .text(name, word)
+        .ok_or(Fault::Missing(Name::Text(name)))
+}
+
+/// How many workers share the socket.
+fn workers_in<'a>(words: &Words<'a>, config: &Config<'a>) -> Result<u16, Fault<'a>> {
+    let workers = config.number(NumberName::Workers, words.workers);
+    workers
+        .and_then(|workers| u16::try_from(workers).ok())
+        .ok_or(Fault::Missing(Name::Number(NumberName::Workers)))
+}
+
+/// How many tries may fail in a row: 0 is no end.
+fn tries_in(words: &Words<'_>, config: &Config<'_>) -> u32 {
+    match config
+        .number(NumberName::Tries, words.tries)
+        .unwrap_or(USUAL_TRIES)
+    {
+        0 => u32::MAX,
+        tries => tries,
+    }
+}
+
+/// What is passed over in a flood.
+fn flood_in(words: &Words<'_>, config: &Config<'_>) -> FloodLimits {
+    FloodLimits {
+        each: config
+            .number(NumberName::FloodEach, words.flood_each)
+            .unwrap_or(USUAL_FLOOD.each),
+        all: config
+            .number(NumberName::FloodAll, words.flood_all)
+            .unwrap_or(USUAL_FLOOD.all),
+    }
+}
+
+/// The address that the word is.
+fn address_in(given: Given<'_>) -> Result<SocketAddr, Fault<'_>> {
+    socket_address_of(given.word).ok_or(Fault::Address(given))
 }
 
 /// The address that the word is.
@@ -167,32 +245,32 @@ pub fn socket_address(address: Address) -> SocketAddr {
 }
 
 /// The CONNECT of the gateway under this id: a clean session.
-fn greeting_of(alloc: Global, word: &str) -> Result<Octets, Fault<'_>>
-    ensures { IfOk result (λ greeting. greeting ≡ gateway_connect word.now) }
+fn greeting_in(alloc: Global, given: Given<'_>) -> Result<Octets, Fault<'_>>
+    ensures { IfOk result (λ greeting. greeting ≡ gateway_connect given.entry.word.now) }
 {
-    let id = word.as_bytes();
+    let id = given.word.as_bytes();
     if MAX_ID_BYTES < id.len() {
-        return Err(Fault::Id(word));
+        return Err(Fault::Id(given));
     }
     match ClientId::read(alloc, id) {
         Ok(_) => Ok(encode_connect(alloc, id, true, KEEP_ALIVE)?),
         Err(TextFault::Memory) => Err(Fault::Memory),
-        Err(_) => Err(Fault::Id(word)),
+        Err(_) => Err(Fault::Id(given)),
     }
 }
 
 /// The text in the file, which is a policy.
-fn policy_in<'a, R: Files + AllocGlobal>(rt: &R, path: &'a str) -> Result<Vec<u8>, Fault<'a>> {
-    let text = match file_text(rt, path) {
+fn policy_in<'a, R: Files + AllocGlobal>(rt: &R, given: Given<'a>) -> Result<Vec<u8>, Fault<'a>> {
+    let text = match file_text(rt, given.word) {
         Ok(text) => text,
-        Err(error) => return Err(Fault::File(path, error)),
+        Err(error) => return Err(Fault::File(given, error)),
     };
     match read_policy(rt.alloc(), text.as_slice()) {
         Ok(_) => Ok(text),
         Err(PolicyFault::Memory) => Err(Fault::Memory),
         Err(fault) => {
             let report = report_of(rt.alloc(), text.as_slice())?;
-            Err(Fault::Policy(path, fault, report))
+            Err(Fault::Policy(given, fault, report))
         }
     }
 }

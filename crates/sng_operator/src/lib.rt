@@ -4,6 +4,7 @@
 
 pub mod ask;
 pub mod commands;
+pub mod config;
 pub mod denials;
 pub mod ends;
 pub mod fate;

@@ -7,6 +7,7 @@ pub mod LawPackets
 pub mod LawRegisters
 pub mod LawPublishVerdicts
 pub mod LawPublishes
+pub mod LawRepeats
 pub mod LawForms
 pub mod LawSubscriptions
 pub mod LawReplaced
@@ -16,3 +17,4 @@ pub mod LawSource
 pub mod LawEntryEnds
 pub mod LawEntry
 pub mod LawDatagrams
+pub mod LawCounted

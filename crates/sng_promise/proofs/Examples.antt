@@ -2,6 +2,7 @@
 pub mod WorkedLemmas
 pub mod WorkedClients
 pub mod WorkedAsks
+pub mod WorkedOnce
 pub mod WorkedSubscriptions
 pub mod WorkedMessages
 pub mod WorkedWills

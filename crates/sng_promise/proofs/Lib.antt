@@ -1,4 +1,5 @@
 pub mod Clients
+pub mod OpenIds
 pub mod Handing
 pub mod Names
 pub mod Sleepers

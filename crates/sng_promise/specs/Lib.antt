@@ -1,4 +1,5 @@
 pub mod Examples
 pub mod ExamplesClients
+pub mod ExamplesOnce
 pub mod ExamplesWills
 pub mod ExamplesSleep

@@ -3,6 +3,7 @@
 //! histories are lawful in `sng_history`; no proof has to be read to know what they say.
 #![tactic(auto)]
 
+pub mod once;
 pub mod policies;
 pub mod promise;
 pub mod sleep;
@@ -44,9 +45,9 @@ ghost use Rattle.sng_laws.specs.LawsLink.{is_upstream, OnlyExits};
 ghost use Rattle.sng_laws.specs.LawsFlight.{EachReturns, IdsApart, EachPacket};
 ghost use Rattle.sng_laws.specs.LawsNames.{EachTells};
 ghost use Rattle.sng_laws.specs.LawsRules.{judged};
-ghost use Rattle.sng_laws.specs.LawsState.{ClientShown, RestShown, NoneTwice, OneMore};
+ghost use Rattle.sng_laws.specs.LawsState.{ClientShown, OpenShown, RestShown, NoneTwice, OneMore};
 ghost use Rattle.sng_laws.specs.LawsAsks.{register_stranger, register_answer, is_of_session};
-ghost use Rattle.sng_laws.specs.LawsAsks.{publish_stranger, publish_answer};
+ghost use Rattle.sng_laws.specs.LawsAsks.{publish_stranger, publish_answer, release_answer};
 ghost use Rattle.sng_laws.specs.LawsAsks.{register_rules, told_as, packet_answer};
 ghost use Rattle.sng_laws.specs.LawsSubscriptions.{subscribe_stranger, subscribe_answer};
 ghost use Rattle.sng_laws.specs.LawsSubscriptions.{subscribe_rules, id_granted};
@@ -68,7 +69,8 @@ ghost use Rattle.sng_laws.specs.ViewsMessages.{is_without_session};
 /// was accepted first, and of each client its state, where it is, the Duration that it stated and when it was
 /// heard last, the filters that stand for it, its will, which is the last topic that was allowed since the
 /// will was deleted last, with the last message, and how far the dialogue about it has come; and its topic
-/// ids: the k-th name that it was told since its last accepted CONNECT has id k.
+/// ids: the k-th name that it was told since its last accepted CONNECT has id k. `opened`: so it is with its
+/// open MsgIds, those of its publishes at QoS 2 that were allowed since each was closed last.
 /// `strangers`: a client that was never accepted has no state, so the rows show no other client.
 pub fn state_is_shown()
     ensures policy { (h : List Row) → Lawful opening h → (state_of opening h).policy ≡ policy_in_force h }
@@ -79,6 +81,7 @@ pub fn state_is_shown()
     ensures order { (h : List Row) → Lawful opening h
         → map (λ x. x.id) (state_of opening h).clients ≡ accepted h }
     ensures clients { (h : List Row) → Lawful opening h → Each (ClientShown h) (state_of opening h).clients }
+    ensures opened { (h : List Row) → Lawful opening h → Each (OpenShown h) (state_of opening h).clients }
     ensures strangers { (h : List Row) → Lawful opening h → (id : List ℕ)
         → is_among id (accepted h) ≡ false → phase_of id h ≡ None }
 {}
@@ -164,10 +167,13 @@ pub fn device_publishes_are_judged()
 /// in force does not list has no scope; a text that is no topic name; no pair with `pub` whose filter
 /// matches; and a name without an id where `MAX_TOPIC_IDS` names were told. REGACK answers, with the id of
 /// the name where it is allowed: its place among the names told, or the next. `publishes`: the rules for a
-/// PUBLISH of QoS 0 or 1 are the first two of these; a topic id of the reserved type; a short id that is no
+/// PUBLISH of QoS 0, 1 or 2 are the first two of these; a topic id of the reserved type; a short id that is no
 /// name; a predefined id without a name; an id that was not told; no pair with `pub` whose filter matches; a
-/// connection that is down; at QoS 1, `MAX_IN_FLIGHT` publishes of QoS 1 that wait or are in flight; and
-/// `MAX_OUTBOX_ITEMS` items that wait. PUBACK answers one that is denied, and one of QoS 1 that is allowed.
+/// connection that is down; at QoS 2, `MAX_OPEN_IDS` MsgIds of the client that are open; at QoS 1 and 2,
+/// `MAX_IN_FLIGHT` publishes of QoS 1 that wait or are in flight; and `MAX_OUTBOX_ITEMS` items that wait.
+/// PUBACK answers one that is denied, and one of QoS 1 that is allowed, and PUBREC one of QoS 2. But a repeat,
+/// one of QoS 2 of an active client whose MsgId is open, PUBREC answers alone, without a note (`once` says
+/// more).
 pub fn asks_are_judged()
     ensures registers { (h : List Row) → (row : Row) → (from : Address) → (r : Register)
         → Lawful opening (row ∷ h)
@@ -283,11 +289,12 @@ pub fn messages_are_handed_over()
 /// `pings`: a PINGREQ that names another client has no session and is answered by DISCONNECT; of an active
 /// client PINGRESP answers it without a note; one that names its client wakes it where it sleeps: what waited
 /// is handed over, the oldest first, and PINGRESP says that nothing is left; an awake client goes on; else it
-/// is out of turn. `sleeps`: by DISCONNECT with Duration a client falls asleep, which DISCONNECT answers;
+/// is out of turn. `releases`: a PUBREL of an active client is answered by PUBCOMP, whether its MsgId is open or
+/// not, without a note; else it is out of turn. `sleeps`: by DISCONNECT with Duration a client falls asleep, which DISCONNECT answers;
 /// while a dialogue is open that is out of turn. `leaves`: by DISCONNECT without Duration the client leaves,
-/// DISCONNECT answers, and what waits for it is gone. A PINGREQ and a DISCONNECT from an address at which no
-/// client is have no session, and are answered by DISCONNECT. `unsupported`: other messages are not
-/// supported, which an acknowledgement says to a client where the message asks for one. `broken`: what is no
+/// DISCONNECT answers, and what waits for it is gone. A PINGREQ, a PUBREL and a DISCONNECT from an address at
+/// which no client is have no session, and are answered by DISCONNECT. `unsupported`: other messages are not
+/// supported, and are noted alone. `broken`: what is no
 /// message is noted alone. `packets`: of a packet of the broker a message comes to each client that it
 /// concerns, in the order of first acceptance; one under a text that is no topic name is noted, and an
 /// acknowledgement that is owed while `MAX_OUTBOX_ITEMS` items wait; a SUBACK that refuses ends the filter
@@ -299,6 +306,10 @@ pub fn messages_are_answered()
         → Lawful opening (row ∷ h)
         → Brought row from (frame.PingRequest named)
         → row.outs ≡ answer_to (no_session from) (ping_answer h from named) (those_at from h) }
+    ensures releases { (h : List Row) → (row : Row) → (from : Address) → (number : ℕ)
+        → Lawful opening (row ∷ h)
+        → Brought row from (frame.PublishRelease number)
+        → row.outs ≡ answer_to (no_session from) (release_answer h from number) (those_at from h) }
     ensures leaves { (h : List Row) → (row : Row) → (from : Address) → Lawful opening (row ∷ h)
         → Brought row from (frame.Disconnect None)
         → row.outs ≡ answer_to (no_session from) (leave_answer h from) (those_at from h) }
@@ -309,8 +320,7 @@ pub fn messages_are_answered()
     ensures unsupported { (h : List Row) → (row : Row) → (from : Address) → (message : SnFrame)
         → Lawful opening (row ∷ h)
         → Brought row from message → is_unsupported message ≡ true
-        → row.outs ≡ answer_to (unsupported_stranger from message) (unsupported_answer from message)
-        (those_at from h) }
+        → row.outs ≡ answer_to (unsupported_stranger from) unsupported_answer (those_at from h) }
     ensures broken { (h : List Row) → (row : Row) → (from : Address) → (broke : FrameFault)
         → Lawful opening (row ∷ h)
         → Broken row from broke

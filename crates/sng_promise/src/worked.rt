@@ -21,6 +21,7 @@ ghost use Rattle.sng_promise.specs.ExamplesClients.{untold, acknowledged_t1, kno
 ghost use Rattle.sng_promise.specs.ExamplesClients.{flies_ungranted};
 ghost use Rattle.sng_promise.specs.ExamplesClients.{message_ab, accept_ab, hands_ab, handed_ab};
 ghost use Rattle.sng_promise.specs.ExamplesClients.{ping_s1, pong, announces_ab, announcement_ab};
+ghost use Rattle.sng_promise.specs.ExamplesOnce.{repeat_5, received_5, release_5, counted_5, anew_5, has_open};
 ghost use Rattle.sng_promise.specs.ExamplesSleep.{sleeps_again, is_asleep, is_buffered};
 ghost use Rattle.sng_promise.specs.ExamplesSleep.{answered_one, given_up, is_tried_out, retries_ab};
 ghost use Rattle.sng_promise.specs.ExamplesSleep.{handed_again};
@@ -93,6 +94,21 @@ pub fn unlawful_asks()
     ensures unjudged { LawfulRow flies_ungranted Up (again_t1 Allowed ∷ packet_t1 1 ∷ []) → ⊥ }
     ensures denied { LawfulRow knows_t1 (Datagram home publish_t1)
         (asks_t1 (Denied (Grant (MissingPub t1))) ∷ refused_t1 ∷ []) → ⊥ }
+{}
+
+/// Lawful histories of publishes at QoS 2: one is accepted, sent again and released twice, and leaves once; and
+/// once its MsgId is released, the next publish with it is judged.
+pub fn lawful_once()
+    ensures counted { Lawful opening counted_5 }
+    ensures anew { Lawful opening anew_5 }
+{}
+
+/// Rows that may not come while a MsgId is open: its repeat is judged and asks for the publish again; it is not
+/// answered; and its PUBREL is not answered.
+pub fn unlawful_once()
+    ensures judged { LawfulRow has_open (Datagram home repeat_5) (asks_t1 Allowed ∷ received_5 ∷ []) → ⊥ }
+    ensures unanswered { LawfulRow has_open (Datagram home repeat_5) [] → ⊥ }
+    ensures uncompleted { LawfulRow has_open (Datagram home release_5) [] → ⊥ }
 {}
 
 /// A lawful history of a subscription: a SUBSCRIBE that is covered is allowed, and ends as the policy is

@@ -1,7 +1,9 @@
 -- What is printed of a policy text that is checked, and how the command comes out.
-use Rattle.std.specs.Prelude.{ℕ, List, [], ◌++◌, length, Result, Ok, Err, codes}
+use Rattle.std.specs.Prelude.{ℕ, ◌≡◌, List, [], ◌++◌, length, Result, Ok, Err, codes}
 use Rattle.sng_grants.specs.declared.policy.Policy.{Policy}
 use Rattle.sng_scope.specs.Faults.{sentence_of}
+use Rattle.sng_scope.specs.Policies.{policy_of}
+use Rattle.sng_scope.specs.Written.{policy_text}
 use Rattle.sng_scope.specs.declared.fault.PolicyFault.{PolicyFault}
 use Rattle.sng_places.specs.declared.position.Position.{Position}
 use Rattle.sng_places.specs.declared.stop.Stop.{Stop}
@@ -33,6 +35,16 @@ fault_report position fault check = refused_text fault
 abbrev pub report_text : Position → Result Policy PolicyFault → Result Unit Stop → List ℕ
 report_text position (Ok policy) check = accepted_text policy
 report_text position (Err fault) check = fault_report position fault check
+
+-- what is printed where the canonical text is asked for: that text, and of a text that is refused its fault
+abbrev pub canonical_report : Position → Result Policy PolicyFault → Result Unit Stop → List ℕ
+canonical_report position (Ok policy) check = policy_text policy ++ codes "\n"
+canonical_report position (Err fault) check = fault_report position fault check
+
+-- its canonical text is read as the policy itself
+abbrev pub IsReadAgain : Result Policy PolicyFault → Type 0
+IsReadAgain (Ok policy) = policy_of (policy_text policy) ≡ Ok policy
+IsReadAgain (Err fault) = Unit {0}
 
 abbrev pub report_status : Result Policy PolicyFault → Status
 report_status (Ok policy) = statuses.Done

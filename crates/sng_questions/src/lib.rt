@@ -2,6 +2,7 @@
 //! is wrong in its text or surely not meant.
 #![tactic(auto)]
 
+pub mod canonical;
 pub mod covering;
 mod flaws;
 pub mod inquiry;

@@ -1,5 +1,5 @@
 //! What is printed of a policy text that is checked, for whoever writes policies.
-ghost use Rattle.std.specs.Prelude.{◌≡◌, ◌++◌, IfOk, OnOk};
+ghost use Rattle.std.specs.Prelude.{◌≡◌, ◌++◌, [], IfOk, OnOk};
 ghost use Rattle.sng_scope.specs.Policies.{policy_of};
 ghost use Rattle.sng_places.specs.Places.{text_check};
 ghost use Rattle.sng_places.specs.declared.position.Position.{Position};
@@ -36,9 +36,9 @@ pub fn report_of(alloc: Global, text: &[u8]) -> Result<Report, AllocError>
         AreWarningsOf (policy_of text.now) report.warnings.items) }
     ensures status { IfOk result (λ report. report.status ≡ report_status (policy_of text.now)) }
 {
-    let mut lines = Vec::new(alloc);
     match read_policy(alloc, text) {
         Ok(policy) => {
+            let mut lines = Vec::new(alloc);
             push_accepted(&mut lines, &policy)?;
             let warnings = warning_lines(alloc, text, &policy)?;
             Ok(Report {
@@ -48,16 +48,25 @@ pub fn report_of(alloc: Global, text: &[u8]) -> Result<Report, AllocError>
             })
         }
         Err(PolicyFault::Memory) => Err(AllocError),
-        Err(fault) => {
-            let position = position_of(alloc, text, fault)?;
-            push_report(alloc, &mut lines, text, fault, position)?;
-            Ok(Report {
-                lines,
-                warnings: Vec::new(alloc),
-                status: Status::Unreadable,
-            })
-        }
+        Err(fault) => refusal(alloc, text, fault),
     }
+}
+
+/// What is told of a text with this fault.
+pub fn refusal(alloc: Global, text: &[u8], fault: PolicyFault) -> Result<Report, AllocError>
+    ensures lines { IfOk result (λ report. (position : Position)
+        × (report.lines.items ≡ fault_report position fault (text_check text.now))) }
+    ensures warnings { IfOk result (λ report. report.warnings.items ≡ []) }
+    ensures status { IfOk result (λ report. report.status ≡ Status.Unreadable) }
+{
+    let mut lines = Vec::new(alloc);
+    let position = position_of(alloc, text, fault)?;
+    push_report(alloc, &mut lines, text, fault, position)?;
+    Ok(Report {
+        lines,
+        warnings: Vec::new(alloc),
+        status: Status::Unreadable,
+    })
 }
 
 /// Where a text that is not JSON stops being it.

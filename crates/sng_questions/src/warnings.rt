@@ -14,7 +14,7 @@ use crate::redundant::says_nothing_new;
 use sng_book::print::push_decimal;
 use sng_grants::{Clients, Pair, Policy, Sources, Topics};
 use sng_places::{Location, Part, repeated_members};
-use sng_script::policy_text::push_ip;
+use sng_script::address::push_ip;
 use sng_text::TopicName;
 use std::alloc::{AllocError, Global};
 

@@ -2,3 +2,5 @@ pub mod InputLemmas
 pub mod NumberLemmas
 pub mod PieceLemmas
 pub mod FileLemmas
+pub mod EventLemmas
+pub mod OneLine

@@ -4,5 +4,4 @@ pub mod Obstacles
 pub mod Refused
 pub mod Input
 pub mod Laws
-pub mod PolicyTexts
 pub mod EventTexts

@@ -2,6 +2,7 @@
 //! with its input and as it ends.
 #![tactic(auto)]
 
+pub mod address;
 mod datagram;
 pub mod ending;
 pub mod event_line;
@@ -9,9 +10,8 @@ pub mod file;
 pub mod input;
 pub mod laws;
 pub mod limits;
-mod number;
+pub mod number;
 pub mod obstacle;
-pub mod policy_text;
 pub mod reader;
 pub mod refused;
 pub mod script;

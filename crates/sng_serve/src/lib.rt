@@ -31,8 +31,8 @@ mod watch;
 mod wire;
 mod writers;
 
-pub use limits::{FULL_ROWS, MAX_WORKERS, NEARLY_FULL_ROWS, VOLUME_ROWS};
+pub use limits::{FULL_ROWS, NEARLY_FULL_ROWS, VOLUME_ROWS};
 pub use serving::serve;
-pub use sng_bounds::FloodLimits;
+pub use sng_config::{MAX_FLOOD, MAX_WORKERS, MIN_FLOOD, MIN_WORKERS};
 pub use sng_operator::{End, Words};
 pub use testing::broker;

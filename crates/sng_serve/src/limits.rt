@@ -11,6 +11,3 @@ pub const VOLUME_ROWS: u64 = 4096;
 
 /// How many volumes there may be: each has `VOLUME_ROWS` rows at least.
 pub const MAX_VOLUMES: usize = (FULL_ROWS / VOLUME_ROWS) as usize + 1;
-
-/// How many workers at most share the socket.
-pub const MAX_WORKERS: u16 = 8;

@@ -19,7 +19,8 @@ use crate::tell::tell;
 use crate::writers::{ERRORS_PATIENCE_MS, OUTPUT_PATIENCE_MS, wait_for};
 use sng_crew::{Crew, Ended, NotStarted, Terms, Upstream, run_workers};
 use sng_desk::{Beats, Datagrams, Desk, Gate, Policies, Share};
-use sng_operator::ask::{Ask, Fault, Words, ask_of};
+use sng_operator::ask::{Ask, Fault, Words, ask_of, config_of};
+use sng_operator::config::Config;
 use sng_operator::ends::End;
 use sng_operator::lists::Lists;
 use sng_operator::roles::{OTHERS, Roles};
@@ -98,7 +99,40 @@ where
     R::Listener: Send,
     R::Stream: Send,
 {
-    let ask = match ask_of(rt, words) {
+    let config = match config_of(rt, words) {
+        Ok(config) => config,
+        Err(fault) => return End::from(report(rt, &fault)),
+    };
+    serve_asked(rt, words, &config)
+}
+
+/// Serves as the words and the configuration file say.
+fn serve_asked<
+    'f,
+    'w,
+    R: Threads
+        + Wait
+        + Sync
+        + Copy
+        + Send
+        + 'static
+        + Net
+        + Clock
+        + Files
+        + Input
+        + Print
+        + Eprint
+        + AllocGlobal,
+>(rt: &R, words: &Words<'w>, config: &'f Config<'w>) -> End
+where
+    'w: 'f,
+    R::Reader: Send,
+    R::File: Send,
+    R::Dir: Send,
+    R::Listener: Send,
+    R::Stream: Send,
+{
+    let ask = match ask_of(rt, words, config) {
         Ok(ask) => ask,
         Err(fault) => return End::from(report(rt, &fault)),
     };
@@ -116,7 +150,11 @@ fn report<R: Print + Eprint + AllocGlobal>(rt: &R, fault: &Fault<'_>) -> Status 
             return ended(Status::OutOfMemory, printed.is_ok());
         }
         Fault::Policy(_, _, report) => io::writer(rt).write_all(report.lines.as_slice()),
-        Fault::Address(_, _) | Fault::Id(_) | Fault::File(_, _) => Ok(()),
+        Fault::Config(_, _)
+        | Fault::Missing(_)
+        | Fault::Address(_)
+        | Fault::Id(_)
+        | Fault::File(_, _) => Ok(()),
     };
     tell(rt, format_args!("{fault}"));
     ended(Status::Unreadable, printed.is_ok())

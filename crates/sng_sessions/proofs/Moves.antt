@@ -116,9 +116,10 @@ clients-same (entry ∷ entries) zero session after found same =
 clients-same (entry ∷ entries) (suc place) session after found same =
     ap (λ rest. client_of entry ∷ rest) (clients-same entries place session after found same)
 
--- a client as its presence, its ids, its last MsgId, what waits for it, its filters and its will have it
-abbrev kept_as : List ℕ → Presence → Ids → ℕ → Buffer → List Held → Wills → Client
-kept_as id at ids number queue held wills =
+-- a client as its presence, its ids, its last MsgId, what waits for it, its filters, its will and the open
+-- MsgIds have it
+abbrev kept_as : List ℕ → Presence → Ids → ℕ → Buffer → List Held → Wills → List ℕ → Client
+kept_as id at ids number queue held wills unreleased =
     record (blank id) {
       address = at.address;
       phase = at.phase;
@@ -129,6 +130,7 @@ kept_as id at ids number queue held wills =
       buffer = queue;
       filters = held;
       wills = wills;
+      unreleased = unreleased;
     }
 
 -- the client of a session that begins anew
@@ -143,10 +145,12 @@ pub client-begun : (id : List ℕ) (clock : ℕ) (from : Address) (connect : Con
     → after.queue ≡ (if connect.flags.clean then nothing else record session.queue { exchange = None })
     → after.filters ≡ (if connect.flags.clean then [] else session.filters)
     → after.wills ≡ wills_opened connect.flags.clean connect.flags.will session.wills
+    → after.unreleased ≡ (if connect.flags.clean then [] else session.unreleased)
     → let_in clock from connect (client_of (id, session)) ≡ client_of (id, after)
-client-begun id clock from connect session after one two three four five six =
+client-begun id clock from connect session after one two three four five six seven =
     by connect.flags.clean connect.flags.will
-    ∙ (λ i. kept_as id (sym one i) (sym two i) (sym three i) (sym four i) (sym five i) (sym six i))
+    ∙ (λ i. kept_as id (sym one i) (sym two i) (sym three i) (sym four i) (sym five i) (sym six i)
+    (sym seven i))
   where
     by : (clean will : Bool)
         → opened will (cleaned clean (record (client_of (id, session))
@@ -160,6 +164,7 @@ client-begun id clock from connect session after one two three four five six =
         (if clean then nothing else record session.queue { exchange = None })
         (if clean then [] else session.filters)
         (wills_opened clean will session.wills)
+        (if clean then [] else session.unreleased)
     by true true = refl
     by true false = refl
     by false true = refl
@@ -513,14 +518,16 @@ known_vacated clock from id (x ∷ xs) =
     by false false is is_there = rw (is, is_there) is
 
 -- the session of an accepted CONNECT of a client that was not known
-abbrev pub session_by : ℕ → Address → Connect → ClientState → Ids → Buffer → List Held → Wills → Session
-session_by clock from connect phase ids queue held wills = record {
+abbrev pub session_by : ℕ → Address → Connect → ClientState → Ids → Buffer → List Held → Wills → List ℕ
+    → Session
+session_by clock from connect phase ids queue held wills unreleased = record {
   presence = record { address = from; phase = phase; duration = connect.duration; heard = clock };
   ids = ids;
   number = 0;
   queue = queue;
   filters = held;
   wills = wills;
+  unreleased = unreleased;
 }
 
 abbrev pub begun_wills : Connect → Wills → Wills
@@ -530,7 +537,7 @@ let_in-blank : (clock : ℕ) (from : Address) (connect : Connect)
     → client_of (
       connect.client_id,
       session_by clock from connect (phase_opened connect.flags.will) [] nothing []
-          (begun_wills connect no_will),
+          (begun_wills connect no_will) [],
     )
     ≡ let_in clock from connect (blank connect.client_id)
 let_in-blank clock from connect = by connect.flags.clean connect.flags.will
@@ -542,7 +549,7 @@ let_in-blank clock from connect = by connect.flags.clean connect.flags.will
           duration = connect.duration;
           heard = clock;
         }) [] 0
-        nothing [] (wills_opened clean will no_will)
+        nothing [] (wills_opened clean will no_will) []
         ≡ opened will (cleaned clean (record (blank connect.client_id)
         { address = from; ids = []; duration = connect.duration; heard = clock }))
     by true true = refl
@@ -580,7 +587,7 @@ entering-new clock from connect session (x ∷ xs) new =
 settled_entered : (clock : ℕ) (from : Address) (connect : Connect) (xs : List Client)
     → is_known connect.client_id xs ≡ false
     → settled connect.client_id (session_by clock from connect (phase_opened connect.flags.will) [] nothing []
-    (begun_wills connect no_will)) (map (vacated clock from connect.client_id) xs)
+    (begun_wills connect no_will) []) (map (vacated clock from connect.client_id) xs)
     ≡ entered clock from connect xs
 settled_entered clock from connect xs unknown =
     let known = known_vacated clock from connect.client_id xs in
@@ -588,23 +595,24 @@ settled_entered clock from connect xs unknown =
     let all =
     entering-new clock from connect
     (session_by clock from connect (phase_opened connect.flags.will) [] nothing []
-    (begun_wills connect no_will)) xs unknown in
+    (begun_wills connect no_will) []) xs unknown in
     λ i. all i ++ (if known i then [] else new i ∷ [])
 
 pub settled-entered : (clock : ℕ) (from : Address) (connect : Connect) (phase : ClientState) (ids : Ids)
-    (queue : Buffer) (held : List Held) (wills after : Wills)
+    (queue : Buffer) (held : List Held) (wills after : Wills) (unreleased : List ℕ)
     → (ids ≡ []) × (queue ≡ nothing) × (held ≡ []) × (wills ≡ no_will)
-    → phase ≡ phase_opened connect.flags.will → after ≡ begun_wills connect wills → (xs : List Client)
+    → phase ≡ phase_opened connect.flags.will → after ≡ begun_wills connect wills → unreleased ≡ []
+    → (xs : List Client)
     → is_known connect.client_id xs ≡ false
-    → settled connect.client_id (session_by clock from connect phase ids queue held after)
+    → settled connect.client_id (session_by clock from connect phase ids queue held after unreleased)
     (map (vacated clock from connect.client_id) xs)
     ≡ entered clock from connect xs
-settled-entered clock from connect phase ids queue held wills after none stands is xs unknown =
+settled-entered clock from connect phase ids queue held wills after unreleased none stands is shut xs new =
     let begun = is ∙ ap (begun_wills connect) none.3 in
     (λ i. settled connect.client_id
-    (session_by clock from connect (stands i) (none.0 i) (none.1 i) (none.2 i) (begun i))
+    (session_by clock from connect (stands i) (none.0 i) (none.1 i) (none.2 i) (begun i) (shut i))
     (map (vacated clock from connect.client_id) xs))
-    ∙ settled_entered clock from connect xs unknown
+    ∙ settled_entered clock from connect xs new
 
 -- ---- a client that connects again
 

@@ -1,16 +1,18 @@
 -- Sleep, wake-up and what is sent again leave a client where it is, with what stands for it.
 use Rattle.std.proofs.Common.{◌≡◌, ℕ, Bool, true, false, refl, sym}
 use Rattle.std.specs.Prelude.{◌&&◌, if◌then◌else◌, is_none, slice_get}
-use Rattle.sng_states.specs.States.{has_session, is_due_messages, is_asleep, is_awake}
+use Rattle.sng_states.specs.States.{has_session, is_due_messages, is_active, is_asleep, is_awake}
 use Rattle.sng_states.specs.declared.state.ClientState.{ClientState}
 use Rattle.sng_states.specs.declared.state.ClientState.TheVariants.{Dialogue, Active, Asleep, Awake}
 use Rattle.sng_states.specs.declared.state.ClientState.TheVariants.{Disconnected, Lost}
 use Rattle.sng_book.specs.declared.address.Address.{Address}
 use Rattle.sng_history.specs.Clients.{Client, is_here, same_address, asleep, awake, is_drained}
+use Rattle.sng_history.specs.Clients.{publish_released}
 use Rattle.sng_history.specs.Entering.{heard_at}
 use Rattle.sng_sessions.specs.Sleeping.{changed}
 use Rattle.sng_sessions.specs.declared.sleeping.Change.{Change}
 use Rattle.sng_sessions.specs.declared.sleeping.Change.TheVariants.{Sleeps, Wakes, Drains, Closes, Repeats}
+use Rattle.sng_sessions.specs.declared.sleeping.Change.TheVariants.{Receives, Releases}
 
 -- the change leaves where the client is, whether it has a session, and what stands for it
 record Leaves (x y : Client) : Type 0 where
@@ -68,6 +70,10 @@ changed_leaves clock Drains x =
     }) (record { address = refl; session = refl; filters = refl })
 changed_leaves clock Closes x = record { address = refl; session = refl; filters = refl }
 changed_leaves clock Repeats x = record { address = refl; session = refl; filters = refl }
+changed_leaves clock (Receives msg_id) x = record { address = refl; session = refl; filters = refl }
+changed_leaves clock (Releases msg_id) x =
+    leaves_if (is_active x.phase) x (publish_released msg_id (heard_at clock x)) (heard_at clock x)
+    (λ is. record { address = refl; session = refl; filters = refl }) (heard_leaves clock x)
 
 pub changed-here : (clock : ℕ) (change : Change) (from : Address) (x : Client)
     → is_here (changed clock change x) from ≡ is_here x from

@@ -25,6 +25,7 @@ client_of entry =
       buffer = entry.1.queue;
       filters = entry.1.filters;
       wills = entry.1.wills;
+      unreleased = entry.1.unreleased;
     }
 
 abbrev pub clients_of : List (List ℕ × Session) → List Client

@@ -29,7 +29,7 @@ use sng_fan::subscriptions::Subscriptions;
 use sng_frames::Connect;
 use sng_queue::Queue;
 use sng_standing::Standing;
-use sng_states::ClientState;
+use sng_states::{ClientState, OpenIds};
 use sng_text::{ClientId, TopicName};
 use sng_wills::WillDialogue;
 
@@ -127,12 +127,14 @@ pub fn admit(
         queue,
         filters,
         wills,
+        unreleased: OpenIds::new(),
     };
     settle(clients, places, connect.client_id, session);
 }
 
 /// The client at this place, which connects again, is where its CONNECT came from, and whoever else is there
-/// leaves. A clean CONNECT ends what stood and waited for it. Takes no memory.
+/// leaves. A clean CONNECT ends what stood and waited for it, and what is open of its publishes. Takes no
+/// memory.
 pub fn readmit(
     clients: &mut IndexMap<ClientId, Session>,
     places: &mut IndexMap<Address, usize>,
@@ -187,8 +189,8 @@ fn return_at(
     }
 }
 
-/// A session begins anew, with no exchange open: a clean one ends what stood and waited for its client, and
-/// its will (MQTT-SN 1.2, 6.2 and 6.3).
+/// A session begins anew, with no exchange open: a clean one ends what stood and waited for its client, its
+/// will, and what is open of its own publishes (MQTT-SN 1.2, 6.2 and 6.3; MQTT 3.1.1, 3.1.2.4).
 fn begin(
     session: &mut Session,
     standing: &mut Standing,
@@ -211,6 +213,8 @@ fn begin(
     ensures filters { session.new.filters ≡ (if connect.now.flags.clean then [] else session.old.filters) }
     ensures wills { session.new.wills
         ≡ wills_opened connect.now.flags.clean connect.now.flags.will session.old.wills }
+    ensures unreleased { session.new.unreleased
+        ≡ (if connect.now.flags.clean then [] else session.old.unreleased) }
     ensures held { SaysHeld standing.new place session.new.filters }
     ensures others { SameOfOthers standing.old standing.new place }
 {
@@ -218,6 +222,7 @@ fn begin(
     if connect.flags.clean {
         end_all(&mut session.filters, standing, place);
         session.queue.empty();
+        session.unreleased.clear();
     }
     open(&mut session.wills, connect.flags.clean, connect.flags.will);
     session.ids.clear();

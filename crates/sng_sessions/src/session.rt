@@ -1,13 +1,15 @@
 //! What is kept of one client.
 ghost use Rattle.std.specs.Prelude.{◌≡◌, ◌&&◌};
-ghost use Rattle.sng_states.specs.States.{has_session};
+ghost use Rattle.sng_states.specs.States.{has_session, is_active};
+ghost use Rattle.sng_states.specs.OpenIds.{has_id};
 ghost use Rattle.sng_states.specs.Silence.{overdue};
 
 use crate::ids::ClientIds;
 use sng_book::Address;
 use sng_fan::subscriptions::Subscriptions;
+use sng_frames::Publish;
 use sng_queue::Queue;
-use sng_states::{ClientState, overdue};
+use sng_states::{ClientState, OpenIds, overdue};
 use sng_text::Compare;
 use sng_wills::WillDialogue;
 
@@ -57,4 +59,17 @@ pub struct Session {
     pub filters: Subscriptions,
     /// Its will, where it has one, and the dialogue about it.
     pub wills: WillDialogue,
+    /// The MsgIds of its publishes at QoS 2 that it has not released yet.
+    pub unreleased: OpenIds,
+}
+
+impl Session {
+    /// Whether a PUBLISH at QoS 2 of the client repeats one that was received and is not released: it has its
+    /// turn, and its MsgId is open. Takes no memory.
+    pub fn is_repeat(&self, publish: &Publish) -> bool
+        ensures { result ≡ (is_active self.now.presence.phase
+            && has_id publish.now.msg_id self.now.unreleased) }
+    {
+        self.presence.phase.is_active() && self.unreleased.has(publish.msg_id)
+    }
 }

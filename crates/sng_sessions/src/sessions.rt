@@ -7,6 +7,7 @@ ghost use Rattle.sng_fan.specs.Greatest.{greatest_qos};
 ghost use Rattle.sng_history.specs.Clients.{lost, without};
 ghost use Rattle.sng_history.specs.Ticking.{is_overdue};
 ghost use Rattle.sng_history.specs.Standing.{holds, is_held};
+ghost use Rattle.sng_history.specs.Verdicts.{is_repeat};
 ghost use Rattle.sng_history.specs.Good.{Distinct, OnePlace};
 ghost use Rattle.sng_ids.specs.Ids.{is_full_for};
 ghost use Rattle.sng_book.specs.declared.outcome.Outcome.TheVariants.{Allowed};
@@ -30,11 +31,11 @@ use indexmap::IndexMap;
 use sng_book::Address;
 use sng_fan::Held;
 use sng_fan::subscriptions::Subscriptions;
-use sng_frames::Connect;
+use sng_frames::{Connect, Publish};
 use sng_ids::IdTable;
 use sng_queue::{Queue, Waiting};
 use sng_standing::{Holder, Standing};
-use sng_states::ClientState;
+use sng_states::{ClientState, OpenIds};
 use sng_text::{ClientId, Qos, TopicFilter, TopicName};
 use sng_wills::WillDialogue;
 use std::alloc::{AllocError, Global};
@@ -168,6 +169,24 @@ impl Sessions {
         ensures { result.now ≡ (client_at self.now place).wills }
     {
         &self.clients[place].wills
+    }
+
+    /// Whether a PUBLISH at QoS 2 of the client at this place repeats one that was received and is not
+    /// released: it has its turn, and its MsgId is open. Takes no memory.
+    pub fn is_repeat(&self, place: usize, publish: &Publish) -> bool
+        requires { place < length self.now }
+        ensures { result ≡ is_repeat publish.now (client_at self.now place) }
+    {
+        self.clients[place].is_repeat(publish)
+    }
+
+    /// The MsgIds of the publishes at QoS 2 that the client at this place has not released yet. Takes no
+    /// memory.
+    pub fn unreleased(&self, place: usize) -> &OpenIds
+        requires { place < length self.now }
+        ensures { result.now ≡ (client_at self.now place).unreleased }
+    {
+        &self.clients[place].unreleased
     }
 
     /// Whether the client at this place has a session and was silent for longer than its Duration allows, as

@@ -1,11 +1,12 @@
 //! How a client falls asleep, wakes up and falls asleep again (MQTT-SN 1.2, 6.14), and how what is open with
-//! it is sent again, or is over (6.13). No call here takes memory.
+//! it is sent again, or is over (6.13); and which of its publishes at QoS 2 are open (6.6). No call here
+//! takes memory.
 ghost use Rattle.std.specs.Prelude.{◌≡◌, List, ℕ};
 ghost use Rattle.sng_queue.specs.Exchanges.{repeat};
 ghost use Rattle.sng_history.specs.Clients.{is_drained, drained};
 ghost use Rattle.sng_history.specs.Ticking.{is_unanswered, is_tried_out};
 ghost use Rattle.sng_sessions.specs.Places.{client_of, clients_of, moved_at};
-ghost use Rattle.sng_sessions.specs.Sleeping.{slept, woken, sent_more, changed};
+ghost use Rattle.sng_sessions.specs.Sleeping.{slept, woken, sent_more, received_at, released_at, changed};
 
 use crate::session::Session;
 use indexmap::IndexMap;
@@ -28,6 +29,10 @@ pub enum Change {
     Closes,
     /// What is open with it was sent once more, where it may be.
     Repeats,
+    /// It is heard, and its publish at QoS 2 with this MsgId is open from now on, where as many may be.
+    Receives(u16),
+    /// It is heard, and where it is active its publish with this MsgId is open no more.
+    Releases(u16),
 }
 
 /// This happens to the client at this place.
@@ -55,6 +60,8 @@ fn make(session: &mut Session, change: Change, clock: u64)
         Change::Drains => drain(session),
         Change::Closes => session.queue.close(),
         Change::Repeats => repeat(&mut session.queue, clock),
+        Change::Receives(msg_id) => receive(session, msg_id, clock),
+        Change::Releases(msg_id) => release(session, msg_id, clock),
     }
 }
 
@@ -94,6 +101,24 @@ fn is_drained(session: &Session) -> bool
     session.presence.phase.is_awake()
         && session.queue.at(0).is_none()
         && session.queue.exchange().is_none()
+}
+
+fn receive(session: &mut Session, msg_id: u16, clock: u64)
+    ensures { (id : List ℕ) → received_at clock msg_id (client_of (id, session.old))
+        ≡ client_of (id, session.new) }
+{
+    session.presence.heard = clock;
+    session.unreleased.admit(msg_id);
+}
+
+fn release(session: &mut Session, msg_id: u16, clock: u64)
+    ensures { (id : List ℕ) → released_at clock msg_id (client_of (id, session.old))
+        ≡ client_of (id, session.new) }
+{
+    session.presence.heard = clock;
+    if session.presence.phase.is_active() {
+        session.unreleased.close(msg_id);
+    }
 }
 
 /// The open exchange was sent once more, where it was not as often as it may be.

@@ -14,6 +14,15 @@ abbrev pub in_dialogue : ClientState → Bool
 in_dialogue Dialogue = true
 in_dialogue _ = false
 
+-- it is connected, and neither is a dialogue open nor does it sleep
+abbrev pub is_active : ClientState → Bool
+is_active Active = true
+is_active Dialogue = false
+is_active Asleep = false
+is_active Awake = false
+is_active Disconnected = false
+is_active Lost = false
+
 abbrev pub is_asleep : ClientState → Bool
 is_asleep Asleep = true
 is_asleep _ = false

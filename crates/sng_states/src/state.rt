@@ -20,7 +20,7 @@ pub enum ClientState {
 
 impl ClientState {
     ghost use Rattle.sng_states.specs.States.{has_session, is_due_messages, takes_messages, is_asleep};
-    ghost use Rattle.sng_states.specs.States.{is_awake};
+    ghost use Rattle.sng_states.specs.States.{is_awake, is_active};
 
     /// Whether the gateway holds a session with the client at its address.
     pub fn has_session(self) -> bool
@@ -42,6 +42,20 @@ impl ClientState {
         match self {
             ClientState::Active | ClientState::Asleep | ClientState::Awake => true,
             ClientState::Dialogue | ClientState::Disconnected | ClientState::Lost => false,
+        }
+    }
+
+    /// Whether it is connected, and neither is a dialogue open nor does it sleep.
+    pub fn is_active(self) -> bool
+        ensures { result ≡ is_active self }
+    {
+        match self {
+            ClientState::Active => true,
+            ClientState::Dialogue
+            | ClientState::Asleep
+            | ClientState::Awake
+            | ClientState::Disconnected
+            | ClientState::Lost => false,
         }
     }
 

@@ -1,6 +1,6 @@
 //! The commands that answer questions about filters and policies: `cover`, `may` and `policy`.
 
-use crate::command::with;
+use crate::command::{with, with_word};
 use clap::{Arg, ArgAction, ArgMatches, Command};
 use std::alloc::{AllocError, Global};
 
@@ -46,7 +46,7 @@ fn may_command<'a>(alloc: Global) -> Result<Command<'a>, AllocError> {
     let command = Command::new(alloc, "may").about("Tells what a policy allows");
     let command = with_policy_and_source(alloc, command)?;
     let command = with_who_and_what(alloc, command)?;
-    with_object(command, object(alloc))
+    with_word(command, object(alloc))
 }
 
 /// The command with the options of `sng may`.
@@ -90,17 +90,6 @@ fn object<'a>(alloc: Global) -> Result<Arg<'a>, AllocError> {
         .conflicts_with("IP")
 }
 
-/// The command with this word behind the others.
-fn with_object<'a>(
-    command: Command<'a>,
-    object: Result<Arg<'a>, AllocError>,
-) -> Result<Command<'a>, AllocError> {
-    match object {
-        Ok(object) => command.arg(object),
-        Err(error) => Err(error),
-    }
-}
-
 /// The words of `sng may ..`. Those that are required are there.
 pub fn may_words<'a>(matches: &ArgMatches<'a>) -> MayWords<'a> {
     MayWords {
@@ -112,16 +101,34 @@ pub fn may_words<'a>(matches: &ArgMatches<'a>) -> MayWords<'a> {
     }
 }
 
+/// The words of a check of a policy.
+#[derive(Clone, Copy, Debug, PartialEq, Eq)]
+pub struct PolicyWords<'a> {
+    /// The file of the policy; standard input where there is none.
+    pub file: Option<&'a str>,
+    /// Whether its canonical text is printed.
+    pub is_printed: bool,
+}
+
 fn policy_command<'a>(alloc: Global) -> Result<Command<'a>, AllocError> {
+    let command = Command::new(alloc, "policy").about(
+        "Checks a policy, and shows where its first fault stands",
+    );
+    let print = Arg::new(alloc, "print")
+        .long("print")
+        .help("Prints the policy as one line, the same for all texts of it")
+        .action(ArgAction::SetTrue);
+    let command = command.arg(print)?;
     let file = Arg::new(alloc, "FILE")
         .help("The file of the policy; standard input where there is none")
         .action(ArgAction::Set);
-    Command::new(alloc, "policy")
-        .about("Checks a policy, and shows where its first fault stands")
-        .arg(file)
+    command.arg(file)
 }
 
-/// The file that `sng policy ..` names, where it names one.
-pub fn policy_word<'a>(matches: &ArgMatches<'a>) -> Option<&'a str> {
-    matches.get_str("FILE")
+/// The words of `sng policy ..`.
+pub fn policy_words<'a>(matches: &ArgMatches<'a>) -> PolicyWords<'a> {
+    PolicyWords {
+        file: matches.get_str("FILE"),
+        is_printed: matches.get_flag("print"),
+    }
 }

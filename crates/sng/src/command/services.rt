@@ -1,18 +1,9 @@
 //! The commands that go on until they are stopped: `serve` and `broker`.
 
-use crate::command::with;
+use crate::command::{with, with_word};
 use clap::{Arg, ArgAction, ArgMatches, Command, value_parser};
-use sng_serve::{FloodLimits, MAX_WORKERS, Words};
+use sng_serve::{MAX_FLOOD, MAX_WORKERS, MIN_FLOOD, MIN_WORKERS, Words};
 use std::alloc::{AllocError, Global};
-
-/// How many tries to connect may fail, one after another, where nothing else is asked for.
-const USUAL_TRIES: u32 = 5;
-
-/// How many datagrams of strangers may be denied in a second, where nothing else is asked for.
-const USUAL_FLOOD: FloodLimits = FloodLimits {
-    each: 50,
-    all: 1000,
-};
 
 /// The program's command with those of this module.
 pub fn with_services<'a>(alloc: Global, command: Command<'a>) -> Result<Command<'a>, AllocError> {
@@ -24,34 +15,60 @@ fn serve_command<'a>(alloc: Global) -> Result<Command<'a>, AllocError> {
     let command = Command::new(alloc, "serve").about(
         "Serves between MQTT-SN devices and an MQTT broker, until `quit` or the end of input",
     );
+    let command = with_config(alloc, command)?;
     let command = with_addresses(alloc, command)?;
     let command = with_numbers(alloc, command)?;
     let command = with_policy(alloc, command)?;
     with_flood_limits(alloc, command)
 }
 
+/// The command with the option that names the file of all others.
+fn with_config<'a>(alloc: Global, command: Command<'a>) -> Result<Command<'a>, AllocError> {
+    let config = Arg::new(alloc, "CONFIG")
+        .long("config")
+        .help("The file that says, in TOML, what the other options leave out")
+        .action(ArgAction::Set);
+    command.arg(config)
+}
+
 /// The command with the options that say who is served, and at which broker.
 fn with_addresses<'a>(alloc: Global, command: Command<'a>) -> Result<Command<'a>, AllocError> {
-    let listen = needed(alloc, "LISTEN", "listen").help("Where devices are listened to, IP:PORT");
-    let command = command.arg(listen)?;
-    let broker = needed(alloc, "BROKER", "broker").help("Where the broker is, IP:PORT");
-    let command = command.arg(broker)?;
-    let id = needed(alloc, "ID", "id").help("The client id of the gateway at the broker");
-    command.arg(id)
+    let listen = wanted(
+        alloc,
+        "LISTEN",
+        "listen",
+        "Where devices are listened to, IP:PORT",
+    );
+    let command = with_word(command, listen)?;
+    let broker = wanted(alloc, "BROKER", "broker", "Where the broker is, IP:PORT");
+    let command = with_word(command, broker)?;
+    let id = wanted(
+        alloc,
+        "ID",
+        "id",
+        "The client id of the gateway at the broker",
+    );
+    with_word(command, id)
 }
 
 /// The command with the options that are numbers.
 fn with_numbers<'a>(alloc: Global, command: Command<'a>) -> Result<Command<'a>, AllocError> {
-    let workers = needed(alloc, "N", "workers")
-        .help("How many workers read datagrams, from 1 to 8")
-        .value_parser(value_parser!(u16).range(1..=i64::from(MAX_WORKERS)));
-    let command = command.arg(workers)?;
+    let command = with_word(command, workers(alloc))?;
     let tries = Arg::new(alloc, "TRIES")
         .long("tries")
         .help("How many tries to connect may fail in a row: 5 where it is left out; 0 is no end")
         .action(ArgAction::Set)
         .value_parser(value_parser!(u32));
     command.arg(tries)
+}
+
+fn workers<'a>(alloc: Global) -> Result<Arg<'a>, AllocError> {
+    Arg::new(alloc, "N")
+        .long("workers")
+        .help("How many workers read datagrams, from 1 to 8")
+        .action(ArgAction::Set)
+        .value_parser(value_parser!(u32).range(i64::from(MIN_WORKERS)..=i64::from(MAX_WORKERS)))
+        .required_unless_present("CONFIG")
 }
 
 /// The command with the options that say what is in force and what is printed.
@@ -79,48 +96,39 @@ fn with_flood_limits<'a>(alloc: Global, command: Command<'a>) -> Result<Command<
         .long("flood-each")
         .help("How many denied datagrams a second one stranger may send: 50 where it is left out")
         .action(ArgAction::Set)
-        .value_parser(value_parser!(u32).range(1..=i64::from(u32::MAX)));
+        .value_parser(value_parser!(u32).range(i64::from(MIN_FLOOD)..=i64::from(MAX_FLOOD)));
     let command = command.arg(each)?;
     let all = Arg::new(alloc, "ALL")
         .long("flood-all")
         .help("How many all strangers together may send: 1000 where it is left out")
         .action(ArgAction::Set)
-        .value_parser(value_parser!(u32).range(1..=i64::from(u32::MAX)));
+        .value_parser(value_parser!(u32).range(i64::from(MIN_FLOOD)..=i64::from(MAX_FLOOD)));
     command.arg(all)
 }
 
-/// The words of `sng serve ..`. Those that are required are there, and the numbers are ones.
+/// The words of `sng serve ..`, of which the numbers are ones.
 pub fn serve_words<'a>(matches: &ArgMatches<'a>) -> Words<'a> {
     Words {
-        listen: matches.get_str("LISTEN").unwrap_or(""),
-        broker: matches.get_str("BROKER").unwrap_or(""),
-        id: matches.get_str("ID").unwrap_or(""),
-        workers: matches.get_one::<u16>("N").unwrap_or(1),
-        tries: tries(matches),
-        flood: flood_limits(matches),
+        config: matches.get_str("CONFIG"),
+        listen: matches.get_str("LISTEN"),
+        broker: matches.get_str("BROKER"),
+        id: matches.get_str("ID"),
+        workers: matches.get_one::<u32>("N"),
+        tries: matches.get_one::<u32>("TRIES"),
+        flood_each: matches.get_one::<u32>("EACH"),
+        flood_all: matches.get_one::<u32>("ALL"),
         policy: matches.get_str("FILE"),
         is_verbose: matches.get_flag("verbose"),
         prints_rows: matches.get_flag("rows"),
     }
 }
 
-/// How many tries may fail in a row: 0 is no end.
-fn tries(matches: &ArgMatches<'_>) -> u32 {
-    match matches.get_one::<u32>("TRIES").unwrap_or(USUAL_TRIES) {
-        0 => u32::MAX,
-        tries => tries,
-    }
-}
-
-fn flood_limits(matches: &ArgMatches<'_>) -> FloodLimits {
-    FloodLimits {
-        each: matches.get_one::<u32>("EACH").unwrap_or(USUAL_FLOOD.each),
-        all: matches.get_one::<u32>("ALL").unwrap_or(USUAL_FLOOD.all),
-    }
-}
-
 fn broker_command<'a>(alloc: Global) -> Result<Command<'a>, AllocError> {
-    let listen = needed(alloc, "LISTEN", "listen").help("Where clients are listened to, IP:PORT");
+    let listen = Arg::new(alloc, "LISTEN")
+        .long("listen")
+        .help("Where clients are listened to, IP:PORT")
+        .required(true)
+        .action(ArgAction::Set);
     Command::new(alloc, "broker")
         .about("A small MQTT broker for tests, until it is stopped from outside")
         .arg(listen)
@@ -131,10 +139,16 @@ pub fn broker_word<'a>(matches: &ArgMatches<'a>) -> &'a str {
     matches.get_str("LISTEN").unwrap_or("")
 }
 
-/// An option that has to be given.
-fn needed<'a>(alloc: Global, id: &'a str, long: &'a str) -> Arg<'a> {
+/// An option that has to be given, here or in the configuration file.
+fn wanted<'a>(
+    alloc: Global,
+    id: &'a str,
+    long: &'a str,
+    help: &'a str,
+) -> Result<Arg<'a>, AllocError> {
     Arg::new(alloc, id)
         .long(long)
-        .required(true)
+        .help(help)
         .action(ArgAction::Set)
+        .required_unless_present("CONFIG")
 }

@@ -16,8 +16,9 @@ use Rattle.sng_frames.specs.declared.frame.SnFrame.TheVariants as frame
 use Rattle.sng_book.specs.declared.address.Address.{Address}
 use Rattle.sng_book.specs.declared.event.Event.TheVariants.{Broker, Replace}
 use Rattle.sng_book.specs.declared.row.Row.{Row}
-use Rattle.sng_history.specs.Causes.{ToPing, ToLeave, ToSleep, ToRegister, ToPublish, ToSubscribe}
-use Rattle.sng_history.specs.Causes.{ToUnsubscribe, ToState, Untaken, Cause, rule_of, publish_cause}
+use Rattle.sng_history.specs.Causes.{ToPing, ToLeave, ToSleep, ToRegister, ToSubscribe}
+use Rattle.sng_history.specs.Causes.{ToUnsubscribe, ToState, ToRelease, Untaken, Cause, rule_of}
+use Rattle.sng_history.specs.Causes.{publish_cause}
 use Rattle.sng_history.specs.Causes.{frame_cause, datagram_cause, cause_of}
 use Rattle.sng_history.specs.Causes.{ByConnect, ByMessage, BySource, ByBroken, ByReplace}
 use Rattle.sng_history.specs.Causes.{Statement, StatesTopic, StatesMessage, UpdatesTopic, UpdatesMessage}
@@ -29,10 +30,10 @@ use Rattle.sng_laws.specs.ViewsClients.{those_at}
 use Rattle.sng_laws.specs.LawsAnswers.{Brought, Broken, connect_answer, source_answer, answer_to}
 use Rattle.sng_laws.specs.LawsAnswers.{no_session, ping_answer, sleep_answer, leave_answer, broken_rule}
 use Rattle.sng_laws.specs.LawsAnswers.{broken_stranger, broken_answer}
-use Rattle.sng_laws.specs.LawsUnsupported.{is_exactly_once, is_unsupported, unsupported_stranger}
+use Rattle.sng_laws.specs.LawsUnsupported.{is_unsupported, unsupported_stranger}
 use Rattle.sng_laws.specs.LawsUnsupported.{unsupported_answer}
 use Rattle.sng_laws.specs.LawsAsks.{register_stranger, register_answer, is_of_session, publish_stranger}
-use Rattle.sng_laws.specs.LawsAsks.{publish_answer, packet_answer}
+use Rattle.sng_laws.specs.LawsAsks.{publish_answer, packet_answer, release_answer}
 use Rattle.sng_laws.specs.LawsWills.{stated_as, will_stranger, will_answer}
 use Rattle.sng_history.proofs.Keeping.{exact_by}
 use Rattle.sng_promise.proofs.LastWills.LawWills.{statement_row}
@@ -51,6 +52,8 @@ use Rattle.sng_promise.proofs.Answers.LawUnsubscribes.{unsubscribe_row}
 use Rattle.sng_promise.proofs.Answers.LawReplaced.{replace_row}
 use Rattle.sng_promise.proofs.Answers.LawRegisters.{register_row}
 use Rattle.sng_promise.proofs.Answers.LawPublishes.{publish_row}
+use Rattle.sng_promise.proofs.Answers.LawRepeats.{once_row, release_row}
+use Rattle.sng_promise.proofs.OpenIds.OpenShown.{open_shown}
 use Rattle.sng_promise.proofs.Answers.LawPackets.{packet_judged}
 use Rattle.sng_promise.proofs.Link.SeenLast.{rest_shown}
 use Rattle.sng_promise.proofs.WantedFilters.UpstreamWanted.{wanted_shown}
@@ -98,21 +101,33 @@ source_law h row from p l brought is =
     (message_cause row from (frame.Publish p) brought ∙ source_cause from p p.flags.qos is)
     ∙ source_row h (state_of opening h) from p (stands h l.0).shown
 
-session_cause : (from : Address) (p : Publish) (q : FrameQos) → is_of_session q ≡ true
-    → publish_cause from p q ≡ ByMessage from (ToPublish p)
-session_cause from p qos.AtMostOnce is = refl
-session_cause from p qos.AtLeastOnce is = refl
-session_cause from p qos.WithoutSession is = absurd (let e = is in cc)
-session_cause from p qos.ExactlyOnce is = absurd (let e = is in cc)
+session_outs : (h : List Row) (from : Address) (p : Publish) (q : FrameQos) → p.flags.qos ≡ q
+    → is_of_session q ≡ true → Lawful opening h
+    → outs_by (state_of opening h) (publish_cause from p q)
+    ≡ answer_to (publish_stranger from) (publish_answer h from p) (those_at from h)
+session_outs h from p qos.AtMostOnce is session l =
+    publish_row h (state_of opening h) from p (stands h l) (rest_shown h l).in_flight (rw is refl)
+session_outs h from p qos.AtLeastOnce is session l =
+    publish_row h (state_of opening h) from p (stands h l) (rest_shown h l).in_flight (rw is refl)
+session_outs h from p qos.ExactlyOnce is session l =
+    once_row h (state_of opening h) from p (stands h l) (open_shown h l) (rest_shown h l).in_flight (rw is refl)
+session_outs h from p qos.WithoutSession is session l = absurd (let e = session in cc)
 
 pub publish_law : (h : List Row) (row : Row) (from : Address) (p : Publish) → Lawful opening (row ∷ h)
     → Brought row from (frame.Publish p)
     → is_of_session p.flags.qos ≡ true
     → row.outs ≡ answer_to (publish_stranger from) (publish_answer h from p) (those_at from h)
 publish_law h row from p l brought is =
-    row_outs h row (ByMessage from (ToPublish p)) l
-    (message_cause row from (frame.Publish p) brought ∙ session_cause from p p.flags.qos is)
-    ∙ publish_row h (state_of opening h) from p (stands h l.0) (rest_shown h l.0).in_flight
+    row_outs h row (publish_cause from p p.flags.qos) l (message_cause row from (frame.Publish p) brought)
+    ∙ session_outs h from p p.flags.qos refl is l.0
+
+pub release_law : (h : List Row) (row : Row) (from : Address) (number : ℕ) → Lawful opening (row ∷ h)
+    → Brought row from (frame.PublishRelease number)
+    → row.outs ≡ answer_to (no_session from) (release_answer h from number) (those_at from h)
+release_law h row from number l brought =
+    row_outs h row (ByMessage from (ToRelease number)) l
+    (message_cause row from (frame.PublishRelease number) brought)
+    ∙ release_row h (state_of opening h) from number (stands h l.0)
 
 pub register_law : (h : List Row) (row : Row) (from : Address) (r : Register) → Lawful opening (row ∷ h)
     → Brought row from (frame.Register r)
@@ -182,13 +197,6 @@ will_law h row from statement l brought =
     (message_cause row from (stated_as statement) brought ∙ statement_cause from statement)
     ∙ statement_row h (state_of opening h) from statement (stands h l.0)
 
-twice_cause : (from : Address) (p : Publish) (q : FrameQos) → is_exactly_once q ≡ true
-    → publish_cause from p q ≡ ByMessage from (Untaken (frame.Publish p))
-twice_cause from p qos.ExactlyOnce is = refl
-twice_cause from p qos.AtMostOnce is = absurd (let e = is in cc)
-twice_cause from p qos.AtLeastOnce is = absurd (let e = is in cc)
-twice_cause from p qos.WithoutSession is = absurd (let e = is in cc)
-
 unsupported_cause : (from : Address) (message : SnFrame) → is_unsupported message ≡ true
     → frame_cause from message ≡ ByMessage from (Untaken message)
 unsupported_cause from (frame.Connect connect) is = absurd (let e = is in cc)
@@ -202,15 +210,15 @@ unsupported_cause from (frame.WillTopic topic) is = absurd (let e = is in cc)
 unsupported_cause from (frame.WillMessage message) is = absurd (let e = is in cc)
 unsupported_cause from (frame.WillTopicUpdate topic) is = absurd (let e = is in cc)
 unsupported_cause from (frame.WillMessageUpdate message) is = absurd (let e = is in cc)
-unsupported_cause from (frame.Publish p) is = twice_cause from p p.flags.qos is
+unsupported_cause from (frame.Publish p) is = absurd (let e = is in cc)
+unsupported_cause from (frame.PublishRelease number) is = absurd (let e = is in cc)
 unsupported_cause from (frame.Disconnect duration) is = absurd (let e = is in cc)
 unsupported_cause from message is = refl
 
 pub unsupported_law : (h : List Row) (row : Row) (from : Address) (message : SnFrame)
     → Lawful opening (row ∷ h) → Brought row from message
     → is_unsupported message ≡ true
-    → row.outs ≡ answer_to (unsupported_stranger from message) (unsupported_answer from message)
-    (those_at from h)
+    → row.outs ≡ answer_to (unsupported_stranger from) unsupported_answer (those_at from h)
 unsupported_law h row from message l brought is =
     row_outs h row (ByMessage from (Untaken message)) l
     (message_cause row from message brought ∙ unsupported_cause from message is)

@@ -49,7 +49,7 @@ use Rattle.sng_laws.specs.LawsState.{ClientShown}
 use Rattle.sng_laws.specs.LawsRules.{Rule, judged}
 use Rattle.sng_laws.specs.LawsAnswers as laws
 use Rattle.sng_laws.specs.LawsAnswers.{answer_to, or_empty}
-use Rattle.sng_laws.specs.LawsUnsupported.{unset}
+use Rattle.sng_laws.specs.LawsHanding.{unset}
 use Rattle.sng_laws.specs.LawsAsks as asks
 use Rattle.sng_laws.specs.LawsSubscriptions.{filter_meant, if_filter, form_rules, gap_rule, room_rules}
 use Rattle.sng_laws.specs.LawsSubscriptions.{subscribe_rules, qos_granted, id_granted, suback}

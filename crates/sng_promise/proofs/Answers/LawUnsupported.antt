@@ -22,7 +22,6 @@ use Rattle.sng_history.specs.Steps.{notes_for}
 use Rattle.sng_laws.specs.ViewsClients.{those_at}
 use Rattle.sng_laws.specs.LawsAnswers.{answer_to, code_for}
 use Rattle.sng_laws.specs.LawsUnsupported.{is_unsupported, unsupported_answer, unsupported_stranger}
-use Rattle.sng_history.proofs.Places.{here_is}
 use Rattle.sng_promise.proofs.Clients.SeenClients.{heard_if}
 use Rattle.sng_history.proofs.EndlessRequests.{denied_stays}
 use Rattle.sng_promise.proofs.Clients.SeenState.{Stands}
@@ -44,10 +43,17 @@ unsupported_spell : (s : State) (from : Address) (message : SnFrame) (dropped : 
     → is_unsupported message ≡ true
     → spell (by_cause s (ByMessage from (Untaken message))) dropped x
     (denied_note message (who.Client x.id) (Form NotSupported) ∷ [])
-    ≡ unsupported_answer x.address message x.id
-unsupported_spell s from (frame.Register register) dropped x is = refl
+    ≡ unsupported_answer x.id
+unsupported_spell s from (frame.Connect connect) dropped x is = absurd (let e = is in cc)
+unsupported_spell s from (frame.Register register) dropped x is = absurd (let e = is in cc)
+unsupported_spell s from (frame.Publish p) dropped x is = absurd (let e = is in cc)
+unsupported_spell s from (frame.PublishRelease number) dropped x is = absurd (let e = is in cc)
 unsupported_spell s from (frame.Subscribe r) dropped x is = absurd (let e = is in cc)
 unsupported_spell s from (frame.Unsubscribe r) dropped x is = absurd (let e = is in cc)
+unsupported_spell s from (frame.PingRequest client) dropped x is = absurd (let e = is in cc)
+unsupported_spell s from (frame.Disconnect duration) dropped x is = absurd (let e = is in cc)
+unsupported_spell s from (frame.RegisterAck r) dropped x is = absurd (let e = is in cc)
+unsupported_spell s from (frame.PublishAck r) dropped x is = absurd (let e = is in cc)
 unsupported_spell s from (frame.WillTopic topic) dropped x is = absurd (let e = is in cc)
 unsupported_spell s from (frame.WillMessage message) dropped x is = absurd (let e = is in cc)
 unsupported_spell s from (frame.WillTopicUpdate topic) dropped x is = absurd (let e = is in cc)
@@ -56,40 +62,50 @@ unsupported_spell s from message dropped x is = refl
 
 unsupported_part : (s : State) (from : Address) (message : SnFrame) (dropped : List Release) (x : Client)
     (b : Bool)
-    → is_unsupported message ≡ true → (b ≡ true → x.address ≡ from)
+    → is_unsupported message ≡ true
     → is_drained x ≡ false
     → let a = by_cause s (ByMessage from (Untaken message)) in
     let notes : List Decision = if b then denied_note message (who.Client x.id) (Form NotSupported) ∷ []
     else [] in
     (if b then [] else []) ++ (spell a dropped (heard_if b s.clock x) notes
     ++ drained_outs (notes_by a notes (heard_if b s.clock x)))
-    ≡ (if b then unsupported_answer from message x.id else [])
-unsupported_part s from message dropped x true is at busy =
+    ≡ (if b then unsupported_answer x.id else [])
+unsupported_part s from message dropped x true is busy =
     let a = by_cause s (ByMessage from (Untaken message)) in
     let y = heard_if true s.clock x in
     let outs = spell a dropped y (denied_note message (who.Client x.id) (Form NotSupported) ∷ []) in
     ap (λ z. outs ++ drained_outs z) (denied_stays a y x.id message)
-    ∙ (settled outs y busy ∙ (unsupported_spell s from message dropped y is
-    ∙ ap (λ to. unsupported_answer to message x.id) (at refl)))
-unsupported_part s from message dropped x false is at busy = settled [] x busy
+    ∙ (settled outs y busy ∙ unsupported_spell s from message dropped y is)
+unsupported_part s from message dropped x false is busy = settled [] x busy
 
-unsupported_note : (from : Address) (message : SnFrame)
-    → stranger_to from (Untaken message) ≡ unsupported_stranger from message
-unsupported_note from (frame.Register register) = refl
-unsupported_note from message = refl
+unsupported_note : (from : Address) (message : SnFrame) → is_unsupported message ≡ true
+    → stranger_to from (Untaken message) ≡ unsupported_stranger from
+unsupported_note from (frame.Connect connect) is = absurd (let e = is in cc)
+unsupported_note from (frame.Register register) is = absurd (let e = is in cc)
+unsupported_note from (frame.Publish p) is = absurd (let e = is in cc)
+unsupported_note from (frame.PublishRelease number) is = absurd (let e = is in cc)
+unsupported_note from (frame.Subscribe r) is = absurd (let e = is in cc)
+unsupported_note from (frame.Unsubscribe r) is = absurd (let e = is in cc)
+unsupported_note from (frame.PingRequest client) is = absurd (let e = is in cc)
+unsupported_note from (frame.Disconnect duration) is = absurd (let e = is in cc)
+unsupported_note from (frame.RegisterAck r) is = absurd (let e = is in cc)
+unsupported_note from (frame.PublishAck r) is = absurd (let e = is in cc)
+unsupported_note from (frame.WillTopic topic) is = absurd (let e = is in cc)
+unsupported_note from (frame.WillMessage message) is = absurd (let e = is in cc)
+unsupported_note from (frame.WillTopicUpdate topic) is = absurd (let e = is in cc)
+unsupported_note from (frame.WillMessageUpdate message) is = absurd (let e = is in cc)
+unsupported_note from message is = refl
 
 pub unsupported_row : (h : List Row) (s : State) (from : Address) (message : SnFrame)
     → is_unsupported message ≡ true → Stands h s
     → let c = ByMessage from (Untaken message) in
     frame_row s c (stranger_to from (Untaken message)) (notes_for s c)
-    ≡ answer_to (unsupported_stranger from message)
-    (unsupported_answer from message) (those_at from h)
+    ≡ answer_to (unsupported_stranger from) unsupported_answer (those_at from h)
 unsupported_row h s from message is st =
     let c = ByMessage from (Untaken message) in
-    row_answer h s from c (stranger_to from (Untaken message)) (unsupported_answer from message) st.shown
+    row_answer h s from c (stranger_to from (Untaken message)) unsupported_answer st.shown
     (λ x. refl)
-    (each_part h s from c (unsupported_answer from message) st
+    (each_part h s from c unsupported_answer st
     (λ x known rest. unsupported_part s from message (drops s c (notes_for s c)) x (is_here x from) is
-    (here_is x from) rest.busy))
-    ∙ ap (λ outs. answer_to outs (unsupported_answer from message) (those_at from h))
-    (unsupported_note from message)
+    rest.busy))
+    ∙ ap (λ outs. answer_to outs unsupported_answer (those_at from h)) (unsupported_note from message is)

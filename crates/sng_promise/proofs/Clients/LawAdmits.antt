@@ -1,7 +1,7 @@
 -- No note but that of a CONNECT accepts anybody.
 use Rattle.std.proofs.Common.{◌≡◌, ℕ, Bool, true, false, List, [], ◌∷◌, ◌++◌, refl, ap, ◌∙◌, if◌then◌else◌}
 use Rattle.std.proofs.Common.{Ok, Err}
-use Rattle.std.specs.Prelude.{◌||◌, Option, Some, None}
+use Rattle.std.specs.Prelude.{◌||◌, Option, Some, None, not}
 use Rattle.std.specs.List.{flat_map}
 use Rattle.std.specs.Str.{bytes_eq}
 use Rattle.std.specs.declared.result.Result.{Result}
@@ -32,13 +32,14 @@ use Rattle.sng_history.specs.Causes.{Request, ToPing, ToLeave, ToRegister, ToPub
 use Rattle.sng_history.specs.Causes.{ToUnsubscribe, ToConfirm, ToAcknowledge}
 use Rattle.sng_history.specs.Causes.{Untaken, Cause, ToState, ToSleep}
 use Rattle.sng_history.specs.Causes.{ByMessage, BySource, ByBroken, ByPacket}
+use Rattle.sng_history.specs.Causes.{ToPublishOnce, ToRelease}
 use Rattle.sng_history.specs.Outgoing.{out_of_turn, all_gone, handed_over, delivered_notes}
 use Rattle.sng_history.specs.Clients.{Client, Around, is_here, is_confirming, is_acknowledging, closed}
 use Rattle.sng_history.specs.Clients.{message_due, note_by}
 use Rattle.sng_history.specs.Notes.{notes_of}
 use Rattle.sng_history.specs.State.{State, around}
 use Rattle.sng_history.specs.Verdicts.{ping_verdict, named_ask, name_in, register_ask, publish_ask, coverage}
-use Rattle.sng_history.specs.Verdicts.{subscribe_ask}
+use Rattle.sng_history.specs.Verdicts.{subscribe_ask, publish_once_ask, is_repeat, is_active}
 use Rattle.sng_history.specs.Verdicts.{unsubscribe_ask}
 use Rattle.sng_history.specs.Answers.{denied_note}
 use Rattle.sng_history.specs.Whole.{frames_of, spell, part, any_from, stranger_to, drops, client_rows}
@@ -50,7 +51,7 @@ use Rattle.sng_history.specs.Steps.{notes_for, outs_by}
 use Rattle.sng_laws.specs.ViewsClients.{admits, is_admitted}
 use Rattle.sng_history.specs.Packets.{answer_of, dropped, refused_filter}
 use Rattle.sng_history.proofs.Own.{same_means}
-use Rattle.sng_history.proofs.Asks.{of_register, of_publish, of_subscribe, of_unsubscribe}
+use Rattle.sng_history.proofs.Asks.{of_register, of_publish, of_subscribe, of_unsubscribe, of_publish_once}
 use Rattle.sng_history.proofs.Hands.{Every, OfMessages, every_append, every_if, every_handed, every_gone}
 use Rattle.sng_history.proofs.Hands.{every_confirmation}
 use Rattle.sng_history.proofs.Hands.{every_delivered, every_woken}
@@ -168,6 +169,11 @@ answered_note : (id client : List ℕ) (notes : List Decision) (b : Bool) → Ev
 answered_note id client notes true every = modest_notes id notes every
 answered_note id client notes false every = refl
 
+pub note_if : (id : List ℕ) (notes : List Decision) (b : Bool) → admitted_notes id notes ≡ false
+    → admitted_notes id (if b then notes else []) ≡ false
+note_if id notes true none = none
+note_if id notes false none = refl
+
 -- no message but a CONNECT accepts anybody
 pub request_note : (s : State) (request : Request) (x : Client) (id : List ℕ)
     → admitted_notes id (fixed_to s request x) ≡ false
@@ -186,6 +192,11 @@ request_note s (ToRegister r) x id =
     (of_register (λ said. admits id said ≡ false) s.policy x r.name (λ name o. refl))
 request_note s (ToPublish p) x id =
     one_note id (publish_ask s x p) (of_publish (λ said. admits id said ≡ false) s x p (λ name o. refl))
+request_note s (ToPublishOnce p) x id =
+    note_if id (publish_once_ask s x p ∷ []) (not (is_repeat p x))
+    (one_note id (publish_once_ask s x p)
+    (of_publish_once (λ said. admits id said ≡ false) s x p (λ name o. refl)))
+request_note s (ToRelease n) x id = sleep_note id x.id (is_active x.phase)
 request_note s (ToSubscribe r) x id =
     one_note id (subscribe_ask s x r) (of_subscribe (λ said. admits id said ≡ false) s x r (λ text o. refl))
 request_note s (ToUnsubscribe r) x id =
@@ -204,17 +215,14 @@ request_note s (Untaken message) x id =
     one_note id (denied_note message (who.Client x.id) (Form NotSupported))
     (denied_admits id message (who.Client x.id) (Form NotSupported))
 
-pub note_if : (id : List ℕ) (notes : List Decision) (b : Bool) → admitted_notes id notes ≡ false
-    → admitted_notes id (if b then notes else []) ≡ false
-note_if id notes true none = none
-note_if id notes false none = refl
-
 stranger_admits : (from : Address) (request : Request) (id : List ℕ)
     → is_admitted id (stranger_to from request) ≡ false
 stranger_admits from (ToPing client) id = refl
 stranger_admits from ToLeave id = refl
 stranger_admits from (ToRegister r) id = refl
 stranger_admits from (ToPublish p) id = refl
+stranger_admits from (ToPublishOnce p) id = refl
+stranger_admits from (ToRelease n) id = refl
 stranger_admits from (ToSubscribe r) id = refl
 stranger_admits from (ToUnsubscribe r) id = refl
 stranger_admits from (ToConfirm r) id = refl

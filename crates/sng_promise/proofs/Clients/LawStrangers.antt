@@ -37,6 +37,7 @@ use Rattle.sng_history.specs.Causes.{datagram_cause, publish_cause, rule_of, ToS
 use Rattle.sng_history.specs.Causes.{StatesMessage, UpdatesTopic}
 use Rattle.sng_history.specs.Causes.{UpdatesMessage, ByTick, ToSleep}
 use Rattle.sng_history.specs.Causes.{ByConnect, ByPacket, ByUp, ByReplace}
+use Rattle.sng_history.specs.Causes.{ToPublishOnce, ToRelease}
 use Rattle.sng_history.specs.Clients.{Client}
 use Rattle.sng_history.specs.State.{State, later}
 use Rattle.sng_history.specs.Verdicts.{exit, entry}
@@ -77,7 +78,7 @@ publish_admits : (s : State) (from : Address) (p : Publish) (q : FrameQos) (id :
 publish_admits s from p qos.WithoutSession id = admitted_source s from p id
 publish_admits s from p qos.AtMostOnce id = admitted_message s from (ToPublish p) id
 publish_admits s from p qos.AtLeastOnce id = admitted_message s from (ToPublish p) id
-publish_admits s from p qos.ExactlyOnce id = admitted_message s from (Untaken (frame.Publish p)) id
+publish_admits s from p qos.ExactlyOnce id = admitted_message s from (ToPublishOnce p) id
 
 disconnect_admits : (s : State) (from : Address) (duration : Option ℕ) (id : List ℕ)
     → is_admitted id (outs_by s (datagram_cause from (Ok (frame.Disconnect duration)))) ≡ false
@@ -125,6 +126,8 @@ datagram_admits s from (Ok (frame.RegisterAck r)) ids id unknown none =
     admitted_message s from (ToConfirm r) id
 datagram_admits s from (Ok (frame.PublishAck r)) ids id unknown none =
     admitted_message s from (ToAcknowledge r) id
+datagram_admits s from (Ok (frame.PublishRelease n)) ids id unknown none =
+    admitted_message s from (ToRelease n) id
 datagram_admits s from (Ok (frame.Disconnect duration)) ids id unknown none =
     disconnect_admits s from duration id
 datagram_admits s from (Ok (frame.WillTopic topic)) ids id unknown none =

@@ -15,7 +15,7 @@ use Rattle.sng_book.specs.declared.outcome.Denial.{Denial}
 use Rattle.sng_book.specs.declared.outcome.Outcome.{Outcome}
 use Rattle.sng_book.specs.declared.outcome.Outcome.TheVariants.{Denied}
 use Rattle.sng_history.specs.Causes.{Statement, Cause}
-use Rattle.sng_history.specs.Clients.{Client, Around, subscribed}
+use Rattle.sng_history.specs.Clients.{Client, Around, subscribed, id_opened_of}
 use Rattle.sng_history.specs.Clients.{stated_by}
 use Rattle.sng_history.specs.Clients.{subscribe_of, statement_of, note_by, notes_by}
 use Rattle.sng_history.specs.Clients.{start_by}
@@ -26,6 +26,7 @@ use Rattle.sng_history.specs.Lawful.{fixed_for}
 use Rattle.sng_laws.specs.ViewsMessages.{Message as Spoken}
 use Rattle.sng_laws.specs.ViewsClients.{speaks_of, phase_by, admits}
 use Rattle.sng_promise.proofs.Clients.SeenNotes.{phase_notes, admitted_notes}
+use Rattle.sng_history.proofs.Steady.{denied_received}
 
 -- what was shown before of a client, and of an event: where it came from, what it states, the clock, and
 -- whether the client speaks by it
@@ -125,6 +126,12 @@ denied_idle a (frame.Subscribe r) whom rule =
       phase = λ m id before. refl;
       admits = λ id. refl;
       same = λ x. subscribed_none (subscribe_of a.cause) (Denied rule) x;
+    }
+denied_idle a (frame.Publish p) whom rule =
+    record {
+      phase = λ m id before. refl;
+      admits = λ id. refl;
+      same = λ x. denied_received (id_opened_of a.cause) rule x;
     }
 denied_idle a (frame.Unsubscribe r) whom rule =
     record { phase = λ m id before. refl; admits = λ id. refl; same = λ x. refl }

@@ -18,12 +18,13 @@ use Rattle.sng_history.specs.Causes.{ByMessage, ByBroken, datagram_cause}
 use Rattle.sng_history.specs.Causes.{publish_cause, rule_of, ToSleep}
 use Rattle.sng_history.specs.Causes.{ToPing, ToLeave, ToRegister, ToPublish, ToSubscribe, ToUnsubscribe}
 use Rattle.sng_history.specs.Causes.{ToConfirm, ToAcknowledge, Untaken}
+use Rattle.sng_history.specs.Causes.{ToPublishOnce, ToRelease}
 use Rattle.sng_history.specs.Clients.{Client, Around, is_here, awake, asleep, is_waking}
 use Rattle.sng_history.specs.State.{State}
-use Rattle.sng_history.specs.Verdicts.{entry}
+use Rattle.sng_history.specs.Verdicts.{entry, is_repeat}
 use Rattle.sng_history.specs.Lawful.{fixed_for}
 use Rattle.sng_laws.specs.ViewsMessages.{Message as Spoken, Registers, Publishes, Subscribes, Unsubscribes}
-use Rattle.sng_laws.specs.ViewsMessages.{Confirms, Acknowledges}
+use Rattle.sng_laws.specs.ViewsMessages.{Confirms, Acknowledges, Releases}
 use Rattle.sng_laws.specs.ViewsMessages.{Other, message_in, is_without_session, Pings, Sleeps}
 use Rattle.sng_laws.specs.ViewsClients.{duration_by, is_spoken, phase_spoken, slept_for, woken, is_asleep}
 use Rattle.sng_promise.proofs.Clients.SeenClients.{Before, Shows, kept_of, denied_shows, broken_shows}
@@ -31,7 +32,7 @@ use Rattle.sng_promise.proofs.Clients.SeenClients.{moved_to}
 use Rattle.sng_promise.proofs.Clients.SeenHeard.{ping_shows, woken_if, asleep_if, sleep_shows}
 use Rattle.sng_promise.proofs.Clients.SeenHeard.{confirm_shows, acknowledge_shows, subscribe_shows}
 use Rattle.sng_promise.proofs.Clients.SeenHeard.{unsubscribe_shows}
-use Rattle.sng_promise.proofs.Clients.SeenHeard.{register_shows, asked_shows}
+use Rattle.sng_promise.proofs.Clients.SeenHeard.{register_shows, asked_shows, once_shows, release_shows}
 use Rattle.sng_promise.proofs.Clients.SeenLeft.{leave_shows}
 use Rattle.sng_states.specs.States.{is_due_messages}
 use Rattle.sng_states.specs.States as states
@@ -68,8 +69,8 @@ publish_shows s x from p m qos.AtMostOnce =
 publish_shows s x from p m qos.AtLeastOnce =
     asked_shows (around_by s (ByMessage from (ToPublish p))) s x m (Some from) p (is_here x from)
 publish_shows s x from p m qos.ExactlyOnce =
-    let a = around_by s (ByMessage from (Untaken (frame.Publish p))) in
-    denied_shows a x m (Some from) None (is_here x from) (frame.Publish p) (Form NotSupported)
+    once_shows (around_by s (ByMessage from (ToPublishOnce p))) s x m (Some from) p (is_here x from)
+    (not (is_repeat p x))
 
 pub datagram_shows : (s : State) (x : Client) (from : Address) (read : Result SnFrame FrameFault)
     → Shows x.id (before_read s x from read) (fixed_for s (datagram_cause from read) x)
@@ -100,6 +101,9 @@ datagram_shows s x from (Ok (frame.RegisterAck r)) =
 datagram_shows s x from (Ok (frame.PublishAck r)) =
     acknowledge_shows (around_by s (ByMessage from (ToAcknowledge r))) s.policy x (Some (Acknowledges r))
     (Some from) r (is_here x from)
+datagram_shows s x from (Ok (frame.PublishRelease n)) =
+    release_shows (around_by s (ByMessage from (ToRelease n))) x (Some (Releases n)) (Some from) n
+    (is_here x from)
 datagram_shows s x from (Ok (frame.WillTopic topic)) =
     statement_shows s from (StatesTopic topic) x (is_here x from)
 datagram_shows s x from (Ok (frame.WillMessage message)) =

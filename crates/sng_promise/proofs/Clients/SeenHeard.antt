@@ -15,21 +15,21 @@ use Rattle.sng_book.specs.declared.outcome.Outcome.{Outcome}
 use Rattle.sng_book.specs.declared.outcome.Outcome.TheVariants.{Allowed, Denied}
 use Rattle.sng_history.specs.Causes.{ByMessage, ToPing}
 use Rattle.sng_history.specs.Clients.{Client, Around, is_confirming, is_acknowledging, closed, confirmed_with}
-use Rattle.sng_history.specs.Clients.{subscribed}
+use Rattle.sng_history.specs.Clients.{subscribed, id_opened_of, publish_released, received}
 use Rattle.sng_history.specs.Clients.{unsubscribed, subscribe_of, note_by, notes_by, awake, asleep, is_waking}
 use Rattle.sng_history.specs.Clients.{is_here}
 use Rattle.sng_history.specs.Outgoing.{out_of_turn, handed_over}
 use Rattle.sng_history.specs.State.{State}
-use Rattle.sng_history.specs.Verdicts.{register_ask, publish_ask, subscribe_ask, unsubscribe_ask}
-use Rattle.sng_history.specs.Verdicts.{ping_verdict}
+use Rattle.sng_history.specs.Verdicts.{register_ask, publish_ask, subscribe_ask, unsubscribe_ask, is_active}
+use Rattle.sng_history.specs.Verdicts.{ping_verdict, publish_once_ask}
 use Rattle.sng_history.specs.Lawful.{confirmations, denial_of, woken_notes}
 use Rattle.sng_laws.specs.ViewsMessages.{Message as Spoken}
-use Rattle.sng_history.proofs.Asks.{of_register, of_publish, of_subscribe, of_unsubscribe}
+use Rattle.sng_history.proofs.Asks.{of_register, of_publish, of_subscribe, of_unsubscribe, of_publish_once}
 use Rattle.sng_history.proofs.Hands.{Every, every_append, every_handed, every_confirmation}
 use Rattle.sng_history.proofs.Hands.{every_woken}
 use Rattle.sng_states.specs.States.{is_due_messages}
 use Rattle.sng_promise.proofs.Clients.SeenClients.{Shows, kept_of, moved_to, heard_if}
-use Rattle.sng_promise.proofs.Clients.SeenUnmoved.{Alike}
+use Rattle.sng_promise.proofs.Clients.SeenUnmoved.{Alike, alike_received}
 use Rattle.sng_promise.proofs.Clients.SeenUnmoved.{shows_alike, alike_self}
 use Rattle.sng_promise.proofs.Clients.SeenUnmoved.{alike_on, alike_subscribed, alike_unsubscribed, alike_if}
 use Rattle.sng_promise.proofs.Clients.SeenUnmoved.{Ends}
@@ -219,6 +219,16 @@ register_shows a policy x m from text true =
     (λ name o. (refl, refl, refl, refl))
 register_shows a policy x m from text false = (refl, refl, refl, refl)
 
+received_shows : (a : Around) (x : Client) (m : Option Spoken) (from : Option Address)
+    (name : Option (List ℕ)) (o : Outcome)
+    → Shows x.id (kept_of x m from None a.clock true) (note.Publish (who.Client x.id) name o ∷ [])
+    (note_by a (note.Publish (who.Client x.id) name o) (heard_if true a.clock x))
+received_shows a x m from name o =
+    let y = heard_if true a.clock x in
+    shows_alike x.id (kept_of x m from None a.clock true) (note.Publish (who.Client x.id) name o ∷ []) y
+    (received (id_opened_of a.cause) o y)
+    (alike_received (id_opened_of a.cause) o y) (refl, refl, refl, refl)
+
 pub asked_shows : (a : Around) (s : State) (x : Client) (m : Option Spoken) (from : Option Address)
     (p : Publish) (here : Bool)
     → let n = if here then publish_ask s x p ∷ [] else [] in
@@ -226,5 +236,35 @@ pub asked_shows : (a : Around) (s : State) (x : Client) (m : Option Spoken) (fro
 asked_shows a s x m from p true =
     of_publish (λ said. Shows x.id (kept_of x m from None a.clock true) (said ∷ [])
     (note_by a said (heard_if true a.clock x))) s x p
-    (λ name o. (refl, refl, refl, refl))
+    (λ name o. received_shows a x m from name o)
 asked_shows a s x m from p false = (refl, refl, refl, refl)
+
+-- a PUBLISH at QoS 2, which is noted where it is no repeat
+pub once_shows : (a : Around) (s : State) (x : Client) (m : Option Spoken) (from : Option Address)
+    (p : Publish) (here first : Bool)
+    → let n = if here then (if first then publish_once_ask s x p ∷ [] else []) else [] in
+    Shows x.id (kept_of x m from None a.clock here) n (notes_by a n (heard_if here a.clock x))
+once_shows a s x m from p true true =
+    of_publish_once (λ said. Shows x.id (kept_of x m from None a.clock true) (said ∷ [])
+    (note_by a said (heard_if true a.clock x))) s x p
+    (λ name o. received_shows a x m from name o)
+once_shows a s x m from p true false = (refl, refl, refl, refl)
+once_shows a s x m from p false first = (refl, refl, refl, refl)
+
+-- a PUBREL
+released_by : (a : Around) (x : Client) (m : Option Spoken) (from : Option Address) (number : ℕ) (active : Bool)
+    → let n = if active then [] else out_of_turn x.id in
+    let y : Client = record x { heard = a.clock } in
+    Shows x.id (kept_of x m from None a.clock true) n
+    (notes_by a n (if active then publish_released number y else y))
+released_by a x m from number true = (refl, refl, refl, refl)
+released_by a x m from number false = (refl, refl, refl, refl)
+
+pub release_shows : (a : Around) (x : Client) (m : Option Spoken) (from : Option Address) (number : ℕ)
+    (here : Bool)
+    → let n = if here then (if is_active x.phase then [] else out_of_turn x.id) else [] in
+    let y : Client = record x { heard = a.clock } in
+    Shows x.id (kept_of x m from None a.clock here) n
+    (notes_by a n (if here then (if is_active x.phase then publish_released number y else y) else x))
+release_shows a x m from number true = released_by a x m from number (is_active x.phase)
+release_shows a x m from number false = (refl, refl, refl, refl)

@@ -16,7 +16,8 @@ use Rattle.sng_book.specs.declared.event.Event.TheVariants.{Datagram, Broker, Up
 use Rattle.sng_book.specs.declared.row.Row.{Row}
 use Rattle.sng_history.specs.Causes.{cause_of, datagram_cause, publish_cause}
 use Rattle.sng_history.specs.Clients.{Client, is_here, is_confirming, is_acknowledging, is_waking, closed}
-use Rattle.sng_history.specs.Clients.{confirmed_with, asleep, awake, start_by}
+use Rattle.sng_history.specs.Clients.{confirmed_with, asleep, awake, start_by, publish_released}
+use Rattle.sng_history.specs.Verdicts.{is_active}
 use Rattle.sng_history.specs.State.{State, around}
 use Rattle.sng_laws.specs.ViewsClients.{phase_of, address_of, own_message, phase_spoken}
 use Rattle.sng_history.proofs.Steady.{closed_steady, confirmed_steady}
@@ -71,6 +72,8 @@ start_phase s from (Ok (frame.RegisterAck r)) x =
     (λ y. (confirmed_steady r y).phase)
 start_phase s from (Ok (frame.PublishAck r)) x =
     moved_phase s.clock closed x (is_here x from) (is_acknowledging r x) (λ y. (closed_steady y).phase)
+start_phase s from (Ok (frame.PublishRelease n)) x =
+    moved_phase s.clock (publish_released n) x (is_here x from) (is_active x.phase) (λ y. refl)
 start_phase s from (Ok (frame.Connect connect)) x = heard_phase s.clock x (is_here x from)
 start_phase s from (Ok (frame.Publish p)) x = publish_phase s from p p.flags.qos x
 start_phase s from (Ok message) x = heard_phase s.clock x (is_here x from)

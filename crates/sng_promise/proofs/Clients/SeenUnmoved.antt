@@ -15,7 +15,7 @@ use Rattle.sng_book.specs.declared.outcome.Outcome.{Outcome}
 use Rattle.sng_book.specs.declared.outcome.Outcome.TheVariants.{Allowed, Denied}
 use Rattle.sng_history.specs.Causes.{ByPacket}
 use Rattle.sng_history.specs.Clients.{Client, Around, message_due, delivered_by, subscribed, without}
-use Rattle.sng_history.specs.Clients.{unsubscribed}
+use Rattle.sng_history.specs.Clients.{unsubscribed, received}
 use Rattle.sng_history.specs.Clients.{is_turned_away, handed, note_by, notes_by}
 use Rattle.sng_history.specs.Packets.{answer_of, refused_filter}
 use Rattle.sng_history.specs.Outgoing.{delivered_notes}
@@ -52,6 +52,11 @@ alike_on x y z one two = record {
   duration = two.duration ∙ one.duration;
   heard = two.heard ∙ one.heard;
 }
+
+pub alike_received : (number : Option ℕ) (o : Outcome) (x : Client) → Alike x (received number o x)
+alike_received None o x = alike_self x
+alike_received (Some number) Allowed x = record { phase = refl; address = refl; duration = refl; heard = refl }
+alike_received (Some number) (Denied rule) x = alike_self x
 
 pub alike_subscribed : (r : Option TopicRequest) (filter : Option (List ℕ)) (o : Outcome) (x : Client)
     → Alike x (subscribed r filter o x)

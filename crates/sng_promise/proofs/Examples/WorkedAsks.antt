@@ -56,10 +56,10 @@ inside_is = ap (λ c. after up_one c (lets_in s1 ∷ welcome home ∷ [])) (caus
 abbrev pub then : State → Event → List Out → State
 then s e outs = after s (cause_of e) outs
 
-abbrev knowing : State
+abbrev pub knowing : State
 knowing = then inside (Datagram home register_t1) (registers t1 Allowed ∷ registered_t1 ∷ [])
 
-knowing_is : knows_t1 ≡ knowing
+pub knowing_is : knows_t1 ≡ knowing
 knowing_is =
     ap (λ s. then s (Datagram home register_t1) (registers t1 Allowed ∷ registered_t1 ∷ [])) inside_is
 
@@ -87,7 +87,7 @@ pub came : (h : List Row) (t : State) (e : Event) (outs : List Out) → state_of
     → LawfulRow t e outs → LawfulRow (state_of opening h) e outs
 came h t e outs is l = subst (λ t. LawfulRow t e outs) (sym is) l
 
-told : Lawful opening told_t1
+pub told : Lawful opening told_t1
 told = (
   home_one,
   came (s1_home one_listed) inside (Datagram home register_t1)

@@ -34,6 +34,7 @@ use Rattle.sng_history.specs.Causes.{Request, ToPing, ToLeave, ToSleep, ToRegist
 use Rattle.sng_history.specs.Causes.{ToUnsubscribe, ToConfirm, ToAcknowledge, ToState, Untaken}
 use Rattle.sng_history.specs.Causes.{Cause, cause_of, ByConnect, ByMessage, BySource, ByBroken, ByPacket}
 use Rattle.sng_history.specs.Causes.{ByUp, ByDown, ByTake, ByReplace, ByTick}
+use Rattle.sng_history.specs.Causes.{ToPublishOnce, ToRelease}
 use Rattle.sng_history.specs.Notes.{notes_of}
 use Rattle.sng_history.specs.Clients.{Client, subscribe_of, same_address, is_here, is_author, start_by}
 use Rattle.sng_history.specs.Clients.{let_in}
@@ -154,6 +155,8 @@ stranger_tells told from (ToSleep duration) = (tt, tt)
 stranger_tells told from ToLeave = (tt, tt)
 stranger_tells told from (ToRegister r) = (tt, tt)
 stranger_tells told from (ToPublish p) = (tt, tt)
+stranger_tells told from (ToPublishOnce p) = (tt, tt)
+stranger_tells told from (ToRelease n) = (tt, tt)
 stranger_tells told from (ToSubscribe r) = (tt, tt)
 stranger_tells told from (ToUnsubscribe r) = (tt, tt)
 stranger_tells told from (ToConfirm r) = (tt, tt)

@@ -15,12 +15,13 @@ use Rattle.sng_book.specs.declared.outcome.Denial.{Denial}
 use Rattle.sng_book.specs.declared.outcome.Outcome.{Outcome}
 use Rattle.sng_book.specs.declared.outcome.Outcome.TheVariants.{Allowed, Denied}
 use Rattle.sng_history.specs.Clients.{Client, Around, gone, subscribed, unsubscribed, subscribe_of, told}
-use Rattle.sng_history.specs.Clients.{note_by, statement_of}
+use Rattle.sng_history.specs.Clients.{note_by, statement_of, id_opened_of}
 use Rattle.sng_history.specs.Answers.{denied_note}
 use Rattle.sng_history.specs.Outgoing.{all_gone}
 use Rattle.sng_laws.specs.ViewsClients.{with_name, tells_id, names_by}
 use Rattle.sng_laws.specs.ViewsHanding.{knows_by}
 use Rattle.sng_history.proofs.Own.{same_self}
+use Rattle.sng_history.proofs.Steady.{denied_received}
 use Rattle.sng_promise.proofs.Names.SeenIds.{gets_same}
 use Rattle.sng_promise.proofs.Handing.SeenFollows.{View, Follows}
 use Rattle.sng_promise.proofs.Handing.SeenTurns.{closed_view, told_follows}
@@ -84,6 +85,17 @@ quiet_denied a id due (frame.Subscribe r) rule = record {
     never : (r : Option TopicRequest) (x : Client) → subscribed r None (Denied rule) x ≡ x
     never None x = refl
     never (Some r) x = refl
+quiet_denied a id due (frame.Publish p) rule = record {
+  ids = λ x. ap (λ y. y.ids) (denied_received (id_opened_of a.cause) rule x);
+  number = λ x. ap (λ y. y.number) (denied_received (id_opened_of a.cause) rule x);
+  buffer = λ x. ap (λ y. y.buffer) (denied_received (id_opened_of a.cause) rule x);
+  view = λ v. refl;
+  step =
+      λ v x. record {
+        phase = λ m fits. ap (λ y. Some y.phase) (sym (denied_received (id_opened_of a.cause) rule x));
+        turn = tt;
+      };
+}
 quiet_denied a id due (frame.WillTopic topic) rule = quiet_will a id id due None rule
 quiet_denied a id due (frame.WillMessage message) rule = quiet_will a id id due None rule
 quiet_denied a id due (frame.WillTopicUpdate topic) rule = quiet_will a id id due None rule

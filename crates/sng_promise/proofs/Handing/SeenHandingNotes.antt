@@ -39,6 +39,7 @@ use Rattle.sng_history.specs.Causes.{Request, ToPing, ToLeave, ToSleep, ToRegist
 use Rattle.sng_history.specs.Causes.{ToUnsubscribe, ToConfirm, ToAcknowledge, ToState, Untaken}
 use Rattle.sng_history.specs.Causes.{Cause, ByConnect, ByMessage, BySource, ByBroken, ByPacket, ByUp, ByDown}
 use Rattle.sng_history.specs.Causes.{ByTake, ByReplace, ByTick}
+use Rattle.sng_history.specs.Causes.{ToPublishOnce, ToRelease}
 use Rattle.sng_frames.specs.declared.messages.connect.Connect.{Connect}
 use Rattle.sng_laws.specs.ViewsSendings.{Last, last_by, topic_by, predefined_or}
 use Rattle.sng_queue.specs.declared.kind.TopicIdKind.TheVariants as kind
@@ -92,6 +93,8 @@ occasion_by_request (ToSleep duration) = AtOther
 occasion_by_request ToLeave = AtOther
 occasion_by_request (ToRegister r) = AtOther
 occasion_by_request (ToPublish p) = AtOther
+occasion_by_request (ToPublishOnce p) = AtOther
+occasion_by_request (ToRelease n) = AtOther
 occasion_by_request (ToSubscribe r) = AtOther
 occasion_by_request (ToUnsubscribe r) = AtOther
 occasion_by_request (ToAcknowledge r) = AtOther

@@ -2,10 +2,11 @@
 -- of them.
 use Rattle.std.proofs.Common.{◌≡◌, ℕ, Bool, true, false, List, [], ◌∷◌, ◌++◌, refl, ap, sym, subst}
 use Rattle.std.proofs.Common.{if◌then◌else◌}
-use Rattle.std.specs.Prelude.{◌&&◌, ◌==◌, Some}
+use Rattle.std.specs.Prelude.{◌&&◌, ◌==◌, Some, Option, None, not}
 use Rattle.sng_states.specs.declared.state.ClientState.TheVariants.{Active, Dialogue}
 use Rattle.sng_states.specs.States.{is_due_messages}
 use Rattle.sng_frames.specs.declared.messages.connect.Connect.{Connect}
+use Rattle.sng_frames.specs.declared.messages.publish.Publish.{Publish}
 use Rattle.sng_queue.specs.Messages.{Message}
 use Rattle.sng_book.specs.Denials.{is_allowed}
 use Rattle.sng_book.specs.declared.address.Address.{Address}
@@ -20,17 +21,19 @@ use Rattle.sng_history.specs.Causes.{Request, ToPing, ToLeave, ToRegister, ToPub
 use Rattle.sng_history.specs.Causes.{ToUnsubscribe, ToConfirm, ToAcknowledge}
 use Rattle.sng_history.specs.Causes.{Untaken, ToState, ToSleep}
 use Rattle.sng_history.specs.Causes.{ByConnect, ByMessage}
-use Rattle.sng_history.specs.Clients.{Client, Around, is_confirming, is_acknowledging, answered_by}
-use Rattle.sng_history.specs.Clients.{cleaned}
+use Rattle.sng_history.specs.Causes.{ToPublishOnce, ToRelease}
+use Rattle.sng_history.specs.Clients.{Client, Around, is_confirming, is_acknowledging, answered_by, received}
+use Rattle.sng_history.specs.Clients.{cleaned, publish_released}
 use Rattle.sng_history.specs.Clients.{subscribe_of, note_by, opened, awake}
 use Rattle.sng_history.specs.Clients.{asleep, is_waking}
 use Rattle.sng_history.specs.State.{State, around}
-use Rattle.sng_history.specs.Verdicts.{ping_verdict}
+use Rattle.sng_history.specs.Verdicts.{ping_verdict, is_active, is_repeat, publish_once_ask}
 use Rattle.sng_history.specs.Answers.{denied_note}
 use Rattle.sng_history.specs.Outgoing.{handed_over, all_gone, out_of_turn}
 use Rattle.sng_history.specs.Lawful.{denial_of, fixed_to, entering_notes}
 use Rattle.sng_history.proofs.Own.{same_self}
-use Rattle.sng_history.proofs.Asks.{of_register, of_publish, of_subscribe, of_unsubscribe}
+use Rattle.sng_history.proofs.Asks.{of_register, of_publish, of_subscribe, of_unsubscribe, of_publish_once}
+use Rattle.sng_history.proofs.Steady.{received_steady}
 use Rattle.sng_promise.proofs.Names.SeenIds.{telling_none}
 use Rattle.sng_promise.proofs.Handing.SeenFollows.{View}
 use Rattle.sng_promise.proofs.Handing.SeenTurns.{closed_view, closed_follows, entered_follows}
@@ -55,6 +58,8 @@ answered_view (ToSleep duration) x v = if is_due_messages x.phase then closed_vi
 answered_view ToLeave x v = v
 answered_view (ToRegister r) x v = v
 answered_view (ToPublish p) x v = v
+answered_view (ToPublishOnce p) x v = v
+answered_view (ToRelease n) x v = v
 answered_view (ToSubscribe r) x v = v
 answered_view (ToUnsubscribe r) x v = v
 answered_view (ToState statement) x v = v
@@ -85,6 +90,40 @@ sleep_moved : (a : Around) (due : List Message) (v : View) (x : Client) (clock d
 sleep_moved a due v x clock duration true shown = closed_follows due v x.ids x.number x.buffer shown
 sleep_moved a due v x clock duration false shown = (record { phase = λ m fits. refl; turn = tt }, shown)
 
+-- a PUBLISH at QoS 2 that is allowed opens its MsgId, and shows nothing of messages for the client
+received_shown : (due : List Message) (v : View) (x : Client) (number : Option ℕ) (o : Outcome)
+    → Shown due v x
+    → Shown due v (received number o x)
+received_shown due v x None o shown = shown
+received_shown due v x (Some number) Allowed shown = shown
+received_shown due v x (Some number) (Denied rule) shown = shown
+
+once_moved : (s : State) (from : Address) (p : Publish) (due : List Message) (v : View) (x : Client)
+    (first : Bool) → Shown due v x
+    → Moved (around s (ByMessage from (ToPublishOnce p))) x.id due
+    (if first then publish_once_ask s x p ∷ [] else []) v (record x { heard = s.clock })
+once_moved s from p due v x true shown =
+    let a = around s (ByMessage from (ToPublishOnce p)) in
+    let y : Client = record x { heard = s.clock } in
+    of_publish_once (λ said. Moved a x.id due (said ∷ []) v y) s x p
+    (λ name o. (
+      record {
+        phase = λ m fits. ap Some (sym (received_steady (Some p.msg_id) o y).phase);
+        turn = tt;
+      },
+      received_shown due v y (Some p.msg_id) o shown,
+    ))
+once_moved s from p due v x false shown = shown
+
+-- a PUBREL closes one
+release_moved : (a : Around) (due : List Message) (v : View) (x : Client) (clock number : ℕ) (active : Bool)
+    → Shown due v x
+    → let y : Client = record x { heard = clock } in
+    Moved a x.id due (if active then [] else out_of_turn x.id) v
+    (if active then publish_released number y else y)
+release_moved a due v x clock number true shown = shown
+release_moved a due v x clock number false shown = (record { phase = λ m fits. refl; turn = tt }, shown)
+
 request_moved : (s : State) (from : Address) (request : Request) (due : List Message) (v : View) (x : Client)
     → Shown due v x
     → Moved (around s (ByMessage from request)) x.id due (fixed_to s request x) (answered_view request x v)
@@ -107,6 +146,9 @@ request_moved s from (ToPublish p) due v x shown =
     let y : Client = record x { heard = s.clock } in
     of_publish (λ said. Moved a x.id due (said ∷ []) v y) s x p
     (λ name o. (record { phase = λ m fits. refl; turn = tt }, shown))
+request_moved s from (ToPublishOnce p) due v x shown = once_moved s from p due v x (not (is_repeat p x)) shown
+request_moved s from (ToRelease n) due v x shown =
+    release_moved (around s (ByMessage from (ToRelease n))) due v x s.clock n (is_active x.phase) shown
 request_moved s from (ToSubscribe r) due v x shown =
     let a = around s (ByMessage from (ToSubscribe r)) in
     let y : Client = record x { heard = s.clock } in

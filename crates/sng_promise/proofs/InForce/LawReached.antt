@@ -25,6 +25,7 @@ use Rattle.sng_history.specs.Causes.{ToAcknowledge, ToState, Untaken}
 use Rattle.sng_history.specs.Causes.{Cause, cause_of, ByConnect, ByMessage, BySource, ByBroken, ByPacket}
 use Rattle.sng_history.specs.Causes.{ByUp, ByDown, ByTake, ByReplace}
 use Rattle.sng_history.specs.Causes.{ByTick}
+use Rattle.sng_history.specs.Causes.{ToPublishOnce, ToRelease}
 use Rattle.sng_history.specs.Clients.{Client, same_address, let_in}
 use Rattle.sng_history.specs.Standing.{Release, drop_notes}
 use Rattle.sng_history.specs.State.{State, opening, state_of, around, later}
@@ -68,6 +69,8 @@ stranger_reach from (ToSleep duration) = dismissed_reach from
 stranger_reach from ToLeave = dismissed_reach from
 stranger_reach from (ToRegister r) = dismissed_reach from
 stranger_reach from (ToPublish p) = dismissed_reach from
+stranger_reach from (ToPublishOnce p) = dismissed_reach from
+stranger_reach from (ToRelease n) = dismissed_reach from
 stranger_reach from (ToSubscribe r) = dismissed_reach from
 stranger_reach from (ToUnsubscribe r) = dismissed_reach from
 stranger_reach from (ToConfirm r) = dismissed_reach from

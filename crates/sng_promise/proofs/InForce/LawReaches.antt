@@ -31,13 +31,14 @@ use Rattle.sng_history.specs.Causes.{ToUnsubscribe, ToConfirm}
 use Rattle.sng_history.specs.Causes.{ToAcknowledge, ToState, Untaken}
 use Rattle.sng_history.specs.Causes.{Cause, request_of, Statement, StatesTopic, StatesMessage, UpdatesTopic}
 use Rattle.sng_history.specs.Causes.{UpdatesMessage}
+use Rattle.sng_history.specs.Causes.{ToPublishOnce, ToRelease}
 use Rattle.sng_history.specs.Handing.{Known, known_as, front, handed_outs, announced_again, repeated_outs}
 use Rattle.sng_history.specs.Clients.{Around, Client, is_author, is_drained, start_by, note_by, notes_by}
 use Rattle.sng_history.specs.Standing.{Release, is_release, drop_notes}
-use Rattle.sng_history.specs.Verdicts.{is_active, ping_verdict}
+use Rattle.sng_history.specs.Verdicts.{is_active, ping_verdict, is_repeat}
 use Rattle.sng_history.specs.Answers.{code_of, refusal, sent_to, puback, connack, pong, dismissed}
 use Rattle.sng_history.specs.Answers.{statement_answer}
-use Rattle.sng_history.specs.Answers.{dialogue_ended, statement_refused}
+use Rattle.sng_history.specs.Answers.{dialogue_ended, statement_refused, pubrec, pubcomp}
 use Rattle.sng_history.specs.Whole.{takes_leave, farewell, denied_to, denied_by, granted_to, granted_by}
 use Rattle.sng_history.specs.Whole.{replied, dropped_with}
 use Rattle.sng_history.specs.Whole.{handed_frames, repeated_frames, frames_of, spell, pong_by, answer_to}
@@ -131,6 +132,8 @@ denied_reach ToLeave to rule = tt
 denied_reach (ToSleep duration) to rule = tt
 denied_reach (ToRegister r) to rule = refusal_reach to (frame.Register r) (code_of rule)
 denied_reach (ToPublish p) to rule = refusal_reach to (frame.Publish p) (code_of rule)
+denied_reach (ToPublishOnce p) to rule = refusal_reach to (frame.Publish p) (code_of rule)
+denied_reach (ToRelease n) to rule = tt
 denied_reach (ToSubscribe r) to rule = refusal_reach to (frame.Subscribe r) (code_of rule)
 denied_reach (ToUnsubscribe r) to rule = refusal_reach to (frame.Unsubscribe r) (code_of rule)
 denied_reach (ToConfirm r) to rule = tt
@@ -145,6 +148,12 @@ puback_reach to p qos.AtMostOnce = tt
 puback_reach to p qos.ExactlyOnce = tt
 puback_reach to p qos.WithoutSession = tt
 
+pubrec_reach : (to : Address) (n : ℕ) → Reaches false (pubrec to n ∷ [])
+pubrec_reach to n = calm to (frame.PublishReceived n) refl
+
+pubcomp_reach : (to : Address) (n : ℕ) → Reaches false (pubcomp to n ∷ [])
+pubcomp_reach to n = calm to (frame.PublishComplete n) refl
+
 statement_reach : (statement : Statement) (to : Address) → Reaches false (statement_answer statement to ∷ [])
 statement_reach (StatesTopic None) to = connack_reach to ACCEPTED
 statement_reach (StatesTopic (Some topic)) to = calm to frame.WillMessageRequest refl
@@ -157,6 +166,8 @@ granted_reach : (request : Request) (x : Client) (name : Option (List ℕ))
 granted_reach (ToRegister r) x (Some name) = (λ carries. carries, tt)
 granted_reach (ToRegister r) x None = tt
 granted_reach (ToPublish p) x name = puback_reach x.address p p.flags.qos
+granted_reach (ToPublishOnce p) x name = pubrec_reach x.address p.msg_id
+granted_reach (ToRelease n) x name = tt
 granted_reach (ToSubscribe r) x (Some text) = (λ carries. carries, tt)
 granted_reach (ToSubscribe r) x None = tt
 granted_reach (ToUnsubscribe r) x name = calm x.address (frame.UnsubscribeAck r.msg_id) refl
@@ -271,6 +282,10 @@ answer_to_reach (ToSleep duration) x =
 answer_to_reach ToLeave x = tt
 answer_to_reach (ToRegister r) x = tt
 answer_to_reach (ToPublish p) x = tt
+answer_to_reach (ToPublishOnce p) x =
+    reach_if (is_repeat p x) (pubrec x.address p.msg_id ∷ []) [] (pubrec_reach x.address p.msg_id) tt
+answer_to_reach (ToRelease n) x =
+    reach_if (is_active x.phase) (pubcomp x.address n ∷ []) [] (pubcomp_reach x.address n) tt
 answer_to_reach (ToSubscribe r) x = tt
 answer_to_reach (ToUnsubscribe r) x = tt
 answer_to_reach (ToConfirm r) x = tt

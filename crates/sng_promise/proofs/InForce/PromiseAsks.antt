@@ -28,16 +28,16 @@ use Rattle.sng_history.specs.Packets.{has_place}
 use Rattle.sng_history.specs.Requests.{gets_id, id_in}
 use Rattle.sng_history.specs.State.{State, qos_of}
 use Rattle.sng_history.specs.Verdicts.{and_then, octets_of, predefined_name, told_name, normal_name, name_in}
-use Rattle.sng_history.specs.Verdicts.{named_ask, source_ask}
+use Rattle.sng_history.specs.Verdicts.{named_ask, source_ask, once_room, publish_once_ask, publish_once_by}
 use Rattle.sng_history.specs.Verdicts.{is_active, in_turn, client_scope, may_ask, name_given, room, id_room}
 use Rattle.sng_history.specs.Verdicts.{register_named, register_by, register_ask, publish_named, publish_by}
-use Rattle.sng_history.specs.Verdicts.{publish_ask}
+use Rattle.sng_history.specs.Verdicts.{publish_ask, publish_once_named}
 use Rattle.sng_history.specs.Verdicts.{as_filter, predefined_filter, filter_in, coverage, subscribe_named}
 use Rattle.sng_history.specs.Verdicts.{subscribe_by, subscribe_ask}
 use Rattle.sng_history.specs.Verdicts.{unsubscribe_named, unsubscribe_by, unsubscribe_ask}
 use Rattle.sng_laws.specs.LawsPromise.{is_of_form, IsUnread, Stands}
 use Rattle.sng_promise.proofs.WantedFilters.HeldFilters.{named_filter}
-use Rattle.sng_promise.proofs.InForce.PromiseRules.{asked_so, publish_room, register_room}
+use Rattle.sng_promise.proofs.InForce.PromiseRules.{asked_so, publish_room, register_room, publish_once_room}
 use Rattle.sng_promise.proofs.InForce.PromiseCovers.{covers, covers_first}
 
 -- ---- reading
@@ -157,6 +157,25 @@ judged_publish s x p (Denied rule) first = first
 
 pub publish_stands : (s : State) (x : Client) (p : Publish) → Stands s.policy (publish_ask s x p)
 publish_stands s x p = judged_publish s x p (may_ask s.policy x) (may_first s.policy x)
+
+-- ---- a PUBLISH at QoS 2
+
+read_once : (s : State) (x : Client) (p : Publish) (named : Result (List ℕ) Denial) → IsForm named
+    → Stands s.policy (publish_once_named s x p named)
+read_once s x p (Ok name) form =
+    asked_so s.policy (origin.Client x.id) name (once_room s x p) (publish_once_room s x p)
+read_once s x p (Err rule) form = inl form
+
+judged_once : (s : State) (x : Client) (p : Publish) (may : Outcome)
+    → IsFirst s.policy (who.Client x.id) may
+    → Stands s.policy (publish_once_by s x p may)
+judged_once s x p Allowed first =
+    read_once s x p (name_in s.policy (Some x.ids) p.flags.id_type p.topic_id)
+    (name_form s.policy (Some x.ids) p.flags.id_type p.topic_id)
+judged_once s x p (Denied rule) first = first
+
+pub publish_once_stands : (s : State) (x : Client) (p : Publish) → Stands s.policy (publish_once_ask s x p)
+publish_once_stands s x p = judged_once s x p (may_ask s.policy x) (may_first s.policy x)
 
 -- ---- a PUBLISH without a session
 

@@ -1,6 +1,6 @@
 -- Each note that a cause fixes of a client stands under the policy in force.
 use Rattle.std.proofs.Common.{◌≡◌, inl, ℕ, Bool, true, false, List, [], ◌∷◌, ◌++◌, refl, if◌then◌else◌}
-use Rattle.std.specs.Prelude.{Option, Some, None}
+use Rattle.std.specs.Prelude.{Option, Some, None, not}
 use Rattle.std.specs.Str.{bytes_eq}
 use Rattle.sng_states.specs.States.{is_due_messages}
 use Rattle.sng_grants.specs.declared.policy.Policy.{Policy}
@@ -25,6 +25,7 @@ use Rattle.sng_history.specs.Causes.{ToAcknowledge, ToState, Untaken}
 use Rattle.sng_history.specs.Causes.{Cause, ByConnect, ByMessage, BySource, ByBroken, ByPacket, ByUp, ByDown}
 use Rattle.sng_history.specs.Causes.{ByTake, ByReplace, ByTick}
 use Rattle.sng_history.specs.Causes.{Statement, StatesTopic, StatesMessage, UpdatesTopic, UpdatesMessage}
+use Rattle.sng_history.specs.Causes.{ToPublishOnce, ToRelease}
 use Rattle.sng_history.specs.Clients.{Client, is_here, let_in, closed, is_confirming, is_acknowledging}
 use Rattle.sng_history.specs.Clients.{is_waking, awake, message_due}
 use Rattle.sng_history.specs.Clients.{stated}
@@ -32,7 +33,7 @@ use Rattle.sng_history.specs.Standing.{holds}
 use Rattle.sng_history.specs.State.{State, policy_by, later}
 use Rattle.sng_history.specs.Packets.{answer_of, refused_filter}
 use Rattle.sng_history.specs.Links.{Link}
-use Rattle.sng_history.specs.Verdicts.{entry, is_active, names_other}
+use Rattle.sng_history.specs.Verdicts.{entry, is_active, names_other, is_repeat, publish_once_ask}
 use Rattle.sng_history.specs.Verdicts.{ping_verdict, coverage}
 use Rattle.sng_history.specs.Answers.{denied_note}
 use Rattle.sng_history.specs.Ticking.{will_of, testaments, all_placed, is_lost_at}
@@ -47,7 +48,7 @@ use Rattle.sng_laws.specs.LawsPromise.{is_of_form, Stands}
 use Rattle.sng_history.proofs.Hands.{Every, every_append, every_if}
 use Rattle.sng_promise.proofs.WantedFilters.HeldFilters.{AreFilters, OwnFilters}
 use Rattle.sng_promise.proofs.InForce.PromiseAsks.{register_stands, publish_stands, subscribe_stands}
-use Rattle.sng_promise.proofs.InForce.PromiseAsks.{unsubscribe_stands}
+use Rattle.sng_promise.proofs.InForce.PromiseAsks.{unsubscribe_stands, publish_once_stands}
 use Rattle.sng_promise.proofs.InForce.PromiseCovers.{Ends, ends}
 use Rattle.sng_promise.proofs.InForce.PromiseWills.{statement_stands, every_will}
 use Rattle.sng_promise.proofs.InForce.PromiseConnects.{connect_stands}
@@ -126,6 +127,11 @@ every_request s (ToSleep duration) x =
 every_request s ToLeave x = (tt, every_gone s.policy x.id x.buffer.waiting)
 every_request s (ToRegister r) x = (register_stands s.policy x r.name, tt)
 every_request s (ToPublish p) x = (publish_stands s x p, tt)
+every_request s (ToPublishOnce p) x =
+    every_if (Stands s.policy) (not (is_repeat p x)) (publish_once_ask s x p ∷ [])
+    (publish_once_stands s x p, tt)
+every_request s (ToRelease n) x =
+    every_either s.policy (is_active x.phase) [] (out_of_turn x.id) tt (every_turn s.policy x.id)
 every_request s (ToSubscribe r) x = (subscribe_stands s x r, tt)
 every_request s (ToUnsubscribe r) x = (unsubscribe_stands s.policy x r, tt)
 every_request s (ToConfirm r) x =

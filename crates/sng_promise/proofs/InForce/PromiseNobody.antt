@@ -24,6 +24,7 @@ use Rattle.sng_history.specs.Causes.{ToUnsubscribe, ToConfirm}
 use Rattle.sng_history.specs.Causes.{ToAcknowledge, ToState, Untaken}
 use Rattle.sng_history.specs.Causes.{Cause, ByConnect, ByMessage, BySource, ByBroken, ByPacket, ByUp, ByDown}
 use Rattle.sng_history.specs.Causes.{ByTake, ByReplace, ByTick}
+use Rattle.sng_history.specs.Causes.{ToPublishOnce, ToRelease}
 use Rattle.sng_history.specs.Links.{Link, wants, packet_id_by, exited, resumed, filters_wanted}
 use Rattle.sng_history.specs.Links.{next_packet_id, subscribe_sent}
 use Rattle.sng_history.specs.Links.{subscribe_left, unsubscribe_left}
@@ -142,6 +143,8 @@ each_stranger policy from (ToSleep duration) = ((refl, refl), tt)
 each_stranger policy from ToLeave = ((refl, refl), tt)
 each_stranger policy from (ToRegister r) = (inl refl, tt)
 each_stranger policy from (ToPublish p) = (inl refl, tt)
+each_stranger policy from (ToPublishOnce p) = (inl refl, tt)
+each_stranger policy from (ToRelease n) = ((refl, refl), tt)
 each_stranger policy from (ToSubscribe r) = (inl refl, tt)
 each_stranger policy from (ToUnsubscribe r) = (refl, tt)
 each_stranger policy from (ToConfirm r) = ((refl, refl), tt)

@@ -23,7 +23,7 @@ framed_type : (kind : ℕ) (part : List ℕ) (long : Bool)
 framed_type kind part true = refl
 framed_type kind part false = rw (not_one (length part)) refl
 
-type_written : (kind : ℕ) (part : List ℕ) → type_octet (framed kind part) ≡ Some kind
+pub type_written : (kind : ℕ) (part : List ℕ) → type_octet (framed kind part) ≡ Some kind
 type_written kind part = framed_type kind part (nat_lt MAX_SHORT_LENGTH (length part + 2))
 
 -- a message carries a topic by the octet of its type

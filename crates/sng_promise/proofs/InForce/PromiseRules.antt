@@ -2,9 +2,11 @@
 use Rattle.std.proofs.Common.{◌≡◌, ℕ, Bool, true, false, List, [], ◌∷◌, refl, sym, subst, if◌then◌else◌}
 use Rattle.std.specs.Prelude.{not, is_some}
 use Rattle.sng_text.specs.declared.qos.Qos.{Qos}
+use Rattle.sng_text.specs.declared.qos.Qos.TheVariants.{AtLeastOnce}
 use Rattle.sng_grants.specs.Sources.{scope_of}
 use Rattle.sng_grants.specs.declared.policy.Policy.{Policy}
 use Rattle.sng_ids.specs.Ids.{Ids, is_full_for}
+use Rattle.sng_states.specs.OpenIds as ids_open
 use Rattle.sng_outbox.specs.declared.origin.Origin.{Origin}
 use Rattle.sng_outbox.specs.declared.origin.Origin.TheVariants as origin
 use Rattle.sng_book.specs.declared.outcome.Place.TheVariants as place
@@ -18,10 +20,12 @@ use Rattle.sng_history.specs.Links.{Link}
 use Rattle.sng_history.specs.Packets.{has_place}
 use Rattle.sng_history.specs.Room.{has_flight, room_in}
 use Rattle.sng_history.specs.State.{State}
-use Rattle.sng_history.specs.Verdicts.{exit, and_then, id_room, room}
+use Rattle.sng_history.specs.Verdicts.{exit, and_then, id_room, room, once_room, once_room_in}
+use Rattle.sng_history.specs.Clients.{Client}
 use Rattle.sng_laws.specs.LawsRules.{judged, may_publish, publish_rules}
 use Rattle.sng_laws.specs.LawsPromise.{is_of_room, IsSaid}
 use Rattle.sng_promise.proofs.Answers.LawRules.{exit_ruled}
+use Rattle.sng_frames.specs.declared.messages.publish.Publish.{Publish}
 
 -- ---- whose rules deny
 
@@ -68,6 +72,18 @@ link_room link q =
 
 pub publish_room : (s : State) (q : Qos) → IsRoom (room s q)
 publish_room s q = room_if s.up (room_in s.link q) (Room UpstreamDown) (link_room s.link q) refl
+
+full_room : (full : Bool) (o : Outcome) → IsRoom o
+    → IsRoom (if full then Denied (Room (Full place.Exchanges)) else o)
+full_room true o room = refl
+full_room false o room = room
+
+-- and for a publish at QoS 2
+pub publish_once_room : (s : State) (x : Client) (p : Publish) → IsRoom (once_room s x p)
+publish_once_room s x p =
+    room_if s.up (once_room_in s x p) (Room UpstreamDown)
+    (full_room (ids_open.is_full_for p.msg_id x.unreleased) (room_in s.link AtLeastOnce)
+    (link_room s.link AtLeastOnce)) refl
 
 ids_room : (b : Bool) → IsRoom (if b then Denied (Room (Full place.Ids)) else Allowed)
 ids_room true = refl

@@ -1,7 +1,7 @@
 -- What is kept of a client's will after a message is what the rows show of it.
 use Rattle.std.proofs.Common.{◌≡◌, ℕ, Bool, true, false, List, [], ◌∷◌, refl, ◌∙◌, subst}
 use Rattle.std.proofs.Common.{if◌then◌else◌}
-use Rattle.std.specs.Prelude.{Option, Some, None}
+use Rattle.std.specs.Prelude.{Option, Some, None, not}
 use Rattle.sng_frames.specs.declared.messages.connect.Connect.{Connect}
 use Rattle.sng_frames.specs.declared.frame.SnFrame.{SnFrame}
 use Rattle.sng_frames.specs.declared.frame.SnFrame.TheVariants as frame
@@ -25,6 +25,7 @@ use Rattle.sng_history.specs.Causes.{Request, ToPing, ToLeave, ToRegister, ToPub
 use Rattle.sng_history.specs.Causes.{ToUnsubscribe, ToConfirm, ToAcknowledge}
 use Rattle.sng_history.specs.Causes.{ToState, Untaken}
 use Rattle.sng_history.specs.Causes.{ByConnect, ByMessage}
+use Rattle.sng_history.specs.Causes.{ToPublishOnce, ToRelease}
 use Rattle.sng_history.specs.Clients.{Around, Client, is_confirming, is_acknowledging}
 use Rattle.sng_history.specs.Clients.{closed, let_in}
 use Rattle.sng_history.specs.Clients.{stated, note_by, notes_by}
@@ -32,7 +33,7 @@ use Rattle.sng_history.specs.Answers.{denied_note}
 use Rattle.sng_history.specs.Outgoing.{out_of_turn, all_gone, handed_over}
 use Rattle.sng_history.specs.Standing.{holds}
 use Rattle.sng_history.specs.State.{State, around}
-use Rattle.sng_history.specs.Verdicts.{ping_verdict, coverage}
+use Rattle.sng_history.specs.Verdicts.{ping_verdict, coverage, is_active, is_repeat, publish_once_ask}
 use Rattle.sng_history.specs.WillAsks.{turn, statement_turn, statement_verdict, statement_object}
 use Rattle.sng_history.specs.WillAsks.{dialogue_goes_on, statement_notes}
 use Rattle.sng_history.specs.WillAsks.{statement_ask, statement_read, topic_at, topic_read, topic_granted}
@@ -42,14 +43,14 @@ use Rattle.sng_history.specs.Lawful.{woken_notes}
 use Rattle.sng_laws.specs.ViewsMessages.{Message as Spoken, statement_in}
 use Rattle.sng_laws.specs.ViewsWills.{Stating, stating_by}
 use Rattle.sng_history.proofs.Own.{same_self}
-use Rattle.sng_history.proofs.Asks.{of_register, of_publish, of_subscribe, of_unsubscribe}
+use Rattle.sng_history.proofs.Asks.{of_register, of_publish, of_subscribe, of_unsubscribe, of_publish_once}
 use Rattle.sng_history.proofs.Hands.{Every, every_append, every_if, every_handed, every_gone}
 use Rattle.sng_history.proofs.Hands.{every_confirmation}
 use Rattle.sng_history.proofs.Hands.{every_woken}
 use Rattle.sng_promise.proofs.Handing.SeenHandingNotes.{Fits}
 use Rattle.sng_history.proofs.Kept.{let_in_id}
 use Rattle.sng_promise.proofs.LastWills.SeenWillsKept.{stating_notes, WilledAt, Keeps, keeps_all}
-use Rattle.sng_promise.proofs.LastWills.SeenWillsKept.{keeps_subscribe, keeps_unsubscribe}
+use Rattle.sng_promise.proofs.LastWills.SeenWillsKept.{keeps_subscribe, keeps_unsubscribe, keeps_publish}
 use Rattle.sng_promise.proofs.LastWills.SeenWillsKept.{keeps_end, keeps_register, keeps_messages}
 use Rattle.sng_promise.proofs.LastWills.SeenWillsKept.{keeps_denied, keeps_left, keeps_connect}
 use Rattle.sng_promise.proofs.LastWills.SeenWills.{stated_willed}
@@ -167,6 +168,7 @@ keeps_still : (a : Around) (m : Option Spoken) (id : List ℕ) (message : SnFram
     → Keeps a m id (denied_note message whom rule)
 keeps_still a m id (frame.Connect connect) whom rule = λ x now willed. willed
 keeps_still a m id (frame.Register r) whom rule = keeps_register a m id whom None (Denied rule)
+keeps_still a m id (frame.Publish p) whom rule = keeps_publish a m id whom None (Denied rule)
 keeps_still a m id (frame.Subscribe r) whom rule = keeps_subscribe a m id whom None (Denied rule)
 keeps_still a m id (frame.Unsubscribe r) whom rule = keeps_unsubscribe a m id whom None (Denied rule)
 keeps_still a m id (frame.WillTopic topic) whom rule = keeps_denied a m id whom None rule
@@ -206,7 +208,14 @@ keeps_to s a m (ToRegister r) x none = (
       (λ name o. keeps_register a m x.id (who.Client x.id) name o),
   tt,
 )
-keeps_to s a m (ToPublish p) x none = (of_publish (Keeps a m x.id) s x p (λ name o y now willed. willed), tt)
+keeps_to s a m (ToPublish p) x none =
+    (of_publish (Keeps a m x.id) s x p (λ name o. keeps_publish a m x.id (who.Client x.id) name o), tt)
+keeps_to s a m (ToPublishOnce p) x none =
+    every_if (Keeps a m x.id) (not (is_repeat p x)) (publish_once_ask s x p ∷ []) (
+      of_publish_once (Keeps a m x.id) s x p (λ name o. keeps_publish a m x.id (who.Client x.id) name o),
+      tt,
+    )
+keeps_to s a m (ToRelease n) x none = keeps_asleep a m x.id (is_active x.phase)
 keeps_to s a m (ToSubscribe r) x none =
     (of_subscribe (Keeps a m x.id) s x r (λ text o. keeps_subscribe a m x.id (who.Client x.id) text o), tt)
 keeps_to s a m (ToUnsubscribe r) x none = (

@@ -26,7 +26,7 @@ use Rattle.sng_book.specs.declared.out.Out.{Out}
 use Rattle.sng_book.specs.declared.out.Out.TheVariants.{Send, Wire, Note}
 use Rattle.sng_history.specs.Causes.{Statement}
 use Rattle.sng_history.specs.Causes.{ByConnect}
-use Rattle.sng_history.specs.Clients.{Around, Client, cleaned, opened}
+use Rattle.sng_history.specs.Clients.{Around, Client, cleaned, opened, id_opened_of, received}
 use Rattle.sng_history.specs.Clients.{stated, stated_by, subscribed, unsubscribed, subscribe_of}
 use Rattle.sng_history.specs.Clients.{statement_of, without}
 use Rattle.sng_history.specs.Clients.{note_by, notes_by}
@@ -38,7 +38,7 @@ use Rattle.sng_laws.specs.ViewsWills.{stating_after}
 use Rattle.sng_laws.specs.ViewsWills.{will_with, stage_shown}
 use Rattle.sng_history.proofs.Own.{same_self}
 use Rattle.sng_history.proofs.Hands.{Every, OfMessages}
-use Rattle.sng_history.proofs.Steady.{Steady, announced_steady, handed_steady, Lasting}
+use Rattle.sng_history.proofs.Steady.{Steady, announced_steady, handed_steady, Lasting, received_steady}
 use Rattle.sng_promise.proofs.Handing.SeenHandingNotes.{Fits}
 use Rattle.sng_states.specs.States.{in_dialogue}
 
@@ -185,6 +185,13 @@ pub keeps_register : (a : Around) (m : Option Spoken) (id : List ℕ) (whom : Wh
     → Keeps a m id (note.Register whom name o)
 keeps_register a m id whom name o x now willed =
     record { will = willed.will; stage = willed.stage; empty = willed.empty }
+
+pub keeps_publish : (a : Around) (m : Option Spoken) (id : List ℕ) (whom : Who) (name : Option (List ℕ))
+    (o : Outcome)
+    → Keeps a m id (note.Publish whom name o)
+keeps_publish a m id whom name o x now willed =
+    let number = id_opened_of a.cause in
+    willed_steady x (received number o x) now (received_steady number o x) willed
 
 pub keeps_messages : (a : Around) (m : Option Spoken) (id client : List ℕ) → OfMessages (Keeps a m id) client
 keeps_messages a m id client = record {

@@ -26,7 +26,7 @@ use Rattle.sng_history.specs.Exits.{exits_of, forwarded}
 use Rattle.sng_history.specs.Exits.{subscribe_leaves}
 use Rattle.sng_history.specs.Exits.{unsubscribe_leaves, leaving}
 use Rattle.sng_laws.specs.ViewsMessages.{Message, Connects, Registers, Publishes, Subscribes, Unsubscribes}
-use Rattle.sng_laws.specs.ViewsMessages.{Confirms, Acknowledges}
+use Rattle.sng_laws.specs.ViewsMessages.{Confirms, Acknowledges, Releases}
 use Rattle.sng_laws.specs.ViewsMessages.{Other, message_at, States, Pings, Sleeps}
 use Rattle.sng_laws.specs.ViewsStanding.{begun_by}
 use Rattle.sng_laws.specs.ViewsLink.{Departure, allowed_by, publish_in, allowed_of, asks_for, asked_with}
@@ -133,6 +133,7 @@ for_message (Some (Unsubscribes r)) outs = in_notes None outs
 for_message (Some (Confirms r)) outs = in_notes None outs
 for_message (Some (Acknowledges r)) outs = in_notes None outs
 for_message (Some (States statement)) outs = in_notes None outs
+for_message (Some (Releases number)) outs = in_notes None outs
 for_message (Some (Pings client)) outs = in_notes None outs
 for_message (Some (Sleeps duration)) outs = in_notes None outs
 for_message (Some Other) outs = in_notes None outs

@@ -31,6 +31,7 @@ use Rattle.sng_history.specs.Causes.{ToUnsubscribe, ToConfirm, ToAcknowledge, To
 use Rattle.sng_history.specs.Causes.{datagram_cause, publish_cause, rule_of, ToSleep}
 use Rattle.sng_history.specs.Causes.{ByConnect, ByMessage, ByBroken, ByPacket, ByReplace, ByTick}
 use Rattle.sng_history.specs.Causes.{StatesTopic, StatesMessage, UpdatesTopic, UpdatesMessage}
+use Rattle.sng_history.specs.Causes.{ToPublishOnce, ToRelease}
 use Rattle.sng_history.specs.Clients.{Around, Client, same_address, let_in}
 use Rattle.sng_history.specs.State.{State, around, later}
 use Rattle.sng_history.specs.Ticking.{is_ping_due, with_wills, ping_dropped}
@@ -66,6 +67,8 @@ stranger_wires from (ToPing client) = refl
 stranger_wires from ToLeave = refl
 stranger_wires from (ToRegister r) = refl
 stranger_wires from (ToPublish p) = refl
+stranger_wires from (ToPublishOnce p) = refl
+stranger_wires from (ToRelease n) = refl
 stranger_wires from (ToSubscribe r) = refl
 stranger_wires from (ToUnsubscribe r) = refl
 stranger_wires from (ToConfirm r) = refl
@@ -160,7 +163,7 @@ publish_still : (s : State) (from : Address) (p : Publish) (q : FrameQos) → St
 publish_still s from p qos.WithoutSession = record { exits = refl; wires = refl }
 publish_still s from p qos.AtMostOnce = message_still s from (ToPublish p)
 publish_still s from p qos.AtLeastOnce = message_still s from (ToPublish p)
-publish_still s from p qos.ExactlyOnce = message_still s from (Untaken (frame.Publish p))
+publish_still s from p qos.ExactlyOnce = message_still s from (ToPublishOnce p)
 
 disconnect_still : (s : State) (from : Address) (duration : Option ℕ)
     → Still s (datagram_cause from (Ok (frame.Disconnect duration)))
@@ -182,6 +185,7 @@ datagram_still s from (Ok (frame.Unsubscribe r)) = message_still s from (ToUnsub
 datagram_still s from (Ok (frame.PingRequest client)) = message_still s from (ToPing client)
 datagram_still s from (Ok (frame.RegisterAck r)) = message_still s from (ToConfirm r)
 datagram_still s from (Ok (frame.PublishAck r)) = message_still s from (ToAcknowledge r)
+datagram_still s from (Ok (frame.PublishRelease n)) = message_still s from (ToRelease n)
 datagram_still s from (Ok (frame.WillTopic topic)) = message_still s from (ToState (StatesTopic topic))
 datagram_still s from (Ok (frame.WillMessage message)) =
     message_still s from (ToState (StatesMessage message))

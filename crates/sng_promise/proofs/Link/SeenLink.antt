@@ -26,6 +26,7 @@ use Rattle.sng_history.specs.Causes.{Untaken, Cause, ByMessage, publish_asked, d
 use Rattle.sng_history.specs.Causes.{cause_of, ToState}
 use Rattle.sng_history.specs.Causes.{StatesTopic, StatesMessage, UpdatesTopic, UpdatesMessage, ByTick}
 use Rattle.sng_history.specs.Causes.{ToSleep}
+use Rattle.sng_history.specs.Causes.{ToPublishOnce, ToRelease}
 use Rattle.sng_history.specs.Clients.{Client}
 use Rattle.sng_history.specs.Notes.{notes_of}
 use Rattle.sng_history.specs.Standing.{released}
@@ -38,7 +39,7 @@ use Rattle.sng_history.specs.Good.{Each, Distinct}
 use Rattle.sng_laws.specs.ViewsMessages.{message_in, is_without_session}
 use Rattle.sng_laws.specs.ViewsClients.{is_spoken, accepted}
 use Rattle.sng_laws.specs.ViewsWills as views
-use Rattle.sng_laws.specs.ViewsLink.{publish_taken, items_by}
+use Rattle.sng_laws.specs.ViewsLink.{items_by}
 use Rattle.sng_laws.specs.ViewsLink.{items_in, items_for}
 use Rattle.sng_laws.specs.ViewsLink.{released_among, added, kept, waiting}
 use Rattle.sng_laws.specs.ViewsLink.{is_outbox_noted, message_id}
@@ -74,7 +75,7 @@ message_waits s from request gone is =
 publish_waits : (s : State) (from : Address) (p : Publish) (q : FrameQos) (gone : List (List ℕ))
     → let c = publish_cause from p q in
     unsubscribes s.link (released s.clients (clients_next s c)) ≡ map item.Unsubscribe gone
-    → Waits s c (items_in (publish_taken q p) (outs_by s c)) (not (is_without_session q)) gone
+    → Waits s c (items_in (Some p) (outs_by s c)) (not (is_without_session q)) gone
 publish_waits s from p qos.WithoutSession gone is =
     let said = source_ask s from.ip p in
     ap (λ items. s.link.waiting ++ items)
@@ -82,7 +83,7 @@ publish_waits s from p qos.WithoutSession gone is =
     ∙ sym (append-nil (items_by (Some p) said ++ []))))
 publish_waits s from p qos.AtMostOnce gone is = message_waits s from (ToPublish p) gone is
 publish_waits s from p qos.AtLeastOnce gone is = message_waits s from (ToPublish p) gone is
-publish_waits s from p qos.ExactlyOnce gone is = message_waits s from (Untaken (frame.Publish p)) gone is
+publish_waits s from p qos.ExactlyOnce gone is = message_waits s from (ToPublishOnce p) gone is
 
 disconnect_waits : (s : State) (from : Address) (duration : Option ℕ) (gone : List (List ℕ))
     → let c = datagram_cause from (Ok (frame.Disconnect duration)) in
@@ -107,6 +108,7 @@ datagram_waits s from (Ok (frame.Unsubscribe r)) gone is = message_waits s from 
 datagram_waits s from (Ok (frame.PingRequest client)) gone is = message_waits s from (ToPing client) gone is
 datagram_waits s from (Ok (frame.RegisterAck r)) gone is = message_waits s from (ToConfirm r) gone is
 datagram_waits s from (Ok (frame.PublishAck r)) gone is = message_waits s from (ToAcknowledge r) gone is
+datagram_waits s from (Ok (frame.PublishRelease n)) gone is = message_waits s from (ToRelease n) gone is
 datagram_waits s from (Ok (frame.WillTopic topic)) gone is =
     message_waits s from (ToState (StatesTopic topic)) gone is
 datagram_waits s from (Ok (frame.WillMessage message)) gone is =

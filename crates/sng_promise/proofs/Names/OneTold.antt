@@ -1,6 +1,6 @@
 -- The notes of a row tell a client at most one name more.
 use Rattle.std.proofs.Common.{◌≡◌, ℕ, Bool, true, false, List, [], ◌∷◌, ◌++◌, refl, sym, subst, if◌then◌else◌}
-use Rattle.std.specs.Prelude.{◌==◌, ◌||◌, Option, Some, None}
+use Rattle.std.specs.Prelude.{◌==◌, ◌||◌, Option, Some, None, not}
 use Rattle.std.specs.Str.{bytes_eq}
 use Rattle.sng_grants.specs.declared.policy.Policy.{Policy}
 use Rattle.sng_fan.specs.declared.held.Held.{Held}
@@ -28,6 +28,7 @@ use Rattle.sng_history.specs.Causes.{ToUnsubscribe, ToConfirm, ToAcknowledge, To
 use Rattle.sng_history.specs.Causes.{Statement, StatesTopic, StatesMessage, UpdatesTopic, UpdatesMessage}
 use Rattle.sng_history.specs.Causes.{ByConnect, ByMessage, BySource, ByBroken, ByPacket, ByUp, ByDown, ByTake}
 use Rattle.sng_history.specs.Causes.{ByReplace, ByTick}
+use Rattle.sng_history.specs.Causes.{ToPublishOnce, ToRelease}
 use Rattle.sng_history.specs.Arriving.{joins, turned_away}
 use Rattle.sng_history.specs.Links.{Link}
 use Rattle.sng_history.specs.Room.{room_in}
@@ -43,7 +44,7 @@ use Rattle.sng_history.specs.Clients.{closed, confirmed_with, message_due, let_i
 use Rattle.sng_history.specs.Notes.{notes_of}
 use Rattle.sng_history.specs.State.{State, later}
 use Rattle.sng_history.specs.Verdicts.{entry, ping_verdict, register_ask, publish_ask, subscribe_ask}
-use Rattle.sng_history.specs.Verdicts.{unsubscribe_ask, coverage}
+use Rattle.sng_history.specs.Verdicts.{unsubscribe_ask, coverage, is_active, is_repeat, publish_once_ask}
 use Rattle.sng_history.specs.Answers.{denied_note}
 use Rattle.sng_history.specs.Packets.{answer_of, refused_filter}
 use Rattle.sng_history.specs.Standing.{holds}
@@ -141,6 +142,11 @@ request_told s (ToSleep duration) x id =
 request_told s ToLeave x id = left_told id x
 request_told s (ToRegister r) x id = one_told id (register_ask s.policy x r.name)
 request_told s (ToPublish p) x id = one_told id (publish_ask s x p)
+request_told s (ToPublishOnce p) x id =
+    told_if id (not (is_repeat p x)) (publish_once_ask s x p ∷ []) (one_told id (publish_once_ask s x p))
+request_told s (ToRelease n) x id =
+    told_either id (is_active x.phase) [] (out_of_turn x.id) (none_told id)
+    (one_told id (note.Frame (who.Client x.id) (Denied (Form OutOfTurn))))
 request_told s (ToSubscribe r) x id = one_told id (subscribe_ask s x r)
 request_told s (ToUnsubscribe r) x id = one_told id (unsubscribe_ask s.policy x r)
 request_told s (ToConfirm r) x id =

@@ -31,6 +31,7 @@ use Rattle.sng_history.specs.Causes.{Request, ToPing, ToLeave, ToSleep, ToRegist
 use Rattle.sng_history.specs.Causes.{ToUnsubscribe, ToConfirm, ToAcknowledge, ToState, Untaken}
 use Rattle.sng_history.specs.Causes.{Cause, ByMessage, ByBroken, ByPacket, ByUp, ByTake, ByReplace, ByTick}
 use Rattle.sng_history.specs.Causes.{rule_of, cause_of, datagram_cause, publish_cause, disconnect_cause}
+use Rattle.sng_history.specs.Causes.{ToPublishOnce, ToRelease}
 use Rattle.sng_history.specs.Packets.{Answer, Delivers, Acknowledges, Grants, Refuses, Confirms, Strange}
 use Rattle.sng_history.specs.Packets.{answer_of, has_place, owed, dropped, answer_outs}
 use Rattle.sng_history.specs.Clients.{same_address}
@@ -75,6 +76,8 @@ stranger_goes from ToLeave = (refl, tt)
 stranger_goes from (ToSleep duration) = (refl, tt)
 stranger_goes from (ToRegister r) = (refl, tt)
 stranger_goes from (ToPublish p) = (refl, tt)
+stranger_goes from (ToPublishOnce p) = (refl, tt)
+stranger_goes from (ToRelease n) = (refl, tt)
 stranger_goes from (ToSubscribe r) = (refl, tt)
 stranger_goes from (ToUnsubscribe r) = (refl, tt)
 stranger_goes from (ToConfirm r) = (refl, tt)
@@ -151,7 +154,7 @@ publish_away id s from p qos.AtMostOnce place off sleep = message_away id s from
 publish_away id s from p qos.AtLeastOnce place off sleep =
     message_away id s from (ToPublish p) place off sleep
 publish_away id s from p qos.ExactlyOnce place off sleep =
-    message_away id s from (Untaken (frame.Publish p)) place off sleep
+    message_away id s from (ToPublishOnce p) place off sleep
 
 leave_away : (id : List ℕ) (s : State) (from : Address) (duration : Option ℕ) (place : Address)
     → same_address from place ≡ false
@@ -195,7 +198,7 @@ read_away id s from (Ok (frame.PublishComplete n)) place off unnamed sleep =
 read_away id s from (Ok (frame.PublishReceived n)) place off unnamed sleep =
     message_away id s from (Untaken (frame.PublishReceived n)) place off sleep
 read_away id s from (Ok (frame.PublishRelease n)) place off unnamed sleep =
-    message_away id s from (Untaken (frame.PublishRelease n)) place off sleep
+    message_away id s from (ToRelease n) place off sleep
 read_away id s from (Ok (frame.Subscribe request)) place off unnamed sleep =
     message_away id s from (ToSubscribe request) place off sleep
 read_away id s from (Ok (frame.SubscribeAck answer)) place off unnamed sleep =

@@ -16,6 +16,7 @@ use Rattle.sng_book.specs.declared.outcome.Outcome.TheVariants.{Allowed, Denied}
 use Rattle.sng_history.specs.Causes.{Request, ToPing, ToLeave, ToSleep, ToRegister, ToPublish, ToSubscribe}
 use Rattle.sng_history.specs.Causes.{ToUnsubscribe, ToConfirm}
 use Rattle.sng_history.specs.Causes.{ToAcknowledge, ToState, Untaken, request_of}
+use Rattle.sng_history.specs.Causes.{ToPublishOnce, ToRelease}
 use Rattle.sng_history.specs.Handing.{Known, known_as, front, handed_outs, announced_again, repeated_outs}
 use Rattle.sng_history.specs.Handing.{publish_flags, msg_id_of}
 use Rattle.sng_history.specs.Handing.{number_after}
@@ -44,7 +45,7 @@ handed_out_none to number (Some m) (Some known) = (
         topic_id = known.id;
         msg_id = msg_id_of m.qos number;
         payload = m.payload;
-      })) refl,
+      })) refl refl,
   tt,
 )
 
@@ -58,7 +59,7 @@ announced_again_none : (to : Address) (sent : Sending) (m : Option Message)
     → NoPong (announced_again to sent m)
 announced_again_none to sent None = tt
 announced_again_none to sent (Some m) = (
-  unlike (frame.Register (record { topic_id = sent.topic_id; msg_id = sent.msg_id; name = m.name })) refl,
+  unlike (frame.Register (record { topic_id = sent.topic_id; msg_id = sent.msg_id; name = m.name })) refl refl,
   tt,
 )
 
@@ -73,7 +74,7 @@ repeated_out_none to b (Some (Acknowledging sent k m)) =
         topic_id = sent.topic_id;
         msg_id = sent.msg_id;
         payload = m.payload;
-      })) refl,
+      })) refl refl,
       tt,
     )
 
@@ -101,7 +102,7 @@ frames_none a dropped x (note.Announce id name) = (
     topic_id = id_for name x.ids;
     msg_id = number_after x.number;
     name = name;
-  })) refl,
+  })) refl refl,
   tt,
 )
 frames_none a dropped x (note.Hand id name outcome) = handed_none a x name outcome
@@ -129,6 +130,8 @@ stranger_none from ToLeave = dismissed_none from
 stranger_none from (ToSleep duration) = dismissed_none from
 stranger_none from (ToRegister r) = dismissed_none from
 stranger_none from (ToPublish p) = dismissed_none from
+stranger_none from (ToPublishOnce p) = dismissed_none from
+stranger_none from (ToRelease n) = dismissed_none from
 stranger_none from (ToSubscribe r) = dismissed_none from
 stranger_none from (ToUnsubscribe r) = dismissed_none from
 stranger_none from (ToConfirm r) = dismissed_none from

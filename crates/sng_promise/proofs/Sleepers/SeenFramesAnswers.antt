@@ -1,5 +1,5 @@
--- No answer to a client but that to a PINGREQ is PINGRESP.
-use Rattle.std.proofs.Common.{◌≡◌, ℕ, Bool, true, false, List, [], ◌∷◌, ◌++◌, refl, if◌then◌else◌, length}
+-- No answer to a client but that to a PINGREQ is PINGRESP, and none but that to a PUBREL is PUBCOMP.
+use Rattle.std.proofs.Common.{◌≡◌, ℕ, Bool, true, false, List, [], ◌∷◌, ◌++◌, refl, ap, ◌∙◌, if◌then◌else◌, length}
 use Rattle.std.specs.Prelude.{Option, Some, None, nat_lt, ◌==◌, ◌+◌}
 use Rattle.std.specs.List.{list_any}
 use Rattle.sng_frames.specs.declared.messages.publish.Publish.{Publish}
@@ -20,16 +20,18 @@ use Rattle.sng_history.specs.Causes.{Statement, StatesTopic, StatesMessage, Upda
 use Rattle.sng_history.specs.Causes.{Request, ToPing, ToLeave, ToSleep, ToRegister, ToPublish, ToSubscribe}
 use Rattle.sng_history.specs.Causes.{ToUnsubscribe, ToConfirm}
 use Rattle.sng_history.specs.Causes.{ToAcknowledge, ToState, Untaken, Cause, request_of}
+use Rattle.sng_history.specs.Causes.{ToPublishOnce, ToRelease}
 use Rattle.sng_history.specs.Clients.{Client, same_address}
 use Rattle.sng_history.specs.Standing.{Release, is_release, drop_notes}
 use Rattle.sng_history.specs.Answers.{refusal, code_of, sent_to, puback, dismissed, statement_answer}
-use Rattle.sng_history.specs.Answers.{dialogue_ended, statement_refused}
+use Rattle.sng_history.specs.Answers.{dialogue_ended, statement_refused, pubrec}
 use Rattle.sng_history.specs.Answers.{no_flags, connack, flags_of, id_given}
 use Rattle.sng_history.specs.Whole.{takes_leave, farewell, denied_to, denied_by, granted_to, granted_by}
 use Rattle.sng_history.specs.Whole.{replied, dropped_with}
 use Rattle.sng_history.specs.Whole.{part}
 use Rattle.sng_laws.specs.ViewsClients.{is_ponged}
 use Rattle.sng_laws.specs.ViewsLink.{sends_in}
+use Rattle.sng_laws.specs.LawsReached.{type_octet, is_type}
 use Rattle.sng_frames.specs.Writing.{written, number_then, part_of}
 use Rattle.sng_frames.specs.declared.return_code.ReturnCode.{ReturnCode}
 use Rattle.sng_frames.specs.declared.return_code.TheConstants.ReturnCode.{ACCEPTED}
@@ -40,6 +42,7 @@ use Rattle.sng_frames.specs.MessageTypes.{octet_of}
 use Rattle.sng_frames.specs.declared.limits.TheConstants.{MAX_SHORT_LENGTH}
 use Rattle.sng_history.specs.Requests.{granted}
 use Rattle.sng_history.proofs.Booleans.{and_no}
+use Rattle.sng_promise.proofs.InForce.PromiseRefuses.{type_written}
 
 -- ---- a frame is read by its type
 
@@ -49,14 +52,18 @@ framed_by : (kind : ℕ) (part : List ℕ) (long : Bool) → (kind == 23) ≡ fa
 framed_by kind part true other = refl
 framed_by kind part false other = rw other (and_no (length part + 2 == 2))
 
--- these bytes are no PINGRESP
+-- these bytes are no PINGRESP, and no PUBCOMP
 abbrev pub Unlike : List ℕ → Type 0
-Unlike datagram = bytes_eq datagram (written frame.PingResponse) ≡ false
+Unlike datagram =
+    (bytes_eq datagram (written frame.PingResponse) ≡ false) × (is_type 14 (type_octet datagram) ≡ false)
 
-pub unlike : (message : SnFrame) → (octet_of (type_of message) == 23) ≡ false → Unlike (written message)
-unlike message other =
-    framed_by (octet_of (type_of message)) (part_of message)
-    (nat_lt MAX_SHORT_LENGTH (length (part_of message) + 2)) other
+pub unlike : (message : SnFrame) → (octet_of (type_of message) == 23) ≡ false
+    → (octet_of (type_of message) == 14) ≡ false → Unlike (written message)
+unlike message other release = (
+  framed_by (octet_of (type_of message)) (part_of message)
+      (nat_lt MAX_SHORT_LENGTH (length (part_of message) + 2)) other,
+  ap (is_type 14) (type_written (octet_of (type_of message)) (part_of message)) ∙ release,
+)
 
 -- ---- outs among which it is not
 
@@ -69,7 +76,7 @@ NoPong (Wire packet ∷ outs) = NoPong outs
 pub none_pongs : (place : Address) (outs : List Out) → NoPong outs → is_ponged (Some place) outs ≡ false
 none_pongs place [] none = refl
 none_pongs place (Send to datagram ∷ outs) none =
-    rw (none.0, and_no (same_address place to)) (none_pongs place outs none.1)
+    rw (none.0.0, and_no (same_address place to)) (none_pongs place outs none.1)
 none_pongs place (Note said ∷ outs) none = none_pongs place outs none
 none_pongs place (Wire packet ∷ outs) none = none_pongs place outs none
 
@@ -92,33 +99,33 @@ none_sends (Wire packet ∷ outs) none = none_sends outs none
 -- ---- answers
 
 pub dismissed_none : (to : Address) → NoPong (dismissed to ∷ [])
-dismissed_none to = (unlike (frame.Disconnect None) refl, tt)
+dismissed_none to = (unlike (frame.Disconnect None) refl refl, tt)
 
 pub farewell_none : (request : Option Request) (to : Address) → NoPong (farewell request to)
 farewell_none None to = tt
 farewell_none (Some request) to = none_if (takes_leave request) (dismissed to ∷ []) (dismissed_none to)
 
 pub connack_none : (to : Address) (code : ReturnCode) → NoPong (connack to code ∷ [])
-connack_none to code = (unlike (frame.ConnectAck code) refl, tt)
+connack_none to code = (unlike (frame.ConnectAck code) refl refl, tt)
 
 refused_none : (to : Address) (message : SnFrame) (code : ReturnCode)
     → NoPong (sent_to to (refusal message code))
 refused_none to (frame.Register r) code =
-    (unlike (frame.RegisterAck (record { topic_id = 0; msg_id = r.msg_id; code = code })) refl, tt)
+    (unlike (frame.RegisterAck (record { topic_id = 0; msg_id = r.msg_id; code = code })) refl refl, tt)
 refused_none to (frame.Publish p) code =
-    (unlike (frame.PublishAck (record { topic_id = p.topic_id; msg_id = p.msg_id; code = code })) refl, tt)
+    (unlike (frame.PublishAck (record { topic_id = p.topic_id; msg_id = p.msg_id; code = code })) refl refl, tt)
 refused_none to (frame.Subscribe r) code = (
   unlike (frame.SubscribeAck (record {
     flags = no_flags;
     topic_id = 0;
     msg_id = r.msg_id;
     code = code;
-  })) refl,
+  })) refl refl,
   tt,
 )
-refused_none to (frame.Unsubscribe r) code = (unlike (frame.UnsubscribeAck r.msg_id) refl, tt)
-refused_none to (frame.WillTopicUpdate topic) code = (unlike (frame.WillTopicResponse code) refl, tt)
-refused_none to (frame.WillMessageUpdate message) code = (unlike (frame.WillMessageResponse code) refl, tt)
+refused_none to (frame.Unsubscribe r) code = (unlike (frame.UnsubscribeAck r.msg_id) refl refl, tt)
+refused_none to (frame.WillTopicUpdate topic) code = (unlike (frame.WillTopicResponse code) refl refl, tt)
+refused_none to (frame.WillMessageUpdate message) code = (unlike (frame.WillMessageResponse code) refl refl, tt)
 refused_none to message code = tt
 
 ping_none : (to : Address) (client : Option (List ℕ)) (rule : Denial)
@@ -145,6 +152,8 @@ denied_to_none ToLeave to rule = tt
 denied_to_none (ToSleep duration) to rule = tt
 denied_to_none (ToRegister r) to rule = refused_none to (frame.Register r) (code_of rule)
 denied_to_none (ToPublish p) to rule = refused_none to (frame.Publish p) (code_of rule)
+denied_to_none (ToPublishOnce p) to rule = refused_none to (frame.Publish p) (code_of rule)
+denied_to_none (ToRelease n) to rule = tt
 denied_to_none (ToSubscribe r) to rule = refused_none to (frame.Subscribe r) (code_of rule)
 denied_to_none (ToUnsubscribe r) to rule = refused_none to (frame.Unsubscribe r) (code_of rule)
 denied_to_none (ToConfirm r) to rule = tt
@@ -158,19 +167,22 @@ denied_none (Some request) to rule = denied_to_none request to rule
 
 puback_none : (to : Address) (p : Publish) (q : FrameQos) → NoPong (puback to p q)
 puback_none to p qos.AtLeastOnce = (
-  unlike (frame.PublishAck (record { topic_id = p.topic_id; msg_id = p.msg_id; code = ACCEPTED })) refl,
+  unlike (frame.PublishAck (record { topic_id = p.topic_id; msg_id = p.msg_id; code = ACCEPTED })) refl refl,
   tt,
 )
 puback_none to p qos.AtMostOnce = tt
 puback_none to p qos.ExactlyOnce = tt
 puback_none to p qos.WithoutSession = tt
 
+pub pubrec_none : (to : Address) (n : ℕ) → NoPong (pubrec to n ∷ [])
+pubrec_none to n = (unlike (frame.PublishReceived n) refl refl, tt)
+
 statement_none : (statement : Statement) (to : Address) → NoPong (statement_answer statement to ∷ [])
 statement_none (StatesTopic None) to = connack_none to ACCEPTED
-statement_none (StatesTopic (Some topic)) to = (unlike frame.WillMessageRequest refl, tt)
+statement_none (StatesTopic (Some topic)) to = (unlike frame.WillMessageRequest refl refl, tt)
 statement_none (StatesMessage message) to = connack_none to ACCEPTED
-statement_none (UpdatesTopic topic) to = (unlike (frame.WillTopicResponse ACCEPTED) refl, tt)
-statement_none (UpdatesMessage message) to = (unlike (frame.WillMessageResponse ACCEPTED) refl, tt)
+statement_none (UpdatesTopic topic) to = (unlike (frame.WillTopicResponse ACCEPTED) refl refl, tt)
+statement_none (UpdatesMessage message) to = (unlike (frame.WillMessageResponse ACCEPTED) refl refl, tt)
 
 granted_to_none : (request : Request) (x : Client) (name : Option (List ℕ))
     → NoPong (granted_to request x name)
@@ -182,11 +194,13 @@ granted_to_none (ToRegister r) x (Some name) = (
     topic_id = id_for name x.ids;
     msg_id = r.msg_id;
     code = ACCEPTED;
-  })) refl,
+  })) refl refl,
   tt,
 )
 granted_to_none (ToRegister r) x None = tt
 granted_to_none (ToPublish p) x name = puback_none x.address p p.flags.qos
+granted_to_none (ToPublishOnce p) x name = pubrec_none x.address p.msg_id
+granted_to_none (ToRelease n) x name = tt
 granted_to_none (ToSubscribe r) x (Some filter) =
     let topic_id = id_given r.flags.id_type r.topic x.ids filter in (
       unlike
@@ -196,11 +210,11 @@ granted_to_none (ToSubscribe r) x (Some filter) =
             topic_id = topic_id;
             msg_id = r.msg_id;
             code = ACCEPTED;
-          })) refl,
+          })) refl refl,
       tt,
     )
 granted_to_none (ToSubscribe r) x None = tt
-granted_to_none (ToUnsubscribe r) x filter = (unlike (frame.UnsubscribeAck r.msg_id) refl, tt)
+granted_to_none (ToUnsubscribe r) x filter = (unlike (frame.UnsubscribeAck r.msg_id) refl refl, tt)
 granted_to_none (ToConfirm r) x name = tt
 granted_to_none (ToAcknowledge r) x name = tt
 granted_to_none (ToState statement) x name = statement_none statement x.address

@@ -62,12 +62,12 @@ use Rattle.sng_promise.proofs.Sleepers.SeenPongsMessages.{message_author, idle_r
 
 -- ---- a CONNECT
 
-welcome_none : (connect : Connect) (from : Address) → NoPong (welcome connect from ∷ [])
+pub welcome_none : (connect : Connect) (from : Address) → NoPong (welcome connect from ∷ [])
 welcome_none connect from = by_will connect.flags.will
   where
     by_will : (will : Bool) → NoPong
         ((if will then Send from (written frame.WillTopicRequest) else connack from ACCEPTED) ∷ [])
-    by_will true = (unlike frame.WillTopicRequest refl, tt)
+    by_will true = (unlike frame.WillTopicRequest refl refl, tt)
     by_will false = connack_none from ACCEPTED
 
 around_none : (ack : Out) (clean : Bool) (own : List Out) → NoPong own → NoPong (ack ∷ [])
@@ -81,7 +81,7 @@ flat_none : (P : Client → Type 0) (f : Client → List Out) (xs : List Client)
 flat_none P f [] none all = tt
 flat_none P f (x ∷ xs) none all = both_none (f x) (flat_map f xs) (none x all.0) (flat_none P f xs none all.1)
 
-moved_none : (from : Address) (id : List ℕ) (x : Client) → NoPong (moved from id x)
+pub moved_none : (from : Address) (id : List ℕ) (x : Client) → NoPong (moved from id x)
 moved_none from id x =
     let away = has_session x.phase && not (same_address x.address from) in
     none_if (bytes_eq id x.id) (if away then dismissed x.address ∷ [] else [])
@@ -181,7 +181,7 @@ dropped_none place None = tt
 dropped_none true (Some packet_id) = tt
 dropped_none false (Some packet_id) = tt
 
-packet_none : (s : State) (brought : Answer) → NoPong (answer_outs s.up s.link brought)
+pub packet_none : (s : State) (brought : Answer) → NoPong (answer_outs s.up s.link brought)
 packet_none s (Delivers p) =
     both_none (misnamed p.name) (dropped (has_place s.link) (owed s.up p))
     (misnamed_none p.name (is_name p.name) refl)
@@ -203,20 +203,20 @@ quiet_author s c y none stays = record {
   stays = stays;
 }
 
-take_none : (s : State) (up : Bool) → s.up ≡ up → NoPong (outs_by s ByTake)
+pub take_none : (s : State) (up : Bool) → s.up ≡ up → NoPong (outs_by s ByTake)
 take_none s true is =
     rw is (none_sends (leaving s.link s.link.waiting (exits_of s.policy s.link.waiting))
     (all_unsent s.policy s.link s.link.waiting))
 take_none s false is = rw is tt
 
-up_none : (s : State) → NoPong (outs_by s ByUp)
+pub up_none : (s : State) → NoPong (outs_by s ByUp)
 up_none s =
     let anew = subscribing (resumed s.link s.clock (exits_for s ByUp)) (filters_wanted s.link) in
     none_sends (resending s.link.in_flight (exits_for s ByUp) ++ anew)
     (again_unsent s.policy s.link.in_flight anew
     ∙ wires_kept anew (subscribing_wires (resumed s.link s.clock (exits_for s ByUp)) (filters_wanted s.link)))
 
-ping_dropped_none : (due place : Bool)
+pub ping_dropped_none : (due place : Bool)
     → NoPong (if due then (if place then [] else Note note.Outbox ∷ []) else [])
 ping_dropped_none true true = tt
 ping_dropped_none true false = tt

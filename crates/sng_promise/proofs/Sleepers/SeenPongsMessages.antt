@@ -11,16 +11,17 @@ use Rattle.sng_book.specs.declared.address.Address.{Address}
 use Rattle.sng_book.specs.declared.outcome.Outcome.{Outcome}
 use Rattle.sng_book.specs.declared.outcome.Outcome.TheVariants.{Allowed, Denied}
 use Rattle.sng_book.specs.declared.out.Out.{Out}
-use Rattle.sng_history.specs.Answers.{dismissed}
+use Rattle.sng_history.specs.Answers.{dismissed, pubrec, pubcomp}
 use Rattle.sng_history.specs.Causes.{Cause, Request, ByMessage}
 use Rattle.sng_history.specs.Causes.{ToPing, ToLeave, ToSleep, ToRegister, ToPublish, ToSubscribe}
 use Rattle.sng_history.specs.Causes.{ToUnsubscribe, ToConfirm, ToAcknowledge}
 use Rattle.sng_history.specs.Causes.{ToState, Untaken}
+use Rattle.sng_history.specs.Causes.{ToPublishOnce, ToRelease}
 use Rattle.sng_history.specs.Clients.{Client, same_address, is_from, is_here, is_drained}
 use Rattle.sng_history.specs.Good.{Each, OnePlace, AtRest}
 use Rattle.sng_history.specs.State.{State}
 use Rattle.sng_history.specs.Steps.{notes_for}
-use Rattle.sng_history.specs.Verdicts.{is_active, ping_verdict}
+use Rattle.sng_history.specs.Verdicts.{is_active, ping_verdict, is_repeat}
 use Rattle.sng_laws.specs.ViewsClients.{is_ponged}
 use Rattle.sng_history.specs.Whole.{pong_by, answer_to, any_from, drops, client_rows}
 use Rattle.sng_history.proofs.GoodNext.{message_stays}
@@ -29,9 +30,9 @@ use Rattle.sng_history.proofs.Places.{address_means}
 use Rattle.sng_promise.proofs.Clients.SeenClients.{moved_to}
 use Rattle.sng_promise.proofs.Clients.SeenHeard.{woken_if, ping_phase}
 use Rattle.sng_promise.proofs.Sleepers.SeenFramesAnswers.{NoPong, none_pongs, none_if}
-use Rattle.sng_promise.proofs.Sleepers.SeenFramesAnswers.{dismissed_none}
+use Rattle.sng_promise.proofs.Sleepers.SeenFramesAnswers.{dismissed_none, pubrec_none}
 use Rattle.sng_promise.proofs.Sleepers.SeenSleepers.{Author, Told, author_outs, same_place, rows_told}
-use Rattle.sng_history.proofs.Booleans.{or_neither, left_holds}
+use Rattle.sng_history.proofs.Booleans.{or_neither, left_holds, and_no}
 
 -- ---- what answers a client's own message
 
@@ -94,39 +95,61 @@ ping_author s from client y = record {
 }
 
 -- any other message is not
-none_if_here : (b : Bool) (outs : List Out) (place : Address) → NoPong outs
+none_if_here : (b : Bool) (outs : List Out) (place : Address) → is_ponged (Some place) outs ≡ false
     → is_ponged (Some place) (let all : List Out = if b then outs else [] in all) ≡ false
-none_if_here b outs place none = none_pongs place (if b then outs else []) (none_if b outs none)
+none_if_here true outs place none = none
+none_if_here false outs place none = refl
 
 false_true : (b : Bool) → b ≡ false → b ≡ true → ⊥
 false_true true one two = cc
 false_true false one two = cc
 
-other_author : (s : State) (from : Address) (request : Request) (y : Client) → NoPong (answer_to request y)
-    → Author s (ByMessage from request) y
+-- no out is PINGRESP
+abbrev NotPonged : List Out → Type 0
+NotPonged outs = (place : Address) → is_ponged (Some place) outs ≡ false
+
+other_author : (s : State) (from : Address) (request : Request) (y : Client)
+    → NotPonged (answer_to request y) → Author s (ByMessage from request) y
 other_author s from request y none = record {
   here = λ place pongs. absurd
       (false_true (is_ponged (Some place) (author_outs (ByMessage from request) y))
-      (none_if_here (is_here y from) (answer_to request y) place none) pongs);
-  own = λ wakes place. none_if_here (is_here y from) (answer_to request y) place none;
+      (none_if_here (is_here y from) (answer_to request y) place (none place)) pongs);
+  own = λ wakes place. none_if_here (is_here y from) (answer_to request y) place (none place);
   stays = message_stays s from request y;
 }
+
+unponged : (outs : List Out) → NoPong outs → NotPonged outs
+unponged outs none place = none_pongs place outs none
+
+-- a PUBCOMP is none
+completed : (b : Bool) (to : Address) (n : ℕ)
+    → NotPonged (let outs : List Out = if b then pubcomp to n ∷ [] else [] in outs)
+completed true to n place = rw (and_no (same_address place to)) refl
+completed false to n place = refl
 
 pub message_author : (s : State) (from : Address) (request : Request) (y : Client)
     → Author s (ByMessage from request) y
 message_author s from (ToPing client) y = ping_author s from client y
 message_author s from (ToSleep duration) y =
     other_author s from (ToSleep duration) y
-    (none_if (is_due_messages y.phase) (dismissed y.address ∷ []) (dismissed_none y.address))
-message_author s from ToLeave y = other_author s from ToLeave y tt
-message_author s from (ToRegister r) y = other_author s from (ToRegister r) y tt
-message_author s from (ToPublish p) y = other_author s from (ToPublish p) y tt
-message_author s from (ToSubscribe r) y = other_author s from (ToSubscribe r) y tt
-message_author s from (ToUnsubscribe r) y = other_author s from (ToUnsubscribe r) y tt
-message_author s from (ToConfirm r) y = other_author s from (ToConfirm r) y tt
-message_author s from (ToAcknowledge r) y = other_author s from (ToAcknowledge r) y tt
-message_author s from (ToState statement) y = other_author s from (ToState statement) y tt
-message_author s from (Untaken message) y = other_author s from (Untaken message) y tt
+    (unponged (if is_due_messages y.phase then dismissed y.address ∷ [] else [])
+    (none_if (is_due_messages y.phase) (dismissed y.address ∷ []) (dismissed_none y.address)))
+message_author s from ToLeave y = other_author s from ToLeave y (λ place. refl)
+message_author s from (ToRegister r) y = other_author s from (ToRegister r) y (λ place. refl)
+message_author s from (ToPublish p) y = other_author s from (ToPublish p) y (λ place. refl)
+message_author s from (ToPublishOnce p) y =
+    other_author s from (ToPublishOnce p) y
+    (unponged (if is_repeat p y then pubrec y.address p.msg_id ∷ [] else [])
+    (none_if (is_repeat p y) (pubrec y.address p.msg_id ∷ []) (pubrec_none y.address p.msg_id)))
+message_author s from (ToRelease n) y =
+    other_author s from (ToRelease n) y
+    (completed (is_active y.phase) y.address n)
+message_author s from (ToSubscribe r) y = other_author s from (ToSubscribe r) y (λ place. refl)
+message_author s from (ToUnsubscribe r) y = other_author s from (ToUnsubscribe r) y (λ place. refl)
+message_author s from (ToConfirm r) y = other_author s from (ToConfirm r) y (λ place. refl)
+message_author s from (ToAcknowledge r) y = other_author s from (ToAcknowledge r) y (λ place. refl)
+message_author s from (ToState statement) y = other_author s from (ToState statement) y (λ place. refl)
+message_author s from (Untaken message) y = other_author s from (Untaken message) y (λ place. refl)
 
 -- ---- rows of no client
 

@@ -27,12 +27,13 @@ use Rattle.sng_history.specs.Causes.{Statement, StatesTopic, StatesMessage, Upda
 use Rattle.sng_history.specs.Causes.{Request, ToPing, ToLeave, ToSleep, ToRegister, ToPublish, ToSubscribe}
 use Rattle.sng_history.specs.Causes.{ToUnsubscribe, ToConfirm, ToAcknowledge, ToState, Untaken, Cause}
 use Rattle.sng_history.specs.Causes.{request_of}
+use Rattle.sng_history.specs.Causes.{ToPublishOnce, ToRelease}
 use Rattle.sng_history.specs.Handing.{Known, known_as, front, handed_outs, announced_again, repeated_outs}
 use Rattle.sng_history.specs.Clients.{Around, Client, is_author, start_by, note_by, notes_by, is_drained}
 use Rattle.sng_history.specs.Standing.{Release, is_release, drop_note, drop_notes}
-use Rattle.sng_history.specs.Verdicts.{is_active, ping_verdict}
+use Rattle.sng_history.specs.Verdicts.{is_active, ping_verdict, is_repeat}
 use Rattle.sng_history.specs.Answers.{refusal, code_of, sent_to, puback, dismissed, statement_answer}
-use Rattle.sng_history.specs.Answers.{dialogue_ended, statement_refused, pong}
+use Rattle.sng_history.specs.Answers.{dialogue_ended, statement_refused, pong, pubrec, pubcomp}
 use Rattle.sng_history.specs.Whole.{takes_leave, farewell, denied_to, denied_by, granted_to, granted_by}
 use Rattle.sng_history.specs.Whole.{replied, dropped_with, handed_frames, repeated_frames, frames_of}
 use Rattle.sng_history.specs.Whole.{spell, pong_by, answer_to, answer, drained_outs, part}
@@ -91,6 +92,8 @@ denial_to ToLeave place rule = tt
 denial_to (ToSleep duration) place rule = tt
 denial_to (ToRegister r) place rule = refused_to place (refusal (frame.Register r) (code_of rule))
 denial_to (ToPublish p) place rule = refused_to place (refusal (frame.Publish p) (code_of rule))
+denial_to (ToPublishOnce p) place rule = refused_to place (refusal (frame.Publish p) (code_of rule))
+denial_to (ToRelease n) place rule = tt
 denial_to (ToSubscribe r) place rule = refused_to place (refusal (frame.Subscribe r) (code_of rule))
 denial_to (ToUnsubscribe r) place rule = refused_to place (refusal (frame.Unsubscribe r) (code_of rule))
 denial_to (ToConfirm r) place rule = tt
@@ -124,6 +127,8 @@ grant_to (ToSleep duration) x name = tt
 grant_to (ToRegister r) x (Some name) = (refl, tt)
 grant_to (ToRegister r) x None = tt
 grant_to (ToPublish p) x name = puback_to x.address p p.flags.qos
+grant_to (ToPublishOnce p) x name = (refl, tt)
+grant_to (ToRelease n) x name = tt
 grant_to (ToSubscribe r) x (Some filter) = (refl, tt)
 grant_to (ToSubscribe r) x None = tt
 grant_to (ToUnsubscribe r) x filter = (refl, tt)
@@ -237,6 +242,9 @@ message_to (ToSleep duration) x =
     if_to x.address (is_due_messages x.phase) (dismissed x.address ∷ []) (refl, tt)
 message_to (ToRegister r) x = tt
 message_to (ToPublish p) x = tt
+message_to (ToPublishOnce p) x =
+    if_to x.address (is_repeat p x) (pubrec x.address p.msg_id ∷ []) (refl, tt)
+message_to (ToRelease n) x = if_to x.address (is_active x.phase) (pubcomp x.address n ∷ []) (refl, tt)
 message_to (ToSubscribe r) x = tt
 message_to (ToUnsubscribe r) x = tt
 message_to (ToConfirm r) x = tt

@@ -19,7 +19,7 @@ use Rattle.sng_history.specs.Causes.{Cause, ByConnect, ByMessage, BySource, ByBr
 use Rattle.sng_history.specs.Causes.{ByTake, ByReplace, ByTick}
 use Rattle.sng_history.specs.Packets.{dropped}
 use Rattle.sng_history.specs.Clients.{Around, Client, same_address, is_here, is_from, entered_by, subscribed}
-use Rattle.sng_history.specs.Clients.{subscribe_of, unsubscribed, statement_of, note_by}
+use Rattle.sng_history.specs.Clients.{subscribe_of, unsubscribed, statement_of, note_by, id_opened_of}
 use Rattle.sng_history.specs.Standing.{Release}
 use Rattle.sng_history.specs.State.{State, around}
 use Rattle.sng_history.specs.Verdicts.{entry}
@@ -31,7 +31,7 @@ use Rattle.sng_laws.specs.LawsSleep.{sent_to, came_from_place}
 use Rattle.sng_history.proofs.Own.{each_map}
 use Rattle.sng_history.proofs.Hands.{OfMessages, every_if, every_gone}
 use Rattle.sng_history.proofs.Places.{here_is}
-use Rattle.sng_history.proofs.Steady.{handed_steady, repeated_steady}
+use Rattle.sng_history.proofs.Steady.{handed_steady, repeated_steady, received_steady}
 use Rattle.sng_history.proofs.Statements.{stated_keeps}
 use Rattle.sng_promise.proofs.Sleepers.SentTo.{part_to, Stayed}
 use Rattle.sng_promise.proofs.Sleepers.QuietParts.{enters_by, beside_notes, quiet_part}
@@ -68,7 +68,7 @@ put a (note.Hand id name o) x none = (handed_steady a name o x).address
 put a (note.Retry id name o) x none = (repeated_steady a.clock o x).address
 put a (note.Left id) x none = refl
 put a (note.Register whom name o) x none = refl
-put a (note.Publish whom name o) x none = refl
+put a (note.Publish whom name o) x none = (received_steady (id_opened_of a.cause) o x).address
 put a (note.Announce id name) x none = refl
 put a (note.Forward whom name o) x none = refl
 put a (note.Again whom name o) x none = refl

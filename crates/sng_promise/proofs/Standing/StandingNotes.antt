@@ -28,7 +28,7 @@ use Rattle.sng_book.specs.declared.out.Out.TheVariants.{Send, Wire, Note}
 use Rattle.sng_history.specs.Causes.{Cause, datagram_cause, publish_cause, cause_of, Statement}
 use Rattle.sng_history.specs.Requests.{granted}
 use Rattle.sng_history.specs.Clients.{Client, Around, cleaned, entered_by, subscribed, unsubscribed}
-use Rattle.sng_history.specs.Clients.{subscribe_of, note_by, notes_by}
+use Rattle.sng_history.specs.Clients.{subscribe_of, note_by, notes_by, id_opened_of}
 use Rattle.sng_history.specs.Clients.{start_by, opened, stated_by, statement_of, repeated}
 use Rattle.sng_history.specs.Notes.{notes_of, is_of, is_client}
 use Rattle.sng_history.specs.State.{State, around}
@@ -41,7 +41,7 @@ use Rattle.sng_laws.specs.ViewsStanding.{standing_after}
 use Rattle.sng_history.proofs.Own.{same_self}
 use Rattle.sng_history.proofs.Spelled.{AllAbout}
 use Rattle.sng_history.proofs.Told.{tells}
-use Rattle.sng_history.proofs.Steady.{start_filters, handed_steady, client_filters}
+use Rattle.sng_history.proofs.Steady.{start_filters, handed_steady, client_filters, received_steady}
 
 -- ---- what the rows show is read from the client's own notes
 
@@ -188,6 +188,8 @@ note_filters a m id (note.Unsubscribe whom text outcome) x same own =
     rw (sym (client_same id whom) ∙ own) (unsubscribed_filters text outcome x)
 note_filters a m id (note.End client text outcome) x same own = rw own refl
 note_filters a m id (note.Register whom name outcome) x same own = refl
+note_filters a m id (note.Publish whom name outcome) x same own =
+    (received_steady (id_opened_of a.cause) outcome x).filters
 note_filters a m id (note.Left client) x same own = refl
 note_filters a m id (note.Hand client name outcome) x same own = (handed_steady a name outcome x).filters
 note_filters a m id (note.Will whom name outcome) x same own = stated_filters (statement_of a.cause) outcome x

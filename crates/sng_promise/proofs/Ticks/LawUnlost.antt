@@ -1,7 +1,7 @@
 -- No client is lost but with a tick of the clock.
 use Rattle.std.proofs.Common.{◌≡◌, ℕ, Bool, true, false, List, [], ◌∷◌, ◌++◌, refl, ap, ◌∙◌, if◌then◌else◌}
 use Rattle.std.proofs.Common.{Ok, Err}
-use Rattle.std.specs.Prelude.{◌||◌, Option, Some, None}
+use Rattle.std.specs.Prelude.{◌||◌, Option, Some, None, not}
 use Rattle.std.specs.Str.{bytes_eq}
 use Rattle.std.specs.declared.result.Result.{Result}
 use Rattle.sng_grants.specs.declared.policy.Policy.{Policy}
@@ -32,20 +32,21 @@ use Rattle.sng_history.specs.Causes.{ToUnsubscribe, ToConfirm, ToAcknowledge, To
 use Rattle.sng_history.specs.Causes.{Cause, ByConnect, ByMessage, BySource, ByBroken, ByPacket, ByUp, ByDown}
 use Rattle.sng_history.specs.Causes.{ByTake, ByReplace, ByTick}
 use Rattle.sng_history.specs.Causes.{datagram_cause, publish_cause, disconnect_cause}
+use Rattle.sng_history.specs.Causes.{ToPublishOnce, ToRelease}
 use Rattle.sng_history.specs.Packets.{answer_of, refused_filter}
 use Rattle.sng_history.specs.Notes.{is_of}
 use Rattle.sng_history.specs.Clients.{Client, is_here, let_in, closed, is_confirming, is_acknowledging}
 use Rattle.sng_history.specs.Clients.{message_due}
 use Rattle.sng_history.specs.Standing.{holds}
 use Rattle.sng_history.specs.State.{State}
-use Rattle.sng_history.specs.Verdicts.{entry, ping_verdict, coverage}
+use Rattle.sng_history.specs.Verdicts.{entry, ping_verdict, coverage, is_active, is_repeat, publish_once_ask}
 use Rattle.sng_history.specs.Answers.{denied_note}
 use Rattle.sng_history.specs.Outgoing.{handed_over, all_gone, out_of_turn, delivered_notes}
 use Rattle.sng_history.specs.Lawful.{denial_of, woken_notes, confirmations, entering_notes, fixed_to, end_of}
 use Rattle.sng_history.specs.Lawful.{ends_under, refused_end, fixed_for}
 use Rattle.sng_history.specs.Steps.{outs_by}
 use Rattle.sng_laws.specs.LawsLost.{says_lost, is_lost_in}
-use Rattle.sng_history.proofs.Asks.{of_register, of_publish, of_subscribe, of_unsubscribe}
+use Rattle.sng_history.proofs.Asks.{of_register, of_publish, of_subscribe, of_unsubscribe, of_publish_once}
 use Rattle.sng_history.proofs.Hands.{Every, OfMessages, every_append, every_if, every_handed, every_gone}
 use Rattle.sng_history.proofs.Hands.{every_confirmation, every_delivered, every_woken}
 use Rattle.sng_history.proofs.Statements.{OfStatement, every_statement}
@@ -101,6 +102,11 @@ every_request s (ToSleep duration) x =
 every_request s ToLeave x = (λ id. refl, every_gone Unlosing x.id x.buffer.waiting (unlosing_messages x.id))
 every_request s (ToRegister r) x = (of_register Unlosing s.policy x r.name (λ name o id. refl), tt)
 every_request s (ToPublish p) x = (of_publish Unlosing s x p (λ name o id. refl), tt)
+every_request s (ToPublishOnce p) x =
+    every_either (not (is_repeat p x)) (publish_once_ask s x p ∷ []) []
+    (of_publish_once Unlosing s x p (λ name o id. refl), tt) tt
+every_request s (ToRelease n) x =
+    every_either (is_active x.phase) [] (out_of_turn x.id) tt (λ id. refl, tt)
 every_request s (ToSubscribe r) x = (of_subscribe Unlosing s x r (λ filter o id. refl), tt)
 every_request s (ToUnsubscribe r) x = (of_unsubscribe Unlosing s.policy x r (λ filter o id. refl), tt)
 every_request s (ToConfirm r) x =

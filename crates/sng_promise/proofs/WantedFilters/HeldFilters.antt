@@ -31,6 +31,7 @@ use Rattle.sng_history.specs.Causes.{ToSleep}
 use Rattle.sng_history.specs.Causes.{ToUnsubscribe, ToConfirm, ToAcknowledge, Untaken, Cause}
 use Rattle.sng_history.specs.Causes.{ByConnect, ByMessage, BySource, ByBroken, ByPacket, ByUp, ByDown, ByTake}
 use Rattle.sng_history.specs.Causes.{ByReplace, ByTick}
+use Rattle.sng_history.specs.Causes.{ToPublishOnce, ToRelease}
 use Rattle.sng_history.specs.Requests.{granted, id_in}
 use Rattle.sng_history.specs.Clients.{Client, is_here, start_by, subscribed, note_by, notes_by}
 use Rattle.sng_history.specs.State.{State, around}
@@ -142,6 +143,10 @@ are_request s from (ToRegister r) x are =
     kept_next AreFilters are_lasting s (ByMessage from (ToRegister r)) x refl are
 are_request s from (ToPublish p) x are =
     kept_next AreFilters are_lasting s (ByMessage from (ToPublish p)) x refl are
+are_request s from (ToPublishOnce p) x are =
+    kept_next AreFilters are_lasting s (ByMessage from (ToPublishOnce p)) x refl are
+are_request s from (ToRelease n) x are =
+    kept_next AreFilters are_lasting s (ByMessage from (ToRelease n)) x refl are
 are_request s from (ToUnsubscribe r) x are =
     kept_next AreFilters are_lasting s (ByMessage from (ToUnsubscribe r)) x refl are
 are_request s from (ToConfirm r) x are =

@@ -25,6 +25,7 @@ use Rattle.sng_history.specs.Causes.{ToUnsubscribe, ToConfirm, ToAcknowledge, To
 use Rattle.sng_history.specs.Causes.{datagram_cause, publish_cause}
 use Rattle.sng_history.specs.Causes.{StatesTopic, StatesMessage, UpdatesTopic, UpdatesMessage}
 use Rattle.sng_history.specs.Causes.{ByConnect, ByMessage, BySource, ByReplace}
+use Rattle.sng_history.specs.Causes.{ToPublishOnce, ToRelease}
 use Rattle.sng_history.specs.Clients.{Client, is_here, is_from}
 use Rattle.sng_history.specs.Links.{wants}
 use Rattle.sng_history.specs.Standing.{is_held, released, still_wanted, unsubscribes as lets_go_of}
@@ -203,7 +204,7 @@ publish_carries : (s : State) (from : Address) (p : Publish) (q : FrameQos) → 
 publish_carries s from p qos.WithoutSession good = source_carries s from p
 publish_carries s from p qos.AtMostOnce good = message_carries s from (ToPublish p) good
 publish_carries s from p qos.AtLeastOnce good = message_carries s from (ToPublish p) good
-publish_carries s from p qos.ExactlyOnce good = message_carries s from (Untaken (frame.Publish p)) good
+publish_carries s from p qos.ExactlyOnce good = message_carries s from (ToPublishOnce p) good
 
 disconnect_carries : (s : State) (from : Address) (duration : Option ℕ) → Good s
     → Carries s (datagram_cause from (Ok (frame.Disconnect duration)))
@@ -220,6 +221,7 @@ datagram_carries s from (Ok (frame.Unsubscribe r)) good = message_carries s from
 datagram_carries s from (Ok (frame.PingRequest client)) good = message_carries s from (ToPing client) good
 datagram_carries s from (Ok (frame.RegisterAck r)) good = message_carries s from (ToConfirm r) good
 datagram_carries s from (Ok (frame.PublishAck r)) good = message_carries s from (ToAcknowledge r) good
+datagram_carries s from (Ok (frame.PublishRelease n)) good = message_carries s from (ToRelease n) good
 datagram_carries s from (Ok (frame.Disconnect duration)) good = disconnect_carries s from duration good
 datagram_carries s from (Ok (frame.WillTopic topic)) good =
     message_carries s from (ToState (StatesTopic topic)) good

@@ -18,6 +18,7 @@ use Rattle.sng_history.specs.Causes.{Cause, request_of}
 use Rattle.sng_history.specs.Requests.{granted}
 use Rattle.sng_history.specs.Clients.{Around, Client, is_author, start_by, entered_by, subscribed}
 use Rattle.sng_history.specs.Clients.{unsubscribed, subscribe_of, statement_of, note_by, notes_by}
+use Rattle.sng_history.specs.Clients.{id_opened_of}
 use Rattle.sng_history.specs.Standing.{Release}
 use Rattle.sng_history.specs.Standing.{is_release, drop_note}
 use Rattle.sng_history.specs.State.{State, around}
@@ -27,7 +28,7 @@ use Rattle.sng_history.specs.Steps.{client_next}
 use Rattle.sng_laws.specs.ViewsLink.{is_outbox, is_outbox_noted}
 use Rattle.sng_history.proofs.Own.{same_means}
 use Rattle.sng_history.proofs.Steady.{start_lasts, repeated_steady, start_filters, client_filters}
-use Rattle.sng_history.proofs.Steady.{handed_steady}
+use Rattle.sng_history.proofs.Steady.{handed_steady, received_steady}
 use Rattle.sng_history.proofs.Kept.{note_id}
 use Rattle.sng_history.proofs.Statements.{stated_keeps}
 use Rattle.sng_history.proofs.Holding.{with_stands}
@@ -149,7 +150,8 @@ stays_note a (note.Will whom name o) x text none other stood =
     ap (λ held. stands held text) (stated_keeps (statement_of a.cause) o x).filters ∙ stood
 stays_note a (note.Register whom name o) x text none other stood = stood
 stays_note a (note.Lost id) x text none other stood = stood
-stays_note a (note.Publish whom name o) x text none other stood = stood
+stays_note a (note.Publish whom name o) x text none other stood =
+    ap (λ held. stands held text) (received_steady (id_opened_of a.cause) o x).filters ∙ stood
 stays_note a (note.Announce id name) x text none other stood = stood
 stays_note a (note.Retry id name o) x text none other stood =
     ap (λ held. stands held text) (repeated_steady a.clock o x).filters ∙ stood

@@ -31,6 +31,7 @@ use Rattle.sng_history.specs.Causes.{Statement, StatesTopic}
 use Rattle.sng_history.specs.Causes.{StatesMessage, UpdatesTopic, UpdatesMessage, ToState, ToSleep}
 use Rattle.sng_history.specs.Causes.{ByMessage, BySource, ByBroken, ByUp, ByDown, ByTake}
 use Rattle.sng_history.specs.Causes.{ByTick}
+use Rattle.sng_history.specs.Causes.{ToPublishOnce, ToRelease}
 use Rattle.sng_history.specs.Links.{Wanted, wants}
 use Rattle.sng_history.specs.Standing.{is_held, still_wanted}
 use Rattle.sng_history.specs.State.{State, subscribe_item, asked_by, asked_all}
@@ -145,7 +146,8 @@ publish_joins s from p qos.AtMostOnce good =
     message_joins s from (ToPublish p) (λ text. asks_none s from (ToPublish p) text refl)
 publish_joins s from p qos.AtLeastOnce good =
     message_joins s from (ToPublish p) (λ text. asks_none s from (ToPublish p) text refl)
-publish_joins s from p qos.ExactlyOnce good = untaken_joins s from (frame.Publish p)
+publish_joins s from p qos.ExactlyOnce good =
+    message_joins s from (ToPublishOnce p) (λ text. asks_none s from (ToPublishOnce p) text refl)
 
 disconnect_joins : (s : State) (from : Address) (duration : Option ℕ)
     → Joins s (datagram_cause from (Ok (frame.Disconnect duration))) []
@@ -169,6 +171,8 @@ datagram_joins s from (Ok (frame.RegisterAck r)) good =
     message_joins s from (ToConfirm r) (λ text. asks_none s from (ToConfirm r) text refl)
 datagram_joins s from (Ok (frame.PublishAck r)) good =
     message_joins s from (ToAcknowledge r) (λ text. asks_none s from (ToAcknowledge r) text refl)
+datagram_joins s from (Ok (frame.PublishRelease n)) good =
+    message_joins s from (ToRelease n) (λ text. asks_none s from (ToRelease n) text refl)
 datagram_joins s from (Ok (frame.Disconnect None)) good = disconnect_joins s from None
 datagram_joins s from (Ok (frame.Disconnect (Some duration))) good = disconnect_joins s from (Some duration)
 datagram_joins s from (Ok (frame.WillTopic topic)) good = statement_joins s from (StatesTopic topic)

@@ -1,6 +1,7 @@
 use Rattle.sng_promise.proofs.Clients.SeenState.{stands}
 use Rattle.sng_promise.proofs.Clients.NeverAccepted.{never_accepted}
 use Rattle.sng_promise.proofs.Link.SeenLast.{rest_shown}
+use Rattle.sng_promise.proofs.OpenIds.OpenShown.{open_shown}
 use Rattle.sng_promise.proofs.state_is_shown.Goals as goal
 
 pub returns : goal.returns
@@ -12,5 +13,6 @@ returns c = record {
   rest = rest_shown;
   order = λ h l. (stands h l).shown.order;
   clients = λ h l. (stands h l).shown.clients;
+  opened = open_shown;
   strangers = never_accepted;
 }

@@ -6,6 +6,7 @@ use crate::session::{Presence, Session};
 use sng_fan::Held;
 use sng_ids::IdTable;
 use sng_queue::QueueCopy;
+use sng_states::OpenIds;
 use sng_text::{ClientId, Compare, all_same};
 use sng_wills::WillDialogue;
 use std::alloc::{AllocError, Global};
@@ -22,6 +23,7 @@ pub struct ClientCopy {
     queue: QueueCopy,
     filters: Vec<Held>,
     wills: WillDialogue,
+    unreleased: OpenIds,
 }
 
 impl Model for ClientCopy {
@@ -38,6 +40,7 @@ impl Model for ClientCopy {
       buffer = c.queue;
       filters = c.filters.items;
       wills = c.wills;
+      unreleased = c.unreleased;
       duration = c.presence.duration;
       heard = c.presence.heard;
     } };
@@ -61,6 +64,7 @@ impl ClientCopy {
             queue: session.queue.copy(alloc)?,
             filters: session.filters.copy()?,
             wills: session.wills.copy()?,
+            unreleased: session.unreleased.copy(),
         })
     }
 }
@@ -74,5 +78,6 @@ impl Compare for ClientCopy {
             && self.queue.same(&other.queue)
             && all_same(&self.filters, &other.filters)
             && self.wills.same(&other.wills)
+            && self.unreleased.same(&other.unreleased)
     }
 }

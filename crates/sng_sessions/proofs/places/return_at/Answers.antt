@@ -21,7 +21,8 @@ returns-in-Ok-clause-clients c =
     (let_in c.args.clock c.args.from c.args.connect.now)
     (sym c.get_index_mut.ensures.value ∙ ap option_copied_mut c.in-Some.is)
     (λ id. client-begun id c.args.clock c.args.from c.args.connect.now session c.begin.new.session
-    done.presence done.ids done.number done.queue done.filters done.wills)
+    done.presence done.ids done.number done.queue done.filters done.wills
+    done.unreleased)
 
 pub returns-in-Ok-clause-indexed : goal.returns-in-Ok-clause-indexed
 returns-in-Ok-clause-indexed c =
@@ -33,7 +34,8 @@ returns-in-Ok-clause-indexed c =
     clients-set entries c.args.place session c.begin.new.session
     (let_in c.args.clock c.args.from c.args.connect.now) found
     (λ id. client-begun id c.args.clock c.args.from c.args.connect.now session c.begin.new.session
-    done.presence done.ids done.number done.queue done.filters done.wills) in
+    done.presence done.ids done.number done.queue done.filters done.wills
+    done.unreleased) in
     subst (Indexed (get same_address c.insert.new.self)) (sym moved)
     (returned-indexed (get same_address c.args.places.now) _ entries c.args.place c.args.clock c.args.from
     c.args.connect.now session found
@@ -50,7 +52,8 @@ returns-in-Ok-clause-kept c =
     (let_in c.args.clock c.args.from c.args.connect.now)
     (sym c.get_index_mut.ensures.value ∙ ap option_copied_mut c.in-Some.is)
     (λ id. client-begun id c.args.clock c.args.from c.args.connect.now session c.begin.new.session
-    done.presence done.ids done.number done.queue done.filters done.wills)
+    done.presence done.ids done.number done.queue done.filters done.wills
+    done.unreleased)
     done.held done.others c.requires.kept
 
 pub returns-in_default-clause-clients : goal.returns-in_default-clause-clients

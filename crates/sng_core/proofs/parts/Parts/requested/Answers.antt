@@ -1,7 +1,8 @@
--- A PUBLISH is carried on.
+-- A PUBLISH is carried on, at each QoS.
 use Rattle.std.proofs.Common.{◌≡◌, IfOk, subst, sym}
 use Rattle.sng_core.specs.Requesting.{request_outs}
 use Rattle.sng_core.specs.Forms.{client_at, carried_outs}
+use Rattle.sng_core.specs.Receiving.{once_outs}
 use Rattle.sng_core.proofs.parts.Parts.requested.Goals as goal
 
 pub returns-in-Publish-clause-outs : goal.returns-in-Publish-clause-outs
@@ -12,3 +13,12 @@ returns-in-Publish-clause-outs c =
     (sym c.in-Publish.is)
     (subst (λ s. IfOk c.carry.result (λ outs. outs ≡ carried_outs s p (client_at s.clients place)))
     c.self.view_is c.carry.ensures.outs)
+
+pub returns-in-PublishOnce-clause-outs : goal.returns-in-PublishOnce-clause-outs
+returns-in-PublishOnce-clause-outs c =
+    let place = c.args.place in
+    let p = c.in-PublishOnce.publish in
+    subst (λ request. IfOk c.receive.result (λ outs. outs ≡ request_outs c.args.self.now place request))
+    (sym c.in-PublishOnce.is)
+    (subst (λ s. IfOk c.receive.result (λ outs. outs ≡ once_outs s p (client_at s.clients place)))
+    c.self.view_is c.receive.ensures.outs)

@@ -1,5 +1,0 @@
-use Rattle.sng_gateway.proofs.EventLemmas.{events_are_read}
-use Rattle.sng_gateway.proofs.laws.events_are_read.Goals as goal
-
-pub returns : goal.returns
-returns c = events_are_read
