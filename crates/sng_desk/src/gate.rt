@@ -20,6 +20,11 @@ pub trait Gate {
     fn stops(&self) -> bool
         ensures { result ≡ may_stop self.now };
 
+    /// Whether the worker is to hand off the piece of its trail now, which has so many entries: receipts and
+    /// refusals. It is asked before `before`, where the piece has any. Before its end a worker hands off what
+    /// it has, and asks nobody.
+    fn hands_off(&self, by: u16, entries: usize) -> bool;
+
     /// After each act, once the lock is free: what came of it.
     fn after(&self, by: u16, receipt: &Receipt);
 
