@@ -47,27 +47,24 @@ going_off tells did told passed files took terms up sink share filing stage rest
 
 -- a turn, or none
 pub going_on : {U : Type 0} {D : Type 0} {F : Type 0} (tells : U → Bool) (did : U → List Call) (told : D →
-    Bool)
-    (passed : D → List (Address × List ℕ)) (files : F → Bool) (took : F → List Piece) (terms : Terms) (up : U)
-    (sink : D) (share : Share) (filing : F) (stage : Stage) (rest : State) (mid : U) (half : D) (less : Share)
-    (filed : F) (place : ℕ) (trail : Trail) (reached : Stage) (kept : State) (now : U) (emptied : D)
-    (grown : Trail) (left : Share)
-    → Going tells did told passed files took terms up sink share filing stage rest mid half less filed
+    Bool) (passed : D → List (Address × List ℕ)) (files : F → Bool) (took : F → List Piece) (terms : Terms)
+    (up : U) (sink : D) (share : Share) (filing : F) (stage : Stage) (rest : State) (mid : U) (half : D) (less
+    : Share) (filed : F) (place : ℕ) (trail : Trail) (reached : Stage) (kept : State) (now : U) (emptied : D)
+    (grown : Trail) (left : Share) → Going tells did told passed files took terms up sink share filing stage
+    rest mid half less filed
     (piece_of place trail)
     → Went tells did told passed terms mid half stage rest trail less now emptied reached kept grown left
     → Going tells did told passed files took terms up sink share filing reached kept now emptied left filed
     (piece_of place grown)
 going_on tells did told passed files took terms up sink share filing stage rest mid half less filed place
-    trail
-    reached kept now emptied grown left g (inl t) =
+    trail reached kept now emptied grown left g (inl t) =
     let further = handed_on files took filing share.tag filed place trail g.trail less (acts_of t.turn) grown
     left g.handed t.logs in
     record {
       trail = further.all;
       handed = further.handed;
       worked = worked_on tells did told passed terms up sink share stage rest mid half g.trail less reached
-          kept
-          now emptied further.all left g.worked (record {
+          kept now emptied further.all left g.worked (record {
             turn = t.turn;
             lawful = t.lawful;
             next = t.next;
@@ -78,8 +75,7 @@ going_on tells did told passed files took terms up sink share filing stage rest 
           });
     }
 going_on tells did told passed files took terms up sink share filing stage rest mid half less filed place
-    trail
-    reached kept now emptied grown left g (inr same) =
+    trail reached kept now emptied grown left g (inr same) =
     rw (same.0, same.1, same.2, same.3, same.4, same.5) g
 
 -- why the last turn is the last is why the worker came to its end
@@ -95,27 +91,24 @@ ends_since files took filing tag filed place rest trail tries (Some BookFull) st
 ends_since files took filing tag filed place rest trail tries (Some Device) stage ended stops h e = e
 
 -- the last turn of a worker, and what it hands off then
-pub has_ended : {U D F : Type 0} (tells : U → Bool) (did : U → List Call) (told : D → Bool) (passed : D
-    → List (Address × List ℕ)) (has_ended : U → Bool) (files : F → Bool) (took : F → List Piece)
-    (has_refused : F → Bool) (terms : Terms) (up : U) (sink : D) (share : Share) (filing : F) (may_stop :
-    Bool)
-    (stage : Stage) (rest : State) (filed : F) (place : ℕ) (trail : Trail) (end : WorkerEnd U D F)
+pub has_ended : {U D F : Type 0} (tells : U → Bool) (did : U → List Call) (told : D → Bool) (passed : D → List
+    (Address × List ℕ)) (has_ended : U → Bool) (files : F → Bool) (took : F → List Piece) (handed_back : F →
+    Bool) (terms : Terms) (up : U) (sink : D) (share : Share) (filing : F) (may_stop : Bool) (stage : Stage)
+    (rest : State) (filed : F) (place : ℕ) (trail : Trail) (end : WorkerEnd U D F)
     → Going tells did told passed files took terms up sink share filing stage rest end.source end.sender
     end.share filed (piece_of place trail)
     → EndsFor terms.tries end.fault stage (has_ended end.source) may_stop trail
     → HandsOff files took filed (piece_of place trail) end.filing end.rest
-    → IsLeft end.rest (has_refused end.filing)
-    → HasEnded tells did told passed has_ended files took has_refused terms up sink share filing may_stop end
-has_ended tells did told passed ended files took has_refused terms up sink share filing may_stop stage rest
-    filed
-    place trail end g e off l = record {
+    → IsLeft end.rest (handed_back end.filing)
+    → HasEnded tells did told passed has_ended files took handed_back terms up sink share filing may_stop end
+has_ended tells did told passed ended files took handed_back terms up sink share filing may_stop stage rest
+    filed place trail end g e off l = record {
       stage = stage;
       rest = rest;
       going = record {
         trail = g.trail;
         handed = handed_off files took filing share.tag filed (piece_of place trail) end.filing end.rest
-            g.trail
-            off g.handed;
+            g.trail off g.handed;
         worked = g.worked;
       };
       fault = ends_since files took filing share.tag filed place trail g.trail terms.tries end.fault stage

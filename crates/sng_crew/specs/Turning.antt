@@ -233,29 +233,26 @@ EndsFor tries (Some Device) stage ended stops trail = ⊥
 
 -- What happened since a worker began with this connection, this sink, this share and this filing: all is told
 -- by its trail, which it has handed off but for the rest of it.
-pub record Going {U D F : Type 0} (tells : U → Bool) (did : U → List Call) (told : D → Bool) (passed : D
-    → List (Address × List ℕ)) (files : F → Bool) (took : F → List TrailPiece) (terms : Terms) (up : U) (sink
-    : D)
-    (share : Share) (filing : F) (stage : Stage) (rest : State) (now : U) (emptied : D) (left : Share)
+pub record Going {U D F : Type 0} (tells : U → Bool) (did : U → List Call) (told : D → Bool) (passed : D →
+    List (Address × List ℕ)) (files : F → Bool) (took : F → List TrailPiece) (terms : Terms) (up : U) (sink :
+    D) (share : Share) (filing : F) (stage : Stage) (rest : State) (now : U) (emptied : D) (left : Share)
     (filed : F) (piece : TrailPiece) : Type 0 where
   pub trail : Trail
   pub handed : Handed files took filing share.tag filed piece trail
   pub worked : Worked tells did told passed terms up sink share stage rest now emptied trail left
 
 -- How a worker ended that began with these.
-pub record HasEnded {U D F : Type 0} (tells : U → Bool) (did : U → List Call) (told : D → Bool) (passed : D
-    → List (Address × List ℕ)) (has_ended : U → Bool) (files : F → Bool) (took : F → List TrailPiece)
-    (has_refused : F → Bool) (terms : Terms) (up : U) (sink : D) (share : Share) (filing : F) (may_stop :
-    Bool)
-    (end : WorkerEnd U D F) : Type 0 where
+pub record HasEnded {U D F : Type 0} (tells : U → Bool) (did : U → List Call) (told : D → Bool) (passed : D →
+    List (Address × List ℕ)) (has_ended : U → Bool) (files : F → Bool) (took : F → List TrailPiece)
+    (handed_back : F → Bool) (terms : Terms) (up : U) (sink : D) (share : Share) (filing : F) (may_stop :
+    Bool) (end : WorkerEnd U D F) : Type 0 where
   pub stage : Stage
   pub rest : State
   pub going : Going tells did told passed files took terms up sink share filing stage rest end.source
-      end.sender
-      end.share end.filing end.rest
+      end.sender end.share end.filing end.rest
   pub fault : EndsFor terms.tries end.fault stage (has_ended end.source) may_stop going.trail
   -- it has handed off all that it could
-  pub left_over : IsLeft end.rest (has_refused end.filing)
+  pub left_over : IsLeft end.rest (handed_back end.filing)
 
 -- STEPS OF A TURN
 

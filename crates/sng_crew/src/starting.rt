@@ -26,7 +26,7 @@ pub struct UdpPromise<D, F> {
 
 impl<D: Datagrams, F: Filing<Piece>> Promise<WorkerEnd<D, NoSender, F>> for UdpPromise<D, F> {
     ghost kept_by = { λ p end. UdpEnded D.tells D.gave D.failures D.has_ended D.passed F.tells F.took
-        F.has_refused p.source.value p.share.value p.filing.value p.may_stop end };
+        F.handed_back p.source.value p.share.value p.filing.value p.may_stop end };
 }
 
 /// The same of the worker at the connection to the broker.
@@ -43,8 +43,8 @@ pub struct UpstreamPromise<U, D, F> {
 impl<U: Upstream, D: Datagrams, F: Filing<Piece>> Promise<WorkerEnd<U, D, F>>
     for UpstreamPromise<U, D, F> {
     ghost kept_by = { λ p end. HasEnded U.tells U.did D.tells D.passed U.has_ended F.tells F.took
-        F.has_refused
-        p.terms.value p.source.value p.sender.value p.share.value p.filing.value p.may_stop end };
+        F.handed_back p.terms.value p.source.value p.sender.value p.share.value p.filing.value p.may_stop
+        end };
 }
 
 /// The same of the worker at a clock.
@@ -54,16 +54,16 @@ pub struct TickerPromise<B, D, F, V> {
     sender: Snapshot<D>,
     share: Snapshot<Share>,
     filing: Snapshot<F>,
-    /// Nothing is promised of it. It tells the thread's type what its end has.
+    /// Nothing is promised of what it takes. It tells the thread's type where the end's volumes were filed.
     volume_filing: Snapshot<V>,
     may_stop: bool,
 }
 
-impl<B: Beats, D: Datagrams, F: Filing<Piece>, V> Promise<TickerEnd<B, D, F, V>>
+impl<B: Beats, D: Datagrams, F: Filing<Piece>, V: Filing<Volume>> Promise<TickerEnd<B, D, F, V>>
     for TickerPromise<B, D, F, V> {
     ghost kept_by = { λ p end. TickerEnded B.tells B.gave B.failures B.has_ended D.tells D.passed F.tells
-        F.took
-        F.has_refused p.source.value p.sender.value p.share.value p.filing.value p.may_stop end };
+        F.took F.handed_back V.handed_back p.source.value p.sender.value p.share.value p.filing.value
+        p.may_stop end };
 }
 
 /// The same of the worker at policies.
@@ -76,7 +76,7 @@ pub struct LoaderPromise<P, F> {
 }
 
 impl<P: Policies, F: Filing<Piece>> Promise<WorkerEnd<P, NoSender, F>> for LoaderPromise<P, F> {
-    ghost kept_by = { λ p end. LoaderEnded P.tells P.gave P.failures P.has_ended F.tells F.took F.has_refused
+    ghost kept_by = { λ p end. LoaderEnded P.tells P.gave P.failures P.has_ended F.tells F.took F.handed_back
         p.source.value p.share.value p.filing.value p.may_stop end };
 }
 

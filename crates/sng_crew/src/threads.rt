@@ -100,18 +100,18 @@ pub fn run_workers<
     ensures udp { IfOk result (λ ends. (k : ℕ) (p : post_type D F)
         (e : end_type D no_sender F)
         → k < length crew.udp.items
-        → UdpEnded D.tells D.gave D.failures D.has_ended D.passed F.tells F.took F.has_refused
+        → UdpEnded D.tells D.gave D.failures D.has_ended D.passed F.tells F.took F.handed_back
         (slice_index_or crew.udp.items k p).source (slice_index_or crew.udp.items k p).share
         (slice_index_or crew.udp.items k p).filing (G.may_stop gate.now)
         (slice_index_or ends.udp.items k e)) }
     ensures upstream { IfOk result (λ ends. HasEnded U.tells U.did D.tells D.passed U.has_ended F.tells F.took
-        F.has_refused terms.now crew.upstream.source crew.upstream.sender crew.upstream.share
+        F.handed_back terms.now crew.upstream.source crew.upstream.sender crew.upstream.share
         crew.upstream.filing (G.may_stop gate.now) ends.upstream) }
     ensures ticker { IfOk result (λ ends. TickerEnded B.tells B.gave B.failures B.has_ended D.tells D.passed
-        F.tells F.took F.has_refused crew.ticker.source crew.ticker.sender crew.ticker.share
+        F.tells F.took F.handed_back V.handed_back crew.ticker.source crew.ticker.sender crew.ticker.share
         crew.ticker.filing (G.may_stop gate.now) ends.ticker) }
     ensures policies { IfOk result (λ ends. LoaderEnded P.tells P.gave P.failures P.has_ended F.tells F.took
-        F.has_refused crew.policies.source crew.policies.share crew.policies.filing (G.may_stop gate.now)
+        F.handed_back crew.policies.source crew.policies.share crew.policies.filing (G.may_stop gate.now)
         ends.policies) }
 {
     let may_stop = gate.stops();
@@ -132,17 +132,17 @@ pub fn run_workers<
             ensures udp { IfOk result (λ ends. (k : ℕ) (p : post_type D F)
                 (e : end_type D no_sender F)
                 → k < length udp.items
-                → UdpEnded D.tells D.gave D.failures D.has_ended D.passed F.tells F.took F.has_refused
+                → UdpEnded D.tells D.gave D.failures D.has_ended D.passed F.tells F.took F.handed_back
                 (slice_index_or udp.items k p).source (slice_index_or udp.items k p).share
                 (slice_index_or udp.items k p).filing may_stop (slice_index_or ends.udp.items k e)) }
             ensures upstream { IfOk result (λ ends. HasEnded U.tells U.did D.tells D.passed U.has_ended
-                F.tells F.took F.has_refused terms.entry.now upstream.source upstream.sender upstream.share
+                F.tells F.took F.handed_back terms.entry.now upstream.source upstream.sender upstream.share
                 upstream.filing may_stop ends.upstream) }
             ensures ticker { IfOk result (λ ends. TickerEnded B.tells B.gave B.failures B.has_ended D.tells
-                D.passed F.tells F.took F.has_refused ticker.source ticker.sender ticker.share ticker.filing
-                may_stop ends.ticker) }
+                D.passed F.tells F.took F.handed_back V.handed_back ticker.source ticker.sender ticker.share
+                ticker.filing may_stop ends.ticker) }
             ensures policies { IfOk result (λ ends. LoaderEnded P.tells P.gave P.failures P.has_ended
-                F.tells F.took F.has_refused policies.source policies.share policies.filing may_stop
+                F.tells F.took F.handed_back policies.source policies.share policies.filing may_stop
                 ends.policies) }
         {
             let handles = start_all(scope, rt, alloc, desk, udp, gate, may_stop)?;

@@ -107,12 +107,10 @@ impl<U: Upstream, D: Datagrams, F: Filing<Piece>> BrokerWorker<U, D, F> {
         requires { Below terms.now.tries self.old.stage }
         ensures going { (up : U) (sink : D) (share : share_sight) (filing : F)
             → Going U.tells U.did D.tells D.passed F.tells F.took terms.now up sink share filing
-            self.old.stage
-            self.old.stream self.old.up self.old.sink self.old.hand.share self.old.filer.filing
+            self.old.stage self.old.stream self.old.up self.old.sink self.old.hand.share self.old.filer.filing
             (piece_of self.old.filer.place self.old.hand.log.trail)
             → Going U.tells U.did D.tells D.passed F.tells F.took terms.now up sink share filing
-            self.new.stage
-            self.new.stream self.new.up self.new.sink self.new.hand.share self.new.filer.filing
+            self.new.stage self.new.stream self.new.up self.new.sink self.new.hand.share self.new.filer.filing
             (piece_of self.new.filer.place self.new.hand.log.trail) }
         ensures over { NextFor terms.now.tries result self.new.stage (U.has_ended self.new.up)
             (G.may_stop gate.now) self.new.hand.log.trail }
@@ -171,7 +169,7 @@ impl<U: Upstream, D: Datagrams, F: Filing<Piece>> BrokerWorker<U, D, F> {
     fn ended<G: Gate>(self, gate: &G, fault: Option<WorkerFault>) -> WorkerEnd<U, D, F>
         ensures off { HandsOff F.tells F.took self.filer.filing
             (piece_of self.filer.place self.hand.log.trail) result.filing result.rest }
-        ensures left { IsLeft result.rest (F.has_refused result.filing) }
+        ensures left { IsLeft result.rest (F.handed_back result.filing) }
         ensures same { (result.source ≡ self.up) × (result.sender ≡ self.sink)
             × (result.share ≡ self.hand.share) × (result.fault ≡ fault) }
     {
@@ -210,9 +208,8 @@ pub fn upstream_worker<R: Wait, U: Upstream, D: Datagrams, F: Filing<Piece>, G: 
     terms: &Terms,
     gate: &G,
 ) -> WorkerEnd<U, D, F>
-    ensures { HasEnded U.tells U.did D.tells D.passed U.has_ended F.tells F.took F.has_refused terms.now
-        source
-        sender share filing (G.may_stop gate.now) result }
+    ensures { HasEnded U.tells U.did D.tells D.passed U.has_ended F.tells F.took F.handed_back terms.now
+        source sender share filing (G.may_stop gate.now) result }
 {
     let log = Log::new(alloc, share.tag());
     let mut worker = BrokerWorker {

@@ -30,8 +30,7 @@ going_none tells gave failed told passed files took source share filing = record
 pub going_off : {S D F : Type 0} (tells : S → Bool) (gave : S → List Event) (failed : S → ℕ) (told : D
     → Bool) (passed : D → List (Address × List ℕ)) (files : F → Bool) (took : F → List Piece) (source : S)
     (sink : D) (share : Share) (filing : F) (now : S) (emptied : D) (left : Share) (before : F) (piece :
-    Piece)
-    (after : F) (next : Piece) → HandsOff files took before piece after next
+    Piece) (after : F) (next : Piece) → HandsOff files took before piece after next
     → Going tells gave failed told passed files took source sink share filing now emptied left before piece
     → Going tells gave failed told passed files took source sink share filing now emptied left after next
 going_off tells gave failed told passed files took source sink share filing now emptied left before piece
@@ -54,8 +53,7 @@ pub going_on : {S : Type 0} {D : Type 0} {F : Type 0} (tells : S → Bool) (gave
 going_on tells gave failed told passed files took source sink share filing mid half less filed place rest now
     emptied grown left g w =
     let further = handed_on files took filing share.tag filed place rest g.trail less w.acts grown left
-    g.handed
-    w.logs in
+    g.handed w.logs in
     record {
       trail = further.all;
       handed = further.handed;
@@ -85,17 +83,16 @@ ends_since files took filing tag filed place rest trail (Some Refused) first bef
 -- the last turn of a worker, and what it hands off then
 pub has_ended : {S D F : Type 0} (tells : S → Bool) (gave : S → List Event) (failed : S → ℕ)
     (has_ended : S → Bool) (told : D → Bool) (passed : D → List (Address × List ℕ)) (files : F → Bool)
-    (took : F → List Piece) (has_refused : F → Bool) (source : S) (sink : D) (share : Share) (filing : F)
+    (took : F → List Piece) (handed_back : F → Bool) (source : S) (sink : D) (share : Share) (filing : F)
     (may_stop : Bool) (before now : S) (emptied : D) (left : Share) (filed : F) (place : ℕ) (trail : Trail)
     (after : F) (rest : Piece) (fault : Option WorkerFault)
     → Going tells gave failed told passed files took source sink share filing now emptied left filed
     (piece_of place trail) → failed source ≤ failed before
     → EndsFor fault (failed before) (failed now) (has_ended now) may_stop trail
-    → HandsOff files took filed (piece_of place trail) after rest → IsLeft rest (has_refused after)
-    → HasEnded tells gave failed has_ended told passed files took has_refused source sink share filing
-    may_stop
-    now emptied left after rest fault
-has_ended tells gave failed ended told passed files took has_refused source sink share filing may_stop before
+    → HandsOff files took filed (piece_of place trail) after rest → IsLeft rest (handed_back after)
+    → HasEnded tells gave failed has_ended told passed files took handed_back source sink share filing
+    may_stop now emptied left after rest fault
+has_ended tells gave failed ended told passed files took handed_back source sink share filing may_stop before
     now emptied left filed place trail after rest fault g le e off l = record {
       going = record {
         trail = g.trail;

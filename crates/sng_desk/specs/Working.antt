@@ -63,14 +63,14 @@ NextFor (Over fault) before now ended stops trail = EndsFor fault before now end
 -- may stop it or not.
 pub record HasEnded {S D F : Type 0} (tells : S → Bool) (gave : S → List Event) (failed : S → ℕ)
     (has_ended : S → Bool) (told : D → Bool) (passed : D → List (Address × List ℕ)) (files : F → Bool)
-    (took : F → List Piece) (has_refused : F → Bool) (source : S) (sink : D) (share : Share) (filing : F)
+    (took : F → List Piece) (handed_back : F → Bool) (source : S) (sink : D) (share : Share) (filing : F)
     (may_stop : Bool) (now : S) (emptied : D) (left : Share) (filed : F) (rest : Piece)
     (fault : Option WorkerFault) : Type 0 where
   pub going : Going tells gave failed told passed files took source sink share filing now emptied left filed
       rest
   pub ends : EndsFor fault (failed source) (failed now) (has_ended now) may_stop going.trail
   -- it has handed off all that it could
-  pub left_over : IsLeft rest (has_refused filed)
+  pub left_over : IsLeft rest (handed_back filed)
 
 -- the desk was asked about an event, and what came of it was passed on
 pub record Served {S : Type 0} (tells : S → Bool) (gave : S → List Event) (failed : S → ℕ) (told : S

@@ -12,7 +12,8 @@ pub trait Gate {
     /// Workers may be stopped by it.
     ghost may_stop: { Self → Bool };
 
-    /// Before each turn of a worker. At false it ends.
+    /// Before each turn of a worker. It may be held here, as where the book has too few free rows for a turn:
+    /// it has handed off what it was to, and has asked its source for nothing yet. At false it ends.
     fn before(&self, by: u16) -> bool
         ensures { result ≡ false → may_stop self.now ≡ true };
 

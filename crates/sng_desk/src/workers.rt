@@ -2,7 +2,8 @@
 //! the gate says so; then it is `Gate::before`, one ask of its source, one act, `Gate::after`, and then what
 //! the act lets out for clients is sent. The worker at a clock then cuts the book where it has grown enough,
 //! and hands the volume off.
-ghost use Rattle.std.specs.Prelude.{[], false};
+ghost use Rattle.std.specs.Prelude.{[], false, vec_len};
+ghost use Rattle.sng_desk.specs.Pieces.{Waits};
 ghost use Rattle.sng_desk.specs.Sources.{datagram_events, tick_events, replace_events};
 ghost use Rattle.sng_desk.specs.Working.{HasEnded};
 
@@ -30,9 +31,8 @@ pub fn udp_worker<R: Wait, D: Datagrams, F: Filing<Piece>, G: Gate>(
     gate: &G,
 ) -> WorkerEnd<D, NoSender, F>
     ensures { HasEnded D.tells (λ d. datagram_events (D.gave d)) D.failures D.has_ended D.tells D.passed
-        F.tells
-        F.took F.has_refused source source share filing (G.may_stop gate.now) result.source result.source
-        result.share result.filing result.rest result.fault }
+        F.tells F.took F.handed_back source source share filing (G.may_stop gate.now) result.source
+        result.source result.share result.filing result.rest result.fault }
 {
     let source = Devices { datagrams: source };
     let WorkerEnd {
@@ -54,8 +54,8 @@ pub fn udp_worker<R: Wait, D: Datagrams, F: Filing<Piece>, G: Gate>(
     }
 }
 
-/// A worker at a clock. After each beat it cuts the book where its open volume has so many rows. An end
-/// without `volumes` has handed off all that it cut.
+/// A worker at a clock. After each beat it cuts the book where its open volume has so many rows, and hands
+/// the volume off.
 pub fn ticker<R: Wait, B: Beats, D: Datagrams, F: Filing<Piece>, V: Filing<Volume>, G: Gate>(
     rt: &R,
     alloc: Global,
@@ -68,11 +68,11 @@ pub fn ticker<R: Wait, B: Beats, D: Datagrams, F: Filing<Piece>, V: Filing<Volum
     gate: &G,
     rows: u64,
 ) -> TickerEnd<B, D, F, V>
-    ensures { HasEnded B.tells (λ b. tick_events (B.gave b)) B.failures B.has_ended D.tells D.passed F.tells
-        F.took
-        F.has_refused source sender share filing (G.may_stop gate.now) result.worker.source
+    ensures ended { HasEnded B.tells (λ b. tick_events (B.gave b)) B.failures B.has_ended D.tells D.passed
+        F.tells F.took F.handed_back source sender share filing (G.may_stop gate.now) result.worker.source
         result.worker.sender result.worker.share result.worker.filing result.worker.rest
         result.worker.fault }
+    ensures left { Waits (vec_len result.volumes) (V.handed_back result.volume_filing) }
 {
     let source = Clock {
         beats: source,
@@ -118,7 +118,7 @@ pub fn policy_worker<R: Wait, P: Policies, F: Filing<Piece>, G: Gate>(
     gate: &G,
 ) -> WorkerEnd<P, NoSender, F>
     ensures { HasEnded P.tells (λ p. replace_events (P.gave p)) P.failures P.has_ended (λ p. false) (λ p. [])
-        F.tells F.took F.has_refused source source share filing (G.may_stop gate.now) result.source
+        F.tells F.took F.handed_back source source share filing (G.may_stop gate.now) result.source
         result.source result.share result.filing result.rest result.fault }
 {
     let source = Loader { policies: source };

@@ -92,7 +92,7 @@ impl<S: Source, F: Filing<Piece>> SourceWorker<S, F> {
     fn ended<G: Gate>(self, gate: &G, fault: Option<WorkerFault>) -> WorkerEnd<S, NoSender, F>
         ensures off { HandsOff F.tells F.took self.filer.filing
             (piece_of self.filer.place self.hand.log.trail) result.filing result.rest }
-        ensures left { IsLeft result.rest (F.has_refused result.filing) }
+        ensures left { IsLeft result.rest (F.handed_back result.filing) }
         ensures same { (result.source ≡ self.source) × (result.share ≡ self.hand.share)
             × (result.fault ≡ fault) }
     {
@@ -159,10 +159,9 @@ pub fn work<R: Wait, S: Source, F: Filing<Piece>, G: Gate>(
     filing: F,
     gate: &G,
 ) -> WorkerEnd<S, NoSender, F>
-    ensures { HasEnded S.tells S.gave S.failures S.has_ended S.told S.passed F.tells F.took F.has_refused
-        source
-        source share filing (G.may_stop gate.now) result.source result.source result.share result.filing
-        result.rest result.fault }
+    ensures { HasEnded S.tells S.gave S.failures S.has_ended S.told S.passed F.tells F.took F.handed_back
+        source source share filing (G.may_stop gate.now) result.source result.source result.share
+        result.filing result.rest result.fault }
 {
     let log = Log::new(alloc, share.tag());
     let mut worker = SourceWorker {

@@ -5,12 +5,12 @@ use crate::memory::Calls;
 use sng_desk::Filing;
 use std::alloc::Global;
 
-/// Keeps what it takes, in order, as long as there is memory, and refuses one call.
+/// Keeps what it takes, in order, as long as there is memory. One call can be refused.
 #[derive(Debug, Drop)]
 pub struct MemoryFiling<T> {
     taken: Vec<T>,
     calls: Calls,
-    has_refused: bool,
+    handed_back: bool,
 }
 
 impl<T> MemoryFiling<T> {
@@ -19,7 +19,7 @@ impl<T> MemoryFiling<T> {
         MemoryFiling {
             taken: Vec::new(alloc),
             calls,
-            has_refused: false,
+            handed_back: false,
         }
     }
 
@@ -28,7 +28,7 @@ impl<T> MemoryFiling<T> {
         let MemoryFiling {
             taken,
             calls: _,
-            has_refused: _,
+            handed_back: _,
         } = self;
         taken
     }
@@ -44,17 +44,20 @@ impl<T: Drop> Filing<T> for MemoryFiling<T> {
 
     ghost took = { λ m. m.taken.items };
 
-    ghost has_refused = { λ m. m.has_refused };
+    ghost handed_back = { λ m. m.handed_back };
 
     fn file(&mut self, item: T) -> Result<(), T> {
         if self.calls.fails() {
-            self.has_refused = true;
+            self.handed_back = true;
             return Err(item);
         }
         match self.taken.push(item) {
-            Ok(()) => Ok(()),
+            Ok(()) => {
+                self.handed_back = false;
+                Ok(())
+            }
             Err(refused) => {
-                self.has_refused = true;
+                self.handed_back = true;
                 Err(refused.value)
             }
         }

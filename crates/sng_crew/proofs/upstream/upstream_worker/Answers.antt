@@ -30,7 +30,7 @@ returns-in-Over g c =
     let f = g.F.Filing in
     let new = c.turn.new.self in
     let same = c.ended.ensures.same in
-    has_ended u.tells u.did d.tells d.passed u.has_ended f.tells f.took f.has_refused c.args.terms.now
+    has_ended u.tells u.did d.tells d.passed u.has_ended f.tells f.took f.handed_back c.args.terms.now
     c.args.source c.args.sender c.args.share c.args.filing (g.G.Gate.may_stop c.args.gate.now) new.stage
     new.stream new.filer.filing new.filer.place new.hand.log.trail c.ended.result
     (rw (same.0, same.1, same.2) (c.turn.ensures.going c.args.source c.args.sender c.args.share c.args.filing

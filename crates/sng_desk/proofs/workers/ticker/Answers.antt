@@ -1,7 +1,7 @@
 use Rattle.sng_desk.proofs.workers.ticker.Goals as goal
 
-pub returns : goal.returns
-returns g c =
+pub returns-clause-ended : goal.returns-clause-ended
+returns-clause-ended g c =
     let e = c.work.ensures in
     let w = e.going.worked in
     record {

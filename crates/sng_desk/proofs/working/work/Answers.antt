@@ -28,9 +28,8 @@ returns-in-Over g c =
     let end = c.ended.result in
     let same = c.ended.ensures.same in
     rw (same.0, same.1, same.2) (has_ended s.tells s.gave s.failures s.has_ended s.told s.passed f.tells
-    f.took
-    f.has_refused c.args.source c.args.source c.args.share c.args.filing (g.G.Gate.may_stop c.args.gate.now)
-    c.loop.worker.source new.source new.source new.hand.share new.filer.filing new.filer.place
-    new.hand.log.trail end.filing end.rest c.in-Over.fault
+    f.took f.handed_back c.args.source c.args.source c.args.share c.args.filing (g.G.Gate.may_stop
+    c.args.gate.now) c.loop.worker.source new.source new.source new.hand.share new.filer.filing
+    new.filer.place new.hand.log.trail end.filing end.rest c.in-Over.fault
     (c.turn.ensures.going c.args.source c.args.share c.args.filing c.loop.invariant.going)
     c.loop.invariant.going.worked.failures c.in-Over.ensures.over c.ended.ensures.off c.ended.ensures.left)

@@ -12,8 +12,7 @@ returns-clause-going g c up sink share filing w =
     let trail = c.offer.new.log.trail in
     let new = c.go.new.self in
     rw c.go.ensures.filer (going_on u.tells u.did d.tells d.passed f.tells f.took c.args.terms.now up sink
-    share
-    filing old.stage old.stream old.up old.sink old.hand.share filer.filing filer.place trail new.stage
+    share filing old.stage old.stream old.up old.sink old.hand.share filer.filing filer.place trail new.stage
     new.stream new.up new.sink new.hand.log.trail new.hand.share
     (going_off u.tells u.did d.tells d.passed f.tells f.took c.args.terms.now up sink share filing old.stage
     old.stream old.up old.sink old.hand.share old.filer.filing (piece_of old.filer.place old.hand.log.trail)

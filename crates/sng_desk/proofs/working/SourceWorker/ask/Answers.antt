@@ -26,7 +26,8 @@ returns-then-is_err-clause-worked g c =
     let old = c.args.self.now in
     worked_none s.tells s.gave s.failures s.told s.passed old.source old.source old.hand.log.trail
     old.hand.share old.source old.source c.room.new.self.trail old.hand.share
-    (still s.tells s.gave old.source) (still s.told s.passed old.source) (omega arith) c.room.ensures.same refl
+    (still s.tells s.gave old.source) (still s.told s.passed old.source) (omega arith)
+    c.room.ensures.same refl
 
 pub returns-in-Nothing-clause-worked : goal.returns-in-Nothing-clause-worked
 returns-in-Nothing-clause-worked g c =
@@ -34,8 +35,8 @@ returns-in-Nothing-clause-worked g c =
     let old = c.args.self.now in
     let e = c.in-Nothing.ensures in
     worked_none s.tells s.gave s.failures s.told s.passed old.source old.source old.hand.log.trail
-    old.hand.share c.ask.new.self c.ask.new.self c.room.new.self.trail old.hand.share e.given e.passed e.failures
-    c.room.ensures.same refl
+    old.hand.share c.ask.new.self c.ask.new.self c.room.new.self.trail old.hand.share e.given e.passed
+    e.failures c.room.ensures.same refl
 
 pub returns-in-Ended-clause-worked : goal.returns-in-Ended-clause-worked
 returns-in-Ended-clause-worked g c =
@@ -43,8 +44,8 @@ returns-in-Ended-clause-worked g c =
     let old = c.args.self.now in
     let e = c.in-Ended.ensures in
     worked_none s.tells s.gave s.failures s.told s.passed old.source old.source old.hand.log.trail
-    old.hand.share c.ask.new.self c.ask.new.self c.room.new.self.trail old.hand.share e.given e.passed e.failures
-    c.room.ensures.same refl
+    old.hand.share c.ask.new.self c.ask.new.self c.room.new.self.trail old.hand.share e.given e.passed
+    e.failures c.room.ensures.same refl
 
 pub returns-in-Failed-clause-worked : goal.returns-in-Failed-clause-worked
 returns-in-Failed-clause-worked g c =
@@ -52,8 +53,8 @@ returns-in-Failed-clause-worked g c =
     let old = c.args.self.now in
     let e = c.in-Failed.ensures in
     worked_none s.tells s.gave s.failures s.told s.passed old.source old.source old.hand.log.trail
-    old.hand.share c.ask.new.self c.ask.new.self c.room.new.self.trail old.hand.share e.given e.passed e.failures
-    c.room.ensures.same refl
+    old.hand.share c.ask.new.self c.ask.new.self c.room.new.self.trail old.hand.share e.given e.passed
+    e.failures c.room.ensures.same refl
 
 -- with nothing the worker goes on
 pub returns-in-Nothing-clause-over : goal.returns-in-Nothing-clause-over
