@@ -55,7 +55,8 @@ LINES, MOST_BYTES, SEEDS, FEW = 24, 12_000, range(5000, 6000), 6
 # acts, a run, a ledger, and calls one by one
 STEPS, COPIED_STEPS, ACTS, RUN, LEDGER, ONE_BY_ONE = 's', 'k', 'a', 'r', 'l', 'p'
 # By the letter of an input the calls that are made for each of its rows, and the others
-BY_ROW = {STEPS: ('Core::step',), COPIED_STEPS: ('Core::step',), ACTS: ('Desk::act',), RUN: (), LEDGER: ()}
+BY_ROW = {STEPS: ('Core::step',), COPIED_STEPS: ('Core::step',), ACTS: ('Desk::act',), RUN: (),
+          LEDGER: ()}
 OTHERS = {STEPS: ('Core::new', 'line_of', 'Stream::feed'), COPIED_STEPS: ('Core::copy', 'Event::copy'),
           ACTS: ('Desk::new', 'Desk::cut', 'gather'), RUN: ('run', 'print_row'),
           LEDGER: ('Ledger::new', 'Ledger::take_piece', 'Ledger::take_volume', 'Ledger::give_out',
@@ -63,8 +64,8 @@ OTHERS = {STEPS: ('Core::new', 'line_of', 'Stream::feed'), COPIED_STEPS: ('Core:
 NOTHING, WITHSTOOD = 'nothing', 'withstood'
 # Memory of the program itself
 OWN = ('Vec', 'TopicFilter::read')
-# What takes no memory: `gather`, giving rows out of a ledger and its end, steps without outs that keep nothing
-# new, an inclusion that holds, and decoding what has no text
+# What takes no memory: `gather`, giving rows out of a ledger and its end, steps without outs that keep
+# nothing new, an inclusion that holds, and decoding what has no text
 FREE = {
     'gather', 'Ledger::give_out', 'Ledger::close', 'cover of what is included',
     *('Core::step of ' + kind for kind in (
