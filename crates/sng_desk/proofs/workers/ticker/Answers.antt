@@ -2,7 +2,7 @@ use Rattle.sng_desk.proofs.workers.ticker.Goals as goal
 
 pub returns-clause-ended : goal.returns-clause-ended
 returns-clause-ended g c =
-    let e = c.work.ensures in
+    let e = c.work-rest.ensures in
     let w = e.going.worked in
     record {
       going = record {
