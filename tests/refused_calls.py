@@ -15,14 +15,14 @@ and tell of none: a table that grows asks for less where more is refused. Then, 
 
 The inputs are a script in which each kind of event comes (refused_kinds.py), and random scripts, each for the
 steps of a core, for the acts and cuts of a desk with the gathering behind them, and for a run over all events
-at once; and lines with policy texts, scopes, questions about filters, datagrams and packets. What is printed
-has to be what the model says, or what stands beside the line here.
+at once; a few ticks for a ledger; and lines with policy texts, scopes, questions about filters, datagrams and
+packets. What is printed has to be what the model says, or what stands beside the line here.
 
-Without --all the steps of the script of each kind and the lines are tried as a whole, and of all else DRAWN
-allocations, which are drawn from SEED; the gate does this. The last lines say how many allocations were
-refused to each call by the kind of its event or of what it was about, and which calls take no memory. The
-exit status is 1 where something is wrong, or where an input that was tried as a whole left a call without a
-refusal that is not one of FREE.
+Without --all the steps of the script of each kind, the ledger and the lines are tried as a whole, and of all
+else DRAWN allocations, which are drawn from SEED; the gate does this. The last lines say how many allocations
+were refused to each call by the kind of its event or of what it was about, and which calls take no memory.
+The exit status is 1 where something is wrong, or where an input that was tried as a whole left a call without
+a refusal that is not one of FREE.
 
 It builds once, and with --all once more before, to count the allocations of each input. A build takes some
 three minutes of a processor, and each run a tenth of a second."""
@@ -52,19 +52,22 @@ MOST = 3000
 # Random scripts of so many lines, no longer than this, are those of these seeds; the gate takes the first few
 LINES, MOST_BYTES, SEEDS, FEW = 24, 12_000, range(5000, 6000), 6
 # Letters of the program: steps, compared with a core that the same events led to or with a copy from before;
-# acts, a run, and calls one by one
-STEPS, COPIED_STEPS, ACTS, RUN, ONE_BY_ONE = 's', 'k', 'a', 'r', 'p'
+# acts, a run, a ledger, and calls one by one
+STEPS, COPIED_STEPS, ACTS, RUN, LEDGER, ONE_BY_ONE = 's', 'k', 'a', 'r', 'l', 'p'
 # By the letter of an input the calls that are made for each of its rows, and the others
-BY_ROW = {STEPS: ('Core::step',), COPIED_STEPS: ('Core::step',), ACTS: ('Desk::act',), RUN: ()}
+BY_ROW = {STEPS: ('Core::step',), COPIED_STEPS: ('Core::step',), ACTS: ('Desk::act',), RUN: (),
+          LEDGER: ()}
 OTHERS = {STEPS: ('Core::new', 'line_of', 'Stream::feed'), COPIED_STEPS: ('Core::copy', 'Event::copy'),
-          ACTS: ('Desk::new', 'Desk::cut', 'gather'), RUN: ('run', 'print_row')}
+          ACTS: ('Desk::new', 'Desk::cut', 'gather'), RUN: ('run', 'print_row'),
+          LEDGER: ('Ledger::new', 'Ledger::take_piece', 'Ledger::take_volume', 'Ledger::give_out',
+                   'Ledger::close')}
 NOTHING, WITHSTOOD = 'nothing', 'withstood'
 # Memory of the program itself
 OWN = ('Vec', 'TopicFilter::read')
-# What takes no memory: `gather`, steps without outs that keep nothing new, an inclusion that holds, and
-# decoding what has no text
+# What takes no memory: `gather`, giving rows out of a ledger and its end, steps without outs that keep
+# nothing new, an inclusion that holds, and decoding what has no text
 FREE = {
-    'gather', 'cover of what is included',
+    'gather', 'Ledger::give_out', 'Ledger::close', 'cover of what is included',
     *('Core::step of ' + kind for kind in (
         'Down', 'PINGRESP of the broker', 'PUBACK of the broker', 'Replace', 'SUBACK of the broker',
         'Take of nothing', 'UNSUBACK of the broker')),
@@ -73,6 +76,9 @@ FREE = {
         'PUBREC', 'PUBREL', 'REGACK', 'SUBACK', 'UNSUBACK', 'WILLMSGREQ', 'WILLMSGRESP', 'WILLTOPICREQ',
         'WILLTOPICRESP')),
 }
+
+# What the ledger is tried at: a few rows, cut into three volumes
+TICKS = b''.join(b'tick %d\n' % (1000 * count) for count in range(1, 8))
 
 # Lines for calls one by one, each with what it prints
 POLICIES = (
@@ -172,7 +178,8 @@ def inputs(most_scripts):
     """The inputs by their names: those that the gate tries as a whole, and the others."""
     each = refused_kinds.every_kind()
     printed = gateway_model.play(each)[1]
-    whole = {'steps of each kind': plays(STEPS, each, printed, 950), 'calls': one_by_one()}
+    whole = {'steps of each kind': plays(STEPS, each, printed, 950), 'calls': one_by_one(),
+             'a ledger': plays(LEDGER, TICKS, gateway_model.play(TICKS)[1], 150)}
     drawn = {'acts of each kind': plays(ACTS, each, printed, 1250),
              'a run of each kind': plays(RUN, each, printed, 1250)}
     for place, (text, printed) in enumerate(scripts(most_scripts), 1):

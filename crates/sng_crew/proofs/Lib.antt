@@ -1,6 +1,5 @@
-pub mod Least
 pub mod Writing
 pub mod Turns
+pub mod Wholes
 pub mod Feeding
 pub mod Places
-pub mod Joined

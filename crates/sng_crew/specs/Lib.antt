@@ -1,7 +1,5 @@
-pub mod Gathering
 pub mod Devices
 pub mod Wires
 pub mod Streaming
 pub mod Turning
 pub mod Running
-pub mod Volumes

@@ -29,6 +29,8 @@ use Rattle.sng_desk.specs.declared.ending.Next.{Next}
 use Rattle.sng_desk.specs.declared.ending.Next.TheVariants.{On, Over}
 use Rattle.sng_desk.specs.Acts.{Act, EndsRefused, Moves, Logs, no_trail, is_taken, events_of, receipts_of}
 use Rattle.sng_desk.specs.Acts.{all_taken, sends_of}
+use Rattle.sng_desk.specs.Pieces.{Handed, IsLeft}
+use Rattle.sng_desk.specs.declared.piece.Piece.{Piece as TrailPiece}
 use Rattle.sng_crew.specs.Wires.{wires_of}
 use Rattle.sng_crew.specs.Streaming.{accepts, packets_in, broken_in, left_by}
 
@@ -229,15 +231,28 @@ EndsFor tries (Some Refused) stage ended stops trail = stage ≡ Fallen
 EndsFor tries (Some BookFull) stage ended stops trail = EndsRefused trail.refused trail.receipts
 EndsFor tries (Some Device) stage ended stops trail = ⊥
 
+-- What happened since a worker began with this connection, this sink, this share and this filing: all is told
+-- by its trail, which it has handed off but for the rest of it.
+pub record Going {U D F : Type 0} (tells : U → Bool) (did : U → List Call) (told : D → Bool) (passed : D →
+    List (Address × List ℕ)) (files : F → Bool) (took : F → List TrailPiece) (terms : Terms) (up : U) (sink :
+    D) (share : Share) (filing : F) (stage : Stage) (rest : State) (now : U) (emptied : D) (left : Share)
+    (filed : F) (piece : TrailPiece) : Type 0 where
+  pub trail : Trail
+  pub handed : Handed files took filing share.tag filed piece trail
+  pub worked : Worked tells did told passed terms up sink share stage rest now emptied trail left
+
 -- How a worker ended that began with these.
-pub record HasEnded {U D : Type 0} (tells : U → Bool) (did : U → List Call) (told : D → Bool) (passed : D
-    → List (Address × List ℕ)) (has_ended : U → Bool) (terms : Terms) (up : U) (sink : D) (share : Share)
-    (may_stop : Bool) (end : WorkerEnd U D) : Type 0 where
+pub record HasEnded {U D F : Type 0} (tells : U → Bool) (did : U → List Call) (told : D → Bool) (passed : D →
+    List (Address × List ℕ)) (has_ended : U → Bool) (files : F → Bool) (took : F → List TrailPiece)
+    (handed_back : F → Bool) (terms : Terms) (up : U) (sink : D) (share : Share) (filing : F) (may_stop :
+    Bool) (end : WorkerEnd U D F) : Type 0 where
   pub stage : Stage
   pub rest : State
-  pub worked : Worked tells did told passed terms up sink share stage rest end.source end.sender end.trail
-      end.share
-  pub fault : EndsFor terms.tries end.fault stage (has_ended end.source) may_stop end.trail
+  pub going : Going tells did told passed files took terms up sink share filing stage rest end.source
+      end.sender end.share end.filing end.rest
+  pub fault : EndsFor terms.tries end.fault stage (has_ended end.source) may_stop going.trail
+  -- it has handed off all that it could
+  pub left_over : IsLeft end.rest (handed_back end.filing)
 
 -- STEPS OF A TURN
 
@@ -333,3 +348,10 @@ pub record Taken {U D : Type 0} (tells : U → Bool) (did : U → List Call) (to
   pub calls : Moves tells did up now (calls_of turn)
   pub sends : Moves told passed sink emptied (sends_of (receipts_of (acts_of turn)))
   pub logs : Logs trail share (acts_of turn) grown after
+
+-- one turn was done, or none
+abbrev pub Went : {U D : Type 0} → (U → Bool) → (U → List Call) → (D → Bool) → (D → List (Address × List ℕ))
+    → Terms → U → D → Stage → State → Trail → Share → U → D → Stage → State → Trail → Share → Type 0
+Went tells did told passed terms up sink stage rest trail share now emptied reached kept grown after =
+    Taken tells did told passed terms up sink stage rest trail share now emptied reached kept grown after
+    ⊎ ((now ≡ up) × (emptied ≡ sink) × (reached ≡ stage) × (kept ≡ rest) × (grown ≡ trail) × (after ≡ share))

@@ -1,12 +1,10 @@
-//! The workers of a gateway at one desk: the one at the connection to the broker, all of them on threads of
-//! their own, and the book against what they say of it.
+//! The workers of a gateway at one desk: the one at the connection to the broker, and all of them on threads of
+//! their own.
 #![tactic(auto)]
 
 mod answering;
-pub mod closing;
 pub mod connection;
 mod hearing;
-mod joining;
 pub mod laws;
 pub mod limits;
 pub mod memory;
@@ -16,7 +14,6 @@ mod starting;
 pub mod threads;
 mod upstream;
 
-pub use closing::{Closed, GatherFault, NotGathered, gather};
 pub use connection::{Call, Close, Opening, ReadAnswer, Stage, Terms, Upstream, Written};
 pub use limits::{MAX_READ, MAX_TURN_EVENTS};
 pub use threads::{Crew, Ended, NotStarted, Post, SendingPost, run_workers};

@@ -7,8 +7,8 @@ use crate::connection::{Terms, Upstream};
 use crate::threads::{NotStarted, Post, SendingPost};
 use crate::upstream::upstream_worker;
 use sng_desk::{
-    Beats, Datagrams, Desk, Gate, NoSender, Policies, Share, WorkerEnd, policy_worker, ticker,
-    udp_worker,
+    Beats, Datagrams, Desk, Filing, Gate, NoSender, Piece, Policies, Share, TickerEnd, Volume,
+    WorkerEnd, policy_worker, ticker, udp_worker,
 };
 use std::alloc::Global;
 use std::snapshot::Snapshot;
@@ -17,57 +17,67 @@ use std::thread::{Promise, PromisedHandle, Scope, Threads};
 
 /// What the thread of a worker at datagrams promises: how it ended that began with these.
 #[derive(Drop)]
-pub struct UdpPromise<D> {
+pub struct UdpPromise<D, F> {
     source: Snapshot<D>,
     share: Snapshot<Share>,
+    filing: Snapshot<F>,
     may_stop: bool,
 }
 
-impl<D: Datagrams> Promise<WorkerEnd<D, NoSender>> for UdpPromise<D> {
-    ghost kept_by = { λ p end. UdpEnded D.tells D.gave D.failures D.has_ended D.passed p.source.value
-        p.share.value p.may_stop end };
+impl<D: Datagrams, F: Filing<Piece>> Promise<WorkerEnd<D, NoSender, F>> for UdpPromise<D, F> {
+    ghost kept_by = { λ p end. UdpEnded D.tells D.gave D.failures D.has_ended D.passed F.tells F.took
+        F.handed_back p.source.value p.share.value p.filing.value p.may_stop end };
 }
 
 /// The same of the worker at the connection to the broker.
 #[derive(Drop)]
-pub struct UpstreamPromise<U, D> {
+pub struct UpstreamPromise<U, D, F> {
     source: Snapshot<U>,
     sender: Snapshot<D>,
     share: Snapshot<Share>,
+    filing: Snapshot<F>,
     terms: Snapshot<Terms>,
     may_stop: bool,
 }
 
-impl<U: Upstream, D: Datagrams> Promise<WorkerEnd<U, D>> for UpstreamPromise<U, D> {
-    ghost kept_by = { λ p end. HasEnded U.tells U.did D.tells D.passed U.has_ended p.terms.value
-        p.source.value p.sender.value p.share.value p.may_stop end };
+impl<U: Upstream, D: Datagrams, F: Filing<Piece>> Promise<WorkerEnd<U, D, F>>
+    for UpstreamPromise<U, D, F> {
+    ghost kept_by = { λ p end. HasEnded U.tells U.did D.tells D.passed U.has_ended F.tells F.took
+        F.handed_back p.terms.value p.source.value p.sender.value p.share.value p.filing.value p.may_stop
+        end };
 }
 
 /// The same of the worker at a clock.
 #[derive(Drop)]
-pub struct TickerPromise<B, D> {
+pub struct TickerPromise<B, D, F, V> {
     source: Snapshot<B>,
     sender: Snapshot<D>,
     share: Snapshot<Share>,
+    filing: Snapshot<F>,
+    /// Nothing is promised of what it takes. It tells the thread's type where the end's volumes were filed.
+    volume_filing: Snapshot<V>,
     may_stop: bool,
 }
 
-impl<B: Beats, D: Datagrams> Promise<WorkerEnd<B, D>> for TickerPromise<B, D> {
-    ghost kept_by = { λ p end. TickerEnded B.tells B.gave B.failures B.has_ended D.tells D.passed
-        p.source.value p.sender.value p.share.value p.may_stop end };
+impl<B: Beats, D: Datagrams, F: Filing<Piece>, V: Filing<Volume>> Promise<TickerEnd<B, D, F, V>>
+    for TickerPromise<B, D, F, V> {
+    ghost kept_by = { λ p end. TickerEnded B.tells B.gave B.failures B.has_ended D.tells D.passed F.tells
+        F.took F.handed_back V.handed_back p.source.value p.sender.value p.share.value p.filing.value
+        p.may_stop end };
 }
 
 /// The same of the worker at policies.
 #[derive(Drop)]
-pub struct LoaderPromise<P> {
+pub struct LoaderPromise<P, F> {
     source: Snapshot<P>,
     share: Snapshot<Share>,
+    filing: Snapshot<F>,
     may_stop: bool,
 }
 
-impl<P: Policies> Promise<WorkerEnd<P, NoSender>> for LoaderPromise<P> {
-    ghost kept_by = { λ p end. LoaderEnded P.tells P.gave P.failures P.has_ended p.source.value p.share.value
-        p.may_stop end };
+impl<P: Policies, F: Filing<Piece>> Promise<WorkerEnd<P, NoSender, F>> for LoaderPromise<P, F> {
+    ghost kept_by = { λ p end. LoaderEnded P.tells P.gave P.failures P.has_ended F.tells F.took F.handed_back
+        p.source.value p.share.value p.filing.value p.may_stop end };
 }
 
 /// Where the desk is found, under its lock. The functions that start a thread know no more of it: that a desk
@@ -96,21 +106,24 @@ pub fn start_all<
     R: Threads + Wait + Sync + 's,
     M: Locked + Sync + 's,
     D: Datagrams + Send + 's,
+    F: Filing<Piece> + Send + 's,
     G: Gate + Sync + 's,
 >(
     scope: &Scope<'s, E>,
     rt: &'s R,
     alloc: Global,
     desk: &'s M,
-    posts: Vec<Post<D>>,
+    posts: Vec<Post<D, F>>,
     gate: &'s G,
     may_stop: bool,
-) -> Result<Vec<PromisedHandle<WorkerEnd<D, NoSender>, UdpPromise<D>>>, NotStarted>
+) -> Result<Vec<PromisedHandle<WorkerEnd<D, NoSender, F>, UdpPromise<D, F>>>, NotStarted>
     requires { may_stop ≡ G.may_stop gate.now }
     ensures sources { IfOk result (λ handles. map (λ h. h.promise.source.value) handles.items
         ≡ map (λ p. p.source) posts.items) }
     ensures shares { IfOk result (λ handles. map (λ h. h.promise.share.value) handles.items
         ≡ map (λ p. p.share) posts.items) }
+    ensures filings { IfOk result (λ handles. map (λ h. h.promise.filing.value) handles.items
+        ≡ map (λ p. p.filing) posts.items) }
     ensures stops { IfOk result (λ handles. map (λ h. h.promise.may_stop) handles.items
         ≡ map (λ p. may_stop) posts.items) }
 {
@@ -133,28 +146,34 @@ pub fn start_udp<
     R: Threads + Wait + Sync + 's,
     M: Locked + Sync + 's,
     D: Datagrams + Send + 's,
+    F: Filing<Piece> + Send + 's,
     G: Gate + Sync + 's,
 >(
     scope: &Scope<'s, E>,
     rt: &'s R,
     alloc: Global,
     desk: &'s M,
-    post: Post<D>,
+    post: Post<D, F>,
     gate: &'s G,
     may_stop: bool,
-) -> Result<PromisedHandle<WorkerEnd<D, NoSender>, UdpPromise<D>>, NotStarted>
+) -> Result<PromisedHandle<WorkerEnd<D, NoSender, F>, UdpPromise<D, F>>, NotStarted>
     requires { may_stop ≡ G.may_stop gate.now }
     ensures { IfOk result (λ h. (h.promise.source.value ≡ post.source) × (h.promise.share.value ≡ post.share)
-        × (h.promise.may_stop ≡ may_stop)) }
+        × (h.promise.filing.value ≡ post.filing) × (h.promise.may_stop ≡ may_stop)) }
 {
-    let Post { share, source } = post;
+    let Post {
+        share,
+        source,
+        filing,
+    } = post;
     let promise = UdpPromise {
         source: Snapshot::of(&source),
         share: Snapshot::of(&share),
+        filing: Snapshot::of(&filing),
         may_stop,
     };
     let Ok(handle) = scope.spawn_with(promise, move || {
-        udp_worker(rt, alloc, desk.desk(), share, source, gate)
+        udp_worker(rt, alloc, desk.desk(), share, source, filing, gate)
     }) else {
         return Err(halted(gate));
     };
@@ -169,36 +188,50 @@ pub fn start_upstream<
     M: Locked + Sync + 's,
     U: Upstream + Send + 's,
     D: Datagrams + Send + 's,
+    F: Filing<Piece> + Send + 's,
     G: Gate + Sync + 's,
 >(
     scope: &Scope<'s, E>,
     rt: &'s R,
     alloc: Global,
     desk: &'s M,
-    post: SendingPost<U, D>,
+    post: SendingPost<U, D, F>,
     terms: &'s Terms,
     gate: &'s G,
     may_stop: bool,
-) -> Result<PromisedHandle<WorkerEnd<U, D>, UpstreamPromise<U, D>>, NotStarted>
+) -> Result<PromisedHandle<WorkerEnd<U, D, F>, UpstreamPromise<U, D, F>>, NotStarted>
     requires { may_stop ≡ G.may_stop gate.now }
     ensures post { IfOk result (λ h. (h.promise.source.value ≡ post.source)
-        × (h.promise.sender.value ≡ post.sender) × (h.promise.share.value ≡ post.share)) }
+        × (h.promise.sender.value ≡ post.sender) × (h.promise.share.value ≡ post.share)
+        × (h.promise.filing.value ≡ post.filing)) }
     ensures rest { IfOk result (λ h. (h.promise.terms.value ≡ terms.now) × (h.promise.may_stop ≡ may_stop)) }
 {
     let SendingPost {
         share,
         source,
         sender,
+        filing,
     } = post;
     let promise = UpstreamPromise {
         source: Snapshot::of(&source),
         sender: Snapshot::of(&sender),
         share: Snapshot::of(&share),
+        filing: Snapshot::of(&filing),
         terms: Snapshot::of(terms),
         may_stop,
     };
     let Ok(handle) = scope.spawn_with(promise, move || {
-        upstream_worker(rt, alloc, desk.desk(), share, source, sender, terms, gate)
+        upstream_worker(
+            rt,
+            alloc,
+            desk.desk(),
+            share,
+            source,
+            sender,
+            filing,
+            terms,
+            gate,
+        )
     }) else {
         return Err(halted(gate));
     };
@@ -213,35 +246,52 @@ pub fn start_ticker<
     M: Locked + Sync + 's,
     B: Beats + Send + 's,
     D: Datagrams + Send + 's,
+    F: Filing<Piece> + Send + 's,
+    V: Filing<Volume> + Send + 's,
     G: Gate + Sync + 's,
 >(
     scope: &Scope<'s, E>,
     rt: &'s R,
     alloc: Global,
     desk: &'s M,
-    post: SendingPost<B, D>,
+    post: SendingPost<B, D, F>,
+    volume_filing: V,
     gate: &'s G,
     rows: u64,
     may_stop: bool,
-) -> Result<PromisedHandle<WorkerEnd<B, D>, TickerPromise<B, D>>, NotStarted>
+) -> Result<PromisedHandle<TickerEnd<B, D, F, V>, TickerPromise<B, D, F, V>>, NotStarted>
     requires { may_stop ≡ G.may_stop gate.now }
     ensures { IfOk result (λ h. (h.promise.source.value ≡ post.source)
         × (h.promise.sender.value ≡ post.sender) × (h.promise.share.value ≡ post.share)
-        × (h.promise.may_stop ≡ may_stop)) }
+        × (h.promise.filing.value ≡ post.filing) × (h.promise.may_stop ≡ may_stop)) }
 {
     let SendingPost {
         share,
         source,
         sender,
+        filing,
     } = post;
     let promise = TickerPromise {
         source: Snapshot::of(&source),
         sender: Snapshot::of(&sender),
         share: Snapshot::of(&share),
+        filing: Snapshot::of(&filing),
+        volume_filing: Snapshot::of(&volume_filing),
         may_stop,
     };
     let Ok(handle) = scope.spawn_with(promise, move || {
-        ticker(rt, alloc, desk.desk(), share, source, sender, gate, rows)
+        ticker(
+            rt,
+            alloc,
+            desk.desk(),
+            share,
+            source,
+            sender,
+            filing,
+            volume_filing,
+            gate,
+            rows,
+        )
     }) else {
         return Err(halted(gate));
     };
@@ -255,28 +305,34 @@ pub fn start_loader<
     R: Threads + Wait + Sync + 's,
     M: Locked + Sync + 's,
     P: Policies + Send + 's,
+    F: Filing<Piece> + Send + 's,
     G: Gate + Sync + 's,
 >(
     scope: &Scope<'s, E>,
     rt: &'s R,
     alloc: Global,
     desk: &'s M,
-    post: Post<P>,
+    post: Post<P, F>,
     gate: &'s G,
     may_stop: bool,
-) -> Result<PromisedHandle<WorkerEnd<P, NoSender>, LoaderPromise<P>>, NotStarted>
+) -> Result<PromisedHandle<WorkerEnd<P, NoSender, F>, LoaderPromise<P, F>>, NotStarted>
     requires { may_stop ≡ G.may_stop gate.now }
     ensures { IfOk result (λ h. (h.promise.source.value ≡ post.source) × (h.promise.share.value ≡ post.share)
-        × (h.promise.may_stop ≡ may_stop)) }
+        × (h.promise.filing.value ≡ post.filing) × (h.promise.may_stop ≡ may_stop)) }
 {
-    let Post { share, source } = post;
+    let Post {
+        share,
+        source,
+        filing,
+    } = post;
     let promise = LoaderPromise {
         source: Snapshot::of(&source),
         share: Snapshot::of(&share),
+        filing: Snapshot::of(&filing),
         may_stop,
     };
     let Ok(handle) = scope.spawn_with(promise, move || {
-        policy_worker(rt, alloc, desk.desk(), share, source, gate)
+        policy_worker(rt, alloc, desk.desk(), share, source, filing, gate)
     }) else {
         return Err(halted(gate));
     };

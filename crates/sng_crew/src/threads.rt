@@ -8,7 +8,10 @@ ghost use Rattle.sng_crew.specs.Turning.{HasEnded};
 
 use crate::connection::{Terms, Upstream};
 use crate::starting::{halted, start_all, start_loader, start_ticker, start_upstream};
-use sng_desk::{Beats, Datagrams, Desk, Gate, NoSender, Policies, Share, WorkerEnd};
+use sng_desk::{
+    Beats, Datagrams, Desk, Filing, Gate, NoSender, Piece, Policies, Share, TickerEnd, Volume,
+    WorkerEnd,
+};
 use std::alloc::Global;
 use std::sync::{Mutex, Wait};
 use std::thread;
@@ -17,50 +20,56 @@ use thiserror::Error;
 
 /// A worker that is to start.
 #[derive(Drop)]
-pub struct Post<S> {
+pub struct Post<S, F> {
     /// With which its rows are made.
     pub share: Share,
     /// Where its events come from.
     pub source: S,
+    /// Where it files the pieces of its trail.
+    pub filing: F,
 }
 
 /// A worker that is to start, with what it sends by.
 #[derive(Drop)]
-pub struct SendingPost<S, D> {
+pub struct SendingPost<S, D, F> {
     /// With which its rows are made.
     pub share: Share,
     /// Where its events come from.
     pub source: S,
     /// By what it sends datagrams.
     pub sender: D,
+    /// Where it files the pieces of its trail.
+    pub filing: F,
 }
 
 /// All workers of a gateway.
 #[derive(Drop)]
-pub struct Crew<D, U, B, P> {
+pub struct Crew<D, U, B, P, F, V> {
     /// Those at datagrams, one at least.
-    pub udp: Vec<Post<D>>,
+    pub udp: Vec<Post<D, F>>,
     /// The one at the connection to the broker.
-    pub upstream: SendingPost<U, D>,
+    pub upstream: SendingPost<U, D, F>,
     /// The one at a clock.
-    pub ticker: SendingPost<B, D>,
+    pub ticker: SendingPost<B, D, F>,
     /// The one at policies.
-    pub policies: Post<P>,
+    pub policies: Post<P, F>,
     /// After a beat of the clock the book is cut where its open volume has at least so many rows.
     pub rows: u64,
+    /// Where the volumes are filed then.
+    pub volume_filing: V,
 }
 
 /// What all workers left.
 #[derive(Drop)]
-pub struct Ended<D, U, B, P> {
+pub struct Ended<D, U, B, P, F, V> {
     /// Those at datagrams, in the order of their posts.
-    pub udp: Vec<WorkerEnd<D, NoSender>>,
+    pub udp: Vec<WorkerEnd<D, NoSender, F>>,
     /// The one at the connection to the broker.
-    pub upstream: WorkerEnd<U, D>,
+    pub upstream: WorkerEnd<U, D, F>,
     /// The one at a clock.
-    pub ticker: WorkerEnd<B, D>,
+    pub ticker: TickerEnd<B, D, F, V>,
     /// The one at policies.
-    pub policies: WorkerEnd<P, NoSender>,
+    pub policies: WorkerEnd<P, NoSender, F>,
 }
 
 /// A thread, or the memory for it, was refused. All that was handed in is dropped.
@@ -76,27 +85,34 @@ pub fn run_workers<
     U: Upstream + Send,
     B: Beats + Send,
     P: Policies + Send,
+    F: Filing<Piece> + Send,
+    V: Filing<Volume> + Send,
     G: Gate + Sync,
 >(
     rt: &R,
     alloc: Global,
     desk: &Mutex<Desk>,
-    crew: Crew<D, U, B, P>,
+    crew: Crew<D, U, B, P, F, V>,
     terms: &Terms,
     gate: &G,
-) -> Result<Ended<D, U, B, P>, NotStarted>
+) -> Result<Ended<D, U, B, P, F, V>, NotStarted>
     ensures len { IfOk result (λ ends. length ends.udp.items ≡ length crew.udp.items) }
-    ensures udp { IfOk result (λ ends. (k : ℕ) (p : post_type D) (e : end_type D no_sender)
+    ensures udp { IfOk result (λ ends. (k : ℕ) (p : post_type D F)
+        (e : end_type D no_sender F)
         → k < length crew.udp.items
-        → UdpEnded D.tells D.gave D.failures D.has_ended D.passed (slice_index_or crew.udp.items k p).source
-        (slice_index_or crew.udp.items k p).share (G.may_stop gate.now)
+        → UdpEnded D.tells D.gave D.failures D.has_ended D.passed F.tells F.took F.handed_back
+        (slice_index_or crew.udp.items k p).source (slice_index_or crew.udp.items k p).share
+        (slice_index_or crew.udp.items k p).filing (G.may_stop gate.now)
         (slice_index_or ends.udp.items k e)) }
-    ensures upstream { IfOk result (λ ends. HasEnded U.tells U.did D.tells D.passed U.has_ended terms.now
-        crew.upstream.source crew.upstream.sender crew.upstream.share (G.may_stop gate.now) ends.upstream) }
+    ensures upstream { IfOk result (λ ends. HasEnded U.tells U.did D.tells D.passed U.has_ended F.tells F.took
+        F.handed_back terms.now crew.upstream.source crew.upstream.sender crew.upstream.share
+        crew.upstream.filing (G.may_stop gate.now) ends.upstream) }
     ensures ticker { IfOk result (λ ends. TickerEnded B.tells B.gave B.failures B.has_ended D.tells D.passed
-        crew.ticker.source crew.ticker.sender crew.ticker.share (G.may_stop gate.now) ends.ticker) }
-    ensures policies { IfOk result (λ ends. LoaderEnded P.tells P.gave P.failures P.has_ended
-        crew.policies.source crew.policies.share (G.may_stop gate.now) ends.policies) }
+        F.tells F.took F.handed_back V.handed_back crew.ticker.source crew.ticker.sender crew.ticker.share
+        crew.ticker.filing (G.may_stop gate.now) ends.ticker) }
+    ensures policies { IfOk result (λ ends. LoaderEnded P.tells P.gave P.failures P.has_ended F.tells F.took
+        F.handed_back crew.policies.source crew.policies.share crew.policies.filing (G.may_stop gate.now)
+        ends.policies) }
 {
     let may_stop = gate.stops();
     let Crew {
@@ -105,28 +121,43 @@ pub fn run_workers<
         ticker,
         policies,
         rows,
+        volume_filing,
     } = crew;
     thread::scope(
         thread::scope_env(),
         rt,
-        |scope| -> Result<Ended<D, U, B, P>, NotStarted>
+        |scope| -> Result<Ended<D, U, B, P, F, V>, NotStarted>
             requires { may_stop ≡ G.may_stop gate.now }
             ensures len { IfOk result (λ ends. length ends.udp.items ≡ length udp.items) }
-            ensures udp { IfOk result (λ ends. (k : ℕ) (p : post_type D) (e : end_type D no_sender)
+            ensures udp { IfOk result (λ ends. (k : ℕ) (p : post_type D F)
+                (e : end_type D no_sender F)
                 → k < length udp.items
-                → UdpEnded D.tells D.gave D.failures D.has_ended D.passed
-                (slice_index_or udp.items k p).source (slice_index_or udp.items k p).share may_stop
-                (slice_index_or ends.udp.items k e)) }
+                → UdpEnded D.tells D.gave D.failures D.has_ended D.passed F.tells F.took F.handed_back
+                (slice_index_or udp.items k p).source (slice_index_or udp.items k p).share
+                (slice_index_or udp.items k p).filing may_stop (slice_index_or ends.udp.items k e)) }
             ensures upstream { IfOk result (λ ends. HasEnded U.tells U.did D.tells D.passed U.has_ended
-                terms.entry.now upstream.source upstream.sender upstream.share may_stop ends.upstream) }
+                F.tells F.took F.handed_back terms.entry.now upstream.source upstream.sender upstream.share
+                upstream.filing may_stop ends.upstream) }
             ensures ticker { IfOk result (λ ends. TickerEnded B.tells B.gave B.failures B.has_ended D.tells
-                D.passed ticker.source ticker.sender ticker.share may_stop ends.ticker) }
+                D.passed F.tells F.took F.handed_back V.handed_back ticker.source ticker.sender ticker.share
+                ticker.filing may_stop ends.ticker) }
             ensures policies { IfOk result (λ ends. LoaderEnded P.tells P.gave P.failures P.has_ended
-                policies.source policies.share may_stop ends.policies) }
+                F.tells F.took F.handed_back policies.source policies.share policies.filing may_stop
+                ends.policies) }
         {
             let handles = start_all(scope, rt, alloc, desk, udp, gate, may_stop)?;
             let up = start_upstream(scope, rt, alloc, desk, upstream, terms, gate, may_stop)?;
-            let tick = start_ticker(scope, rt, alloc, desk, ticker, gate, rows, may_stop)?;
+            let tick = start_ticker(
+                scope,
+                rt,
+                alloc,
+                desk,
+                ticker,
+                volume_filing,
+                gate,
+                rows,
+                may_stop,
+            )?;
             let load = start_loader(scope, rt, alloc, desk, policies, gate, may_stop)?;
             let upstream = up.join(rt);
             let ticker = tick.join(rt);

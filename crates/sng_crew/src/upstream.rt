@@ -1,9 +1,11 @@
-//! The worker at the connection to the broker. A turn of it is `Gate::before`, one try to connect with its
-//! first packet, or one read with an act for each packet that it completes, then Take; then the wires of the
-//! turn's receipts are written until a write fails, and its datagrams are sent.
+//! The worker at the connection to the broker. Before a turn it hands off a piece of its trail where the gate
+//! says so. A turn of it is `Gate::before`, one try to connect with its first packet, or one read with an act
+//! for each packet that it completes, then Take; then the wires of the turn's receipts are written until a
+//! write fails, and its datagrams are sent.
 ghost use Rattle.std.specs.Prelude.{◌≡◌, ◌≤◌, true};
 ghost use Rattle.sng_desk.specs.Sights.{Share as share_sight};
-ghost use Rattle.sng_crew.specs.Turning.{Below, HasEnded, NextFor, Taken, Worked, is_connected, may_try};
+ghost use Rattle.sng_desk.specs.Pieces.{HandsOff, IsLeft, piece_of};
+ghost use Rattle.sng_crew.specs.Turning.{Below, Going, HasEnded, NextFor, Taken, Went, is_connected, may_try};
 
 use crate::answering::{answer, down};
 use crate::connection::{Opening, Stage, Terms, Upstream};
@@ -12,21 +14,24 @@ use crate::limits::MAX_TURN_EVENTS;
 use crate::passing::{send_all, settle, settle_bytes};
 use crate::stages::{TurnEnd, has_given_up, stage_next};
 use mqtt_frames::Stream;
-use sng_desk::{Datagrams, Desk, Gate, Hand, Log, Next, Share, WorkerEnd, WorkerFault};
+use sng_desk::{
+    Datagrams, Desk, Filer, Filing, Gate, Hand, Log, Next, Piece, Share, WorkerEnd, WorkerFault,
+};
 use std::alloc::Global;
 use std::sync::{Mutex, Wait};
 
 /// The worker at the connection, between two turns.
 #[derive(Drop)]
-struct BrokerWorker<U, D> {
+struct BrokerWorker<U, D, F> {
     up: U,
     sink: D,
     stage: Stage,
     stream: Stream,
     hand: Hand,
+    filer: Filer<F>,
 }
 
-impl<U: Upstream, D: Datagrams> BrokerWorker<U, D> {
+impl<U: Upstream, D: Datagrams, F: Filing<Piece>> BrokerWorker<U, D, F> {
     /// A turn at a connection: one ask, an act for each event, and then what goes out.
     fn listen<R: Wait, G: Gate>(
         &mut self,
@@ -43,6 +48,7 @@ impl<U: Upstream, D: Datagrams> BrokerWorker<U, D> {
             self.old.stage self.old.stream self.old.hand.log.trail self.old.hand.share self.new.up
             self.new.sink self.new.stage self.new.stream self.new.hand.log.trail self.new.hand.share }
         ensures below { Below terms.now.tries self.new.stage }
+        ensures filer { self.new.filer ≡ self.old.filer }
     {
         let from = self.hand.log.count();
         let Fed { packets, broken } = hear(alloc, &mut self.up, &mut self.stream);
@@ -70,6 +76,7 @@ impl<U: Upstream, D: Datagrams> BrokerWorker<U, D> {
             self.new.sink self.new.stage self.new.stream self.new.hand.log.trail self.new.hand.share }
         ensures below { Below terms.now.tries self.new.stage }
         ensures ended { result ≡ true → U.has_ended self.new.up ≡ true }
+        ensures filer { self.new.filer ≡ self.old.filer }
     {
         match self.up.connect() {
             Opening::NoneLeft => true,
@@ -87,7 +94,8 @@ impl<U: Upstream, D: Datagrams> BrokerWorker<U, D> {
         }
     }
 
-    /// One turn, or none where the last one was the last.
+    /// One turn, or none where the last one was the last. A piece of the trail is handed off first where the
+    /// gate says so.
     fn turn<R: Wait, G: Gate>(
         &mut self,
         rt: &R,
@@ -97,11 +105,13 @@ impl<U: Upstream, D: Datagrams> BrokerWorker<U, D> {
         terms: &Terms,
     ) -> Next
         requires { Below terms.now.tries self.old.stage }
-        ensures worked { (up : U) (sink : D) (share : share_sight)
-            → Worked U.tells U.did D.tells D.passed terms.now up sink share self.old.stage self.old.stream
-            self.old.up self.old.sink self.old.hand.log.trail self.old.hand.share
-            → Worked U.tells U.did D.tells D.passed terms.now up sink share self.new.stage self.new.stream
-            self.new.up self.new.sink self.new.hand.log.trail self.new.hand.share }
+        ensures going { (up : U) (sink : D) (share : share_sight) (filing : F)
+            → Going U.tells U.did D.tells D.passed F.tells F.took terms.now up sink share filing
+            self.old.stage self.old.stream self.old.up self.old.sink self.old.hand.share self.old.filer.filing
+            (piece_of self.old.filer.place self.old.hand.log.trail)
+            → Going U.tells U.did D.tells D.passed F.tells F.took terms.now up sink share filing
+            self.new.stage self.new.stream self.new.up self.new.sink self.new.hand.share self.new.filer.filing
+            (piece_of self.new.filer.place self.new.hand.log.trail) }
         ensures over { NextFor terms.now.tries result self.new.stage (U.has_ended self.new.up)
             (G.may_stop gate.now) self.new.hand.log.trail }
         ensures below { Below terms.now.tries self.new.stage }
@@ -109,6 +119,29 @@ impl<U: Upstream, D: Datagrams> BrokerWorker<U, D> {
         if self.hand.log.is_full() {
             return Next::Over(Some(WorkerFault::BookFull));
         }
+        self.filer.offer(gate, &mut self.hand.log);
+        self.go(rt, alloc, desk, gate, terms)
+    }
+
+    /// One turn, unless the last one was the last, the gate says that the worker is to end, or there is no
+    /// memory for the turn.
+    fn go<R: Wait, G: Gate>(
+        &mut self,
+        rt: &R,
+        alloc: Global,
+        desk: &Mutex<Desk>,
+        gate: &G,
+        terms: &Terms,
+    ) -> Next
+        requires { Below terms.now.tries self.old.stage }
+        ensures went { Went U.tells U.did D.tells D.passed terms.now self.old.up self.old.sink self.old.stage
+            self.old.stream self.old.hand.log.trail self.old.hand.share self.new.up self.new.sink
+            self.new.stage self.new.stream self.new.hand.log.trail self.new.hand.share }
+        ensures filer { self.new.filer ≡ self.old.filer }
+        ensures over { NextFor terms.now.tries result self.new.stage (U.has_ended self.new.up)
+            (G.may_stop gate.now) self.new.hand.log.trail }
+        ensures below { Below terms.now.tries self.new.stage }
+    {
         if let Stage::Fallen = self.stage {
             return Next::Over(Some(WorkerFault::Refused));
         }
@@ -131,21 +164,52 @@ impl<U: Upstream, D: Datagrams> BrokerWorker<U, D> {
         self.listen(rt, alloc, desk, gate, terms);
         Next::On
     }
+
+    /// What the worker leaves, once it has handed off what it has of its trail.
+    fn ended<G: Gate>(self, gate: &G, fault: Option<WorkerFault>) -> WorkerEnd<U, D, F>
+        ensures off { HandsOff F.tells F.took self.filer.filing
+            (piece_of self.filer.place self.hand.log.trail) result.filing result.rest }
+        ensures left { IsLeft result.rest (F.handed_back result.filing) }
+        ensures same { (result.source ≡ self.up) × (result.sender ≡ self.sink)
+            × (result.share ≡ self.hand.share) × (result.fault ≡ fault) }
+    {
+        let BrokerWorker {
+            up,
+            sink,
+            stage: _,
+            stream: _,
+            hand,
+            mut filer,
+        } = self;
+        let Hand { share, mut log } = hand;
+        filer.hand_off(&mut log);
+        gate.over(share.tag(), fault);
+        let Filer { filing, place } = filer;
+        WorkerEnd {
+            rest: log.into_piece(place),
+            share,
+            source: up,
+            sender: sink,
+            filing,
+            fault,
+        }
+    }
 }
 
 /// A worker at the connection to the broker.
-pub fn upstream_worker<R: Wait, U: Upstream, D: Datagrams, G: Gate>(
+pub fn upstream_worker<R: Wait, U: Upstream, D: Datagrams, F: Filing<Piece>, G: Gate>(
     rt: &R,
     alloc: Global,
     desk: &Mutex<Desk>,
     share: Share,
     source: U,
     sender: D,
+    filing: F,
     terms: &Terms,
     gate: &G,
-) -> WorkerEnd<U, D>
-    ensures { HasEnded U.tells U.did D.tells D.passed U.has_ended terms.now source sender share
-        (G.may_stop gate.now) result }
+) -> WorkerEnd<U, D, F>
+    ensures { HasEnded U.tells U.did D.tells D.passed U.has_ended F.tells F.took F.handed_back terms.now
+        source sender share filing (G.may_stop gate.now) result }
 {
     let log = Log::new(alloc, share.tag());
     let mut worker = BrokerWorker {
@@ -154,26 +218,11 @@ pub fn upstream_worker<R: Wait, U: Upstream, D: Datagrams, G: Gate>(
         stage: Stage::Away(0),
         stream: Stream::new(alloc),
         hand: Hand { share, log },
+        filer: Filer { filing, place: 0 },
     };
     for _ in rt.forever() {
         if let Next::Over(fault) = worker.turn(rt, alloc, desk, gate, terms) {
-            gate.over(worker.hand.log.by(), fault);
-            let BrokerWorker {
-                up,
-                sink,
-                stage: _,
-                stream: _,
-                hand,
-            } = worker;
-            let Hand { share, log } = hand;
-            return WorkerEnd {
-                trail: log.into_trail(),
-                share,
-                source: up,
-                sender: sink,
-                volumes: Vec::new(alloc),
-                fault,
-            };
+            return worker.ended(gate, fault);
         }
     }
     unreachable!()

@@ -11,12 +11,9 @@ use Rattle.sng_book.specs.declared.out.Out.{Out}
 use Rattle.sng_book.specs.declared.out.Out.TheVariants.{Send, Wire, Note}
 use Rattle.sng_desk.specs.Sights.{Share, Receipt}
 use Rattle.sng_desk.specs.declared.trail.Trail.{Trail}
-use Rattle.sng_desk.specs.Acts.{Moves, Act, Acted, no_trail, events_of, receipts_of, receipt_in, sends_in}
+use Rattle.sng_desk.specs.Acts.{Moves, Act, Acted, events_of, receipts_of, receipt_in, sends_in}
 use Rattle.sng_desk.specs.Acts.{sends_of}
-use Rattle.std.specs.Prelude.{Option, Some, None}
-use Rattle.sng_desk.specs.declared.ending.WorkerFault.{WorkerFault}
-use Rattle.sng_desk.specs.declared.ending.WorkerFault.TheVariants.{Device, GaveUp, Refused, BookFull}
-use Rattle.sng_desk.specs.Working.{Worked, Served, EndsFor}
+use Rattle.sng_desk.specs.Working.{Worked, Served}
 use Rattle.sng_desk.proofs.Acting.{logs_on, logs_none}
 
 pub still : {S X : Type 0} (tells : S → Bool) (did : S → List X) (now : S) → Moves tells did now now []
@@ -49,36 +46,52 @@ pub drop_grown : {X : Type 0} (xs ys all : List X) (from : ℕ) → all ≡ xs +
     → drop from all ≡ ys
 drop_grown xs ys all from e f = rw (e, f) (drop-append_seam xs ys)
 
--- an event was served that a source had given
-pub worked_on : {S : Type 0} (tells : S → Bool) (gave : S → List Event) (failed : S → ℕ) (told : S
-    → Bool) (passed : S → List (Address × List ℕ)) (source : S) (share : Share)
-    (before mid now : S) (trail : Trail) (left : Share) (event : Event) (grown : Trail) (after : Share)
-    → Worked tells gave failed told passed source source share before before trail left
-    → Moves tells gave before mid (event ∷ []) → Moves told passed before mid [] → failed before ≤ failed mid
-    → Served tells gave failed told passed event mid trail left now grown after
-    → Worked tells gave failed told passed source source share now now grown after
-worked_on tells gave failed told passed source share before mid now trail left event grown after w m p f s =
-    let given = moves_on tells gave before mid now (event ∷ []) [] m s.gives in
-    let sent = moves_on told passed before mid now [] (sends_of (receipts_of s.acts)) p s.sends in
-    record {
-      acts = w.acts ++ s.acts;
-      gives = rw (map-append (λ (act : Act). act.event) w.acts s.acts, s.events)
-          (moves_on tells gave source before now (events_of w.acts) (event ∷ []) w.gives given);
-      sends = rw (sends_grow w.acts s.acts) (moves_on told passed source before now
-          (sends_of (receipts_of w.acts)) (sends_of (receipts_of s.acts)) w.sends sent);
-      logs = logs_on (no_trail share.tag) share w.acts s.acts trail left grown after w.logs s.logs;
-      failures = omega (arith, w.failures, f, s.failures);
+-- what happened, and then what happened next
+pub worked_on : {S D : Type 0} (tells : S → Bool) (gave : S → List Event) (failed : S → ℕ) (told : D
+    → Bool) (passed : D → List (Address × List ℕ)) (source : S) (sink : D) (trail : Trail) (share : Share)
+    (mid : S) (half : D) (longer : Trail) (less : Share) (now : S) (emptied : D) (grown : Trail) (left :
+    Share)
+    → Worked tells gave failed told passed source sink trail share mid half longer less
+    → Worked tells gave failed told passed mid half longer less now emptied grown left
+    → Worked tells gave failed told passed source sink trail share now emptied grown left
+worked_on tells gave failed told passed source sink trail share mid half longer less now emptied grown left w
+    v = record {
+      acts = w.acts ++ v.acts;
+      gives = rw (map-append (λ (act : Act). act.event) w.acts v.acts)
+          (moves_on tells gave source mid now (events_of w.acts) (events_of v.acts) w.gives v.gives);
+      sends = rw (sends_grow w.acts v.acts) (moves_on told passed sink half emptied
+          (sends_of (receipts_of w.acts)) (sends_of (receipts_of v.acts)) w.sends v.sends);
+      logs = logs_on trail share w.acts v.acts longer less grown left w.logs v.logs;
+      failures = omega (arith, w.failures, v.failures);
     }
 
-pub worked_none : {S : Type 0} (tells : S → Bool) (gave : S → List Event) (failed : S → ℕ) (told : S
-    → Bool) (passed : S → List (Address × List ℕ)) (source : S) (share : Share)
-    → Worked tells gave failed told passed source source share source source (no_trail share.tag) share
-worked_none tells gave failed told passed source share = record {
+-- an event was served that a source had given
+pub worked_one : {S : Type 0} (tells : S → Bool) (gave : S → List Event) (failed : S → ℕ) (told : S
+    → Bool) (passed : S → List (Address × List ℕ)) (before mid now : S) (trail : Trail) (share : Share)
+    (event : Event) (grown : Trail) (left : Share) → Moves tells gave before mid (event ∷ [])
+    → Moves told passed before mid [] → failed before ≤ failed mid
+    → Served tells gave failed told passed event mid trail share now grown left
+    → Worked tells gave failed told passed before before trail share now now grown left
+worked_one tells gave failed told passed before mid now trail share event grown left m p f s = record {
+  acts = s.acts;
+  gives = rw s.events (moves_on tells gave before mid now (event ∷ []) [] m s.gives);
+  sends = moves_on told passed before mid now [] (sends_of (receipts_of s.acts)) p s.sends;
+  logs = s.logs;
+  failures = omega (arith, f, s.failures);
+}
+
+-- nothing came
+pub worked_none : {S D : Type 0} (tells : S → Bool) (gave : S → List Event) (failed : S → ℕ) (told : D
+    → Bool) (passed : D → List (Address × List ℕ)) (source : S) (sink : D) (trail : Trail) (share : Share)
+    (now : S) (emptied : D) (grown : Trail) (left : Share) → Moves tells gave source now []
+    → Moves told passed sink emptied [] → failed source ≤ failed now → grown ≡ trail → left ≡ share
+    → Worked tells gave failed told passed source sink trail share now emptied grown left
+worked_none tells gave failed told passed source sink trail share now emptied grown left m p f g l = record {
   acts = [];
-  gives = still tells gave source;
-  sends = still told passed source;
-  logs = logs_none (no_trail share.tag) share;
-  failures = omega arith;
+  gives = m;
+  sends = p;
+  logs = rw (g, l) (logs_none trail share);
+  failures = f;
 }
 
 -- the receipts of an act are those from the place on at which the log stood
@@ -100,12 +113,3 @@ served tells gave failed told passed event before now trail share grown left fin
       logs = a.logs;
       failures = f;
     }
-
--- why the last turn is the last is why the worker came to its end
-pub ends_since : (fault : Option WorkerFault) (first before now : ℕ) (ended stops : Bool) (trail : Trail)
-    → first ≤ before → EndsFor fault before now ended stops trail → EndsFor fault first now ended stops trail
-ends_since None first before now ended stops trail le e = e
-ends_since (Some Device) first before now ended stops trail le e = omega (arith, le, e)
-ends_since (Some BookFull) first before now ended stops trail le e = e
-ends_since (Some GaveUp) first before now ended stops trail le e = e
-ends_since (Some Refused) first before now ended stops trail le e = e

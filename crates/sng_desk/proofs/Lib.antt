@@ -1,4 +1,7 @@
 pub mod Spanning
 pub mod Acting
 pub mod Going
+pub mod Handing
+pub mod Lining
+pub mod Wholes
 pub mod Crossing

@@ -1,6 +1,6 @@
 //! What a turn of a worker leads to, and what a worker leaves.
 use crate::desk::Share;
-use crate::trail::Trail;
+use crate::piece::Piece;
 use crate::volume::Volume;
 use thiserror::Error;
 
@@ -32,19 +32,30 @@ pub enum Next {
 
 /// What a worker leaves.
 #[derive(Drop)]
-pub struct WorkerEnd<S, D> {
-    /// What it says of its acts.
-    pub trail: Trail,
+pub struct WorkerEnd<S, D, F> {
+    /// What it says of its acts since the last piece that it handed off.
+    pub rest: Piece,
     /// Its share, with which its rows were made.
     pub share: Share,
     /// Where its events came from.
     pub source: S,
     /// What it sent by; `NoSender` where that is its source, or it sends nothing.
     pub sender: D,
-    /// The volumes that it cut out, in order. Only the worker at a clock cuts.
-    pub volumes: Vec<Volume>,
+    /// Where it filed the pieces of its trail.
+    pub filing: F,
     /// Why it gave up, where it did.
     pub fault: Option<WorkerFault>,
+}
+
+/// What the worker at a clock leaves, the only one that cuts.
+#[derive(Drop)]
+pub struct TickerEnd<B, D, F, V> {
+    /// What each worker leaves.
+    pub worker: WorkerEnd<B, D, F>,
+    /// The volumes that it cut out and has not handed off, in order.
+    pub volumes: Vec<Volume>,
+    /// Where it filed those before them.
+    pub volume_filing: V,
 }
 
 /// In place of what a worker sends by, for one that has it in its source, or sends nothing.

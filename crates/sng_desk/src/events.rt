@@ -10,8 +10,10 @@ ghost use Rattle.sng_desk.specs.Sources.{datagram_events, tick_events, replace_e
 
 use crate::cutting::Cuts;
 use crate::desk::Desk;
+use crate::filing::Filing;
 use crate::gate::Gate;
 use crate::source::{Beats, Datagrams, Got, Policies};
+use crate::volume::Volume;
 use sng_book::{Address, Event};
 use sng_text::Octets;
 use std::sync::{Mutex, Wait};
@@ -95,13 +97,13 @@ impl<D: Datagrams> Source for Devices<D> {
 
 /// Clock values, datagrams to send by, and the volumes that are cut at the beats.
 #[derive(Drop)]
-pub struct Clock<B, D> {
+pub struct Clock<B, D, V> {
     pub beats: B,
     pub sender: D,
-    pub cuts: Cuts,
+    pub cuts: Cuts<V>,
 }
 
-impl<B: Beats, D: Datagrams> Source for Clock<B, D> {
+impl<B: Beats, D: Datagrams, V: Filing<Volume>> Source for Clock<B, D, V> {
     ghost tells = { λ s. B.tells s.beats };
 
     ghost gave = { λ s. tick_events (B.gave s.beats) };

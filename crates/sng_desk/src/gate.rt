@@ -12,13 +12,19 @@ pub trait Gate {
     /// Workers may be stopped by it.
     ghost may_stop: { Self → Bool };
 
-    /// Before each turn of a worker. At false it ends.
+    /// Before each turn of a worker. It may be held here, as where the book has too few free rows for a turn:
+    /// it has handed off what it was to, and has asked its source for nothing yet. At false it ends.
     fn before(&self, by: u16) -> bool
         ensures { result ≡ false → may_stop self.now ≡ true };
 
     /// Whether `before` may answer false. It is fixed for a gate.
     fn stops(&self) -> bool
         ensures { result ≡ may_stop self.now };
+
+    /// Whether the worker is to hand off the piece of its trail now, which has so many entries: receipts and
+    /// refusals. It is asked before `before`, where the piece has any. Before its end a worker hands off what
+    /// it has, and asks nobody.
+    fn hands_off(&self, by: u16, entries: usize) -> bool;
 
     /// After each act, once the lock is free: what came of it.
     fn after(&self, by: u16, receipt: &Receipt);

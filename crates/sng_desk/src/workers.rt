@@ -1,122 +1,142 @@
-//! The workers at datagrams, at a clock and at policies. A turn of each is `Gate::before`, one ask of its
-//! source, one act, `Gate::after`, and then what the act lets out for clients is sent. The worker at a clock then
-//! cuts the book where it has grown enough.
-ghost use Rattle.std.specs.Prelude.{◌≡◌, [], false};
+//! The workers at datagrams, at a clock and at policies. A turn of each hands off a piece of its trail where
+//! the gate says so; then it is `Gate::before`, one ask of its source, one act, `Gate::after`, and then what
+//! the act lets out for clients is sent. The worker at a clock then cuts the book where it has grown enough,
+//! and hands the volume off.
+ghost use Rattle.std.specs.Prelude.{[], false, vec_len};
+ghost use Rattle.sng_desk.specs.Pieces.{Waits};
 ghost use Rattle.sng_desk.specs.Sources.{datagram_events, tick_events, replace_events};
 ghost use Rattle.sng_desk.specs.Working.{HasEnded};
 
 use crate::cutting::Cuts;
 use crate::desk::{Desk, Share};
-use crate::ending::{NoSender, WorkerEnd};
+use crate::ending::{NoSender, TickerEnd, WorkerEnd};
 use crate::events::{Clock, Devices, Loader};
+use crate::filing::Filing;
 use crate::gate::Gate;
+use crate::piece::Piece;
 use crate::source::{Beats, Datagrams, Policies};
-use crate::working::{Left, work};
+use crate::volume::Volume;
+use crate::working::work;
 use std::alloc::Global;
 use std::sync::{Mutex, Wait};
 
 /// A worker at a source of datagrams, by which it sends.
-pub fn udp_worker<R: Wait, D: Datagrams, G: Gate>(
+pub fn udp_worker<R: Wait, D: Datagrams, F: Filing<Piece>, G: Gate>(
     rt: &R,
     alloc: Global,
     desk: &Mutex<Desk>,
     share: Share,
     source: D,
+    filing: F,
     gate: &G,
-) -> WorkerEnd<D, NoSender>
-    ensures ended { HasEnded D.tells (λ d. datagram_events (D.gave d)) D.failures D.has_ended D.tells D.passed
-        source source share (G.may_stop gate.now) result.source result.source result.trail result.share
-        result.fault }
-    ensures uncut { result.volumes.items ≡ [] }
+) -> WorkerEnd<D, NoSender, F>
+    ensures { HasEnded D.tells (λ d. datagram_events (D.gave d)) D.failures D.has_ended D.tells D.passed
+        F.tells F.took F.handed_back source source share filing (G.may_stop gate.now) result.source
+        result.source result.share result.filing result.rest result.fault }
 {
     let source = Devices { datagrams: source };
-    let Left {
-        trail,
+    let WorkerEnd {
+        rest,
         share,
         source,
+        sender,
+        filing,
         fault,
-    } = work(rt, alloc, desk, share, source, gate);
+    } = work(rt, alloc, desk, share, source, filing, gate);
     let Devices { datagrams } = source;
     WorkerEnd {
-        trail,
+        rest,
         share,
         source: datagrams,
-        sender: NoSender,
-        volumes: Vec::new(alloc),
+        sender,
+        filing,
         fault,
     }
 }
 
-/// A worker at a clock. After each beat it cuts the book where its open volume has so many rows.
-pub fn ticker<R: Wait, B: Beats, D: Datagrams, G: Gate>(
+/// A worker at a clock. After each beat it cuts the book where its open volume has so many rows, and hands
+/// the volume off.
+pub fn ticker<R: Wait, B: Beats, D: Datagrams, F: Filing<Piece>, V: Filing<Volume>, G: Gate>(
     rt: &R,
     alloc: Global,
     desk: &Mutex<Desk>,
     share: Share,
     source: B,
     sender: D,
+    filing: F,
+    volume_filing: V,
     gate: &G,
     rows: u64,
-) -> WorkerEnd<B, D>
-    ensures { HasEnded B.tells (λ b. tick_events (B.gave b)) B.failures B.has_ended D.tells D.passed source
-        sender share (G.may_stop gate.now) result.source result.sender result.trail result.share
-        result.fault }
+) -> TickerEnd<B, D, F, V>
+    ensures ended { HasEnded B.tells (λ b. tick_events (B.gave b)) B.failures B.has_ended D.tells D.passed
+        F.tells F.took F.handed_back source sender share filing (G.may_stop gate.now) result.worker.source
+        result.worker.sender result.worker.share result.worker.filing result.worker.rest
+        result.worker.fault }
+    ensures left { Waits (vec_len result.volumes) (V.handed_back result.volume_filing) }
 {
-    let volumes = Vec::new(alloc);
     let source = Clock {
         beats: source,
         sender,
-        cuts: Cuts { rows, volumes },
+        cuts: Cuts::new(alloc, rows, volume_filing),
     };
-    let Left {
-        trail,
+    let WorkerEnd {
+        rest,
         share,
         source,
+        sender: _,
+        filing,
         fault,
-    } = work(rt, alloc, desk, share, source, gate);
+    } = work(rt, alloc, desk, share, source, filing, gate);
     let Clock {
         beats,
         sender,
         cuts,
     } = source;
-    WorkerEnd {
-        trail,
-        share,
-        source: beats,
-        sender,
-        volumes: cuts.volumes,
-        fault,
+    let (volumes, volume_filing) = cuts.over();
+    TickerEnd {
+        worker: WorkerEnd {
+            rest,
+            share,
+            source: beats,
+            sender,
+            filing,
+            fault,
+        },
+        volumes,
+        volume_filing,
     }
 }
 
 /// A worker at a source of policies. It sends nothing.
-pub fn policy_worker<R: Wait, P: Policies, G: Gate>(
+pub fn policy_worker<R: Wait, P: Policies, F: Filing<Piece>, G: Gate>(
     rt: &R,
     alloc: Global,
     desk: &Mutex<Desk>,
     share: Share,
     source: P,
+    filing: F,
     gate: &G,
-) -> WorkerEnd<P, NoSender>
-    ensures ended { HasEnded P.tells (λ p. replace_events (P.gave p)) P.failures P.has_ended (λ p. false) (λ p. [])
-        source source share (G.may_stop gate.now) result.source result.source result.trail result.share
-        result.fault }
-    ensures uncut { result.volumes.items ≡ [] }
+) -> WorkerEnd<P, NoSender, F>
+    ensures { HasEnded P.tells (λ p. replace_events (P.gave p)) P.failures P.has_ended (λ p. false) (λ p. [])
+        F.tells F.took F.handed_back source source share filing (G.may_stop gate.now) result.source
+        result.source result.share result.filing result.rest result.fault }
 {
     let source = Loader { policies: source };
-    let Left {
-        trail,
+    let WorkerEnd {
+        rest,
         share,
         source,
+        sender,
+        filing,
         fault,
-    } = work(rt, alloc, desk, share, source, gate);
+    } = work(rt, alloc, desk, share, source, filing, gate);
     let Loader { policies } = source;
     WorkerEnd {
-        trail,
+        rest,
         share,
         source: policies,
-        sender: NoSender,
-        volumes: Vec::new(alloc),
+        sender,
+        filing,
         fault,
     }
 }

@@ -2,40 +2,60 @@
 ghost use Rattle.std.specs.Prelude.{◌≡◌, ◌≤◌, ◌∷◌, []};
 ghost use Rattle.sng_desk.specs.Sights.{Share as share_sight};
 ghost use Rattle.sng_desk.specs.Acts.{Moves, sends_in, sends_of};
-ghost use Rattle.sng_desk.specs.Working.{HasEnded, NextFor, Served, Worked};
+ghost use Rattle.sng_desk.specs.Pieces.{HandsOff, IsLeft, piece_of};
+ghost use Rattle.sng_desk.specs.Working.{Going, HasEnded, NextFor, Served, Worked};
 
 use crate::desk::{Desk, Receipt, Share};
-use crate::ending::{Next, WorkerFault};
+use crate::ending::{Next, NoSender, WorkerEnd, WorkerFault};
 use crate::events::Source;
+use crate::filer::Filer;
+use crate::filing::Filing;
 use crate::gate::Gate;
 use crate::hand::Hand;
+use crate::piece::Piece;
 use crate::source::Got;
-use crate::trail::{Log, Trail};
+use crate::trail::Log;
 use sng_book::{Event, Out};
 use std::alloc::Global;
 use std::sync::{Mutex, Wait};
 
 /// A worker at a source of events, between two turns.
 #[derive(Drop)]
-struct SourceWorker<S> {
+struct SourceWorker<S, F> {
     source: S,
     hand: Hand,
+    filer: Filer<F>,
 }
 
-impl<S: Source> SourceWorker<S> {
-    /// Asks the source once, and acts on what it gives.
+impl<S: Source, F: Filing<Piece>> SourceWorker<S, F> {
+    /// Hands off a piece of the trail where the gate says so, and then asks the source once.
     fn turn<R: Wait, G: Gate>(&mut self, rt: &R, desk: &Mutex<Desk>, gate: &G) -> Next
-        ensures worked { (source : S) (share : share_sight)
-            → Worked S.tells S.gave S.failures S.told S.passed source source share self.old.source
-            self.old.source self.old.hand.log.trail self.old.hand.share
-            → Worked S.tells S.gave S.failures S.told S.passed source source share self.new.source
-            self.new.source self.new.hand.log.trail self.new.hand.share }
+        ensures going { (source : S) (share : share_sight) (filing : F)
+            → Going S.tells S.gave S.failures S.told S.passed F.tells F.took source source share filing
+            self.old.source self.old.source self.old.hand.share self.old.filer.filing
+            (piece_of self.old.filer.place self.old.hand.log.trail)
+            → Going S.tells S.gave S.failures S.told S.passed F.tells F.took source source share filing
+            self.new.source self.new.source self.new.hand.share self.new.filer.filing
+            (piece_of self.new.filer.place self.new.hand.log.trail) }
         ensures over { NextFor result (S.failures self.old.source) (S.failures self.new.source)
             (S.has_ended self.new.source) (G.may_stop gate.now) self.new.hand.log.trail }
     {
         if self.hand.log.is_full() {
             return Next::Over(Some(WorkerFault::BookFull));
         }
+        self.filer.offer(gate, &mut self.hand.log);
+        self.ask(rt, desk, gate)
+    }
+
+    /// Asks the source once, and acts on what it gives.
+    fn ask<R: Wait, G: Gate>(&mut self, rt: &R, desk: &Mutex<Desk>, gate: &G) -> Next
+        ensures worked { Worked S.tells S.gave S.failures S.told S.passed self.old.source self.old.source
+            self.old.hand.log.trail self.old.hand.share self.new.source self.new.source
+            self.new.hand.log.trail self.new.hand.share }
+        ensures filer { self.new.filer ≡ self.old.filer }
+        ensures over { NextFor result (S.failures self.old.source) (S.failures self.new.source)
+            (S.has_ended self.new.source) (G.may_stop gate.now) self.new.hand.log.trail }
+    {
         if !gate.before(self.hand.log.by()) {
             return Next::Over(None);
         }
@@ -57,14 +77,42 @@ impl<S: Source> SourceWorker<S> {
     /// Acts on an event, sends what comes of it, and lets the source tend the desk.
     fn serve<R: Wait, G: Gate>(&mut self, rt: &R, desk: &Mutex<Desk>, gate: &G, event: Event)
         requires { 1 ≤ self.old.hand.log.spare }
-        ensures { Served S.tells S.gave S.failures S.told S.passed event self.old.source
+        ensures served { Served S.tells S.gave S.failures S.told S.passed event self.old.source
             self.old.hand.log.trail self.old.hand.share self.new.source self.new.hand.log.trail
             self.new.hand.share }
+        ensures filer { self.new.filer ≡ self.old.filer }
     {
         let from = self.hand.log.count();
         let _taken = self.hand.act(rt, desk, gate, event);
         send_all(&mut self.source, self.hand.log.receipts_from(from));
         self.source.tend(rt, desk, gate, self.hand.log.by());
+    }
+
+    /// What the worker leaves, once it has handed off what it has of its trail.
+    fn ended<G: Gate>(self, gate: &G, fault: Option<WorkerFault>) -> WorkerEnd<S, NoSender, F>
+        ensures off { HandsOff F.tells F.took self.filer.filing
+            (piece_of self.filer.place self.hand.log.trail) result.filing result.rest }
+        ensures left { IsLeft result.rest (F.handed_back result.filing) }
+        ensures same { (result.source ≡ self.source) × (result.share ≡ self.hand.share)
+            × (result.fault ≡ fault) }
+    {
+        let SourceWorker {
+            source,
+            hand,
+            mut filer,
+        } = self;
+        let Hand { share, mut log } = hand;
+        filer.hand_off(&mut log);
+        gate.over(share.tag(), fault);
+        let Filer { filing, place } = filer;
+        WorkerEnd {
+            rest: log.into_piece(place),
+            share,
+            source,
+            sender: NoSender,
+            filing,
+            fault,
+        }
     }
 }
 
@@ -101,41 +149,29 @@ fn send_out<S: Source>(source: &mut S, out: &Out)
     }
 }
 
-/// What is left of a worker.
-#[derive(Drop)]
-pub struct Left<S> {
-    pub trail: Trail,
-    pub share: Share,
-    pub source: S,
-    pub fault: Option<WorkerFault>,
-}
-
-/// Turn after turn, until one is the last.
-pub fn work<R: Wait, S: Source, G: Gate>(
+/// Turn after turn, until one is the last. What the worker has of its trail then is handed off, too.
+pub fn work<R: Wait, S: Source, F: Filing<Piece>, G: Gate>(
     rt: &R,
     alloc: Global,
     desk: &Mutex<Desk>,
     share: Share,
     source: S,
+    filing: F,
     gate: &G,
-) -> Left<S>
-    ensures { HasEnded S.tells S.gave S.failures S.has_ended S.told S.passed source source share
-        (G.may_stop gate.now) result.source result.source result.trail result.share result.fault }
+) -> WorkerEnd<S, NoSender, F>
+    ensures { HasEnded S.tells S.gave S.failures S.has_ended S.told S.passed F.tells F.took F.handed_back
+        source source share filing (G.may_stop gate.now) result.source result.source result.share
+        result.filing result.rest result.fault }
 {
     let log = Log::new(alloc, share.tag());
-    let hand = Hand { share, log };
-    let mut worker = SourceWorker { source, hand };
+    let mut worker = SourceWorker {
+        source,
+        hand: Hand { share, log },
+        filer: Filer { filing, place: 0 },
+    };
     for _ in rt.forever() {
         if let Next::Over(fault) = worker.turn(rt, desk, gate) {
-            gate.over(worker.hand.log.by(), fault);
-            let SourceWorker { source, hand } = worker;
-            let Hand { share, log } = hand;
-            return Left {
-                trail: log.into_trail(),
-                share,
-                source,
-                fault,
-            };
+            return worker.ended(gate, fault);
         }
     }
     unreachable!()

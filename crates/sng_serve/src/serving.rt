@@ -18,7 +18,7 @@ use crate::switch::Switch;
 use crate::tell::tell;
 use crate::writers::{ERRORS_PATIENCE_MS, OUTPUT_PATIENCE_MS, wait_for};
 use sng_crew::{Crew, Ended, NotStarted, Terms, Upstream, run_workers};
-use sng_desk::{Beats, Datagrams, Desk, Gate, Policies, Share};
+use sng_desk::{Beats, Datagrams, Desk, Filing, Gate, NoFiling, Piece, Policies, Share, Volume};
 use sng_operator::ask::{Ask, Fault, Words, ask_of, config_of};
 use sng_operator::config::Config;
 use sng_operator::ends::End;
@@ -42,6 +42,8 @@ type Left<'a, R> = Ended<
     BrokerLink<'a, R>,
     SystemBeats<'a, R>,
     OperatorPolicies<'a, R, StandardInput<'a, R>>,
+    NoFiling,
+    NoFiling,
 >;
 
 /// Serves until `quit` or the end of standard input, or until the gateway cannot go on.
@@ -297,22 +299,25 @@ fn run<
     U: Upstream + Send,
     B: Beats + Send,
     P: Policies + Send,
+    F: Filing<Piece> + Send,
+    V: Filing<Volume> + Send,
     G: Gate + Sync,
 >(
     rt: &R,
     hub: &Hub,
     desk: &Mutex<Desk>,
-    crew: Crew<D, U, B, P>,
+    crew: Crew<D, U, B, P, F, V>,
     terms: &Terms,
     gate: &G,
     ear: Ear,
-) -> (Result<Ended<D, U, B, P>, NotStarted>, Printed) {
+) -> (Result<Ended<D, U, B, P, F, V>, NotStarted>, Printed) {
     let Crew {
         udp,
         upstream,
         ticker,
         policies,
         rows,
+        volume_filing,
     } = crew;
     thread::scope(thread::scope_env(), rt, |scope| {
         let Some(printer) = start_printer(scope, rt, desk, hub, ear) else {
@@ -324,6 +329,7 @@ fn run<
             ticker,
             policies,
             rows,
+            volume_filing,
         };
         let ran = run_workers(rt, rt.alloc(), desk, crew, terms, gate);
         hub.end();
@@ -384,7 +390,7 @@ fn accounts_of<R: Clock + Net + Wait + Files + Input + Print + Eprint + AllocGlo
     let mut upstream = ended.upstream;
     upstream.source.finish();
     accounts.take(upstream)?;
-    accounts.take(ended.ticker)?;
+    accounts.take_ticker(ended.ticker)?;
     accounts.take(ended.policies)?;
     Ok(accounts)
 }

@@ -138,6 +138,11 @@ impl<'a, R: Clock + Wait> Gate for Switch<'a, R> {
         true
     }
 
+    /// What a worker says of its acts stays with it until it ends.
+    fn hands_off(&self, _by: u16, _entries: usize) -> bool {
+        false
+    }
+
     fn cut(&self, _by: u16, volume: &Volume) {
         let _placed = self.hub.shelf.put(self.rt, volume);
         self.hub.printer.ring();

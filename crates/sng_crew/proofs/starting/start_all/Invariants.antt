@@ -10,6 +10,8 @@ invariant-loop-post g l = record {
       ++ map (λ p. p.source) (into_iter_items l.post-iterator) ≡ map (λ p. p.source) l.fn.posts.items;
   shares : map (λ h. h.promise.share.value) l.handles.items ++ map (λ p. p.share)
       (into_iter_items l.post-iterator) ≡ map (λ p. p.share) l.fn.posts.items;
+  filings : map (λ h. h.promise.filing.value) l.handles.items ++ map (λ p. p.filing)
+      (into_iter_items l.post-iterator) ≡ map (λ p. p.filing) l.fn.posts.items;
   stops : map (λ h. h.promise.may_stop) l.handles.items ++ map (λ p. l.may_stop)
       (into_iter_items l.post-iterator) ≡ map (λ p. l.may_stop) l.fn.posts.items;
 }

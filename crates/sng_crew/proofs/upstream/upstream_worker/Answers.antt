@@ -1,17 +1,18 @@
 use Rattle.std.proofs.Common.{arith}
-use Rattle.sng_crew.proofs.Turns.{worked_none}
+use Rattle.sng_crew.proofs.Wholes.{going_none, has_ended}
 use Rattle.sng_crew.proofs.upstream.upstream_worker.Goals as goal
 
 pub loop-init : goal.loop-init
 loop-init g c =
     let u = g.U.Upstream in
     let d = g.D.Datagrams in
+    let f = g.F.Filing in
     record {
       can = tt;
       finite = tt;
       below = omega arith;
-      worked = rw (c.new-log.ensures, c.tag.ensures, c.new.ensures) (worked_none u.tells u.did d.tells
-          d.passed c.args.terms.now c.args.source c.args.sender c.args.share);
+      going = rw (c.new-log.ensures, c.tag.ensures, c.new.ensures) (going_none u.tells u.did d.tells d.passed
+          f.tells f.took c.args.terms.now c.args.source c.args.sender c.args.share c.args.filing);
     }
 
 pub loop-preserved : goal.loop-preserved
@@ -19,14 +20,19 @@ loop-preserved g c = record {
   can = tt;
   finite = tt;
   below = c.turn.ensures.below;
-  worked = c.turn.ensures.worked c.args.source c.args.sender c.args.share c.loop.invariant.worked;
+  going = c.turn.ensures.going c.args.source c.args.sender c.args.share c.args.filing c.loop.invariant.going;
 }
 
 pub returns-in-Over : goal.returns-in-Over
-returns-in-Over g c = record {
-  stage = c.turn.new.self.stage;
-  rest = c.turn.new.self.stream;
-  worked = rw c.into_trail.ensures (c.turn.ensures.worked c.args.source c.args.sender c.args.share
-      c.loop.invariant.worked);
-  fault = rw c.into_trail.ensures c.in-Over.ensures.over;
-}
+returns-in-Over g c =
+    let u = g.U.Upstream in
+    let d = g.D.Datagrams in
+    let f = g.F.Filing in
+    let new = c.turn.new.self in
+    let same = c.ended.ensures.same in
+    has_ended u.tells u.did d.tells d.passed u.has_ended f.tells f.took f.handed_back c.args.terms.now
+    c.args.source c.args.sender c.args.share c.args.filing (g.G.Gate.may_stop c.args.gate.now) new.stage
+    new.stream new.filer.filing new.filer.place new.hand.log.trail c.ended.result
+    (rw (same.0, same.1, same.2) (c.turn.ensures.going c.args.source c.args.sender c.args.share c.args.filing
+    c.loop.invariant.going)) (rw (same.0, same.3) c.in-Over.ensures.over) c.ended.ensures.off
+    c.ended.ensures.left

@@ -1,4 +1,5 @@
-use Rattle.sng_crew.specs.Turning.{Below, Worked}
+use Rattle.sng_desk.specs.Pieces.{piece_of}
+use Rattle.sng_crew.specs.Turning.{Below, Going}
 use Rattle.sng_crew.proofs.upstream.upstream_worker.Given as goal
 
 abbrev pub invariant-loop : goal.invariant-loop
@@ -6,7 +7,8 @@ invariant-loop g l = record {
   can : (goal.iterator-loop g).can_next l.iterator';
   finite : (goal.iterator-loop g).is_finite l.iterator';
   below : Below l.fn.terms.tries l.worker.stage;
-  worked : Worked g.U.Upstream.tells g.U.Upstream.did g.D.Datagrams.tells g.D.Datagrams.passed l.fn.terms
-      l.fn.source l.fn.sender l.fn.share l.worker.stage l.worker.stream l.worker.up l.worker.sink
-      l.worker.hand.log.trail l.worker.hand.share;
+  going : Going g.U.Upstream.tells g.U.Upstream.did g.D.Datagrams.tells g.D.Datagrams.passed g.F.Filing.tells
+      g.F.Filing.took l.fn.terms l.fn.source l.fn.sender l.fn.share l.fn.filing l.worker.stage
+      l.worker.stream l.worker.up l.worker.sink l.worker.hand.share l.worker.filer.filing
+      (piece_of l.worker.filer.place l.worker.hand.log.trail);
 }

@@ -1,33 +1,35 @@
-use Rattle.sng_desk.proofs.Going.{worked_none, ends_since}
+use Rattle.sng_desk.specs.Pieces.{piece_of}
+use Rattle.sng_desk.proofs.Wholes.{going_none, has_ended}
 use Rattle.sng_desk.proofs.working.work.Goals as goal
 
 pub loop-init : goal.loop-init
 loop-init g c =
     let s = g.S.Source in
+    let f = g.F.Filing in
     record {
       can = tt;
       finite = tt;
-      worked = rw (c.new-log.ensures, c.tag.ensures) (worked_none s.tells s.gave s.failures s.told s.passed
-          c.args.source c.args.share);
+      going = rw (c.new-log.ensures, c.tag.ensures) (going_none s.tells s.gave s.failures s.told s.passed
+          f.tells f.took c.args.source c.args.share c.args.filing);
     }
 
 pub loop-preserved : goal.loop-preserved
 loop-preserved g c = record {
   can = tt;
   finite = tt;
-  worked = c.turn.ensures.worked c.args.source c.args.share
-      c.loop.invariant.worked;
+  going = c.turn.ensures.going c.args.source c.args.share c.args.filing c.loop.invariant.going;
 }
 
 pub returns-in-Over : goal.returns-in-Over
 returns-in-Over g c =
     let s = g.S.Source in
-    let now = c.turn.new.self.source in
-    record {
-      worked = rw c.into_trail.ensures (c.turn.ensures.worked c.args.source c.args.share
-          c.loop.invariant.worked);
-      ends = rw c.into_trail.ensures
-          (ends_since c.in-Over.fault (s.failures c.args.source) (s.failures c.loop.worker.source)
-          (s.failures now) (s.has_ended now) (g.G.Gate.may_stop c.args.gate.now)
-          c.turn.new.self.hand.log.trail c.loop.invariant.worked.failures c.in-Over.ensures.over);
-    }
+    let f = g.F.Filing in
+    let new = c.turn.new.self in
+    let end = c.ended.result in
+    let same = c.ended.ensures.same in
+    rw (same.0, same.1, same.2) (has_ended s.tells s.gave s.failures s.has_ended s.told s.passed f.tells
+    f.took f.handed_back c.args.source c.args.source c.args.share c.args.filing (g.G.Gate.may_stop
+    c.args.gate.now) c.loop.worker.source new.source new.source new.hand.share new.filer.filing
+    new.filer.place new.hand.log.trail end.filing end.rest c.in-Over.fault
+    (c.turn.ensures.going c.args.source c.args.share c.args.filing c.loop.invariant.going)
+    c.loop.invariant.going.worked.failures c.in-Over.ensures.over c.ended.ensures.off c.ended.ensures.left)

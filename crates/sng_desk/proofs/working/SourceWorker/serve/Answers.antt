@@ -4,8 +4,8 @@ use Rattle.sng_desk.specs.Acts.{Moves, sends_of}
 use Rattle.sng_desk.proofs.Going.{moves_on, served}
 use Rattle.sng_desk.proofs.working.SourceWorker.serve.Goals as goal
 
-pub returns : goal.returns
-returns g c =
+pub returns-clause-served : goal.returns-clause-served
+returns-clause-served g c =
     let s = g.S.Source in
     let old = c.args.self.now in
     let hand = c.act-taken.new.self in

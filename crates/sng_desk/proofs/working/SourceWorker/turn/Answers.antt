@@ -1,16 +1,19 @@
-use Rattle.sng_desk.proofs.Going.{worked_on}
+use Rattle.sng_desk.specs.Pieces.{piece_of}
+use Rattle.sng_desk.proofs.Wholes.{going_off, going_on}
 use Rattle.sng_desk.proofs.working.SourceWorker.turn.Goals as goal
 
-pub returns-in-Came-clause-worked : goal.returns-in-Came-clause-worked
-returns-in-Came-clause-worked g c source share w =
+pub returns-clause-going : goal.returns-clause-going
+returns-clause-going g c source share filing w =
     let s = g.S.Source in
+    let f = g.F.Filing in
     let old = c.args.self.now in
-    let e = c.in-Came.ensures in
-    let new = c.serve.new.self in
-    worked_on s.tells s.gave s.failures s.told s.passed source share old.source c.ask.new.self new.source
-    old.hand.log.trail old.hand.share c.in-Came.event new.hand.log.trail new.hand.share w
-    e.given e.passed e.failures (rw c.room.ensures.same at c.serve.ensures)
-
--- with nothing the worker goes on
-pub returns-in-Nothing-clause-over : goal.returns-in-Nothing-clause-over
-returns-in-Nothing-clause-over g c = tt
+    let filer = c.offer.new.self in
+    let trail = c.offer.new.log.trail in
+    let new = c.ask.new.self in
+    rw c.ask.ensures.filer (going_on s.tells s.gave s.failures s.told s.passed f.tells f.took source source
+    share filing old.source old.source old.hand.share filer.filing filer.place trail new.source new.source
+    new.hand.log.trail new.hand.share
+    (going_off s.tells s.gave s.failures s.told s.passed f.tells f.took source source share filing old.source
+    old.source old.hand.share old.filer.filing (piece_of old.filer.place old.hand.log.trail) filer.filing
+    (piece_of filer.place trail) c.offer.ensures w)
+    c.ask.ensures.worked)

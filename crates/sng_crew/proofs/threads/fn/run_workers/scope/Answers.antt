@@ -25,10 +25,13 @@ returns-in-Ok g c =
           let share = ap (λ h. h.promise.share.value) keeps.handle_is
           ∙ same_at (λ h. h.promise.share.value) (λ p. p.share) hs ps k keeps.handle p made.shares below
           in
+          let filing = ap (λ h. h.promise.filing.value) keeps.handle_is
+          ∙ same_at (λ h. h.promise.filing.value) (λ p. p.filing) hs ps k keeps.handle p made.filings below
+          in
           let stop = ap (λ h. h.promise.may_stop) keeps.handle_is
           ∙ same_at (λ h. h.promise.may_stop) (λ p. c.captures.may_stop) hs ps k keeps.handle p made.stops
           below in
-          rw (sym source, sym share, sym stop) keeps.kept;
+          rw (sym source, sym share, sym filing, sym stop) keeps.kept;
       upstream = search rules;
       ticker = search rules;
       policies = search rules;

@@ -17,3 +17,9 @@ run_workers-ran-requires-send-B g c = search (c.requires, sendable)
 
 pub run_workers-ran-requires-send-P : goal.run_workers-ran-requires-send-P
 run_workers-ran-requires-send-P g c = search (c.requires, sendable)
+
+pub run_workers-ran-requires-send-F : goal.run_workers-ran-requires-send-F
+run_workers-ran-requires-send-F g c = search (c.requires, sendable)
+
+pub run_workers-ran-requires-send-V : goal.run_workers-ran-requires-send-V
+run_workers-ran-requires-send-V g c = search (c.requires, sendable)
