@@ -1,5 +1,5 @@
 -- What the worker at the connection did and handed off, from its beginning to its end.
-use Rattle.std.proofs.Common.{ℕ, Bool, ◌≡◌, ◌⊎◌, inl, inr, List, refl}
+use Rattle.std.proofs.Common.{ℕ, Bool, ◌≡◌, ◌⊎◌, inl, inr, List, [], refl}
 use Rattle.std.specs.Prelude.{Option, Some, None}
 use Rattle.mqtt_frames.specs.Streams.{State, Reading}
 use Rattle.sng_book.specs.declared.address.Address.{Address}

@@ -172,9 +172,13 @@ pub fn start_udp<
         filing: Snapshot::of(&filing),
         may_stop,
     };
-    let Ok(handle) = scope.spawn_with(promise, move || {
-        udp_worker(rt, alloc, desk.desk(), share, source, filing, gate)
-    }) else {
+    let Ok(handle) = scope.spawn_with(
+        promise,
+        move || -> WorkerEnd<D, NoSender, F>
+            ensures { UdpEnded D.tells D.gave D.failures D.has_ended D.passed F.tells F.took F.handed_back
+                source share filing (G.may_stop gate.entry.now) result }
+        { udp_worker(rt, alloc, desk.desk(), share, source, filing, gate) },
+    ) else {
         return Err(halted(gate));
     };
     Ok(handle)
@@ -279,20 +283,26 @@ pub fn start_ticker<
         volume_filing: Snapshot::of(&volume_filing),
         may_stop,
     };
-    let Ok(handle) = scope.spawn_with(promise, move || {
-        ticker(
-            rt,
-            alloc,
-            desk.desk(),
-            share,
-            source,
-            sender,
-            filing,
-            volume_filing,
-            gate,
-            rows,
-        )
-    }) else {
+    let Ok(handle) = scope.spawn_with(
+        promise,
+        move || -> TickerEnd<B, D, F, V>
+            ensures { TickerEnded B.tells B.gave B.failures B.has_ended D.tells D.passed F.tells F.took
+                F.handed_back V.handed_back source sender share filing (G.may_stop gate.entry.now) result }
+        {
+            ticker(
+                rt,
+                alloc,
+                desk.desk(),
+                share,
+                source,
+                sender,
+                filing,
+                volume_filing,
+                gate,
+                rows,
+            )
+        },
+    ) else {
         return Err(halted(gate));
     };
     Ok(handle)
@@ -331,9 +341,13 @@ pub fn start_loader<
         filing: Snapshot::of(&filing),
         may_stop,
     };
-    let Ok(handle) = scope.spawn_with(promise, move || {
-        policy_worker(rt, alloc, desk.desk(), share, source, filing, gate)
-    }) else {
+    let Ok(handle) = scope.spawn_with(
+        promise,
+        move || -> WorkerEnd<P, NoSender, F>
+            ensures { LoaderEnded P.tells P.gave P.failures P.has_ended F.tells F.took F.handed_back source
+                share filing (G.may_stop gate.entry.now) result }
+        { policy_worker(rt, alloc, desk.desk(), share, source, filing, gate) },
+    ) else {
         return Err(halted(gate));
     };
     Ok(handle)

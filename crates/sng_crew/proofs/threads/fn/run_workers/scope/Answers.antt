@@ -33,7 +33,9 @@ returns-in-Ok g c =
           below in
           rw (sym source, sym share, sym filing, sym stop) keeps.kept;
       upstream = search rules;
-      ticker = search rules;
+      ticker =
+          let same = c.in_ok-tick.ensures in
+          rw (sym same.0, sym same.1, sym same.2, sym same.3, sym same.4) c.join-ticker.ensures;
       policies = search rules;
     }
 
