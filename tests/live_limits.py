@@ -44,7 +44,8 @@ def a_full_book(room):
     gateway = room.gateway(room.test_broker().port, verbose=False, policy=SOURCE)
     begun = time.monotonic()
     flood(room, gateway.port)
-    gateway.line('err', '^sng: the book has 900000 of 1000000 rows$', FILLING)
+    gateway.line('err', '^sng: the book has 900000 of 1000000 rows: a gateway with --book goes on for ever$',
+                 FILLING)
     gateway.line('err', '^sng: the book is full: the gateway ends, as nothing more can be answered$', FILLING)
     filled, full = time.monotonic(), rss_kib(gateway.child.pid)
     most = full

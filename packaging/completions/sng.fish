@@ -10,7 +10,7 @@ complete -c sng -n $first -s V -l version -d 'Print version'
 
 complete -c sng -n $first -a play -d 'Plays a script of events from standard input'
 complete -c sng -n $first -a check \
-    -d 'Tells whether the rows of standard input are the lawful history of a script'
+    -d 'Tells whether a book is a lawful history: of a script from standard input, or on disk'
 complete -c sng -n $first -a cover \
     -d 'Tells whether a topic filter matches only names that granted ones match'
 complete -c sng -n $first -a may -d 'Tells what a policy allows'
@@ -25,6 +25,7 @@ complete -c sng -n "$behind check" -F
 complete -c sng -n "$behind policy" -F
 complete -c sng -n "$behind help" -a 'play check cover may policy serve broker help'
 
+complete -c sng -n "$behind check" -l book -rF -d 'The folder of books on disk, each of which is checked, or one file'
 complete -c sng -n "$behind may" -l policy -rF -d 'The file of the policy'
 complete -c sng -n "$behind policy" -l print -d 'Prints the policy as one line, the same for all texts of it'
 complete -c sng -n "$behind may" -l source -x \
@@ -42,6 +43,8 @@ complete -c sng -n "$behind serve" -l tries -x \
     -d 'How many tries to connect may fail in a row: 5 where it is left out; 0 is no end'
 complete -c sng -n "$behind serve" -l policy -rF \
     -d 'The file of the policy, read at the start and on a line `reload`'
+complete -c sng -n "$behind serve" -l book -rF \
+    -d 'The folder where the book is kept on disk: without it a run ends with 1000000 rows'
 complete -c sng -n "$behind serve" -l verbose -d 'Prints rows as they are made'
 complete -c sng -n "$behind serve" -l rows -d 'Prints all rows as the gateway stops'
 complete -c sng -n "$behind serve" -l flood-each -x \

@@ -27,6 +27,8 @@ pub enum Chosen<'a> {
     Play,
     /// Checks a book from standard input against the script of this file.
     Check(&'a str),
+    /// Checks the books on disk in this folder.
+    CheckBook(&'a str),
     /// Answers whether a filter is covered by granted ones.
     Cover,
     /// Answers what a policy says to a question.
@@ -49,7 +51,10 @@ pub fn read_command(alloc: Global, words: &[String]) -> Result<Chosen<'_>, Error
 /// What was matched. Those of its words that are required are there.
 fn choice<'a>(matches: &ArgMatches<'a>) -> Chosen<'a> {
     match matches.subcommand() {
-        Some(("check", asked)) => Chosen::Check(books::script_word(asked)),
+        Some(("check", asked)) => match books::folder_word(asked) {
+            Some(folder) => Chosen::CheckBook(folder),
+            None => Chosen::Check(books::script_word(asked)),
+        },
         Some(("cover", _)) => Chosen::Cover,
         Some(("may", asked)) => Chosen::May(questions::may_words(asked)),
         Some(("policy", asked)) => Chosen::Policy(questions::policy_words(asked)),

@@ -1,6 +1,7 @@
 //! `sng`, a gateway from MQTT-SN 1.2 to MQTT 3.1.1.
 #![tactic(auto)]
 
+mod book;
 mod checking;
 mod command;
 mod file;
@@ -29,6 +30,7 @@ fn main(rt: HostRuntime) -> ExitCode {
             Ok(Chosen::Check(script)) => {
                 End::from(checking::answer(&rt, words.as_slice(), script))
             }
+            Ok(Chosen::CheckBook(path)) => { End::from(book::answer(&rt, words.as_slice(), path)) }
             Ok(Chosen::Cover) => {
                 let filters = filters_among(words);
                 let status = cover_words(rt.alloc(), filters.as_slice(), io::writer(&rt));
