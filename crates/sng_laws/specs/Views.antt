@@ -8,7 +8,7 @@ use Rattle.sng_book.specs.declared.out.Out.{Out}
 use Rattle.sng_book.specs.declared.out.Out.TheVariants.{Send, Wire, Note}
 use Rattle.sng_book.specs.declared.row.Row.{Row}
 
--- the policy of the last replacement; before any, nothing is granted
+-- the policy of the last replacement; before any, nothing is granted. In plain rows that is the policy in force
 abbrev pub in_force_after : Event → Policy → Policy
 in_force_after (Replace policy) before = policy
 in_force_after other before = before

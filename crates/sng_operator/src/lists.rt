@@ -1,7 +1,9 @@
 //! How much a policy lists, as an operator is told it.
 ghost use Rattle.std.specs.Prelude.{◌≡◌, length};
+ghost use Rattle.sng_questions.specs.Ends.{ending_scopes};
 
 use sng_grants::Policy;
+use sng_questions::ends::ending_scopes;
 use std::fmt;
 use std::fmt::{Display, Formatter, Write};
 
@@ -12,6 +14,8 @@ pub struct Lists {
     pub sources: usize,
     /// The predefined topic ids.
     pub topics: usize,
+    /// The scopes that end.
+    pub ends: usize,
 }
 
 impl Lists {
@@ -19,11 +23,13 @@ impl Lists {
         ensures clients { result.clients ≡ length policy.now.clients }
         ensures sources { result.sources ≡ length policy.now.sources }
         ensures topics { result.topics ≡ length policy.now.topics }
+        ensures ends { result.ends ≡ ending_scopes policy.now }
     {
         Lists {
             clients: policy.clients.len(),
             sources: policy.sources.len(),
             topics: policy.topics.len(),
+            ends: ending_scopes(policy),
         }
     }
 }
@@ -34,7 +40,12 @@ impl Display for Lists {
             clients,
             sources,
             topics,
+            ends,
         } = *self;
-        write!(f, "{clients} clients, {sources} sources, {topics} topics")
+        write!(f, "{clients} clients, {sources} sources, {topics} topics")?;
+        if ends == 0 {
+            return Ok(());
+        }
+        write!(f, "; {ends} scopes end, by Unix time in ms")
     }
 }

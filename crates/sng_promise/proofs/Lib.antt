@@ -11,3 +11,4 @@ pub mod Answers
 pub mod Ticks
 pub mod InForce
 pub mod Examples
+pub mod Books

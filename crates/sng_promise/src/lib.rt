@@ -3,6 +3,7 @@
 //! histories are lawful in `sng_history`; no proof has to be read to know what they say.
 #![tactic(auto)]
 
+pub mod books;
 pub mod once;
 pub mod policies;
 pub mod promise;

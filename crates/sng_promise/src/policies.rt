@@ -13,8 +13,8 @@ use sng_grants::Policy;
 pub fn policies_have_filters(policy: &Policy)
     ensures { HaveFilters policy.now }
 {
-    for (_, scope) in policy.clients.iter() {
-        let _ = scope.pairs();
+    for (_, grant) in policy.clients.iter() {
+        let _ = grant.scope.pairs();
     }
 }
 

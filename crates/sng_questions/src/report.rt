@@ -4,9 +4,10 @@ ghost use Rattle.sng_scope.specs.Policies.{policy_of};
 ghost use Rattle.sng_places.specs.Places.{text_check};
 ghost use Rattle.sng_places.specs.declared.position.Position.{Position};
 ghost use Rattle.sng_questions.specs.Warnings.{AreWarningsOf};
-ghost use Rattle.sng_questions.specs.Reports.{accepted_text, fault_report, stop_text, report_text};
-ghost use Rattle.sng_questions.specs.Reports.{report_status};
+ghost use Rattle.sng_questions.specs.Reports.{accepted_text, ends_text, fault_report, stop_text};
+ghost use Rattle.sng_questions.specs.Reports.{report_text, report_status};
 
+use crate::ends::ending_scopes;
 use crate::flaws::push_count;
 use crate::places::push_found;
 use crate::warnings::warning_lines;
@@ -85,7 +86,20 @@ fn push_accepted(line: &mut Vec<u8>, policy: &Policy) -> Result<(), AllocError>
     push_count(line, "policy ok: ", policy.clients.len())?;
     push_count(line, " clients, ", policy.sources.len())?;
     push_count(line, " sources, ", policy.topics.len())?;
-    line.extend_from_slice(b" topics\n")
+    line.extend_from_slice(b" topics")?;
+    push_ends(line, ending_scopes(policy))?;
+    line.extend_from_slice(b"\n")
+}
+
+/// Appends how many scopes end, where some do.
+fn push_ends(line: &mut Vec<u8>, count: usize) -> Result<(), AllocError>
+    ensures { OnOk result (line.new.items ≡ line.old.items ++ ends_text count) }
+{
+    if count == 0 {
+        return Ok(());
+    }
+    push_count(line, "; ", count)?;
+    line.extend_from_slice(b" scopes end")
 }
 
 /// Appends the lines of the text's fault.

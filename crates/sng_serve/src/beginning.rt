@@ -1,38 +1,41 @@
-//! The policy that is in force before anybody is listened to: its row is the first, under a tag of its own.
-ghost use Rattle.std.specs.Prelude.{◌≡◌, ◌++◌, ◌∷◌, [], IfOk, IfErr, OnErr};
-ghost use Rattle.sng_desk.specs.declared.fault.ActFault.TheVariants.{Memory};
-ghost use Rattle.sng_serve.specs.Beginnings.{Begun};
+//! What is done before anybody is listened to: the clock is set, and the policy of the start is put in force. The
+//! rows of that are the first, under a tag of their own.
+ghost use Rattle.std.specs.Prelude.{◌≡◌, OnOk, OnErr};
+ghost use Rattle.sng_desk.specs.Acts.{no_trail};
+ghost use Rattle.sng_serve.specs.Beginnings.{Acted};
 
 use sng_book::Event;
-use sng_desk::{ActFault, Desk, Log, Share, Trail};
-use sng_grants::Policy;
+use sng_desk::{ActFault, Desk, Log, Share};
 use std::alloc::Global;
 
-/// What is left of the first act, as a worker leaves it.
+/// What is left of the first acts, as of a worker's.
 #[derive(Drop)]
 pub struct Beginning {
-    pub trail: Trail,
+    pub log: Log,
     pub share: Share,
 }
 
-/// Acts on the first policy, where there is one. An `Err` leaves the rows as they were.
-pub fn begin(
-    alloc: Global,
-    desk: &mut Desk,
-    mut share: Share,
-    policy: Option<Policy>,
-) -> Result<Beginning, ActFault>
-    ensures begun { IfOk result (λ b. Begun policy desk.new.before desk.old.rows desk.new.rows b.trail b.share
-        share) }
-    ensures err { OnErr result (desk.new.rows ≡ desk.old.rows) }
-{
-    let mut log = Log::new(alloc, share.tag());
-    if let Some(policy) = policy {
-        if log.room(1).is_err() {
+impl Beginning {
+    /// Nothing is done yet.
+    pub fn new(alloc: Global, share: Share) -> Beginning
+        ensures trail { result.log.trail ≡ no_trail share.tag }
+        ensures share { result.share ≡ share }
+    {
+        let log = Log::new(alloc, share.tag());
+        Beginning { log, share }
+    }
+
+    /// Acts on the event. An `Err` leaves the rows, and what is said of them, as they were.
+    pub fn act(&mut self, desk: &mut Desk, event: Event) -> Result<(), ActFault>
+        ensures ok { OnOk result (Acted event desk.new.before desk.old.rows desk.new.rows self.old.log.trail
+            self.new.log.trail self.old.share self.new.share) }
+        ensures err { OnErr result ((desk.new.rows ≡ desk.old.rows)
+            × (self.new.log.trail ≡ self.old.log.trail) × (self.new.share ≡ self.old.share)) }
+    {
+        if self.log.room(1).is_err() {
             return Err(ActFault::Memory);
         }
-        log.accept(desk.act(&mut share, Event::Replace(policy))?);
+        self.log.accept(desk.act(&mut self.share, event)?);
+        Ok(())
     }
-    let trail = log.into_trail();
-    Ok(Beginning { trail, share })
 }

@@ -1,7 +1,7 @@
 //! `sng serve`: the gateway between devices and a broker.
 
 use crate::beats::SystemBeats;
-use crate::beginning::{Beginning, begin};
+use crate::beginning::Beginning;
 use crate::bell::Ear;
 use crate::closing::Accounts;
 use crate::descriptors::{EMPTY, hold};
@@ -16,7 +16,9 @@ use crate::rows::print_all;
 use crate::socket::Socket;
 use crate::switch::Switch;
 use crate::tell::tell;
+use crate::unix_clock::UnixClock;
 use crate::writers::{ERRORS_PATIENCE_MS, OUTPUT_PATIENCE_MS, wait_for};
+use sng_book::Event;
 use sng_crew::{Crew, Ended, NotStarted, Terms, Upstream, run_workers};
 use sng_desk::{Beats, Datagrams, Desk, Filing, Gate, NoFiling, Piece, Policies, Share, Volume};
 use sng_operator::ask::{Ask, Fault, Words, ask_of, config_of};
@@ -213,7 +215,7 @@ where
     Ok(end)
 }
 
-/// Serves by the socket. The policy of the start is in force before a worker reads.
+/// Serves by the socket. The clock is set and the policy of the start in force before a worker reads.
 fn serve_by<R: Threads + Wait + Sync + Net + Clock + Files + Input + Print + Eprint + AllocGlobal>(
     rt: &R,
     hub: &Hub,
@@ -231,11 +233,12 @@ where
 {
     let shares = ask.workers.saturating_add(OTHERS + 1);
     let (mut desk, mut shares) = Desk::new(rt.alloc(), FULL_ROWS, shares)?;
-    let beginning = begin_first(rt, hub, &mut desk, &mut shares, &ask)?;
+    let clock = UnixClock::begin(rt)?;
+    let beginning = begin_first(rt, hub, &mut desk, &mut shares, &ask, &clock)?;
     tell_open(hub, socket);
     let gate = Switch::new(rt, hub, Roles::new(ask.workers));
     let prints_rows = ask.prints_rows;
-    let (crew, terms) = crew_of(rt, hub, ask, shares, socket, ears)?;
+    let (crew, terms) = crew_of(rt, hub, ask, shares, socket, ears, clock)?;
     let desk = Mutex::new(desk);
     let (ran, printed) = run_crew(rt, hub, &desk, crew, &terms, &gate, printer);
     let desk = desk.into_inner();
@@ -266,27 +269,32 @@ where
     run(rt, hub, desk, crew, terms, gate, ear)
 }
 
-/// Brings the policy of the start into force, and tells it.
+/// Sets the clock, brings the policy of the start into force, and tells both.
 fn begin_first<R: AllocGlobal>(
     rt: &R,
     hub: &Hub,
     desk: &mut Desk,
     shares: &mut Vec<Share>,
     ask: &Ask,
+    clock: &UnixClock,
 ) -> Result<Beginning, NotBegun> {
     let Some(share) = shares.pop() else {
         return Err(NotBegun::Memory);
     };
     let alloc = rt.alloc();
+    let mut beginning = Beginning::new(alloc, share);
+    let now = clock.ms(clock.begun());
+    beginning.act(desk, Event::Tick(now))?;
+    hub.tell(format_args!("clock: {now} ms of Unix time"));
     let Some(text) = &ask.text else {
-        return Ok(begin(alloc, desk, share, None)?);
+        return Ok(beginning);
     };
     // it was read before, so only memory can be wanting
     let Ok(policy) = read_policy(alloc, text.as_slice()) else {
         return Err(NotBegun::Memory);
     };
     let lists = Lists::of(&policy);
-    let beginning = begin(alloc, desk, share, Some(policy))?;
+    beginning.act(desk, Event::Replace(policy))?;
     hub.tell(format_args!("policy in force: {lists}"));
     Ok(beginning)
 }

@@ -13,3 +13,4 @@ mod There
 mod WillLemmas
 mod SleepLemmas
 pub mod Crossing
+pub mod HoldingsMade

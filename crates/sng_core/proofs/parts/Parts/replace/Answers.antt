@@ -12,11 +12,11 @@ returns-clause-outs c =
     let s : State = the_view c.self.inside in
     let good : Good s = subst Good (sym c.self.view_is) c.requires in
     c.in_ok-outs.ensures.outs
-    ∙ (replaced_outs s c.args.policy good ∙ ap (λ t. outs_by t (ByReplace c.args.policy)) c.self.view_is)
+    ∙ (replaced_outs s (c.at.result) good ∙ ap (λ t. outs_by t (ByReplace (c.at.result))) c.self.view_is)
 
 pub returns-clause-next : goal.returns-clause-next
 returns-clause-next c =
     let s : State = the_view c.self.inside in
     let good : Good s = subst Good (sym c.self.view_is) c.requires in
-    moved_by s c.args.policy _ _ _ good c.in_ok-outs.ensures.policy c.in_ok-outs.ensures.moved
-    ∙ ap (λ t. next_by t (ByReplace c.args.policy)) c.self.view_is
+    moved_by s (c.at.result) _ _ _ good c.in_ok-outs.ensures.policy c.in_ok-outs.ensures.moved
+    ∙ ap (λ t. next_by t (ByReplace (c.at.result))) c.self.view_is
