@@ -81,9 +81,9 @@ def begun(gateway):
     return udp
 
 
-def started(sng, policy, workers, port):
+def started(sng, policy, workers, port, *more):
     words = ['--listen', HOST + ':0', '--broker', '%s:%d' % (HOST, port), '--id', 'gw1', '--workers',
-             str(workers), '--policy', policy]
+             str(workers), '--policy', policy, *more]
     return subprocess.Popen([sng, 'serve', *words], stdin=subprocess.PIPE, stdout=subprocess.PIPE,
                             stderr=subprocess.PIPE, text=True)
 

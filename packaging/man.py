@@ -13,6 +13,7 @@ from roff import escaped, guarded, inline, plain, roff
 
 ROOT = os.path.dirname(os.path.dirname(os.path.abspath(__file__)))
 CONFIG_FILE, POLICY_FILE, PIPE = '/etc/sng/sng.toml', '/etc/sng/policy.json', '/run/sng.control'
+BOOKS = '/var/lib/sng'
 DOCUMENTS = '/usr/share/doc/sng'
 
 
@@ -104,7 +105,8 @@ def serve_page(version, found, running):
     out += ['.SH FILES', '.TP', '.I ' + plain(CONFIG_FILE), 'The configuration of the service.',
             '.TP', '.I ' + plain(POLICY_FILE), 'The policy of the service, see',
             '.BR sng\\-policy (5).', '.TP', '.I ' + PIPE,
-            'Its standard input, to which root may write commands.']
+            'Its standard input, to which root may write commands.',
+            '.TP', '.I ' + BOOKS, 'Its books on disk, a folder for each run.']
     return out + see_also(('sng', 1), ('sng-policy', 5), ('mosquitto', 8))
 
 

@@ -45,12 +45,13 @@ SHORT = 16 * 1024 * 1024
 # The texts of the help that have a number, with the constants that they tell of, and where these stand
 HELP_SOURCES = sorted(glob.glob(os.path.join(ROOT, 'crates/sng/src/command/*.rt')))
 HELP_CONSTANTS = [os.path.join(ROOT, 'crates/%s.rt' % name)
-                  for name in ('sng_config/src/limits', 'sng_operator/src/ask')]
+                  for name in ('sng_config/src/limits', 'sng_operator/src/ask', 'sng_bookkeeper/src/limits')]
 HELP_TEXTS = (
     'How many workers read datagrams, from 1 to {MAX_WORKERS}',
     'How many tries to connect may fail in a row: {USUAL_TRIES} where it is left out; 0 is no end',
     'How many denied datagrams a second one stranger may send: {each} where it is left out',
     'How many all strangers together may send: {all} where it is left out',
+    'The folder where the book is kept on disk: without it a run ends with {ROWS_AHEAD} rows',
 )
 
 # A run of the program: standard input, the exit status, and standard output and standard error, where they

@@ -14,6 +14,7 @@ import sys
 import time
 
 sys.dont_write_bytecode = True
+import live_book as book_cases
 import live_broker as broker_cases
 import live_faults as fault_cases
 import live_flood as flood_cases
@@ -41,7 +42,7 @@ ALONE = (session_cases.the_test_broker, program_cases.a_test_broker_that_does_no
          program_cases.an_input_that_cannot_be_read, program_cases.a_full_disk)
 ALONE = (ALONE + operator_cases.ALONE + row_cases.ALONE + broker_cases.ALONE + fault_cases.ALONE
          + limit_cases.ALONE + network_cases.ALONE + order_cases.ALONE + hostile_cases.ALONE
-         + flood_cases.ALONE)
+         + flood_cases.ALONE + book_cases.ALONE)
 BESIDE_A_BROKER = (session_cases.a_publish_without_a_session, session_cases.a_session_that_publishes,
                    session_cases.a_subscription, session_cases.a_policy_that_ends_a_subscription,
                    program_cases.a_broker_that_comes_back, program_cases.a_subscription_outlives_the_broker,

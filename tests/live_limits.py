@@ -44,7 +44,8 @@ def a_full_book(room):
     gateway = room.gateway(room.test_broker().port, verbose=False, policy=SOURCE)
     begun = time.monotonic()
     flood(room, gateway.port)
-    gateway.line('err', '^sng: the book has 900000 of 1000000 rows$', FILLING)
+    gateway.line('err', '^sng: the book has 900000 of 1000000 rows: a gateway with --book goes on for ever$',
+                 FILLING)
     gateway.line('err', '^sng: the book is full: the gateway ends, as nothing more can be answered$', FILLING)
     filled, full = time.monotonic(), rss_kib(gateway.child.pid)
     most = full
@@ -122,7 +123,8 @@ def refused_threads(room):
     wanted(status == 0, 'a gateway that has all its threads')
     # the two threads that write to standard output and standard error come first, when nothing is begun
     begun = (1, ['not closed'], ['sng: a thread was refused: a limit of processes, or memory'])
-    wanted(told == [(3, ['out of memory'], [])] * 2 + [begun] * 6, 'each refusal told, and not %r' % told)
+    # then come the one that prints rows, the one that runs the workers, and five workers
+    wanted(told == [(3, ['out of memory'], [])] * 2 + [begun] * 7, 'each refusal told, and not %r' % told)
 
 
 def a_disk_with_room_again(room):

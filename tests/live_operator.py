@@ -1,11 +1,12 @@
 """Cases of tests/live.py: what an operator says to the program while it serves."""
 import json
 import os
+import re
 import shutil
 import subprocess
 import time
 
-from live_parts import Process, free_port, measured, rss_kib, wanted
+from live_parts import LEVELS, Process, free_port, measured, rss_kib, wanted
 
 EXAMPLES = os.path.join(os.path.dirname(os.path.dirname(os.path.abspath(__file__))), 'examples')
 ALLOWS_S1 = {'version': 1, 'clients': {'s1': [['t/#', ['pub', 'sub']]]}}
@@ -31,6 +32,26 @@ def a_control_pipe(room):
     wanted(gateway.ended() == 0, 'status 0')
     wanted(stop.ended() == 0, 'a stop that ends behind the gateway')
     wanted(gateway.lines['out'][-1].startswith('closed '), 'rows that are closed')
+
+
+def the_level_of_each_line(room):
+    """Each line on standard error has a word for how grave it is."""
+    gateway = room.gateway(free_port(), '--tries', '2', connected=False)
+    gateway.line('err', 'gave up after 2 tries')
+    gateway.say(ALLOWS)
+    gateway.line('err', 'policy in force: 1 clients')
+    gateway.say('{"version":9}')
+    gateway.line('err', 'policy refused: Shape')
+    gateway.say('nonsense')
+    gateway.line('err', 'nonsense')
+    gateway.close(verbose=False)
+    wanted(all(re.match('sng: (%s): ' % '|'.join(LEVELS), line) for line in gateway.told),
+           'a level in each line, and not %r' % gateway.told)
+    for level, said in (('info', 'listening on'), ('warning', 'broker .*; trying again in'),
+                        ('error', 'broker .*; gave up after 2 tries'), ('info', 'policy in force'),
+                        ('error', 'policy refused: Shape'), ('warning', '.*nonsense')):
+        wanted(any(re.match('sng: %s: %s' % (level, said), line) for line in gateway.told),
+               '%s for %r, and not %r' % (level, said, gateway.told))
 
 
 def unit_command(name, pipe, gateway):
@@ -170,7 +191,7 @@ def what_is_told_of_a_policy(room):
     gateway.line('err', '^sng: a filter in a scope is not a valid topic filter, or is too long$')
     gateway.line('err', r"""^sng: at clients.s1\[0\]\[0\]: "t\+": wildcard '\+' inside a level$""")
     gateway.say(json.dumps({'version': 1, 'clients': {'c%02d' % number: [] for number in range(23)}}))
-    gateway.line('err', '^sng: warning: clients.c19 has no pairs: all is denied$')
+    gateway.line('err', '^sng: clients.c19 has no pairs: all is denied$')
     gateway.line('err', '^sng: 3 lines more: `sng policy` shows all$')
     gateway.line('err', '^sng: policy in force: 23 clients')
     gateway.close()
@@ -196,6 +217,6 @@ def an_input_that_does_not_block(room):
         os.close(given)
 
 
-ALONE = (a_control_pipe, the_units, what_a_line_asks_for, how_it_stands,
+ALONE = (a_control_pipe, the_level_of_each_line, the_units, what_a_line_asks_for, how_it_stands,
          rows_from_now_on, a_policy_that_changes_nothing,
          a_large_policy_that_changes_nothing, what_is_told_of_a_policy, an_input_that_does_not_block)

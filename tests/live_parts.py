@@ -9,6 +9,7 @@ import time
 
 HOST = '127.0.0.1'
 SECONDS = 10.0
+LEVELS = ('info', 'warning', 'error')
 
 
 class Failure(Exception):
@@ -60,11 +61,17 @@ def tool(name):
     return shutil.which(name, path=os.environ.get('PATH', '') + ':/usr/sbin:/usr/local/sbin')
 
 
+def without_levels(text):
+    """Lines of standard error without the words that tell how grave each is."""
+    return re.sub('^sng: (?:%s): ' % '|'.join(LEVELS), 'sng: ', text, flags=re.MULTILINE)
+
+
 class Process:
-    """A process with its lines of standard output and standard error, as they come."""
+    """A process with its lines of standard output and standard error, as they come. Those of standard error
+    are without their levels, and as they are among `told`."""
 
     def __init__(self, words, **more):
-        self.lines = {'out': [], 'err': []}
+        self.lines, self.told = {'out': [], 'err': []}, []
         pipes = {'stdin': subprocess.PIPE, 'stdout': subprocess.PIPE, 'stderr': subprocess.PIPE}
         self.child = subprocess.Popen(words, **dict(pipes, **more))
         self.readers = [threading.Thread(target=self.read, args=(name, pipe), daemon=True)
@@ -74,7 +81,11 @@ class Process:
 
     def read(self, name, pipe):
         for line in pipe:
-            self.lines[name].append(line.decode('utf-8', 'replace').rstrip('\n'))
+            text = line.decode('utf-8', 'replace').rstrip('\n')
+            if name == 'err':
+                self.told.append(text)
+                text = without_levels(text)
+            self.lines[name].append(text)
 
     def line(self, name, pattern, seconds=SECONDS, count=1):
         """The count-th line that the pattern is found in."""

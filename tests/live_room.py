@@ -9,7 +9,7 @@ import subprocess
 import tempfile
 
 from live_ends import Client, Device
-from live_parts import HOST, SECONDS, Process, free_port, tool, until, wanted
+from live_parts import HOST, SECONDS, Process, free_port, tool, until, wanted, without_levels
 
 
 class Room:
@@ -35,10 +35,10 @@ class Room:
         return done.returncode, done.stdout
 
     def told(self, *words):
-        """The same with the standard error."""
+        """The same with the standard error, whose lines are without their levels."""
         done = subprocess.run([self.program, *words], stdin=subprocess.DEVNULL, timeout=20, text=True,
                               capture_output=True, check=False)
-        return done.returncode, done.stdout, done.stderr
+        return done.returncode, done.stdout, without_levels(done.stderr)
 
     def keep(self, process):
         self.processes.append(process)

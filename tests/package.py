@@ -29,6 +29,7 @@ ROOT = os.path.dirname(os.path.dirname(os.path.abspath(__file__)))
 PROVED = os.path.join(ROOT, 'crates', 'sng', 'out', 'sng')
 UNIT = '/usr/lib/systemd/system/sng.service'
 CONFIG, POLICY, PIPE = '/etc/sng/sng.toml', '/etc/sng/policy.json', '/run/sng.control'
+BOOKS = '/var/lib/sng'
 LEFT = ('/usr/bin/sng', '/etc/sng', UNIT, '/usr/share/doc/sng')
 # What systemd-analyze may find at most, on its scale from 0 to 10
 EXPOSURE = 2.0
@@ -143,16 +144,20 @@ def as_the_unit(room, base, port):
     in a folder, the place of the policy; in no environment, and with the unit's pipe and umask."""
     text = read(base + UNIT)
     words = unit_file.started(text)
-    wanted(words == ['/usr/bin/sng', 'serve', '--config', CONFIG], 'the usual words, and not %s' % words)
+    usual = ['/usr/bin/sng', 'serve', '--config', CONFIG, '--book', BOOKS]
+    wanted(words == usual, 'the usual words, and not %s' % words)
     config = read(base + CONFIG)
     for usual, here in (('0.0.0.0:1884', HOST + ':0'), ('127.0.0.1:1883', '%s:%d' % (HOST, port)),
                         (POLICY, base + POLICY)):
         wanted(config.count('"%s"' % usual) == 1, 'the usual %s' % usual)
         config = config.replace('"%s"' % usual, '"%s"' % here)
-    words = [base + words[0], *words[1:-1], room.file('sng.toml', config)]
+    room.books = os.path.join(room.folder, 'books')
+    os.mkdir(room.books)
+    words = [base + words[0], *words[1:3], room.file('sng.toml', config), words[4], room.books]
     os.chmod(room.folder, 0o755)
     more = {'env': {}, 'cwd': '/', 'umask': int(unit_file.settings(text)['UMask'][0], 8)}
     if os.geteuid() == 0:
+        os.chown(room.books, NOBODY, NOBODY)
         more.update(user=NOBODY, group=NOBODY, extra_groups=[])
     try:
         more['preexec_fn'] = unit_file.filtering(unit_file.system_calls(text))
@@ -203,7 +208,10 @@ def the_first_publish(room, base):
     listener.hears('ab', '21')
     stop = begin(room, told(room, text, 'ExecStop', gateway))
     wanted(gateway.ended() == 0 and stop.ended() == 0, 'a stop that ends well')
-    wanted(re.fullmatch(r'closed \d+ rows', gateway.lines['out'][-1]), 'a book that is closed')
+    closed = re.fullmatch(r'closed (\d+) rows', gateway.lines['out'][-1])
+    wanted(closed, 'a book that is closed')
+    book = ''.join(read(path) for path in sorted(glob.glob(os.path.join(room.books, '00000001', '*.book'))))
+    wanted(book.count('\nrow ') == int(closed[1]), 'each row in the folder of the unit')
 
 
 def tried(program, folder):

@@ -43,7 +43,7 @@ def refused(module, device):
 def each_has_its_part(module, port, both):
     """A device is let in at its own gateway alone, and an alarm of the south reaches a valve of the north."""
     refused(module, module.Device((NORTH, port), 'meter-s1'))
-    both.line('out', '^north: sng: denied: connect meter-s1 - 3 NoScope ')
+    both.line('out', '^north: sng: info: denied: connect meter-s1 - 3 NoScope ')
     meter = module.Device((SOUTH, port), 'meter-s1')
     meter.connect()
     heard = []
@@ -88,7 +88,7 @@ def all_goes_well(program):
     both = Process([os.path.join(FOLDER, 'run')], env=dict(os.environ, **more), start_new_session=True)
     try:
         for name in ('north', 'south'):
-            both.line('out', '^%s: sng: broker .*: connected$' % name, PATIENCE)
+            both.line('out', '^%s: sng: info: broker .*: connected$' % name, PATIENCE)
         module = library()
         meter, valve = each_has_its_part(module, gateway, both)
         one_goes_on(module, both, meter, valve)

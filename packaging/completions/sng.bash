@@ -16,14 +16,14 @@ _sng() {
     may) options='--policy --source -h --help' words='publish receive subscribe' ;;
     policy) options='--print -h --help' files=yes ;;
     serve)
-      options='--config --listen --broker --id --workers --tries --policy --verbose --rows --flood-each
-        --flood-all -h --help'
+      options='--config --listen --broker --id --workers --tries --policy --book --verbose --rows
+        --flood-each --flood-all -h --help'
       ;;
     broker) options='--listen -h --help' ;;
     help) words='play check cover may policy serve broker help' ;;
   esac
   case $before in
-    --config | --policy) options='' words='' files=yes ;;
+    --config | --policy | --book) options='' words='' files=yes ;;
     --workers) options='' words='1 2 3 4 5 6 7 8' ;;
     --listen | --broker | --id | --tries | --source | --flood-each | --flood-all) return ;;
   esac

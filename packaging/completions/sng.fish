@@ -42,6 +42,8 @@ complete -c sng -n "$behind serve" -l tries -x \
     -d 'How many tries to connect may fail in a row: 5 where it is left out; 0 is no end'
 complete -c sng -n "$behind serve" -l policy -rF \
     -d 'The file of the policy, read at the start and on a line `reload`'
+complete -c sng -n "$behind serve" -l book -rF \
+    -d 'The folder where the book is kept on disk: without it a run ends with 1000000 rows'
 complete -c sng -n "$behind serve" -l verbose -d 'Prints rows as they are made'
 complete -c sng -n "$behind serve" -l rows -d 'Prints all rows as the gateway stops'
 complete -c sng -n "$behind serve" -l flood-each -x \

@@ -3,6 +3,7 @@ use crate::file::{first_no_text, report_word};
 use sng_script::Status;
 use sng_serve::{End, Words};
 use sng_text::Octets;
+use std::fs::File;
 use std::net::Net;
 use std::rt::{Clock, Files};
 use std::sync::Wait;
@@ -18,7 +19,7 @@ pub fn serve<
         + 'static
         + Net
         + Clock
-        + Files
+        + Files<File = File>
         + Input
         + Print
         + Eprint

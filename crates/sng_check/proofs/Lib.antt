@@ -7,3 +7,4 @@ pub mod Judged
 pub mod Turns
 pub mod Having
 pub mod Checked
+pub mod Pieces

@@ -6,6 +6,7 @@
 
 pub mod checking;
 mod compare;
+pub mod found;
 mod judging;
 pub mod laws;
 pub mod mismatch;

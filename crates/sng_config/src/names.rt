@@ -14,6 +14,7 @@ pub enum TextName {
     Broker,
     Id,
     Policy,
+    Book,
 }
 
 /// The settings that are numbers.
@@ -41,12 +42,13 @@ pub enum Name {
 }
 
 /// All settings, in the order in which they are told.
-pub const NAMES: [Name; 10] = [
+pub const NAMES: [Name; 11] = [
     Name::Text(TextName::Listen),
     Name::Text(TextName::Broker),
     Name::Text(TextName::Id),
     Name::Number(NumberName::Workers),
     Name::Text(TextName::Policy),
+    Name::Text(TextName::Book),
     Name::Number(NumberName::Tries),
     Name::Number(NumberName::FloodEach),
     Name::Number(NumberName::FloodAll),
@@ -64,6 +66,7 @@ impl TextName {
             TextName::Broker => "broker",
             TextName::Id => "id",
             TextName::Policy => "policy",
+            TextName::Book => "book",
         }
     }
 }

@@ -9,6 +9,7 @@ pub mod laws;
 pub mod limits;
 pub mod memory;
 mod passing;
+pub mod post;
 mod stages;
 mod starting;
 pub mod threads;
@@ -16,5 +17,6 @@ mod upstream;
 
 pub use connection::{Call, Close, Opening, ReadAnswer, Stage, Terms, Upstream, Written};
 pub use limits::{MAX_READ, MAX_TURN_EVENTS};
-pub use threads::{Crew, Ended, NotStarted, Post, SendingPost, run_workers};
+pub use post::{BrokerPost, Post};
+pub use threads::{Crew, Ended, NotStarted, run_workers};
 pub use upstream::upstream_worker;

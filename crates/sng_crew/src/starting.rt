@@ -4,11 +4,12 @@ ghost use Rattle.sng_crew.specs.Running.{UdpEnded, TickerEnded, LoaderEnded};
 ghost use Rattle.sng_crew.specs.Turning.{HasEnded};
 
 use crate::connection::{Terms, Upstream};
-use crate::threads::{NotStarted, Post, SendingPost};
+use crate::post::{BrokerPost, Post};
+use crate::threads::NotStarted;
 use crate::upstream::upstream_worker;
 use sng_desk::{
-    Beats, Datagrams, Desk, Filing, Gate, NoSender, Piece, Policies, Share, TickerEnd, Volume,
-    WorkerEnd, policy_worker, ticker, udp_worker,
+    Beats, ClockPost, Datagrams, Desk, Filing, Gate, NoSender, Piece, Policies, Share, TickerEnd,
+    Volume, WorkerEnd, policy_worker, ticker, udp_worker,
 };
 use std::alloc::Global;
 use std::snapshot::Snapshot;
@@ -199,8 +200,7 @@ pub fn start_upstream<
     rt: &'s R,
     alloc: Global,
     desk: &'s M,
-    post: SendingPost<U, D, F>,
-    terms: &'s Terms,
+    post: BrokerPost<U, D, F>,
     gate: &'s G,
     may_stop: bool,
 ) -> Result<PromisedHandle<WorkerEnd<U, D, F>, UpstreamPromise<U, D, F>>, NotStarted>
@@ -208,41 +208,25 @@ pub fn start_upstream<
     ensures post { IfOk result (λ h. (h.promise.source.value ≡ post.source)
         × (h.promise.sender.value ≡ post.sender) × (h.promise.share.value ≡ post.share)
         × (h.promise.filing.value ≡ post.filing)) }
-    ensures rest { IfOk result (λ h. (h.promise.terms.value ≡ terms.now) × (h.promise.may_stop ≡ may_stop)) }
+    ensures rest { IfOk result (λ h. (h.promise.terms.value ≡ post.terms) × (h.promise.may_stop ≡ may_stop)) }
 {
-    let SendingPost {
-        share,
-        source,
-        sender,
-        filing,
-    } = post;
     let promise = UpstreamPromise {
-        source: Snapshot::of(&source),
-        sender: Snapshot::of(&sender),
-        share: Snapshot::of(&share),
-        filing: Snapshot::of(&filing),
-        terms: Snapshot::of(terms),
+        source: Snapshot::of(&post.source),
+        sender: Snapshot::of(&post.sender),
+        share: Snapshot::of(&post.share),
+        filing: Snapshot::of(&post.filing),
+        terms: Snapshot::of(&post.terms),
         may_stop,
     };
     let Ok(handle) = scope.spawn_with(promise, move || {
-        upstream_worker(
-            rt,
-            alloc,
-            desk.desk(),
-            share,
-            source,
-            sender,
-            filing,
-            terms,
-            gate,
-        )
+        upstream_worker(rt, alloc, desk.desk(), post, gate)
     }) else {
         return Err(halted(gate));
     };
     Ok(handle)
 }
 
-/// Starts the worker at a clock, which cuts the book at so many rows.
+/// Starts the worker at a clock.
 pub fn start_ticker<
     's,
     E,
@@ -258,10 +242,8 @@ pub fn start_ticker<
     rt: &'s R,
     alloc: Global,
     desk: &'s M,
-    post: SendingPost<B, D, F>,
-    volume_filing: V,
+    post: ClockPost<B, D, F, V>,
     gate: &'s G,
-    rows: u64,
     may_stop: bool,
 ) -> Result<PromisedHandle<TickerEnd<B, D, F, V>, TickerPromise<B, D, F, V>>, NotStarted>
     requires { may_stop ≡ G.may_stop gate.now }
@@ -269,39 +251,21 @@ pub fn start_ticker<
         × (h.promise.sender.value ≡ post.sender) × (h.promise.share.value ≡ post.share)
         × (h.promise.filing.value ≡ post.filing) × (h.promise.may_stop ≡ may_stop)) }
 {
-    let SendingPost {
-        share,
-        source,
-        sender,
-        filing,
-    } = post;
     let promise = TickerPromise {
-        source: Snapshot::of(&source),
-        sender: Snapshot::of(&sender),
-        share: Snapshot::of(&share),
-        filing: Snapshot::of(&filing),
-        volume_filing: Snapshot::of(&volume_filing),
+        source: Snapshot::of(&post.source),
+        sender: Snapshot::of(&post.sender),
+        share: Snapshot::of(&post.share),
+        filing: Snapshot::of(&post.filing),
+        volume_filing: Snapshot::of(&post.volume_filing),
         may_stop,
     };
     let Ok(handle) = scope.spawn_with(
         promise,
         move || -> TickerEnd<B, D, F, V>
             ensures { TickerEnded B.tells B.gave B.failures B.has_ended D.tells D.passed F.tells F.took
-                F.handed_back V.handed_back source sender share filing (G.may_stop gate.entry.now) result }
-        {
-            ticker(
-                rt,
-                alloc,
-                desk.desk(),
-                share,
-                source,
-                sender,
-                filing,
-                volume_filing,
-                gate,
-                rows,
-            )
-        },
+                F.handed_back V.handed_back post.source post.sender post.share post.filing
+                (G.may_stop gate.entry.now) result }
+        { ticker(rt, alloc, desk.desk(), post, gate) },
     ) else {
         return Err(halted(gate));
     };

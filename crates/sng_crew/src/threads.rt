@@ -2,14 +2,15 @@
 ghost use Rattle.std.specs.Prelude.{◌≡◌, ◌<◌, ℕ, IfOk, length, slice_index_or};
 ghost use Rattle.sng_desk.specs.declared.ending.NoSender.{NoSender as no_sender};
 ghost use Rattle.sng_desk.specs.declared.ending.WorkerEnd.{WorkerEnd as end_type};
-ghost use Rattle.sng_crew.specs.declared.threads.Post.{Post as post_type};
+ghost use Rattle.sng_crew.specs.declared.post.Post.{Post as post_type};
 ghost use Rattle.sng_crew.specs.Running.{UdpEnded, TickerEnded, LoaderEnded};
 ghost use Rattle.sng_crew.specs.Turning.{HasEnded};
 
-use crate::connection::{Terms, Upstream};
+use crate::connection::Upstream;
+use crate::post::{BrokerPost, Post};
 use crate::starting::{halted, start_all, start_loader, start_ticker, start_upstream};
 use sng_desk::{
-    Beats, Datagrams, Desk, Filing, Gate, NoSender, Piece, Policies, Share, TickerEnd, Volume,
+    Beats, ClockPost, Datagrams, Desk, Filing, Gate, NoSender, Piece, Policies, TickerEnd, Volume,
     WorkerEnd,
 };
 use std::alloc::Global;
@@ -18,45 +19,17 @@ use std::thread;
 use std::thread::Threads;
 use thiserror::Error;
 
-/// A worker that is to start.
-#[derive(Drop)]
-pub struct Post<S, F> {
-    /// With which its rows are made.
-    pub share: Share,
-    /// Where its events come from.
-    pub source: S,
-    /// Where it files the pieces of its trail.
-    pub filing: F,
-}
-
-/// A worker that is to start, with what it sends by.
-#[derive(Drop)]
-pub struct SendingPost<S, D, F> {
-    /// With which its rows are made.
-    pub share: Share,
-    /// Where its events come from.
-    pub source: S,
-    /// By what it sends datagrams.
-    pub sender: D,
-    /// Where it files the pieces of its trail.
-    pub filing: F,
-}
-
 /// All workers of a gateway.
 #[derive(Drop)]
 pub struct Crew<D, U, B, P, F, V> {
     /// Those at datagrams, one at least.
     pub udp: Vec<Post<D, F>>,
     /// The one at the connection to the broker.
-    pub upstream: SendingPost<U, D, F>,
+    pub upstream: BrokerPost<U, D, F>,
     /// The one at a clock.
-    pub ticker: SendingPost<B, D, F>,
+    pub ticker: ClockPost<B, D, F, V>,
     /// The one at policies.
     pub policies: Post<P, F>,
-    /// After a beat of the clock the book is cut where its open volume has at least so many rows.
-    pub rows: u64,
-    /// Where the volumes are filed then.
-    pub volume_filing: V,
 }
 
 /// What all workers left.
@@ -93,7 +66,6 @@ pub fn run_workers<
     alloc: Global,
     desk: &Mutex<Desk>,
     crew: Crew<D, U, B, P, F, V>,
-    terms: &Terms,
     gate: &G,
 ) -> Result<Ended<D, U, B, P, F, V>, NotStarted>
     ensures len { IfOk result (λ ends. length ends.udp.items ≡ length crew.udp.items) }
@@ -105,7 +77,7 @@ pub fn run_workers<
         (slice_index_or crew.udp.items k p).filing (G.may_stop gate.now)
         (slice_index_or ends.udp.items k e)) }
     ensures upstream { IfOk result (λ ends. HasEnded U.tells U.did D.tells D.passed U.has_ended F.tells F.took
-        F.handed_back terms.now crew.upstream.source crew.upstream.sender crew.upstream.share
+        F.handed_back crew.upstream.terms crew.upstream.source crew.upstream.sender crew.upstream.share
         crew.upstream.filing (G.may_stop gate.now) ends.upstream) }
     ensures ticker { IfOk result (λ ends. TickerEnded B.tells B.gave B.failures B.has_ended D.tells D.passed
         F.tells F.took F.handed_back V.handed_back crew.ticker.source crew.ticker.sender crew.ticker.share
@@ -120,8 +92,6 @@ pub fn run_workers<
         upstream,
         ticker,
         policies,
-        rows,
-        volume_filing,
     } = crew;
     thread::scope(
         thread::scope_env(),
@@ -136,7 +106,7 @@ pub fn run_workers<
                 (slice_index_or udp.items k p).source (slice_index_or udp.items k p).share
                 (slice_index_or udp.items k p).filing may_stop (slice_index_or ends.udp.items k e)) }
             ensures upstream { IfOk result (λ ends. HasEnded U.tells U.did D.tells D.passed U.has_ended
-                F.tells F.took F.handed_back terms.entry.now upstream.source upstream.sender upstream.share
+                F.tells F.took F.handed_back upstream.terms upstream.source upstream.sender upstream.share
                 upstream.filing may_stop ends.upstream) }
             ensures ticker { IfOk result (λ ends. TickerEnded B.tells B.gave B.failures B.has_ended D.tells
                 D.passed F.tells F.took F.handed_back V.handed_back ticker.source ticker.sender ticker.share
@@ -146,18 +116,8 @@ pub fn run_workers<
                 ends.policies) }
         {
             let handles = start_all(scope, rt, alloc, desk, udp, gate, may_stop)?;
-            let up = start_upstream(scope, rt, alloc, desk, upstream, terms, gate, may_stop)?;
-            let tick = start_ticker(
-                scope,
-                rt,
-                alloc,
-                desk,
-                ticker,
-                volume_filing,
-                gate,
-                rows,
-                may_stop,
-            )?;
+            let up = start_upstream(scope, rt, alloc, desk, upstream, gate, may_stop)?;
+            let tick = start_ticker(scope, rt, alloc, desk, ticker, gate, may_stop)?;
             let load = start_loader(scope, rt, alloc, desk, policies, gate, may_stop)?;
             let upstream = up.join(rt);
             let ticker = tick.join(rt);

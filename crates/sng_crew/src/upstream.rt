@@ -12,6 +12,7 @@ use crate::connection::{Opening, Stage, Terms, Upstream};
 use crate::hearing::{Fed, hear};
 use crate::limits::MAX_TURN_EVENTS;
 use crate::passing::{send_all, settle, settle_bytes};
+use crate::post::BrokerPost;
 use crate::stages::{TurnEnd, has_given_up, stage_next};
 use mqtt_frames::Stream;
 use sng_desk::{
@@ -201,16 +202,19 @@ pub fn upstream_worker<R: Wait, U: Upstream, D: Datagrams, F: Filing<Piece>, G: 
     rt: &R,
     alloc: Global,
     desk: &Mutex<Desk>,
-    share: Share,
-    source: U,
-    sender: D,
-    filing: F,
-    terms: &Terms,
+    post: BrokerPost<U, D, F>,
     gate: &G,
 ) -> WorkerEnd<U, D, F>
-    ensures { HasEnded U.tells U.did D.tells D.passed U.has_ended F.tells F.took F.handed_back terms.now
-        source sender share filing (G.may_stop gate.now) result }
+    ensures { HasEnded U.tells U.did D.tells D.passed U.has_ended F.tells F.took F.handed_back post.terms
+        post.source post.sender post.share post.filing (G.may_stop gate.now) result }
 {
+    let BrokerPost {
+        share,
+        source,
+        sender,
+        filing,
+        terms,
+    } = post;
     let log = Log::new(alloc, share.tag());
     let mut worker = BrokerWorker {
         up: source,
@@ -221,7 +225,7 @@ pub fn upstream_worker<R: Wait, U: Upstream, D: Datagrams, F: Filing<Piece>, G: 
         filer: Filer { filing, place: 0 },
     };
     for _ in rt.forever() {
-        if let Next::Over(fault) = worker.turn(rt, alloc, desk, gate, terms) {
+        if let Next::Over(fault) = worker.turn(rt, alloc, desk, gate, &terms) {
             return worker.ended(gate, fault);
         }
     }

@@ -14,6 +14,7 @@ use crate::events::{Clock, Devices, Loader};
 use crate::filing::Filing;
 use crate::gate::Gate;
 use crate::piece::Piece;
+use crate::post::ClockPost;
 use crate::source::{Beats, Datagrams, Policies};
 use crate::volume::Volume;
 use crate::working::work;
@@ -60,20 +61,23 @@ pub fn ticker<R: Wait, B: Beats, D: Datagrams, F: Filing<Piece>, V: Filing<Volum
     rt: &R,
     alloc: Global,
     desk: &Mutex<Desk>,
-    share: Share,
-    source: B,
-    sender: D,
-    filing: F,
-    volume_filing: V,
+    post: ClockPost<B, D, F, V>,
     gate: &G,
-    rows: u64,
 ) -> TickerEnd<B, D, F, V>
     ensures ended { HasEnded B.tells (λ b. tick_events (B.gave b)) B.failures B.has_ended D.tells D.passed
-        F.tells F.took F.handed_back source sender share filing (G.may_stop gate.now) result.worker.source
-        result.worker.sender result.worker.share result.worker.filing result.worker.rest
+        F.tells F.took F.handed_back post.source post.sender post.share post.filing (G.may_stop gate.now)
+        result.worker.source result.worker.sender result.worker.share result.worker.filing result.worker.rest
         result.worker.fault }
     ensures left { Waits (vec_len result.volumes) (V.handed_back result.volume_filing) }
 {
+    let ClockPost {
+        share,
+        source,
+        sender,
+        filing,
+        rows,
+        volume_filing,
+    } = post;
     let source = Clock {
         beats: source,
         sender,

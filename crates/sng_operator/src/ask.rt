@@ -57,6 +57,8 @@ pub struct Words<'a> {
     pub flood_all: Option<u32>,
     /// The file of the policy.
     pub policy: Option<&'a str>,
+    /// The folder where the book is kept on disk.
+    pub book: Option<&'a str>,
     /// Rows are printed as they are made.
     pub is_verbose: bool,
     /// All rows are printed as the gateway stops.
@@ -76,6 +78,8 @@ pub struct Ask {
     /// The file of the policy, and its text, which is a policy.
     pub file: Option<String>,
     pub text: Option<Vec<u8>>,
+    /// The folder where the book is kept on disk, where it is.
+    pub book: Option<String>,
     pub is_verbose: bool,
     pub prints_rows: bool,
 }
@@ -95,6 +99,8 @@ pub enum Fault<'a> {
     File(Given<'a>, Error),
     /// The policy of the file is refused.
     Policy(Given<'a>, PolicyFault, Report),
+    /// All rows are to be printed at the end, and the book is kept on disk: they are not in memory then.
+    RowsOfBook,
     Memory,
 }
 
@@ -127,6 +133,9 @@ impl<'a> Display for Fault<'a> {
             Fault::Policy(given, fault, _) => {
                 let name = fault.name();
                 write!(f, "{given}: refused: {name}")
+            }
+            Fault::RowsOfBook => {
+                f.write_str("--rows cannot stand beside --book: its rows are on disk at the end")
             }
             Fault::Memory => f.write_str("out of memory"),
         }
@@ -172,6 +181,7 @@ pub fn ask_of<'a, R: Files + AllocGlobal>(
         }
         None => (None, None),
     };
+    let book = book_in(rt.alloc(), words, config)?;
     Ok(Ask {
         listen,
         broker,
@@ -181,6 +191,7 @@ pub fn ask_of<'a, R: Files + AllocGlobal>(
         flood: flood_in(words, config),
         file,
         text,
+        book,
         is_verbose: config.switch(SwitchName::Verbose, words.is_verbose),
         prints_rows: config.switch(SwitchName::Rows, words.prints_rows),
     })
@@ -195,6 +206,21 @@ fn needed<'a>(
     config
         .text(name, word)
         .ok_or(Fault::Missing(Name::Text(name)))
+}
+
+/// The folder where the book is kept on disk, where there is one. No rows can be printed at the end then.
+fn book_in<'a>(
+    alloc: Global,
+    words: &Words<'a>,
+    config: &'a Config<'a>,
+) -> Result<Option<String>, Fault<'a>> {
+    let Some(given) = config.text(TextName::Book, words.book) else {
+        return Ok(None);
+    };
+    if config.switch(SwitchName::Rows, words.prints_rows) {
+        return Err(Fault::RowsOfBook);
+    }
+    Ok(Some(String::from_str(alloc, given.word)?))
 }
 
 /// How many workers share the socket.

@@ -2,6 +2,7 @@
 //! reads holds up nobody who posts one.
 
 use crate::bell::Bell;
+use crate::level::Level;
 use crate::tally::Tally;
 use std::alloc::{AllocError, Global};
 use std::collections::VecDeque;
@@ -51,8 +52,8 @@ impl Board {
     }
 
     /// Posts a line for an operator.
-    pub fn tell<D: Display + Drop>(&self, what: D) {
-        match format!(in self.alloc; "sng: {what}\n") {
+    pub fn tell<D: Display + Drop>(&self, level: Level, what: D) {
+        match format!(in self.alloc; "sng: {level}: {what}\n") {
             Ok(line) => self.post(line.into_bytes()),
             Err(AllocError) => self.lost.add(1),
         }

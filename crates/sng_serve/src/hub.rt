@@ -3,6 +3,8 @@
 
 use crate::bell::Bell;
 use crate::board::Board;
+use crate::handover::Handover;
+use crate::level::Level;
 use crate::shelf::Shelf;
 use crate::tally::Tally;
 use crate::token::Token;
@@ -15,12 +17,24 @@ use std::fmt::Display;
 use std::sync::atomic::{AtomicBool, AtomicU8, Ordering};
 use std::sync::{Arc, Mutex};
 
+/// What wakes those that wait.
+#[derive(Drop)]
+pub struct Bells {
+    /// Wakes the worker at the connection to the broker.
+    pub upstream: Bell,
+    /// Wakes the ticker.
+    pub clock: Bell,
+    /// Wakes whoever prints rows.
+    pub printer: Bell,
+}
+
 #[derive(Drop)]
 pub struct Hub {
     stops: AtomicBool,
     is_up: AtomicBool,
     has_refused_upstream: AtomicBool,
     is_over: AtomicBool,
+    has_wrong_book: AtomicBool,
     has_full_book: AtomicBool,
     has_lost_worker: AtomicBool,
     is_socket_empty: AtomicBool,
@@ -50,6 +64,8 @@ pub struct Hub {
     pub flooded: Tally,
     /// The rows that were cut out of the book, for whoever prints rows.
     pub shelf: Shelf,
+    /// What stands between the workers and the book on disk.
+    pub handover: Handover,
     /// Wakes the worker at the connection to the broker.
     pub upstream: Bell,
     /// Wakes the ticker.
@@ -66,17 +82,22 @@ impl Hub {
         answers: Answers,
         flood: Flood,
         shelf: Shelf,
-        upstream: Bell,
-        clock: Bell,
-        printer: Bell,
+        bells: Bells,
+        handover: Handover,
         output: Arc<Board, Global>,
         errors: Arc<Board, Global>,
     ) -> Hub {
+        let Bells {
+            upstream,
+            clock,
+            printer,
+        } = bells;
         Hub {
             stops: AtomicBool::new(false),
             is_up: AtomicBool::new(false),
             has_refused_upstream: AtomicBool::new(false),
             is_over: AtomicBool::new(false),
+            has_wrong_book: AtomicBool::new(false),
             has_full_book: AtomicBool::new(false),
             has_lost_worker: AtomicBool::new(false),
             is_socket_empty: AtomicBool::new(true),
@@ -93,6 +114,7 @@ impl Hub {
             passed_over: Tally::new(),
             flooded: Tally::new(),
             shelf,
+            handover,
             upstream,
             clock,
             printer,
@@ -102,8 +124,8 @@ impl Hub {
     }
 
     /// Tells an operator: a line on standard error, for which nobody waits.
-    pub fn tell<D: Display + Drop>(&self, what: D) {
-        (*self.errors).tell(what);
+    pub fn tell<D: Display + Drop>(&self, level: Level, what: D) {
+        (*self.errors).tell(level, what);
     }
 
     /// Prints a text of whole lines on standard output, for which nobody waits.
@@ -122,13 +144,17 @@ impl Hub {
     /// Remembers why the gateway cannot go on as it was.
     pub fn remember(&self, why: Halt) {
         match why {
+            Halt::WrongBook => self.has_wrong_book.store(true, Ordering::SeqCst),
             Halt::FullBook => self.has_full_book.store(true, Ordering::SeqCst),
             Halt::LostWorker => self.has_lost_worker.store(true, Ordering::SeqCst),
         }
     }
 
-    /// What was remembered; the full book before a lost worker.
+    /// What was remembered; the wrong book before the full one, and that before a lost worker.
     pub fn halt(&self) -> Option<Halt> {
+        if self.has_wrong_book.load(Ordering::SeqCst) {
+            return Some(Halt::WrongBook);
+        }
         if self.has_full_book.load(Ordering::SeqCst) {
             return Some(Halt::FullBook);
         }
@@ -221,6 +247,7 @@ impl Hub {
     pub fn end(&self) {
         self.is_over.store(true, Ordering::SeqCst);
         self.printer.ring();
+        self.handover.bell.ring();
     }
 
     /// Whether all workers have ended.

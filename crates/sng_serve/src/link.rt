@@ -6,6 +6,7 @@ ghost use Rattle.sng_crew.specs.declared.connection.ReadAnswer.TheVariants.{Gone
 
 use crate::bell::Ear;
 use crate::hub::Hub;
+use crate::level::Level;
 use crate::watch::Watch;
 use crate::wire::{Came, Sent, Wire};
 use mqtt_frames::encode_disconnect;
@@ -84,9 +85,15 @@ impl<'a, R: Clock + Net + Wait + AllocGlobal> BrokerLink<'a, R> {
         self.tries.fail();
         let (address, count, pause) = (self.address, self.tries.failed, self.tries.pause());
         if self.tries.are_used_up(self.most) {
-            self.hub.tell(format_args!("broker {address}: {why}; gave up after {count} tries"));
+            self.hub.tell(
+                Level::Error,
+                format_args!("broker {address}: {why}; gave up after {count} tries"),
+            );
         } else {
-            self.hub.tell(format_args!("broker {address}: {why}; trying again in {pause} ms"));
+            self.hub.tell(
+                Level::Warning,
+                format_args!("broker {address}: {why}; trying again in {pause} ms"),
+            );
         }
     }
 
@@ -96,7 +103,7 @@ impl<'a, R: Clock + Net + Wait + AllocGlobal> BrokerLink<'a, R> {
         let lasted = self.tries.lose(up);
         let (address, pause) = (self.address, self.tries.pause());
         let parting = Parting { why, lasted, pause };
-        self.hub.tell(format_args!("broker {address}: {parting}"));
+        self.hub.tell(Level::Warning, format_args!("broker {address}: {parting}"));
     }
 
     /// The connection is over. One that was not accepted was a failed try.
@@ -245,7 +252,8 @@ impl<'a, R: Clock + Net + Wait + AllocGlobal> BrokerLink<'a, R> {
             self.tries.accept();
             self.accepted = self.watch.now();
             let address = self.address;
-            self.hub.tell(format_args!("broker {address}: connected"));
+            self.hub
+                .tell(Level::Info, format_args!("broker {address}: connected"));
         }
     }
 

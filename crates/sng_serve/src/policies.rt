@@ -9,6 +9,7 @@ ghost use Rattle.sng_desk.specs.declared.source.Got.TheVariants.{Ended as ended_
 ghost use Rattle.sng_desk.specs.declared.source.Got.TheVariants.{Failed as failed_answer};
 
 use crate::hub::Hub;
+use crate::level::Level;
 use crate::patient::PatientInput;
 use crate::reports::tell_report;
 use sng_desk::{Got, Policies};
@@ -95,7 +96,7 @@ impl<'a, R: Files + AllocGlobal, I: PatientInput + Drop> OperatorPolicies<'a, R,
         ensures ended { self.new.has_ended ≡ true }
     {
         if !self.input.is_given_up() {
-            self.hub.tell("standard input cannot be read");
+            self.hub.tell(Level::Error, "standard input cannot be read");
             self.lost_input = true;
         }
         self.end(true)
@@ -131,13 +132,14 @@ impl<'a, R: Files + AllocGlobal, I: PatientInput + Drop> OperatorPolicies<'a, R,
         ensures same { self.new.has_ended ≡ self.old.has_ended }
     {
         let Some(path) = &self.file else {
-            self.hub.tell("nothing to reload: --policy names no file");
+            self.hub.tell(Level::Warning, "nothing to reload: --policy names no file");
             return Got::Nothing;
         };
         match file_text(self.rt, path.as_str()) {
             Ok(text) => give(self.rt, self.hub, &mut self.in_force, text.as_slice()),
             Err(error) => {
-                self.hub.tell(format_args!("cannot read {path}: {error}"));
+                self.hub
+                    .tell(Level::Error, format_args!("cannot read {path}: {error}"));
                 Got::Nothing
             }
         }
@@ -168,10 +170,13 @@ impl<'a, R: Files + AllocGlobal, I: PatientInput + Drop> OperatorPolicies<'a, R,
             return;
         };
         if is_refused {
-            self.hub
-                .tell("policy refused: allocation failed: the one before stays");
+            self.hub.tell(
+                Level::Error,
+                "policy refused: allocation failed: the one before stays",
+            );
         } else {
-            self.hub.tell(format_args!("policy in force: {lists}"));
+            self.hub
+                .tell(Level::Info, format_args!("policy in force: {lists}"));
         }
     }
 }
@@ -210,7 +215,7 @@ fn give<R: AllocGlobal>(rt: &R, hub: &Hub, in_force: &mut InForce, text: &[u8]) 
 {
     match fate_of(rt.alloc(), in_force, text) {
         Fate::Unchanged => {
-            hub.tell("policy unchanged: nothing to do");
+            hub.tell(Level::Info, "policy unchanged: nothing to do");
             Got::Nothing
         }
         Fate::Taken(policy) => {
@@ -232,14 +237,17 @@ fn refuse<R: AllocGlobal>(rt: &R, hub: &Hub, text: &[u8], fault: PolicyFault) {
         hub.print(line);
     }
     let name = fault.name();
-    hub.tell(format_args!("policy refused: {name}: the one before stays"));
+    hub.tell(
+        Level::Error,
+        format_args!("policy refused: {name}: the one before stays"),
+    );
     tell_report(rt, hub, text);
 }
 
 /// Tells what a line can ask for.
 fn tell_help(hub: &Hub) {
     for line in HELP {
-        hub.tell(line);
+        hub.tell(Level::Info, line);
     }
 }
 
@@ -250,6 +258,6 @@ fn tell_unknown<R: AllocGlobal>(rt: &R, hub: &Hub, line: &[u8]) {
         return;
     }
     if let Ok(text) = str::from_utf8(text.as_slice()) {
-        hub.tell(text);
+        hub.tell(Level::Warning, text);
     }
 }

@@ -1,27 +1,34 @@
 //! `sng serve`: the gateway between devices and a broker.
 
 use crate::beats::SystemBeats;
-use crate::beginning::{Beginning, begin};
-use crate::bell::Ear;
+use crate::beginning::{Beginning, FirstEnd, begin};
+use crate::book_end::{BookEnd, end_book};
 use crate::closing::Accounts;
 use crate::descriptors::{EMPTY, hold};
 use crate::hub::Hub;
+use crate::keeping::{Keeper, Keeping, keep};
+use crate::level::Level;
 use crate::limits::FULL_ROWS;
 use crate::link::BrokerLink;
-use crate::opening::{Ears, NotBegun, ServingCrew, Shared, crew_of, make_shared, open, tell_open};
+use crate::opening::{
+    Ears, FolderKeeper, NotBegun, ServingCrew, Shared, Watchers, crew_of, make_shared, open,
+    open_book, tell_open,
+};
 use crate::patient::StandardInput;
 use crate::policies::OperatorPolicies;
-use crate::printing::{Printed, start_printer};
+use crate::printing::{Printed, Shown, start_printer};
 use crate::rows::print_all;
 use crate::socket::Socket;
 use crate::switch::Switch;
 use crate::tell::tell;
+use crate::trays::{PieceTray, VolumeTray};
 use crate::writers::{ERRORS_PATIENCE_MS, OUTPUT_PATIENCE_MS, wait_for};
-use sng_crew::{Crew, Ended, NotStarted, Terms, Upstream, run_workers};
-use sng_desk::{Beats, Datagrams, Desk, Filing, Gate, NoFiling, Piece, Policies, Share, Volume};
+use sng_crew::{Crew, Ended, NotStarted, Upstream, run_workers};
+use sng_desk::{Beats, Datagrams, Desk, Filing, Gate, Piece, Policies, Share, Volume};
+use sng_ledger::Closed;
 use sng_operator::ask::{Ask, Fault, Words, ask_of, config_of};
 use sng_operator::config::Config;
-use sng_operator::ends::End;
+use sng_operator::ends::{End, Halt};
 use sng_operator::lists::Lists;
 use sng_operator::roles::{OTHERS, Roles};
 use sng_operator::verbosity::Verbosity;
@@ -29,11 +36,12 @@ use sng_scope::read_policy;
 use sng_script::Status;
 use sng_script::ending::ended;
 use std::alloc::{AllocError, Global};
+use std::fs::File;
 use std::io::Write;
 use std::net::{Net, UdpSocket};
 use std::rt::{Clock, Files};
 use std::sync::{Mutex, Wait};
-use std::thread::Threads;
+use std::thread::{JoinHandle, Scope, Threads};
 use std::{io, thread};
 
 /// What the workers left.
@@ -42,8 +50,8 @@ type Left<'a, R> = Ended<
     BrokerLink<'a, R>,
     SystemBeats<'a, R>,
     OperatorPolicies<'a, R, StandardInput<'a, R>>,
-    NoFiling,
-    NoFiling,
+    PieceTray<'a, R>,
+    VolumeTray<'a, R>,
 >;
 
 /// Serves until `quit` or the end of standard input, or until the gateway cannot go on.
@@ -56,7 +64,7 @@ pub fn serve<
         + 'static
         + Net
         + Clock
-        + Files
+        + Files<File = File>
         + Input
         + Print
         + Eprint
@@ -72,7 +80,11 @@ where
     match hold(rt) {
         Ok(_descriptors) => serve_apart(rt, words),
         Err(error) => {
-            tell(rt, format_args!("cannot open {EMPTY}: {error}"));
+            tell(
+                rt,
+                Level::Error,
+                format_args!("cannot open {EMPTY}: {error}"),
+            );
             End::from(Status::Failed)
         }
     }
@@ -88,7 +100,7 @@ fn serve_apart<
         + 'static
         + Net
         + Clock
-        + Files
+        + Files<File = File>
         + Input
         + Print
         + Eprint
@@ -120,7 +132,7 @@ fn serve_asked<
         + 'static
         + Net
         + Clock
-        + Files
+        + Files<File = File>
         + Input
         + Print
         + Eprint
@@ -156,24 +168,30 @@ fn report<R: Print + Eprint + AllocGlobal>(rt: &R, fault: &Fault<'_>) -> Status 
         | Fault::Missing(_)
         | Fault::Address(_)
         | Fault::Id(_)
+        | Fault::RowsOfBook
         | Fault::File(_, _) => Ok(()),
     };
-    tell(rt, format_args!("{fault}"));
+    tell(rt, Level::Error, format_args!("{fault}"));
     ended(Status::Unreadable, printed.is_ok())
 }
 
 /// Tells why no worker was started.
 fn report_start<R: Print + Eprint + AllocGlobal>(rt: &R, why: &NotBegun) -> Status {
     match why {
+        NotBegun::Book(why) => {
+            tell(rt, Level::Error, why.as_str());
+            ended(Status::Unreadable, true)
+        }
         NotBegun::Listening(address, error) => {
             tell(
                 rt,
+                Level::Error,
                 format_args!("--listen {address}: cannot be opened: {error}"),
             );
             ended(Status::Unreadable, true)
         }
         NotBegun::System(error) => {
-            tell(rt, format_args!("cannot start: {error}"));
+            tell(rt, Level::Error, format_args!("cannot start: {error}"));
             ended(Status::Unreadable, true)
         }
         NotBegun::Memory => report(rt, &Fault::Memory),
@@ -190,12 +208,44 @@ fn start<
         + 'static
         + Net
         + Clock
+        + Files<File = File>
+        + Input
+        + Print
+        + Eprint
+        + AllocGlobal,
+>(rt: &R, mut ask: Ask) -> Result<End, NotBegun>
+where
+    R::Reader: Send,
+    R::File: Send,
+    R::Dir: Send,
+    R::Listener: Send,
+    R::Stream: Send,
+{
+    let Some(folder) = ask.book.take() else {
+        let no_keeper: Option<FolderKeeper<R>> = None;
+        return start_with(rt, ask, no_keeper);
+    };
+    let keeper = open_book(rt, folder.as_str(), ask.workers)?;
+    start_with(rt, ask, Some(keeper))
+}
+
+/// Opens what is waited at, and serves by it, with this bookkeeper where there is one.
+fn start_with<
+    R: Threads
+        + Wait
+        + Sync
+        + Copy
+        + Send
+        + 'static
+        + Net
+        + Clock
         + Files
         + Input
         + Print
         + Eprint
         + AllocGlobal,
->(rt: &R, ask: Ask) -> Result<End, NotBegun>
+    K: Keeping,
+>(rt: &R, ask: Ask, keeper: Option<Keeper<K>>) -> Result<End, NotBegun>
 where
     R::Reader: Send,
     R::File: Send,
@@ -204,22 +254,37 @@ where
     R::Stream: Send,
 {
     let socket = open(rt, ask.listen)?;
-    let Shared { hub, ears, printer } = make_shared(rt, ask.flood)?;
+    let Shared {
+        hub,
+        ears,
+        watchers,
+    } = make_shared(rt, ask.flood, keeper.is_some())?;
     if ask.is_verbose {
         hub.set_verbosity(Verbosity::On);
     }
-    let end = serve_by(rt, &hub, &socket, ears, printer, ask)?;
+    let followers = Followers { watchers, keeper };
+    let end = serve_by(rt, &hub, &socket, ears, followers, ask)?;
     let _ = wait_for(rt, &hub.errors, ERRORS_PATIENCE_MS);
     Ok(end)
 }
 
+/// Who follows what the workers do.
+#[derive(Drop)]
+struct Followers<K: Keeping> {
+    watchers: Watchers,
+    keeper: Option<Keeper<K>>,
+}
+
 /// Serves by the socket. The policy of the start is in force before a worker reads.
-fn serve_by<R: Threads + Wait + Sync + Net + Clock + Files + Input + Print + Eprint + AllocGlobal>(
+fn serve_by<
+    R: Threads + Wait + Sync + Net + Clock + Files + Input + Print + Eprint + AllocGlobal,
+    K: Keeping,
+>(
     rt: &R,
     hub: &Hub,
     socket: &UdpSocket,
     ears: Ears,
-    printer: Ear,
+    followers: Followers<K>,
     ask: Ask,
 ) -> Result<End, NotBegun>
 where
@@ -229,17 +294,33 @@ where
     R::Listener: Send,
     R::Stream: Send,
 {
+    let roles = Roles::new(ask.workers);
     let shares = ask.workers.saturating_add(OTHERS + 1);
     let (mut desk, mut shares) = Desk::new(rt.alloc(), FULL_ROWS, shares)?;
     let beginning = begin_first(rt, hub, &mut desk, &mut shares, &ask)?;
+    hub.handover.room.note_made(desk.rows_made());
+    let first = hand_off_first(rt, hub, beginning)?;
     tell_open(hub, socket);
-    let gate = Switch::new(rt, hub, Roles::new(ask.workers));
+    let gate = Switch::new(rt, hub, roles);
     let prints_rows = ask.prints_rows;
-    let (crew, terms) = crew_of(rt, hub, ask, shares, socket, ears)?;
+    let crew = crew_of(rt, hub, ask, shares, socket, ears)?;
     let desk = Mutex::new(desk);
-    let (ran, printed) = run_crew(rt, hub, &desk, crew, &terms, &gate, printer);
+    let ran = run_crew(rt, hub, &desk, crew, &gate, followers);
     let desk = desk.into_inner();
-    Ok(finish(rt, hub, desk, beginning, ran, printed, prints_rows))
+    Ok(finish(rt, hub, roles, desk, first, ran, prints_rows))
+}
+
+/// Hands off what the first act made, where the book goes to disk: no row behind it could go there before.
+fn hand_off_first<'a, R: Wait>(
+    rt: &'a R,
+    hub: &'a Hub,
+    beginning: Beginning,
+) -> Result<FirstEnd<PieceTray<'a, R>>, NotBegun> {
+    let first = beginning.hand_off(PieceTray::new(rt, hub));
+    if hub.handover.is_kept && !first.rest.receipts.as_slice().is_empty() {
+        return Err(NotBegun::Memory);
+    }
+    Ok(first)
 }
 
 /// Runs the workers at the socket, the broker, the clock and standard input. Here stands that each of them
@@ -247,15 +328,15 @@ where
 fn run_crew<
     'a,
     R: Threads + Wait + Sync + Net + Clock + Files + Input + Print + Eprint + AllocGlobal,
+    K: Keeping,
 >(
     rt: &'a R,
     hub: &'a Hub,
     desk: &Mutex<Desk>,
     crew: ServingCrew<'a, R>,
-    terms: &Terms,
     gate: &Switch<'a, R>,
-    ear: Ear,
-) -> (Result<Left<'a, R>, NotStarted>, Printed)
+    followers: Followers<K>,
+) -> Ran<Left<'a, R>, K>
 where
     R::Reader: Send,
     R::File: Send,
@@ -263,7 +344,7 @@ where
     R::Listener: Send,
     R::Stream: Send,
 {
-    run(rt, hub, desk, crew, terms, gate, ear)
+    run(rt, hub, desk, crew, gate, followers)
 }
 
 /// Brings the policy of the start into force, and tells it.
@@ -287,14 +368,35 @@ fn begin_first<R: AllocGlobal>(
     };
     let lists = Lists::of(&policy);
     let beginning = begin(alloc, desk, share, Some(policy))?;
-    hub.tell(format_args!("policy in force: {lists}"));
+    hub.tell(Level::Info, format_args!("policy in force: {lists}"));
     Ok(beginning)
 }
 
-/// Runs the workers, and follows the rows of the desk beside them.
+/// What a run came to.
+#[derive(Drop)]
+struct Ran<L, K: Keeping> {
+    left: Result<L, NotStarted>,
+    printed: Printed,
+    /// The bookkeeper behind its last turn, where there was one.
+    keeper: Option<Keeper<K>>,
+}
+
+impl<L, K: Keeping> Ran<L, K> {
+    /// A thread was refused.
+    fn refused(printed: Printed) -> Ran<L, K> {
+        Ran {
+            left: Err(NotStarted),
+            printed,
+            keeper: None,
+        }
+    }
+}
+
+/// Runs the workers, and follows what they do beside them.
 /// It knows of the workers only that they may go to other threads, which is shown where it is called.
 fn run<
     R: Threads + Wait + Clock + Sync + AllocGlobal,
+    K: Keeping,
     D: Datagrams + Send,
     U: Upstream + Send,
     B: Beats + Send,
@@ -307,72 +409,159 @@ fn run<
     hub: &Hub,
     desk: &Mutex<Desk>,
     crew: Crew<D, U, B, P, F, V>,
-    terms: &Terms,
     gate: &G,
-    ear: Ear,
-) -> (Result<Ended<D, U, B, P, F, V>, NotStarted>, Printed) {
+    followers: Followers<K>,
+) -> Ran<Ended<D, U, B, P, F, V>, K> {
     let Crew {
         udp,
         upstream,
         ticker,
         policies,
-        rows,
-        volume_filing,
     } = crew;
+    let Followers { watchers, keeper } = followers;
+    let Watchers {
+        printer,
+        keeper: ear,
+    } = watchers;
     thread::scope(thread::scope_env(), rt, |scope| {
-        let Some(printer) = start_printer(scope, rt, desk, hub, ear) else {
-            return (Err(NotStarted), Printed::none());
+        let Some(printer) = start_printer(scope, rt, desk, hub, printer) else {
+            return Ran::refused(Printed::none());
         };
         let crew = Crew {
             udp,
             upstream,
             ticker,
             policies,
-            rows,
-            volume_filing,
         };
-        let ran = run_workers(rt, rt.alloc(), desk, crew, terms, gate);
-        hub.end();
-        (ran, printer.join(rt))
+        let Some(workers) = start_workers(scope, rt, desk, hub, crew, gate) else {
+            hub.end();
+            return Ran::refused(printer.join(rt));
+        };
+        let keeper = match keeper {
+            Some(keeper) => Some(keep(rt, desk, hub, ear, keeper)),
+            None => None,
+        };
+        let left = workers.join(rt);
+        Ran {
+            left,
+            printed: printer.join(rt),
+            keeper,
+        }
     })
 }
 
-/// Holds what the workers left against the book, and prints what comes of it, behind its rows where they were
-/// asked for. Where standard input could not be read, nothing is printed.
-fn finish<R: Clock + Net + Wait + Files + Input + Print + Eprint + AllocGlobal>(
+/// Starts the thread that runs the workers and tells when they have ended, where one can be had.
+fn start_workers<
+    's,
+    E,
+    R: Threads + Wait + AllocGlobal + Sync + 's,
+    M: Shown + Sync + 's,
+    D: Datagrams + Send + 's,
+    U: Upstream + Send + 's,
+    B: Beats + Send + 's,
+    P: Policies + Send + 's,
+    F: Filing<Piece> + Send + 's,
+    V: Filing<Volume> + Send + 's,
+    G: Gate + Sync + 's,
+>(
+    scope: &Scope<'s, E>,
+    rt: &'s R,
+    desk: &'s M,
+    hub: &'s Hub,
+    crew: Crew<D, U, B, P, F, V>,
+    gate: &'s G,
+) -> Option<JoinHandle<Result<Ended<D, U, B, P, F, V>, NotStarted>>> {
+    scope
+        .spawn(move || {
+            let left = run_workers(rt, rt.alloc(), desk.desk(), crew, gate);
+            hub.end();
+            left
+        })
+        .ok()
+}
+
+/// Holds what the workers left against the book, and prints what comes of it. Where standard input could not
+/// be read, nothing is printed.
+fn finish<R: Clock + Net + Wait + Files + Input + Print + Eprint + AllocGlobal, K: Keeping>(
     rt: &R,
     hub: &Hub,
+    roles: Roles,
     desk: Desk,
-    beginning: Beginning,
-    ran: Result<Left<'_, R>, NotStarted>,
-    printed: Printed,
+    first: FirstEnd<PieceTray<'_, R>>,
+    ran: Ran<Left<'_, R>, K>,
     prints_rows: bool,
 ) -> End {
-    let Ok(ended) = ran else {
-        hub.tell("a thread was refused: a limit of processes, or memory");
+    let Ran {
+        left,
+        printed,
+        keeper,
+    } = ran;
+    let Ok(ended) = left else {
+        hub.tell(
+            Level::Error,
+            "a thread was refused: a limit of processes, or memory",
+        );
         return End::from(tell_closed(rt, hub, None, printed));
     };
     let lost_input = ended.policies.source.has_lost_input();
-    let Ok(accounts) = accounts_of(rt, ended, beginning) else {
+    let Ok(accounts) = accounts_of(rt, ended, first) else {
         return End::from(report(rt, &Fault::Memory));
     };
-    if lost_input {
-        return End::from(Status::Failed);
+    let end = match keeper {
+        Some(keeper) => {
+            let end = end_book(rt, hub, roles, keeper, desk, accounts);
+            if lost_input {
+                return End::from(Status::Failed);
+            }
+            finish_book(rt, hub, end, printed)
+        }
+        None if lost_input => return End::from(Status::Failed),
+        None => finish_rows(rt, hub, accounts, desk, printed, prints_rows),
+    };
+    match (end, hub.halt()) {
+        (End::Command(Status::Done), Some(why)) => End::Halted(why),
+        (end, _) => end,
     }
-    let closed = accounts.close(desk);
+}
+
+/// The end of a run whose rows are in memory: they are printed where they were asked for.
+fn finish_rows<R: Clock + Wait + Print + Eprint + AllocGlobal>(
+    rt: &R,
+    hub: &Hub,
+    accounts: Accounts,
+    desk: Desk,
+    printed: Printed,
+    prints_rows: bool,
+) -> End {
+    let closed: Option<Closed> = match accounts.close(rt.alloc(), desk) {
+        Ok(closed) => closed,
+        Err(AllocError) => return End::from(report(rt, &Fault::Memory)),
+    };
     let printed = match &closed {
         Some(closed) if prints_rows => printed.and_left(print_all(rt, hub, closed)),
         _ => printed,
     };
-    let status = tell_closed(
-        rt,
-        hub,
-        closed.map(|closed| closed.desk.rows_made()),
-        printed,
-    );
-    match (status, hub.halt()) {
-        (Status::Done, Some(why)) => End::Halted(why),
-        (status, _) => End::from(status),
+    let rows = closed.map(|closed| closed.desk.rows_made());
+    End::from(tell_closed(rt, hub, rows, printed))
+}
+
+/// The end of a run whose book is on disk. Its rows have left, so none is printed.
+fn finish_book<R: Clock + AllocGlobal>(rt: &R, hub: &Hub, end: BookEnd, printed: Printed) -> End {
+    let BookEnd {
+        closed,
+        left,
+        is_wrong,
+    } = end;
+    if left > 0 {
+        hub.tell(Level::Error, format_args!("{left} rows are not on disk"));
+    }
+    let status = tell_closed(rt, hub, closed, printed);
+    if is_wrong {
+        End::Halted(Halt::WrongBook)
+    } else if left > 0 {
+        End::from(Status::Failed)
+    } else {
+        End::from(status)
     }
 }
 
@@ -380,10 +569,10 @@ fn finish<R: Clock + Net + Wait + Files + Input + Print + Eprint + AllocGlobal>(
 fn accounts_of<R: Clock + Net + Wait + Files + Input + Print + Eprint + AllocGlobal>(
     rt: &R,
     ended: Left<'_, R>,
-    beginning: Beginning,
+    first: FirstEnd<PieceTray<'_, R>>,
 ) -> Result<Accounts, AllocError> {
     let mut accounts = Accounts::new(rt.alloc());
-    accounts.take_beginning(beginning)?;
+    accounts.take_first(first)?;
     for end in ended.udp {
         accounts.take(end)?;
     }
@@ -419,7 +608,7 @@ fn tell_closed<R: Clock + AllocGlobal>(
     let is_written = wait_for(rt, &hub.output, patience);
     let left = printed.left.saturating_add(hub.output.rows());
     if left > 0 {
-        hub.tell(format_args!("{left} rows were not printed"));
+        hub.tell(Level::Warning, format_args!("{left} rows were not printed"));
     }
     ended(
         status,

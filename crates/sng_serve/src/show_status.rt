@@ -3,6 +3,7 @@ ghost use Rattle.std.specs.Prelude.{◌≡◌, ◌+◌, length};
 ghost use Rattle.sng_core.specs.Census.{census_of};
 
 use crate::hub::Hub;
+use crate::level::Level;
 use sng_desk::Desk;
 use sng_operator::status::{Overview, push_status};
 use std::sync::{Mutex, Wait};
@@ -14,7 +15,7 @@ pub fn show_status<R: Wait + AllocGlobal>(rt: &R, hub: &Hub, desk: &Mutex<Desk>)
     if push_status(&mut text, &overview).is_ok() {
         hub.print(text);
     } else {
-        hub.tell("no status: allocation failed");
+        hub.tell(Level::Warning, "no status: allocation failed");
     }
 }
 

@@ -3,14 +3,15 @@
 ghost use Rattle.std.specs.Prelude.{true};
 
 use crate::hub::Hub;
-use crate::limits::{FULL_ROWS, NEARLY_FULL_ROWS};
+use crate::level::Level;
+use crate::limits::{CLOCK_ROWS, FULL_ROWS, NEARLY_FULL_ROWS, PIECE_ENTRIES, TURN_ROWS};
 use crate::socket::second_of;
 use crate::tally::Tally;
 use sng_book::Event;
 use sng_desk::{ActFault, Gate, Receipt, Volume, WorkerFault};
 use sng_operator::denials::denies_all;
 use sng_operator::ends::Halt;
-use sng_operator::roles::{Role, Roles};
+use sng_operator::roles::{OTHERS, Role, Roles};
 use std::rt::Clock;
 use std::sync::Wait;
 use std::sync::atomic::{AtomicU64, Ordering};
@@ -22,6 +23,9 @@ const BEATS_BETWEEN_LOOKS: u64 = 5;
 
 /// How long a worker waits that has no memory for its next turn, in ms.
 const SHORT_PAUSE_MS: u64 = 10;
+
+/// How long a worker waits at a time for which there is no room, in ms.
+const ROOM_PAUSE_MS: u64 = 10;
 
 /// The gate of a running gateway.
 #[derive(Drop)]
@@ -82,7 +86,8 @@ impl<'a, R: Clock + Wait> Switch<'a, R> {
     fn tell_count(&self, tally: &Tally, what: &str) {
         let count = tally.take();
         if count > 0 {
-            self.hub.tell(format_args!("{count} {what}"));
+            self.hub
+                .tell(Level::Warning, format_args!("{count} {what}"));
         }
     }
 
@@ -97,6 +102,88 @@ impl<'a, R: Clock + Wait> Switch<'a, R> {
         } else {
             flood.allow(*from);
         }
+    }
+
+    /// How many rows have to be left before such a worker begins a turn, where the book goes to disk: one
+    /// turn of each worker, so that what is begun finds its rows.
+    fn least_rows(&self, role: Role) -> u64 {
+        match role {
+            Role::Clock => CLOCK_ROWS,
+            Role::Devices | Role::Broker | Role::Policies => {
+                TURN_ROWS.saturating_mul(u64::from(self.roles.workers().saturating_add(OTHERS)))
+            }
+        }
+    }
+
+    /// Whether there is no room for a turn of the worker. One that has not handed off all that it has, since
+    /// there was room as it was asked to, makes that turn: what it has keeps the rows behind it from disk.
+    fn is_held(&self, by: u16) -> bool {
+        let handover = &self.hub.handover;
+        handover.is_kept
+            && handover.room.left() < self.least_rows(self.roles.of(by))
+            && !handover.hands.is_full(by)
+    }
+
+    /// Holds the worker until there is room for its turn, or all are to stop.
+    fn wait_for_room(&self, by: u16) {
+        if !self.is_held(by) {
+            return;
+        }
+        if self.hub.handover.room.begins_to_hold() {
+            let waiting = self.hub.handover.room.waiting();
+            self.hub.tell(
+                Level::Warning,
+                format_args!(
+                    "{waiting} rows wait for the disk: nobody is served until it takes some"
+                ),
+            );
+        }
+        for _ in self.rt.forever() {
+            thread::sleep(self.rt, Duration::from_millis(ROOM_PAUSE_MS));
+            if self.hub.stops() || !self.is_held(by) {
+                return;
+            }
+        }
+    }
+
+    /// Notes a row of a book that goes to disk, and tells that many wait.
+    fn note_row(&self, row: u64) {
+        let room = &self.hub.handover.room;
+        room.note_made(row);
+        let waiting = room.waiting();
+        if waiting >= NEARLY_FULL_ROWS && room.begins_to_fill() {
+            self.hub.tell(
+                Level::Warning,
+                format_args!("{waiting} rows wait for the disk, of {FULL_ROWS} that may"),
+            );
+        }
+        if room.left() == 0 {
+            self.fill_book();
+        }
+    }
+
+    /// Tells how full a book in memory is.
+    fn count_row(&self, row: u64) {
+        if row == NEARLY_FULL_ROWS {
+            self.hub.tell(
+                Level::Warning,
+                format_args!(
+                    "the book has {row} of {FULL_ROWS} rows: a gateway with --book goes on for ever"
+                ),
+            );
+        }
+        if row == FULL_ROWS {
+            self.fill_book();
+        }
+    }
+
+    /// The book has as many rows as it may have.
+    fn fill_book(&self) {
+        self.hub.tell(
+            Level::Error,
+            "the book is full: the gateway ends, as nothing more can be answered",
+        );
+        self.halt_for(Halt::FullBook);
     }
 
     /// Stops the gateway, which cannot go on.
@@ -117,7 +204,8 @@ impl<'a, R: Clock + Wait> Switch<'a, R> {
 
     /// A worker is lost: nobody is served without the last one at the socket, or without any of the others.
     fn take_loss(&self, role: Role) {
-        self.hub.tell(format_args!("the worker {role} gave up"));
+        self.hub
+            .tell(Level::Error, format_args!("the worker {role} gave up"));
         self.hub.remember(Halt::LostWorker);
         if role != Role::Devices || self.listening.fetch_sub(1, Ordering::SeqCst) == 1 {
             self.hub.stop();
@@ -128,9 +216,10 @@ impl<'a, R: Clock + Wait> Switch<'a, R> {
 impl<'a, R: Clock + Wait> Gate for Switch<'a, R> {
     ghost may_stop = { λ _. true };
 
-    /// All is sent that came of the turn before.
+    /// All is sent that came of the turn before. Where the book goes to disk the worker waits for room.
     fn before(&self, by: u16) -> bool {
         self.hub.token.give_back(self.rt, by);
+        self.wait_for_room(by);
         !self.hub.stops()
     }
 
@@ -138,17 +227,32 @@ impl<'a, R: Clock + Wait> Gate for Switch<'a, R> {
         true
     }
 
-    /// What a worker says of its acts stays with it until it ends.
-    fn hands_off(&self, _by: u16, _entries: usize) -> bool {
-        false
+    /// Where the book stays in memory what a worker says of its acts stays with it until it ends. Where it
+    /// goes to disk a worker at the socket hands off a piece once it is long, in its first turn after a cut,
+    /// and where there is no room for a turn; any other does after each turn.
+    fn hands_off(&self, by: u16, entries: usize) -> bool {
+        let handover = &self.hub.handover;
+        if !handover.is_kept {
+            return false;
+        }
+        match self.roles.of(by) {
+            Role::Devices => {
+                handover.hands.takes_ask(by)
+                    || entries >= PIECE_ENTRIES
+                    || handover.room.left() < self.least_rows(Role::Devices)
+            }
+            Role::Broker | Role::Clock | Role::Policies => true,
+        }
     }
 
     fn cut(&self, _by: u16, volume: &Volume) {
-        let _placed = self.hub.shelf.put(self.rt, volume);
+        self.hub.shelf.put(self.rt, volume);
         self.hub.printer.ring();
+        self.hub.handover.hands.ask_all();
     }
 
     fn refused(&self, by: u16, fault: ActFault) {
+        self.hub.handover.hands.fill(by);
         if self.roles.of(by) == Role::Broker {
             self.hub.refuse_upstream();
         }
@@ -184,6 +288,7 @@ impl<'a, R: Clock + Wait> Gate for Switch<'a, R> {
     }
 
     fn after(&self, by: u16, receipt: &Receipt) {
+        self.hub.handover.hands.fill(by);
         let (role, row) = (self.roles.of(by), receipt.number());
         if role == Role::Broker {
             self.hub.acted_upstream();
@@ -194,13 +299,10 @@ impl<'a, R: Clock + Wait> Gate for Switch<'a, R> {
         self.hub.printer.ring();
         self.judge(receipt);
         self.tell_counts(role);
-        if row == NEARLY_FULL_ROWS {
-            self.hub
-                .tell(format_args!("the book has {row} of {FULL_ROWS} rows"));
-        }
-        if row == FULL_ROWS {
-            self.hub.tell("the book is full: the gateway ends, as nothing more can be answered");
-            self.halt_for(Halt::FullBook);
+        if self.hub.handover.is_kept {
+            self.note_row(row);
+        } else {
+            self.count_row(row);
         }
     }
 }

@@ -1,5 +1,6 @@
 //! `sng broker`: the test broker over TCP, on one thread.
 
+use crate::level::Level;
 use crate::tell::tell;
 use crate::test_client::{Heard, TestClient};
 use mio::net::TcpListener;
@@ -68,7 +69,7 @@ pub fn open<R: Net + Eprint + AllocGlobal>(rt: &R, address: SocketAddr) -> io::R
     poll.registry()
         .register(&mut listener, ANY, Interest::READABLE)?;
     let address = listener.local_addr()?;
-    tell(rt, format_args!("listening on {address}"));
+    tell(rt, Level::Info, format_args!("listening on {address}"));
     Ok(Server {
         alloc,
         poll,
@@ -86,7 +87,11 @@ pub fn open<R: Net + Eprint + AllocGlobal>(rt: &R, address: SocketAddr) -> io::R
 fn serve_on<R: Wait + Eprint + AllocGlobal>(rt: &R, mut server: Server) -> Status {
     for _ in rt.forever() {
         if let Err(error) = server.turn() {
-            tell(rt, format_args!("the test broker ends: {error}"));
+            tell(
+                rt,
+                Level::Error,
+                format_args!("the test broker ends: {error}"),
+            );
             return Status::Failed;
         }
     }

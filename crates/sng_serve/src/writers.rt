@@ -3,6 +3,7 @@
 
 use crate::bell::Ear;
 use crate::board::Board;
+use crate::level::Level;
 use std::alloc::{AllocError, Global};
 use std::rt::Clock;
 use std::sync::{Arc, Wait};
@@ -70,7 +71,7 @@ fn write_errors<R: Wait + Clock + Eprint>(rt: &R, errors: &Board, mut ear: Ear) 
 
 /// Prints how many lines were lost.
 fn eprint_lost<R: Eprint>(rt: &R, count: u64) -> Option<()> {
-    rt.eprint(format_args!("sng: {count} lines were lost\n"))
+    rt.eprint(format_args!("sng: warning: {count} lines were lost\n"))
         .ok()
 }
 
@@ -109,9 +110,10 @@ fn write_text<R: Wait + Clock + Print>(rt: &R, errors: &Board, text: &[u8]) {
             Ok(_) => thread::sleep(rt, Duration::from_millis(RETRY_MS)),
             Err(error) => {
                 if !has_failed {
-                    errors.tell(format_args!(
-                        "standard output: {error}; rows wait until it can be written"
-                    ));
+                    errors.tell(
+                        Level::Warning,
+                        format_args!("standard output: {error}; rows wait until it can be written"),
+                    );
                 }
                 has_failed = true;
                 thread::sleep(rt, Duration::from_millis(RETRY_MS));
@@ -119,7 +121,7 @@ fn write_text<R: Wait + Clock + Print>(rt: &R, errors: &Board, text: &[u8]) {
         }
     }
     if has_failed {
-        errors.tell("standard output: written again");
+        errors.tell(Level::Info, "standard output: written again");
     }
 }
 

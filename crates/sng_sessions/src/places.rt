@@ -89,6 +89,15 @@ fn release(places: &mut IndexMap<Address, usize>, before: Option<Presence>)
     }
 }
 
+/// The tables of a session that is to begin, made before anything changes.
+#[derive(Drop)]
+pub struct NewTables {
+    pub ids: ClientIds,
+    pub queue: Queue,
+    pub filters: Subscriptions,
+    pub wills: WillDialogue,
+}
+
 /// The client that connects, and was not known, is where its CONNECT came from, and whoever else is there
 /// leaves. Takes no memory.
 pub fn admit(
@@ -96,16 +105,13 @@ pub fn admit(
     places: &mut IndexMap<Address, usize>,
     from: Address,
     connect: Connect,
-    ids: ClientIds,
-    queue: Queue,
-    filters: Subscriptions,
-    wills: WillDialogue,
+    tables: NewTables,
     clock: u64,
 )
     requires indexed { Indexed (get same_address places.old) (clients_of clients.old.entries) }
     requires new { is_known connect.client_id (clients_of clients.old.entries) ≡ false }
-    requires none { (ids ≡ []) × (queue ≡ nothing) × (filters ≡ [])
-        × (wills ≡ record { stage = Closed; will = None }) }
+    requires none { (tables.ids ≡ []) × (tables.queue ≡ nothing) × (tables.filters ≡ [])
+        × (tables.wills ≡ record { stage = Closed; will = None }) }
     requires room { 0 < spare clients.old }
     requires place_room { 0 < spare places.old }
     ensures clients { clients_of clients.new.entries
@@ -113,7 +119,12 @@ pub fn admit(
     ensures indexed { Indexed (get same_address places.new) (clients_of clients.new.entries) }
 {
     vacate(clients, places, from, &connect.client_id, clock);
-    let mut wills = wills;
+    let NewTables {
+        ids,
+        queue,
+        filters,
+        mut wills,
+    } = tables;
     open(&mut wills, connect.flags.clean, connect.flags.will);
     let session = Session {
         presence: Presence {

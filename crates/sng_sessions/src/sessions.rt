@@ -22,7 +22,7 @@ ghost use Rattle.sng_sessions.specs.Willing.{stating_at};
 use crate::copying::SessionsCopy;
 use crate::handing::{Handed, Opens, answer_at, deliver_at, hand_at};
 use crate::ids::ClientIds;
-use crate::places::{admit, hear_at, leave_at, lose_at, readmit, tell_at, tell_if};
+use crate::places::{NewTables, admit, hear_at, leave_at, lose_at, readmit, tell_at, tell_if};
 use crate::session::Session;
 use crate::sleeping::{Change, change_at};
 use crate::subscribing::{end_at, stand_at};
@@ -392,15 +392,15 @@ impl Sessions {
                 Ok(())
             }
             None => {
-                let ids = ClientIds::new(alloc)?;
-                let queue = Queue::new(alloc)?;
-                let filters = Subscriptions::new(alloc)?;
-                let wills = WillDialogue::new(alloc);
+                let tables = NewTables {
+                    ids: ClientIds::new(alloc)?,
+                    queue: Queue::new(alloc)?,
+                    filters: Subscriptions::new(alloc)?,
+                    wills: WillDialogue::new(alloc),
+                };
                 self.clients.reserve(1)?;
                 let (clients, places) = (&mut self.clients, &mut self.places);
-                admit(
-                    clients, places, from, connect, ids, queue, filters, wills, clock,
-                );
+                admit(clients, places, from, connect, tables, clock);
                 Ok(())
             }
         }

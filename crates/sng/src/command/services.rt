@@ -19,6 +19,7 @@ fn serve_command<'a>(alloc: Global) -> Result<Command<'a>, AllocError> {
     let command = with_addresses(alloc, command)?;
     let command = with_numbers(alloc, command)?;
     let command = with_policy(alloc, command)?;
+    let command = with_book(alloc, command)?;
     with_flood_limits(alloc, command)
 }
 
@@ -90,6 +91,15 @@ fn with_policy<'a>(alloc: Global, command: Command<'a>) -> Result<Command<'a>, A
     command.arg(rows)
 }
 
+/// The command with the option that keeps the book on disk.
+fn with_book<'a>(alloc: Global, command: Command<'a>) -> Result<Command<'a>, AllocError> {
+    let book = Arg::new(alloc, "FOLDER")
+        .long("book")
+        .help("The folder where the book is kept on disk: without it a run ends with 1000000 rows")
+        .action(ArgAction::Set);
+    command.arg(book)
+}
+
 /// The command with the options that say what is passed over in a flood.
 fn with_flood_limits<'a>(alloc: Global, command: Command<'a>) -> Result<Command<'a>, AllocError> {
     let each = Arg::new(alloc, "EACH")
@@ -118,6 +128,7 @@ pub fn serve_words<'a>(matches: &ArgMatches<'a>) -> Words<'a> {
         flood_each: matches.get_one::<u32>("EACH"),
         flood_all: matches.get_one::<u32>("ALL"),
         policy: matches.get_str("FILE"),
+        book: matches.get_str("FOLDER"),
         is_verbose: matches.get_flag("verbose"),
         prints_rows: matches.get_flag("rows"),
     }

@@ -12,7 +12,7 @@ loop-init g c =
       finite = tt;
       below = omega arith;
       going = rw (c.new-log.ensures, c.tag.ensures, c.new.ensures) (going_none u.tells u.did d.tells d.passed
-          f.tells f.took c.args.terms.now c.args.source c.args.sender c.args.share c.args.filing);
+          f.tells f.took c.args.post.terms c.args.post.source c.args.post.sender c.args.post.share c.args.post.filing);
     }
 
 pub loop-preserved : goal.loop-preserved
@@ -20,7 +20,7 @@ loop-preserved g c = record {
   can = tt;
   finite = tt;
   below = c.turn.ensures.below;
-  going = c.turn.ensures.going c.args.source c.args.sender c.args.share c.args.filing c.loop.invariant.going;
+  going = c.turn.ensures.going c.args.post.source c.args.post.sender c.args.post.share c.args.post.filing c.loop.invariant.going;
 }
 
 pub returns-in-Over : goal.returns-in-Over
@@ -30,9 +30,9 @@ returns-in-Over g c =
     let f = g.F.Filing in
     let new = c.turn.new.self in
     let same = c.ended.ensures.same in
-    has_ended u.tells u.did d.tells d.passed u.has_ended f.tells f.took f.handed_back c.args.terms.now
-    c.args.source c.args.sender c.args.share c.args.filing (g.G.Gate.may_stop c.args.gate.now) new.stage
+    has_ended u.tells u.did d.tells d.passed u.has_ended f.tells f.took f.handed_back c.args.post.terms
+    c.args.post.source c.args.post.sender c.args.post.share c.args.post.filing (g.G.Gate.may_stop c.args.gate.now) new.stage
     new.stream new.filer.filing new.filer.place new.hand.log.trail c.ended.result
-    (rw (same.0, same.1, same.2) (c.turn.ensures.going c.args.source c.args.sender c.args.share c.args.filing
+    (rw (same.0, same.1, same.2) (c.turn.ensures.going c.args.post.source c.args.post.sender c.args.post.share c.args.post.filing
     c.loop.invariant.going)) (rw (same.0, same.3) c.in-Over.ensures.over) c.ended.ensures.off
     c.ended.ensures.left

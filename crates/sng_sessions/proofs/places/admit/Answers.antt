@@ -15,9 +15,9 @@ pub returns-clause-clients : goal.returns-clause-clients
 returns-clause-clients c =
     c.settle.ensures.clients
     ∙ ap (settled c.args.connect.client_id
-    (session_by c.args.clock c.args.from c.args.connect c.phase_opened.result c.args.ids c.args.queue
-    c.args.filters c.open.new.wills c.new.result)) c.vacate.ensures.clients
-    ∙ settled-entered c.args.clock c.args.from c.args.connect c.phase_opened.result c.args.ids c.args.queue
-    c.args.filters c.args.wills c.open.new.wills c.new.result c.requires.none c.phase_opened.ensures
+    (session_by c.args.clock c.args.from c.args.connect c.phase_opened.result c.args.tables.ids c.args.tables.queue
+    c.args.tables.filters c.open.new.wills c.new.result)) c.vacate.ensures.clients
+    ∙ settled-entered c.args.clock c.args.from c.args.connect c.phase_opened.result c.args.tables.ids c.args.tables.queue
+    c.args.tables.filters c.args.tables.wills c.open.new.wills c.new.result c.requires.none c.phase_opened.ensures
     c.open.ensures c.new.ensures _
     c.requires.new
