@@ -9,8 +9,7 @@ crates/sng/out/sng, where none is given. Prints, and exits with status 1 where o
 - the memory once a second million of rows is made, and how much it has grown at the end: under 5 %;
 - the rate, beside that of the first 780,000 to 980,000 rows of a run without --book: at least 0.8 of it;
 - the 99th percentile of a round trip at QoS 1 beside that without --book: at most twice that;
-- the time of `sng check --book` beside that of `sng play` for the same events: at most twice that. This is
-  left out where the program does not check books on disk."""
+- the time of `sng check --book` beside that of `sng play` for the same events: at most twice that."""
 import glob
 import json
 import os
@@ -116,9 +115,6 @@ def judged(name, text, is_kept):
 
 def checking(sng, room, folder):
     """The times of `sng check --book` and of `sng play` for the events of the book."""
-    helped = subprocess.run([sng, 'check', '--help'], capture_output=True, text=True, check=False).stdout
-    if '--book' not in helped:
-        return None
     script = os.path.join(room, 'script')
     with open(script, 'wb') as out:
         for path in sorted(glob.glob(os.path.join(folder, '*', '*.book'))):
@@ -149,10 +145,8 @@ def measure(tool, sng, room, policy, rows):
             judged('rate', '%.0f rows a second, x %.2f' % (rate, rate / first), rate >= 0.8 * first),
             judged('p99', '%.0f us, x %.2f' % (kept['p99'], kept['p99'] / alone['p99']),
                    kept['p99'] <= 2 * alone['p99'])]
-    times = checking(sng, room, folder)
-    if times:
-        fine.append(judged('check', '%.1f s, x %.2f of play' % (times[0], times[0] / times[1]),
-                           times[0] <= 2 * times[1]))
+    check, play = checking(sng, room, folder)
+    fine.append(judged('check', '%.1f s, x %.2f of play' % (check, check / play), check <= 2 * play))
     return all(fine)
 
 

@@ -22,9 +22,9 @@ SCRIPT = os.path.join(ROOT, 'examples', 'first-publish.script')
 POLICY = '{"version":1,"clients":{"s1":[["t/1",["pub"]]]}}'
 # Wrong words, and the command of the example
 WRONG = (([], 'serve'), (['nonsense'], 'serve'), (['--nonsense'], 'serve'), (['play', 'x'], 'play'),
-         (['check'], 'check'), (['cover'], 'cover'), (['may', 's1'], 'may'), (['policy', 'a', 'b'], 'policy'),
-         (['serve', '--listen', '0.0.0.0:1884'], 'serve'), (['serve', '--workers', '9'], 'serve'),
-         (['broker'], 'broker'))
+         (['check'], 'check'), (['book'], 'book'), (['cover'], 'cover'), (['may', 's1'], 'may'),
+         (['policy', 'a', 'b'], 'policy'), (['serve', '--listen', '0.0.0.0:1884'], 'serve'),
+         (['serve', '--workers', '9'], 'serve'), (['broker'], 'broker'))
 
 
 def told(program, words):

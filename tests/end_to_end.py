@@ -5,13 +5,15 @@ Runs the program over everything that a text can show: each script of tests/scri
 its whole output and exit status (NAME.expected; NAME.status, where it is not 0); the lines of
 tests/lines.table, which cannot be read; the scripts of full_places.py; the policy texts of policy_texts.py;
 the questions of tests/cover.table and tests/may.table; the reports on policy texts of policy_reports.py, with
-their warnings where the proved program runs; books of a script, its own and others; command lines, good and
-bad; output that cannot be written; a line without end under a limit of memory. The numbers in the help have
-to be those of the constants. Behind what is wrong with a command line stands an example that works
-(command_examples.py). A search over names (cover_search.py) answers the first table of questions too,
-memory_errors.py reads which lines of the sources make an error of memory, and promise_lines.py counts the
-definitions of the promise. Uses the proved program where one lies in crates/sng/out that is newer than every
-source, and else one build without proof, which leaves out what it cannot run, and says what.
+their warnings where the proved program runs; books of a script, its own and others; books on disk that are
+checked (disk_books.py), and what is told of books (browse_books.py); command lines, good and bad; output that
+cannot be written or is closed; a line without end under a limit of memory. The numbers in the help have to be
+those of the constants. Behind what is wrong with a command line stands an example that works
+(command_examples.py), and the commands of docs/operating.md print what it says (operating.py). A search over
+names (cover_search.py) answers the first table of questions too, memory_errors.py reads which lines of the
+sources make an error of memory, and promise_lines.py counts the definitions of the promise. Uses the proved
+program where one lies in crates/sng/out that is newer than every source, and else one build without proof,
+which leaves out what it cannot run, and says what.
 """
 import collections
 import glob
@@ -24,6 +26,8 @@ import sys
 import tempfile
 
 sys.dont_write_bytecode = True
+import browse_books
+import disk_books
 import full_places
 import policy_reports
 import policy_texts
@@ -196,12 +200,35 @@ def books():
         yield Case('book-' + name, words, book, status, printed)
 
 
+def books_on_disk(folder):
+    """Books of disk_books.py, which are laid into the folder."""
+    for book in disk_books.books():
+        path, asked = disk_books.lay(folder, book)
+        yield Case('disk-' + book.name, ['check', '--book', *asked], b'', book.status,
+                   book.printed.replace('{}', path).encode())
+    for name, words, status, printed in (
+            ('that-is-not-there', ['check', '--book', 'no-such.json'], 1, NO_FILE),
+            ('and-a-script', ['check', BOOK_SCRIPT, '--book', '.'], 2, b''),
+            ('without-its-folder', ['check', '--book'], 2, b''),
+            ('of-a-word-that-is-no-text', ['check', '--book', b'\xff'], 1, b'bad word 3\n')):
+        yield Case('disk-' + name, words, b'', status, printed)
+
+
+def books_told(folder):
+    """Books of browse_books.py, which are laid into the folder."""
+    for book in browse_books.books():
+        path = disk_books.lay_files(folder, 'told-' + book.name, book.files)
+        warned = None if book.warned is None else book.warned.replace('{}', path).encode()
+        words = ['book', *(word.replace('{}', path) for word in book.words)]
+        yield Case('told-' + book.name, words, book.given, book.status, book.printed.encode(), warned)
+
+
 def command_lines():
     for name, words in (('nothing', []), ('no-such-command', ['nonsense']), ('cover-nothing', ['cover']),
                         ('play-with-a-word', ['play', 'x']), ('no-such-option', ['cover', '--x', 'a'])):
         yield Case('command-line-' + name, words, b'', 2, b'')
-    for words in (['--help'], ['check', '--help'], ['cover', '--help'], ['may', '--help'], ['policy', '--help'], ['serve', '--help'],
-                  ['broker', '--help'], ['help']):
+    for words in (['--help'], ['check', '--help'], ['book', '--help'], ['cover', '--help'], ['may', '--help'],
+                  ['policy', '--help'], ['serve', '--help'], ['broker', '--help'], ['help']):
         yield Case('-'.join(words).replace('--', ''), words, b'', 0, None)
 
 
@@ -228,12 +255,14 @@ def is_helped_right(proved):
     return False
 
 
-def cases():
+def cases(folder):
     yield from scripts()
     yield from questions()
     yield from questions_to_a_policy()
     yield from checks()
     yield from books()
+    yield from books_on_disk(folder)
+    yield from books_told(folder)
     yield from command_lines()
 
 
@@ -244,6 +273,8 @@ def lost():
     yield Case('a-row-that-is-lost', ['play'], b'up\n', 4, None)
     yield Case('a-verdict-that-is-lost', ['check', BOOK_SCRIPT], b'', 4, None)
     yield Case('a-report-that-is-lost', ['policy'], b'{}', 4, None)
+    yield Case('a-check-of-a-book-on-disk-that-is-lost', ['check', '--book', POLICY], b'', 4, None)
+    yield Case('a-decision-that-is-lost', ['book', '-'], browse_books.WHOLE, 4, None)
 
 
 def is_as_wanted(case, status, printed, warned=None):
@@ -267,8 +298,9 @@ def limit_memory():
 
 def by_the_proved_program():
     """Each case's name, and whether the proved program does as wanted."""
-    for case in cases():
-        yield case.name, is_as_wanted(case, *run_proved(case))
+    with tempfile.TemporaryDirectory() as folder:
+        for case in cases(folder):
+            yield case.name, is_as_wanted(case, *run_proved(case))
     for case in lost():
         with open('/dev/full', 'wb') as full:
             yield case.name, is_as_wanted(case, *run_proved(case, output=full))
@@ -276,6 +308,7 @@ def by_the_proved_program():
         done = subprocess.run([PROVED, 'play'], cwd=CRATE, stdin=zero, stdout=subprocess.PIPE,
                               stderr=subprocess.DEVNULL, timeout=SECONDS, preexec_fn=limit_memory)
     yield ENDLESS.name, is_as_wanted(ENDLESS, done.returncode, done.stdout)
+    yield from browse_books.while_it_runs(PROVED)
 
 
 def is_runnable(case):
@@ -302,10 +335,11 @@ def lay(folder, listed):
 
 def by_the_build_without_proof():
     """Each case's name, and whether the build without proof, built once, does as wanted."""
-    listed = [case for case in cases() if is_runnable(case)]
-    left_out = [case.name for case in cases() if not is_runnable(case)] + [case.name for case in lost()]
-    print('left to the proved program:', ', '.join(left_out + [ENDLESS.name]))
-    with tempfile.TemporaryDirectory() as folder:
+    with tempfile.TemporaryDirectory() as folder, tempfile.TemporaryDirectory() as disk:
+        every = list(cases(disk))
+        listed = [case for case in every if is_runnable(case)]
+        left_out = [case.name for case in every if not is_runnable(case)] + [case.name for case in lost()]
+        print('left to the proved program:', ', '.join(left_out + [ENDLESS.name]))
         lay(folder, listed)
         done = subprocess.run(['rt', 'try', *DATA, '--cases', folder], cwd=CRATE, stdout=subprocess.PIPE,
                               stderr=subprocess.STDOUT, stdin=subprocess.DEVNULL)
@@ -331,6 +365,8 @@ def main():
     if proved:
         examples = subprocess.run([sys.executable, os.path.join(HERE, 'command_examples.py')], timeout=SECONDS)
         results.append(('examples-on-the-command-line', examples.returncode == 0))
+        answers = subprocess.run([sys.executable, os.path.join(HERE, 'operating.py')], timeout=SECONDS)
+        results.append(('questions-of-an-operator', answers.returncode == 0))
     errors = subprocess.run([sys.executable, os.path.join(HERE, 'memory_errors.py')], timeout=SECONDS)
     results.append(('errors-of-memory-in-the-sources', errors.returncode == 0))
     told = subprocess.run([sys.executable, os.path.join(HERE, 'promise_lines.py')], timeout=SECONDS)

@@ -23,6 +23,7 @@ import live_limits as limit_cases
 import live_network as network_cases
 import live_operator as operator_cases
 import live_order as order_cases
+import live_policy as policy_cases
 import live_program as program_cases
 import live_rows as row_cases
 import live_sessions as session_cases
@@ -42,7 +43,7 @@ ALONE = (session_cases.the_test_broker, program_cases.a_test_broker_that_does_no
          program_cases.an_input_that_cannot_be_read, program_cases.a_full_disk)
 ALONE = (ALONE + operator_cases.ALONE + row_cases.ALONE + broker_cases.ALONE + fault_cases.ALONE
          + limit_cases.ALONE + network_cases.ALONE + order_cases.ALONE + hostile_cases.ALONE
-         + flood_cases.ALONE + book_cases.ALONE)
+         + flood_cases.ALONE + book_cases.ALONE + policy_cases.ALONE)
 BESIDE_A_BROKER = (session_cases.a_publish_without_a_session, session_cases.a_session_that_publishes,
                    session_cases.a_subscription, session_cases.a_policy_that_ends_a_subscription,
                    program_cases.a_broker_that_comes_back, program_cases.a_subscription_outlives_the_broker,

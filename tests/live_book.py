@@ -97,11 +97,6 @@ def is_lawful(room, rows):
     wanted(done.returncode == 0 and said == lawful, 'a lawful book, and not %r' % said)
 
 
-def checks_books(room):
-    """Whether the program checks books on disk itself."""
-    return '--book' in room.told('check', '--help')[1]
-
-
 def checked(room, folder):
     """What the program says of the books in the folder."""
     done = subprocess.run([room.program, 'check', '--book', folder], stdin=subprocess.DEVNULL,
@@ -110,8 +105,6 @@ def checked(room, folder):
 
 
 def is_said_lawful(room, folder, said):
-    if not checks_books(room):
-        return
     status, printed = checked(room, folder)
     wanted(status == 0 and re.search(said, printed), '%r, and not %r' % (said, printed[-300:]))
 
@@ -223,8 +216,6 @@ def a_gateway_that_is_killed(room):
 def one_changed_byte(room):
     """A book on disk is not lawful any more with one byte changed, and the check names the row."""
     folder = needs_book(room)
-    if not checks_books(room):
-        raise Skipped('this program does not check books on disk')
     gateway = room.gateway(room.test_broker().port, '--book', folder, policy=SOURCE, verbose=False)
     room.device(gateway).publish_short('ab', b'x')
     until(lambda: has_line(folder, b'note publish %s ab allowed' % HOST.encode()), 'the row on disk')

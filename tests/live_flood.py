@@ -188,8 +188,7 @@ def holds_each_message(folder, closed):
 
 def a_broker_that_floods_a_book_on_disk(room):
     """With a book on disk 1,000,000 messages and more are rows like any others: each is in the files, in
-    order, devices are answered during the flood and behind it, and the book is lawful, as far as the program
-    checks books on disk."""
+    order, devices are answered during the flood and behind it, and the book is lawful."""
     if '--book' not in room.told('serve', '--help')[1]:
         raise Skipped('this program has no option --book')
     folder = os.path.join(room.folder, 'books')

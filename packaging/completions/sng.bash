@@ -9,23 +9,29 @@ _sng() {
     command=''
   fi
   case $command in
-    '') options='-h --help -V --version' words='play check cover may policy serve broker help' ;;
+    '') options='-h --help -V --version' words='play check book cover may policy serve broker help' ;;
     play) options='-h --help' ;;
-    check) options='-h --help' files=yes ;;
+    check) options='--book -h --help' files=yes ;;
+    book)
+      options='--client --from --name --denied --kind --json --since --until --row --count --follow
+        -h --help'
+      files=yes
+      ;;
     cover) options='-h --help' ;;
     may) options='--policy --source -h --help' words='publish receive subscribe' ;;
     policy) options='--print -h --help' files=yes ;;
     serve)
-      options='--config --listen --broker --id --workers --tries --policy --book --verbose --rows
-        --flood-each --flood-all -h --help'
+      options='--config --listen --broker --id --workers --tries --policy --no-watch --book
+        --verbose --rows --log-time --flood-each --flood-all -h --help'
       ;;
     broker) options='--listen -h --help' ;;
-    help) words='play check cover may policy serve broker help' ;;
+    help) words='play check book cover may policy serve broker help' ;;
   esac
   case $before in
     --config | --policy | --book) options='' words='' files=yes ;;
     --workers) options='' words='1 2 3 4 5 6 7 8' ;;
     --listen | --broker | --id | --tries | --source | --flood-each | --flood-all) return ;;
+    --client | --from | --name | --kind | --since | --until | --row) return ;;
   esac
   case $current in
     -*) mapfile -t COMPREPLY < <(compgen -W "$options" -- "$current") ;;

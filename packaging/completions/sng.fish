@@ -10,7 +10,9 @@ complete -c sng -n $first -s V -l version -d 'Print version'
 
 complete -c sng -n $first -a play -d 'Plays a script of events from standard input'
 complete -c sng -n $first -a check \
-    -d 'Tells whether the rows of standard input are the lawful history of a script'
+    -d 'Tells whether a book is a lawful history: of a script from standard input, or on disk'
+complete -c sng -n $first -a book \
+    -d 'Tells what was decided, by a book on disk or the rows of standard input'
 complete -c sng -n $first -a cover \
     -d 'Tells whether a topic filter matches only names that granted ones match'
 complete -c sng -n $first -a may -d 'Tells what a policy allows'
@@ -22,9 +24,27 @@ complete -c sng -n $first -a broker \
 complete -c sng -n $first -a help -d 'Print this message or the help of the given subcommand(s)'
 
 complete -c sng -n "$behind check" -F
+complete -c sng -n "$behind book" -F
 complete -c sng -n "$behind policy" -F
-complete -c sng -n "$behind help" -a 'play check cover may policy serve broker help'
+complete -c sng -n "$behind help" -a 'play check book cover may policy serve broker help'
 
+complete -c sng -n "$behind check" -l book -rF \
+    -d 'The folders of books on disk, each of which is checked, or files of one'
+complete -c sng -n "$behind book" -l client -x -d 'Only decisions that speak of this client'
+complete -c sng -n "$behind book" -l from -x \
+    -d 'Only those of what came from here, IP or IP:PORT, or of who is here'
+complete -c sng -n "$behind book" -l name -x -d 'Only those about names that this topic filter matches'
+complete -c sng -n "$behind book" -l denied -d 'Only those that denied something'
+complete -c sng -n "$behind book" -l kind -x -d 'Only those of these kinds, as publish,hand'
+complete -c sng -n "$behind book" -l json -d 'Tells each as an object of JSON on a line of its own'
+complete -c sng -n "$behind book" -l since -x \
+    -d 'Only those of this time or later, in UTC, as 2026-11-26T12:00:00Z'
+complete -c sng -n "$behind book" -l until -x -d 'Only those of this time or before'
+complete -c sng -n "$behind book" -l row -x -d 'Only those of this row or these, as 7, 7..12, 7.. or ..12'
+complete -c sng -n "$behind book" -l count \
+    -d 'Tells only how many there are, by kind and by whom they speak of'
+complete -c sng -n "$behind book" -l follow \
+    -d 'Goes on as the last book grows, until it is stopped from outside'
 complete -c sng -n "$behind may" -l policy -rF -d 'The file of the policy'
 complete -c sng -n "$behind policy" -l print -d 'Prints the policy as one line, the same for all texts of it'
 complete -c sng -n "$behind may" -l source -x \
@@ -41,11 +61,13 @@ complete -c sng -n "$behind serve" -l workers -x -a '1 2 3 4 5 6 7 8' \
 complete -c sng -n "$behind serve" -l tries -x \
     -d 'How many tries to connect may fail in a row: 5 where it is left out; 0 is no end'
 complete -c sng -n "$behind serve" -l policy -rF \
-    -d 'The file of the policy, read at the start and on a line `reload`'
+    -d 'The file of the policy, read at the start, when it changes, and on a line `reload`'
+complete -c sng -n "$behind serve" -l no-watch -d 'Does not look whether the file of the policy changes'
 complete -c sng -n "$behind serve" -l book -rF \
     -d 'The folder where the book is kept on disk: without it a run ends with 1000000 rows'
 complete -c sng -n "$behind serve" -l verbose -d 'Prints rows as they are made'
 complete -c sng -n "$behind serve" -l rows -d 'Prints all rows as the gateway stops'
+complete -c sng -n "$behind serve" -l log-time -d 'Begins each line on standard error with the time'
 complete -c sng -n "$behind serve" -l flood-each -x \
     -d 'How many denied datagrams a second one stranger may send: 50 where it is left out'
 complete -c sng -n "$behind serve" -l flood-all -x \

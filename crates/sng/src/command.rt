@@ -9,6 +9,7 @@ mod examples;
 mod questions;
 mod services;
 
+pub use books::BookWords;
 use clap::{Arg, ArgMatches, Command, Error};
 pub use escape::filters_among;
 pub use examples::example_of;
@@ -21,12 +22,16 @@ use std::alloc::{AllocError, Global};
 const VERSION: &str = "0.1.0, proved by rattle logic dac8208d650f15bf";
 
 /// What the command line asks for.
-#[derive(Clone, Copy, Debug, PartialEq, Eq)]
+#[derive(Drop)]
 pub enum Chosen<'a> {
     /// Plays a script from standard input.
     Play,
     /// Checks a book from standard input against the script of this file.
     Check(&'a str),
+    /// Checks the books on disk at these paths.
+    CheckBooks(Vec<&'a str>),
+    /// Tells what was decided, by books on disk or rows.
+    Book(BookWords<'a>),
     /// Answers whether a filter is covered by granted ones.
     Cover,
     /// Answers what a policy says to a question.
@@ -43,19 +48,28 @@ pub enum Chosen<'a> {
 /// the help that they ask for.
 pub fn read_command(alloc: Global, words: &[String]) -> Result<Chosen<'_>, Error> {
     let matches = program(alloc)?.try_get_matches_from(words)?;
-    Ok(choice(&matches))
+    Ok(choice(alloc, &matches)?)
 }
 
 /// What was matched. Those of its words that are required are there.
-fn choice<'a>(matches: &ArgMatches<'a>) -> Chosen<'a> {
+fn choice<'a>(alloc: Global, matches: &ArgMatches<'a>) -> Result<Chosen<'a>, AllocError> {
     match matches.subcommand() {
-        Some(("check", asked)) => Chosen::Check(books::script_word(asked)),
-        Some(("cover", _)) => Chosen::Cover,
-        Some(("may", asked)) => Chosen::May(questions::may_words(asked)),
-        Some(("policy", asked)) => Chosen::Policy(questions::policy_words(asked)),
-        Some(("serve", asked)) => Chosen::Serve(services::serve_words(asked)),
-        Some(("broker", asked)) => Chosen::Broker(services::broker_word(asked)),
-        _ => Chosen::Play,
+        Some(("check", asked)) => check_choice(alloc, asked),
+        Some(("book", asked)) => Ok(Chosen::Book(books::book_words(alloc, asked)?)),
+        Some(("cover", _)) => Ok(Chosen::Cover),
+        Some(("may", asked)) => Ok(Chosen::May(questions::may_words(asked))),
+        Some(("policy", asked)) => Ok(Chosen::Policy(questions::policy_words(asked))),
+        Some(("serve", asked)) => Ok(Chosen::Serve(services::serve_words(asked))),
+        Some(("broker", asked)) => Ok(Chosen::Broker(services::broker_word(asked))),
+        _ => Ok(Chosen::Play),
+    }
+}
+
+/// What `sng check ..` asks for.
+fn check_choice<'a>(alloc: Global, asked: &ArgMatches<'a>) -> Result<Chosen<'a>, AllocError> {
+    match books::paths(alloc, asked)? {
+        Some(paths) => Ok(Chosen::CheckBooks(paths)),
+        None => Ok(Chosen::Check(books::script_word(asked))),
     }
 }
 

@@ -1,6 +1,7 @@
 //! `sng`, a gateway from MQTT-SN 1.2 to MQTT 3.1.1.
 #![tactic(auto)]
 
+mod book;
 mod checking;
 mod command;
 mod file;
@@ -29,6 +30,10 @@ fn main(rt: HostRuntime) -> ExitCode {
             Ok(Chosen::Check(script)) => {
                 End::from(checking::answer(&rt, words.as_slice(), script))
             }
+            Ok(Chosen::CheckBooks(paths)) => {
+                End::from(book::check(&rt, words.as_slice(), paths.as_slice()))
+            }
+            Ok(Chosen::Book(asked)) => End::from(book::browse(&rt, words.as_slice(), &asked)),
             Ok(Chosen::Cover) => {
                 let filters = filters_among(words);
                 let status = cover_words(rt.alloc(), filters.as_slice(), io::writer(&rt));

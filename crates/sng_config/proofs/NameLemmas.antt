@@ -2,7 +2,7 @@
 use Rattle.std.proofs.Common.{◌≡◌, Some, refl}
 use Rattle.sng_config.specs.declared.names.TextName.TheVariants.{Listen, Broker, Id, Policy, Book}
 use Rattle.sng_config.specs.declared.names.NumberName.TheVariants.{Workers, Tries, FloodEach, FloodAll}
-use Rattle.sng_config.specs.declared.names.SwitchName.TheVariants.{Verbose, Rows}
+use Rattle.sng_config.specs.declared.names.SwitchName.TheVariants.{Verbose, Rows, NoWatch, LogTime}
 use Rattle.sng_config.specs.declared.names.Name.{Name}
 use Rattle.sng_config.specs.declared.names.Name.TheVariants.{Text, Number, Switch}
 use Rattle.sng_config.specs.Names.{word_of, name_of}
@@ -20,3 +20,5 @@ read-back (Number FloodEach) = refl
 read-back (Number FloodAll) = refl
 read-back (Switch Verbose) = refl
 read-back (Switch Rows) = refl
+read-back (Switch NoWatch) = refl
+read-back (Switch LogTime) = refl

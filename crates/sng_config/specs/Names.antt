@@ -7,7 +7,7 @@ use Rattle.sng_config.specs.declared.names.TextName.TheVariants.{Listen, Broker,
 use Rattle.sng_config.specs.declared.names.NumberName.{NumberName}
 use Rattle.sng_config.specs.declared.names.NumberName.TheVariants.{Workers, Tries, FloodEach, FloodAll}
 use Rattle.sng_config.specs.declared.names.SwitchName.{SwitchName}
-use Rattle.sng_config.specs.declared.names.SwitchName.TheVariants.{Verbose, Rows}
+use Rattle.sng_config.specs.declared.names.SwitchName.TheVariants.{Verbose, Rows, NoWatch, LogTime}
 use Rattle.sng_config.specs.declared.names.Name.{Name}
 use Rattle.sng_config.specs.declared.names.Name.TheVariants.{Text, Number, Switch}
 use Rattle.sng_config.specs.declared.names.TheConstants.{NAMES}
@@ -29,6 +29,8 @@ number_word FloodAll = codes "flood-all"
 abbrev pub switch_word : SwitchName → List ℕ
 switch_word Verbose = codes "verbose"
 switch_word Rows = codes "rows"
+switch_word NoWatch = codes "no-watch"
+switch_word LogTime = codes "log-time"
 
 -- a name as it is written
 abbrev pub word_of : Name → List ℕ

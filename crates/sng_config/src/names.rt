@@ -31,6 +31,8 @@ pub enum NumberName {
 pub enum SwitchName {
     Verbose,
     Rows,
+    NoWatch,
+    LogTime,
 }
 
 /// Any setting.
@@ -42,7 +44,7 @@ pub enum Name {
 }
 
 /// All settings, in the order in which they are told.
-pub const NAMES: [Name; 11] = [
+pub const NAMES: [Name; 13] = [
     Name::Text(TextName::Listen),
     Name::Text(TextName::Broker),
     Name::Text(TextName::Id),
@@ -54,6 +56,8 @@ pub const NAMES: [Name; 11] = [
     Name::Number(NumberName::FloodAll),
     Name::Switch(SwitchName::Verbose),
     Name::Switch(SwitchName::Rows),
+    Name::Switch(SwitchName::NoWatch),
+    Name::Switch(SwitchName::LogTime),
 ];
 
 impl TextName {
@@ -115,6 +119,8 @@ impl SwitchName {
         match self {
             SwitchName::Verbose => "verbose",
             SwitchName::Rows => "rows",
+            SwitchName::NoWatch => "no-watch",
+            SwitchName::LogTime => "log-time",
         }
     }
 }

@@ -1,7 +1,9 @@
 pub mod Configs
+pub mod Clients
 pub mod Commands
 pub mod Denials
 pub mod Ends
+pub mod FileLooks
 pub mod Readings
 pub mod Rows
 pub mod Overviews

@@ -3,6 +3,7 @@ ghost use Rattle.std.specs.Prelude.{◌≡◌, IfOk};
 ghost use Rattle.sng_operator.specs.Readings.{gateway_connect};
 
 use crate::config::{Config, ConfigFault, Given};
+use crate::policy_file::PolicyFile;
 use mqtt_frames::encode_connect;
 use sng_book::Address;
 use sng_bounds::FloodLimits;
@@ -10,15 +11,14 @@ use sng_config::{Name, NumberName, SwitchName, TextName};
 use sng_history::PING_MS;
 use sng_questions::report::{Report, report_of};
 use sng_scope::{PolicyFault, read_policy};
-use sng_script::file::read_text;
 use sng_script::sender::address_of;
 use sng_text::{ClientId, MAX_CLIENT_ID, Octets, TextFault};
 use std::alloc::{AllocError, Global};
+use std::fmt;
 use std::fmt::{Display, Formatter, Write};
 use std::io::Error;
 use std::net::{Ipv4Addr, SocketAddr, SocketAddrV4};
 use std::rt::Files;
-use std::{fmt, fs, io};
 
 /// More bytes than this no client id has: a character has four at most (RFC 3629).
 const MAX_ID_BYTES: usize = 4 * MAX_CLIENT_ID;
@@ -57,12 +57,16 @@ pub struct Words<'a> {
     pub flood_all: Option<u32>,
     /// The file of the policy.
     pub policy: Option<&'a str>,
+    /// That file is not looked at while the gateway serves.
+    pub is_unwatched: bool,
     /// The folder where the book is kept on disk.
     pub book: Option<&'a str>,
     /// Rows are printed as they are made.
     pub is_verbose: bool,
     /// All rows are printed as the gateway stops.
     pub prints_rows: bool,
+    /// Lines on standard error begin with the time.
+    pub tells_time: bool,
 }
 
 /// What the words and the configuration file ask for.
@@ -75,13 +79,15 @@ pub struct Ask {
     pub workers: u16,
     pub tries: u32,
     pub flood: FloodLimits,
-    /// The file of the policy, and its text, which is a policy.
-    pub file: Option<String>,
-    pub text: Option<Vec<u8>>,
+    /// The file of the policy, where there is one.
+    pub policy: Option<PolicyFile>,
+    /// That file is looked at while the gateway serves.
+    pub is_watched: bool,
     /// The folder where the book is kept on disk, where it is.
     pub book: Option<String>,
     pub is_verbose: bool,
     pub prints_rows: bool,
+    pub tells_time: bool,
 }
 
 /// Why nothing is started.
@@ -174,12 +180,9 @@ pub fn ask_of<'a, R: Files + AllocGlobal>(
     let broker = address_in(needed(config, TextName::Broker, words.broker)?)?;
     let greeting = greeting_in(rt.alloc(), needed(config, TextName::Id, words.id)?)?;
     let workers = workers_in(words, config)?;
-    let (file, text) = match config.text(TextName::Policy, words.policy) {
-        Some(given) => {
-            let text = policy_in(rt, given)?;
-            (Some(String::from_str(rt.alloc(), given.word)?), Some(text))
-        }
-        None => (None, None),
+    let policy = match config.text(TextName::Policy, words.policy) {
+        Some(given) => Some(policy_in(rt, given)?),
+        None => None,
     };
     let book = book_in(rt.alloc(), words, config)?;
     Ok(Ask {
@@ -189,11 +192,12 @@ pub fn ask_of<'a, R: Files + AllocGlobal>(
         workers,
         tries: tries_in(words, config),
         flood: flood_in(words, config),
-        file,
-        text,
+        policy,
+        is_watched: !config.switch(SwitchName::NoWatch, words.is_unwatched),
         book,
         is_verbose: config.switch(SwitchName::Verbose, words.is_verbose),
         prints_rows: config.switch(SwitchName::Rows, words.prints_rows),
+        tells_time: config.switch(SwitchName::LogTime, words.tells_time),
     })
 }
 
@@ -285,23 +289,22 @@ fn greeting_in(alloc: Global, given: Given<'_>) -> Result<Octets, Fault<'_>>
     }
 }
 
-/// The text in the file, which is a policy.
-fn policy_in<'a, R: Files + AllocGlobal>(rt: &R, given: Given<'a>) -> Result<Vec<u8>, Fault<'a>> {
-    let text = match file_text(rt, given.word) {
-        Ok(text) => text,
+/// The file and its text, which is a policy.
+fn policy_in<'a, R: Files + AllocGlobal>(
+    rt: &R,
+    given: Given<'a>,
+) -> Result<PolicyFile, Fault<'a>> {
+    let path = String::from_str(rt.alloc(), given.word)?;
+    let file = match PolicyFile::read(rt, path) {
+        Ok(file) => file,
         Err(error) => return Err(Fault::File(given, error)),
     };
-    match read_policy(rt.alloc(), text.as_slice()) {
-        Ok(_) => Ok(text),
+    match read_policy(rt.alloc(), file.text.as_slice()) {
+        Ok(_) => Ok(file),
         Err(PolicyFault::Memory) => Err(Fault::Memory),
         Err(fault) => {
-            let report = report_of(rt.alloc(), text.as_slice())?;
+            let report = report_of(rt.alloc(), file.text.as_slice())?;
             Err(Fault::Policy(given, fault, report))
         }
     }
-}
-
-/// The text of the file.
-pub fn file_text<R: Files + AllocGlobal>(rt: &R, path: &str) -> io::Result<Vec<u8>> {
-    read_text(rt.alloc(), fs::open(rt, path)?)
 }

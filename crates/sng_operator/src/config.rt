@@ -5,7 +5,7 @@ ghost use Rattle.std.specs.Option.{option_map, option_copied, option_or};
 ghost use Rattle.sng_config.specs.Values.{number_in, switch_in};
 ghost use Rattle.sng_operator.specs.Configs.{line_in, word_before};
 
-use crate::ask::file_text;
+use crate::policy_file::file_text;
 use sng_config::{Fault, NumberName, Settings, SwitchName, TextAt, TextName, settings_of};
 use std::alloc::Global;
 use std::fmt;

@@ -3,15 +3,18 @@
 #![tactic(auto)]
 
 pub mod ask;
+pub mod clients;
 pub mod commands;
 pub mod config;
 pub mod denials;
 pub mod ends;
 pub mod fate;
+pub mod file_look;
 pub mod in_force;
 pub mod lists;
 pub mod news;
 pub mod pace;
+pub mod policy_file;
 pub mod roles;
 pub mod rows;
 pub mod status;

@@ -1,8 +1,5 @@
-//! How many denials are told in a second: a flood of them is counted.
+//! How many lines of a kind are told in a second: those of a flood are counted.
 ghost use Rattle.std.specs.Prelude.{◌≡◌, ◌+◌, ◌-◌, ◌<◌, ◌≤◌, false, true};
-
-/// So many lines at most are told in a second.
-pub const LINES_A_SECOND: u64 = 20;
 
 /// How long a second is, in ms.
 const SECOND_MS: u64 = 1000;
@@ -10,6 +7,8 @@ const SECOND_MS: u64 = 1000;
 /// What was told in a second.
 #[derive(Clone, Copy, Debug, PartialEq, Eq)]
 pub struct Pace {
+    /// So many lines at most are told in a second.
+    pub most: u64,
     /// When it began, in ms.
     pub begun: u64,
     pub told: u64,
@@ -18,10 +17,12 @@ pub struct Pace {
 }
 
 impl Pace {
-    pub fn new(now: u64) -> Pace
-        ensures { result ≡ record { begun = now; told = 0; counted = 0 } }
+    /// So many lines at most are told in a second, of which the first begins now.
+    pub fn new(most: u64, now: u64) -> Pace
+        ensures { result ≡ record { most = most; begun = now; told = 0; counted = 0 } }
     {
         Pace {
+            most,
             begun: now,
             told: 0,
             counted: 0,
@@ -31,27 +32,27 @@ impl Pace {
     /// Begins another second once one is over, and answers how many were counted in that one.
     pub fn turn(&mut self, now: u64) -> u64
         ensures going { now - self.old.begun < 1000 → (result ≡ 0) × (self.new ≡ self.old) }
-        ensures over { 1000 ≤ now - self.old.begun →
-            (result ≡ self.old.counted) × (self.new ≡ record { begun = now; told = 0; counted = 0 }) }
+        ensures over { 1000 ≤ now - self.old.begun → (result ≡ self.old.counted)
+            × (self.new ≡ record { most = self.old.most; begun = now; told = 0; counted = 0 }) }
     {
         if now.saturating_sub(self.begun) < SECOND_MS {
             return 0;
         }
         let counted = self.counted;
-        *self = Pace::new(now);
+        *self = Pace::new(self.most, now);
         counted
     }
 
     /// Whether one more is told. Otherwise it is counted, up to 2^64 - 1.
     pub fn takes(&mut self) -> bool
-        ensures told { self.old.told < 20 →
+        ensures told { self.old.told < self.old.most →
             (result ≡ true) × (self.new ≡ record self.old { told = self.old.told + 1 }) }
-        ensures counted { 20 ≤ self.old.told → self.old.counted < u64.MAX →
+        ensures counted { self.old.most ≤ self.old.told → self.old.counted < u64.MAX →
             (result ≡ false) × (self.new ≡ record self.old { counted = self.old.counted + 1 }) }
-        ensures full { 20 ≤ self.old.told → self.old.counted ≡ u64.MAX →
+        ensures full { self.old.most ≤ self.old.told → self.old.counted ≡ u64.MAX →
             (result ≡ false) × (self.new ≡ self.old) }
     {
-        if self.told < LINES_A_SECOND {
+        if self.told < self.most {
             self.told += 1;
             return true;
         }

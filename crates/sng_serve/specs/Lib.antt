@@ -1,3 +1,4 @@
 pub mod Beginnings
 pub mod Readings
+pub mod Stamps
 pub mod Closings

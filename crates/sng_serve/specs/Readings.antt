@@ -34,10 +34,16 @@ pub record TakesLine (left stays : Option (List ℕ)) (got : Got Policy) : Type 
   pub first : IsFirstLine left stays line
   pub answer : IsAnswer (asked_by line) got
 
--- no line is left
-pub record IsOver (left : Option (List ℕ)) (got : Got Policy) : Type 0 where
+-- no line is left: nothing more comes, or only of the file, where that is watched
+pub record IsOver (watched : Bool) (left : Option (List ℕ)) (got : Got Policy) : Type 0 where
   pub end : IsAtEnd left
-  pub ended : got ≡ Ended
+  pub ended : (got ≡ Ended) ⊎ ((watched ≡ true) × (got ≡ Nothing))
+
+-- no line is taken: the file has changed, which is watched, and what came is the policy of its text
+pub record OfFile (watched : Bool) (left stays : Option (List ℕ)) (got : Got Policy) : Type 0 where
+  pub looked : watched ≡ true
+  pub kept : stays ≡ left
+  pub answer : IsAnswer ForReload got
 
 -- the next line could not be read: the input is lost, unless it was given up
 pub record CannotRead (given_up was_lost is_lost : Bool) (got : Got Policy) : Type 0 where
@@ -45,9 +51,12 @@ pub record CannotRead (given_up was_lost is_lost : Bool) (got : Got Policy) : Ty
   pub lost : given_up ≡ false → is_lost ≡ true
   pub kept : given_up ≡ true → is_lost ≡ was_lost
 
--- one turn, with what of the input is left before and behind it, and whether the input was and is lost
-abbrev pub IsTurn : (left stays : Option (List ℕ)) (given_up was_lost is_lost : Bool) → Got Policy → Type 0
-IsTurn left stays given_up was_lost is_lost got =
+-- one turn, with whether the file is watched, what of the input is left before and behind it, and whether the
+-- input was and is lost
+abbrev pub IsTurn : (watched : Bool) (left stays : Option (List ℕ)) (given_up was_lost is_lost : Bool)
+    → Got Policy → Type 0
+IsTurn watched left stays given_up was_lost is_lost got =
     (TakesLine left stays got × (is_lost ≡ was_lost))
-    ⊎ (IsOver left got × (is_lost ≡ was_lost))
+    ⊎ (IsOver watched left got × (is_lost ≡ was_lost))
+    ⊎ (OfFile watched left stays got × (is_lost ≡ was_lost))
     ⊎ CannotRead given_up was_lost is_lost got

@@ -67,7 +67,7 @@ impl InputWatch {
     }
 
     /// Waits a while. Whether a read would not block, as far as can be told.
-    fn is_ready(&mut self) -> bool {
+    pub fn is_ready(&mut self) -> bool {
         if !self.can_wait {
             return true;
         }
@@ -140,6 +140,9 @@ pub trait PatientInput: BufRead {
 
     fn is_given_up(&self) -> bool
         ensures { result ≡ given_up self.now };
+
+    /// Whether something was read that was not taken yet.
+    fn has_buffered(&self) -> bool;
 }
 
 impl<'a, R: Clock, I: Read> PatientInput for BufReader<PatientReader<'a, R, I>> {
@@ -147,6 +150,10 @@ impl<'a, R: Clock, I: Read> PatientInput for BufReader<PatientReader<'a, R, I>> 
 
     fn is_given_up(&self) -> bool {
         self.get_ref().is_given_up
+    }
+
+    fn has_buffered(&self) -> bool {
+        !self.buffer().is_empty()
     }
 }
 

@@ -1,5 +1,5 @@
 //! What an operator says while the gateway serves, a line of standard input each: policies, and the commands
-//! of `commands.rt`.
+//! of `commands.rt`; and the policy of the file, where that has changed.
 ghost use Rattle.std.specs.Prelude.{◌≡◌, ◌≢◌, ◌≤◌, ◌<◌, ◌↔◌, ◌⊎◌, [], false, true};
 ghost use Rattle.sng_desk.specs.Acts.{Moves};
 ghost use Rattle.sng_desk.specs.Working.{given_by};
@@ -7,14 +7,15 @@ ghost use Rattle.sng_operator.specs.Commands.{ForReload, asked_by};
 ghost use Rattle.sng_serve.specs.Readings.{CannotRead, IsAnswer, IsPolicyOf, IsTurn};
 ghost use Rattle.sng_desk.specs.declared.source.Got.TheVariants.{Ended as ended_answer};
 ghost use Rattle.sng_desk.specs.declared.source.Got.TheVariants.{Failed as failed_answer};
+ghost use Rattle.sng_desk.specs.declared.source.Got.TheVariants.{Nothing as nothing_answer};
 
 use crate::hub::Hub;
 use crate::level::Level;
 use crate::patient::PatientInput;
+use crate::policy_source::PolicySource;
 use crate::reports::tell_report;
 use sng_desk::{Got, Policies};
 use sng_grants::Policy;
-use sng_operator::ask::file_text;
 use sng_operator::commands::{Command, HELP, command_of, push_unknown};
 use sng_operator::fate::{Fate, fate_of};
 use sng_operator::in_force::InForce;
@@ -23,40 +24,49 @@ use sng_scope::PolicyFault;
 use sng_script::input::read_line;
 use sng_script::refused::push_refused;
 use sng_text::Octets;
-use std::rt::Files;
+use std::rt::{Clock, Files};
 use std::str;
 
 /// The policies of an operator, whose lines are those of an input.
 #[derive(Drop)]
-pub struct OperatorPolicies<'a, R: Files + AllocGlobal, I: PatientInput + Drop> {
+pub struct OperatorPolicies<'a, R: Files + Clock + AllocGlobal, I: PatientInput + Drop> {
     rt: &'a R,
     hub: &'a Hub,
     input: I,
     line: Vec<u8>,
     /// The file that is read again on `reload`. Where there is one, the end of the input stops nothing.
-    file: Option<String>,
+    file: Option<PolicySource>,
+    /// That file is read again once it has changed, also behind the end of the input.
+    is_watched: bool,
+    is_input_over: bool,
     in_force: InForce,
     has_ended: bool,
     lost_input: bool,
 }
 
-impl<'a, R: Files + AllocGlobal, I: PatientInput + Drop> OperatorPolicies<'a, R, I> {
+impl<'a, R: Files + Clock + AllocGlobal, I: PatientInput + Drop> OperatorPolicies<'a, R, I> {
     /// The text is that of the policy in force, where there is one.
     pub fn new(
         rt: &'a R,
         hub: &'a Hub,
         input: I,
-        file: Option<String>,
+        file: Option<PolicySource>,
         text: Option<Vec<u8>>,
     ) -> OperatorPolicies<'a, R, I>
         ensures { result.input ≡ input }
     {
+        let is_watched = match &file {
+            Some(file) => file.is_watched(),
+            None => false,
+        };
         OperatorPolicies {
             rt,
             hub,
             input,
             line: Vec::new(rt.alloc()),
             file,
+            is_watched,
+            is_input_over: false,
             in_force: InForce::new(text.map(Octets::from)),
             has_ended: false,
             lost_input: false,
@@ -71,9 +81,10 @@ impl<'a, R: Files + AllocGlobal, I: PatientInput + Drop> OperatorPolicies<'a, R,
     }
 
     /// What the next line asks for: it is taken whole, and exactly what stands behind it is left. The end of
-    /// the input stops all where no file has the policy, and so does an input that cannot be read.
+    /// the input stops all where no file has the policy, and so does an input that cannot be read. Behind the
+    /// end a file that is watched is looked at still.
     fn read(&mut self) -> Got<Policy>
-        ensures turn { IsTurn (I.remaining self.old.input) (I.remaining self.new.input)
+        ensures turn { IsTurn self.old.is_watched (I.remaining self.old.input) (I.remaining self.new.input)
             (I.given_up self.new.input) self.old.lost_input self.new.lost_input result }
         ensures ended { result ≡ ended_answer → self.new.has_ended ≡ true }
         ensures going { result ≢ failed_answer }
@@ -82,12 +93,65 @@ impl<'a, R: Files + AllocGlobal, I: PatientInput + Drop> OperatorPolicies<'a, R,
         let read = read_line(&mut self.input, &mut self.line);
         match read {
             Ok(true) => self.take_line(),
-            Ok(false) => {
-                let stops = self.file.is_none();
-                self.end(stops)
-            }
+            Ok(false) => self.end_input(),
             Err(_) => self.lose_input(),
         }
+    }
+
+    /// Nothing more stands in the input.
+    fn end_input(&mut self) -> Got<Policy>
+        ensures over { (result ≡ ended_answer) ⊎ ((self.old.is_watched ≡ true) × (result ≡ nothing_answer)) }
+        ensures ended { result ≡ ended_answer → self.new.has_ended ≡ true }
+        ensures ends { self.new.has_ended ≡ true → (result ≡ ended_answer) ⊎ (self.old.has_ended ≡ true) }
+        ensures input { self.new.input ≡ self.old.input }
+        ensures lost { self.new.lost_input ≡ self.old.lost_input }
+    {
+        if self.is_watched && !self.hub.stops() {
+            self.is_input_over = true;
+            return Got::Nothing;
+        }
+        let stops = self.file.is_none();
+        self.end(stops)
+    }
+
+    /// Waits for a line, and looks at the file meanwhile. Whether that is to be read.
+    fn finds_change(&mut self) -> bool
+        ensures watched { result ≡ true → self.old.is_watched ≡ true }
+        ensures same { self.new.is_watched ≡ self.old.is_watched }
+        ensures input { self.new.input ≡ self.old.input }
+        ensures lost { self.new.lost_input ≡ self.old.lost_input }
+        ensures ended { self.new.has_ended ≡ self.old.has_ended }
+    {
+        if !self.is_watched {
+            return false;
+        }
+        let Some(file) = &mut self.file else {
+            return false;
+        };
+        if self.input.has_buffered() {
+            file.has_changed(self.rt, self.hub)
+        } else {
+            file.awaits_change(self.rt, self.hub, self.is_input_over)
+        }
+    }
+
+    /// The policy of the file, which has changed. A text that is in force already is passed over.
+    fn take_file(&mut self) -> Got<Policy>
+        ensures answer { IsAnswer ForReload result }
+        ensures input { self.new.input ≡ self.old.input }
+        ensures lost { self.new.lost_input ≡ self.old.lost_input }
+        ensures same { self.new.has_ended ≡ self.old.has_ended }
+    {
+        let Some(file) = &mut self.file else {
+            return Got::Nothing;
+        };
+        let Some(text) = file.read_changed(self.rt, self.hub) else {
+            return Got::Nothing;
+        };
+        if self.in_force.is(text.as_slice()) {
+            return Got::Nothing;
+        }
+        give(self.rt, self.hub, &mut self.in_force, text.as_slice())
     }
 
     /// The input cannot be read, or was given up.
@@ -131,17 +195,13 @@ impl<'a, R: Files + AllocGlobal, I: PatientInput + Drop> OperatorPolicies<'a, R,
         ensures lost { self.new.lost_input ≡ self.old.lost_input }
         ensures same { self.new.has_ended ≡ self.old.has_ended }
     {
-        let Some(path) = &self.file else {
+        let Some(file) = &mut self.file else {
             self.hub.tell(Level::Warning, "nothing to reload: --policy names no file");
             return Got::Nothing;
         };
-        match file_text(self.rt, path.as_str()) {
-            Ok(text) => give(self.rt, self.hub, &mut self.in_force, text.as_slice()),
-            Err(error) => {
-                self.hub
-                    .tell(Level::Error, format_args!("cannot read {path}: {error}"));
-                Got::Nothing
-            }
+        match file.read(self.rt, self.hub) {
+            Some(text) => give(self.rt, self.hub, &mut self.in_force, text.as_slice()),
+            None => Got::Nothing,
         }
     }
 
@@ -161,6 +221,7 @@ impl<'a, R: Files + AllocGlobal, I: PatientInput + Drop> OperatorPolicies<'a, R,
 
     /// Tells what came of the policy that was given last: the desk has acted on it since, or refused to.
     fn settle(&mut self)
+        ensures watched { self.new.is_watched ≡ self.old.is_watched }
         ensures input { self.new.input ≡ self.old.input }
         ensures lost { self.new.lost_input ≡ self.old.lost_input }
         ensures ended { self.new.has_ended ≡ self.old.has_ended }
@@ -181,7 +242,8 @@ impl<'a, R: Files + AllocGlobal, I: PatientInput + Drop> OperatorPolicies<'a, R,
     }
 }
 
-impl<'a, R: Files + AllocGlobal, I: PatientInput + Drop> Policies for OperatorPolicies<'a, R, I> {
+impl<'a, R: Files + Clock + AllocGlobal, I: PatientInput + Drop> Policies
+    for OperatorPolicies<'a, R, I> {
     ghost tells = { λ _. false };
 
     ghost gave = { λ _. [] };
@@ -191,7 +253,7 @@ impl<'a, R: Files + AllocGlobal, I: PatientInput + Drop> Policies for OperatorPo
     ghost has_ended = { λ p. p.has_ended };
 
     fn next(&mut self) -> Got<Policy>
-        ensures turn { IsTurn (I.remaining self.old.input) (I.remaining self.new.input)
+        ensures turn { IsTurn self.old.is_watched (I.remaining self.old.input) (I.remaining self.new.input)
             (I.given_up self.new.input) self.old.lost_input self.new.lost_input result }
         ensures given { Moves (λ _. false) (λ _. []) self.old self.new (given_by result) }
         ensures failures { 0 ≤ 0 }
@@ -200,6 +262,9 @@ impl<'a, R: Files + AllocGlobal, I: PatientInput + Drop> Policies for OperatorPo
         ensures ends { self.new.has_ended ≡ true → (result ≡ ended_answer) ⊎ (self.old.has_ended ≡ true) }
     {
         self.settle();
+        if self.finds_change() {
+            return self.take_file();
+        }
         self.read()
     }
 

@@ -6,7 +6,7 @@ use crate::book_end::{BookEnd, end_book};
 use crate::closing::Accounts;
 use crate::descriptors::{EMPTY, hold};
 use crate::hub::Hub;
-use crate::keeping::{Keeper, Keeping, keep};
+use crate::keeping::{Keeper, keep};
 use crate::level::Level;
 use crate::limits::FULL_ROWS;
 use crate::link::BrokerLink;
@@ -21,8 +21,9 @@ use crate::rows::print_all;
 use crate::socket::Socket;
 use crate::switch::Switch;
 use crate::tell::tell;
-use crate::trays::{PieceTray, VolumeTray};
+use crate::tray::Tray;
 use crate::writers::{ERRORS_PATIENCE_MS, OUTPUT_PATIENCE_MS, wait_for};
+use sng_archive::Device;
 use sng_crew::{Crew, Ended, NotStarted, Upstream, run_workers};
 use sng_desk::{Beats, Datagrams, Desk, Filing, Gate, Piece, Policies, Share, Volume};
 use sng_ledger::Closed;
@@ -50,8 +51,8 @@ type Left<'a, R> = Ended<
     BrokerLink<'a, R>,
     SystemBeats<'a, R>,
     OperatorPolicies<'a, R, StandardInput<'a, R>>,
-    PieceTray<'a, R>,
-    VolumeTray<'a, R>,
+    Tray<'a, R>,
+    Tray<'a, R>,
 >;
 
 /// Serves until `quit` or the end of standard input, or until the gateway cannot go on.
@@ -244,7 +245,7 @@ fn start_with<
         + Print
         + Eprint
         + AllocGlobal,
-    K: Keeping,
+    K: Device + Drop,
 >(rt: &R, ask: Ask, keeper: Option<Keeper<K>>) -> Result<End, NotBegun>
 where
     R::Reader: Send,
@@ -258,7 +259,7 @@ where
         hub,
         ears,
         watchers,
-    } = make_shared(rt, ask.flood, keeper.is_some())?;
+    } = make_shared(rt, &ask, keeper.is_some())?;
     if ask.is_verbose {
         hub.set_verbosity(Verbosity::On);
     }
@@ -270,7 +271,7 @@ where
 
 /// Who follows what the workers do.
 #[derive(Drop)]
-struct Followers<K: Keeping> {
+struct Followers<K: Device + Drop> {
     watchers: Watchers,
     keeper: Option<Keeper<K>>,
 }
@@ -278,7 +279,7 @@ struct Followers<K: Keeping> {
 /// Serves by the socket. The policy of the start is in force before a worker reads.
 fn serve_by<
     R: Threads + Wait + Sync + Net + Clock + Files + Input + Print + Eprint + AllocGlobal,
-    K: Keeping,
+    K: Device + Drop,
 >(
     rt: &R,
     hub: &Hub,
@@ -315,8 +316,8 @@ fn hand_off_first<'a, R: Wait>(
     rt: &'a R,
     hub: &'a Hub,
     beginning: Beginning,
-) -> Result<FirstEnd<PieceTray<'a, R>>, NotBegun> {
-    let first = beginning.hand_off(PieceTray::new(rt, hub));
+) -> Result<FirstEnd<Tray<'a, R>>, NotBegun> {
+    let first = beginning.hand_off(Tray::new(rt, hub));
     if hub.handover.is_kept && !first.rest.receipts.as_slice().is_empty() {
         return Err(NotBegun::Memory);
     }
@@ -328,7 +329,7 @@ fn hand_off_first<'a, R: Wait>(
 fn run_crew<
     'a,
     R: Threads + Wait + Sync + Net + Clock + Files + Input + Print + Eprint + AllocGlobal,
-    K: Keeping,
+    K: Device + Drop,
 >(
     rt: &'a R,
     hub: &'a Hub,
@@ -359,11 +360,11 @@ fn begin_first<R: AllocGlobal>(
         return Err(NotBegun::Memory);
     };
     let alloc = rt.alloc();
-    let Some(text) = &ask.text else {
+    let Some(file) = &ask.policy else {
         return Ok(begin(alloc, desk, share, None)?);
     };
     // it was read before, so only memory can be wanting
-    let Ok(policy) = read_policy(alloc, text.as_slice()) else {
+    let Ok(policy) = read_policy(alloc, file.text.as_slice()) else {
         return Err(NotBegun::Memory);
     };
     let lists = Lists::of(&policy);
@@ -374,14 +375,14 @@ fn begin_first<R: AllocGlobal>(
 
 /// What a run came to.
 #[derive(Drop)]
-struct Ran<L, K: Keeping> {
+struct Ran<L, K: Device + Drop> {
     left: Result<L, NotStarted>,
     printed: Printed,
     /// The bookkeeper behind its last turn, where there was one.
     keeper: Option<Keeper<K>>,
 }
 
-impl<L, K: Keeping> Ran<L, K> {
+impl<L, K: Device + Drop> Ran<L, K> {
     /// A thread was refused.
     fn refused(printed: Printed) -> Ran<L, K> {
         Ran {
@@ -396,7 +397,7 @@ impl<L, K: Keeping> Ran<L, K> {
 /// It knows of the workers only that they may go to other threads, which is shown where it is called.
 fn run<
     R: Threads + Wait + Clock + Sync + AllocGlobal,
-    K: Keeping,
+    K: Device + Drop,
     D: Datagrams + Send,
     U: Upstream + Send,
     B: Beats + Send,
@@ -482,12 +483,12 @@ fn start_workers<
 
 /// Holds what the workers left against the book, and prints what comes of it. Where standard input could not
 /// be read, nothing is printed.
-fn finish<R: Clock + Net + Wait + Files + Input + Print + Eprint + AllocGlobal, K: Keeping>(
+fn finish<R: Clock + Net + Wait + Files + Input + Print + Eprint + AllocGlobal, K: Device + Drop>(
     rt: &R,
     hub: &Hub,
     roles: Roles,
     desk: Desk,
-    first: FirstEnd<PieceTray<'_, R>>,
+    first: FirstEnd<Tray<'_, R>>,
     ran: Ran<Left<'_, R>, K>,
     prints_rows: bool,
 ) -> End {
@@ -569,7 +570,7 @@ fn finish_book<R: Clock + AllocGlobal>(rt: &R, hub: &Hub, end: BookEnd, printed:
 fn accounts_of<R: Clock + Net + Wait + Files + Input + Print + Eprint + AllocGlobal>(
     rt: &R,
     ended: Left<'_, R>,
-    first: FirstEnd<PieceTray<'_, R>>,
+    first: FirstEnd<Tray<'_, R>>,
 ) -> Result<Accounts, AllocError> {
     let mut accounts = Accounts::new(rt.alloc());
     accounts.take_first(first)?;

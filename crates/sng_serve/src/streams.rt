@@ -17,12 +17,13 @@ pub struct StandardBoards {
     pub errors: Arc<Board, Global>,
 }
 
-/// The boards of standard output and standard error, at which their writers have begun.
+/// The boards of standard output and standard error, at which their writers have begun. Lines on standard error
+/// begin with the time where that is asked for.
 pub fn boards<
     R: Threads + Wait + Net + Clock + Print + Eprint + Copy + Send + AllocGlobal + 'static,
->(rt: &R) -> Result<StandardBoards, NotBegun> {
+>(rt: &R, tells_time: bool) -> Result<StandardBoards, NotBegun> {
     let (errors, errors_ear) = board(rt)?;
-    start_errors(rt, Arc::try_clone(&errors)?, errors_ear)?;
+    start_errors(rt, Arc::try_clone(&errors)?, errors_ear, tells_time)?;
     let (output, output_ear) = board(rt)?;
     start_output(
         rt,

@@ -3,7 +3,9 @@
 
 use crate::bell::Ear;
 use crate::board::Board;
+use crate::keeping::seconds;
 use crate::level::Level;
+use crate::stamp::stamp;
 use std::alloc::{AllocError, Global};
 use std::rt::Clock;
 use std::sync::{Arc, Wait};
@@ -26,14 +28,15 @@ pub const ERRORS_PATIENCE_MS: u64 = 1000;
 /// How long that wait sleeps at a time, in ms.
 const NAP_MS: u64 = 1;
 
-/// Starts the thread that writes lines for an operator.
+/// Starts the thread that writes lines for an operator, each with the time before it where that is asked for.
 pub fn start_errors<R: Threads + Wait + Clock + Eprint + Copy + Send + 'static>(
     rt: &R,
     errors: Arc<Board, Global>,
     ear: Ear,
+    tells_time: bool,
 ) -> Result<(), AllocError> {
     let own = *rt;
-    let _detached = thread::spawn(rt, move || write_errors(&own, &errors, ear))?;
+    let _detached = thread::spawn(rt, move || write_errors(&own, &errors, ear, tells_time))?;
     Ok(())
 }
 
@@ -50,7 +53,7 @@ pub fn start_output<R: Threads + Wait + Clock + Print + Copy + Send + 'static>(
 }
 
 /// Writes all lines, for ever. Those that were lost are told before the next one.
-fn write_errors<R: Wait + Clock + Eprint>(rt: &R, errors: &Board, mut ear: Ear) {
+fn write_errors<R: Wait + Clock + Eprint>(rt: &R, errors: &Board, mut ear: Ear, tells_time: bool) {
     for _ in rt.forever() {
         let _ = errors.bell.heard();
         let Some(line) = errors.next() else {
@@ -61,7 +64,7 @@ fn write_errors<R: Wait + Clock + Eprint>(rt: &R, errors: &Board, mut ear: Ear) 
         if lost > 0 && eprint_lost(rt, lost).is_none() {
             errors.lost.add(lost);
         }
-        if eprint_line(rt, line.bytes.as_slice()).is_none() {
+        if eprint_line(rt, line.bytes.as_slice(), tells_time).is_none() {
             errors.lost.add(1);
         }
         errors.finish(line.rows);
@@ -75,10 +78,15 @@ fn eprint_lost<R: Eprint>(rt: &R, count: u64) -> Option<()> {
         .ok()
 }
 
-/// Prints a line.
-fn eprint_line<R: Eprint>(rt: &R, line: &[u8]) -> Option<()> {
+/// Prints a line, behind the time at which that is done where it is to begin with it.
+fn eprint_line<R: Clock + Eprint>(rt: &R, line: &[u8], tells_time: bool) -> Option<()> {
     let line = str::from_utf8(line).ok()?;
-    rt.eprint(line).ok()
+    if !tells_time {
+        return rt.eprint(line).ok();
+    }
+    let time = stamp(seconds(rt));
+    let time = str::from_utf8(&time).ok()?;
+    rt.eprint(format_args!("{time} {line}")).ok()
 }
 
 /// Writes all texts, for ever.

@@ -6,6 +6,7 @@ pub fn example_of(word: &str) -> &'static str {
     match word {
         "play" => "play < first.script",
         "check" => "check first.script < first.book",
+        "book" => "book - < first.book",
         "cover" => "cover 'a/+' 'a/#'",
         "may" => "may --policy policy.json s1 publish t/1",
         "policy" => "policy policy.json",

@@ -19,6 +19,7 @@ fn serve_command<'a>(alloc: Global) -> Result<Command<'a>, AllocError> {
     let command = with_addresses(alloc, command)?;
     let command = with_numbers(alloc, command)?;
     let command = with_policy(alloc, command)?;
+    let command = with_printing(alloc, command)?;
     let command = with_book(alloc, command)?;
     with_flood_limits(alloc, command)
 }
@@ -72,13 +73,22 @@ fn workers<'a>(alloc: Global) -> Result<Arg<'a>, AllocError> {
         .required_unless_present("CONFIG")
 }
 
-/// The command with the options that say what is in force and what is printed.
+/// The command with the options that say what is in force.
 fn with_policy<'a>(alloc: Global, command: Command<'a>) -> Result<Command<'a>, AllocError> {
     let policy = Arg::new(alloc, "FILE")
         .long("policy")
-        .help("The file of the policy, read at the start and on a line `reload`")
+        .help("The file of the policy, read at the start, when it changes, and on a line `reload`")
         .action(ArgAction::Set);
     let command = command.arg(policy)?;
+    let unwatched = Arg::new(alloc, "no-watch")
+        .long("no-watch")
+        .help("Does not look whether the file of the policy changes")
+        .action(ArgAction::SetTrue);
+    command.arg(unwatched)
+}
+
+/// The command with the options that say what is printed.
+fn with_printing<'a>(alloc: Global, command: Command<'a>) -> Result<Command<'a>, AllocError> {
     let verbose = Arg::new(alloc, "verbose")
         .long("verbose")
         .help("Prints rows as they are made")
@@ -88,7 +98,12 @@ fn with_policy<'a>(alloc: Global, command: Command<'a>) -> Result<Command<'a>, A
         .long("rows")
         .help("Prints all rows as the gateway stops")
         .action(ArgAction::SetTrue);
-    command.arg(rows)
+    let command = command.arg(rows)?;
+    let time = Arg::new(alloc, "log-time")
+        .long("log-time")
+        .help("Begins each line on standard error with the time")
+        .action(ArgAction::SetTrue);
+    command.arg(time)
 }
 
 /// The command with the option that keeps the book on disk.
@@ -129,8 +144,10 @@ pub fn serve_words<'a>(matches: &ArgMatches<'a>) -> Words<'a> {
         flood_all: matches.get_one::<u32>("ALL"),
         policy: matches.get_str("FILE"),
         book: matches.get_str("FOLDER"),
+        is_unwatched: matches.get_flag("no-watch"),
         is_verbose: matches.get_flag("verbose"),
         prints_rows: matches.get_flag("rows"),
+        tells_time: matches.get_flag("log-time"),
     }
 }
 
