@@ -1,9 +1,10 @@
 #!/usr/bin/env python3
 """endless.py [SNG [ROWS]]
 
-A run of ROWS rows (20,000,000 where none is given) through `sng serve --book` on loopback: PUBLISHes at
-QoS -1 and at QoS 1 take turns, by the drivers of bench/serve.py. SNG is the build that `rt run` leaves in
-crates/sng/out/sng, where none is given. Prints, and exits with status 1 where one is not kept:
+A run of ROWS rows (20,000,000 where none is given) through `sng serve --book` on loopback: PUBLISHes at QoS
+-1 and at QoS 1 take turns, by the drivers of bench/serve.py. SNG is the build that `rt run` leaves in
+crates/sng/out/sng, where none is given; its environment has what that of examples/sng.service has. Prints,
+and exits with status 1 where one is not kept:
 
 - that no row is lost: the rows of the files are counted up, and as many as were closed;
 - the memory once a second million of rows is made, and how much it has grown at the end: under 5 %;
@@ -23,6 +24,8 @@ import time
 from serve import HERE, PROVED, POLICY, figures, free_port, resident, started
 
 ROWS = 20_000_000
+# What the unit sets: docs/capacity.md says what it does
+ALLOCATOR = {'MALLOC_MMAP_THRESHOLD_': '262144'}
 # Behind so many rows a run without a book on disk is full with the next driver, and memory has to be flat
 FIRST, SETTLED = 780_000, 2_000_000
 # So many messages a driver sends; each takes two rows at QoS -1 and four at QoS 1, fewer under load
@@ -151,6 +154,7 @@ def measure(tool, sng, room, policy, rows):
 
 
 def main():
+    os.environ.update(ALLOCATOR)
     sng = os.path.abspath(sys.argv[1]) if len(sys.argv) > 1 else PROVED
     rows = int(sys.argv[2]) if len(sys.argv) > 2 else ROWS
     with tempfile.TemporaryDirectory() as room:
