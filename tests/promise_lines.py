@@ -16,8 +16,10 @@ import re
 import sys
 
 ROOT = os.path.join(os.path.dirname(os.path.abspath(__file__)), '..')
-# What a reader takes from the gateway: that each step keeps its history lawful, from the opening state on
-PREMISE = {('sng_history.Lawful', 'Lawful'), ('sng_history.State', 'opening')}
+# What a reader takes from the gateway: that each step keeps its book lawful, and the plain rows as which that is
+# read, from the opening state on
+PREMISE = {('sng_history.Lawful', 'Lawful'), ('sng_history.Books', 'LawfulBook'), ('sng_history.Books', 'IsBook'),
+           ('sng_history.State', 'opening')}
 WORD = re.compile(r"[^\s(){}\[\],;.λ→×]+")
 HEAD = re.compile(r"^(?:abbrev |pub |record |data )*([^\s:(){}]+)")
 # A name behind the alias of its module, as `streams.feed`

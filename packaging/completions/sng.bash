@@ -13,7 +13,7 @@ _sng() {
     play) options='-h --help' ;;
     check) options='-h --help' files=yes ;;
     cover) options='-h --help' ;;
-    may) options='--policy --source -h --help' words='publish receive subscribe' ;;
+    may) options='--policy --source --at -h --help' words='publish receive subscribe' ;;
     policy) options='--print -h --help' files=yes ;;
     serve)
       options='--config --listen --broker --id --workers --tries --policy --book --verbose --rows
@@ -25,7 +25,7 @@ _sng() {
   case $before in
     --config | --policy | --book) options='' words='' files=yes ;;
     --workers) options='' words='1 2 3 4 5 6 7 8' ;;
-    --listen | --broker | --id | --tries | --source | --flood-each | --flood-all) return ;;
+    --listen | --broker | --id | --tries | --source | --at | --flood-each | --flood-all) return ;;
   esac
   case $current in
     -*) mapfile -t COMPREPLY < <(compgen -W "$options" -- "$current") ;;

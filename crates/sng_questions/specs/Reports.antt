@@ -1,5 +1,6 @@
 -- What is printed of a policy text that is checked, and how the command comes out.
-use Rattle.std.specs.Prelude.{ℕ, ◌≡◌, List, [], ◌++◌, length, Result, Ok, Err, codes}
+use Rattle.std.specs.Prelude.{ℕ, ◌≡◌, ◌==◌, List, [], ◌++◌, length, Result, Ok, Err, codes}
+use Rattle.std.specs.Prelude.{if◌then◌else◌}
 use Rattle.sng_grants.specs.declared.policy.Policy.{Policy}
 use Rattle.sng_scope.specs.Faults.{sentence_of}
 use Rattle.sng_scope.specs.Policies.{policy_of}
@@ -9,16 +10,25 @@ use Rattle.sng_places.specs.declared.position.Position.{Position}
 use Rattle.sng_places.specs.declared.stop.Stop.{Stop}
 use Rattle.sng_places.specs.declared.stop.Stop.TheVariants.{At, Memory}
 use Rattle.sng_script.specs.Refused.{refused_text}
+use Rattle.sng_questions.specs.Ends.{ending_scopes}
 use Rattle.sng_questions.specs.Places.{count_text, found_text}
 use Rattle.sng_script.specs.declared.status.Status.{Status}
 use Rattle.sng_script.specs.declared.status.Status.TheVariants as statuses
 
--- the line of a policy that is accepted
-abbrev pub accepted_text : Policy → List ℕ
-accepted_text policy =
+-- how many scopes end, where some do
+abbrev pub ends_text : ℕ → List ℕ
+ends_text count = if count == 0 then [] else count_text (codes "; ") count ++ codes " scopes end"
+
+-- how much a policy lists
+abbrev pub listed_text : Policy → List ℕ
+listed_text policy =
     count_text (codes "policy ok: ") (length policy.clients)
     ++ (count_text (codes " clients, ") (length policy.sources)
-    ++ (count_text (codes " sources, ") (length policy.topics) ++ codes " topics\n"))
+    ++ (count_text (codes " sources, ") (length policy.topics) ++ codes " topics"))
+
+-- the line of a policy that is accepted
+abbrev pub accepted_text : Policy → List ℕ
+accepted_text policy = listed_text policy ++ (ends_text (ending_scopes policy) ++ codes "\n")
 
 -- the line of the place
 abbrev pub stop_text : Position → Result Unit Stop → List ℕ

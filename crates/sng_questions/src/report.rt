@@ -4,9 +4,10 @@ ghost use Rattle.sng_scope.specs.Policies.{policy_of};
 ghost use Rattle.sng_places.specs.Places.{text_check};
 ghost use Rattle.sng_places.specs.declared.position.Position.{Position};
 ghost use Rattle.sng_questions.specs.Warnings.{AreWarningsOf};
-ghost use Rattle.sng_questions.specs.Reports.{accepted_text, fault_report, stop_text, report_text};
-ghost use Rattle.sng_questions.specs.Reports.{report_status};
+ghost use Rattle.sng_questions.specs.Reports.{accepted_text, ends_text, fault_report, listed_text, stop_text};
+ghost use Rattle.sng_questions.specs.Reports.{report_text, report_status};
 
+use crate::ends::ending_scopes;
 use crate::flaws::push_count;
 use crate::places::push_found;
 use crate::warnings::warning_lines;
@@ -82,10 +83,32 @@ fn position_of(alloc: Global, text: &[u8], fault: PolicyFault) -> Result<Positio
 fn push_accepted(line: &mut Vec<u8>, policy: &Policy) -> Result<(), AllocError>
     ensures { OnOk result (line.new.items ≡ line.old.items ++ accepted_text policy.now) }
 {
+    push_listed(line, policy)?;
+    push_ends(line, ending_scopes(policy))?;
+    line.extend_from_slice(b"\n")?;
+    Ok(())
+}
+
+/// Appends how much the policy lists.
+fn push_listed(line: &mut Vec<u8>, policy: &Policy) -> Result<(), AllocError>
+    ensures { OnOk result (line.new.items ≡ line.old.items ++ listed_text policy.now) }
+{
     push_count(line, "policy ok: ", policy.clients.len())?;
     push_count(line, " clients, ", policy.sources.len())?;
     push_count(line, " sources, ", policy.topics.len())?;
-    line.extend_from_slice(b" topics\n")
+    line.extend_from_slice(b" topics")
+}
+
+/// Appends how many scopes end, where some do.
+fn push_ends(line: &mut Vec<u8>, count: usize) -> Result<(), AllocError>
+    ensures { OnOk result (line.new.items ≡ line.old.items ++ ends_text count) }
+{
+    if count == 0 {
+        return Ok(());
+    }
+    push_count(line, "; ", count)?;
+    line.extend_from_slice(b" scopes end")?;
+    Ok(())
 }
 
 /// Appends the lines of the text's fault.

@@ -1,7 +1,7 @@
 //! `sng serve`: the gateway between devices and a broker.
 
 use crate::beats::SystemBeats;
-use crate::beginning::{Beginning, FirstEnd, begin};
+use crate::beginning::{Beginning, FirstEnd};
 use crate::book_end::{BookEnd, end_book};
 use crate::closing::Accounts;
 use crate::descriptors::{EMPTY, hold};
@@ -22,7 +22,9 @@ use crate::socket::Socket;
 use crate::switch::Switch;
 use crate::tell::tell;
 use crate::trays::{PieceTray, VolumeTray};
+use crate::unix_clock::UnixClock;
 use crate::writers::{ERRORS_PATIENCE_MS, OUTPUT_PATIENCE_MS, wait_for};
+use sng_book::Event;
 use sng_crew::{Crew, Ended, NotStarted, Upstream, run_workers};
 use sng_desk::{Beats, Datagrams, Desk, Filing, Gate, Piece, Policies, Share, Volume};
 use sng_ledger::Closed;
@@ -275,7 +277,7 @@ struct Followers<K: Keeping> {
     keeper: Option<Keeper<K>>,
 }
 
-/// Serves by the socket. The policy of the start is in force before a worker reads.
+/// Serves by the socket. The clock is set and the policy of the start in force before a worker reads.
 fn serve_by<
     R: Threads + Wait + Sync + Net + Clock + Files + Input + Print + Eprint + AllocGlobal,
     K: Keeping,
@@ -297,20 +299,21 @@ where
     let roles = Roles::new(ask.workers);
     let shares = ask.workers.saturating_add(OTHERS + 1);
     let (mut desk, mut shares) = Desk::new(rt.alloc(), FULL_ROWS, shares)?;
-    let beginning = begin_first(rt, hub, &mut desk, &mut shares, &ask)?;
+    let clock = UnixClock::begin(rt)?;
+    let beginning = begin_first(rt, hub, &mut desk, &mut shares, &ask, &clock)?;
     hub.handover.room.note_made(desk.rows_made());
     let first = hand_off_first(rt, hub, beginning)?;
     tell_open(hub, socket);
     let gate = Switch::new(rt, hub, roles);
     let prints_rows = ask.prints_rows;
-    let crew = crew_of(rt, hub, ask, shares, socket, ears)?;
+    let crew = crew_of(rt, hub, ask, shares, socket, ears, clock)?;
     let desk = Mutex::new(desk);
     let ran = run_crew(rt, hub, &desk, crew, &gate, followers);
     let desk = desk.into_inner();
     Ok(finish(rt, hub, roles, desk, first, ran, prints_rows))
 }
 
-/// Hands off what the first act made, where the book goes to disk: no row behind it could go there before.
+/// Hands off what the first acts made, where the book goes to disk: no row behind it could go there before.
 fn hand_off_first<'a, R: Wait>(
     rt: &'a R,
     hub: &'a Hub,
@@ -347,27 +350,32 @@ where
     run(rt, hub, desk, crew, gate, followers)
 }
 
-/// Brings the policy of the start into force, and tells it.
+/// Sets the clock, brings the policy of the start into force, and tells both.
 fn begin_first<R: AllocGlobal>(
     rt: &R,
     hub: &Hub,
     desk: &mut Desk,
     shares: &mut Vec<Share>,
     ask: &Ask,
+    clock: &UnixClock,
 ) -> Result<Beginning, NotBegun> {
     let Some(share) = shares.pop() else {
         return Err(NotBegun::Memory);
     };
     let alloc = rt.alloc();
+    let mut beginning = Beginning::new(alloc, share);
+    let now = clock.ms(clock.begun());
+    beginning.act(desk, Event::Tick(now))?;
+    hub.tell(Level::Info, format_args!("clock: {now} ms of Unix time"));
     let Some(text) = &ask.text else {
-        return Ok(begin(alloc, desk, share, None)?);
+        return Ok(beginning);
     };
     // it was read before, so only memory can be wanting
     let Ok(policy) = read_policy(alloc, text.as_slice()) else {
         return Err(NotBegun::Memory);
     };
     let lists = Lists::of(&policy);
-    let beginning = begin(alloc, desk, share, Some(policy))?;
+    beginning.act(desk, Event::Replace(policy))?;
     hub.tell(Level::Info, format_args!("policy in force: {lists}"));
     Ok(beginning)
 }
