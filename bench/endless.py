@@ -7,7 +7,8 @@ crates/sng/out/sng, where none is given; its environment has what that of exampl
 and exits with status 1 where one is not kept:
 
 - that no row is lost: the rows of the files are counted up, and as many as were closed;
-- the memory once a second million of rows is made, and how much it has grown at the end: under 5 %;
+- the memory over the two millions of rows behind the second million, and how much it has grown over the last
+  two: under 5 %. Rows of a second or two are always on their way to disk, so the middle of what was read counts;
 - the rate, beside that of the first 780,000 to 980,000 rows of a run without --book: at least 0.8 of it;
 - the 99th percentile of a round trip at QoS 1 beside that without --book: at most twice that;
 - the time of `sng check --book` beside that of `sng play` for the same events: at most twice that."""
@@ -16,6 +17,7 @@ import json
 import os
 import re
 import socket
+import statistics
 import subprocess
 import sys
 import tempfile
@@ -26,8 +28,9 @@ from serve import HERE, PROVED, POLICY, figures, free_port, resident, started
 ROWS = 20_000_000
 # What the unit sets: docs/capacity.md says what it does
 ALLOCATOR = {'MALLOC_MMAP_THRESHOLD_': '262144'}
-# Behind so many rows a run without a book on disk is full with the next driver, and memory has to be flat
-FIRST, SETTLED = 780_000, 2_000_000
+# Behind so many rows a run without a book on disk is full with the next driver, and memory has to be flat,
+# which is read over so many rows
+FIRST, SETTLED, OVER = 780_000, 2_000_000, 2_000_000
 # So many messages a driver sends; each takes two rows at QoS -1 and four at QoS 1, fewer under load
 MINUS, ONE, TRIPS = 100_000, 40_000, 20_000
 SECONDS = 600
@@ -92,6 +95,12 @@ def mixed(run, rows, seen=lambda made: None):
     return (made - begun) / took
 
 
+def middle(memory, first, last):
+    """The middle of what was read while so many rows were made, or the last reading where there is none."""
+    read = [octets for made, octets in memory if first <= made < last]
+    return int(statistics.median(read or [memory[-1][1]]))
+
+
 def counted(folder):
     """How many rows the files have, each of which has the number behind that of the row before."""
     number = 0
@@ -139,12 +148,12 @@ def measure(tool, sng, room, policy, rows):
         closed = run.close()
     found = counted(folder)
     size = sum(os.path.getsize(path) for path in glob.glob(os.path.join(folder, '*', '*')))
-    settled = next(octets for made, octets in memory if made >= min(SETTLED, rows))
+    made = memory[-1][0]
+    settled, last = middle(memory, SETTLED, SETTLED + OVER), middle(memory, made - OVER, made + 1)
     print('%d octets a row on disk' % (size // found))
-    made, last = memory[-1]
     fine = [judged('rows', '%d closed, %d on disk' % (closed, found), closed == found),
-            judged('memory', '%d MiB at %d rows, %d MiB at %d' % (settled >> 20, SETTLED, last >> 20, made),
-                   last <= 1.05 * settled),
+            judged('memory', '%d MiB from %d rows on, %d MiB up to %d' %
+                   (settled >> 20, SETTLED, last >> 20, made), last <= 1.05 * settled),
             judged('rate', '%.0f rows a second, x %.2f' % (rate, rate / first), rate >= 0.8 * first),
             judged('p99', '%.0f us, x %.2f' % (kept['p99'], kept['p99'] / alone['p99']),
                    kept['p99'] <= 2 * alone['p99'])]

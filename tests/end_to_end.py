@@ -38,10 +38,11 @@ CRATE = os.path.join(ROOT, 'crates', 'sng')
 PROVED = os.path.join(CRATE, 'out', 'sng')
 SECONDS = 600
 POLICY = 'policy.json'
+ENDS = 'ends.json'
 NO_FILE = b'cannot read no-such.json: No such file or directory (os error 2)\n'
 BOOK_SCRIPT = 'scripts/refused-policy-leaves-the-one-before.script'
 # The files that the words of a case name, for the build without proof
-DATA = [word for name in (POLICY, 'cover.table', BOOK_SCRIPT)
+DATA = [word for name in (POLICY, ENDS, 'cover.table', BOOK_SCRIPT)
         for word in ('--data', '%s=%s' % (name, os.path.join(HERE, name)))]
 MAX_LINE = 64 * 1024 * 1024
 MEMORY = 512 * 1024 * 1024
@@ -139,6 +140,33 @@ def questions_to_a_policy():
              b'refused policy 1 NotJson\n'),
             ('a-file-that-is-not-there', asking('s1', 'publish', 'a', policy='no-such.json'), 1, NO_FILE)):
         yield Case('may-' + name, words, b'', status, printed)
+
+
+def questions_at_times():
+    """Questions to tests/ends.json: s1's scope ends as 2027 begins, the source's in 2001, old's in 1970."""
+    allowed, ended, source = (0, b'allowed\n'), (1, b'denied NoScope\n'), (1, b'denied UnknownSource\n')
+    for name, at, words, (status, printed) in (
+            ('the-last-ms', '1798761599999', ['s1', 'publish', 't/1'], allowed),
+            ('the-end', '1798761600000', ['s1', 'publish', 't/1'], ended),
+            ('the-last-ms-in-utc', '2026-12-31T23:59:59.999Z', ['s1', 'publish', 't/1'], allowed),
+            ('the-end-in-utc', '2027-01-01T00:00:00Z', ['s1', 'publish', 't/1'], ended),
+            ('the-end-at-an-offset', '2027-01-01T05:30:00+05:30', ['s1', 'receive', 'a/x'], ended),
+            ('less-than-a-ms-before', '2026-12-31T23:59:59.9999Z', ['s1', 'subscribe', 'a/#'], allowed),
+            ('the-first-ms', '0', ['old', 'publish', 't/1'], allowed),
+            ('the-last-ms-of-all', '18446744073709551615', ['s1', 'publish', 't/1'], ended),
+            ('the-last-ms-of-all-without-an-end', '18446744073709551615', ['s2', 'publish', 'ab'], allowed),
+            ('a-source-before', '2001-09-09T01:46:39Z', ['--source', '10.0.0.7', 'publish', 'ab'], allowed),
+            ('a-source-at-its-end', '1000000000000', ['--source', '10.0.0.7', 'publish', 'ab'], source)):
+        yield Case('may-at-' + name, asking('--at', at, *words, policy=ENDS), b'', status, printed)
+    for name, words, (status, printed) in (
+            ('what-has-ended', ['old', 'publish', 't/1'], ended),
+            ('what-never-ends', ['s2', 'publish', 'ab'], allowed)):
+        yield Case('may-now-' + name, asking(*words, policy=ENDS), b'', status, printed)
+    for at in ('', 'now', '-1', '18446744073709551616', '2027-01-01', '2027-01-01T00:00:00',
+               '1969-12-31T23:59:59Z'):
+        words = asking('--at=' + at, 's1', 'publish', 't/1', policy=ENDS)
+        yield Case('may-at-no-time-%s' % at, words, b'', 2, b'',
+                   b'error: TIME is ms of Unix time, or a date and a time, as 2027-01-01T00:00:00Z\n')
 
 
 def checks():
@@ -259,6 +287,7 @@ def cases(folder):
     yield from scripts()
     yield from questions()
     yield from questions_to_a_policy()
+    yield from questions_at_times()
     yield from checks()
     yield from books()
     yield from books_on_disk(folder)

@@ -6,6 +6,8 @@ flight or wait, what waits for the broker, by acknowledgements and beside subscr
 what waits for a client, and the datagrams that are sent to it. And what finds no place then: the will of a
 client that is lost, and a ping.
 """
+import json
+
 ADDRESS, OTHER_ADDRESS = '10.0.0.9:4000', '10.0.0.9:4001'
 MOST_IDS, MOST_SUBSCRIPTIONS, MOST_IN_FLIGHT, MOST_ITEMS = 128, 32, 128, 512
 MOST_WAITING, MOST_PAYLOAD, MOST_NAME, MOST_OPEN = 64, 2039, 2040, 16
@@ -540,6 +542,24 @@ def wills_beside_a_full_outbox():
     return story.whole()
 
 
+def scopes_that_end_beside_a_full_outbox():
+    """All that is granted to a client ends by a tick, but there is no place to tell the broker of both of its
+    filters; what stands for another client, too, it keeps."""
+    story = Story()
+    ending = {client: {'scope': [['#', ['pub', 'sub']]], 'exp': exp} for client, exp in (('s1', 5000), ('s2', 6000))}
+    story.begin('policy ' + json.dumps({'version': 2, 'clients': ending}))
+    story.hear(CONNECT_OTHER, 'connect s2 - allowed', '030500', OTHER_ADDRESS)
+    for pattern, code in (('a', 0x61), ('b', 0x62), ('c', 0x63)):
+        story.hear(subscribe(pattern + '/#'), 'subscribe s1 %s/# allowed' % pattern, '0813200000000700')
+    story.hear(subscribe('b/#'), 'subscribe s2 b/# allowed', '0813200000000700', OTHER_ADDRESS)
+    for number in range(MOST_ITEMS - 5):
+        story.hear(publish(0x02, 0x6162, 0), 'publish s1 ab allowed')
+    story.give('tick 5000', 'tick', 'note end s1 a/# 3 NoScope s1', 'note end s1 b/# 3 NoScope s1',
+               'note end s1 c/# 3 NoScope s1', FULL)
+    story.give('tick 6000', 'tick', 'note end s2 b/# 3 NoScope s2', FULL)
+    return story.whole()
+
+
 def pings_beside_a_full_outbox():
     """A ping that finds no room among 512 items is noted at each tick, and made up for by the next that finds
     room. The next one is due 30,000 ms behind that."""
@@ -568,5 +588,6 @@ def scripts():
                  publishes_that_fill_without_a_connection, messages_that_fill_a_queue,
                  ids_that_fill_by_announcements, messages_that_fill_a_datagram,
                  messages_beside_a_full_outbox, messages_that_fill_the_queue_of_a_sleeper,
-                 wills_beside_full_places, wills_beside_a_full_outbox, pings_beside_a_full_outbox):
+                 wills_beside_full_places, wills_beside_a_full_outbox, pings_beside_a_full_outbox,
+                 scopes_that_end_beside_a_full_outbox):
         yield (each.__name__.replace('_', '-'), *each())

@@ -46,6 +46,7 @@ ALONE = (ALONE + operator_cases.ALONE + row_cases.ALONE + broker_cases.ALONE + f
          + flood_cases.ALONE + book_cases.ALONE + policy_cases.ALONE)
 BESIDE_A_BROKER = (session_cases.a_publish_without_a_session, session_cases.a_session_that_publishes,
                    session_cases.a_subscription, session_cases.a_policy_that_ends_a_subscription,
+                   session_cases.a_scope_that_ends,
                    program_cases.a_broker_that_comes_back, program_cases.a_subscription_outlives_the_broker,
                    program_cases.a_broker_that_refuses, session_cases.twenty_devices_at_once,
                    session_cases.rubbish, program_cases.a_policy_of_a_file, program_cases.idle)

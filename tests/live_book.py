@@ -145,7 +145,7 @@ def what_stands_in_the_files(room):
 
 
 def a_configured_book(room):
-    """A second run has a folder of its own; a policy of the start is the first row of each."""
+    """A second run has a folder of its own; the clock and the policy of the start are the first rows of each."""
     folder = needs_book(room)
     policy = room.file('policy.json', '{"version":1,"clients":{"s1":[["t/#",["pub"]]]}}')
     lines = ('listen = "%s:0"' % HOST, 'broker = "%s:%d"' % (HOST, free_port()), 'id = "gw1"', 'workers = 1',
@@ -157,7 +157,8 @@ def a_configured_book(room):
         gateway.line('err', 'gave up after 1 tries')
         closed = gateway.close(verbose=False)
         rows = list(rows_of(folder, run))
-        wanted(len(rows) == closed and rows[0][0].startswith(b'> policy '), 'the rows of run %d' % run)
+        begins = rows[0][0].startswith(b'> tick ') and rows[1][0].startswith(b'> policy ')
+        wanted(len(rows) == closed and begins, 'the rows of run %d' % run)
         is_lawful(room, rows)
 
 

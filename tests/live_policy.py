@@ -1,4 +1,5 @@
 """Cases of tests/live.py: a policy file that changes while the gateway serves, and what is told of clients."""
+import json
 import os
 import re
 import subprocess
@@ -52,6 +53,19 @@ def a_policy_file_that_changes(room):
     unchanged = sum('policy unchanged' in line for line in gateway.lines['err'])
     wanted((len(rows), unchanged) == (3, 1), 'three rows and a line for the reload, not %d and %d'
            % (len(rows), unchanged))
+
+
+def a_policy_whose_scope_has_ended(room):
+    """It ended before the gateway began: its client is as if it were not listed, and another one is let in."""
+    path = room.file('policy.json', json.dumps({'version': 2, 'clients': {
+        's1': {'scope': [['t/#', ['pub']]], 'exp': 1000}, 's2': {'scope': [['t/#', ['pub']]]}}}))
+    gateway = room.gateway(free_port(), '--policy', path, connected=False)
+    gateway.line('err', '^sng: policy in force: 2 clients, 0 sources, 0 topics; 1 scopes end, the first at '
+                 '1000 ms of Unix time, 1970-01-01T00:00:01Z$')
+    room.device(gateway).connect('s1', code=3)
+    gateway.line('out', '^note connect s1 - 3 NoScope s1$')
+    room.device(gateway).connect('s2')
+    gateway.close()
 
 
 def a_policy_file_in_two_halves(room):
@@ -165,6 +179,7 @@ def clients_are_told(room):
     wanted(len(lines) <= 10 * seconds, 'ten lines a second, and not %d in %.1f s' % (len(lines), seconds))
 
 
-ALONE = (a_policy_file_that_changes, a_policy_file_in_two_halves, a_policy_file_that_is_refused,
+ALONE = (a_policy_file_that_changes, a_policy_whose_scope_has_ended, a_policy_file_in_two_halves,
+         a_policy_file_that_is_refused,
          a_policy_file_that_goes, a_policy_file_that_is_not_watched, a_policy_file_without_input,
          the_time_of_each_line, clients_are_told)

@@ -1,6 +1,7 @@
 """Cases of tests/live.py: what devices and a broker exchange by the gateway."""
 import os
 import threading
+import time
 
 from live_parts import HOST, Failure, wanted
 
@@ -78,6 +79,33 @@ def a_policy_that_ends_a_subscription(room):
     device.silent()
     gateway.say('policy not JSON')
     gateway.line('out', '^refused policy 1 NotJson$')
+    gateway.close()
+
+
+def a_scope_that_ends(room):
+    """By the clock that is told at the start: the tick that reaches it ends what stands, and denies then."""
+    broker = room.broker()
+    gateway = room.gateway(broker.port, policy=S1)
+    now = int(gateway.line('err', r'clock: (\d+) ms of Unix time, \d{4}-\d\d-\d\dT')[1])
+    wanted(abs(now - time.time() * 1000) < 60_000, 'the wall clock, and not %d' % now)
+    wanted(gateway.line('out', '^row 1 .*')[0].endswith(' tick'), 'the clock before everything else')
+    device = room.device(gateway)
+    device.connect('s1')
+    device.subscribe('t/#')
+    gateway.line('out', '^row .* broker')
+    end = int(time.time() * 1000) + 2000
+    shown = time.strftime('%Y-%m-%dT%H:%M:%S', time.gmtime(end // 1000))
+    gateway.replace({'version': 2, 'clients': {'s1': {'scope': [['t/#', BOTH]], 'exp': end}}})
+    gateway.line('err', '; 1 scopes end, the first at %d ms of Unix time, %s' % (end, shown))
+    topic = device.register('t/1')
+    gateway.line('out', '^note end s1 t/# 3 NoScope s1')
+    gateway.line('out', '^wire a2')
+    wanted(time.time() * 1000 >= end - 100, 'not before it ends')
+    device.publish(topic, b'behind the end', code=3)
+    gateway.line('out', '^note publish s1 - 3 NoScope s1')
+    device.register('t/2', code=3)
+    room.publish(broker, 't/9', 'to nobody')
+    device.silent()
     gateway.close()
 
 

@@ -5,6 +5,7 @@ tests/warnings.table, and those at the limits of a policy and one past them, whi
 For `sng policy --print`, the canonical text of each policy text that is accepted, as Python's json writes it.
 """
 import base64
+import datetime
 import json
 import os
 from collections import namedtuple
@@ -14,11 +15,13 @@ from policy_texts import CLIENTS, PAIRS, SOURCES, TOPICS, encoded, policy, scope
 
 HERE = os.path.dirname(os.path.abspath(__file__))
 FILTER, NAME, SHOWN = 200, 65535, 200
+EPOCH = datetime.datetime(1970, 1, 1)
 # The sentence of each fault
 SENTENCES = {
     '1 NotJson': 'the text is not JSON in UTF-8, or a scope given as a text does not decode to such'
                  ' JSON',
-    '2 Shape': 'the text is JSON, but not of the shape of a policy of version 1 or of a scope',
+    '2 Shape': 'the text is JSON, but not of the shape of a policy of version 1 or 2 or of'
+               ' a scope',
     '3 BadFilter': 'a filter in a scope is not a valid topic filter, or is too long',
     '4 BadPermission': 'a permission in a scope is neither `pub` nor `sub`',
     '5 BadBase64': 'a scope given as a text is not base64url without padding',
@@ -45,9 +48,35 @@ def refused(name, fault, place, text):
     return Report(name, text.encode(), 1, printed.encode(), b'')
 
 
-def accepted(name, text, clients, sources, topics, warned):
-    printed = 'policy ok: %d clients, %d sources, %d topics\n' % (clients, sources, topics)
+def accepted(name, text, clients, sources, topics, warned, ends=''):
+    printed = 'policy ok: %d clients, %d sources, %d topics%s\n' % (clients, sources, topics, ends)
     return Report(name, text.encode(), 0, printed.encode(), warned)
+
+
+def ends():
+    """Texts of version 2: how many scopes end, and the first end, dated as Python's datetime does."""
+    for name, found in (('no-scope', [None, None]), ('one-scope', [None, 5000]),
+                        ('two-scopes', [1798761600000, 1798761599999]), ('a-scope-at-0', [0, 2 ** 64 - 1]),
+                        ('the-last-date', [253402207200999]), ('no-date', [253402207201000]),
+                        ('the-last-ms', [2 ** 64 - 1])):
+        clients = {'c%d' % k: dict([('scope', [['a', ['pub']]])] + [('exp', end)] * (end is not None))
+                   for k, end in enumerate(found)}
+        ending = [end for end in found if end is not None]
+        shown = ''
+        if ending:
+            shown = '; %d scopes end, the first at %d ms of Unix time%s' % (len(ending), min(ending),
+                                                                        date_of(min(ending)))
+        text = json.dumps({'version': 2, 'clients': clients})
+        yield accepted('that-ends-at-' + name, text, len(found), 0, 0, None, shown)
+
+
+def date_of(end):
+    """The date of an end, up to the last ms at which it is before the year 10000 everywhere."""
+    if end > 253402207200999:
+        return ''
+    shown = EPOCH + datetime.timedelta(milliseconds=end)
+    fraction = ('.%03d' % (end % 1000)).rstrip('0').rstrip('.')
+    return ', ' + shown.strftime('%Y-%m-%dT%H:%M:%S') + fraction + 'Z'
 
 
 def faults():
@@ -95,6 +124,7 @@ def all_texts():
 def reports():
     yield from faults()
     yield from limits()
+    yield from ends()
     yield from warnings()
     yield from all_texts()
 
@@ -106,13 +136,22 @@ def pairs_of(scope_value):
     return [[asked, [word for word in ('pub', 'sub') if word in words]] for asked, words in scope_value]
 
 
+def grant_of(given):
+    """The scope, with its end where it has one."""
+    if not isinstance(given, dict):
+        return pairs_of(given)
+    pairs = pairs_of(given['scope'])
+    return {'exp': given['exp'], 'scope': pairs} if 'exp' in given else pairs
+
+
 def canonical(text):
     """The canonical text of an accepted policy, as bytes."""
     value = json.loads(text)
     parts = {part: value.get(part, {}) for part in ('clients', 'sources', 'topics')}
     for part in ('clients', 'sources'):
-        parts[part] = {name: pairs_of(given) for name, given in parts[part].items()}
-    parts['version'] = 1
+        parts[part] = {name: grant_of(given) for name, given in parts[part].items()}
+    grants = [grant for part in ('clients', 'sources') for grant in parts[part].values()]
+    parts['version'] = 2 if any(isinstance(grant, dict) for grant in grants) else 1
     return json.dumps(parts, ensure_ascii=False, separators=(',', ':'), sort_keys=True).encode() + b'\n'
 
 
@@ -127,5 +166,5 @@ def prints():
             yield Report('print-' + name, text, 1, None, None)
     for report in faults():
         yield report._replace(name='print-' + report.name)
-    for report in warnings():
+    for report in [*ends(), *warnings()]:
         yield report._replace(name='print-' + report.name, printed=canonical(report.text))

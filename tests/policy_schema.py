@@ -3,8 +3,8 @@
 
 Checks docs/policy.schema.json, which editors can use, against the policy texts of tests/policy_texts.py:
 it accepts each text that the program accepts, and refuses each that the program refuses, but for what no
-schema sees: what is not JSON, what a scope given as a text stands for, a version written as 1.0, and half
-of a surrogate pair. It needs a validator, the Python package jsonschema (Debian: python3-jsonschema),
+schema sees: what is not JSON, what a scope given as a text stands for, a version or an end written as 1.0 or
+-0, and half of a surrogate pair. It needs a validator, the Python package jsonschema (Debian: python3-jsonschema),
 version 4 or later; where that is missing it says so, checks nothing, and ends with status 0."""
 import json
 import os
@@ -20,7 +20,7 @@ SCHEMA = os.path.join(os.path.dirname(HERE), 'docs', 'policy.schema.json')
 def value_of(text):
     """The JSON value of the text, or None where it has none that a schema may judge."""
     try:
-        value = json.loads(text.decode('utf-8'))
+        value = json.loads(text.decode('utf-8'), parse_int=lambda digits: 0.0 if digits == '-0' else int(digits))
         json.dumps(value, ensure_ascii=False).encode('utf-8')
         return value
     except (ValueError, RecursionError):
@@ -29,8 +29,11 @@ def value_of(text):
 
 def is_hidden(value):
     """Whether the program may find a fault in the value that no schema sees."""
-    scopes = [each for part in ('clients', 'sources') for each in value.get(part, {}).values()]
-    return isinstance(value['version'], float) or any(isinstance(scope, str) for scope in scopes)
+    grants = [each for part in ('clients', 'sources') for each in value.get(part, {}).values()]
+    objects = [grant for grant in grants if isinstance(grant, dict)]
+    scopes = grants + [each['scope'] for each in objects]
+    numbers = [value['version']] + [each.get('exp') for each in objects]
+    return any(isinstance(it, float) for it in numbers) or any(isinstance(it, str) for it in scopes)
 
 
 def main():

@@ -6,7 +6,7 @@ of docs/promise.md, which rounds to ten. Of each contract that the table names (
 them) these are the definitions that it cites, and all that these cite in turn, with their comments and without
 imports, in the specs of all crates; what the toolchain's library defines and the types of the code are left out.
 A definition cites those that its words name, so a variable with the name of one counts as it.
-With --names it prints each definition that a contract of sng_promise cites, by its module and lines; --write
+With --names it prints each definition that a contract of these crates cites, by its module and lines; --write
 puts the right numbers into the page.
 Exit status: 0 where each number stands, 1 where one does not.
 """
@@ -16,8 +16,10 @@ import re
 import sys
 
 ROOT = os.path.join(os.path.dirname(os.path.abspath(__file__)), '..')
-# What a reader takes from the gateway: that each step keeps its history lawful, from the opening state on
-PREMISE = {('sng_history.Lawful', 'Lawful'), ('sng_history.State', 'opening')}
+# What a reader takes from the gateway: that each step keeps its book lawful, and the plain rows as which that is
+# read, from the opening state on
+PREMISE = {('sng_history.Lawful', 'Lawful'), ('sng_history.Books', 'LawfulBook'), ('sng_history.Books', 'IsBook'),
+           ('sng_history.State', 'opening')}
 WORD = re.compile(r"[^\s(){}\[\],;.λ→×]+")
 HEAD = re.compile(r"^(?:abbrev |pub |record |data )*([^\s:(){}]+)")
 # A name behind the alias of its module, as `streams.feed`
@@ -103,9 +105,10 @@ def lines(done, all_modules):
 
 
 def contracts(all_modules):
-    """The clauses of each function of sng_promise: its name to its clauses by name."""
+    """The clauses of each function of sng_promise and sng_isolation: its name to its clauses by name."""
     found = {}
-    for path in glob.glob(os.path.join(ROOT, 'crates/sng_promise/src/*.rt')):
+    for path in glob.glob(os.path.join(ROOT, 'crates/sng_promise/src/*.rt')) + [
+            os.path.join(ROOT, 'crates/sng_isolation/src/lib.rt')]:
         with open(path, encoding='utf-8') as file:
             text = file.read()
         scope = uses(text.split('\n'))

@@ -107,6 +107,11 @@ row * 0 datagram | note hand * * 11 * | send * 0217
 row * 0 datagram | note hand * * 13 * | send * 0217
 row * 0 datagram | note hand * * 11 * | note announce * *
 row * 0 datagram | note hand * * allowed | send * 080c0* | send * 0217
+row * 0 tick | note end * * 3
+row * 0 tick | note end * * 3 * | note end * * 3
+row * 0 tick | note end * * 3 * | note lost * - done
+row * 0 tick | note end * * 3 * | note hand * * 3
+row * 0 tick | note end * * 3 * | note retry * *
 row * 0 tick | note hand * * 3
 row * 0 tick | note hand * * 11
 row * 0 tick | note hand * * 3 * | send * 0217
@@ -211,11 +216,14 @@ FILTERS = ['#', '+', 'a/#', 'a/+', '+/b', 't/+', '+/+/+', '$SYS/#', '/#', 'a/b/#
 ADDRESSES = ['10.0.0.7:4000', '10.0.0.7:4001', '10.0.0.8:4000', '10.0.0.9:4000']
 CLIENTS = ['s1', 's2', 's3', 'ü', 'a client of 23 charact.']
 BAD_POLICIES = [
-    '', '{', '[]', '{"version":2}', '{"version":1.0}', '{"version":1,"client":{}}', '{"clients":{}}',
+    '', '{', '[]', '{"version":3}', '{"version":1.0}', '{"version":1,"client":{}}', '{"clients":{}}',
     '{"version":1,"clients":{"s1":[["a+",["pub"]]]}}', '{"version":1,"clients":{"s1":[["a",["get"]]]}}',
     '{"version":1,"clients":{"s1":"W1siYWIiLFsicHViIl1dXQ=="}}', '{"version":1,"clients":{"":[]}}',
     '{"version":1,"sources":{"10.0.0.07":[]}}', '{"version":1,"topics":{"65535":"a"}}',
     '{"version":1,"topics":{"1":"a/#"}}', '{"version":1,"clients":{"s1":[%s]}}' % ','.join(['["a",[]]'] * 65),
+    '{"version":1,"clients":{"s1":{"scope":[]}}}', '{"version":2,"clients":{"s1":{"exp":1}}}',
+    '{"version":2,"clients":{"s1":{"scope":[],"exp":1.0}}}', '{"version":2,"sources":{"1.2.3.4":{"scope":{}}}}',
+    '{"version":2,"clients":{"s1":{"scope":[["a+",[]]],"exp":18446744073709551616}}}',
 ]
 WORDS = [['pub'], ['pub'], ['pub', 'sub'], ['sub', 'pub', 'pub'], ['sub'], ['sub'], []]
 UNREADABLE = ['x', 'up ', 'take now', 'from 10.0.0.9:4000', 'from 10.0.0.9 0216', 'from 10.0.0.9:65536 0216',
@@ -232,21 +240,21 @@ WEIGHTS = {
     'busy_connect': 1, 'busy_disconnect': 0.5, 'tick': 3, 'lapse': 0.5, 'will_connect': 3, 'will_update': 3,
     'stray_will': 1, 'last_will': 0.5, 'published_will': 1.5, 'sign_of_life': 1, 'sleep': 2, 'wake': 4,
     'nap': 5, 'late': 1.5, 'late_and_denied': 1, 'withdrawal': 3, 'qos_2_publish': 4, 'release': 2,
-    'repeated': 3,
+    'repeated': 3, 'ending_policy': 2, 'end': 2,
 }
 # Those that no script leaves out, and those that some scripts are about
 ALWAYS = ('policy', 'up', 'take', 'connect', 'register', 'publish', 'subscribe')
-SUBSCRIBING = ('policy', 'subscribe', 'unsubscribe', 'broker_suback', 'take')
+SUBSCRIBING = ('policy', 'subscribe', 'unsubscribe', 'broker_suback', 'take', 'ending_policy', 'end')
 STATING_WILLS = ('policy', 'tick', 'lapse', 'connect', 'will_connect', 'will_update', 'published_will',
                  'delivery')
 SLEEPING = ('policy', 'withdrawal', 'subscribe', 'delivery', 'wake', 'nap', 'late', 'late_and_denied')
 # What decides over what waits for the broker, is in flight there or stands, and over what waits for clients
 TURNS = ('publish', 'source_publish', 'policy', 'withdrawal', 'take', 'down', 'up', 'subscribe',
-         'unsubscribe', 'broker_suback')
+         'unsubscribe', 'broker_suback', 'end')
 FATES = ('policy', 'policy', 'less_policy', 'less_policy', 'withdrawal', 'withdrawal', 'busy_connect',
          'busy_connect', 'busy_disconnect', 'unsubscribe', 'broker_suback', 'broker_publish',
          'broker_publish', 'register', 'subscribe', 'answer', 'lapse', 'will_connect', 'late', 'late', 'late',
-         'sleep', 'wake', 'wake')
+         'sleep', 'wake', 'wake', 'ending_policy', 'end')
 # What may come between the frames of a dialogue about a will
 BREAKS = ('policy',) * 3 + ('less_policy',) * 9 + (
     'busy_connect', 'busy_disconnect', 'lapse', 'tick', 'pingreq', 'register', 'publish', 'subscribe',
@@ -392,11 +400,15 @@ class World:
 
     def publishable(self, client):
         """A name under which a client may publish, if there is one, and now and then any other."""
-        scope = self.gateway.policy.clients.get(client, [])
-        names = [name.encode() for name in self.names if gateway_model.grants(scope, 'pub', name.encode())]
+        pairs = self.pairs_of(client)
+        names = [name.encode() for name in self.names if gateway_model.grants(pairs, 'pub', name.encode())]
         return self.one(names) if names and self.chance(0.8) else self.name(0.3)
 
     # The policy
+
+    def pairs_of(self, client):
+        """What is granted to a client as the clock stands."""
+        return self.gateway.policy.pairs_of(False, client, self.gateway.clock) or []
 
     def pair(self):
         return [self.one(self.filters), self.one(WORDS)]
@@ -432,8 +444,7 @@ class World:
 
     def receivable(self, client):
         """A filter that a client was granted, if there is one."""
-        granted = [pattern for pattern, words in self.gateway.policy.clients.get(client.name, [])
-                   if 'sub' in words]
+        granted = [pattern for pattern, words in self.pairs_of(client.name) if 'sub' in words]
         return self.one(granted or [b'#'])
 
     def less_policy(self, name=None):
@@ -444,6 +455,7 @@ class World:
         kept, change = {'pub', 'sub'}, self.one(('unlisted', 'pub', 'sub', 'names', 'names', 'names'))
         clients, sources, topics = self.in_force()
         scope = clients.pop(name.decode(), [])
+        scope = scope['scope'] if isinstance(scope, dict) else scope
         if change == 'names':
             names = self.names + ['n/%d' % it for it in range(1, self.fresh + 4)]
             scope = [[name, ['pub', 'sub']] for name in names if len(name) <= 200 and self.chance(0.5)]
@@ -455,9 +467,45 @@ class World:
     def in_force(self):
         """The clients, sources and topics of the policy in force."""
         policy = self.gateway.policy
-        clients, sources = [{who.decode(): [[pattern.decode(), sorted(words)] for pattern, words in scope]
-                             for who, scope in scopes.items()} for scopes in (policy.clients, policy.sources)]
+        clients, sources = [{who.decode(): self.written(scope) for who, scope in scopes.items()}
+                            for scopes in (policy.clients, policy.sources)]
         return clients, sources, {str(it): name.decode() for it, name in policy.topics.items()}
+
+    def written(self, scope):
+        pairs = [[pattern.decode(), sorted(words)] for pattern, words in scope.pairs]
+        return pairs if scope.until is None else {'scope': pairs, 'exp': scope.until}
+
+    def ending_policy(self):
+        """The policy in force, in which some scopes end: now, soon, at the time when something else is due as
+        well, or as late as can be; and perhaps what such an end decides about."""
+        clients, sources, topics = self.in_force()
+        busy, clock = self.busy(), self.gateway.clock
+        ends = [clock + it for it in (0, 1, 1, 500, 1000, 1500, 10_000)] + [0, gateway_model.MOST_CLOCK]
+        ends += [client.exchange.sent + gateway_model.MS_TO_ANSWER for client in self.present()
+                 if client.exchange] * 3
+        ends += [self.end_of(client) for client in self.present() if client.duration] * 2
+        for scopes in (clients, sources):
+            for who, scope in scopes.items():
+                likely = 0.9 if busy and who == busy.name.decode() else 0.4
+                pairs = scope['scope'] if isinstance(scope, dict) else scope
+                if self.chance(likely):
+                    scopes[who] = {'scope': pairs, 'exp': min(self.one(ends), gateway_model.MOST_CLOCK)}
+        self.lines.append(self.policy_of(clients, sources, topics))
+        if self.chance(0.5):
+            self.say(self.one(('subscribe', 'delivery', 'publish', 'will_connect')))
+        return self.end() if self.chance(0.7) else None
+
+    def end(self):
+        """The time of the next end has come, or has almost, or has passed."""
+        policy, clock = self.gateway.policy, self.gateway.clock
+        ends = [scope.until for part in (policy.clients, policy.sources) for scope in part.values()
+                if scope.until is not None and scope.until > clock]
+        if not ends:
+            return self.tick()
+        end = min(ends)
+        if self.chance(0.3):
+            self.lines.append(self.ticked(end - 1))
+        return self.ticked(end + self.one((0, 0, 0, 0, 1, 10_000)))
 
     def withdrawal(self):
         """A policy takes away from a client with which something is under way, if there is one, and mostly
@@ -474,7 +522,9 @@ class World:
         self.say(*[self.one(BEHIND)] * self.chance(0.6))
 
     def policy_of(self, clients, sources, topics):
-        parts = {'version': 1, 'clients': clients, 'sources': sources, 'topics': topics}
+        scopes = list(clients.values()) + list(sources.values())
+        version = 2 if any(isinstance(scope, dict) for scope in scopes) or self.chance(0.1) else 1
+        parts = {'version': version, 'clients': clients, 'sources': sources, 'topics': topics}
         return 'policy ' + json.dumps(parts, ensure_ascii=self.chance(0.5))
 
     def bad_policy(self):
@@ -778,9 +828,8 @@ class World:
         ids += [(gateway_model.PREDEFINED, number(it), name) for it, name in policy.topics.items()]
         ids += [(gateway_model.SHORT, name.encode(), name.encode()) for name in self.names
                 if len(name.encode()) == 2]
-        scope = policy.clients.get(client.name, [])
         granted = [(id_type, topic) for id_type, topic, name in ids
-                   if gateway_model.grants(scope, 'pub', name)]
+                   if gateway_model.grants(self.pairs_of(client.name), 'pub', name)]
         id_type = self.one((0, 1, 2, 3))
         if granted and self.chance(0.9):
             id_type, topic = self.one(granted)
@@ -1077,8 +1126,8 @@ def many_messages(world):
 
 def many_wills(world):
     """Clients for which messages wait state a will, and policies change beside that."""
-    heavy(world, 400, policy=2, connect=3, subscribe_to_all=4, broker_publish=15, answer=2, will_connect=12,
-          will_update=4, published_will=0.5, lapse=0.3)
+    heavy(world, 400, policy=1, connect=3, subscribe_to_all=6, broker_publish=25, answer=1, will_connect=20,
+          will_update=4, published_will=0.5, lapse=0.3, less_policy=1)
 
 
 def many_naps(world):
@@ -1151,7 +1200,7 @@ def many_packet_ids(world):
 
 # The kinds of the first scripts; all others are mixed
 LONG = ([many_ids] * 2 + [many_subscriptions] * 2 + [many_holders] * 3 + [many_in_flight] * 2
-        + [many_items] * 3 + [many_messages] * 3 + [many_wills] * 4 + [many_naps] * 8
+        + [many_items] * 3 + [many_messages] * 3 + [many_wills] * 6 + [many_naps] * 8
         + [many_clients, many_packet_ids] + [many_open_ids] * 3)
 
 

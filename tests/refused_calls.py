@@ -181,7 +181,7 @@ def inputs(most_scripts):
     """The inputs by their names: those that the gate tries as a whole, and the others."""
     each = refused_kinds.every_kind()
     printed = gateway_model.play(each)[1]
-    whole = {'steps of each kind': plays(STEPS, each, printed, 950), 'calls': one_by_one(),
+    whole = {'steps of each kind': plays(STEPS, each, printed, 1250), 'calls': one_by_one(),
              'a ledger': plays(LEDGER, TICKS, gateway_model.play(TICKS)[1], 150)}
     drawn = {'acts of each kind': plays(ACTS, each, printed, 1250),
              'a run of each kind': plays(RUN, each, printed, 1250)}

@@ -17,6 +17,9 @@ POLICY = ('policy {"version":1,"clients":{"s1":[["t/#",["pub","sub"]]],"s2":[["t
 # s2 may receive less by it
 LESS = ('policy {"version":1,"clients":{"s1":[["t/#",["pub","sub"]]],"s2":[["t/5",["pub","sub"]]]},'
         '"sources":{"10.0.0.7":[["ab",["pub"]]]},"topics":{"1":"t/1"}}')
+# the scope of s1 ends by it
+ENDS = ('policy {"version":2,"clients":{"s1":{"scope":[["t/#",["pub","sub"]]],"exp":55000},'
+        '"s2":[["t/#",["pub","sub"]]]},"sources":{"10.0.0.7":[["ab",["pub"]]]},"topics":{"1":"t/1"}}')
 CLEAN, WILL, RETAIN, DUP = 0x04, 0x08, 0x10, 0x80
 QOS = {-1: 0x60, 0: 0x00, 1: 0x20, 2: 0x40}
 
@@ -74,7 +77,7 @@ def every_kind():
         asks(S2, 0x12, b't/5', 2), asks(S2, 0x14, b't/5', 3), asks(S2, 0x12, b't/6', 4), 'take',
         brings(0x90, number(6), b'\x80'), 'tick 30000', 'take', brings(0xd0)]
     nobody_answers = [
-        message(b't/1', 1), message(b't/5', 1), 'tick 40000', LESS, 'tick 50000', POLICY]
+        message(b't/1', 1), message(b't/5', 1), 'tick 40000', LESS, 'tick 50000', ENDS, 'tick 55000', POLICY]
     the_broker_says = [
         brings(0xb0, number(5)), brings(0x20, b'\0\0'),
         brings(0x10, sized(b'MQTT'), b'\4\2\0\x3c', sized(b'gw1')),
@@ -154,6 +157,8 @@ def with_outcome(kind, row):
     if kind == 'Take' and not row:
         return kind + ' of nothing'
     if kind == 'Tick':
+        if told(row, 'note end '):
+            return kind + ' with an end'
         if told(row, 'note lost '):
             return kind + ' with a loss'
         retries = [line for line in row if line.startswith('note retry ')]

@@ -18,7 +18,7 @@ _sng() {
       files=yes
       ;;
     cover) options='-h --help' ;;
-    may) options='--policy --source -h --help' words='publish receive subscribe' ;;
+    may) options='--policy --source --at -h --help' words='publish receive subscribe' ;;
     policy) options='--print -h --help' files=yes ;;
     serve)
       options='--config --listen --broker --id --workers --tries --policy --no-watch --book
@@ -30,7 +30,7 @@ _sng() {
   case $before in
     --config | --policy | --book) options='' words='' files=yes ;;
     --workers) options='' words='1 2 3 4 5 6 7 8' ;;
-    --listen | --broker | --id | --tries | --source | --flood-each | --flood-all) return ;;
+    --listen | --broker | --id | --tries | --source | --at | --flood-each | --flood-all) return ;;
     --client | --from | --name | --kind | --since | --until | --row) return ;;
   esac
   case $current in

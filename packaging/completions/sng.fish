@@ -49,6 +49,8 @@ complete -c sng -n "$behind may" -l policy -rF -d 'The file of the policy'
 complete -c sng -n "$behind policy" -l print -d 'Prints the policy as one line, the same for all texts of it'
 complete -c sng -n "$behind may" -l source -x \
     -d 'Asks for the source with this IPv4 address: CLIENT is left out'
+complete -c sng -n "$behind may" -l at -x \
+    -d 'Asks for this time: ms of Unix time, or a date and a time; without it for now'
 complete -c sng -n "$behind may" -a 'publish receive subscribe'
 
 complete -c sng -n "$behind serve" -l config -rF \

@@ -70,9 +70,9 @@ class Book:
             self.lines.pop()
         self.next = 0
         self.rows = 0
-        # The greatest tick, and the policy of the last replacement
+        # The greatest tick, and the policy of the last replacement, whole and as the clock leaves it
         self.clock = 0
-        self.policy = Policy()
+        self.replaced = self.policy = Policy()
         self.told, self.of_client, self.views = [], {}, {}
 
     # Reading on

@@ -23,9 +23,10 @@ def joins_or_drops(book, item):
 
 
 @law
-def policy_comes(book):
-    """As a policy comes into force each filter that it does not allow ends, of each client in the order of
-    first acceptance, its filters in the order in which they stood first, with the rule; and no other."""
+def are_judged(book):
+    """As a policy comes into force, and at a tick before anything else, each filter that the policy does not
+    allow at that clock ends, of each client in the order of first acceptance, its filters in the order in
+    which they stood first, with the rule; and no other."""
     for client in clients.accepted(book):
         for pattern in standing.standing(book, client):
             outcome = book.policy.subscribe_outcome(client, pattern)

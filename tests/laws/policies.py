@@ -10,6 +10,7 @@ from dataclasses import dataclass, field
 from laws.texts import gap, is_client_id, is_filter, is_name, matches, shown
 
 MOST_LISTED, MOST_TOPICS, MOST_PAIRS, MOST_NESTED = 256, 1024, 64, 127
+MOST_END = 2 ** 64 - 1
 NUMBERS = {'NotJson': 1, 'Shape': 2, 'BadFilter': 3, 'BadPermission': 4, 'BadBase64': 5, 'BadClientId': 6,
            'BadSource': 7, 'BadTopicId': 8, 'TooMany': 9}
 
@@ -23,10 +24,18 @@ class Refused(Exception):
 
 @dataclass
 class Policy:
-    """Clients and sources, each with pairs of a filter and its permissions; and the topics by their ids."""
+    """Clients and sources, each with pairs of a filter and its permissions; the topics by their ids; and when
+    which of the clients (bytes) and sources (str) end."""
     clients: dict = field(default_factory=dict)
     sources: dict = field(default_factory=dict)
     topics: dict = field(default_factory=dict)
+    ends: dict = field(default_factory=dict)
+
+    def at(self, clock):
+        """What is left of it at a clock: whose end that has reached is not listed."""
+        def left(scopes):
+            return {who: pairs for who, pairs in scopes.items() if self.ends.get(who, clock + 1) > clock}
+        return Policy(left(self.clients), left(self.sources), self.topics, self.ends)
 
     def publish_outcome(self, origin, name):
         """What the policy says of a publish of a client (bytes) or a source (str) under a name."""
@@ -63,12 +72,14 @@ def grants(scope, word, name):
 def read_policy(text):
     value = read_json(text)
     known = {'version', 'clients', 'sources', 'topics'}
-    need(isinstance(value, dict) and type(value.get('version')) is int and value['version'] == 1
+    need(isinstance(value, dict) and type(value.get('version')) is int and value['version'] in (1, 2)
          and set(value) <= known, 'Shape')
-    return Policy(
-        dict(members(value, 'clients', MOST_LISTED, read_client)),
-        dict(members(value, 'sources', MOST_LISTED, read_source)),
-        dict(members(value, 'topics', MOST_TOPICS, read_topic)))
+    ending = value['version'] == 2
+    listed = (members(value, 'clients', MOST_LISTED, lambda key, it: read_client(key, it, ending)),
+              members(value, 'sources', MOST_LISTED, lambda key, it: read_source(key, it, ending)))
+    clients, sources = ({who: pairs for who, (pairs, _) in part} for part in listed)
+    ends = {who: end for part in listed for who, (_, end) in part if end is not None}
+    return Policy(clients, sources, dict(members(value, 'topics', MOST_TOPICS, read_topic)), ends)
 
 
 def members(value, name, most, read):
@@ -79,14 +90,14 @@ def members(value, name, most, read):
     return [read(key, part[key]) for key in sorted(part, key=str.encode)]
 
 
-def read_client(key, value):
+def read_client(key, value, ending):
     need(is_client_id(key.encode()), 'BadClientId')
-    return key.encode(), read_scope(value)
+    return key.encode(), read_ending(value, ending)
 
 
-def read_source(key, value):
+def read_source(key, value, ending):
     need(is_ip(key), 'BadSource')
-    return key, read_scope(value)
+    return key, read_ending(value, ending)
 
 
 def read_topic(key, value):
@@ -101,6 +112,15 @@ def is_ip(text):
     parts = text.split('.')
     return len(parts) == 4 and all(
         re.fullmatch(r'0|[1-9][0-9]{0,2}', part, re.A) and int(part) <= 255 for part in parts)
+
+
+def read_ending(value, ending):
+    """A scope with its end or None. In version 2 it may be an object that has both as members."""
+    if not (ending and isinstance(value, dict)):
+        return read_scope(value), None
+    need('scope' in value and all(name in ('scope', 'exp') for name in value), 'Shape')
+    need('exp' not in value or (type(value['exp']) is int and 0 <= value['exp'] <= MOST_END), 'Shape')
+    return read_scope(value['scope']), value.get('exp')
 
 
 def read_scope(value):

@@ -78,12 +78,15 @@ def down(book, _):
 
 
 def replace(book, event):
-    book.policy = event.said
-    ends.policy_comes(book)
+    book.replaced = event.said
+    book.policy = book.replaced.at(book.clock)
+    ends.are_judged(book)
 
 
 def tick(book, event):
     book.clock = max(book.clock, event.said)
+    book.policy = book.replaced.at(book.clock)
+    ends.are_judged(book)
     ticks.ticks(book)
 
 

@@ -1,7 +1,7 @@
 //! Jobs over policies: reading one, and asking it.
 use crate::jobs::{NotDone, done};
 use crate::policies::{self, Edition};
-use sng_grants::{Clients, Policy, Sources};
+use sng_grants::{Clients, Grant, Policy, Sources};
 use sng_policy::{
     FilterGrant, NameGrant, may_publish, may_receive, may_subscribe, same_scope, source_may_publish,
 };
@@ -44,7 +44,7 @@ pub fn judge_times(alloc: Global, standing: Coverage, times: u32) -> Result<u64,
     for _ in 0..times {
         for (client, filters) in clients.iter().zip(&standing) {
             for filter in filters {
-                let grant = done(may_subscribe(alloc, &policy, client, filter))?;
+                let grant = done(may_subscribe(alloc, &policy, client, filter, 0))?;
                 total = total.wrapping_add(filter_weight(&grant));
             }
         }
@@ -135,9 +135,9 @@ fn standing_of(
 /// A policy of one client and one source, each with 64 pairs.
 fn one_client(alloc: Global, client: ClientId) -> Result<Policy, NotDone> {
     let mut clients = Clients::new(alloc);
-    done(clients.insert(client, policies::scope(alloc)?))?;
+    done(clients.insert(client, Grant::of(policies::scope(alloc)?)))?;
     let mut sources = Sources::new(alloc);
-    done(sources.insert([10, 0, 0, 7], policies::scope(alloc)?))?;
+    done(sources.insert([10, 0, 0, 7], Grant::of(policies::scope(alloc)?)))?;
     let mut policy = Policy::new(alloc);
     policy.clients = clients;
     policy.sources = sources;
@@ -159,7 +159,7 @@ pub fn publish_times(alloc: Global, times: u32) -> Result<u64, NotDone> {
     let policy = one_client(alloc, done(client.copy())?)?;
     let mut total: u64 = 0;
     for _ in 0..times {
-        total = total.wrapping_add(name_weight(may_publish(&policy, &client, &name)));
+        total = total.wrapping_add(name_weight(may_publish(&policy, &client, &name, 0)));
     }
     Ok(total)
 }
@@ -169,7 +169,12 @@ pub fn source_times(alloc: Global, times: u32) -> Result<u64, NotDone> {
     let policy = one_client(alloc, client(alloc)?)?;
     let mut total: u64 = 0;
     for _ in 0..times {
-        total = total.wrapping_add(name_weight(source_may_publish(&policy, [10, 0, 0, 7], &name)));
+        total = total.wrapping_add(name_weight(source_may_publish(
+            &policy,
+            [10, 0, 0, 7],
+            &name,
+            0,
+        )));
     }
     Ok(total)
 }
@@ -180,7 +185,7 @@ pub fn receive_times(alloc: Global, times: u32) -> Result<u64, NotDone> {
     let policy = one_client(alloc, done(client.copy())?)?;
     let mut total: u64 = 0;
     for _ in 0..times {
-        total = total.wrapping_add(name_weight(may_receive(&policy, &client, &name)));
+        total = total.wrapping_add(name_weight(may_receive(&policy, &client, &name, 0)));
     }
     Ok(total)
 }
@@ -191,7 +196,7 @@ pub fn subscribe_times(alloc: Global, times: u32) -> Result<u64, NotDone> {
     let policy = one_client(alloc, done(client.copy())?)?;
     let mut total: u64 = 0;
     for _ in 0..times {
-        let grant = done(may_subscribe(alloc, &policy, &client, &filter))?;
+        let grant = done(may_subscribe(alloc, &policy, &client, &filter, 0))?;
         total = total.wrapping_add(filter_weight(&grant));
     }
     Ok(total)

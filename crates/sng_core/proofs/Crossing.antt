@@ -1,8 +1,8 @@
 -- A core may go to another thread.
 use denote.Param.Send.{IsSend, struct_send, recorded_send, view_send, sendable}
 use denote.Struct.Declared.{shape}
-use Rattle.sng_grants.proofs.policy.Policy.TheSendSync as policy
 use Rattle.sng_link.proofs.link.Link.TheSendSync as link
+use Rattle.sng_policy.proofs.in_force.InForce.TheSendSync as in_force
 use Rattle.sng_sessions.proofs.Crossing.{sessions_send}
 use Rattle.sng_core.specs.contracts.parts.Parts as Parts
 use Rattle.sng_core.specs.contracts.parts.Parts.TheInside as parts
@@ -11,7 +11,7 @@ use Rattle.sng_core.specs.contracts.machine.Core.TheInside as core
 
 parts_fields : IsSend (parts.the_field).row
 parts_fields = struct_send (shape parts.the_type) (
-  policy.the_field_send,
+  in_force.the_send,
   (search sendable, (search sendable, (link.the_send, (sessions_send, tt)))),
 )
 

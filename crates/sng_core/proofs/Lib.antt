@@ -48,3 +48,4 @@ pub mod StatingParts
 pub mod StatingRows
 pub mod RequestRows
 pub mod Crossing
+mod EndingRows

@@ -64,7 +64,7 @@ impl Parts {
             is_up: self.is_up,
             items: self.link.items(),
             in_flight: self.link.in_flight(),
-            policy: listed(&self.policy),
+            policy: listed(self.policy.policy()),
         }
     }
 }

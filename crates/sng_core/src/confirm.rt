@@ -14,7 +14,7 @@ ghost use Rattle.sng_core.specs.Confirming.{acknowledge_outs, acknowledge_next};
 use crate::messages::denied_frame;
 use sng_book::{Denial, FormDenial, Outcome, Outs, OutsPair, PeerDenial};
 use sng_frames::TopicAck;
-use sng_grants::Policy;
+use sng_policy::InForce;
 use sng_queue::{Exchange, Sending};
 use sng_sessions::{Change, Sessions};
 use sng_turns::serve::{Settled, serve_plan};
@@ -24,7 +24,7 @@ use std::alloc::{AllocError, Global};
 /// A REGACK of the client at this place: one in its turn accepts the id that was announced, or refuses it.
 pub fn confirm(
     alloc: Global,
-    policy: &Policy,
+    policy: &InForce,
     clock: u64,
     answer: TopicAck,
     sessions: &mut Sessions,
@@ -49,7 +49,7 @@ pub fn confirm(
 /// A REGACK that has its turn.
 fn confirm_in_turn(
     alloc: Global,
-    policy: &Policy,
+    policy: &InForce,
     clock: u64,
     answer: TopicAck,
     sessions: &mut Sessions,
@@ -76,7 +76,7 @@ fn confirm_in_turn(
 /// A PUBACK of the client at this place: one in its turn ends the exchange.
 pub fn acknowledge(
     alloc: Global,
-    policy: &Policy,
+    policy: &InForce,
     clock: u64,
     answer: TopicAck,
     sessions: &mut Sessions,
@@ -109,7 +109,7 @@ pub fn acknowledge(
 /// The client at this place is heard, and what waits is handed over once this is settled.
 fn serve(
     alloc: Global,
-    policy: &Policy,
+    policy: &InForce,
     clock: u64,
     sessions: &mut Sessions,
     place: usize,
@@ -149,7 +149,7 @@ fn settle(settled: Settled, sessions: &mut Sessions, place: usize, clock: u64)
 /// The message for which the id was announced comes out so, and what waits behind it is handed over.
 fn refuse(
     alloc: Global,
-    policy: &Policy,
+    policy: &InForce,
     clock: u64,
     code: u8,
     sessions: &mut Sessions,

@@ -3,8 +3,8 @@ ghost use Rattle.std.specs.Prelude.{◌≡◌, ◌↔◌, [], IsTrue, IfOk};
 ghost use Rattle.sng_history.specs.State.{opening};
 
 use crate::parts::Parts;
-use sng_grants::Policy;
 use sng_link::LinkCopy;
+use sng_policy::InForce;
 use sng_sessions::SessionsCopy;
 use sng_text::Compare;
 use std::alloc::{AllocError, Global};
@@ -13,7 +13,7 @@ use std::marker::Model;
 /// What a gateway's state was. Nothing moves it. Contracts see the state that a history leads to.
 #[derive(Drop)]
 pub struct CoreCopy {
-    policy: Policy,
+    policy: InForce,
     clock: u64,
     is_up: bool,
     link: LinkCopy,
@@ -45,9 +45,9 @@ impl CoreCopy {
     fn grants_nothing(&self) -> bool
         ensures { IsTrue result ↔ (self.now.policy ≡ record { clients = []; sources = []; topics = [] }) }
     {
-        self.policy.clients.is_empty()
-            && self.policy.sources.is_empty()
-            && self.policy.topics.is_empty()
+        self.policy.policy().clients.is_empty()
+            && self.policy.policy().sources.is_empty()
+            && self.policy.policy().topics.is_empty()
     }
 }
 

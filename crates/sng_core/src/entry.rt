@@ -18,9 +18,9 @@ use crate::verdict::entry;
 use sng_book::{Address, Decision, Denial, Out, Outcome, Outs, OutsPair};
 use sng_fan::Held;
 use sng_frames::Connect;
-use sng_grants::Policy;
 use sng_ids::IdTable;
 use sng_link::Link;
+use sng_policy::InForce;
 use sng_sessions::{Handed, Opens, Sessions};
 use sng_text::{ClientId, TopicFilter};
 use sng_turns::hand_over::{all_gone, hand_over};
@@ -124,7 +124,7 @@ impl Parts {
 /// Answers what the hand-over comes to.
 fn entering(
     alloc: Global,
-    policy: &Policy,
+    policy: &InForce,
     from: Address,
     connect: &Connect,
     sessions: &Sessions,

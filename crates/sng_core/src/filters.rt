@@ -9,8 +9,7 @@ ghost use Rattle.sng_core.specs.Subscribing.{unread_filter};
 
 use sng_book::{Denial, FormDenial, IdKind, Outcome};
 use sng_frames::{FrameQos, TopicIdType, TopicRequest};
-use sng_grants::Policy;
-use sng_policy::topic;
+use sng_policy::InForce;
 use sng_text::{Qos, TextFault, TopicFilter, TopicName};
 use sng_turns::known::id_in;
 use std::alloc::{AllocError, Global};
@@ -45,7 +44,7 @@ pub fn copy_filter(filter: &Option<TopicFilter>) -> Result<Option<TopicFilter>, 
 /// The filter that the request names, or the rule that it breaks. The outer `Err` is a failed allocation.
 pub fn filter_read(
     alloc: Global,
-    policy: &Policy,
+    policy: &InForce,
     request: &TopicRequest,
 ) -> Result<Result<TopicFilter, Denial>, AllocError>
     ensures { IfOk result (λ named. named
@@ -86,12 +85,12 @@ fn short_filter(alloc: Global, text: &[u8]) -> Result<Result<TopicFilter, Denial
 /// The name of a predefined id as a filter.
 fn predefined_filter(
     alloc: Global,
-    policy: &Policy,
+    policy: &InForce,
     id: u16,
 ) -> Result<Result<TopicFilter, Denial>, AllocError>
     ensures { IfOk result (λ named. named ≡ predefined_filter id (topic policy.now id)) }
 {
-    match topic(policy, id) {
+    match policy.topic(id) {
         Some(name) => as_filter(alloc, name.text()),
         None => Ok(Err(Denial::Form(FormDenial::UnknownId(IdKind::Predefined, id)))),
     }

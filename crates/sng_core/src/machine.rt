@@ -1,7 +1,7 @@
 //! The state of the gateway, and one step of it.
 ghost use Rattle.std.specs.Prelude.{◌≡◌, [], IfOk, OnErr};
-ghost use Rattle.sng_history.specs.State.{opening, Leads};
-ghost use Rattle.sng_history.specs.Lawful.{Keeps};
+ghost use Rattle.sng_history.specs.Books.{IsBook, KeepsBook};
+ghost use Rattle.sng_history.specs.State.{opening};
 ghost use Rattle.sng_core.specs.Census.{census_of};
 
 use crate::census::Census;
@@ -33,18 +33,18 @@ impl Core {
     /// The state before any event: nothing is granted, the broker's connection is down, nothing waits, and no
     /// client was accepted.
     pub fn new(alloc: Global) -> Result<Core, AllocError>
-        ensures { IfOk result (λ core. Leads opening [] core) }
+        ensures { IfOk result (λ core. IsBook opening [] core) }
     {
         Ok(Core {
             parts: Parts::new(alloc)?,
         })
     }
 
-    /// One step. After any lawful history that leads to the state before, the row of this event and these
-    /// outs may come, and leads to the state after. An `Err` is a failed allocation; nothing changed, and
+    /// One step. After any lawful book that leads to the state before, the row of this event and these outs may
+    /// come, and leads to the state after. An `Err` is a failed allocation; nothing changed, and
     /// there is no row.
     pub fn step(&mut self, alloc: Global, event: Event) -> Result<OutsPair, AllocError>
-        ensures kept { IfOk result (λ outs. Keeps self.old event outs self.new) }
+        ensures kept { IfOk result (λ outs. KeepsBook self.old event outs self.new) }
         ensures err { OnErr result (self.new ≡ self.old) }
     {
         let outs = self.parts.perform(alloc, event)?;

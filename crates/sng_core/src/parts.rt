@@ -2,8 +2,8 @@
 ghost use Rattle.std.specs.Prelude.{◌≡◌, IfOk};
 ghost use Rattle.sng_history.specs.State.{opening};
 
-use sng_grants::Policy;
 use sng_link::Link;
+use sng_policy::InForce;
 use sng_sessions::Sessions;
 use std::alloc::{AllocError, Global};
 use std::marker::Model;
@@ -11,7 +11,7 @@ use std::marker::Model;
 /// All that the gateway keeps. Contracts see it as the state that a history leads to.
 #[derive(Drop)]
 pub struct Parts {
-    pub policy: Policy,
+    pub policy: InForce,
     pub clock: u64,
     pub is_up: bool,
     pub link: Link,
@@ -34,7 +34,7 @@ impl Parts {
         ensures { IfOk result (λ parts. parts ≡ opening) }
     {
         Ok(Parts {
-            policy: Policy::new(alloc),
+            policy: InForce::new(alloc),
             clock: 0,
             is_up: false,
             link: Link::new(alloc)?,

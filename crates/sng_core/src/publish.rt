@@ -16,9 +16,9 @@ use sng_book::{Address, Decision, Denial, Out, Outcome, Outs, OutsPair, Who};
 use sng_frames::{
     FrameQos, Publish, ReturnCode, SnFrame, TopicAck, TopicIdType, write_publish_ack,
 };
-use sng_grants::Policy;
 use sng_history::exit;
 use sng_outbox::{Origin, Publication};
+use sng_policy::InForce;
 use sng_sessions::Sessions;
 use sng_text::{ClientId, Octets, Qos, TopicName};
 use std::alloc::{AllocError, Global};
@@ -64,7 +64,7 @@ fn qos_of(qos: FrameQos) -> Qos
 /// How the PUBLISH of the client at this place comes out, given whether there is room for it.
 pub fn judged(
     alloc: Global,
-    policy: &Policy,
+    policy: &InForce,
     room: Outcome,
     sessions: &Sessions,
     place: usize,
@@ -87,7 +87,7 @@ pub fn judged(
 /// The name that the topic id stands for, or the rule that it breaks.
 fn name_read(
     alloc: Global,
-    policy: &Policy,
+    policy: &InForce,
     sessions: &Sessions,
     place: usize,
     id_type: TopicIdType,
@@ -102,7 +102,7 @@ fn name_read(
 
 /// How the PUBLISH of a client that may ask comes out, given the name that was read.
 fn judged_name(
-    policy: &Policy,
+    policy: &InForce,
     room: Outcome,
     sessions: &Sessions,
     place: usize,

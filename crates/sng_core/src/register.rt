@@ -15,10 +15,10 @@ use sng_book::{
     Address, Decision, Denial, FormDenial, Out, Outcome, Outs, OutsPair, Place, RoomDenial, Who,
 };
 use sng_frames::{Register, ReturnCode, SnFrame, TopicAck, write_register_ack};
-use sng_grants::Policy;
 use sng_history::exit;
 use sng_ids::IdTable;
 use sng_outbox::Origin;
+use sng_policy::InForce;
 use sng_sessions::Sessions;
 use sng_text::{Octets, TopicName};
 use std::alloc::{AllocError, Global};
@@ -26,7 +26,7 @@ use std::alloc::{AllocError, Global};
 /// A REGISTER of the client at this place.
 pub fn register(
     alloc: Global,
-    policy: &Policy,
+    policy: &InForce,
     clock: u64,
     register: Register,
     sessions: &mut Sessions,
@@ -48,7 +48,7 @@ pub fn register(
 
 /// How the REGISTER of this text comes out.
 fn judged(
-    policy: &Policy,
+    policy: &InForce,
     sessions: &Sessions,
     place: usize,
     text: Octets,
@@ -74,7 +74,7 @@ fn name_given(text: Octets) -> Result<TopicName, Denial>
 
 /// How the REGISTER of a client that may ask comes out, given the name that was read.
 fn named(
-    policy: &Policy,
+    policy: &InForce,
     sessions: &Sessions,
     place: usize,
     named: Result<TopicName, Denial>,

@@ -11,7 +11,7 @@ ghost use Rattle.sng_core.specs.Sleeping.{own_ping_next, other_ping_outs, ping_o
 use crate::answers::{dismissed, only};
 use crate::messages::denied_frame;
 use sng_book::{Decision, Denial, FormDenial, Out, Outcome, Outs, OutsPair, Who};
-use sng_grants::Policy;
+use sng_policy::InForce;
 use sng_sessions::{Change, Sessions};
 use sng_states::ClientState;
 use sng_text::ClientId;
@@ -51,7 +51,7 @@ fn slept_outs(alloc: Global, sessions: &Sessions, place: usize) -> Result<OutsPa
 /// A PINGREQ of the client at this place.
 pub fn ping(
     alloc: Global,
-    policy: &Policy,
+    policy: &InForce,
     clock: u64,
     client: Option<ClientId>,
     sessions: &mut Sessions,
@@ -72,7 +72,7 @@ pub fn ping(
 /// A PINGREQ that names a client: one that names another client is dismissed.
 fn named_ping(
     alloc: Global,
-    policy: &Policy,
+    policy: &InForce,
     clock: u64,
     id: &ClientId,
     sessions: &mut Sessions,
@@ -96,7 +96,7 @@ fn named_ping(
 /// A PINGREQ that names its client: it wakes it where it sleeps.
 fn own_ping(
     alloc: Global,
-    policy: &Policy,
+    policy: &InForce,
     clock: u64,
     sessions: &mut Sessions,
     place: usize,
@@ -178,7 +178,7 @@ fn dismiss(
 /// it it sleeps again.
 fn wake(
     alloc: Global,
-    policy: &Policy,
+    policy: &InForce,
     clock: u64,
     sessions: &mut Sessions,
     place: usize,

@@ -11,7 +11,6 @@ use crate::verdict::source_name;
 use sng_book::{Decision, Denial, GrantDenial, Out, Outcome, OutsPair, Who};
 use sng_frames::Publish;
 use sng_outbox::{Origin, Publication};
-use sng_policy::lists_source;
 use sng_text::{Qos, TopicName};
 use std::alloc::{AllocError, Global};
 
@@ -28,7 +27,7 @@ impl Parts {
             (asked_by (Some publish) (source_ask self.old source publish))) }
         ensures err { OnErr result (self.new ≡ self.old) }
     {
-        if !lists_source(&self.policy, source) {
+        if !self.policy.lists_source(source) {
             return publish_denied(
                 alloc,
                 Who::Source(source),

@@ -16,7 +16,7 @@ use crate::stating::{Statement, has_turn, judged, stating};
 use crate::verdict::{Judged, copy_name};
 use sng_book::{Address, Decision, Denial, FormDenial, Out, Outcome, Outs, OutsPair, Who};
 use sng_frames::ReturnCode;
-use sng_grants::Policy;
+use sng_policy::InForce;
 use sng_sessions::{Handed, Sessions};
 use sng_turns::hand_over::{all_gone, hand_over};
 use sng_turns::turn::Recipient;
@@ -25,7 +25,7 @@ use std::alloc::{AllocError, Global};
 /// A statement of the client at this place.
 pub fn state(
     alloc: Global,
-    policy: &Policy,
+    policy: &InForce,
     clock: u64,
     statement: Statement,
     sessions: &mut Sessions,
@@ -50,7 +50,7 @@ pub fn state(
 /// One that has its turn.
 fn state_in_turn(
     alloc: Global,
-    policy: &Policy,
+    policy: &InForce,
     clock: u64,
     statement: Statement,
     sessions: &mut Sessions,
@@ -189,7 +189,7 @@ fn denied(
 /// handed over.
 fn keep(
     alloc: Global,
-    policy: &Policy,
+    policy: &InForce,
     clock: u64,
     statement: Statement,
     sessions: &mut Sessions,
@@ -214,7 +214,7 @@ fn keep(
 /// What is handed over where the dialogue ends by this statement.
 fn handed(
     alloc: Global,
-    policy: &Policy,
+    policy: &InForce,
     statement: &Statement,
     sessions: &Sessions,
     place: usize,

@@ -15,10 +15,9 @@ use crate::filters::granted;
 use crate::verdict::{Judged, unread};
 use sng_book::{Denial, FormDenial, GrantDenial, Outcome};
 use sng_frames::WillTopic;
-use sng_grants::Policy;
 use sng_history::exit;
 use sng_outbox::Origin;
-use sng_policy::lists;
+use sng_policy::InForce;
 use sng_sessions::{Sessions, Stating};
 use sng_text::{ClientId, Octets, TextFault, TopicName};
 use sng_wills::{Stage, StatedTopic};
@@ -78,7 +77,7 @@ fn awaited_topic(stage: &Stage) -> Option<&StatedTopic>
 /// An `Err` is a failed allocation.
 pub fn judged(
     alloc: Global,
-    policy: &Policy,
+    policy: &InForce,
     sessions: &Sessions,
     place: usize,
     statement: &Statement,
@@ -106,7 +105,7 @@ pub fn judged(
 /// By the topic that it states; to delete the will needs no grant.
 fn judged_topic(
     alloc: Global,
-    policy: &Policy,
+    policy: &InForce,
     client: &ClientId,
     topic: &Option<WillTopic>,
 ) -> Result<Judged, AllocError>
@@ -133,13 +132,13 @@ fn granted_nothing() -> Judged
 /// publish under it.
 fn judged_text(
     alloc: Global,
-    policy: &Policy,
+    policy: &InForce,
     client: &ClientId,
     text: &[u8],
 ) -> Result<Judged, AllocError>
     ensures { IfOk result (λ j. j ≡ text_judged policy.now client.now text.now) }
 {
-    if !lists(policy, client) {
+    if !policy.lists(client) {
         return Ok(unread(Denial::Grant(GrantDenial::NoScope(client.copy()?))));
     }
     match TopicName::read(alloc, text) {

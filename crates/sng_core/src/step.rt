@@ -1,7 +1,7 @@
 //! One step of the state: each event is brought to who takes it.
 ghost use Rattle.std.specs.Prelude.{◌≡◌, IfOk, OnOk, OnErr};
+ghost use Rattle.sng_history.specs.Books.{row_outs, row_next};
 ghost use Rattle.sng_history.specs.Good.{Good};
-ghost use Rattle.sng_history.specs.Steps.{outs_of, next_of};
 
 use crate::parts::Parts;
 use sng_book::{Event, OutsPair};
@@ -11,8 +11,8 @@ impl Parts {
     /// One step. An `Err` is a failed allocation, and nothing changed.
     pub fn perform(&mut self, alloc: Global, event: Event) -> Result<OutsPair, AllocError>
         requires { Good self.old }
-        ensures outs { IfOk result (λ outs. outs ≡ outs_of self.old event) }
-        ensures next { OnOk result (self.new ≡ next_of self.old event) }
+        ensures outs { IfOk result (λ outs. outs ≡ row_outs self.old event) }
+        ensures next { OnOk result (self.new ≡ row_next self.old event) }
         ensures err { OnErr result (self.new ≡ self.old) }
     {
         match event {

@@ -1,13 +1,15 @@
-//! The clock goes on (MQTT-SN 1.2, 5.4.4, 6.3, 6.11 and 6.13; MQTT 3.1.1, 3.1.2.10 and 3.12): each client
-//! that was silent for too long, or did not answer as often as it was asked, is lost, and its will waits for
-//! the broker where it finds its place; what another one did not answer in time is sent again; a PINGREQ to
-//! the broker comes behind them where it is due. What is let out is planned first, and what changes cannot
-//! fail. Where nothing is due nothing takes memory.
-ghost use Rattle.std.specs.Prelude.{◌≡◌, ◌<◌, ◌++◌, length, IfOk, OnOk, OnErr};
-ghost use Rattle.sng_history.specs.Causes.{ByTick};
-ghost use Rattle.sng_history.specs.Good.{Good};
+//! The clock goes on (MQTT-SN 1.2, 5.4.4, 6.3, 6.9, 6.11 and 6.13; MQTT 3.1.1, 3.1.2.10 and 3.12): where scopes
+//! end by then, the subscriptions end that are not allowed any more; then each client that was silent for too
+//! long, or did not answer as often as it was asked, is lost, and its will waits for the broker where it finds
+//! its place; what another one did not answer in time is sent again; a PINGREQ to the broker comes behind them
+//! where it is due. What is let out is planned first, and what changes cannot fail. Where nothing is due nothing
+//! takes memory.
+ghost use Rattle.std.specs.Prelude.{◌≡◌, ◌<◌, ◌≤◌, ◌+◌, ◌*◌, ◌++◌, [], length, IfOk, OnOk, OnErr};
+ghost use Rattle.sng_grants.specs.Ends.{next_end};
+ghost use Rattle.sng_grants.specs.Sources.{is_reached};
+ghost use Rattle.sng_history.specs.Books.{tick_outs, tick_next};
+ghost use Rattle.sng_history.specs.Good.{Good, Each, AllCovered};
 ghost use Rattle.sng_history.specs.State.{later};
-ghost use Rattle.sng_history.specs.Steps.{outs_by, next_by};
 ghost use Rattle.sng_history.specs.Ticking.{is_ping_due, is_lost_at};
 ghost use Rattle.sng_core.specs.Forms.{client_at};
 ghost use Rattle.sng_core.specs.Losing.{publication_of, will_outs, kept_will, room_behind, lost_outs};
@@ -15,12 +17,14 @@ ghost use Rattle.sng_core.specs.Losing.{loss_of, lost_clients, lost_link};
 ghost use Rattle.sng_core.specs.Dues.{due_outs, due_at, room_after, dues_outs, dues_plan, dues_room};
 ghost use Rattle.sng_core.specs.Dues.{due_clients, due_link, dues_clients, dues_link, ping_noted};
 ghost use Rattle.sng_core.specs.Dues.{ticked_outs, ticked_next, due_list};
+ghost use Rattle.sng_core.specs.Ending.{ending_outs, ending_next};
 
 use crate::parts::Parts;
-use sng_book::{Decision, Out, Outcome, Outs, OutsPair, Who};
-use sng_grants::Policy;
+use sng_book::{Decision, Out, Outcome, Outs, OutsPair, ReservedOuts, Who};
+use sng_endings::{end_all, endings, room_after};
 use sng_link::{Link, Room};
 use sng_outbox::{Origin, Publication};
+use sng_policy::InForce;
 use sng_sessions::{Sessions, is_tried_out};
 use sng_text::ClientId;
 use sng_turns::again::{Retried, again, carry_again, is_repeating};
@@ -49,21 +53,70 @@ impl Parts {
     /// and nothing changed.
     pub fn tick(&mut self, alloc: Global, clock: u64) -> Result<OutsPair, AllocError>
         requires { Good self.old }
-        ensures outs { IfOk result (λ outs. outs ≡ outs_by self.old (ByTick clock)) }
-        ensures next { OnOk result (self.new ≡ next_by self.old (ByTick clock)) }
+        ensures outs { IfOk result (λ outs. outs ≡ tick_outs self.old clock) }
+        ensures next { OnOk result (self.new ≡ tick_next self.old clock) }
         ensures err { OnErr result (self.new ≡ self.old) }
     {
+        let clock = self.later(clock);
+        if self.ends_by(clock) {
+            let ended = self.end_to(alloc, clock)?;
+            return Ok(ended);
+        }
         let outs = self.tick_to(alloc, clock)?;
         Ok(outs)
     }
 
-    /// The clock is at this time then, or where it was.
-    fn tick_to(&mut self, alloc: Global, clock: u64) -> Result<OutsPair, AllocError>
-        ensures outs { IfOk result (λ outs. outs ≡ ticked_outs self.old (later self.old.clock clock)) }
-        ensures next { OnOk result (self.new ≡ ticked_next self.old (later self.old.clock clock)) }
+    /// The time that the clock comes to: it does not go back.
+    fn later(&self, clock: u64) -> u64
+        ensures { result ≡ later self.now.clock clock }
+    {
+        if self.clock <= clock {
+            clock
+        } else {
+            self.clock
+        }
+    }
+
+    /// Whether scopes end by this time.
+    fn ends_by(&self, clock: u64) -> bool
+        ensures { result ≡ is_reached clock (next_end self.now.policy) }
+    {
+        self.policy.ends_by(clock)
+    }
+
+    /// The clock comes to this time, by which scopes end: first the subscriptions end that are not allowed any
+    /// more, and then all comes as at any other tick. What ends is planned first, and with it the room that it
+    /// leaves.
+    fn end_to(&mut self, alloc: Global, clock: u64) -> Result<OutsPair, AllocError>
+        requires { Each (λ x. AllCovered self.old.policy x.id x.filters) self.old.clients }
+        ensures outs { IfOk result (λ outs. outs ≡ ending_outs self.old clock) }
+        ensures next { OnOk result (self.new ≡ ending_next self.old clock) }
         ensures err { OnErr result (self.new ≡ self.old) }
     {
-        let clock = later(self.clock, clock);
+        let policy = self.policy.left(clock)?;
+        let endings = endings(alloc, &self.policy, &policy, &self.sessions)?;
+        let mut room = room_after(alloc, endings.as_slice(), &self.sessions, &self.link)?;
+        let mut outs = Outs::new(alloc);
+        let sessions = &self.sessions;
+        let dues = dues(alloc, &policy, clock, sessions, &mut room, &mut outs)?;
+        note_ping(self.link.is_ping_due(self.is_up, clock), room, &mut outs)?;
+        let mut all = room_for(alloc, endings.len(), outs.len())?;
+        let again = outs.copy(alloc)?;
+        end_all(endings, &mut self.sessions, &mut self.link, &mut all);
+        all.append(outs, again);
+        carry_out(dues, &mut self.sessions, &mut self.link, clock);
+        self.link.ping(self.is_up, clock);
+        self.policy = policy;
+        self.clock = clock;
+        Ok(all.into_pair())
+    }
+
+    /// The clock comes to this time, by which no scope ends.
+    fn tick_to(&mut self, alloc: Global, clock: u64) -> Result<OutsPair, AllocError>
+        ensures outs { IfOk result (λ outs. outs ≡ ticked_outs self.old clock) }
+        ensures next { OnOk result (self.new ≡ ticked_next self.old clock) }
+        ensures err { OnErr result (self.new ≡ self.old) }
+    {
         let mut outs = Outs::new(alloc);
         let mut room = self.link.room_left();
         let sessions = &self.sessions;
@@ -77,11 +130,18 @@ impl Parts {
     }
 }
 
-/// The clock does not go back.
-fn later(clock: u64, other: u64) -> u64
-    ensures { result ≡ later clock other }
+/// Room for what so many endings let out, two outs each, and for so many more.
+fn room_for(alloc: Global, endings: usize, more: usize) -> Result<ReservedOuts, AllocError>
+    ensures outs { IfOk result (λ outs. outs.outs ≡ []) }
+    ensures room { IfOk result (λ outs. endings * 2 + more ≤ outs.spare) }
 {
-    if clock <= other { other } else { clock }
+    let Some(ends) = endings.checked_mul(2) else {
+        return Err(AllocError);
+    };
+    match ends.checked_add(more) {
+        Some(room) => ReservedOuts::with_room(alloc, room),
+        None => Err(AllocError),
+    }
 }
 
 /// A PINGREQ that is due and finds no place is noted.
@@ -98,7 +158,7 @@ fn note_ping(is_due: bool, room: Room, outs: &mut Outs) -> Result<(), AllocError
 /// what is left then.
 fn dues(
     alloc: Global,
-    policy: &Policy,
+    policy: &InForce,
     clock: u64,
     sessions: &Sessions,
     room: &mut Room,
@@ -129,7 +189,7 @@ fn add(dues: &mut Vec<Due>, due: Option<Due>) -> Result<(), AllocError>
 /// What is due with the client at this place.
 fn due_with(
     alloc: Global,
-    policy: &Policy,
+    policy: &InForce,
     clock: u64,
     sessions: &Sessions,
     place: usize,

@@ -12,25 +12,28 @@ ghost use Rattle.sng_core.specs.Forms.{client_at, unread};
 use crate::parts::Parts;
 use sng_book::{Denial, FormDenial, GrantDenial, IdKind, Outcome, Place, RoomDenial};
 use sng_frames::{Connect, TopicIdType};
-use sng_grants::Policy;
 use sng_history::{MAX_CLIENTS, exit};
 use sng_ids::IdTable;
 use sng_outbox::Origin;
-use sng_policy::{lists, topic};
+use sng_policy::InForce;
 use sng_sessions::Sessions;
 use sng_text::{ClientId, Qos, TextFault, TopicName};
 use std::alloc::{AllocError, Global};
 
 /// The verdict on a CONNECT (MQTT-SN 1.2, 5.4.4). An `Err` is a failed allocation, for a denial that shows
 /// the client.
-pub fn entry(policy: &Policy, sessions: &Sessions, connect: &Connect) -> Result<Outcome, AllocError>
+pub fn entry(
+    policy: &InForce,
+    sessions: &Sessions,
+    connect: &Connect,
+) -> Result<Outcome, AllocError>
     ensures { IfOk result (λ outcome. outcome ≡ entry_by policy.now sessions.now connect.now) }
 {
     let id = &connect.client_id;
     if connect.protocol_id != 1 {
         return Ok(Outcome::Denied(Denial::Form(FormDenial::NotSupported)));
     }
-    if !lists(policy, id) {
+    if !policy.lists(id) {
         return Ok(Outcome::Denied(Denial::Grant(GrantDenial::NoScope(id.copy()?))));
     }
     if is_known(sessions, id) || sessions.len() < MAX_CLIENTS {
@@ -76,7 +79,7 @@ pub fn copy_name(name: &Option<TopicName>) -> Result<Option<TopicName>, AllocErr
 
 /// Whether the client at this place may ask at all: it has its turn, and the policy lists it. An `Err` is a
 /// failed allocation.
-pub fn may_ask(policy: &Policy, sessions: &Sessions, place: usize) -> Result<Outcome, AllocError>
+pub fn may_ask(policy: &InForce, sessions: &Sessions, place: usize) -> Result<Outcome, AllocError>
     requires { place < length sessions.now }
     ensures { IfOk result (λ outcome. outcome ≡ may_ask policy.now (client_at sessions.now place)) }
 {
@@ -84,7 +87,7 @@ pub fn may_ask(policy: &Policy, sessions: &Sessions, place: usize) -> Result<Out
         return Ok(Outcome::Denied(Denial::Form(FormDenial::OutOfTurn)));
     }
     let id = sessions.id(place);
-    if lists(policy, id) {
+    if policy.lists(id) {
         Ok(Outcome::Allowed)
     } else {
         Ok(Outcome::Denied(Denial::Grant(GrantDenial::NoScope(id.copy()?))))
@@ -132,7 +135,7 @@ impl Parts {
 /// `Err` is a failed allocation.
 pub fn source_name(
     alloc: Global,
-    policy: &Policy,
+    policy: &InForce,
     id_type: TopicIdType,
     id: u16,
 ) -> Result<Result<TopicName, Denial>, AllocError>
@@ -149,7 +152,7 @@ pub fn source_name(
 /// The outer `Err` is a failed allocation.
 pub fn client_name(
     alloc: Global,
-    policy: &Policy,
+    policy: &InForce,
     ids: &IdTable,
     id_type: TopicIdType,
     id: u16,
@@ -177,10 +180,10 @@ fn short_name(alloc: Global, id: u16) -> Result<Result<TopicName, Denial>, Alloc
 }
 
 /// A predefined id has the name that the policy gives it.
-fn predefined_name(policy: &Policy, id: u16) -> Result<Result<TopicName, Denial>, AllocError>
+fn predefined_name(policy: &InForce, id: u16) -> Result<Result<TopicName, Denial>, AllocError>
     ensures { IfOk result (λ named. named ≡ predefined_name id (topic policy.now id)) }
 {
-    match topic(policy, id) {
+    match policy.topic(id) {
         Some(name) => Ok(Ok(name.copy()?)),
         None => Ok(Err(Denial::Form(FormDenial::UnknownId(IdKind::Predefined, id)))),
     }

@@ -22,7 +22,7 @@ fields_send = struct_send (shape inside.the_type) (
   search sendable,
   (
     search sendable,
-    (opened_send, (core_send, (book.the_send, (search sendable, tt)))),
+    (opened_send, (core_send, (book.the_send, (search sendable, (search sendable, tt))))),
   ),
 )
 

@@ -2,7 +2,8 @@
 use Rattle.std.proofs.Common.{◌≡◌, ◌<◌, ◌+◌, ◌≤◌, ℕ, zero, suc, List, [], ◌∷◌, ◌++◌, length, get_or, drop}
 use Rattle.std.proofs.Common.{refl, ap, sym, ◌∙◌, arith, add-one, drop-cons}
 use Rattle.std.proofs.lemmas.List.{append-nil, append_assoc}
-use Rattle.sng_grants.specs.Sources.{scope_of}
+use Rattle.std.specs.Option.{option_map}
+use Rattle.sng_grants.specs.Sources.{grant_of}
 use Rattle.sng_grants.specs.declared.policy.Policy.{Policy}
 use Rattle.sng_policy.specs.Grants.{subscribe_by}
 use Rattle.sng_fan.specs.declared.held.Held.{Held}
@@ -85,13 +86,13 @@ each_at P (x ∷ xs) (suc place) within each = each_at P xs place (omega arith) 
 pub scope_kept : (before after : Policy) (xs : List Client) (place : ℕ) (endings : List SubscriptionEnd)
     → Each (λ x. AllCovered before x.id x.filters) xs → place < length xs
     → (let x = client_at xs place in
-    scope_of before.clients x.id ≡ scope_of after.clients x.id
+    grant_of before.clients x.id ≡ grant_of after.clients x.id
     → endings ≡ endings ++ endings_by after place x.id x.filters)
 scope_kept before after xs place endings covered within same =
     let x = client_at xs place in
     sym (ap (λ es. endings ++ es)
     (kept_all before after place x.id x.filters
-    (λ text. ap (λ scope. filter_outcome x.id text (subscribe_by scope text)) same)
+    (λ text. ap (λ grant. filter_outcome x.id text (subscribe_by (option_map (λ g. g.scope) grant) text)) same)
     (each_at (λ y. AllCovered before y.id y.filters) xs place within covered))
     ∙ append-nil endings)
 

@@ -1,6 +1,6 @@
 -- What of the subscriptions ends as another policy comes into force: one ending after another, in the order
 -- in which they come.
-use Rattle.std.specs.Prelude.{ℕ, suc, List, [], ◌∷◌, ◌++◌, if◌then◌else◌, Option, Some, None}
+use Rattle.std.specs.Prelude.{ℕ, suc, ◌-◌, Bool, List, [], ◌∷◌, ◌++◌, if◌then◌else◌, Option, Some, None}
 use Rattle.sng_grants.specs.declared.policy.Policy.{Policy}
 use Rattle.sng_fan.specs.declared.held.Held.{Held}
 use Rattle.sng_outbox.specs.declared.item.Item.TheVariants as item
@@ -14,6 +14,7 @@ use Rattle.sng_history.specs.Links.{Link}
 use Rattle.sng_history.specs.Packets.{has_place}
 use Rattle.sng_history.specs.Standing.{is_held}
 use Rattle.sng_history.specs.Verdicts.{coverage}
+use Rattle.sng_link.specs.declared.room.Room.{Room}
 use Rattle.sng_wanted.specs.Filters.{without_wanted}
 use Rattle.sng_sessions.specs.Moving.{moved_at}
 use Rattle.sng_endings.specs.declared.replacing.SubscriptionEnd.{SubscriptionEnd}
@@ -46,6 +47,11 @@ ended_link link after text = if is_held after text then link else let_go link te
 abbrev pub ended_notes : Link → List Client → List ℕ → List Out
 ended_notes link after text =
     if is_held after text then [] else untold_of link
+
+-- the room for publishes once a filter has ended that somebody holds still, or nobody: of that the broker is
+-- told where there is place
+abbrev pub room_left : Bool → Room → Room
+room_left held room = if held then room else record room { places = room.places - 1 }
 
 -- what an ending moves of the state: the clients, and the link to the broker
 pub record Moved : Type 0 where

@@ -1,7 +1,6 @@
 //! Another policy comes into force: each subscription that it does not allow ends (MQTT-SN 1.2, 6.9). What
 //! ends is planned first, with all memory, and what changes cannot fail.
 ghost use Rattle.std.specs.Prelude.{◌≡◌, ◌≤◌, ◌<◌, ◌+◌, ◌*◌, ◌++◌, [], length, IfOk, OnOk, OnErr};
-ghost use Rattle.sng_grants.specs.Sources.{scope_of};
 ghost use Rattle.sng_history.specs.Good.{Each, AllCovered};
 ghost use Rattle.sng_history.specs.Verdicts.{coverage};
 ghost use Rattle.sng_sessions.specs.Standing.{client_at};
@@ -9,10 +8,9 @@ ghost use Rattle.sng_endings.specs.Replacing.{moved, ended_next, ended_outs, all
 ghost use Rattle.sng_endings.specs.Replacing.{ending_of, endings_by, endings_from, let_go, untold_of};
 
 use sng_book::{Decision, NotePair, Out, Outcome, OutsPair, ReservedOuts};
-use sng_grants::Policy;
 use sng_history::coverage;
 use sng_link::Link;
-use sng_policy::same_scope;
+use sng_policy::{InForce, same_scope};
 use sng_sessions::Sessions;
 use sng_text::{ClientId, TopicFilter};
 use std::alloc::{AllocError, Global};
@@ -39,8 +37,8 @@ struct Plan {
 /// changed.
 pub fn replace(
     alloc: Global,
-    in_force: &mut Policy,
-    policy: Policy,
+    in_force: &mut InForce,
+    policy: InForce,
     sessions: &mut Sessions,
     link: &mut Link,
 ) -> Result<OutsPair, AllocError>
@@ -63,8 +61,8 @@ pub fn replace(
 /// What ends under the policy is planned, with all memory that it takes to carry it out.
 fn planned_all(
     alloc: Global,
-    in_force: &Policy,
-    policy: &Policy,
+    in_force: &InForce,
+    policy: &InForce,
     sessions: &Sessions,
 ) -> Result<Plan, AllocError>
     requires { Each (λ x. AllCovered in_force.now x.id x.filters) sessions.now }
@@ -88,11 +86,12 @@ fn room_for(alloc: Global, count: usize) -> Result<ReservedOuts, AllocError>
     }
 }
 
-/// What ends under the policy. A client that has the same scope under both policies keeps all.
-fn endings(
+/// What ends under the policy, of what stood under the one in force. A client that has the same scope under both
+/// policies keeps all.
+pub fn endings(
     alloc: Global,
-    in_force: &Policy,
-    policy: &Policy,
+    in_force: &InForce,
+    policy: &InForce,
     sessions: &Sessions,
 ) -> Result<Vec<SubscriptionEnd>, AllocError>
     requires { Each (λ x. AllCovered in_force.now x.id x.filters) sessions.now }
@@ -109,8 +108,8 @@ fn endings(
 /// stands for it is allowed still, and is not judged again.
 fn add_changed(
     alloc: Global,
-    in_force: &Policy,
-    policy: &Policy,
+    in_force: &InForce,
+    policy: &InForce,
     sessions: &Sessions,
     place: usize,
     endings: &mut Vec<SubscriptionEnd>,
@@ -120,14 +119,14 @@ fn add_changed(
     ensures { OnOk result (endings.new.items ≡ endings.old.items ++ endings_by policy.now place
         (client_at sessions.now place).id (client_at sessions.now place).filters) }
 {
-    if same_scope(in_force, policy, sessions.id(place)) {
+    if same_scope(in_force.policy(), policy.policy(), sessions.id(place)) {
         return Ok(());
     }
     add_endings(alloc, policy, sessions, place, endings)
 }
 
 /// These end, one after another. Takes no memory.
-fn end_all(
+pub fn end_all(
     endings: Vec<SubscriptionEnd>,
     sessions: &mut Sessions,
     link: &mut Link,
@@ -136,6 +135,7 @@ fn end_all(
     requires { length endings.items * 2 ≤ outs.old.spare }
     ensures next { moved link.new sessions.new ≡ all_next (moved link.old sessions.old) endings.items }
     ensures outs { outs.new.outs ≡ outs.old.outs ++ all_outs (moved link.old sessions.old) endings.items }
+    ensures spare { outs.old.spare ≤ outs.new.spare + length endings.items * 2 }
 {
     for ending in endings {
         end_one(ending, sessions, link, outs);
@@ -187,7 +187,7 @@ fn let_go(filter: TopicFilter, link: &mut Link, outs: &mut ReservedOuts)
 /// `Err` is a failed allocation.
 fn add_endings(
     alloc: Global,
-    policy: &Policy,
+    policy: &InForce,
     sessions: &Sessions,
     place: usize,
     endings: &mut Vec<SubscriptionEnd>,
@@ -209,7 +209,7 @@ fn add_endings(
 /// allocation.
 fn planned(
     alloc: Global,
-    policy: &Policy,
+    policy: &InForce,
     place: usize,
     client: &ClientId,
     filter: &TopicFilter,

@@ -10,8 +10,9 @@ use Rattle.sng_book.specs.Events.{kind_of}
 use Rattle.sng_book.specs.Printing.{row_text}
 use Rattle.sng_book.specs.declared.event.Event.{Event}
 use Rattle.sng_book.specs.declared.row.Row.{Row}
-use Rattle.sng_history.specs.State.{opening, Leads}
-use Rattle.sng_history.specs.Lawful.{Lawful}
+use Rattle.sng_history.specs.Books.{IsBook}
+use Rattle.sng_history.specs.State.{opening}
+use Rattle.sng_history.proofs.BookSteps.{book_opening}
 use Rattle.sng_script.specs.declared.limits.TheConstants.{MAX_LINE}
 use Rattle.sng_gateway.specs.Deeds.{Deed, Step, Tell, deeds_of, stream_by}
 use Rattle.sng_script.specs.Lines.{line_of}
@@ -27,8 +28,7 @@ use Rattle.sng_script.specs.declared.script.Line.{Line}
 
 -- the gateway stands so after these rows, the newest first
 pub record StandsAfter (rows : List Row) (standing : Standing) : Type 0 where
-  pub lawful : Lawful opening rows
-  pub leads : Leads opening rows standing.state
+  pub book : IsBook opening rows standing.state
   pub counted : standing.rows ≡ length rows
 
 -- lines before are played, and those that are left are still to come
@@ -54,7 +54,7 @@ written_row : (rows : List Row) (before : Standing) (event : Event) (text : List
     → StandsAfter rows before → IsStep before event text after → WrittenRow rows event text after
 written_row rows before event text after stands step =
     let row : Row = record { by = 0; event = event; outs = step.outs } in
-    let kept = step.kept 0 opening rows stands.lawful stands.leads in
+    let kept = step.kept 0 opening rows stands.book in
     let counted : after.rows ≡ length (row ∷ rows) = omega (arith, step.counted, stands.counted) in
     record {
       now = row ∷ rows;
@@ -64,7 +64,7 @@ written_row rows before event text after stands step =
         step.printed ∙ ap (λ number. row_text number 0 (kind_of event) step.outs)
             counted,
       );
-      stands = record { lawful = kept.0; leads = kept.1; counted = counted };
+      stands = record { book = kept; counted = counted };
     }
 
 -- deeds that come after rows write their text after them, and the gateway stands after its rows
@@ -139,14 +139,14 @@ AllWrite-more (first ∷ lines) bytes line before between rows stream last text 
     )
 
 pub starts : (script : List (List ℕ)) (held : Option (List ℕ)) (standing : Standing)
-    → Leads opening [] standing.state → standing.rows ≡ 0 → standing.stream ≡ Reading []
+    → IsBook opening [] standing.state → standing.rows ≡ 0 → standing.stream ≡ Reading []
     → UnderWay script script held held 1 standing
-starts script held standing leads none new = record {
+starts script held standing book none new = record {
   before = [];
   text = [];
   rows = [];
   split = refl;
-  stands = record { lawful = tt; leads = leads; counted = none };
+  stands = record { book = book; counted = none };
   written = (refl, refl, new);
   grown = Appends-nil held;
   numbered = refl;
@@ -161,7 +161,7 @@ goes_on script left bytes held between holds number standing after way few playe
     let line = played.line in
     let taken : Standing = record standing { stream = stream_by standing.stream line } in
     let stands : StandsAfter way.rows taken =
-    record { lawful = way.stands.lawful; leads = way.stands.leads; counted = way.stands.counted } in
+    record { book = way.stands.book; counted = way.stands.counted } in
     let wrote =
     written way.rows taken (deeds_of standing.stream line) played.text after stands played.comes in
     let lines = way.before ++ bytes ∷ [] in
@@ -182,7 +182,7 @@ goes_on script left bytes held between holds number standing after way few playe
 played : (script left : List (List ℕ)) (held holds : Option (List ℕ)) (number : ℕ) (standing : Standing)
     → (way : UnderWay script left held holds number standing) → ArePlayed way.before way.text
 played script left held holds number standing way =
-    record { rows = way.rows; stream = standing.stream; lawful = way.stands.lawful; written = way.written }
+    record { rows = way.rows; stream = standing.stream; lawful = (standing.state, way.stands.book); written = way.written }
 
 -- no line is left
 pub ends : (script : List (List ℕ)) (held holds : Option (List ℕ)) (number : ℕ) (standing : Standing)
@@ -238,11 +238,11 @@ abbrev pub Halts : Option (List ℕ) → Result (Unit {0}) Obstacle → ℕ → 
 Halts input result number held holds =
     IfSome input (λ script. IsHalt result number (lines_of script) held holds)
 
-pub GoesOn-start : (input held : Option (List ℕ)) (standing : Standing) → Leads opening [] standing.state
+pub GoesOn-start : (input held : Option (List ℕ)) (standing : Standing) → IsBook opening [] standing.state
     → standing.rows ≡ 0
     → standing.stream ≡ Reading [] → GoesOn input input held held 1 standing
-GoesOn-start None held standing leads none new = tt
-GoesOn-start (Some bytes) held standing leads none new = starts (lines_of bytes) held standing leads none new
+GoesOn-start None held standing book none new = tt
+GoesOn-start (Some bytes) held standing book none new = starts (lines_of bytes) held standing book none new
 
 pub GoesOn-line : (input left rest held between holds : Option (List ℕ)) (line : List ℕ) (number : ℕ)
     (standing after : Standing)
@@ -313,7 +313,7 @@ Halts-first (Some bytes) held told = (
   record {
     rest = lines_of bytes;
     split = refl;
-    played = record { rows = []; stream = Reading []; lawful = tt; written = (refl, refl, refl) };
+    played = record { rows = []; stream = Reading []; lawful = (opening, book_opening); written = (refl, refl, refl) };
   },
   Appends-nil held,
 )

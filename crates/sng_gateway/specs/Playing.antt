@@ -6,8 +6,8 @@ use Rattle.sng_book.specs.Events.{kind_of}
 use Rattle.sng_book.specs.Printing.{row_text}
 use Rattle.sng_book.specs.declared.event.Event.{Event}
 use Rattle.sng_book.specs.declared.out.Out.{Out}
+use Rattle.sng_history.specs.Books.{KeepsBook}
 use Rattle.sng_history.specs.State.{State}
-use Rattle.sng_history.specs.Lawful.{Keeps}
 use Rattle.sng_gateway.specs.Deeds.{Deed, Step, Tell, deeds_of, stream_by}
 use Rattle.sng_script.specs.Lines.{line_of}
 use Rattle.sng_script.specs.declared.script.Line.{Line}
@@ -19,11 +19,11 @@ pub record Standing : Type 0 where
   pub rows : ℕ
   pub stream : streams.State
 
--- the event is one step, whose outs keep every history lawful; its row has the next number, and the text is
+-- the event is one step, whose outs keep every book lawful; its row has the next number, and the text is
 -- that row printed, with the tag 0; the stream stays as it is
 pub record IsStep (before : Standing) (event : Event) (text : List ℕ) (after : Standing) : Type 0 where
   pub outs : List Out
-  pub kept : Keeps before.state event outs after.state
+  pub kept : KeepsBook before.state event outs after.state
   pub counted : after.rows ≡ before.rows + 1
   pub printed : text ≡ row_text after.rows 0 (kind_of event) outs
   pub same : after.stream ≡ before.stream

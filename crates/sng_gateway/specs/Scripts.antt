@@ -9,8 +9,8 @@ use Rattle.sng_book.specs.Printing.{row_text}
 use Rattle.sng_book.specs.declared.event.Event.{Event}
 use Rattle.sng_book.specs.declared.out.Out.{Out}
 use Rattle.sng_book.specs.declared.row.Row.{Row}
+use Rattle.sng_history.specs.Books.{LawfulBook}
 use Rattle.sng_history.specs.State.{opening}
-use Rattle.sng_history.specs.Lawful.{Lawful}
 use Rattle.sng_script.specs.declared.limits.TheConstants.{MAX_LINE}
 use Rattle.sng_gateway.specs.Deeds.{Deed, Step, Tell, deeds_of, stream_by}
 use Rattle.sng_script.specs.Lines.{line_of}
@@ -53,7 +53,7 @@ AllWrite before stream (bytes ∷ rest) text rows last =
 pub record ArePlayed (lines : List (List ℕ)) (text : List ℕ) : Type 0 where
   pub rows : List Row
   pub stream : State
-  pub lawful : Lawful opening rows
+  pub lawful : LawfulBook opening rows
   pub written : AllWrite [] (Reading []) lines text rows stream
 
 -- a line that cannot be read, or is too long

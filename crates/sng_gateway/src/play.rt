@@ -1,7 +1,8 @@
 //! Plays a script: each line is an event, and what the gateway does about it is printed as a row.
 ghost use Rattle.std.specs.Prelude.{◌≡◌, [], IfSome};
 ghost use Rattle.mqtt_frames.specs.Streams.{Reading};
-ghost use Rattle.sng_history.specs.State.{opening, Leads};
+ghost use Rattle.sng_history.specs.Books.{IsBook};
+ghost use Rattle.sng_history.specs.State.{opening};
 ghost use Rattle.sng_script.specs.Input.{lines_of};
 ghost use Rattle.sng_gateway.specs.Scripts.{Finishes, IsHalt, IsOutcome};
 ghost use Rattle.sng_gateway.specs.Standings.{standing};
@@ -95,7 +96,7 @@ fn play_on<R: BufRead, W: Write>(
     output: &mut W,
     line: &mut u64,
 ) -> Result<(), Obstacle>
-    requires state { Leads opening [] (standing player.old).state }
+    requires state { IsBook opening [] (standing player.old).state }
     requires rows { (standing player.old).rows ≡ 0 }
     requires stream { (standing player.old).stream ≡ Reading [] }
     ensures { IfSome (R.remaining reader.old) (λ script. IsHalt result line.new (lines_of script)

@@ -5,7 +5,8 @@ ghost use Rattle.mqtt_frames.specs.Streams.{Reading};
 ghost use Rattle.sng_gateway.specs.Deeds.{Step, fault_deeds, packet_deeds};
 ghost use Rattle.sng_script.specs.Lines.{line_of};
 ghost use Rattle.sng_gateway.specs.Playing.{Adds, Comes, IsPlayed};
-ghost use Rattle.sng_history.specs.State.{opening, Leads};
+ghost use Rattle.sng_history.specs.Books.{IsBook};
+ghost use Rattle.sng_history.specs.State.{opening};
 
 use crate::broker::{arrival, begin_stream, push_fault_line};
 use mqtt_frames::{Packet, Stream, StreamFault};
@@ -31,7 +32,7 @@ impl Player {
 
     /// A gateway that grants nothing, no row, and a stream of which nothing has come.
     pub fn new(alloc: Global) -> Result<Player, AllocError>
-        ensures state { IfOk result (λ player. Leads opening [] (standing player).state) }
+        ensures state { IfOk result (λ player. IsBook opening [] (standing player).state) }
         ensures rows { IfOk result (λ player. (standing player).rows ≡ 0) }
         ensures stream { IfOk result (λ player. (standing player).stream ≡ Reading []) }
     {

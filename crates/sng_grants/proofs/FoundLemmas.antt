@@ -14,7 +14,7 @@ use Rattle.std.specs.List.Sorted.{IsStrictlySortedBy}
 use Rattle.std.specs.Map.{keys_of}
 use Rattle.std.specs.Ordering.{nat_cmp, is_eq, eq_by_cmp}
 use Rattle.std.specs.Str.{bytes_eq}
-use Rattle.sng_grants.specs.Laws.{ScopesAreFound, NamesAreFound, IdsAreLeast, AreIdsInOrder}
+use Rattle.sng_grants.specs.Laws.{GrantsAreFound, NamesAreFound, IdsAreLeast, AreIdsInOrder}
 use Rattle.sng_grants.specs.Topics.{id_of}
 
 equal : (o : Ordering) → is_eq o ≡ true → o ≡ Equal
@@ -22,16 +22,16 @@ equal Less is = absurd (cc)
 equal Equal is = refl
 equal Greater is = absurd (cc)
 
-same_key : (x y : List ℕ) → eq_by_cmp (slice_cmp nat_cmp) x y ≡ true → x ≡ y
+pub same_key : (x y : List ℕ) → eq_by_cmp (slice_cmp nat_cmp) x y ≡ true → x ≡ y
 same_key x y is = exact_bytes x y (equal (slice_cmp nat_cmp x y) is)
 
 same_id : (x y : ℕ) → eq_by_cmp nat_cmp x y ≡ true → x ≡ y
 same_id x y is = exact_unsigned x y (equal (nat_cmp x y) is)
 
-pub scopes_are_found : ScopesAreFound
-scopes_are_found listed key scope ordered = (
-  Contains-from_lookup {eq = eq_by_cmp (slice_cmp nat_cmp)} same_key key scope listed,
-  lookup-from_Contains (eq_by_cmp_equiv nat_list_cmp_total) key scope listed
+pub grants_are_found : GrantsAreFound
+grants_are_found listed key grant ordered = (
+  Contains-from_lookup {eq = eq_by_cmp (slice_cmp nat_cmp)} same_key key grant listed,
+  lookup-from_Contains (eq_by_cmp_equiv nat_list_cmp_total) key grant listed
       (IsDistinct-from_sorted (slice_cmp nat_cmp) (keys_of listed) ordered),
 )
 

@@ -1,3 +1,4 @@
+pub mod EndLemmas
 pub mod FoundLemmas
 pub mod IndexLemmas
 pub mod ScopeLemmas

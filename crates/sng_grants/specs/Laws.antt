@@ -1,21 +1,39 @@
 -- Laws of look-ups. That the keys are in order holds of each `Listed`: `Listed::len` says so.
-use Rattle.std.specs.Prelude.{◌≡◌, ◌≤◌, ℕ, ◌↔◌, List, Some, Contains}
+use Rattle.std.specs.Prelude.{◌≡◌, ◌≤◌, ℕ, ◌↔◌, false, List, Some, Contains, option_and_then}
 use Rattle.std.specs.Cmp.Lexicographic.{slice_cmp}
 use Rattle.std.specs.List.Sorted.{IsStrictlySortedBy}
 use Rattle.std.specs.Map.{keys_of}
 use Rattle.std.specs.Ordering.{nat_cmp}
-use Rattle.sng_grants.specs.Sources.{scope_of}
+use Rattle.sng_grants.specs.Sources.{grant_of, scope_of, scope_left, left_at, is_reached}
+use Rattle.sng_grants.specs.Ends.{in_force, next_end}
 use Rattle.sng_grants.specs.Topics.{name_of, id_of}
-use Rattle.sng_grants.specs.declared.scope.Pair.{Pair}
+use Rattle.sng_grants.specs.declared.grant.Grant.{Grant}
+use Rattle.sng_grants.specs.declared.policy.Policy.{Policy}
 
 -- the keys of clients and of sources are in order, and none stands twice
-abbrev pub AreInOrder : List (List ℕ × List Pair) → Type 0
+abbrev pub AreInOrder : List (List ℕ × Grant) → Type 0
 AreInOrder listed = IsStrictlySortedBy (slice_cmp nat_cmp) (keys_of listed)
 
--- a key and a scope are listed exactly where the look-up of the key gives the scope
-abbrev pub ScopesAreFound : Type 0
-ScopesAreFound = (listed : List (List ℕ × List Pair)) (key : List ℕ) (scope : List Pair) → AreInOrder listed
-    → (scope_of listed key ≡ Some scope) ↔ Contains listed (key, scope)
+-- a key and a grant are listed exactly where the look-up of the key gives the grant
+abbrev pub GrantsAreFound : Type 0
+GrantsAreFound = (listed : List (List ℕ × Grant)) (key : List ℕ) (grant : Grant) → AreInOrder listed
+    → (grant_of listed key ≡ Some grant) ↔ Contains listed (key, grant)
+
+-- at a clock a key has the scope of its grant, unless that has ended
+abbrev pub GrantsEnd : Type 0
+GrantsEnd = (clock : ℕ) (listed : List (List ℕ × Grant)) (key : List ℕ) → AreInOrder listed
+    → scope_of (left_at clock listed) key ≡ option_and_then (scope_left clock) (grant_of listed key)
+
+-- what has ended stays ended: what is in force of what was in force at an earlier clock is what is in force
+-- of the whole policy
+abbrev pub EndsStay : Type 0
+EndsStay = (before now : ℕ) (policy : Policy) → before ≤ now
+    → in_force now (in_force before policy) ≡ in_force now policy
+
+-- where the clock has not reached the first end, nothing has ended
+abbrev pub NothingEndsBefore : Type 0
+NothingEndsBefore = (clock : ℕ) (policy : Policy) → is_reached clock (next_end policy) ≡ false
+    → in_force clock policy ≡ policy
 
 -- the topic ids are in order, and none stands twice
 abbrev pub AreIdsInOrder : List (ℕ × List ℕ) → Type 0

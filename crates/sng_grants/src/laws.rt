@@ -1,7 +1,8 @@
 //! Laws of policies as values. Each function here only states one: its contract is the law, and calling it
 //! does nothing.
 ghost use Rattle.std.specs.Prelude.{◌≡◌};
-ghost use Rattle.sng_grants.specs.Laws.{ScopesAreFound, NamesAreFound, IdsAreLeast};
+ghost use Rattle.sng_grants.specs.Laws.{GrantsAreFound, GrantsEnd, EndsStay, NothingEndsBefore};
+ghost use Rattle.sng_grants.specs.Laws.{NamesAreFound, IdsAreLeast};
 
 use crate::{MAX_PAIRS, MAX_POLICY_CLIENTS, MAX_SOURCES, MAX_TOPICS};
 
@@ -13,9 +14,25 @@ pub fn limits()
     ensures pairs { MAX_PAIRS ≡ 64 }
 {}
 
-/// A client or a source is listed with a scope exactly where its look-up gives that scope.
-pub fn scopes_are_found()
-    ensures { ScopesAreFound }
+/// A client or a source is listed with a grant exactly where its look-up gives that grant.
+pub fn grants_are_found()
+    ensures { GrantsAreFound }
+{}
+
+/// At a clock a client or a source has the scope of its grant, unless that has ended by then.
+pub fn grants_end()
+    ensures { GrantsEnd }
+{}
+
+/// What has ended stays ended: what is in force of what was in force at an earlier clock is what is in force
+/// of the whole policy.
+pub fn ends_stay()
+    ensures { EndsStay }
+{}
+
+/// Where the clock has not reached the first end, nothing has ended.
+pub fn nothing_ends_before()
+    ensures { NothingEndsBefore }
 {}
 
 /// A topic id is listed with a name exactly where its look-up gives that name.

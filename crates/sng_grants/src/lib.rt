@@ -1,8 +1,9 @@
-//! Scopes and policies as values: who may publish and subscribe to what (RFC 9237, RFC 9431: the list of
-//! pairs of AIF-MQTT), and their look-ups. `sng_scope` reads them from texts.
+//! Scopes and policies as values: who may publish and subscribe to what, and until when (RFC 9237, RFC 9431:
+//! the list of pairs of AIF-MQTT), and their look-ups. `sng_scope` reads them from texts.
 #![tactic(auto)]
 
 mod comparing;
+pub mod grant;
 pub mod laws;
 pub mod limits;
 pub mod listed;
@@ -10,6 +11,7 @@ pub mod policy;
 pub mod scope;
 pub mod topics;
 
+pub use grant::{Grant, is_reached, sooner};
 pub use limits::{MAX_PAIRS, MAX_POLICY_CLIENTS, MAX_SOURCES, MAX_TOPICS};
 pub use listed::Listed;
 pub use policy::{Clients, Policy, Sources};

@@ -4,7 +4,9 @@ ghost use Rattle.std.specs.BTreeMap.{is_at, insert_entry};
 ghost use Rattle.std.specs.List.Sorted.{IsStrictlySortedBy};
 ghost use Rattle.std.specs.Map.{lookup, keys_of};
 ghost use Rattle.std.specs.Option.{option_copied};
+ghost use Rattle.sng_grants.specs.Sources.{left_at};
 
+use crate::{Grant, is_reached};
 use std::alloc::{AllocError, Global};
 use std::collections::BTreeMap;
 use std::collections::btree_map::Iter;
@@ -79,6 +81,16 @@ impl<K: Ord + Drop, V: Drop, const MOST: usize> Listed<K, V, MOST> {
     {
         self.entries.insert(key, value)?;
         Ok(())
+    }
+}
+
+impl<K: Ord + Drop, const MOST: usize> Listed<K, Grant, MOST> {
+    /// Only what has not ended by this clock stays listed. Takes no memory.
+    pub fn end_at(&mut self, clock: u64)
+        ensures { self.new ≡ left_at clock self.old }
+    {
+        self.entries
+            .retain(|_, grant| !is_reached(clock, grant.until));
     }
 }
 

@@ -1,19 +1,24 @@
-//! A policy: the scopes and topics that are in force together.
+//! A policy: the grants and topics that are in force together.
 ghost use Rattle.std.specs.Prelude.{◌≡◌, [], IfOk};
+ghost use Rattle.std.specs.Option.{option_copied};
+ghost use Rattle.sng_grants.specs.Ends.{in_force, next_end};
+ghost use Rattle.sng_grants.specs.Sources.{scope_of, first_end};
 
-use crate::{Listed, MAX_POLICY_CLIENTS, MAX_SOURCES, Scope, Topics};
+use crate::{Grant, Listed, MAX_POLICY_CLIENTS, MAX_SOURCES, Scope, Topics, sooner};
 use sng_text::ClientId;
 use std::alloc::{AllocError, Global};
+use std::collections::btree_map::Iter;
 
-/// The scope of each client that a policy lists, by client id. Contracts see the list of client ids with
-/// their scopes, in the byte order of the ids.
-pub type Clients = Listed<ClientId, Scope, MAX_POLICY_CLIENTS>;
+/// The grant of each client that a policy lists, by client id. Contracts see the list of client ids with
+/// their grants, in the byte order of the ids.
+pub type Clients = Listed<ClientId, Grant, MAX_POLICY_CLIENTS>;
 
-/// The scope of each source that a policy lists, by IPv4 address. Contracts see the list of addresses with
-/// their scopes, in their order.
-pub type Sources = Listed<[u8; 4], Scope, MAX_SOURCES>;
+/// The grant of each source that a policy lists, by IPv4 address. Contracts see the list of addresses with
+/// their grants, in their order.
+pub type Sources = Listed<[u8; 4], Grant, MAX_SOURCES>;
 
-/// Who may do what: clients and sources, each with its scope, and the names of predefined topic ids.
+/// Who may do what: clients and sources, each with its scope and the end of that, and the names of predefined
+/// topic ids.
 #[derive(Debug, Drop)]
 pub struct Policy {
     pub clients: Clients,
@@ -33,6 +38,70 @@ impl Policy {
         }
     }
 
+    /// The scope of the client, where it is listed, whenever that ends. Takes no memory.
+    pub fn client_scope(&self, client: &ClientId) -> Option<&Scope>
+        ensures { option_copied result ≡ scope_of self.now.clients client.now }
+    {
+        match self.clients.get(client) {
+            None => None,
+            Some(grant) => Some(&grant.scope),
+        }
+    }
+
+    /// The scope of the client at this clock: none where it is not listed, or its scope has ended by then. Takes
+    /// no memory.
+    pub fn client_scope_at(&self, client: &ClientId, clock: u64) -> Option<&Scope>
+        ensures { option_copied result ≡ scope_of (in_force clock self.now).clients client.now }
+    {
+        // `len` says that the clients are in order
+        let _len = self.clients.len();
+        match self.clients.get(client) {
+            None => None,
+            Some(grant) => grant.at(clock),
+        }
+    }
+
+    /// The scope of the source with this IPv4 address, where it is listed, whenever that ends. Takes no memory.
+    pub fn source_scope(&self, source: [u8; 4]) -> Option<&Scope>
+        ensures { option_copied result ≡ scope_of self.now.sources source }
+    {
+        match self.sources.get(&source) {
+            None => None,
+            Some(grant) => Some(&grant.scope),
+        }
+    }
+
+    /// The scope of the source with this IPv4 address at this clock: none where it is not listed, or its scope
+    /// has ended by then. Takes no memory.
+    pub fn source_scope_at(&self, source: [u8; 4], clock: u64) -> Option<&Scope>
+        ensures { option_copied result ≡ scope_of (in_force clock self.now).sources source }
+    {
+        // `len` says that the sources are in order
+        let _len = self.sources.len();
+        match self.sources.get(&source) {
+            None => None,
+            Some(grant) => grant.at(clock),
+        }
+    }
+
+    /// Only what has not ended by this clock stays listed. Takes no memory.
+    pub fn end_at(&mut self, clock: u64)
+        ensures { self.new ≡ in_force clock self.old }
+    {
+        self.clients.end_at(clock);
+        self.sources.end_at(clock);
+    }
+
+    /// When the first of the grants ends, where one does. Takes no memory.
+    pub fn next_end(&self) -> Option<u64>
+        ensures { result ≡ next_end self.now }
+    {
+        sooner(
+            first_end(self.clients.iter()),
+            first_end(self.sources.iter()),
+        )
+    }
+
     /// An equal policy, in memory of its own. Only memory can fail.
     pub fn copy(&self) -> Result<Policy, AllocError>
         ensures { IfOk result (λ p. p ≡ self.now) }
@@ -46,4 +115,15 @@ impl Policy {
             topics,
         })
     }
+}
+
+/// When the first of these ends.
+fn first_end<K>(listed: Iter<'_, K, Grant>) -> Option<u64>
+    ensures { result ≡ first_end listed.entry }
+{
+    let mut first = None;
+    for (_, grant) in listed {
+        first = sooner(first, grant.until);
+    }
+    first
 }

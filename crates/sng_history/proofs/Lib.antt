@@ -46,3 +46,5 @@ pub mod ClientIds
 pub mod WillsPlaced
 pub mod OneEnds
 pub mod Awaited
+pub mod BookSteps
+pub mod BookExact

@@ -21,3 +21,4 @@ pub mod Lawful
 pub mod Good
 pub mod Entering
 pub mod Steps
+pub mod Books

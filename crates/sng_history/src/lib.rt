@@ -11,6 +11,7 @@ pub mod verdicts;
 ghost use Rattle.std.specs.Prelude.{◌≡◌, List, []};
 ghost use Rattle.sng_book.specs.declared.event.Event.{Event};
 ghost use Rattle.sng_book.specs.declared.out.Out.{Out};
+ghost use Rattle.sng_history.specs.Books.{IsBook, KeepsBook, row_outs, row_next};
 ghost use Rattle.sng_history.specs.Good.{Good};
 ghost use Rattle.sng_history.specs.Lawful.{LawfulRow, Keeps};
 ghost use Rattle.sng_history.specs.State.{State, opening};
@@ -19,9 +20,17 @@ ghost use Rattle.sng_history.specs.Steps.{outs_of, next_of};
 pub use limits::{MAX_CLIENTS, PING_MS, RETRY_MS};
 pub use verdicts::{coverage, exit, receive};
 
-/// A step from a good state keeps a history lawful, and leads to the state after it, which is good again; the
-/// opening state is good. `exactly`: where the state is good a row may come exactly if its outs are those of
-/// the step.
+/// A step from a good state keeps a book lawful, and leads to the state after it, which is good again; the
+/// opening state is good, and the empty book leads to it.
+pub fn step_keeps_books()
+    ensures kept { (s : State) → (e : Event) → Good s → KeepsBook s e (row_outs s e) (row_next s e) }
+    ensures opening { IsBook opening [] opening }
+    ensures good { (s : State) → (e : Event) → Good s → Good (row_next s e) }
+{}
+
+/// The same of plain rows: a step from a good state keeps a history lawful, and leads to the state after it,
+/// which is good again; the opening state is good. `exactly`: where the state is good a row may come exactly if
+/// its outs are those of the step.
 pub fn step_is_lawful()
     ensures kept { (s : State) → (e : Event) → Good s → Keeps s e (outs_of s e) (next_of s e) }
     ensures opening { Good opening }

@@ -1,5 +1,5 @@
-//! What the policy says, as an outcome: to a publish, to a message for a client, and to a subscription (RFC
-//! 9431, 2.3). What a policy answers becomes a denial here alone. An `Err` is a failed allocation, for a
+//! What the policy in force says, as an outcome: to a publish, to a message for a client, and to a subscription
+//! (RFC 9431, 2.3). What a policy answers becomes a denial here alone. An `Err` is a failed allocation, for a
 //! denial that shows who asks, a name or a filter.
 ghost use Rattle.std.specs.Prelude.{◌≡◌, IfOk};
 ghost use Rattle.std.specs.Option.{option_copied};
@@ -7,48 +7,45 @@ ghost use Rattle.sng_history.specs.Verdicts.{exit, coverage, name_outcome, filte
 ghost use Rattle.sng_history.specs.Outgoing.{receive};
 
 use sng_book::{Denial, GrantDenial, Outcome};
-use sng_grants::Policy;
 use sng_outbox::Origin;
-use sng_policy::{
-    FilterGrant, NameGrant, Permission, may_publish, may_receive, may_subscribe, source_may_publish,
-};
+use sng_policy::{FilterGrant, InForce, NameGrant, Permission};
 use sng_text::{ClientId, TopicFilter, TopicName};
 use std::alloc::{AllocError, Global};
 
 /// The judgement of a publish under the name, as it is asked for and again as it leaves.
-pub fn exit(policy: &Policy, origin: &Origin, name: &TopicName) -> Result<Outcome, AllocError>
+pub fn exit(policy: &InForce, origin: &Origin, name: &TopicName) -> Result<Outcome, AllocError>
     ensures { IfOk result (λ outcome. outcome ≡ exit policy.now origin.now name.now) }
 {
     match origin {
         Origin::Client(client) => {
-            let grant = may_publish(policy, client, name);
+            let grant = policy.may_publish(client, name);
             name_outcome(Permission::Publish, Some(client), name, grant)
         }
         Origin::Source(source) => {
-            let grant = source_may_publish(policy, *source, name);
+            let grant = policy.source_may_publish(*source, name);
             name_outcome(Permission::Publish, None, name, grant)
         }
     }
 }
 
 /// The judgement of a message for the client under the name.
-pub fn receive(policy: &Policy, client: &ClientId, name: &TopicName) -> Result<Outcome, AllocError>
+pub fn receive(policy: &InForce, client: &ClientId, name: &TopicName) -> Result<Outcome, AllocError>
     ensures { IfOk result (λ outcome. outcome ≡ receive policy.now client.now name.now) }
 {
-    let grant = may_receive(policy, client, name);
+    let grant = policy.may_receive(client, name);
     name_outcome(Permission::Subscribe, Some(client), name, grant)
 }
 
 /// The judgement of a subscription of the client by the filter.
 pub fn coverage(
     alloc: Global,
-    policy: &Policy,
+    policy: &InForce,
     client: &ClientId,
     filter: &TopicFilter,
 ) -> Result<Outcome, AllocError>
     ensures { IfOk result (λ outcome. outcome ≡ coverage policy.now client.now filter.now) }
 {
-    let grant = may_subscribe(alloc, policy, client, filter)?;
+    let grant = policy.may_subscribe(alloc, client, filter)?;
     filter_outcome(client, filter, grant)
 }
 

@@ -42,7 +42,7 @@ use Rattle.sng_book.specs.declared.row.Row.{Row}
 use Rattle.sng_history.specs.Clients.{same_address}
 use Rattle.sng_history.specs.declared.limits.TheConstants.{MAX_CLIENTS}
 use Rattle.sng_outbox.specs.declared.limits.TheConstants.{MAX_OUTBOX_ITEMS}
-use Rattle.sng_laws.specs.Views.{policy_in_force, is_up}
+use Rattle.sng_laws.specs.Views.{last_policy, is_up}
 use Rattle.sng_laws.specs.ViewsClients.{is_awaiting, is_asleep, phase_of, address_of, accepted, is_among}
 use Rattle.sng_laws.specs.ViewsClients.{those_at}
 pub use Rattle.sng_laws.specs.ViewsClients.{is_active}
@@ -72,7 +72,7 @@ pub record Broken (row : Row) (from : Address) (broke : FrameFault) : Type 0 whe
 abbrev pub connect_rules : List Row → Connect → List Rule
 connect_rules h c =
     (not (c.protocol_id == 1), Form NotSupported)
-    ∷ (not (lists (policy_in_force h) c.client_id), Grant (NoScope c.client_id))
+    ∷ (not (lists (last_policy h) c.client_id), Grant (NoScope c.client_id))
     ∷ (
       not (is_among c.client_id (accepted h)) && not (nat_lt (length (accepted h)) MAX_CLIENTS),
       Room (Full place.Clients),
@@ -165,7 +165,7 @@ or_empty (Some name) = name
 -- what forbids a publish of a device, in order
 abbrev pub source_rules : List Row → Address → Publish → List Rule
 source_rules h from p =
-    let policy = policy_in_force h in
+    let policy = last_policy h in
     let type = p.flags.id_type in
     let name = or_empty (name_read policy type p.topic_id) in
     (not (lists_source policy from.ip), Grant UnknownSource)
@@ -180,7 +180,7 @@ source_rules h from p =
 -- the publish is noted, with the name where a listed device names one, and is not answered
 abbrev pub source_answer : List Row → Address → Publish → List Out
 source_answer h from p =
-    let policy = policy_in_force h in
+    let policy = last_policy h in
     let name = if lists_source policy from.ip then name_read policy p.flags.id_type p.topic_id else None in
     Note (note.Publish (who.Source from.ip) name (judged (source_rules h from p))) ∷ []
 

@@ -39,7 +39,7 @@ use Rattle.sng_book.specs.declared.out.Out.TheVariants.{Send, Note}
 use Rattle.sng_book.specs.declared.row.Row.{Row}
 use Rattle.sng_ids.specs.declared.limits.TheConstants.{MAX_TOPIC_IDS}
 use Rattle.sng_states.specs.declared.limits.TheConstants.{MAX_OPEN_IDS}
-use Rattle.sng_laws.specs.Views.{policy_in_force, is_up}
+use Rattle.sng_laws.specs.Views.{last_policy, is_up}
 use Rattle.sng_laws.specs.LawsHanding.{arrivals, out_of_turn}
 use Rattle.sng_laws.specs.ViewsMessages.{is_without_session, is_exactly_once}
 use Rattle.sng_laws.specs.ViewsOpenIds.{is_open, open_of}
@@ -55,14 +55,14 @@ use Rattle.sng_laws.specs.LawsAnswers.{or_empty}
 
 -- a client may ask while it is active and the policy in force lists it
 abbrev pub may_ask : List Row → List ℕ → Bool
-may_ask h id = is_active (phase_of id h) && lists (policy_in_force h) id
+may_ask h id = is_active (phase_of id h) && lists (last_policy h) id
 
 -- ---- REGISTER (MQTT-SN 1.2, 5.4.10, 5.4.11 and 6.5)
 
 -- what forbids a REGISTER of a client, in order
 abbrev pub register_rules : List Row → List ℕ → List ℕ → List Rule
 register_rules h id name =
-    let policy = policy_in_force h in
+    let policy = last_policy h in
     let told = names_told id h in
     (not (is_active (phase_of id h)), Form OutOfTurn)
     ∷ (not (lists policy id), Grant (NoScope id))
@@ -137,7 +137,7 @@ unacknowledged h =
 -- what forbids a publish of a client, in order
 abbrev pub session_rules : List Row → List ℕ → Publish → List Rule
 session_rules h id p =
-    let policy = policy_in_force h in
+    let policy = last_policy h in
     let type = p.flags.id_type in
     let told = names_told id h in
     let name = or_empty (name_meant policy told type p.topic_id) in
@@ -198,7 +198,7 @@ is_repeat h id p =
 abbrev pub asked_answer : List Row → Address → Publish → List ℕ → List Out
 asked_answer h from p id =
     let outcome = judged (session_rules h id p) in
-    let name = name_meant (policy_in_force h) (names_told id h) p.flags.id_type p.topic_id in
+    let name = name_meant (last_policy h) (names_told id h) p.flags.id_type p.topic_id in
     Note (note.Publish (who.Client id) (if may_ask h id then name else None) outcome) ∷ puback from p outcome
 
 -- but a repeat, which PUBREC answers alone

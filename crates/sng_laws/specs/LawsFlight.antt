@@ -17,7 +17,7 @@ use Rattle.sng_book.specs.declared.event.Event.TheVariants.{Up, Take}
 use Rattle.sng_book.specs.declared.out.Out.{Out}
 use Rattle.sng_book.specs.declared.row.Row.{Row}
 use Rattle.sng_history.specs.Links.{Wanted, open_ids}
-use Rattle.sng_laws.specs.Views.{policy_in_force, is_up}
+use Rattle.sng_laws.specs.Views.{last_policy, is_up}
 use Rattle.sng_laws.specs.ViewsLink.{Departure, listed, waiting, departures, wires_in}
 use Rattle.sng_laws.specs.ViewsFlight.{agains, allowed_again, in_flight, id_left, last_among, last_id}
 use Rattle.sng_laws.specs.ViewsStanding.{with_open, held_in, wanted}
@@ -58,7 +58,7 @@ EachReturns [] = Unit {0}
 EachReturns (row ∷ earlier) =
     EachReturns earlier
     × MatchBool (is_beginning row.event)
-    (AllReturn (policy_in_force earlier) (in_flight earlier) (agains row.outs)) (agains row.outs ≡ [])
+    (AllReturn (last_policy earlier) (in_flight earlier) (agains row.outs)) (agains row.outs ≡ [])
 
 -- ---- packet ids
 

@@ -39,7 +39,7 @@ use Rattle.sng_book.specs.declared.out.Out.TheVariants.{Send, Wire, Note}
 use Rattle.sng_book.specs.declared.row.Row.{Row}
 use Rattle.sng_ids.specs.declared.limits.TheConstants.{MAX_TOPIC_IDS}
 use Rattle.sng_laws.specs.LawsRules.{Rule, judged, receive_rules, IsDenial}
-use Rattle.sng_laws.specs.Views.{policy_in_force}
+use Rattle.sng_laws.specs.Views.{last_policy, policy_in_force}
 use Rattle.sng_laws.specs.ViewsClients.{phase_of, is_among, with_name, names_told, id_told}
 use Rattle.sng_laws.specs.ViewsFlight.{number_in}
 use Rattle.sng_laws.specs.ViewsHanding.{is_at_least_once, is_taking, is_away, brought_in, due_of}
@@ -167,7 +167,7 @@ handed_awake awake c ms =
 -- as the rows show it
 abbrev pub mailing : List Row → List ℕ → Address → Mailing
 mailing h id to = record {
-  policy = policy_in_force h;
+  policy = last_policy h;
   id = id;
   address = to;
   told = names_told id h;

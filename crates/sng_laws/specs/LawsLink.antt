@@ -16,7 +16,7 @@ use Rattle.sng_book.specs.declared.event.Event.TheVariants.{Up, Down, Take}
 use Rattle.sng_book.specs.declared.out.Out.{Out}
 use Rattle.sng_book.specs.declared.out.Out.TheVariants.{Send, Wire, Note}
 use Rattle.sng_book.specs.declared.row.Row.{Row}
-use Rattle.sng_laws.specs.Views.{policy_in_force}
+use Rattle.sng_laws.specs.Views.{last_policy}
 use Rattle.sng_laws.specs.ViewsLink.{Departure, publications, asked, waiting, left, lets_out, departures}
 use Rattle.sng_laws.specs.ViewsLink.{wires_in, sends_in}
 use Rattle.sng_laws.specs.LawsRules.{judged, publish_rules}
@@ -73,7 +73,7 @@ EachDeparts [] = Unit {0}
 EachDeparts (row ∷ earlier) =
     EachDeparts earlier
     × MatchBool (lets_out row.event earlier)
-    (AllDepart (policy_in_force earlier) (publications (waiting earlier)) (departures row.outs))
+    (AllDepart (last_policy earlier) (publications (waiting earlier)) (departures row.outs))
     (departures row.outs ≡ [])
 
 -- ---- nothing else

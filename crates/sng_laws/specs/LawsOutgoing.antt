@@ -19,7 +19,7 @@ use Rattle.sng_book.specs.declared.outcome.Outcome.TheVariants.{Allowed, Denied}
 use Rattle.sng_book.specs.declared.out.Out.{Out}
 use Rattle.sng_book.specs.declared.out.Out.TheVariants.{Wire, Note}
 use Rattle.sng_book.specs.declared.row.Row.{Row}
-use Rattle.sng_laws.specs.Views.{policy_in_force, is_up}
+use Rattle.sng_laws.specs.Views.{last_policy, is_up}
 use Rattle.sng_laws.specs.ViewsLink.{waiting}
 use Rattle.sng_laws.specs.ViewsFlight.{in_flight}
 use Rattle.sng_laws.specs.ViewsStanding.{held_in, wanted}
@@ -87,7 +87,7 @@ taken_outs policy held given (item.Ping ∷ items) =
 abbrev pub take_answer : List Row → List Out
 take_answer h =
     if is_up h
-    then taken_outs (policy_in_force h) (held_in h) (given_at (in_flight h) h) (waiting h)
+    then taken_outs (last_policy h) (held_in h) (given_at (in_flight h) h) (waiting h)
     else []
 
 -- ---- as a connection begins
@@ -109,7 +109,7 @@ still_allowed policy flights = filter (λ sent. is_allowed (publish_judged polic
 -- for each filter that stands for anybody, in the order in which each stood first
 abbrev pub up_answer : List Row → List Out
 up_answer h =
-    let policy = policy_in_force h in
+    let policy = last_policy h in
     flat_map (λ sent. again_outs sent (publish_judged policy sent.publication)) (in_flight h)
     ++ map (λ octets. Wire octets)
     (subscribes_with (given_at (still_allowed policy (in_flight h)) h) (map (λ w. w.filter) (wanted h)))

@@ -41,7 +41,7 @@ use Rattle.sng_book.specs.declared.out.Out.TheVariants.{Send, Note}
 use Rattle.sng_book.specs.declared.row.Row.{Row}
 use Rattle.sng_ids.specs.declared.limits.TheConstants.{MAX_TOPIC_IDS}
 use Rattle.sng_outbox.specs.declared.limits.TheConstants.{MAX_OUTBOX_ITEMS}
-use Rattle.sng_laws.specs.Views.{policy_in_force, is_up}
+use Rattle.sng_laws.specs.Views.{last_policy, is_up}
 use Rattle.sng_laws.specs.ViewsClients.{phase_of, is_at, accepted, is_among, tells_id, names_told, id_told}
 use Rattle.sng_laws.specs.ViewsLink.{waiting}
 use Rattle.sng_laws.specs.ViewsFlight.{number_in}
@@ -130,7 +130,7 @@ room_rules h id type text =
 -- what forbids a SUBSCRIBE of a client, in order
 abbrev pub subscribe_rules : List Row → List ℕ → TopicRequest → List Rule
 subscribe_rules h id r =
-    let policy = policy_in_force h in
+    let policy = last_policy h in
     let text = or_empty (filter_meant policy r.flags.id_type r.topic) in
     (not (is_active (phase_of id h)), Form OutOfTurn)
     ∷ (not (lists policy id), Grant (NoScope id))
@@ -173,7 +173,7 @@ subscribe_stranger from =
 abbrev pub subscribe_answer : List Row → Address → TopicRequest → List ℕ → List Out
 subscribe_answer h from r id =
     let outcome = judged (subscribe_rules h id r) in
-    let text = filter_meant (policy_in_force h) r.flags.id_type r.topic in
+    let text = filter_meant (last_policy h) r.flags.id_type r.topic in
     Note (note.Subscribe (who.Client id) (if may_ask h id then text else None) outcome)
     ∷ suback from (id_granted (names_told id h) r.flags.id_type r.topic) r outcome
     ∷ []
@@ -183,7 +183,7 @@ subscribe_answer h from r id =
 -- what forbids an UNSUBSCRIBE of a client, in order: it needs no grant
 abbrev pub unsubscribe_rules : List Row → List ℕ → TopicRequest → List Rule
 unsubscribe_rules h id r =
-    (not (is_active (phase_of id h)), Form OutOfTurn) ∷ form_rules (policy_in_force h) r
+    (not (is_active (phase_of id h)), Form OutOfTurn) ∷ form_rules (last_policy h) r
 
 -- the filter ends for the active client at the address
 abbrev pub stays_without : List Row → Address → List ℕ → Stays
@@ -204,7 +204,7 @@ unsubscribe_stranger from =
 abbrev pub unsubscribe_answer : List Row → Address → TopicRequest → List ℕ → List Out
 unsubscribe_answer h from r id =
     let outcome = judged (unsubscribe_rules h id r) in
-    let text = filter_meant (policy_in_force h) r.flags.id_type r.topic in
+    let text = filter_meant (last_policy h) r.flags.id_type r.topic in
     Note (note.Unsubscribe (who.Client id) (if is_active (phase_of id h) then text else None) outcome)
     ∷ (unsubscribed_note h from id text outcome ++ Send from (written (frame.UnsubscribeAck r.msg_id)) ∷ [])
 
@@ -227,7 +227,7 @@ pub record ShowsGap (policy : Policy) (id text gap : List ℕ) (outcome : Outcom
 -- matches may be received, and it is allowed where there is room
 abbrev pub CoveredExactly : List Row → List ℕ → TopicRequest → List ℕ → Type 0
 CoveredExactly h id r text =
-    let policy = policy_in_force h in
+    let policy = last_policy h in
     let outcome = judged (subscribe_rules h id r) in
     ((gap : List ℕ) × ShowsGap policy id text gap outcome)
     ⊎ (EachReceived policy id text × (outcome ≡ judged (room_rules h id r.flags.id_type text)))
@@ -237,8 +237,8 @@ CoveredExactly h id r text =
 abbrev pub SubscribesExactly : List Row → List ℕ → TopicRequest → Type 0
 SubscribesExactly h id r =
     (text : List ℕ) → may_ask h id ≡ true
-    → filter_meant (policy_in_force h) r.flags.id_type r.topic ≡ Some text
-    → HasFilters (scope_of (policy_in_force h).clients id) → CoveredExactly h id r text
+    → filter_meant (last_policy h) r.flags.id_type r.topic ≡ Some text
+    → HasFilters (scope_of (last_policy h).clients id) → CoveredExactly h id r text
 
 -- ---- what a replacement ends
 

@@ -20,7 +20,7 @@ use Rattle.sng_book.specs.declared.event.Event.TheVariants.{Datagram, Broker, Ti
 use Rattle.sng_book.specs.declared.out.Out.{Out}
 use Rattle.sng_book.specs.declared.out.Out.TheVariants.{Send, Wire, Note}
 use Rattle.sng_book.specs.declared.row.Row.{Row}
-use Rattle.sng_laws.specs.Views.{policy_in_force}
+use Rattle.sng_laws.specs.Views.{last_policy}
 use Rattle.sng_laws.specs.ViewsMessages.{Message as Spoken}
 use Rattle.sng_laws.specs.ViewsMessages.{Confirms}
 use Rattle.sng_laws.specs.ViewsMessages.{message_in, message_at, subscribe_in}
@@ -164,6 +164,6 @@ EachInTurn id [] = Unit {0}
 EachInTurn id (row ∷ earlier) =
     let rows = row ∷ earlier in
     EachInTurn id earlier
-    × AllInTurn (policy_in_force rows) (occasion_of row.event) id (due_of id rows) (message_at row.event)
+    × AllInTurn (last_policy rows) (occasion_of row.event) id (due_of id rows) (message_at row.event)
     row.outs
     (moment_at id row.event earlier)

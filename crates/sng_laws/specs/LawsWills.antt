@@ -26,7 +26,7 @@ use Rattle.sng_book.specs.declared.out.Out.{Out}
 use Rattle.sng_book.specs.declared.out.Out.TheVariants.{Send, Note}
 use Rattle.sng_book.specs.declared.row.Row.{Row}
 use Rattle.sng_history.specs.Causes.{Statement, StatesTopic, StatesMessage, UpdatesTopic, UpdatesMessage}
-use Rattle.sng_laws.specs.Views.{policy_in_force}
+use Rattle.sng_laws.specs.Views.{last_policy}
 use Rattle.sng_laws.specs.ViewsClients.{phase_of}
 use Rattle.sng_laws.specs.ViewsHanding.{waits_for}
 use Rattle.sng_laws.specs.ViewsWills.{stating_of, will_of}
@@ -77,7 +77,7 @@ topic_rules policy id (Some text) =
 abbrev pub will_rules : List Row → List ℕ → Statement → List Rule
 will_rules h id statement =
     (not (has_turn h id statement), Form OutOfTurn)
-    ∷ topic_rules (policy_in_force h) id (topic_of h id statement)
+    ∷ topic_rules (last_policy h) id (topic_of h id statement)
 
 -- the note names the topic where it was read: the client may ask, and it is a topic name
 abbrev pub is_read : Policy → List ℕ → Option (List ℕ) → Bool
@@ -86,7 +86,7 @@ is_read policy id (Some text) = lists policy id && is_name text
 
 abbrev pub topic_noted : List Row → List ℕ → Statement → Option (List ℕ)
 topic_noted h id statement =
-    if has_turn h id statement && is_read (policy_in_force h) id (topic_of h id statement)
+    if has_turn h id statement && is_read (last_policy h) id (topic_of h id statement)
     then topic_of h id statement else None
 
 -- ---- the row

@@ -30,3 +30,4 @@ pub mod LawsReached
 pub mod LawsSubscriptions
 pub mod LawsStanding
 pub mod LawsUpstream
+pub mod LawsBooks

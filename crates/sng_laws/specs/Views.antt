@@ -1,6 +1,7 @@
 -- What a reader of the book sees who looks back through its rows: the policy in force, the clock, and the
 -- broker's connection. A history is the list of its rows, the newest first.
 use Rattle.std.specs.Prelude.{ℕ, nat_le, Bool, true, false, List, [], ◌∷◌, ◌++◌, if◌then◌else◌}
+use Rattle.sng_grants.specs.Ends.{in_force}
 use Rattle.sng_grants.specs.declared.policy.Policy.{Policy}
 use Rattle.sng_book.specs.declared.event.Event.{Event}
 use Rattle.sng_book.specs.declared.event.Event.TheVariants.{Up, Down, Replace, Tick}
@@ -9,13 +10,13 @@ use Rattle.sng_book.specs.declared.out.Out.TheVariants.{Send, Wire, Note}
 use Rattle.sng_book.specs.declared.row.Row.{Row}
 
 -- the policy of the last replacement; before any, nothing is granted
-abbrev pub in_force_after : Event → Policy → Policy
-in_force_after (Replace policy) before = policy
-in_force_after other before = before
+abbrev pub policy_after : Event → Policy → Policy
+policy_after (Replace policy) before = policy
+policy_after other before = before
 
-abbrev pub policy_in_force : List Row → Policy
-policy_in_force [] = record { clients = []; sources = []; topics = [] }
-policy_in_force (row ∷ earlier) = in_force_after row.event (policy_in_force earlier)
+abbrev pub last_policy : List Row → Policy
+last_policy [] = record { clients = []; sources = []; topics = [] }
+last_policy (row ∷ earlier) = policy_after row.event (last_policy earlier)
 
 -- the clocks that were told, the newest first
 abbrev pub ticks_of : Event → List ℕ
@@ -33,6 +34,11 @@ greatest (n ∷ ns) = if nat_le (greatest ns) n then n else greatest ns
 
 abbrev pub clock_at : List Row → ℕ
 clock_at h = greatest (ticks h)
+
+-- the policy in force: that of the last replacement without the grants whose end the clock has reached. The
+-- plain rows of a book know no ends: in force in them is just the policy of the last replacement
+abbrev pub policy_in_force : List Row → Policy
+policy_in_force h = in_force (clock_at h) (last_policy h)
 
 -- what became of the broker's connection: the last Up or Down so far is an Up
 abbrev pub is_up_after : Event → Bool → Bool

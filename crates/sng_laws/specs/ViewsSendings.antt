@@ -13,7 +13,7 @@ use Rattle.sng_book.specs.declared.out.Out.{Out}
 use Rattle.sng_book.specs.declared.out.Out.TheVariants.{Send, Wire, Note}
 use Rattle.sng_book.specs.declared.row.Row.{Row}
 use Rattle.sng_history.specs.Requests.{id_in}
-use Rattle.sng_laws.specs.Views.{policy_in_force, clock_at}
+use Rattle.sng_laws.specs.Views.{last_policy, clock_at}
 use Rattle.sng_laws.specs.ViewsMessages.{Message, message_at, subscribe_in}
 use Rattle.sng_laws.specs.ViewsClients.{names_by, names_told, id_told}
 
@@ -66,5 +66,5 @@ abbrev pub last_of : List ℕ → List Row → Last
 last_of id [] = never
 last_of id (row ∷ earlier) =
     let rows = row ∷ earlier in
-    last_after (policy_in_force rows) (clock_at rows) (message_at row.event) id row.outs
+    last_after (last_policy rows) (clock_at rows) (message_at row.event) id row.outs
     (names_told id earlier) (last_of id earlier)

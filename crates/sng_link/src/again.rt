@@ -23,9 +23,9 @@ use crate::leaving::{packet_of, subscribed};
 use crate::step::{Step, undo};
 use mqtt_frames::encode_subscribe;
 use sng_book::{Decision, Out, Outs, OutsPair, Who};
-use sng_grants::Policy;
 use sng_history::exit;
 use sng_outbox::{Outbox, PacketIds, Publication};
+use sng_policy::InForce;
 use sng_text::{Qos, TopicFilter};
 use sng_wanted::Wanted;
 use std::alloc::{AllocError, Global};
@@ -35,7 +35,7 @@ use std::alloc::{AllocError, Global};
 /// before.
 pub fn begin(
     alloc: Global,
-    policy: &Policy,
+    policy: &InForce,
     outbox: &mut Outbox,
     ids: &mut PacketIds,
     wanted: &mut Wanted,
@@ -77,7 +77,7 @@ pub fn begin(
 /// has the packet ids of those that do not. After an `Err` a part of it may be there.
 fn judge(
     alloc: Global,
-    policy: &Policy,
+    policy: &InForce,
     outbox: &Outbox,
     outs: &mut Outs,
     log: &mut Vec<Step>,
@@ -170,7 +170,7 @@ fn subscribe_all(
 /// packet comes: whether it stays in flight. After an `Err` the note may be there.
 fn sent_again(
     alloc: Global,
-    policy: &Policy,
+    policy: &InForce,
     packet_id: u16,
     publication: &Publication,
     outs: &mut Outs,

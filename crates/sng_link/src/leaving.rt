@@ -21,9 +21,9 @@ use mqtt_frames::{
     encode_ping_request, encode_publish_ack, encode_subscribe, encode_unsubscribe, write_publish,
 };
 use sng_book::{Decision, Out, Outs, OutsPair, Who};
-use sng_grants::Policy;
 use sng_history::exit;
 use sng_outbox::{Item, Outbox, PacketIds, Publication};
+use sng_policy::InForce;
 use sng_text::{Octets, Qos, TopicFilter};
 use sng_wanted::Wanted;
 use std::alloc::{AllocError, Global};
@@ -33,7 +33,7 @@ use std::alloc::{AllocError, Global};
 /// has the steps that were taken so far.
 pub fn plan(
     alloc: Global,
-    policy: &Policy,
+    policy: &InForce,
     outbox: &Outbox,
     ids: &mut PacketIds,
     wanted: &mut Wanted,
@@ -108,7 +108,7 @@ pub fn subscribed(
 /// is the step by which it leaves. An `Err` is a failed allocation, and leaves a part of its outs.
 fn leaves(
     alloc: Global,
-    policy: &Policy,
+    policy: &InForce,
     wanted: &Wanted,
     item: &Item,
     next: u16,
@@ -203,7 +203,7 @@ fn unsubscribes(
 /// A publish leaves with the note of its judgement, and behind an allowed one its packet.
 fn forwarded(
     alloc: Global,
-    policy: &Policy,
+    policy: &InForce,
     publication: &Publication,
     next: u16,
     outs: &mut Outs,

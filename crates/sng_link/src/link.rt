@@ -18,9 +18,9 @@ use crate::again::begin;
 use crate::room::Room;
 use crate::taking::take;
 use sng_book::{Denial, Outcome, OutsPair, Place, RoomDenial};
-use sng_grants::Policy;
 use sng_history::PING_MS;
 use sng_outbox::{Item, MAX_IN_FLIGHT, MAX_OUTBOX_ITEMS, Outbox, PacketIds, Publication};
+use sng_policy::InForce;
 use sng_text::{Qos, TopicFilter};
 use sng_wanted::Wanted;
 use std::alloc::{AllocError, Global};
@@ -258,7 +258,7 @@ impl Link {
     pub fn begin(
         &mut self,
         alloc: Global,
-        policy: &Policy,
+        policy: &InForce,
         clock: u64,
     ) -> Result<OutsPair, AllocError>
         requires few { length self.old.wanted ≤ MAX_WANTED }
@@ -284,7 +284,7 @@ impl Link {
     /// allowed one of QoS 1 is in flight then (3.3). A SUBSCRIBE goes out where its filter is wanted, and is
     /// its open one then (3.8); an UNSUBSCRIBE where its filter is not (3.10). Each of them has the next
     /// packet id. An `Err` is a failed allocation, and nothing changes.
-    pub fn take(&mut self, alloc: Global, policy: &Policy) -> Result<OutsPair, AllocError>
+    pub fn take(&mut self, alloc: Global, policy: &InForce) -> Result<OutsPair, AllocError>
         requires few { length self.old.wanted ≤ MAX_WANTED }
         ensures outs { IfOk result (λ outs. outs
             ≡ leaving self.old self.old.waiting (exits_of policy.now self.old.waiting)) }

@@ -13,8 +13,8 @@ ghost use Rattle.sng_link.specs.Taking.{flight, flights};
 use crate::leaving::plan;
 use crate::step::{Step, undo};
 use sng_book::{Outs, OutsPair};
-use sng_grants::Policy;
 use sng_outbox::{Item, Outbox, PacketIds};
+use sng_policy::InForce;
 use sng_text::Qos;
 use sng_wanted::Wanted;
 use std::alloc::{AllocError, Global};
@@ -23,7 +23,7 @@ use std::alloc::{AllocError, Global};
 /// before.
 pub fn take(
     alloc: Global,
-    policy: &Policy,
+    policy: &InForce,
     outbox: &mut Outbox,
     ids: &mut PacketIds,
     wanted: &mut Wanted,

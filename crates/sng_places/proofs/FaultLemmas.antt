@@ -12,14 +12,17 @@ use Rattle.sng_text.specs.ClientIds.{client_id_fault}
 use Rattle.sng_text.specs.Ipv4.{ipv4_of}
 use Rattle.sng_text.specs.Texts.{filter_fault, name_fault}
 use Rattle.sng_text.specs.declared.fault.TextFault.{TextFault}
-use Rattle.sng_grants.specs.Sources.{with_scope}
+use Rattle.sng_grants.specs.Sources.{endless, with_grant}
 use Rattle.sng_grants.specs.Topics.{with_name}
 use Rattle.sng_grants.specs.declared.limits.TheConstants.{MAX_POLICY_CLIENTS, MAX_PAIRS, MAX_SOURCES}
 use Rattle.sng_grants.specs.declared.limits.TheConstants.{MAX_TOPICS}
+use Rattle.sng_grants.specs.declared.grant.Grant.{Grant}
 use Rattle.sng_grants.specs.declared.scope.Pair.{Pair}
 use Rattle.sng_scope.specs.Numerals.{topic_id_of}
-use Rattle.sng_scope.specs.Policies.{are_known, client_of, clients_of, clients_onto, is_known}
-use Rattle.sng_scope.specs.Policies.{is_policy_object, is_version_one, members_within, name_of_data, parts_of}
+use Rattle.sng_scope.specs.Grants.{are_grant_members, end_of, grant_by_members, grant_of_data}
+use Rattle.sng_scope.specs.Grants.{grant_of_object, is_grant_member, lasting_grant_of}
+use Rattle.sng_scope.specs.Policies.{are_known, client_of, clients_of, clients_onto, is_known, is_policy_object}
+use Rattle.sng_scope.specs.Policies.{is_version, may_end, members_within, name_of_data, parts_of}
 use Rattle.sng_scope.specs.Policies.{policy_of_data, sources_of, sources_onto, topics_of, topics_onto}
 use Rattle.sng_scope.specs.Scopes.{are_permissions, are_texts, is_text, says, pair_from, pair_of, pairs_of}
 use Rattle.sng_scope.specs.Scopes.{scope_of_items, text_and_array}
@@ -30,10 +33,11 @@ use Rattle.sng_scope.specs.declared.fault.PolicyFault.{PolicyFault}
 use Rattle.sng_scope.specs.declared.fault.PolicyFault.TheVariants as faults
 use Rattle.sng_places.specs.Flaws.{fault_of}
 use Rattle.sng_places.specs.Laws.{PlacesAreOfFaults, blamed, fault_at, forget}
-use Rattle.sng_places.specs.Places.{client_check, clients_check, clients_in, data_check, known_check}
-use Rattle.sng_places.specs.Places.{object_check, part_within, sources_check, sources_in, text_check}
-use Rattle.sng_places.specs.Places.{topic_check, topics_check, topics_in, unknown_of, unless, version_check}
-use Rattle.sng_places.specs.Places.{within}
+use Rattle.sng_places.specs.Places.{client_check, clients_check, clients_in, data_check, end_check}
+use Rattle.sng_places.specs.Places.{ending_check, grant_check, known_check, object_check}
+use Rattle.sng_places.specs.Places.{part_within, placed, sources_check, sources_in}
+use Rattle.sng_places.specs.Places.{text_check, topic_check, topics_check, topics_in, unknown_of, unless}
+use Rattle.sng_places.specs.Places.{version_check, within}
 use Rattle.sng_places.specs.Places as places
 use Rattle.sng_places.specs.ScopePlaces.{encoded_check, filter_by, items_check, no_text_from, or_stop}
 use Rattle.sng_places.specs.ScopePlaces.{other_from, pair_check, pairs_check, parts_check, permissions_by}
@@ -43,7 +47,9 @@ use Rattle.sng_places.specs.declared.location.Form.{Form}
 use Rattle.sng_places.specs.declared.location.Form.TheVariants as forms
 use Rattle.sng_places.specs.declared.location.Part.{Part}
 use Rattle.sng_places.specs.declared.location.Part.TheVariants as parts_of_a_policy
+use Rattle.sng_places.specs.declared.location.Location.{Location}
 use Rattle.sng_places.specs.declared.location.Location.TheVariants as all_places
+use Rattle.sng_places.specs.declared.location.Spot.{Spot}
 use Rattle.sng_places.specs.declared.location.Spot.TheVariants as spots
 use Rattle.sng_places.specs.declared.stop.ScopeStop.{ScopeStop}
 use Rattle.sng_places.specs.declared.stop.ScopeStop.TheVariants as scope_stops
@@ -91,6 +97,19 @@ assoc : {A B C : Type 0} (r : Result A PolicyFault) (f : A → Result B PolicyFa
     (g : B → Result C PolicyFault) → (r >>= f) >>= g ≡ r >>= (λ a. f a >>= g)
 assoc (Ok a) f g = refl
 assoc (Err e) f g = refl
+
+-- what has its shape, and what follows it
+abbrev shaped : Bool → Result Unit PolicyFault
+shaped b = cond b (Ok tt) (Err faults.Shape)
+
+with_shape : {A : Type 0} (b : Bool) (c : Result Unit Stop) (rest : Result Unit Stop)
+    (r : Result A PolicyFault)
+    → blamed fault_at c ≡ shaped b → blamed fault_at rest ≡ forget r
+    → blamed fault_at (c >>= (λ object. rest)) ≡ forget (cond b r (Err faults.Shape))
+with_shape true (Ok checked) rest r is k = k
+with_shape false (Ok checked) rest r is k = absurd (cc)
+with_shape true (Err stop) rest r is k = absurd (cc)
+with_shape false (Err stop) rest r is k = is
 
 -- ---- pairs
 
@@ -207,15 +226,59 @@ scope (object ms) = refl
 
 -- ---- members
 
-in_part : (part : Part) (name : List ℕ) (r : Result Unit ScopeStop)
-    → blamed fault_at (within part name r) ≡ blamed scope_fault r
-in_part part name (Ok checked) = refl
-in_part part name (Err (scope_stops.At found)) = refl
-in_part part name (Err scope_stops.Memory) = refl
+at_place : (place : Form → Spot → Location) (r : Result Unit ScopeStop)
+    → blamed fault_at (placed place r) ≡ blamed scope_fault r
+at_place place (Ok checked) = refl
+at_place place (Err (scope_stops.At found)) = refl
+at_place place (Err scope_stops.Memory) = refl
 
-scope_in : (part : Part) (name : List ℕ) (d : Data)
-    → blamed fault_at (within part name (scope_check d)) ≡ forget (scope_of_data d)
-scope_in part name d = in_part part name (scope_check d) ∙ scope d
+lasting : (part : Part) (name : List ℕ) (d : Data)
+    → blamed fault_at (within part name (scope_check d)) ≡ forget (lasting_grant_of d)
+lasting part name d =
+    at_place (all_places.Value part name) (scope_check d) ∙ scope d ∙ sym (made (scope_of_data d) endless)
+
+unless_shaped : {F : Type 0} (o : Option F) (stop : F → Stop) → ((f : F) → fault_at (stop f) ≡ faults.Shape)
+    → blamed fault_at (unless o stop) ≡ shaped (is_none o)
+unless_shaped None stop is = refl
+unless_shaped (Some f) stop is = ap Err (is f)
+
+are_grant_members-none : (ms : Members) → are_grant_members ms ≡ is_none (places.other_of ms)
+are_grant_members-none no_members = refl
+are_grant_members-none (member name d ms) =
+    found (is_grant_member name) (are_grant_members ms) (places.other_of ms) name (are_grant_members-none ms)
+
+end_by : (part : Part) (name : List ℕ) (o : Option ℕ)
+    → blamed fault_at (ok_or o (places.stop_at (all_places.End part name) flaws.NotEnd) >>= (λ end. Ok tt))
+    ≡ forget (ok_or o faults.Shape >>= (λ end. Ok (Some end)))
+end_by part name None = refl
+end_by part name (Some end) = refl
+
+end_in : (part : Part) (name : List ℕ) (o : Option Data)
+    → blamed fault_at (end_check part name o) ≡ forget (end_of o)
+end_in part name None = refl
+end_in part name (Some d) = end_by part name (option_and_then as_u64 (as_number d))
+
+members_of : (part : Part) (name : List ℕ) (ms : Members)
+    → blamed fault_at (unless (places.other_of ms)
+    (λ other. places.stop_at (all_places.Other part name other) flaws.UnknownMember))
+    ≡ shaped (are_grant_members ms)
+members_of part name ms =
+    rw (are_grant_members-none ms) (unless_shaped (places.other_of ms) _ (λ other. refl))
+
+ending : (part : Part) (name : List ℕ) (d : Data) (o : Option Members)
+    → blamed fault_at (ending_check part name o d) ≡ forget (grant_by_members o d)
+ending part name d None = lasting part name d
+ending part name d (Some ms) =
+    with_shape (are_grant_members ms) _ _ (grant_of_object d) (members_of part name ms)
+    (chain fault_at (end_of (get (codes "exp") d)) _ (end_check part name (get (codes "exp") d)) _
+    (end_in part name (get (codes "exp") d))
+    (λ until. taken fault_at (get (codes "scope") d) faults.Shape _ _ _ refl
+    (λ s. at_place (all_places.Scope part name) (scope_check s) ∙ scope s ∙ sym (made (scope_of_data s) _))))
+
+grant : (ends : Bool) (part : Part) (name : List ℕ) (d : Data)
+    → blamed fault_at (grant_check ends part name d) ≡ forget (grant_of_data ends d)
+grant true part name d = ending part name d (as_object d)
+grant false part name d = lasting part name d
 
 unless_by : {A F : Type 0} (o : Option F) (a : A) (e : PolicyFault) (stop : F → Stop)
     → ((f : F) → fault_at (stop f) ≡ e)
@@ -226,23 +289,23 @@ unless_by (Some f) a e stop is = ap Err (is f)
 client : (name : List ℕ) → blamed fault_at (client_check name) ≡ forget (client_of name)
 client name = unless_by (client_id_fault name) name faults.BadClientId _ (λ f. refl)
 
-clients : (ms : Members) (listed : List (List ℕ × List Pair))
-    → blamed fault_at (clients_check ms) ≡ forget (clients_onto listed ms)
-clients no_members listed = refl
-clients (member name d ms) listed =
+clients : (ends : Bool) (ms : Members) (listed : List (List ℕ × Grant))
+    → blamed fault_at (clients_check ends ms) ≡ forget (clients_onto ends listed ms)
+clients ends no_members listed = refl
+clients ends (member name d ms) listed =
     chain fault_at (client_of name) _ (client_check name) _ (client name)
-    (λ key. chain fault_at (scope_of_data d) _ (within parts_of_a_policy.Clients name (scope_check d))
-    (clients_check ms) (scope_in parts_of_a_policy.Clients name d)
-    (λ granted. clients ms (with_scope listed key granted)))
+    (λ key. chain fault_at (grant_of_data ends d) _ (grant_check ends parts_of_a_policy.Clients name d)
+    (clients_check ends ms) (grant ends parts_of_a_policy.Clients name d)
+    (λ granted. clients ends ms (with_grant listed key granted)))
 
-sources : (ms : Members) (listed : List (List ℕ × List Pair))
-    → blamed fault_at (sources_check ms) ≡ forget (sources_onto listed ms)
-sources no_members listed = refl
-sources (member name d ms) listed =
+sources : (ends : Bool) (ms : Members) (listed : List (List ℕ × Grant))
+    → blamed fault_at (sources_check ends ms) ≡ forget (sources_onto ends listed ms)
+sources ends no_members listed = refl
+sources ends (member name d ms) listed =
     taken fault_at (ipv4_of name) faults.BadSource _ _ _ refl
-    (λ key. chain fault_at (scope_of_data d) _ (within parts_of_a_policy.Sources name (scope_check d))
-    (sources_check ms) (scope_in parts_of_a_policy.Sources name d)
-    (λ granted. sources ms (with_scope listed key granted)))
+    (λ key. chain fault_at (grant_of_data ends d) _ (grant_check ends parts_of_a_policy.Sources name d)
+    (sources_check ends ms) (grant ends parts_of_a_policy.Sources name d)
+    (λ granted. sources ends ms (with_grant listed key granted)))
 
 topic : (name : List ℕ) (d : Data) → blamed fault_at (topic_check name d) ≡ forget (name_of_data d)
 topic name d =
@@ -281,16 +344,17 @@ part_by part most d next rest k = by_object (as_object d)
     by_object None = refl
     by_object (Some ms) = by_limit (ltb most (members_len ms)) ms _ refl
 
-clients_part : (o : Option Data) → blamed fault_at (clients_in o) ≡ forget (clients_of o)
-clients_part None = refl
-clients_part (Some d) =
-    part_by parts_of_a_policy.Clients MAX_POLICY_CLIENTS d (clients_onto []) clients_check
-    (λ ms. clients ms [])
+clients_part : (ends : Bool) (o : Option Data) → blamed fault_at (clients_in ends o) ≡ forget (clients_of ends o)
+clients_part ends None = refl
+clients_part ends (Some d) =
+    part_by parts_of_a_policy.Clients MAX_POLICY_CLIENTS d (clients_onto ends []) (clients_check ends)
+    (λ ms. clients ends ms [])
 
-sources_part : (o : Option Data) → blamed fault_at (sources_in o) ≡ forget (sources_of o)
-sources_part None = refl
-sources_part (Some d) =
-    part_by parts_of_a_policy.Sources MAX_SOURCES d (sources_onto []) sources_check (λ ms. sources ms [])
+sources_part : (ends : Bool) (o : Option Data) → blamed fault_at (sources_in ends o) ≡ forget (sources_of ends o)
+sources_part ends None = refl
+sources_part ends (Some d) =
+    part_by parts_of_a_policy.Sources MAX_SOURCES d (sources_onto ends []) (sources_check ends)
+    (λ ms. sources ends ms [])
 
 topics_part : (o : Option Data) → blamed fault_at (topics_in o) ≡ forget (topics_of o)
 topics_part None = refl
@@ -304,58 +368,52 @@ are_known-none no_members = refl
 are_known-none (member name d ms) =
     found (is_known name) (are_known ms) (unknown_of ms) name (are_known-none ms)
 
-abbrev shaped : Bool → Result Unit PolicyFault
-shaped b = cond b (Ok tt) (Err faults.Shape)
+abbrev is_version_in : Option Data → Bool
+is_version_in g =
+    unwrap_or (option_map (λ n. (n == 1) || (n == 2)) (option_and_then as_u64 (option_and_then as_number g)))
+    false
 
-abbrev is_one : Option Data → Bool
-is_one g = unwrap_or (option_map (λ n. n == 1) (option_and_then as_u64 (option_and_then as_number g))) false
+abbrev version_or : Bool → Result Unit Stop
+version_or b = cond b (Ok tt) (Err (places.stop_at all_places.Version flaws.OtherVersion))
 
-abbrev one_or : Bool → Result Unit Stop
-one_or b = cond b (Ok tt) (Err (places.stop_at all_places.Version flaws.OtherVersion))
-
-known_by : (one : Bool) (o : Option (List ℕ))
-    → blamed fault_at (one_or one >>=
-    (λ version. unless o (λ name. places.stop_at (all_places.Member name) flaws.UnknownMember)))
-    ≡ shaped (one && is_none o)
+known_by : (version : Bool) (o : Option (List ℕ))
+    → blamed fault_at (version_or version >>=
+    (λ checked. unless o (λ name. places.stop_at (all_places.Member name) flaws.UnknownMember)))
+    ≡ shaped (version && is_none o)
 known_by false o = refl
 known_by true None = refl
 known_by true (Some name) = refl
 
 version_by : (g : Option Data) (ms : Members)
     → blamed fault_at ((ok_or g (places.stop_at all_places.Whole flaws.NoVersion) >>=
-    (λ version. one_or (is_one g))) >>= (λ version. known_check ms)) ≡ shaped (is_one g && are_known ms)
+    (λ version. version_or (is_version_in g))) >>= (λ version. known_check ms))
+    ≡ shaped (is_version_in g && are_known ms)
 version_by None ms = refl
-version_by (Some d) ms = rw (are_known-none ms) (known_by (is_one (Some d)) (unknown_of ms))
+version_by (Some d) ms = rw (are_known-none ms) (known_by (is_version_in (Some d)) (unknown_of ms))
 
 object_by : (d : Data) (o : Option Members)
     → blamed fault_at (ok_or o (places.stop_at all_places.Whole flaws.NotObject) >>=
     (λ ms. version_check d >>= (λ version. known_check ms)))
-    ≡ shaped (is_version_one d && unwrap_or (option_map are_known o) false)
-object_by d None = none (is_version_one d)
+    ≡ shaped (is_version d && unwrap_or (option_map are_known o) false)
+object_by d None = none (is_version d)
   where
     none : (b : Bool) → Err faults.Shape ≡ shaped (b && false)
     none true = refl
     none false = refl
 object_by d (Some ms) = version_by (get (codes "version") d) ms
 
-with_shape : {A : Type 0} (b : Bool) (c : Result Unit Stop) (rest : Result Unit Stop)
-    (r : Result A PolicyFault)
-    → blamed fault_at c ≡ shaped b → blamed fault_at rest ≡ forget r
-    → blamed fault_at (c >>= (λ object. rest)) ≡ forget (cond b r (Err faults.Shape))
-with_shape true (Ok checked) rest r is k = k
-with_shape false (Ok checked) rest r is k = absurd (cc)
-with_shape true (Err stop) rest r is k = absurd (cc)
-with_shape false (Err stop) rest r is k = is
-
 all_parts : (d : Data) → blamed fault_at
-    (clients_in (get (codes "clients") d) >>=
-    (λ clients. sources_in (get (codes "sources") d) >>= (λ sources. topics_in (get (codes "topics") d))))
+    (clients_in (may_end d) (get (codes "clients") d) >>=
+    (λ clients. sources_in (may_end d) (get (codes "sources") d) >>=
+    (λ sources. topics_in (get (codes "topics") d))))
     ≡ forget (parts_of d)
 all_parts d =
-    chain fault_at (clients_of (get (codes "clients") d)) _ (clients_in (get (codes "clients") d)) _
-    (clients_part (get (codes "clients") d))
-    (λ a. chain fault_at (sources_of (get (codes "sources") d)) _ (sources_in (get (codes "sources") d))
-    (topics_in (get (codes "topics") d)) (sources_part (get (codes "sources") d))
+    let ends : Bool = may_end d in
+    chain fault_at (clients_of ends (get (codes "clients") d)) _ (clients_in ends (get (codes "clients") d)) _
+    (clients_part ends (get (codes "clients") d))
+    (λ a. chain fault_at (sources_of ends (get (codes "sources") d)) _
+    (sources_in ends (get (codes "sources") d)) (topics_in (get (codes "topics") d))
+    (sources_part ends (get (codes "sources") d))
     (λ b. topics_part (get (codes "topics") d) ∙ sym (made (topics_of (get (codes "topics") d)) _)))
 
 whole : (d : Data) → blamed fault_at (data_check d) ≡ forget (policy_of_data d)

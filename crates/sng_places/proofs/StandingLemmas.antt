@@ -1,5 +1,5 @@
 -- Each value that is tested stands at the place of its test.
-use Rattle.std.proofs.Common.{◌≡◌, ℕ, suc, ◌+◌, inl, inr, List, [], ◌∷◌, ◌++◌, Option, Some, None}
+use Rattle.std.proofs.Common.{◌≡◌, ℕ, suc, Bool, true, false, ◌+◌, inl, inr, List, [], ◌∷◌, ◌++◌, Option, Some, None}
 use Rattle.std.proofs.Common.{option_and_then, Result, Ok, Err, All, codes, refl, ap, ◌∙◌, arith}
 use Rattle.std.proofs.lemmas.List.Elements.{All-nil, All-cons, All-append}
 use Rattle.serde_json.specs.Data.{Data, null, boolean, number, string, array, object, Items, no_items, item}
@@ -7,13 +7,15 @@ use Rattle.serde_json.specs.Data.{Members, no_members, member}
 use Rattle.serde_json.specs.Find.{at, get, get_item}
 use Rattle.sng_grants.specs.declared.limits.TheConstants.{MAX_POLICY_CLIENTS, MAX_PAIRS, MAX_SOURCES}
 use Rattle.sng_grants.specs.declared.limits.TheConstants.{MAX_TOPICS}
+use Rattle.sng_scope.specs.Policies.{may_end}
 use Rattle.sng_scope.specs.declared.fault.PolicyFault.{PolicyFault}
-use Rattle.sng_places.specs.Order.{Rule, HasVersion, HoldsJson, IsArray, IsAtMost, IsClient, IsEncoded}
-use Rattle.sng_places.specs.Order.{IsFilter, IsKnown, IsObject, IsOne, IsPair, IsPermission, IsScope}
-use Rattle.sng_places.specs.Order.{IsSource, IsText, IsTopic, IsTopicId, Test, array_tests, each_test}
-use Rattle.sng_places.specs.Order.{held_by, held_tests, items_in, known_tests, members_in, members_tests}
-use Rattle.sng_places.specs.Order.{pair_tests, pairs_tests, part_tests, scope_tests, test, topic_tests}
-use Rattle.sng_places.specs.Order.{version_tests, written_tests}
+use Rattle.sng_places.specs.Order.{Rule, HasScope, HasVersion, HoldsJson, IsArray, IsAtMost, IsClient}
+use Rattle.sng_places.specs.Order.{IsEncoded, IsEnd, IsFilter, IsGrantMember, IsKnown, IsObject, IsPair}
+use Rattle.sng_places.specs.Order.{IsPermission, IsScope, IsSource, IsText, IsTopic, IsTopicId, IsVersion}
+use Rattle.sng_places.specs.Order.{Test, array_tests, each_test, end_tests, ending_tests, grant_tests}
+use Rattle.sng_places.specs.Order.{held_by, held_tests, inner_tests, items_in, known_tests, members_in}
+use Rattle.sng_places.specs.Order.{members_tests, other_tests, pair_tests, pairs_tests, part_tests}
+use Rattle.sng_places.specs.Order.{scope_tests, test, topic_tests, version_tests, written_tests}
 use Rattle.sng_places.specs.Standing.{HasMember, IsListed, IsWritten, Stands, ValuesStand, name_of, value_at}
 use Rattle.sng_places.specs.declared.location.Form.{Form}
 use Rattle.sng_places.specs.declared.location.Form.TheVariants.{Plain, Encoded}
@@ -166,33 +168,98 @@ scope d place e written =
     one_more d (test (place Plain Whole) IsScope e) (written_tests place e)
     (written Plain e refl Whole e refl) (in_form d place e written)
 
-topic : (d : Data) (place : Form → Spot → Location) (e : Data) → Written d place e
-    → Standing d (topic_tests place e)
-topic d place e written =
-    let here : Stands d (place Plain Whole) e = written Plain e refl Whole e refl in
-    let named : Test = test (place Plain Whole) IsTopic e in
-    one_more d (test (place Plain Whole) IsText e) (named ∷ []) here (one_more d named [] here (nothing d))
+-- ---- the value of a member
+
+-- the spots of the value of a member
+spots_of_member : (d : Data) (part : Part) (name : List ℕ) (e : Data) → IsListed d part name e
+    → Written d (places.Value part name) e
+spots_of_member d part name e here form w written spot v is = (e, (here, (w, (written, is))))
+
+-- the value of a member itself
+whole : (d : Data) (part : Part) (name : List ℕ) (e : Data) → IsListed d part name e
+    → Stands d (places.Value part name Plain Whole) e
+whole d part name e here = (e, (here, (e, (refl, refl))))
+
+topic : (d : Data) (part : Part) (name : List ℕ) (e : Data) → IsListed d part name e
+    → Standing d (topic_tests part name e)
+topic d part name e here =
+    let stands : Stands d (places.Value part name Plain Whole) e = whole d part name e here in
+    let named : Test = test (places.Value part name Plain Whole) IsTopic e in
+    one_more d (test (places.Value part name Plain Whole) IsText e) (named ∷ []) stands
+    (one_more d named [] stands (nothing d))
+
+written_scope : (d : Data) (part : Part) (name : List ℕ) (e : Data) → IsListed d part name e
+    → Standing d (scope_tests (places.Value part name) e)
+written_scope d part name e here = scope d (places.Value part name) e (spots_of_member d part name e here)
+
+-- ---- an object of a scope and its end
+
+others_of : (d : Data) (part : Part) (name : List ℕ) (e : Data) → IsListed d part name e → (ms : Members)
+    → ((other : List ℕ) (w : Data) → HasMember ms other w → HasMember (members_in e) other w)
+    → Standing d (other_tests part name ms)
+others_of d part name e here no_members has = nothing d
+others_of d part name e here (member other w ms) has =
+    one_more d (test (places.Other part name other) IsGrantMember (string other)) (other_tests part name ms)
+    (e, (here, (refl, (w, has other w (inl (refl, refl))))))
+    (others_of d part name e here ms (λ more x is. has more x (inr is)))
+
+end_of : (d : Data) (part : Part) (name : List ℕ) (e : Data) → IsListed d part name e → (o : Option Data)
+    → get (codes "exp") e ≡ o → Standing d (end_tests part name o)
+end_of d part name e here None is = nothing d
+end_of d part name e here (Some v) is =
+    one_more d (test (places.End part name) IsEnd v) [] (e, (here, is)) (nothing d)
+
+inner_of : (d : Data) (part : Part) (name : List ℕ) (e : Data) → IsListed d part name e → (o : Option Data)
+    → get (codes "scope") e ≡ o → Standing d (inner_tests part name o)
+inner_of d part name e here None is = nothing d
+inner_of d part name e here (Some s) is =
+    scope d (places.Scope part name) s
+    (λ form w written spot v at_spot. (e, (here, (s, (is, (w, (written, at_spot)))))))
+
+object_of : (d : Data) (part : Part) (name : List ℕ) (ms : Members) → IsListed d part name (object ms)
+    → Standing d (ending_tests part name (Some ms) (object ms))
+object_of d part name ms here =
+    let ends : List Test = end_tests part name (get (codes "exp") (object ms)) in
+    let inner : List Test = inner_tests part name (get (codes "scope") (object ms)) in
+    let has : Test = test (places.Value part name Plain Whole) HasScope (object ms) in
+    both d (other_tests part name ms) (ends ++ (has ∷ inner))
+    (others_of d part name (object ms) here ms (λ other w is. is))
+    (both d ends (has ∷ inner) (end_of d part name (object ms) here (get (codes "exp") (object ms)) refl)
+    (one_more d has inner (whole d part name (object ms) here)
+    (inner_of d part name (object ms) here (get (codes "scope") (object ms)) refl)))
+
+grant : (d : Data) (ends : Bool) (part : Part) (name : List ℕ) (e : Data) → IsListed d part name e
+    → Standing d (grant_tests ends part name e)
+grant d false part name e here = written_scope d part name e here
+grant d true part name (object ms) here = object_of d part name ms here
+grant d true part name null here = written_scope d part name null here
+grant d true part name (boolean b) here = written_scope d part name (boolean b) here
+grant d true part name (number n) here = written_scope d part name (number n) here
+grant d true part name (string text) here = written_scope d part name (string text) here
+grant d true part name (array ds) here = written_scope d part name (array ds) here
 
 -- ---- members and parts
 
 abbrev Tests : Type 0
-Tests = (Form → Spot → Location) → Data → List Test
+Tests = Part → List ℕ → Data → List Test
 
-members : (d : Data) (part : Part) (rule : Rule) (tests : Tests)
-    → ((place : Form → Spot → Location) (e : Data) → Written d place e → Standing d (tests place e))
+-- the tests of the value of each member of the part
+abbrev OfMembers : Data → Part → Tests → Type 0
+OfMembers d part tests =
+    (name : List ℕ) (e : Data) → IsListed d part name e → Standing d (tests part name e)
+
+members : (d : Data) (part : Part) (rule : Rule) (tests : Tests) → OfMembers d part tests
     → (ms : Members) → ((name : List ℕ) (e : Data) → HasMember ms name e → IsListed d part name e)
     → Standing d (members_tests part rule tests ms)
 members d part rule tests stand no_members listed = nothing d
 members d part rule tests stand (member name e ms) listed =
     let here : IsListed d part name e = listed name e (inl (refl, refl)) in
     one_more d (test (places.Name part name) rule (string name))
-    (tests (places.Value part name) e ++ members_tests part rule tests ms) (refl, (e, here))
-    (both d (tests (places.Value part name) e) (members_tests part rule tests ms)
-    (stand (places.Value part name) e (λ form w written spot v is. (e, (here, (w, (written, is))))))
+    (tests part name e ++ members_tests part rule tests ms) (refl, (e, here))
+    (both d (tests part name e) (members_tests part rule tests ms) (stand name e here)
     (members d part rule tests stand ms (λ other x has. listed other x (inr has))))
 
-in_part : (d : Data) (part : Part) (most : ℕ) (rule : Rule) (tests : Tests)
-    → ((place : Form → Spot → Location) (e : Data) → Written d place e → Standing d (tests place e))
+in_part : (d : Data) (part : Part) (most : ℕ) (rule : Rule) (tests : Tests) → OfMembers d part tests
     → (o : Option Data) → get (name_of part) d ≡ o → Standing d (part_tests part most rule tests o)
 in_part d part most rule tests stand None is = nothing d
 in_part d part most rule tests stand (Some p) is =
@@ -204,7 +271,7 @@ in_part d part most rule tests stand (Some p) is =
 
 version : (d : Data) (o : Option Data) → get (codes "version") d ≡ o → Standing d (version_tests o)
 version d None is = nothing d
-version d (Some v) is = one_more d (test places.Version IsOne v) [] is (nothing d)
+version d (Some v) is = one_more d (test places.Version IsVersion v) [] is (nothing d)
 
 known : (d : Data) (ms : Members)
     → ((name : List ℕ) (e : Data) → HasMember ms name e → HasMember (members_in d) name e)
@@ -216,9 +283,9 @@ known d (member name e ms) has =
 
 pub values_stand : ValuesStand
 values_stand d =
-    let clients : List Test = part_tests Clients MAX_POLICY_CLIENTS IsClient scope_tests (get
-    (codes "clients") d) in
-    let sources : List Test = part_tests Sources MAX_SOURCES IsSource scope_tests (get (codes "sources") d) in
+    let tests : Tests = grant_tests (may_end d) in
+    let clients : List Test = part_tests Clients MAX_POLICY_CLIENTS IsClient tests (get (codes "clients") d) in
+    let sources : List Test = part_tests Sources MAX_SOURCES IsSource tests (get (codes "sources") d) in
     let topics : List Test = part_tests Topics MAX_TOPICS IsTopicId topic_tests (get (codes "topics") d) in
     let versions : List Test = version_tests (get (codes "version") d) in
     let names : List Test = known_tests (members_in d) in
@@ -228,7 +295,8 @@ values_stand d =
     (both d versions (names ++ (clients ++ (sources ++ topics))) (version d (get (codes "version") d) refl)
     (both d names (clients ++ (sources ++ topics)) (known d (members_in d) (λ name e has. has))
     (both d clients (sources ++ topics)
-    (in_part d Clients MAX_POLICY_CLIENTS IsClient scope_tests (scope d) (get (codes "clients") d) refl)
-    (both d sources topics (in_part d Sources MAX_SOURCES IsSource scope_tests (scope d)
+    (in_part d Clients MAX_POLICY_CLIENTS IsClient tests (grant d (may_end d) Clients)
+    (get (codes "clients") d) refl)
+    (both d sources topics (in_part d Sources MAX_SOURCES IsSource tests (grant d (may_end d) Sources)
     (get (codes "sources") d) refl)
-    (in_part d Topics MAX_TOPICS IsTopicId topic_tests (topic d) (get (codes "topics") d) refl))))))
+    (in_part d Topics MAX_TOPICS IsTopicId topic_tests (topic d Topics) (get (codes "topics") d) refl))))))

@@ -3,7 +3,7 @@ use Rattle.sng_scope.specs.declared.fault.PolicyFault.{PolicyFault}
 use Rattle.sng_scope.specs.declared.fault.PolicyFault.TheVariants as faults
 use Rattle.sng_places.specs.declared.flaw.Flaw.{Flaw}
 use Rattle.sng_places.specs.declared.flaw.Flaw.TheVariants.{NotJson, NotObject, NoVersion, OtherVersion}
-use Rattle.sng_places.specs.declared.flaw.Flaw.TheVariants.{UnknownMember, NotScope, NotPair, NotArray}
+use Rattle.sng_places.specs.declared.flaw.Flaw.TheVariants.{UnknownMember, NoScope, NotEnd, NotScope, NotPair, NotArray}
 use Rattle.sng_places.specs.declared.flaw.Flaw.TheVariants.{NotText, Base64, NotEncodedJson, Filter}
 use Rattle.sng_places.specs.declared.flaw.Flaw.TheVariants.{Permission, ClientId, Source, TopicId, TopicName}
 use Rattle.sng_places.specs.declared.flaw.Flaw.TheVariants.{TooMany}
@@ -14,6 +14,8 @@ fault_of NotObject = faults.Shape
 fault_of NoVersion = faults.Shape
 fault_of OtherVersion = faults.Shape
 fault_of UnknownMember = faults.Shape
+fault_of NoScope = faults.Shape
+fault_of NotEnd = faults.Shape
 fault_of NotScope = faults.Shape
 fault_of NotPair = faults.Shape
 fault_of NotArray = faults.Shape

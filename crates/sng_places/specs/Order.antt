@@ -13,7 +13,8 @@ use Rattle.sng_text.specs.Texts.{filter_fault, name_fault}
 use Rattle.sng_grants.specs.declared.limits.TheConstants.{MAX_POLICY_CLIENTS, MAX_PAIRS, MAX_SOURCES}
 use Rattle.sng_grants.specs.declared.limits.TheConstants.{MAX_TOPICS}
 use Rattle.sng_scope.specs.Numerals.{topic_id_of}
-use Rattle.sng_scope.specs.Policies.{is_known}
+use Rattle.sng_scope.specs.Grants.{is_grant_member}
+use Rattle.sng_scope.specs.Policies.{is_known, may_end}
 use Rattle.sng_scope.specs.Scopes.{says}
 use Rattle.sng_scope.specs.Steps.{◌>>=◌}
 use Rattle.sng_scope.specs.Texts.{bytes_of, value_of}
@@ -38,12 +39,15 @@ use Rattle.sng_places.specs.declared.stop.Stop.{Stop}
 pub data Rule : Type 0 where
   IsObject : Rule
   HasVersion : Rule
-  IsOne : Rule
+  IsVersion : Rule
   IsKnown : Rule
   IsAtMost : ℕ → Rule
   IsClient : Rule
   IsSource : Rule
   IsTopicId : Rule
+  IsGrantMember : Rule
+  HasScope : Rule
+  IsEnd : Rule
   IsScope : Rule
   IsEncoded : Rule
   HoldsJson : Rule
@@ -83,9 +87,10 @@ count_of (string text) = 0
 abbrev pub too_many : ℕ → ℕ → Option Flaw
 too_many most count = if nat_lt most count then Some (flaws.TooMany count most) else None
 
--- the whole number 1
-abbrev pub is_one : Data → Bool
-is_one d = unwrap_or (option_map (λ n. n == 1) (option_and_then as_u64 (as_number d))) false
+-- the whole number 1 or 2
+abbrev pub is_one_or_two : Data → Bool
+is_one_or_two d =
+    unwrap_or (option_map (λ n. (n == 1) || (n == 2)) (option_and_then as_u64 (as_number d))) false
 
 abbrev pub scope_flaw : Data → Option Flaw
 scope_flaw (array ds) = None
@@ -103,12 +108,15 @@ held_by text = bytes_of text >>= value_of
 abbrev pub flaw_of : Rule → Data → Option Flaw
 flaw_of IsObject d = unless_some (as_object d) flaws.NotObject
 flaw_of HasVersion d = unless_some (get (codes "version") d) flaws.NoVersion
-flaw_of IsOne d = unless_true (is_one d) flaws.OtherVersion
+flaw_of IsVersion d = unless_true (is_one_or_two d) flaws.OtherVersion
 flaw_of IsKnown d = unless_true (is_known (text_of d)) flaws.UnknownMember
 flaw_of (IsAtMost most) d = too_many most (count_of d)
 flaw_of IsClient d = option_map flaws.ClientId (client_id_fault (text_of d))
 flaw_of IsSource d = unless_some (ipv4_of (text_of d)) flaws.Source
 flaw_of IsTopicId d = unless_some (topic_id_of (text_of d)) flaws.TopicId
+flaw_of IsGrantMember d = unless_true (is_grant_member (text_of d)) flaws.UnknownMember
+flaw_of HasScope d = unless_some (get (codes "scope") d) flaws.NoScope
+flaw_of IsEnd d = unless_some (option_and_then as_u64 (as_number d)) flaws.NotEnd
 flaw_of IsScope d = scope_flaw d
 flaw_of IsEncoded d = unless_read (bytes_of (text_of d)) (flaws.Base64 (text_of d))
 flaw_of HoldsJson d = unless_read (held_by (text_of d)) (flaws.NotEncodedJson (text_of d))
@@ -192,18 +200,45 @@ scope_tests at d = test (at Plain Whole) IsScope d ∷ written_tests at d
 
 -- ---- the tests of a policy
 
-abbrev pub topic_tests : (Form → Spot → Location) → Data → List Test
-topic_tests at d = test (at Plain Whole) IsText d ∷ test (at Plain Whole) IsTopic d ∷ []
+abbrev pub topic_tests : Part → List ℕ → Data → List Test
+topic_tests part name d =
+    test (places.Value part name Plain Whole) IsText d ∷ test (places.Value part name Plain Whole) IsTopic d ∷ []
+
+-- an object of a scope and its end: its members' names, the end, that there is a scope, and then the scope
+abbrev pub other_tests : Part → List ℕ → Members → List Test
+other_tests part name no_members = []
+other_tests part name (member other d ms) =
+    test (places.Other part name other) IsGrantMember (string other) ∷ other_tests part name ms
+
+abbrev pub end_tests : Part → List ℕ → Option Data → List Test
+end_tests part name None = []
+end_tests part name (Some d) = test (places.End part name) IsEnd d ∷ []
+
+abbrev pub inner_tests : Part → List ℕ → Option Data → List Test
+inner_tests part name None = []
+inner_tests part name (Some d) = scope_tests (places.Scope part name) d
+
+abbrev pub ending_tests : Part → List ℕ → Option Members → Data → List Test
+ending_tests part name None d = scope_tests (places.Value part name) d
+ending_tests part name (Some ms) d =
+    other_tests part name ms
+    ++ (end_tests part name (get (codes "exp") d)
+    ++ (test (places.Value part name Plain Whole) HasScope d
+    ∷ inner_tests part name (get (codes "scope") d)))
+
+-- where scopes may end such an object may stand for a scope
+abbrev pub grant_tests : Bool → Part → List ℕ → Data → List Test
+grant_tests true part name d = ending_tests part name (as_object d) d
+grant_tests false part name d = scope_tests (places.Value part name) d
 
 -- member by member, the name before the value
-abbrev pub members_tests : Part → Rule → ((Form → Spot → Location) → Data → List Test) → Members → List Test
+abbrev pub members_tests : Part → Rule → (Part → List ℕ → Data → List Test) → Members → List Test
 members_tests part rule tests no_members = []
 members_tests part rule tests (member name d ms) =
     test (places.Name part name) rule (string name)
-    ∷ (tests (places.Value part name) d ++ members_tests part rule tests ms)
+    ∷ (tests part name d ++ members_tests part rule tests ms)
 
-abbrev pub part_tests : Part → ℕ → Rule → ((Form → Spot → Location) → Data → List Test) → Option Data
-    → List Test
+abbrev pub part_tests : Part → ℕ → Rule → (Part → List ℕ → Data → List Test) → Option Data → List Test
 part_tests part most rule tests None = []
 part_tests part most rule tests (Some d) =
     test (places.Part part) IsObject d
@@ -212,7 +247,7 @@ part_tests part most rule tests (Some d) =
 
 abbrev pub version_tests : Option Data → List Test
 version_tests None = []
-version_tests (Some d) = test places.Version IsOne d ∷ []
+version_tests (Some d) = test places.Version IsVersion d ∷ []
 
 abbrev pub known_tests : Members → List Test
 known_tests no_members = []
@@ -225,6 +260,6 @@ tests_of d =
     ∷ test places.Whole HasVersion d
     ∷ (version_tests (get (codes "version") d)
     ++ (known_tests (members_in d)
-    ++ (part_tests Clients MAX_POLICY_CLIENTS IsClient scope_tests (get (codes "clients") d)
-    ++ (part_tests Sources MAX_SOURCES IsSource scope_tests (get (codes "sources") d)
+    ++ (part_tests Clients MAX_POLICY_CLIENTS IsClient (grant_tests (may_end d)) (get (codes "clients") d)
+    ++ (part_tests Sources MAX_SOURCES IsSource (grant_tests (may_end d)) (get (codes "sources") d)
     ++ part_tests Topics MAX_TOPICS IsTopicId topic_tests (get (codes "topics") d)))))

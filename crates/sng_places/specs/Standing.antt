@@ -53,6 +53,14 @@ Stands d (places.Part part) v = get (name_of part) d ≡ Some v
 Stands d (places.Name part name) v = (v ≡ string name) × ((e : Data) × IsListed d part name e)
 Stands d (places.Value part name form spot) v =
     (e : Data) × (IsListed d part name e × ((w : Data) × (IsWritten form e w × (value_at spot w ≡ Some v))))
+Stands d (places.Other part name other) v =
+    (e : Data) × (IsListed d part name e
+    × ((v ≡ string other) × ((w : Data) × HasMember (members_in e) other w)))
+Stands d (places.End part name) v =
+    (e : Data) × (IsListed d part name e × (get (codes "exp") e ≡ Some v))
+Stands d (places.Scope part name form spot) v =
+    (e : Data) × (IsListed d part name e × ((s : Data) × ((get (codes "scope") e ≡ Some s)
+    × ((w : Data) × (IsWritten form s w × (value_at spot w ≡ Some v))))))
 
 -- each value that is tested stands at the place of its test
 abbrev pub ValuesStand : Type 0

@@ -1,12 +1,10 @@
 //! The place of the first fault among the members of a part.
 ghost use Rattle.std.specs.Prelude.{◌≡◌, ◌⊎◌, OnOk, IfErr, Ok, Err};
 ghost use Rattle.serde_json.specs.View.{view, members_view};
-ghost use Rattle.sng_places.specs.ScopePlaces.{scope_check};
 ghost use Rattle.sng_places.specs.Places.{client_check, clients_check, sources_check, topic_check};
-ghost use Rattle.sng_places.specs.Places.{topics_check, within};
+ghost use Rattle.sng_places.specs.Places.{topics_check};
 
-use crate::scope::check_scope;
-use crate::stop::ScopeStop;
+use crate::grant::check_grant;
 use crate::text::octets;
 use crate::{Flaw, Form, Location, Part, Spot, Stop};
 use serde_json::{Map, Value};
@@ -15,30 +13,30 @@ use sng_text::{ClientId, TextFault, TopicName, read_ipv4};
 use std::alloc::Global;
 
 /// Ends with the first fault of the clients.
-pub fn check_clients(alloc: Global, members: &Map<String, Value>) -> Result<(), Stop>
-    ensures ok { OnOk result (clients_check (members_view members.now.entries) ≡ Ok tt) }
+pub fn check_clients(alloc: Global, ends: bool, members: &Map<String, Value>) -> Result<(), Stop>
+    ensures ok { OnOk result (clients_check ends (members_view members.now.entries) ≡ Ok tt) }
     ensures err { IfErr result (λ e. (e ≡ Stop.Memory)
-        ⊎ (clients_check (members_view members.now.entries) ≡ Err e)) }
+        ⊎ (clients_check ends (members_view members.now.entries) ≡ Err e)) }
 {
     for (name, value) in members {
         check_client(alloc, name.as_str())?;
-        check_within(alloc, Part::Clients, name.as_str(), value)?;
+        check_grant(alloc, ends, Part::Clients, name.as_str(), value)?;
     }
     Ok(())
 }
 
 /// Ends with the first fault of the sources.
-pub fn check_sources(alloc: Global, members: &Map<String, Value>) -> Result<(), Stop>
-    ensures ok { OnOk result (sources_check (members_view members.now.entries) ≡ Ok tt) }
+pub fn check_sources(alloc: Global, ends: bool, members: &Map<String, Value>) -> Result<(), Stop>
+    ensures ok { OnOk result (sources_check ends (members_view members.now.entries) ≡ Ok tt) }
     ensures err { IfErr result (λ e. (e ≡ Stop.Memory)
-        ⊎ (sources_check (members_view members.now.entries) ≡ Err e)) }
+        ⊎ (sources_check ends (members_view members.now.entries) ≡ Err e)) }
 {
     for (name, value) in members {
         if read_ipv4(name.as_bytes()).is_none() {
             let place = Location::Name(Part::Sources, octets(alloc, name.as_str())?);
             return Err(Stop::at(place, Flaw::Source));
         }
-        check_within(alloc, Part::Sources, name.as_str(), value)?;
+        check_grant(alloc, ends, Part::Sources, name.as_str(), value)?;
     }
     Ok(())
 }
@@ -69,23 +67,6 @@ fn check_client(alloc: Global, name: &str) -> Result<(), Stop>
         Err(fault) => {
             let place = Location::Name(Part::Clients, octets(alloc, name)?);
             Err(Stop::at(place, Flaw::ClientId(fault)))
-        }
-    }
-}
-
-/// Ends with the first fault of the scope of this member.
-fn check_within(alloc: Global, part: Part, name: &str, value: &Value) -> Result<(), Stop>
-    ensures ok { OnOk result (within part name.now (scope_check (view value.now)) ≡ Ok tt) }
-    ensures err { IfErr result (λ e. (e ≡ Stop.Memory)
-        ⊎ (within part name.now (scope_check (view value.now)) ≡ Err e)) }
-{
-    match check_scope(alloc, value) {
-        Ok(()) => Ok(()),
-        Err(ScopeStop::Memory) => Err(Stop::Memory),
-        Err(ScopeStop::At(found)) => {
-            let name = octets(alloc, name)?;
-            let place = Location::Value(part, name, found.form, found.spot);
-            Err(Stop::at(place, found.flaw))
         }
     }
 }

@@ -15,10 +15,14 @@ pub enum Flaw {
     NotObject,
     /// The policy has no version.
     NoVersion,
-    /// The version is not the whole number 1.
+    /// The version is not the whole number 1 or 2.
     OtherVersion,
-    /// A policy has no member of this name.
+    /// A policy has no member of this name, nor has the object of a scope and its end.
     UnknownMember,
+    /// The object of a scope and its end has no scope.
+    NoScope,
+    /// Not a whole number of 64 bits.
+    NotEnd,
     /// Neither an array of pairs nor a text of base64url.
     NotScope,
     /// Not an array of two.
@@ -58,6 +62,8 @@ impl Flaw {
             | Flaw::NoVersion
             | Flaw::OtherVersion
             | Flaw::UnknownMember
+            | Flaw::NoScope
+            | Flaw::NotEnd
             | Flaw::NotScope
             | Flaw::NotPair
             | Flaw::NotArray

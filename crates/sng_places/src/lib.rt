@@ -4,6 +4,7 @@
 
 mod entries;
 pub mod flaw;
+mod grant;
 pub mod laws;
 pub mod location;
 mod nesting;

@@ -48,4 +48,10 @@ pub enum Location {
     Name(Part, Octets),
     /// A place in the value of the member of this name.
     Value(Part, Octets, Form, Spot),
+    /// In the object that is the value of the member of this name, the member of that name, which is not known.
+    Other(Part, Octets, Octets),
+    /// The end that is given in such an object.
+    End(Part, Octets),
+    /// A place in the scope that is given in such an object.
+    Scope(Part, Octets, Form, Spot),
 }

@@ -11,7 +11,7 @@ use crate::text::octets;
 use crate::{Flaw, Location, Part, Stop};
 use serde_json::{Map, Value};
 use sng_grants::{MAX_POLICY_CLIENTS, MAX_SOURCES, MAX_TOPICS};
-use sng_scope::{PolicyFault, is_known, is_version_one, value_from};
+use sng_scope::{PolicyFault, is_known, is_version, may_end, value_from};
 use std::alloc::Global;
 
 /// Ends with the first fault of the policy text, where it stands and what is wrong there. `Ok` for each text
@@ -33,12 +33,13 @@ fn check_value(alloc: Global, value: &Value) -> Result<(), Stop>
         ⊎ (data_check (view value.now) ≡ Err e)) }
 {
     check_object(alloc, value)?;
-    check_clients_in(alloc, value)?;
-    check_sources_in(alloc, value)?;
+    let ends = may_end(value);
+    check_clients_in(alloc, ends, value)?;
+    check_sources_in(alloc, ends, value)?;
     check_topics_in(alloc, value)
 }
 
-/// Ends where the value is no object, has not the version 1, or has a member that is not known.
+/// Ends where the value is no object, has not the version 1 or 2, or has a member that is not known.
 fn check_object(alloc: Global, value: &Value) -> Result<(), Stop>
     ensures ok { OnOk result (object_check (view value.now) ≡ Ok tt) }
     ensures err { IfErr result (λ e. (e ≡ Stop.Memory)
@@ -57,7 +58,7 @@ fn check_version(value: &Value) -> Result<(), Stop>
     if value.get("version").is_none() {
         return Err(Stop::at(Location::Whole, Flaw::NoVersion));
     }
-    if !is_version_one(value) {
+    if !is_version(value) {
         return Err(Stop::at(Location::Version, Flaw::OtherVersion));
     }
     Ok(())
@@ -89,25 +90,29 @@ fn unknown_of(members: &Map<String, Value>) -> Option<&str>
     None
 }
 
-fn check_clients_in(alloc: Global, policy: &Value) -> Result<(), Stop>
-    ensures ok { OnOk result (clients_in (get (codes "clients") (view policy.now)) ≡ Ok tt) }
+fn check_clients_in(alloc: Global, ends: bool, policy: &Value) -> Result<(), Stop>
+    ensures ok { OnOk result (clients_in ends (get (codes "clients") (view policy.now)) ≡ Ok tt) }
     ensures err { IfErr result (λ e. (e ≡ Stop.Memory)
-        ⊎ (clients_in (get (codes "clients") (view policy.now)) ≡ Err e)) }
+        ⊎ (clients_in ends (get (codes "clients") (view policy.now)) ≡ Err e)) }
 {
     match policy.get("clients") {
         None => Ok(()),
-        Some(part) => check_clients(alloc, part_within(Part::Clients, MAX_POLICY_CLIENTS, part)?),
+        Some(part) => check_clients(
+            alloc,
+            ends,
+            part_within(Part::Clients, MAX_POLICY_CLIENTS, part)?,
+        ),
     }
 }
 
-fn check_sources_in(alloc: Global, policy: &Value) -> Result<(), Stop>
-    ensures ok { OnOk result (sources_in (get (codes "sources") (view policy.now)) ≡ Ok tt) }
+fn check_sources_in(alloc: Global, ends: bool, policy: &Value) -> Result<(), Stop>
+    ensures ok { OnOk result (sources_in ends (get (codes "sources") (view policy.now)) ≡ Ok tt) }
     ensures err { IfErr result (λ e. (e ≡ Stop.Memory)
-        ⊎ (sources_in (get (codes "sources") (view policy.now)) ≡ Err e)) }
+        ⊎ (sources_in ends (get (codes "sources") (view policy.now)) ≡ Err e)) }
 {
     match policy.get("sources") {
         None => Ok(()),
-        Some(part) => check_sources(alloc, part_within(Part::Sources, MAX_SOURCES, part)?),
+        Some(part) => check_sources(alloc, ends, part_within(Part::Sources, MAX_SOURCES, part)?),
     }
 }
 

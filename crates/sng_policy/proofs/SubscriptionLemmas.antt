@@ -18,7 +18,6 @@ use Rattle.sng_cover.specs.declared.answer.Cover.{Cover}
 use Rattle.sng_cover.specs.declared.answer.Cover.TheVariants as cover
 use Rattle.sng_grants.specs.Scopes.{subscribed}
 use Rattle.sng_grants.specs.Sources.{scope_of}
-use Rattle.sng_grants.specs.declared.policy.Policy.{Policy}
 use Rattle.sng_grants.specs.declared.scope.Pair.{Pair}
 use Rattle.sng_policy.specs.declared.permission.Permission.TheVariants.{Subscribe}
 use Rattle.sng_policy.specs.declared.grant.NameGrant.{NameGrant}
@@ -26,9 +25,8 @@ use Rattle.sng_policy.specs.declared.grant.NameGrant.TheVariants as on_name
 use Rattle.sng_policy.specs.declared.grant.FilterGrant.{FilterGrant}
 use Rattle.sng_policy.specs.declared.grant.FilterGrant.TheVariants.{Allowed, Uncovered}
 use Rattle.sng_policy.specs.Grants.{is_granted, has_filter, grant_by, grant_of_cover, subscribe_by}
-use Rattle.sng_policy.specs.Grants.{subscribe_grant}
 use Rattle.sng_policy.specs.Laws.{EachIsGranted, SaysOfFilter, HasFilters, SubscriptionsAreExact}
-use Rattle.sng_policy.specs.Laws.{JoinsReceiving, SubscribingIsReceiving}
+use Rattle.sng_policy.specs.Laws.{JoinsScope, SubscribingIsReceiving}
 use Rattle.sng_policy.proofs.NameLemmas.{some_pair, granted, by_grants}
 
 -- the names that the filters with `sub` grant are those that the pairs grant for subscribing
@@ -180,22 +178,21 @@ uncovered_gap (Some pairs) filter is have gap uncovered =
     sym (same_granted pairs gap) ∙ not_true (inclusion.is_granted (subscribed pairs) gap) shown.1 in
     (gap_is.0, shown.0, rw missing refl)
 
-pub subscribing_is_receiving : SubscribingIsReceiving
-subscribing_is_receiving policy client filter is have = record {
-  allowed = allowed_names (scope_of policy.clients client) filter is have;
-  uncovered = uncovered_gap (scope_of policy.clients client) filter is have;
-}
+joins : (scope : Option (List Pair)) (filter : List ℕ) → is_filter filter ≡ true → HasFilters scope
+    → JoinsScope scope filter (subscribe_by scope filter)
+joins scope filter is have =
+    record { allowed = allowed_names scope filter is have; uncovered = uncovered_gap scope filter is have }
 
--- what a grant by the pairs of a client's scope says
-pub grant-says : (policy : Policy) (client filter : List ℕ) (pairs : List Pair) (grant : FilterGrant)
-    → is_filter filter ≡ true → All (λ pair. is_filter pair.filter ≡ true) pairs
-    → Some pairs ≡ scope_of policy.clients client
+pub subscribing_is_receiving : SubscribingIsReceiving
+subscribing_is_receiving policy client filter is have = joins (scope_of policy.clients client) filter is have
+
+-- what a grant by the pairs of a scope says
+pub grant-says : (pairs : List Pair) (filter : List ℕ) (grant : FilterGrant) → is_filter filter ≡ true
+    → All (λ pair. is_filter pair.filter ≡ true) pairs
     → grant ≡ grant_of_cover (cover_of filter (subscribed pairs))
-    → SaysOfFilter (scope_of policy.clients client) filter grant × JoinsReceiving policy client filter grant
-grant-says policy client filter pairs grant is are listed answer =
-    let have : HasFilters (scope_of policy.clients client) = rw (← listed) (scope-has_filters pairs are) in
-    let same : subscribe_grant policy client filter ≡ grant = rw (← listed) (sym answer) in
-    let P : FilterGrant → Type 0 = λ g. JoinsReceiving policy client filter g in (
-      (subscriptions_are_exact policy client filter grant is have).0 same,
-      subst P same (subscribing_is_receiving policy client filter is have),
-    )
+    → SaysOfFilter (Some pairs) filter grant × JoinsScope (Some pairs) filter grant
+grant-says pairs filter grant is are answer =
+    let have : HasFilters (Some pairs) = scope-has_filters pairs are in
+    let same : subscribe_by (Some pairs) filter ≡ grant = sym answer in
+    let P : FilterGrant → Type 0 = λ g. JoinsScope (Some pairs) filter g in
+    ((exact (Some pairs) filter grant is have).0 same, subst P same (joins (Some pairs) filter is have))

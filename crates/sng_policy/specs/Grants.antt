@@ -1,6 +1,6 @@
 -- What a policy allows (RFC 9431, 2.3): a scope is a list of pairs, and each pair permits what it says for
--- the names that its filter matches.
-use Rattle.std.specs.Prelude.{ℕ, Bool, true, false, ◌&&◌, ◌||◌, List, [], ◌∷◌, if◌then◌else◌}
+-- the names that its filter matches. At a clock that is said of what is in force of the policy then.
+use Rattle.std.specs.Prelude.{ℕ, Bool, true, false, ◌==◌, ◌&&◌, ◌||◌, List, [], ◌∷◌, if◌then◌else◌}
 use Rattle.std.specs.Prelude.{Some, None, is_some}
 use Rattle.std.specs.declared.option.Option.{Option}
 use Rattle.std.specs.Bool.{beq}
@@ -11,8 +11,9 @@ use Rattle.sng_cover.specs.Covering.{cover_of}
 use Rattle.sng_cover.specs.declared.answer.Cover.{Cover}
 use Rattle.sng_cover.specs.declared.answer.Cover.TheVariants as cover
 use Rattle.sng_grants.specs.Scopes.{subscribed}
-use Rattle.sng_grants.specs.Sources.{scope_of}
+use Rattle.sng_grants.specs.Sources.{grant_of, scope_of}
 use Rattle.sng_grants.specs.Topics.{name_of, id_of}
+use Rattle.sng_grants.specs.declared.grant.Grant.{Grant}
 use Rattle.sng_grants.specs.declared.scope.Pair.{Pair}
 use Rattle.sng_grants.specs.declared.policy.Policy.{Policy}
 use Rattle.sng_policy.specs.declared.permission.Permission.{Permission}
@@ -43,16 +44,27 @@ abbrev pub same_pair : Pair → Pair → Bool
 same_pair pair other = bytes_eq pair.filter other.filter
     && (beq pair.publishes other.publishes && beq pair.subscribes other.subscribes)
 
--- two scopes are the same, pair by pair, or both absent
-abbrev pub same_scopes : Option (List Pair) → Option (List Pair) → Bool
-same_scopes None None = true
-same_scopes None (Some others) = false
-same_scopes (Some pairs) None = false
-same_scopes (Some pairs) (Some others) = pointwise same_pair pairs others
+-- two ends are the same, or both absent
+abbrev pub same_end : Option ℕ → Option ℕ → Bool
+same_end None None = true
+same_end None (Some other) = false
+same_end (Some end) None = false
+same_end (Some end) (Some other) = end == other
 
--- the client has the very same scope under both policies, or neither lists it
+-- two grants are the same: their scopes pair by pair, and their ends
+abbrev pub same_grant : Grant → Grant → Bool
+same_grant grant other = pointwise same_pair grant.scope other.scope && same_end grant.until other.until
+
+-- two grants are the same, or both absent
+abbrev pub same_grants : Option Grant → Option Grant → Bool
+same_grants None None = true
+same_grants None (Some other) = false
+same_grants (Some grant) None = false
+same_grants (Some grant) (Some other) = same_grant grant other
+
+-- the client has the very same scope and end under both policies, or neither lists it
 abbrev pub same_scope : Policy → Policy → List ℕ → Bool
-same_scope before after client = same_scopes (scope_of before.clients client) (scope_of after.clients client)
+same_scope before after client = same_grants (grant_of before.clients client) (grant_of after.clients client)
 
 -- the pair has the permission
 abbrev pub permits : Permission → Pair → Bool

@@ -15,7 +15,8 @@ use Rattle.sng_policy.specs.declared.grant.NameGrant.{NameGrant}
 use Rattle.sng_policy.specs.declared.grant.NameGrant.TheVariants as on_name
 use Rattle.sng_policy.specs.declared.grant.FilterGrant.{FilterGrant}
 use Rattle.sng_policy.specs.declared.grant.FilterGrant.TheVariants as on_filter
-use Rattle.sng_policy.specs.Grants.{permits, publish_grant, source_grant, receive_grant, subscribe_grant}
+use Rattle.sng_policy.specs.Grants.{permits, grant_by, publish_grant, source_grant, receive_grant}
+use Rattle.sng_policy.specs.Grants.{subscribe_grant}
 
 -- some pair of the scope has the permission, and a filter that matches the name
 abbrev pub Grants : Permission → List Pair → List ℕ → Type 0
@@ -61,14 +62,18 @@ SubscriptionsAreExact =
     → (subscribe_grant policy client filter ≡ grant)
     ↔ SaysOfFilter (scope_of policy.clients client) filter grant
 
--- a grant of a subscription and what may be received: allowed where each name that the filter matches may be,
--- and a gap is a name that the filter matches and that may not be
-pub record JoinsReceiving (policy : Policy) (client filter : List ℕ) (grant : FilterGrant) : Type 0 where
+-- a grant of a subscription and what may be received by the same scope: allowed where each name that the
+-- filter matches may be, and a gap is a name that the filter matches and that may not be
+pub record JoinsScope (scope : Option (List Pair)) (filter : List ℕ) (grant : FilterGrant) : Type 0 where
   pub allowed : grant ≡ on_filter.Allowed → (name : List ℕ) → is_name name ≡ true → matches filter name ≡ true
-      → receive_grant policy client name ≡ on_name.Allowed
+      → grant_by Subscribe scope name ≡ on_name.Allowed
   pub uncovered : (gap : List ℕ) → grant ≡ on_filter.Uncovered gap
       → (is_name gap ≡ true) × (matches filter gap ≡ true)
-      × (receive_grant policy client gap ≡ on_name.Missing)
+      × (grant_by Subscribe scope gap ≡ on_name.Missing)
+
+-- the same of a client of a policy, which receives by its scope
+abbrev pub JoinsReceiving : Policy → List ℕ → List ℕ → FilterGrant → Type 0
+JoinsReceiving policy client filter grant = JoinsScope (scope_of policy.clients client) filter grant
 
 abbrev pub SubscribingIsReceiving : Type 0
 SubscribingIsReceiving = (policy : Policy) (client filter : List ℕ) → is_filter filter ≡ true

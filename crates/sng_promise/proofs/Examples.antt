@@ -7,3 +7,5 @@ pub mod WorkedSubscriptions
 pub mod WorkedMessages
 pub mod WorkedWills
 pub mod WorkedSleep
+pub mod WorkedBooks
+pub mod WorkedEnds

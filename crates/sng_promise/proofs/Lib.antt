@@ -11,3 +11,5 @@ pub mod Answers
 pub mod Ticks
 pub mod InForce
 pub mod Examples
+pub mod BookShown
+pub mod BookLaws

@@ -1,5 +1,6 @@
 -- Worked rows of devices without a session: histories that are lawful, and rows that are not.
 use Rattle.std.specs.Prelude.{ℕ, true, false, codes, List, [], ◌∷◌, Some, None}
+use Rattle.sng_grants.specs.Sources.{endless}
 use Rattle.sng_grants.specs.declared.policy.Policy.{Policy}
 use Rattle.sng_book.specs.declared.address.Address.{Address}
 use Rattle.sng_book.specs.declared.decision.Decision.TheVariants.{Publish, Forward, Frame}
@@ -34,7 +35,7 @@ grants_ab =
       clients = [];
       sources = (
         source,
-        record { filter = codes "ab"; publishes = true; subscribes = false } ∷ [],
+        endless (record { filter = codes "ab"; publishes = true; subscribes = false } ∷ []),
       ) ∷ [];
       topics = [];
     }

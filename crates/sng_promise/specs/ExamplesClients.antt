@@ -1,5 +1,6 @@
 -- Worked rows of clients: histories that are lawful, and rows that are not.
 use Rattle.std.specs.Prelude.{ℕ, true, false, codes, List, [], ◌∷◌, Some, None}
+use Rattle.sng_grants.specs.Sources.{endless}
 use Rattle.sng_grants.specs.declared.policy.Policy.{Policy}
 use Rattle.mqtt_frames.specs.declared.packet.Packet.{Packet}
 use Rattle.mqtt_frames.specs.declared.packet.Packet.TheVariants.{PublishAck}
@@ -41,18 +42,20 @@ abbrev pub one_listed : Policy
 one_listed = record {
   clients = (
     s1,
-    record {
-      filter = codes "t/1";
-      publishes = true;
-      subscribes = false;
-    } ∷ record { filter = codes "a/#"; publishes = false; subscribes = true } ∷ [],
+    endless
+        (record {
+          filter = codes "t/1";
+          publishes = true;
+          subscribes = false;
+        } ∷ record { filter = codes "a/#"; publishes = false; subscribes = true } ∷ []),
   ) ∷ [];
   sources = [];
   topics = [];
 }
 
 abbrev pub both_listed : Policy
-both_listed = record { clients = (s1, []) ∷ (s2, []) ∷ []; sources = []; topics = [] }
+both_listed =
+    record { clients = (s1, endless []) ∷ (s2, endless []) ∷ []; sources = []; topics = [] }
 
 -- CONNECT with CleanSession and a Duration of 60 s
 abbrev pub connect_s1 : List ℕ

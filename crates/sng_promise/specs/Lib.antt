@@ -3,3 +3,4 @@ pub mod ExamplesClients
 pub mod ExamplesOnce
 pub mod ExamplesWills
 pub mod ExamplesSleep
+pub mod ExamplesBooks

@@ -3,6 +3,7 @@
 //! histories are lawful in `sng_history`; no proof has to be read to know what they say.
 #![tactic(auto)]
 
+pub mod books;
 pub mod once;
 pub mod policies;
 pub mod promise;
@@ -28,6 +29,7 @@ ghost use Rattle.sng_book.specs.declared.event.Event.TheVariants.{Broker, Down, 
 ghost use Rattle.sng_book.specs.declared.outcome.Outcome.TheVariants.{Allowed};
 ghost use Rattle.sng_book.specs.declared.row.Row.{Row};
 ghost use Rattle.sng_history.specs.Good.{Each};
+ghost use Rattle.sng_history.specs.Books.{IsBook, LawfulBook};
 ghost use Rattle.sng_history.specs.Lawful.{Lawful};
 ghost use Rattle.sng_laws.specs.LawsAnswers.{Brought, Broken, connect_answer, source_answer, answer_to};
 ghost use Rattle.sng_laws.specs.LawsAnswers.{no_session, ping_answer};
@@ -55,27 +57,28 @@ ghost use Rattle.sng_laws.specs.LawsSubscriptions.{SubscribesExactly};
 ghost use Rattle.sng_laws.specs.LawsSubscriptions.{unsubscribe_stranger, unsubscribe_answer};
 ghost use Rattle.sng_laws.specs.LawsSubscriptions.{replace_answer};
 ghost use Rattle.sng_laws.specs.LawsUnsupported.{is_unsupported, unsupported_stranger, unsupported_answer};
-ghost use Rattle.sng_history.specs.State.{opening, state_of};
+ghost use Rattle.sng_history.specs.State.{State, opening, state_of};
 ghost use Rattle.sng_laws.specs.Views.{policy_in_force, clock_at, is_up};
 ghost use Rattle.sng_laws.specs.ViewsClients.{phase_of, is_admitted, is_among, accepted, those_at};
 ghost use Rattle.sng_laws.specs.ViewsClients.{names_told, id_told, tells_id};
 ghost use Rattle.sng_laws.specs.ViewsLink.{waiting};
 ghost use Rattle.sng_laws.specs.ViewsMessages.{is_without_session};
 
-/// The state that a lawful history leads to is what a reader sees who looks back through its rows: the policy
-/// of the last replacement, the greatest tick, whether the last word on the broker's connection is an Up,
-/// what was asked for, is owed or is to be told to the broker and has not left, the publishes in flight, the
-/// packet id that was given last, the filters that stand for anybody, the clients in the order in which each
-/// was accepted first, and of each client its state, where it is, the Duration that it stated and when it was
-/// heard last, the filters that stand for it, its will, which is the last topic that was allowed since the
-/// will was deleted last, with the last message, and how far the dialogue about it has come; and its topic
-/// ids: the k-th name that it was told since its last accepted CONNECT has id k. `opened`: so it is with its
-/// open MsgIds, those of its publishes at QoS 2 that were allowed since each was closed last.
-/// `strangers`: a client that was never accepted has no state, so the rows show no other client.
+/// The state that a lawful book leads to is what a reader sees who looks back through its rows: `policy` is the
+/// policy in force, which is what the clock has left of the policy of the last replacement, `clock` the
+/// greatest tick, and `up` whether the last word on the broker's connection is an Up. Of plain rows: what was
+/// asked for, is owed or is to be told to the broker and has not left, the publishes in flight, the packet id
+/// that was given last, the filters that stand for anybody, the clients in the order in which each was accepted
+/// first, and of each client its state, where it is, the Duration that it stated and when it was heard last,
+/// the filters that stand for it, its will, which is the last topic that was allowed since the will was deleted
+/// last, with the last message, and how far the dialogue about it has come; and its topic ids: the k-th name
+/// that it was told since its last accepted CONNECT has id k. `opened`: so it is with its open MsgIds, those of
+/// its publishes at QoS 2 that were allowed since each was closed last. `strangers`: a client that was never
+/// accepted has no state, so the rows show no other client.
 pub fn state_is_shown()
-    ensures policy { (h : List Row) → Lawful opening h → (state_of opening h).policy ≡ policy_in_force h }
-    ensures clock { (h : List Row) → Lawful opening h → (state_of opening h).clock ≡ clock_at h }
-    ensures up { (h : List Row) → Lawful opening h → (state_of opening h).up ≡ is_up h }
+    ensures policy { (h : List Row) → (s : State) → IsBook opening h s → s.policy ≡ policy_in_force h }
+    ensures clock { (h : List Row) → (s : State) → IsBook opening h s → s.clock ≡ clock_at h }
+    ensures up { (h : List Row) → (s : State) → IsBook opening h s → s.up ≡ is_up h }
     ensures waits { (h : List Row) → Lawful opening h → (state_of opening h).link.waiting ≡ waiting h }
     ensures rest { (h : List Row) → Lawful opening h → RestShown h (state_of opening h).link }
     ensures order { (h : List Row) → Lawful opening h
@@ -255,25 +258,25 @@ pub fn messages_are_settled_in_order()
     ensures away { (h : List Row) → Lawful opening h → (id : List ℕ) → NoneKept h id }
 {}
 
-/// How messages of the broker come to a client, in every lawful history. `judged`: a message is handed over,
-/// or an id of its name announced, only where the policy in force at that row lets the client receive the
-/// name by a pair with `sub` that matches it; one is denied for want of a scope or of such a pair just by
-/// that policy, for want of an id only where that policy allows it, and else only by the client, as too long,
-/// for a full queue, or as it is gone; what is open is sent again, or not, just by that policy. `turns`: a
-/// message is handed over, denied by the policy or for want of an id, or its name announced, only where at
-/// that place in the row the client takes messages and nothing is open with it, but for an announced message
-/// that is judged again at a tick and denied; one is refused by the client only as its REGACK with that code
-/// comes while the name is announced, too long or turned away only as a packet of the broker comes, and gone
-/// only where nothing is open any more: so before its answer an announced message is denied at a tick alone.
-/// A message is handed over only where the client knows its name then, and an id is announced only where it
-/// does not; and only what is open with a client that takes messages is judged again.
-/// `regacks`, `pubacks`: a REGACK has its turn where the client takes messages and its TopicId and MsgId are
-/// those of the announcement that is open, a PUBACK where its MsgId is that of what is open; else they are
-/// out of turn. A REGACK with another code than 0 refuses the front. Then all leaves that may, the oldest
-/// first, each judged, with its own payload, QoS and Retain, until something is open again; an awake client
-/// with whom nothing is then is sent PINGRESP.
+/// How messages of the broker come to a client, in every lawful history. `judged`, of every lawful book: a
+/// message is handed over, or an id of its name announced, only where the policy in force at that row lets
+/// the client receive the name by a pair with `sub` that matches it; one is denied for want of a scope or of
+/// such a pair just by that policy, for want of an id only where that policy allows it, and else only by the
+/// client, as too long, for a full queue, or as it is gone; what is open is sent again, or not, just by that
+/// policy. `turns`: a message is handed over, denied by the policy or for want of an id, or its name
+/// announced, only where at that place in the row the client takes messages and nothing is open with it, but
+/// for an announced message that is judged again at a tick and denied; one is refused by the client only as
+/// its REGACK with that code comes while the name is announced, too long or turned away only as a packet of
+/// the broker comes, and gone only where nothing is open any more: so before its answer an announced message
+/// is denied at a tick alone. A message is handed over only where the client knows its name then, and an id
+/// is announced only where it does not; and only what is open with a client that takes messages is judged
+/// again. `regacks`, `pubacks`: a REGACK has its turn where the client takes messages and its TopicId and
+/// MsgId are those of the announcement that is open, a PUBACK where its MsgId is that of what is open; else
+/// they are out of turn. A REGACK with another code than 0 refuses the front. Then all leaves that may, the
+/// oldest first, each judged, with its own payload, QoS and Retain, until something is open again; an awake
+/// client with whom nothing is then is sent PINGRESP.
 pub fn messages_are_handed_over()
-    ensures judged { (h : List Row) → Lawful opening h → EachHandJudged h }
+    ensures judged { (h : List Row) → LawfulBook opening h → EachHandJudged h }
     ensures turns { (h : List Row) → Lawful opening h → (id : List ℕ) → EachInTurn id h }
     ensures regacks { (h : List Row) → (row : Row) → (from : Address) → (r : TopicAck)
         → Lawful opening (row ∷ h)

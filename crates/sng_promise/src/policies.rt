@@ -1,20 +1,20 @@
-//! What the laws of subscriptions suppose of a policy, that its scopes hold topic filters, holds of each
-//! policy of the program and of the one in force behind any rows of a book. The walks here only read what the
-//! types keep; calling them does nothing.
+//! What the laws of subscriptions suppose of a policy, that its scopes hold topic filters, holds at each clock
+//! of what is in force of a policy of the program, and of what is in force behind any rows of a book. The
+//! walks here only read what the types keep; calling them does nothing.
 ghost use Rattle.std.specs.Prelude.{reverse};
 ghost use Rattle.sng_grants.specs.declared.policy.Policy.{Policy};
-ghost use Rattle.sng_laws.specs.LawsPolicies.{HaveFilters};
-ghost use Rattle.sng_laws.specs.Views.{in_force_after, policy_in_force};
+ghost use Rattle.sng_laws.specs.LawsPolicies.{HaveFilters, KeepFilters};
+ghost use Rattle.sng_laws.specs.Views.{policy_after, policy_in_force};
 
 use sng_book::{Event, Row};
 use sng_grants::Policy;
 
-/// In each policy the scope of each client holds topic filters.
+/// Of each policy the scopes of clients that are in force at a clock hold topic filters.
 pub fn policies_have_filters(policy: &Policy)
-    ensures { HaveFilters policy.now }
+    ensures { KeepFilters policy.now }
 {
-    for (_, scope) in policy.clients.iter() {
-        let _ = scope.pairs();
+    for (_, grant) in policy.clients.iter() {
+        let _ = grant.scope.pairs();
     }
 }
 
@@ -29,7 +29,7 @@ pub fn books_have_filters(rows: &[Row])
 
 /// And behind one event more.
 fn replacement_has_filters(event: &Event)
-    ensures { (before : Policy) → HaveFilters before → HaveFilters (in_force_after event.now before) }
+    ensures { (before : Policy) → KeepFilters before → KeepFilters (policy_after event.now before) }
 {
     match event {
         Event::Replace(policy) => policies_have_filters(policy),

@@ -11,7 +11,7 @@ ghost use Rattle.sng_book.specs.declared.outcome.GrantDenial.TheVariants.{Missin
 ghost use Rattle.sng_book.specs.declared.outcome.RoomDenial.TheVariants.{UpstreamDown};
 ghost use Rattle.sng_book.specs.declared.outcome.Outcome.TheVariants.{Allowed, Denied};
 ghost use Rattle.sng_book.specs.declared.row.Row.{Row};
-ghost use Rattle.sng_history.specs.Lawful.{Lawful};
+ghost use Rattle.sng_history.specs.Books.{LawfulBook};
 ghost use Rattle.sng_laws.specs.LawsReached.{EachAnnounced};
 ghost use Rattle.sng_laws.specs.LawsPromise.{EachStands, Stands};
 ghost use Rattle.sng_laws.specs.LawsReached.{EachReaches, Reaches, carries_topic, is_topical};
@@ -21,8 +21,9 @@ ghost use Rattle.sng_history.specs.State.{opening};
 /// policy, the gateway forwards, registers, subscribes, sets as will and hands over exactly what the policy
 /// in force at that step allows, also out of buffers filled under an earlier policy; a subscription is
 /// allowed exactly where every topic name that it matches is matched by a granted filter; and every denial
-/// names its rule or the missing grant. `notes`: each note of each row of every lawful history stands under
-/// the policy in force at that row. A REGISTER, a PUBLISH, a will and a publish that leaves are allowed
+/// names its rule or the missing grant. `notes`: each note of each row of every lawful book stands under the
+/// policy in force at that row, which is read at the clock of that row: a grant that has ended by then allows
+/// nothing. A REGISTER, a PUBLISH, a will and a publish that leaves are allowed
 /// where, and only where, that policy lists who asks and one of its pairs with `pub` matches the name; a
 /// message that is handed over, announced or sent again where one with `sub` does; a subscription where
 /// every name that its filter matches may be received, and else it is denied with such a name that may not,
@@ -32,9 +33,9 @@ ghost use Rattle.sng_history.specs.State.{opening};
 /// a client but at once behind a note that lets it go. `announced`: no PUBLISH goes to the broker but so.
 /// What else goes there is said by `publishes_leave_judged`, as `packets`.
 pub fn the_policy_in_force_is_kept()
-    ensures notes { (h : List Row) → Lawful opening h → EachStands h }
-    ensures reached { (h : List Row) → Lawful opening h → EachReaches h }
-    ensures announced { (h : List Row) → Lawful opening h → EachAnnounced h }
+    ensures notes { (h : List Row) → LawfulBook opening h → EachStands h }
+    ensures reached { (h : List Row) → LawfulBook opening h → EachReaches h }
+    ensures announced { (h : List Row) → LawfulBook opening h → EachAnnounced h }
 {}
 
 /// The type octet of a datagram tells a PUBLISH and a REGISTER from every other message, whatever its Length:

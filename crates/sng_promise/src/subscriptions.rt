@@ -3,6 +3,7 @@ ghost use Rattle.std.specs.Prelude.{◌≡◌, ℕ, true, false, List, [], ◌�
 ghost use Rattle.std.specs.List.{list_any};
 ghost use Rattle.sng_book.specs.declared.event.Event.TheVariants.{Up, Take};
 ghost use Rattle.sng_book.specs.declared.row.Row.{Row};
+ghost use Rattle.sng_history.specs.Books.{LawfulBook};
 ghost use Rattle.sng_history.specs.Lawful.{Lawful};
 ghost use Rattle.sng_laws.specs.LawsStanding.{StandingIsFilter, StandingIsAllowed, StandingIsReceived};
 ghost use Rattle.sng_laws.specs.LawsStanding.{EachOnce, StaysEndedBy, StaysEndedBeside, BeginsBySubscribe};
@@ -12,13 +13,14 @@ ghost use Rattle.sng_laws.specs.Views.{is_up};
 ghost use Rattle.sng_laws.specs.ViewsClients.{is_among, accepted};
 ghost use Rattle.sng_laws.specs.ViewsStanding.{standing_of, held_in, is_for, wanted};
 
-/// In every lawful history each filter that stands for a client is a topic filter, and the policy in force
-/// allows it to the client. `received`: so each topic name that it matches may be received by the client,
-/// where the policy's scope for it holds filters.
+/// In every lawful book each filter that stands for a client is a topic filter, and the policy in force, read
+/// at the clock of the last row, allows it to the client: so a filter ends at the tick by which its grant
+/// does. `received`: so each topic name that it matches may be received by the client, where the policy's
+/// scope for it holds filters.
 pub fn standing_filters_are_covered()
-    ensures filters { (h : List Row) → Lawful opening h → StandingIsFilter h }
-    ensures allowed { (h : List Row) → Lawful opening h → StandingIsAllowed h }
-    ensures received { (h : List Row) → Lawful opening h → StandingIsReceived h }
+    ensures filters { (h : List Row) → LawfulBook opening h → StandingIsFilter h }
+    ensures allowed { (h : List Row) → LawfulBook opening h → StandingIsAllowed h }
+    ensures received { (h : List Row) → LawfulBook opening h → StandingIsReceived h }
 {}
 
 /// The filters that go upstream are in every lawful history just those that stand for somebody, each once.

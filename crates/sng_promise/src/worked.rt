@@ -5,12 +5,15 @@ ghost use Rattle.sng_book.specs.declared.outcome.Denial.TheVariants.{Grant};
 ghost use Rattle.sng_book.specs.declared.outcome.GrantDenial.TheVariants.{MissingPub};
 ghost use Rattle.sng_book.specs.declared.outcome.Outcome.TheVariants.{Allowed, Denied};
 ghost use Rattle.sng_history.specs.State.{opening};
+ghost use Rattle.sng_history.specs.Books.{LawfulBook};
 ghost use Rattle.sng_history.specs.Lawful.{LawfulRow, Lawful};
 ghost use Rattle.sng_promise.specs.Examples.{source, at, publish_ab, publish_ab_long, asked_ab, forward_ab};
 ghost use Rattle.sng_promise.specs.Examples.{packet_ab, stored_run};
 ghost use Rattle.sng_promise.specs.Examples.{unknown_source, without_up, strangers, replaced_while_waiting};
 ghost use Rattle.sng_promise.specs.Examples.{kept_while_down};
 ghost use Rattle.sng_promise.specs.Examples.{waits, waits_replaced, waits_down};
+ghost use Rattle.sng_promise.specs.ExamplesBooks.{denied_at_its_end, let_out_at_its_end};
+ghost use Rattle.sng_promise.specs.ExamplesBooks.{ended_at_its_end, kept_at_its_end};
 ghost use Rattle.sng_promise.specs.ExamplesClients.{home, away, s1, s2, connect_s1, connect_s2, disconnect};
 ghost use Rattle.sng_promise.specs.ExamplesClients.{lets_in, welcome, bye};
 ghost use Rattle.sng_promise.specs.ExamplesClients.{not_listed, moves, takes_over, goes, pings, at_home};
@@ -176,4 +179,17 @@ pub fn unlawful_sleep()
         (announces_ab ∷ announcement_ab ∷ pong home ∷ []) → ⊥ }
     ensures asleep { LawfulRow is_asleep (Broker message_ab) (announces_ab ∷ announcement_ab ∷ []) → ⊥ }
     ensures fourth { LawfulRow is_tried_out (Tick 40000) (retries_ab Allowed ∷ handed_again ∷ []) → ⊥ }
+{}
+
+/// Lawful books whose scopes end: a publish that was allowed waits as the clock reaches the end of its grant, and
+/// is denied as it leaves; and a subscription ends at the tick by which its grant does.
+pub fn lawful_books()
+    ensures denied { LawfulBook opening denied_at_its_end }
+    ensures ended { LawfulBook opening ended_at_its_end }
+{}
+
+/// Books that no gateway writes: that publish leaves all the same; and that tick leaves the subscription standing.
+pub fn unlawful_books()
+    ensures let_out { LawfulBook opening let_out_at_its_end → ⊥ }
+    ensures kept { LawfulBook opening kept_at_its_end → ⊥ }
 {}

@@ -1,6 +1,6 @@
 -- A source may publish exactly where a name is granted that it can say.
 use Rattle.std.proofs.Common.{◌≡◌, ℕ, ◌&&◌, ◌||◌, true, false, List, [], ◌∷◌, inl, inr, ap, refl, ◌∙◌}
-use Rattle.std.specs.List.{All, AllByRecursion as AllOf}
+use Rattle.std.specs.List.{AllByRecursion as AllOf}
 use Rattle.std.proofs.lemmas.Bool.{and_from, and_parts, or_cases, or_left, or_right}
 use Rattle.std.proofs.lemmas.List.Elements.{recursion_from_All}
 use Rattle.sng_text.specs.Matching.{matches}
@@ -10,7 +10,7 @@ use Rattle.sng_policy.specs.Grants.{is_granted}
 use Rattle.sng_policy.specs.declared.permission.Permission.TheVariants.{Publish}
 use Rattle.sng_questions.specs.Publishing.{CanSay, IsPredefined, PublishersAreFound, lets_publish}
 use Rattle.sng_questions.specs.Publishing.{matches_topic, may_publish}
-use Rattle.sng_questions.specs.ShortNames.{IsShortName, matches_short}
+use Rattle.sng_questions.specs.ShortNames.{matches_short}
 use Rattle.sng_questions.proofs.ShortNameLemmas.{short_names_are_found}
 
 abbrev Topics : Type 0

@@ -1,6 +1,6 @@
 -- A filter matches some short name exactly where its levels leave room for one.
 use Rattle.std.proofs.Common.{◌≡◌, ℕ, zero, suc, ◌+◌, ◌-◌, ◌≤◌, ◌==◌, ◌&&◌, ◌||◌, not, nat_le, Bool, true}
-use Rattle.std.proofs.Common.{false, List, [], ◌∷◌, ◌++◌, length, if◌then◌else◌, refl, sym, ap, ◌∙◌, arith}
+use Rattle.std.proofs.Common.{false, List, [], ◌∷◌, ◌++◌, length, if◌then◌else◌, refl, ap, ◌∙◌, arith}
 use Rattle.std.proofs.Common.{eqb-true, eq-eqb, inl, inr, length-append}
 use Rattle.std.specs.List.{AllByRecursion as AllOf}
 use Rattle.std.specs.Str.{bytes_eq, IsUtf8, IsAscii, is_utf8}
@@ -10,7 +10,7 @@ use Rattle.std.proofs.lemmas.Slice.Eq.{bytes_eq-Decides}
 use Rattle.std.proofs.lemmas.Str.{IsUtf8-append, IsUtf8-from_ascii, IsUtf8-nil}
 use Rattle.std.proofs.lemmas.Str.{IsUtf8-from_is_utf8, is_utf8-from_IsUtf8}
 use Rattle.sng_text.specs.Levels.{levels_of}
-use Rattle.sng_text.specs.Matching.{begins_wild, has_rest, is_reserved, items_of, match_items, matches}
+use Rattle.sng_text.specs.Matching.{begins_wild, has_rest, is_reserved, items_of, matches}
 use Rattle.sng_text.specs.Texts.{has_byte, is_filter, is_hash, is_in_place, is_name, is_ordinary, is_plain}
 use Rattle.sng_text.specs.Texts.{is_plus}
 use Rattle.sng_text.proofs.MatchLemmas.{matched}
@@ -23,7 +23,6 @@ use Rattle.sng_cover.proofs.Joining.{HasLevel, Lack, joined_levels_of, levels_la
 use Rattle.sng_cover.proofs.Joining.{levels_of_joined, some_level}
 use Rattle.sng_cover.proofs.Matched.{bytes_eq_refl, rest_matches}
 use Rattle.sng_cover.proofs.Named.{Own, own_from_all, text_levels_utf8}
-use Rattle.sng_cover.proofs.Shapes.{in_place-tail}
 use Rattle.sng_questions.specs.ShortNames.{IsShortName, ShortNamesAreFound, fewest_bytes, matches_short}
 
 -- ---- what is matched has at least so many bytes

@@ -1,5 +1,6 @@
 -- What is printed of a question to a policy, and how the command comes out.
 use Rattle.std.specs.Prelude.{ℕ, List, ◌++◌, Result, Ok, Err, codes}
+use Rattle.sng_grants.specs.Ends.{in_force}
 use Rattle.sng_grants.specs.declared.policy.Policy.{Policy}
 use Rattle.sng_scope.specs.declared.fault.PolicyFault.{PolicyFault}
 use Rattle.sng_policy.specs.Grants.{publish_grant, receive_grant, source_grant, subscribe_grant}
@@ -69,11 +70,11 @@ ruling_status MissingPub = statuses.Denied
 ruling_status MissingSub = statuses.Denied
 ruling_status (Uncovered gap) = statuses.Denied
 
--- the line for a question to what a text says
-abbrev pub may_text : Result Policy PolicyFault → Inquiry → List ℕ
-may_text (Ok policy) inquiry = ruling_text (ruling_of policy inquiry)
-may_text (Err fault) inquiry = refused_text fault
+-- the line for a question to what a text says at a clock
+abbrev pub may_text : Result Policy PolicyFault → ℕ → Inquiry → List ℕ
+may_text (Ok policy) clock inquiry = ruling_text (ruling_of (in_force clock policy) inquiry)
+may_text (Err fault) clock inquiry = refused_text fault
 
-abbrev pub may_status : Result Policy PolicyFault → Inquiry → Status
-may_status (Ok policy) inquiry = ruling_status (ruling_of policy inquiry)
-may_status (Err fault) inquiry = statuses.Unreadable
+abbrev pub may_status : Result Policy PolicyFault → ℕ → Inquiry → Status
+may_status (Ok policy) clock inquiry = ruling_status (ruling_of (in_force clock policy) inquiry)
+may_status (Err fault) clock inquiry = statuses.Unreadable

@@ -6,4 +6,5 @@ pub mod ShortNames
 pub mod Publishing
 pub mod Redundant
 pub mod Warnings
+pub mod Ends
 pub mod Reports

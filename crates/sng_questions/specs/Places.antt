@@ -55,6 +55,10 @@ place_text (places.Member name) = name_text name
 place_text (places.Part part) = part_text part
 place_text (places.Name part name) = member_text part name
 place_text (places.Value part name form spot) = member_text part name ++ (form_text form ++ spot_text spot)
+place_text (places.Other part name other) = member_text part name ++ (codes "." ++ name_text other)
+place_text (places.End part name) = member_text part name ++ codes ".exp"
+place_text (places.Scope part name form spot) =
+    member_text part name ++ (codes ".scope" ++ (form_text form ++ spot_text spot))
 
 -- ---- what is wrong there
 
@@ -125,14 +129,19 @@ unit_text (places.Member name) = codes "members"
 unit_text (places.Part part) = part_text part
 unit_text (places.Name part name) = codes "pairs"
 unit_text (places.Value part name form spot) = codes "pairs"
+unit_text (places.Other part name other) = codes "members"
+unit_text (places.End part name) = codes "members"
+unit_text (places.Scope part name form spot) = codes "pairs"
 
 -- what is wrong, in words that need nothing else
 abbrev pub words_of : Flaw → List ℕ
 words_of flaws.NotJson = codes "not JSON"
 words_of flaws.NotObject = codes "not an object"
 words_of flaws.NoVersion = codes "no member version"
-words_of flaws.OtherVersion = codes "not the whole number 1"
-words_of flaws.UnknownMember = codes "a policy has no such member"
+words_of flaws.OtherVersion = codes "not the whole number 1 or 2"
+words_of flaws.UnknownMember = codes "there is no such member"
+words_of flaws.NoScope = codes "no member scope"
+words_of flaws.NotEnd = codes "not a whole number of ms from 0 to 18446744073709551615"
 words_of flaws.NotScope = codes "neither an array of pairs nor a text"
 words_of flaws.NotPair = codes "not an array of a filter and its permissions"
 words_of flaws.NotArray = codes "not an array"
@@ -157,6 +166,8 @@ flaw_text place flaws.NotObject = words_of flaws.NotObject
 flaw_text place flaws.NoVersion = words_of flaws.NoVersion
 flaw_text place flaws.OtherVersion = words_of flaws.OtherVersion
 flaw_text place flaws.UnknownMember = words_of flaws.UnknownMember
+flaw_text place flaws.NoScope = words_of flaws.NoScope
+flaw_text place flaws.NotEnd = words_of flaws.NotEnd
 flaw_text place flaws.NotScope = words_of flaws.NotScope
 flaw_text place flaws.NotPair = words_of flaws.NotPair
 flaw_text place flaws.NotArray = words_of flaws.NotArray

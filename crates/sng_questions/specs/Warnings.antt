@@ -5,6 +5,7 @@ use Rattle.std.specs.Fmt.{decimal}
 use Rattle.std.specs.List.{starts_with}
 use Rattle.sng_book.specs.Printing.{ip_text}
 use Rattle.sng_grants.specs.Topics.{id_of}
+use Rattle.sng_grants.specs.declared.grant.Grant.{Grant}
 use Rattle.sng_grants.specs.declared.policy.Policy.{Policy}
 use Rattle.sng_grants.specs.declared.scope.Pair.{Pair}
 use Rattle.sng_places.specs.declared.location.Part.TheVariants.{Clients}
@@ -64,10 +65,18 @@ scope_lines member (pair ∷ pairs) = pairs_lines member (pair ∷ pairs) 0 (pai
 
 -- ---- clients, sources and topics
 
-abbrev pub clients_lines : List (List ℕ × List Pair) → List ℕ
+-- a scope that has ended before anything began
+abbrev pub end_lines : List ℕ → Option ℕ → List ℕ
+end_lines member None = []
+end_lines member (Some end) =
+    if nat_eq end 0 then warning_text member None (codes " ends at 0: it is never in force") else []
+
+abbrev pub clients_lines : List (List ℕ × Grant) → List ℕ
 clients_lines [] = []
 clients_lines (client ∷ clients) =
-    scope_lines (member_text Clients client.0) client.1 ++ clients_lines clients
+    (end_lines (member_text Clients client.0) client.1.until
+    ++ scope_lines (member_text Clients client.0) client.1.scope)
+    ++ clients_lines clients
 
 -- a source with pairs, none of which lets it publish
 abbrev pub silent_lines : List (ℕ × List ℕ) → List ℕ → List Pair → List ℕ
@@ -78,10 +87,12 @@ silent_lines topics member (pair ∷ pairs) =
     else warning_text member None
     (codes " can never publish: no name of two bytes and none under topics is granted")
 
-abbrev pub source_lines : List (ℕ × List ℕ) → List ℕ → List Pair → List ℕ
-source_lines topics member pairs = silent_lines topics member pairs ++ scope_lines member pairs
+abbrev pub source_lines : List (ℕ × List ℕ) → List ℕ → Grant → List ℕ
+source_lines topics member grant =
+    end_lines member grant.until
+    ++ (silent_lines topics member grant.scope ++ scope_lines member grant.scope)
 
-abbrev pub sources_lines : List (ℕ × List ℕ) → List (List ℕ × List Pair) → List ℕ
+abbrev pub sources_lines : List (ℕ × List ℕ) → List (List ℕ × Grant) → List ℕ
 sources_lines topics [] = []
 sources_lines topics (source ∷ sources) =
     source_lines topics (codes "sources." ++ ip_text source.0) source.1 ++ sources_lines topics sources

@@ -23,6 +23,8 @@ pub fn push_flaw(line: &mut Vec<u8>, place: &Location, flaw: &Flaw) -> Result<()
         | Flaw::NoVersion
         | Flaw::OtherVersion
         | Flaw::UnknownMember
+        | Flaw::NoScope
+        | Flaw::NotEnd
         | Flaw::NotScope
         | Flaw::NotPair
         | Flaw::NotArray
@@ -57,8 +59,10 @@ fn words_of(flaw: &Flaw) -> &'static str
         Flaw::NotJson => "not JSON",
         Flaw::NotObject => "not an object",
         Flaw::NoVersion => "no member version",
-        Flaw::OtherVersion => "not the whole number 1",
-        Flaw::UnknownMember => "a policy has no such member",
+        Flaw::OtherVersion => "not the whole number 1 or 2",
+        Flaw::UnknownMember => "there is no such member",
+        Flaw::NoScope => "no member scope",
+        Flaw::NotEnd => "not a whole number of ms from 0 to 18446744073709551615",
         Flaw::NotScope => "neither an array of pairs nor a text",
         Flaw::NotPair => "not an array of a filter and its permissions",
         Flaw::NotArray => "not an array",
@@ -94,11 +98,15 @@ fn push_unit(line: &mut Vec<u8>, place: &Location) -> Result<(), AllocError>
     ensures { OnOk result (line.new.items ≡ line.old.items ++ unit_text place.now) }
 {
     match place {
-        Location::Whole | Location::Version | Location::Member(_) => line.extend_from_slice(
-            b"members",
-        ),
+        Location::Whole
+        | Location::Version
+        | Location::Member(_)
+        | Location::Other(_, _, _)
+        | Location::End(_, _) => line.extend_from_slice(b"members"),
         Location::Part(part) => push_part(line, *part),
-        Location::Name(_, _) | Location::Value(_, _, _, _) => line.extend_from_slice(b"pairs"),
+        Location::Name(_, _) | Location::Value(_, _, _, _) | Location::Scope(_, _, _, _) => {
+            line.extend_from_slice(b"pairs")
+        }
     }
 }
 

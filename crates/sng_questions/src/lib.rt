@@ -4,6 +4,7 @@
 
 pub mod canonical;
 pub mod covering;
+pub mod ends;
 mod flaws;
 pub mod inquiry;
 pub mod laws;

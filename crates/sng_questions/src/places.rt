@@ -57,6 +57,21 @@ pub fn push_place(line: &mut Vec<u8>, place: &Location) -> Result<(), AllocError
             push_form(line, *form)?;
             push_spot(line, *spot)
         }
+        Location::Other(part, name, other) => {
+            push_member(line, *part, name.as_slice())?;
+            line.extend_from_slice(b".")?;
+            push_name(line, other.as_slice())
+        }
+        Location::End(part, name) => {
+            push_member(line, *part, name.as_slice())?;
+            line.extend_from_slice(b".exp")
+        }
+        Location::Scope(part, name, form, spot) => {
+            push_member(line, *part, name.as_slice())?;
+            line.extend_from_slice(b".scope")?;
+            push_form(line, *form)?;
+            push_spot(line, *spot)
+        }
     }
 }
 

@@ -2,7 +2,7 @@
 ghost use Rattle.std.specs.Prelude.{◌≡◌, ◌++◌, codes, IfOk, OnOk};
 ghost use Rattle.sng_book.specs.Printing.{ip_text};
 ghost use Rattle.sng_grants.specs.Topics.{id_of};
-ghost use Rattle.sng_questions.specs.Warnings.{AreWarnings, clients_lines, is_lesser, lesser_text};
+ghost use Rattle.sng_questions.specs.Warnings.{AreWarnings, clients_lines, end_lines, is_lesser, lesser_text};
 ghost use Rattle.sng_questions.specs.Warnings.{pairs_lines};
 ghost use Rattle.sng_questions.specs.Warnings.{repeated_lines, repeated_text, scope_lines, share_lines};
 ghost use Rattle.sng_questions.specs.Warnings.{silent_lines, source_lines, sources_lines, topic_lines};
@@ -12,16 +12,16 @@ use crate::places::{push_index, push_member, push_place};
 use crate::publishing::may_publish;
 use crate::redundant::says_nothing_new;
 use sng_book::print::push_decimal;
-use sng_grants::{Clients, Pair, Policy, Sources, Topics};
+use sng_grants::{Clients, Grant, Pair, Policy, Sources, Topics};
 use sng_places::{Location, Part, repeated_members};
 use sng_script::address::push_ip;
 use sng_text::TopicName;
 use std::alloc::{AllocError, Global};
 
 /// A line for each thing of the accepted text that is read, but surely not meant: members that stand more
-/// than once; scopes without pairs, and sources that can never publish; pairs without permissions, that say
-/// nothing beside another pair of the scope, or with a filter that begins with `$share/`; and topic ids whose
-/// name a lesser id has. Only memory can fail.
+/// than once; scopes that end at 0 or have no pairs, and sources that can never publish; pairs without
+/// permissions, that say nothing beside another pair of the scope, or with a filter that begins with `$share/`;
+/// and topic ids whose name a lesser id has. Only memory can fail.
 pub fn warning_lines(alloc: Global, text: &[u8], policy: &Policy) -> Result<Vec<u8>, AllocError>
     ensures { IfOk result (λ lines. AreWarnings policy.now lines.items) }
 {
@@ -57,10 +57,11 @@ fn push_repeated_at(lines: &mut Vec<u8>, place: &Location) -> Result<(), AllocEr
 fn push_clients(alloc: Global, lines: &mut Vec<u8>, clients: &Clients) -> Result<(), AllocError>
     ensures { OnOk result (lines.new.items ≡ lines.old.items ++ clients_lines clients.now) }
 {
-    for (client, scope) in clients.iter() {
+    for (client, grant) in clients.iter() {
         let mut member = Vec::new(alloc);
         push_member(&mut member, Part::Clients, client.text())?;
-        push_scope(alloc, lines, member.as_slice(), scope.pairs())?;
+        push_end(lines, member.as_slice(), grant.until)?;
+        push_scope(alloc, lines, member.as_slice(), grant.scope.pairs())?;
     }
     Ok(())
 }
@@ -74,28 +75,46 @@ fn push_sources(
 ) -> Result<(), AllocError>
     ensures { OnOk result (lines.new.items ≡ lines.old.items ++ sources_lines topics.now sources.now) }
 {
-    for (source, scope) in sources.iter() {
-        push_source(alloc, lines, topics, *source, scope.pairs())?;
+    for (source, grant) in sources.iter() {
+        push_source(alloc, lines, topics, *source, grant)?;
     }
     Ok(())
 }
 
-/// Appends the lines of a source with these pairs.
+/// Appends the lines of a source with this grant.
 fn push_source(
     alloc: Global,
     lines: &mut Vec<u8>,
     topics: &Topics,
     source: [u8; 4],
-    pairs: &[Pair],
+    grant: &Grant,
 ) -> Result<(), AllocError>
     ensures { OnOk result (lines.new.items
-        ≡ lines.old.items ++ source_lines topics.now (codes "sources." ++ ip_text source) pairs.now) }
+        ≡ lines.old.items ++ source_lines topics.now (codes "sources." ++ ip_text source) grant.now) }
 {
     let mut member = Vec::new(alloc);
     member.extend_from_slice(b"sources.")?;
     push_ip(&mut member, source)?;
+    let pairs = grant.scope.pairs();
+    push_end(lines, member.as_slice(), grant.until)?;
     push_silent(lines, topics, member.as_slice(), pairs)?;
-    push_scope(alloc, lines, member.as_slice(), pairs)
+    push_scope(alloc, lines, member.as_slice(), pairs)?;
+    Ok(())
+}
+
+/// Appends the line of a scope that has ended before anything began.
+fn push_end(lines: &mut Vec<u8>, member: &[u8], until: Option<u64>) -> Result<(), AllocError>
+    ensures { OnOk result (lines.new.items ≡ lines.old.items ++ end_lines member.now until) }
+{
+    match until {
+        None => Ok(()),
+        Some(end) => {
+            if end != 0 {
+                return Ok(());
+            }
+            push_warning(lines, member, None, " ends at 0: it is never in force")
+        }
+    }
 }
 
 /// Appends the line of a source that has pairs, and can never publish.

@@ -19,17 +19,20 @@ use Rattle.sng_scope.proofs.KeyLemmas.{client_of-client, ipv4_of-address, topic_
 use Rattle.sng_text.specs.Ipv4.{IsAddress, ipv4_of}
 use Rattle.sng_grants.specs.declared.limits.TheConstants.{MAX_POLICY_CLIENTS, MAX_PAIRS, MAX_SOURCES}
 use Rattle.sng_grants.specs.declared.limits.TheConstants.{MAX_TOPICS}
-use Rattle.sng_scope.specs.Bounds.{AreWithin, IsPolicy, ScopesAreBounded, PoliciesAreBounded}
+use Rattle.sng_scope.specs.Bounds.{AreWithin, IsGrant, IsPolicy, ScopesAreBounded, PoliciesAreBounded}
 use Rattle.sng_grants.specs.Scopes.{IsScope}
 use Rattle.sng_scope.specs.Numerals.{topic_id_of}
 use Rattle.sng_scope.specs.Policies.{client_of, name_of_data, clients_onto, sources_onto, topics_onto}
 use Rattle.sng_scope.specs.Policies.{members_within, clients_of, sources_of, topics_of, is_policy_object}
-use Rattle.sng_scope.specs.Policies.{parts_of, policy_of_data}
+use Rattle.sng_scope.specs.Policies.{may_end, parts_of, policy_of_data}
+use Rattle.sng_scope.specs.Grants.{lasting_grant_of, end_of, grant_of_object, are_grant_members}
+use Rattle.sng_scope.specs.Grants.{grant_by_members, grant_of_data}
 use Rattle.sng_scope.specs.Scopes.{are_texts, are_permissions, pair_parts, pair_of, pairs_of, scope_of_items}
-use Rattle.sng_grants.specs.Sources.{with_scope}
+use Rattle.sng_grants.specs.Sources.{endless, with_grant}
 use Rattle.sng_scope.specs.Texts.{value_of, items_of_text, scope_of_encoded, scope_of_data}
 use Rattle.sng_grants.specs.Topics.{IsTopicId, with_name}
 use Rattle.sng_scope.specs.Steps.{◌>>=◌}
+use Rattle.sng_grants.specs.declared.grant.Grant.{Grant}
 use Rattle.sng_grants.specs.declared.scope.Pair.{Pair}
 use Rattle.sng_grants.specs.declared.policy.Policy.{Policy}
 use Rattle.sng_scope.specs.declared.fault.PolicyFault.{PolicyFault}
@@ -105,6 +108,32 @@ scope_of_data-scope (object ms) = tt
 pub scopes_are_bounded : ScopesAreBounded
 scopes_are_bounded text = after_any (value_of text) scope_of_data IsScope scope_of_data-scope
 
+-- ---- grants
+
+lasting_grant-grant : (d : Data) → IfOk (lasting_grant_of d) IsGrant
+lasting_grant-grant d =
+    after (scope_of_data d) (λ pairs. Ok (endless pairs)) IsScope IsGrant (scope_of_data-scope d)
+    (λ pairs is_scope. is_scope)
+
+grant_of_object-grant : (d : Data) → IfOk (grant_of_object d) IsGrant
+grant_of_object-grant d =
+    after_any (end_of (get (codes "exp") d)) _ IsGrant (λ end.
+    after_any (ok_or (get (codes "scope") d) Shape) _ IsGrant (λ scope.
+    after (scope_of_data scope) _ IsScope IsGrant (scope_of_data-scope scope) (λ pairs is_scope. is_scope)))
+
+members_known : (b : Bool) (r : Result Grant PolicyFault) → IfOk r IsGrant → IfOk (cond b r (Err Shape)) IsGrant
+members_known true r h = h
+members_known false r h = tt
+
+by_members-grant : (o : Option Members) (d : Data) → IfOk (grant_by_members o d) IsGrant
+by_members-grant None d = lasting_grant-grant d
+by_members-grant (Some ms) d =
+    members_known (are_grant_members ms) (grant_of_object d) (grant_of_object-grant d)
+
+grant_of_data-grant : (ends : Bool) (d : Data) → IfOk (grant_of_data ends d) IsGrant
+grant_of_data-grant true d = by_members-grant (as_object d) d
+grant_of_data-grant false d = lasting_grant-grant d
+
 -- one more entry at most
 placed : {A : Type 0} (o : Ordering) (n : ℕ) (a b c : List A) → length a ≤ n → length b ≤ n → length c ≤ n
     → length (match_ordering o a b c) ≤ n
@@ -134,35 +163,35 @@ name_of_data-name : (d : Data) → IfOk (name_of_data d) IsName
 name_of_data-name d =
     after_any (ok_or (as_str d) Shape) _ IsName (λ text. tested_name (is_name text) text refl)
 
-clients_onto-within : (ms : Members) (n : ℕ) (clients : List (List ℕ × List Pair))
-    → length clients + members_len ms ≤ n → All IsClient (keys_of clients) → All IsScope (values_of clients)
-    → IfOk (clients_onto clients ms) (AreWithin n IsClient IsScope)
-clients_onto-within no_members n clients h keys values =
+clients_onto-within : (ends : Bool) (ms : Members) (n : ℕ) (clients : List (List ℕ × Grant))
+    → length clients + members_len ms ≤ n → All IsClient (keys_of clients) → All IsGrant (values_of clients)
+    → IfOk (clients_onto ends clients ms) (AreWithin n IsClient IsGrant)
+clients_onto-within ends no_members n clients h keys values =
     record { few = omega arith; keys = keys; values = values }
-clients_onto-within (member name d ms) n clients h keys values =
-    after (client_of name) _ IsClient (AreWithin n IsClient IsScope) (client_of-client name)
+clients_onto-within ends (member name d ms) n clients h keys values =
+    after (client_of name) _ IsClient (AreWithin n IsClient IsGrant) (client_of-client name)
     (λ client is_client.
-    after (scope_of_data d) _ IsScope (AreWithin n IsClient IsScope) (scope_of_data-scope d)
-    (λ scope is_scope.
-    clients_onto-within ms n (with_scope clients client scope)
-    (omega (arith, length-insert_entry (slice_cmp nat_cmp) clients client scope))
-    (All-keys-insert_entry (slice_cmp nat_cmp) client scope IsClient clients keys is_client)
-    (All-values-insert_entry (slice_cmp nat_cmp) client scope IsScope clients values is_scope)))
+    after (grant_of_data ends d) _ IsGrant (AreWithin n IsClient IsGrant) (grant_of_data-grant ends d)
+    (λ grant is_grant.
+    clients_onto-within ends ms n (with_grant clients client grant)
+    (omega (arith, length-insert_entry (slice_cmp nat_cmp) clients client grant))
+    (All-keys-insert_entry (slice_cmp nat_cmp) client grant IsClient clients keys is_client)
+    (All-values-insert_entry (slice_cmp nat_cmp) client grant IsGrant clients values is_grant)))
 
-sources_onto-within : (ms : Members) (n : ℕ) (sources : List (List ℕ × List Pair))
-    → length sources + members_len ms ≤ n → All IsAddress (keys_of sources) → All IsScope (values_of sources)
-    → IfOk (sources_onto sources ms) (AreWithin n IsAddress IsScope)
-sources_onto-within no_members n sources h keys values =
+sources_onto-within : (ends : Bool) (ms : Members) (n : ℕ) (sources : List (List ℕ × Grant))
+    → length sources + members_len ms ≤ n → All IsAddress (keys_of sources) → All IsGrant (values_of sources)
+    → IfOk (sources_onto ends sources ms) (AreWithin n IsAddress IsGrant)
+sources_onto-within ends no_members n sources h keys values =
     record { few = omega arith; keys = keys; values = values }
-sources_onto-within (member name d ms) n sources h keys values =
-    after (ok_or (ipv4_of name) BadSource) _ IsAddress (AreWithin n IsAddress IsScope) (ipv4_of-address name)
+sources_onto-within ends (member name d ms) n sources h keys values =
+    after (ok_or (ipv4_of name) BadSource) _ IsAddress (AreWithin n IsAddress IsGrant) (ipv4_of-address name)
     (λ source is_address.
-    after (scope_of_data d) _ IsScope (AreWithin n IsAddress IsScope) (scope_of_data-scope d)
-    (λ scope is_scope.
-    sources_onto-within ms n (with_scope sources source scope)
-    (omega (arith, length-insert_entry (slice_cmp nat_cmp) sources source scope))
-    (All-keys-insert_entry (slice_cmp nat_cmp) source scope IsAddress sources keys is_address)
-    (All-values-insert_entry (slice_cmp nat_cmp) source scope IsScope sources values is_scope)))
+    after (grant_of_data ends d) _ IsGrant (AreWithin n IsAddress IsGrant) (grant_of_data-grant ends d)
+    (λ grant is_grant.
+    sources_onto-within ends ms n (with_grant sources source grant)
+    (omega (arith, length-insert_entry (slice_cmp nat_cmp) sources source grant))
+    (All-keys-insert_entry (slice_cmp nat_cmp) source grant IsAddress sources keys is_address)
+    (All-values-insert_entry (slice_cmp nat_cmp) source grant IsGrant sources values is_grant)))
 
 topics_onto-within : (ms : Members) (n : ℕ) (topics : List (ℕ × List ℕ)) → length topics + members_len ms ≤ n
     → All IsTopicId (keys_of topics) → All IsName (values_of topics)
@@ -188,20 +217,20 @@ members_within-few most d =
     after_any (ok_or (as_object d) Shape) _ (λ ms. members_len ms ≤ most)
     (λ ms. few_members (ltb most (members_len ms)) most ms refl)
 
-clients_of-within : (o : Option Data) → IfOk (clients_of o) (AreWithin MAX_POLICY_CLIENTS IsClient IsScope)
-clients_of-within None = record { few = omega arith; keys = All-nil IsClient; values = All-nil IsScope }
-clients_of-within (Some d) =
-    after (members_within MAX_POLICY_CLIENTS d) (clients_onto []) (λ ms. members_len ms ≤ MAX_POLICY_CLIENTS)
-    (AreWithin MAX_POLICY_CLIENTS IsClient IsScope) (members_within-few MAX_POLICY_CLIENTS d)
-    (λ ms few. clients_onto-within ms MAX_POLICY_CLIENTS [] (omega arith) (All-nil IsClient)
-    (All-nil IsScope))
+clients_of-within : (ends : Bool) (o : Option Data) → IfOk (clients_of ends o) (AreWithin MAX_POLICY_CLIENTS IsClient IsGrant)
+clients_of-within ends None = record { few = omega arith; keys = All-nil IsClient; values = All-nil IsGrant }
+clients_of-within ends (Some d) =
+    after (members_within MAX_POLICY_CLIENTS d) (clients_onto ends []) (λ ms. members_len ms ≤ MAX_POLICY_CLIENTS)
+    (AreWithin MAX_POLICY_CLIENTS IsClient IsGrant) (members_within-few MAX_POLICY_CLIENTS d)
+    (λ ms few. clients_onto-within ends ms MAX_POLICY_CLIENTS [] (omega arith) (All-nil IsClient)
+    (All-nil IsGrant))
 
-sources_of-within : (o : Option Data) → IfOk (sources_of o) (AreWithin MAX_SOURCES IsAddress IsScope)
-sources_of-within None = record { few = omega arith; keys = All-nil IsAddress; values = All-nil IsScope }
-sources_of-within (Some d) =
-    after (members_within MAX_SOURCES d) (sources_onto []) (λ ms. members_len ms ≤ MAX_SOURCES)
-    (AreWithin MAX_SOURCES IsAddress IsScope) (members_within-few MAX_SOURCES d)
-    (λ ms few. sources_onto-within ms MAX_SOURCES [] (omega arith) (All-nil IsAddress) (All-nil IsScope))
+sources_of-within : (ends : Bool) (o : Option Data) → IfOk (sources_of ends o) (AreWithin MAX_SOURCES IsAddress IsGrant)
+sources_of-within ends None = record { few = omega arith; keys = All-nil IsAddress; values = All-nil IsGrant }
+sources_of-within ends (Some d) =
+    after (members_within MAX_SOURCES d) (sources_onto ends []) (λ ms. members_len ms ≤ MAX_SOURCES)
+    (AreWithin MAX_SOURCES IsAddress IsGrant) (members_within-few MAX_SOURCES d)
+    (λ ms few. sources_onto-within ends ms MAX_SOURCES [] (omega arith) (All-nil IsAddress) (All-nil IsGrant))
 
 topics_of-within : (o : Option Data) → IfOk (topics_of o) (AreWithin MAX_TOPICS IsTopicId IsName)
 topics_of-within None = record { few = omega arith; keys = All-nil IsTopicId; values = All-nil IsName }
@@ -212,10 +241,10 @@ topics_of-within (Some d) =
 
 parts_of-policy : (d : Data) → IfOk (parts_of d) IsPolicy
 parts_of-policy d =
-    after (clients_of (get (codes "clients") d)) _ (AreWithin MAX_POLICY_CLIENTS IsClient IsScope) IsPolicy
-    (clients_of-within (get (codes "clients") d)) (λ clients c.
-    after (sources_of (get (codes "sources") d)) _ (AreWithin MAX_SOURCES IsAddress IsScope) IsPolicy
-    (sources_of-within (get (codes "sources") d)) (λ sources s.
+    after (clients_of (may_end d) (get (codes "clients") d)) _ (AreWithin MAX_POLICY_CLIENTS IsClient IsGrant) IsPolicy
+    (clients_of-within (may_end d) (get (codes "clients") d)) (λ clients c.
+    after (sources_of (may_end d) (get (codes "sources") d)) _ (AreWithin MAX_SOURCES IsAddress IsGrant) IsPolicy
+    (sources_of-within (may_end d) (get (codes "sources") d)) (λ sources s.
     after (topics_of (get (codes "topics") d)) _ (AreWithin MAX_TOPICS IsTopicId IsName) IsPolicy
     (topics_of-within (get (codes "topics") d)) (λ topics t.
     record { clients = c; sources = s; topics = t })))

@@ -1,6 +1,6 @@
 -- Members that are read one after another into entries in the order of their keys, and members that entries
 -- are written as: these are read as those entries.
-use Rattle.std.proofs.Common.{◌≡◌, ℕ, ◌+◌, List, [], ◌∷◌, ◌++◌, Ordering, Less, Equal}
+use Rattle.std.proofs.Common.{◌≡◌, ℕ, List, [], ◌∷◌, ◌++◌, Ordering, Less, Equal}
 use Rattle.std.proofs.Common.{Greater, nat_cmp, is_eq, Result, Ok, refl, sym, ap, ◌∙◌, append-nil}
 use Rattle.std.proofs.Common.{append_assoc}
 use Rattle.std.proofs.lemmas.Cmp.{tied_itself}

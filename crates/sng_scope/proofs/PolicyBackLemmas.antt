@@ -1,40 +1,43 @@
 -- A policy is read from what is written of it.
-use Rattle.std.proofs.Common.{◌≡◌, ℕ, suc, ◌+◌, ◌≤◌, true, List, [], ◌∷◌, length}
+use Rattle.std.proofs.Common.{◌≡◌, ℕ, suc, ◌+◌, ◌≤◌, Bool, true, false, List, [], ◌∷◌, length, nat_le, codes}
+use Rattle.std.proofs.Common.{Option, None, is_some, if◌then◌else◌}
 use Rattle.std.proofs.Common.{Ordering, Less, Equal, Greater, Some, Result, Ok, Err, ok_or, All}
 use Rattle.std.proofs.Common.{nat_cmp, refl, ap, ◌∙◌, arith}
 use Rattle.std.proofs.lemmas.Bool.{le-ltb}
 use Rattle.std.proofs.lemmas.Cmp.{nat_cmp_total, nat_list_cmp_total}
-use Rattle.std.proofs.lemmas.List.Elements.{All-head, All-tail}
+use Rattle.std.proofs.lemmas.List.Elements.{All-head, All-tail, All-nil, All-cons}
 use Rattle.std.specs.BTreeMap.{insert_entry}
 use Rattle.std.specs.Cmp.{IsTotalOrder}
 use Rattle.std.specs.Cmp.Lexicographic.{slice_cmp}
 use Rattle.std.specs.Fmt.{decimal}
 use Rattle.std.specs.Map.{keys_of, values_of}
 use Rattle.std.specs.Ordering.{match_ordering}
-use Rattle.serde_json.specs.Data.{Data, string, Members, no_members, member, object, put}
+use Rattle.serde_json.specs.Data.{Data, string, number, unsigned, Members, no_members, member, object, put}
 use Rattle.serde_json.specs.Events.{members_len}
 use Rattle.sng_text.specs.ClientIds.{is_client_id}
 use Rattle.sng_text.specs.Ipv4.{IsAddress, ipv4_of}
 use Rattle.sng_text.specs.Texts.{is_name}
 use Rattle.sng_grants.specs.Laws.{AreInOrder, AreIdsInOrder}
-use Rattle.sng_grants.specs.Scopes.{IsScope}
+use Rattle.sng_grants.specs.Ends.{next_end}
+use Rattle.sng_grants.specs.Sources.{sooner, first_end}
+use Rattle.sng_grants.specs.declared.policy.Policy.{Policy}
 use Rattle.sng_grants.specs.declared.limits.TheConstants.{MAX_POLICY_CLIENTS, MAX_SOURCES, MAX_TOPICS}
-use Rattle.sng_grants.specs.declared.scope.Pair.{Pair}
+use Rattle.sng_grants.specs.declared.grant.Grant.{Grant}
 use Rattle.sng_grants.specs.Topics.{IsTopicId}
-use Rattle.sng_scope.specs.Bounds.{AreWithin}
-use Rattle.sng_scope.specs.Laws.{PoliciesAreReadBack}
+use Rattle.sng_scope.specs.Bounds.{AreWithin, IsGrant, IsPolicy}
+use Rattle.sng_scope.specs.Laws.{IsInOrder, PoliciesAreReadBack}
 use Rattle.sng_scope.specs.Numerals.{topic_id_of}
 use Rattle.sng_scope.specs.Policies.{client_of, name_of_data, clients_onto, sources_onto, topics_onto}
-use Rattle.sng_scope.specs.Policies.{clients_of, sources_of, topics_of, members_within}
+use Rattle.sng_scope.specs.Policies.{clients_of, sources_of, topics_of, members_within, policy_of_data}
 use Rattle.sng_scope.specs.Steps.{◌>>=◌}
-use Rattle.sng_scope.specs.Texts.{scope_of_data}
-use Rattle.sng_scope.specs.Written.{scope_data, with_members, clients_data, dotted, sources_data, topics_data}
+use Rattle.sng_scope.specs.Grants.{grant_of_data}
+use Rattle.sng_scope.specs.Written.{grant_data, with_members, clients_data, dotted, sources_data, topics_data}
 use Rattle.sng_scope.specs.declared.fault.PolicyFault.{PolicyFault}
 use Rattle.sng_scope.specs.declared.fault.PolicyFault.TheVariants.{BadSource, BadTopicId}
 use Rattle.sng_scope.proofs.DottedLemmas.{dotted-read}
 use Rattle.sng_scope.proofs.LawLemmas.{topic_ids_are_decimal}
 use Rattle.sng_scope.proofs.OntoLemmas.{onto, reads, AreSaid}
-use Rattle.sng_scope.proofs.ScopeBackLemmas.{scope-read}
+use Rattle.sng_scope.proofs.ScopeBackLemmas.{CanSay, grant-read}
 
 -- ---- the members of clients, sources and topics are taken in one way
 
@@ -52,19 +55,19 @@ source_of name = ok_or (ipv4_of name) BadSource
 abbrev id_from : List ℕ → Result ℕ PolicyFault
 id_from name = ok_or (topic_id_of name) BadTopicId
 
-clients-onto : (ms : Members) (found : List (List ℕ × List Pair))
-    → clients_onto found ms ≡ onto by_bytes client_of scope_of_data found ms
-clients-onto no_members found = refl
-clients-onto (member name d ms) found =
-    same_steps (client_of name) _ _ (λ client. same_steps (scope_of_data d) _ _
-    (λ scope. clients-onto ms (insert_entry by_bytes found client scope)))
+clients-onto : (ends : Bool) (ms : Members) (found : List (List ℕ × Grant))
+    → clients_onto ends found ms ≡ onto by_bytes client_of (grant_of_data ends) found ms
+clients-onto ends no_members found = refl
+clients-onto ends (member name d ms) found =
+    same_steps (client_of name) _ _ (λ client. same_steps (grant_of_data ends d) _ _
+    (λ grant. clients-onto ends ms (insert_entry by_bytes found client grant)))
 
-sources-onto : (ms : Members) (found : List (List ℕ × List Pair))
-    → sources_onto found ms ≡ onto by_bytes source_of scope_of_data found ms
-sources-onto no_members found = refl
-sources-onto (member name d ms) found =
-    same_steps (source_of name) _ _ (λ source. same_steps (scope_of_data d) _ _
-    (λ scope. sources-onto ms (insert_entry by_bytes found source scope)))
+sources-onto : (ends : Bool) (ms : Members) (found : List (List ℕ × Grant))
+    → sources_onto ends found ms ≡ onto by_bytes source_of (grant_of_data ends) found ms
+sources-onto ends no_members found = refl
+sources-onto ends (member name d ms) found =
+    same_steps (source_of name) _ _ (λ source. same_steps (grant_of_data ends d) _ _
+    (λ grant. sources-onto ends ms (insert_entry by_bytes found source grant)))
 
 topics-onto : (ms : Members) (found : List (ℕ × List ℕ))
     → topics_onto found ms ≡ onto nat_cmp id_from name_of_data found ms
@@ -128,29 +131,31 @@ said R key value name data_of total P Q keys values (e ∷ es) ks vs = (
       (All-tail Q e.1 (values_of es) vs),
 )
 
-clients-read : (clients : List (List ℕ × List Pair))
-    → AreWithin MAX_POLICY_CLIENTS (λ client. is_client_id client ≡ true) IsScope clients
-    → AreInOrder clients → clients_of (Some (clients_data clients)) ≡ Ok clients
-clients-read clients are sorted =
-    let ms = with_members (λ (client : List ℕ). client) scope_data no_members clients in
-    let few = with-few (λ (client : List ℕ). client) scope_data clients no_members in
-    ap (λ r. r >>= clients_onto []) (within MAX_POLICY_CLIENTS ms (omega (arith, are.few)))
-    ∙ clients-onto ms []
-    ∙ reads by_bytes nat_list_cmp_total client_of scope_of_data (λ client. client) scope_data clients
-    (said by_bytes client_of scope_of_data (λ client. client) scope_data nat_list_cmp_total _ IsScope
-    client-read scope-read clients are.keys are.values)
+clients-read : (ends : Bool) (clients : List (List ℕ × Grant))
+    → AreWithin MAX_POLICY_CLIENTS (λ client. is_client_id client ≡ true) IsGrant clients
+    → All (CanSay ends) (values_of clients)
+    → AreInOrder clients → clients_of ends (Some (clients_data clients)) ≡ Ok clients
+clients-read ends clients are can sorted =
+    let ms = with_members (λ (client : List ℕ). client) grant_data no_members clients in
+    let few = with-few (λ (client : List ℕ). client) grant_data clients no_members in
+    ap (λ r. r >>= clients_onto ends []) (within MAX_POLICY_CLIENTS ms (omega (arith, are.few)))
+    ∙ clients-onto ends ms []
+    ∙ reads by_bytes nat_list_cmp_total client_of (grant_of_data ends) (λ client. client) grant_data clients
+    (said by_bytes client_of (grant_of_data ends) (λ client. client) grant_data nat_list_cmp_total _
+    (CanSay ends) client-read (grant-read ends) clients are.keys can)
     sorted
 
-sources-read : (sources : List (List ℕ × List Pair)) → AreWithin MAX_SOURCES IsAddress IsScope sources
-    → AreInOrder sources → sources_of (Some (sources_data sources)) ≡ Ok sources
-sources-read sources are sorted =
-    let ms = with_members dotted scope_data no_members sources in
-    let few = with-few dotted scope_data sources no_members in
-    ap (λ r. r >>= sources_onto []) (within MAX_SOURCES ms (omega (arith, are.few)))
-    ∙ sources-onto ms []
-    ∙ reads by_bytes nat_list_cmp_total source_of scope_of_data dotted scope_data sources
-    (said by_bytes source_of scope_of_data dotted scope_data nat_list_cmp_total IsAddress IsScope source-read
-    scope-read sources are.keys are.values)
+sources-read : (ends : Bool) (sources : List (List ℕ × Grant)) → AreWithin MAX_SOURCES IsAddress IsGrant sources
+    → All (CanSay ends) (values_of sources)
+    → AreInOrder sources → sources_of ends (Some (sources_data sources)) ≡ Ok sources
+sources-read ends sources are can sorted =
+    let ms = with_members dotted grant_data no_members sources in
+    let few = with-few dotted grant_data sources no_members in
+    ap (λ r. r >>= sources_onto ends []) (within MAX_SOURCES ms (omega (arith, are.few)))
+    ∙ sources-onto ends ms []
+    ∙ reads by_bytes nat_list_cmp_total source_of (grant_of_data ends) dotted grant_data sources
+    (said by_bytes source_of (grant_of_data ends) dotted grant_data nat_list_cmp_total IsAddress (CanSay ends)
+    source-read (grant-read ends) sources are.keys can)
     sorted
 
 topics-read : (topics : List (ℕ × List ℕ))
@@ -173,12 +178,70 @@ three_steps : {A B C D E : Type 0} (r : Result A E) (s : Result B E) (t : Result
     → (r >>= (λ x. s >>= (λ y. t >>= (λ z. f x y z)))) ≡ f a b c
 three_steps r s t a b c f first second third = rw (first, second, third) refl
 
-pub policies_are_read_back : PoliciesAreReadBack
-policies_are_read_back policy is sorted =
-    three_steps (clients_of (Some (clients_data policy.clients)))
-    (sources_of (Some (sources_data policy.sources))) (topics_of (Some (topics_data policy.topics)))
+-- ---- which version it takes
+
+some_end : (end other : ℕ) (b : Bool) → (if b then Some end else Some other) ≡ None → ⊥
+some_end end other true is = cc
+some_end end other false is = cc
+
+-- no grant has an end
+first_none : (end other : Option ℕ) → sooner end other ≡ None → (end ≡ None) × (other ≡ None)
+first_none None other is = (refl, is)
+first_none (Some end) None is = absurd (cc)
+first_none (Some end) (Some other) is = absurd (some_end end other (nat_le end other) is)
+
+endless : {K : Type 0} (listed : List (K × Grant)) → All IsGrant (values_of listed) → first_end listed ≡ None
+    → All (CanSay false) (values_of listed)
+endless [] are none = All-nil (CanSay false)
+endless (entry ∷ listed) are none =
+    let parts = first_none entry.1.until (first_end listed) none in
+    All-cons (CanSay false) entry.1 (values_of listed)
+    (All-head IsGrant entry.1 (values_of listed) are, parts.0)
+    (endless listed (All-tail IsGrant entry.1 (values_of listed) are) parts.1)
+
+-- what can be said with the ends of these clients and sources
+abbrev BothSaid : Bool → Policy → Type 0
+BothSaid ends policy =
+    All (CanSay ends) (values_of policy.clients) × All (CanSay ends) (values_of policy.sources)
+
+both_said : (policy : Policy) (end : Option ℕ) → next_end policy ≡ end → IsPolicy policy
+    → BothSaid (is_some end) policy
+both_said policy (Some end) ends is = (is.clients.values, is.sources.values)
+both_said policy None ends is =
+    let parts = first_none (first_end policy.clients) (first_end policy.sources) ends in (
+      endless policy.clients is.clients.values parts.0,
+      endless policy.sources is.sources.values parts.1,
+    )
+
+-- the parts, read by a version
+parts_read : (ends : Bool) (policy : Policy) → IsPolicy policy → IsInOrder policy → BothSaid ends policy
+    → (clients_of ends (Some (clients_data policy.clients)) >>= (λ clients.
+    sources_of ends (Some (sources_data policy.sources)) >>= (λ sources.
+    topics_of (Some (topics_data policy.topics)) >>= (λ topics.
+    Ok (record { clients = clients; sources = sources; topics = topics })))))
+    ≡ Ok policy
+parts_read ends policy is sorted said =
+    three_steps (clients_of ends (Some (clients_data policy.clients)))
+    (sources_of ends (Some (sources_data policy.sources))) (topics_of (Some (topics_data policy.topics)))
     policy.clients policy.sources policy.topics
     (λ clients sources topics. Ok (record { clients = clients; sources = sources; topics = topics }))
-    (clients-read policy.clients is.clients sorted.clients)
-    (sources-read policy.sources is.sources sorted.sources)
+    (clients-read ends policy.clients is.clients said.0 sorted.clients)
+    (sources-read ends policy.sources is.sources said.1 sorted.sources)
     (topics-read policy.topics is.topics sorted.topics)
+
+-- the object of a policy, of this version
+abbrev data_of : Policy → Bool → Data
+data_of policy ends =
+    object (member (codes "clients") (clients_data policy.clients)
+    (member (codes "sources") (sources_data policy.sources)
+    (member (codes "topics") (topics_data policy.topics)
+    (member (codes "version") (number (unsigned (if ends then 2 else 1))) no_members))))
+
+back : (ends : Bool) (policy : Policy) → IsPolicy policy → IsInOrder policy → BothSaid ends policy
+    → policy_of_data (data_of policy ends) ≡ Ok policy
+back true policy is sorted said = parts_read true policy is sorted said
+back false policy is sorted said = parts_read false policy is sorted said
+
+pub policies_are_read_back : PoliciesAreReadBack
+policies_are_read_back policy is sorted =
+    back (is_some (next_end policy)) policy is sorted (both_said policy (next_end policy) refl is)

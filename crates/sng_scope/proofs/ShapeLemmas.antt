@@ -1,6 +1,6 @@
 -- What is written of a policy is shallow and has no float.
 use Rattle.std.proofs.Common.{◌≡◌, ℕ, ◌≤◌, max, Bool, true, false, ◌||◌, List, [], ◌∷◌, Ordering, Less, Equal}
-use Rattle.std.proofs.Common.{Greater, nat_cmp, refl, arith}
+use Rattle.std.proofs.Common.{Greater, nat_cmp, refl, arith, Option, Some, None}
 use Rattle.std.specs.Cmp.Lexicographic.{slice_cmp}
 use Rattle.std.specs.Fmt.{decimal}
 use Rattle.std.specs.Ordering.{match_ordering}
@@ -9,8 +9,10 @@ use Rattle.serde_json.specs.Data.{members_depth}
 use Rattle.serde_json.specs.Read.{max_depth}
 use Rattle.serde_json.specs.Written.{has_float, members_have_float}
 use Rattle.sng_grants.specs.declared.policy.Policy.{Policy}
+use Rattle.sng_grants.specs.declared.grant.Grant.{Grant}
 use Rattle.sng_grants.specs.declared.scope.Pair.{Pair}
-use Rattle.sng_scope.specs.Written.{pair_data, pairs_data, scope_data, with_members, dotted, policy_data}
+use Rattle.sng_scope.specs.Written.{pair_data, pairs_data, scope_data, scope_until, grant_data, with_members}
+use Rattle.sng_scope.specs.Written.{dotted, policy_data}
 
 -- ---- depth
 
@@ -61,14 +63,21 @@ pairs-depth (pair ∷ pairs) =
 scope-depth : (pairs : List Pair) → depth (scope_data pairs) ≤ 3
 scope-depth pairs = let few = pairs-depth pairs in omega arith
 
+until-depth : (pairs : List Pair) (until : Option ℕ) → depth (scope_until pairs until) ≤ 4
+until-depth pairs None = let few = scope-depth pairs in omega arith
+until-depth pairs (Some end) = let few = scope-depth pairs in omega arith
+
+grant-depth : (grant : Grant) → depth (grant_data grant) ≤ 4
+grant-depth grant = until-depth grant.scope grant.until
+
 name-depth : (name : List ℕ) → depth (string name) ≤ 3
 name-depth name = omega arith
 
 pub policy-depth : (policy : Policy) → depth (policy_data policy) ≤ max_depth
 policy-depth policy =
-    let clients = with-depth (λ (client : List ℕ). client) scope_data 3 scope-depth policy.clients no_members
+    let clients = with-depth (λ (client : List ℕ). client) grant_data 4 grant-depth policy.clients no_members
     (omega arith) in
-    let sources = with-depth dotted scope_data 3 scope-depth policy.sources no_members (omega arith) in
+    let sources = with-depth dotted grant_data 4 grant-depth policy.sources no_members (omega arith) in
     let topics = with-depth decimal string 3 name-depth policy.topics no_members (omega arith) in
     omega arith
 
@@ -123,9 +132,16 @@ scope-float [] = refl
 scope-float (pair ∷ pairs) =
     neither _ _ (permitted-float pair.filter pair.publishes pair.subscribes) (scope-float pairs)
 
+until-float : (pairs : List Pair) (until : Option ℕ) → has_float (scope_until pairs until) ≡ false
+until-float pairs None = scope-float pairs
+until-float pairs (Some end) = neither _ _ refl (neither _ _ (scope-float pairs) refl)
+
+grant-float : (grant : Grant) → has_float (grant_data grant) ≡ false
+grant-float grant = until-float grant.scope grant.until
+
 pub policy-float : (policy : Policy) → has_float (policy_data policy) ≡ false
 policy-float policy =
     neither _ _
-    (with-float (λ (client : List ℕ). client) scope_data scope-float policy.clients no_members refl)
-    (neither _ _ (with-float dotted scope_data scope-float policy.sources no_members refl)
+    (with-float (λ (client : List ℕ). client) grant_data grant-float policy.clients no_members refl)
+    (neither _ _ (with-float dotted grant_data grant-float policy.sources no_members refl)
     (neither _ _ (with-float decimal string (λ name. refl) policy.topics no_members refl) refl))

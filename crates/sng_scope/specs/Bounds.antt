@@ -9,7 +9,7 @@ use Rattle.sng_grants.specs.Scopes.{IsScope}
 use Rattle.sng_grants.specs.Topics.{IsTopicId}
 use Rattle.sng_scope.specs.Policies.{policy_of}
 use Rattle.sng_scope.specs.Texts.{scope_of_text}
-use Rattle.sng_grants.specs.declared.scope.Pair.{Pair}
+use Rattle.sng_grants.specs.declared.grant.Grant.{Grant}
 use Rattle.sng_grants.specs.declared.policy.Policy.{Policy}
 
 -- at most so many entries, each with a key and a value as they must be
@@ -19,9 +19,13 @@ pub record AreWithin {K V : Type 0} (most : ℕ) (IsKey : K → Type 0) (IsValue
   pub keys : All IsKey (keys_of entries)
   pub values : All IsValue (values_of entries)
 
+-- the scope of a grant keeps to its bounds
+abbrev pub IsGrant : Grant → Type 0
+IsGrant grant = IsScope grant.scope
+
 pub record IsPolicy (policy : Policy) : Type 0 where
-  pub clients : AreWithin MAX_POLICY_CLIENTS (λ client. is_client_id client ≡ true) IsScope policy.clients
-  pub sources : AreWithin MAX_SOURCES IsAddress IsScope policy.sources
+  pub clients : AreWithin MAX_POLICY_CLIENTS (λ client. is_client_id client ≡ true) IsGrant policy.clients
+  pub sources : AreWithin MAX_SOURCES IsAddress IsGrant policy.sources
   pub topics : AreWithin MAX_TOPICS IsTopicId (λ name. is_name name ≡ true) policy.topics
 
 abbrev pub ScopesAreBounded : Type 0

@@ -3,6 +3,7 @@ pub mod Steps
 pub mod Numerals
 pub mod Scopes
 pub mod Texts
+pub mod Grants
 pub mod Policies
 pub mod Bounds
 pub mod Laws

@@ -1,4 +1,4 @@
--- Policy texts: a JSON object (RFC 8259) with the version, the scopes of clients and of sources, and the
+-- Policy texts: a JSON object (RFC 8259) with the version, the grants of clients and of sources, and the
 -- predefined topics.
 use Rattle.std.specs.Prelude.{ℕ, Bool, true, false, ◌==◌, ◌&&◌, ◌||◌, nat_lt, List, [], if◌then◌else◌, Option}
 use Rattle.std.specs.Prelude.{Some, None, option_map, option_and_then, unwrap_or, ok_or, Result, Ok, Err}
@@ -12,11 +12,12 @@ use Rattle.sng_text.specs.Texts.{is_name}
 use Rattle.sng_text.specs.Ipv4.{ipv4_of}
 use Rattle.sng_grants.specs.declared.limits.TheConstants.{MAX_POLICY_CLIENTS, MAX_SOURCES, MAX_TOPICS}
 use Rattle.sng_scope.specs.Numerals.{topic_id_of}
-use Rattle.sng_grants.specs.Sources.{with_scope}
+use Rattle.sng_grants.specs.Sources.{with_grant}
 use Rattle.sng_scope.specs.Steps.{◌>>=◌}
-use Rattle.sng_scope.specs.Texts.{value_of, scope_of_data}
+use Rattle.sng_scope.specs.Grants.{grant_of_data}
+use Rattle.sng_scope.specs.Texts.{value_of}
 use Rattle.sng_grants.specs.Topics.{with_name}
-use Rattle.sng_grants.specs.declared.scope.Pair.{Pair}
+use Rattle.sng_grants.specs.declared.grant.Grant.{Grant}
 use Rattle.sng_grants.specs.declared.policy.Policy.{Policy}
 use Rattle.sng_scope.specs.declared.fault.PolicyFault.{PolicyFault}
 use Rattle.sng_scope.specs.declared.fault.PolicyFault.TheVariants.{Shape, BadClientId, BadSource, BadTopicId}
@@ -33,15 +34,21 @@ abbrev pub are_known : Members → Bool
 are_known no_members = true
 are_known (member name d ms) = is_known name && are_known ms
 
--- `version` is there, and is the whole number 1
-abbrev pub is_version_one : Data → Bool
-is_version_one d =
-    unwrap_or (option_map (λ n. n == 1)
-    (option_and_then as_u64 (option_and_then as_number (get (codes "version") d)))) false
+-- `version`, where it is a whole number
+abbrev pub version_of : Data → Option ℕ
+version_of d = option_and_then as_u64 (option_and_then as_number (get (codes "version") d))
 
--- an object of this version, with no member that is unknown
+-- it is there, and is the whole number 1 or 2
+abbrev pub is_version : Data → Bool
+is_version d = unwrap_or (option_map (λ n. (n == 1) || (n == 2)) (version_of d)) false
+
+-- it is 2: scopes may end
+abbrev pub may_end : Data → Bool
+may_end d = unwrap_or (option_map (λ n. n == 2) (version_of d)) false
+
+-- an object of such a version, with no member that is unknown
 abbrev pub is_policy_object : Data → Bool
-is_policy_object d = is_version_one d && unwrap_or (option_map are_known (as_object d)) false
+is_policy_object d = is_version d && unwrap_or (option_map are_known (as_object d)) false
 
 -- ---- keys and topic names
 
@@ -56,19 +63,19 @@ name_of_data d = ok_or (as_str d) Shape >>= (λ text. if is_name text then Ok te
 -- ---- clients, sources and topics: their members are taken in the byte order of their names, in which an
 -- object has them, and in each the name is judged before the value
 
-abbrev pub clients_onto : List (List ℕ × List Pair) → Members → Result (List (List ℕ × List Pair)) PolicyFault
-clients_onto clients no_members = Ok clients
-clients_onto clients (member name d ms) = do
+abbrev pub clients_onto : Bool → List (List ℕ × Grant) → Members → Result (List (List ℕ × Grant)) PolicyFault
+clients_onto ends clients no_members = Ok clients
+clients_onto ends clients (member name d ms) = do
   client ← client_of name
-  scope ← scope_of_data d
-  clients_onto (with_scope clients client scope) ms
+  grant ← grant_of_data ends d
+  clients_onto ends (with_grant clients client grant) ms
 
-abbrev pub sources_onto : List (List ℕ × List Pair) → Members → Result (List (List ℕ × List Pair)) PolicyFault
-sources_onto sources no_members = Ok sources
-sources_onto sources (member name d ms) = do
+abbrev pub sources_onto : Bool → List (List ℕ × Grant) → Members → Result (List (List ℕ × Grant)) PolicyFault
+sources_onto ends sources no_members = Ok sources
+sources_onto ends sources (member name d ms) = do
   source ← ok_or (ipv4_of name) BadSource
-  scope ← scope_of_data d
-  sources_onto (with_scope sources source scope) ms
+  grant ← grant_of_data ends d
+  sources_onto ends (with_grant sources source grant) ms
 
 abbrev pub topics_onto : List (ℕ × List ℕ) → Members → Result (List (ℕ × List ℕ)) PolicyFault
 topics_onto topics no_members = Ok topics
@@ -83,13 +90,13 @@ members_within most d =
     ok_or (as_object d) Shape >>= (λ ms. if nat_lt most (members_len ms) then Err TooMany else Ok ms)
 
 -- what is absent is empty
-abbrev pub clients_of : Option Data → Result (List (List ℕ × List Pair)) PolicyFault
-clients_of None = Ok []
-clients_of (Some d) = members_within MAX_POLICY_CLIENTS d >>= clients_onto []
+abbrev pub clients_of : Bool → Option Data → Result (List (List ℕ × Grant)) PolicyFault
+clients_of ends None = Ok []
+clients_of ends (Some d) = members_within MAX_POLICY_CLIENTS d >>= clients_onto ends []
 
-abbrev pub sources_of : Option Data → Result (List (List ℕ × List Pair)) PolicyFault
-sources_of None = Ok []
-sources_of (Some d) = members_within MAX_SOURCES d >>= sources_onto []
+abbrev pub sources_of : Bool → Option Data → Result (List (List ℕ × Grant)) PolicyFault
+sources_of ends None = Ok []
+sources_of ends (Some d) = members_within MAX_SOURCES d >>= sources_onto ends []
 
 abbrev pub topics_of : Option Data → Result (List (ℕ × List ℕ)) PolicyFault
 topics_of None = Ok []
@@ -100,8 +107,8 @@ topics_of (Some d) = members_within MAX_TOPICS d >>= topics_onto []
 -- the clients, the sources and the topics of an object
 abbrev pub parts_of : Data → Result Policy PolicyFault
 parts_of d = do
-  clients ← clients_of (get (codes "clients") d)
-  sources ← sources_of (get (codes "sources") d)
+  clients ← clients_of (may_end d) (get (codes "clients") d)
+  sources ← sources_of (may_end d) (get (codes "sources") d)
   topics ← topics_of (get (codes "topics") d)
   Ok (record { clients = clients; sources = sources; topics = topics })
 

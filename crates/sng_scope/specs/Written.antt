@@ -1,11 +1,14 @@
--- The canonical text of a policy: JSON on one line (RFC 8259) of version 1, without blanks, its members in
--- the byte order of their names.
-use Rattle.std.specs.Prelude.{ℕ, Bool, true, false, List, [], ◌∷◌, ◌++◌, map, codes, slice_index}
+-- The canonical text of a policy: JSON on one line (RFC 8259), without blanks, its members in the byte order of
+-- their names. It is of version 2 where a scope ends, and else of version 1.
+use Rattle.std.specs.Prelude.{ℕ, Bool, true, false, List, [], ◌∷◌, ◌++◌, map, codes, slice_index, is_some}
+use Rattle.std.specs.Prelude.{Option, Some, None, if◌then◌else◌}
 use Rattle.std.specs.Fmt.{decimal}
 use Rattle.serde_json.specs.Data.{Data, number, unsigned, string, array, object, Items, no_items, item}
 use Rattle.serde_json.specs.Data.{Members, no_members, member, put}
 use Rattle.serde_json.specs.View.{items_of}
 use Rattle.serde_json.specs.Written.{compact_text}
+use Rattle.sng_grants.specs.Ends.{next_end}
+use Rattle.sng_grants.specs.declared.grant.Grant.{Grant}
 use Rattle.sng_grants.specs.declared.scope.Pair.{Pair}
 use Rattle.sng_grants.specs.declared.policy.Policy.{Policy}
 
@@ -29,13 +32,22 @@ pairs_data pairs = items_of (map pair_data pairs)
 abbrev pub scope_data : List Pair → Data
 scope_data pairs = array (pairs_data pairs)
 
+-- a scope that never ends stands by itself, and another one in an object with its end
+abbrev pub scope_until : List Pair → Option ℕ → Data
+scope_until pairs None = scope_data pairs
+scope_until pairs (Some end) =
+    object (member (codes "exp") (number (unsigned end)) (member (codes "scope") (scope_data pairs) no_members))
+
+abbrev pub grant_data : Grant → Data
+grant_data grant = scope_until grant.scope grant.until
+
 -- the members with one more for each entry, each in the place of its name
 abbrev pub with_members : {K V : Type 0} → (K → List ℕ) → (V → Data) → Members → List (K × V) → Members
 with_members name value ms [] = ms
 with_members name value ms (e ∷ es) = with_members name value (put (name e.0) (value e.1) ms) es
 
-abbrev pub clients_data : List (List ℕ × List Pair) → Data
-clients_data clients = object (with_members (λ client. client) scope_data no_members clients)
+abbrev pub clients_data : List (List ℕ × Grant) → Data
+clients_data clients = object (with_members (λ client. client) grant_data no_members clients)
 
 -- four decimal numbers, parted by points
 abbrev pub dotted : List ℕ → List ℕ
@@ -43,11 +55,15 @@ dotted octets =
     decimal (slice_index octets 0) ++ codes "." ++ decimal (slice_index octets 1) ++ codes "."
     ++ decimal (slice_index octets 2) ++ codes "." ++ decimal (slice_index octets 3)
 
-abbrev pub sources_data : List (List ℕ × List Pair) → Data
-sources_data sources = object (with_members dotted scope_data no_members sources)
+abbrev pub sources_data : List (List ℕ × Grant) → Data
+sources_data sources = object (with_members dotted grant_data no_members sources)
 
 abbrev pub topics_data : List (ℕ × List ℕ) → Data
 topics_data topics = object (with_members decimal string no_members topics)
+
+-- the least version that has what the policy needs
+abbrev pub version_for : Policy → ℕ
+version_for policy = if is_some (next_end policy) then 2 else 1
 
 -- an object of all four members
 abbrev pub policy_data : Policy → Data
@@ -55,7 +71,7 @@ policy_data policy =
     object (member (codes "clients") (clients_data policy.clients)
     (member (codes "sources") (sources_data policy.sources)
     (member (codes "topics") (topics_data policy.topics)
-    (member (codes "version") (number (unsigned 1)) no_members))))
+    (member (codes "version") (number (unsigned (version_for policy))) no_members))))
 
 abbrev pub policy_text : Policy → List ℕ
 policy_text policy = compact_text (policy_data policy)

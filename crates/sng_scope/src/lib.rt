@@ -1,8 +1,9 @@
 //! Scopes and policies from their texts, and policies as texts (RFC 9237, RFC 9431: the list of pairs of
-//! AIF-MQTT). What they are as values stands in `sng_grants`.
+//! AIF-MQTT; RFC 9200, 5.8: their end). What they are as values stands in `sng_grants`.
 #![tactic(auto)]
 
 pub mod fault;
+mod grant_form;
 mod json_text;
 pub mod laws;
 mod members;
@@ -14,11 +15,12 @@ mod topic_id;
 pub mod write;
 
 pub use fault::PolicyFault;
+pub use grant_form::is_grant_member;
 pub use json_text::value_from;
-pub use members::{is_known, is_version_one};
+pub use members::{is_known, is_version, may_end};
 pub use permissions::says;
 pub use read::{read_policy, read_scope};
 pub use scope_form::bytes_from;
-pub use sng_grants::{Clients, Pair, Policy, Scope, Sources, Topics};
+pub use sng_grants::{Clients, Grant, Pair, Policy, Scope, Sources, Topics};
 pub use topic_id::topic_id_from;
 pub use write::write_policy;

@@ -2,7 +2,7 @@
 ghost use Rattle.std.specs.Prelude.{◌≡◌, ◌⊎◌, IfOk, IfErr, Ok, Err, MatchResult, nat_lt, length, ◌≤◌};
 ghost use Rattle.serde_json.specs.Events.{members_len};
 ghost use Rattle.serde_json.specs.View.{view, members_view};
-ghost use Rattle.sng_scope.specs.Policies.{is_known, are_known, is_version_one, is_policy_object};
+ghost use Rattle.sng_scope.specs.Policies.{is_known, are_known, is_version, may_end, is_policy_object};
 ghost use Rattle.sng_scope.specs.Policies.{members_within, parts_of, policy_of_data};
 
 mod clients;
@@ -34,8 +34,9 @@ fn parts_from(alloc: Global, value: &Value) -> Result<Policy, PolicyFault>
     ensures err { IfErr result (λ e. (e ≡ PolicyFault.Memory)
         ⊎ (parts_of (view value.now) ≡ Err e)) }
 {
-    let clients = clients_in(alloc, value)?;
-    let sources = sources_in(alloc, value)?;
+    let ends = may_end(value);
+    let clients = clients_in(alloc, ends, value)?;
+    let sources = sources_in(alloc, ends, value)?;
     let topics = topics_in(alloc, value)?;
     Ok(Policy {
         clients,
@@ -44,23 +45,33 @@ fn parts_from(alloc: Global, value: &Value) -> Result<Policy, PolicyFault>
     })
 }
 
-/// Whether the value is an object of this version, with no member that is unknown.
+/// Whether the value is an object of a version that is known, with no member that is unknown.
 fn is_policy_object(value: &Value) -> bool
     ensures { result ≡ is_policy_object (view value.now) }
 {
     match value.as_object() {
         None => false,
-        Some(members) => is_version_one(value) && are_known(members),
+        Some(members) => is_version(value) && are_known(members),
     }
 }
 
-/// Whether the value has the member `version`, the whole number 1.
-pub fn is_version_one(value: &Value) -> bool
-    ensures { result ≡ is_version_one (view value.now) }
+/// Whether the value has the member `version`, the whole number 1 or 2.
+pub fn is_version(value: &Value) -> bool
+    ensures { result ≡ is_version (view value.now) }
 {
     match value.get("version").and_then(Value::as_u64) {
         None => false,
-        Some(version) => version == 1,
+        Some(version) => version == 1 || version == 2,
+    }
+}
+
+/// Whether its version is 2, of which scopes may end.
+pub fn may_end(value: &Value) -> bool
+    ensures { result ≡ may_end (view value.now) }
+{
+    match value.get("version").and_then(Value::as_u64) {
+        None => false,
+        Some(version) => version == 2,
     }
 }
 

@@ -4,7 +4,7 @@ ghost use Rattle.serde_json.specs.View.{view};
 ghost use Rattle.sng_scope.specs.Bounds.{IsPolicy};
 ghost use Rattle.sng_scope.specs.Laws.{IsInOrder};
 ghost use Rattle.sng_scope.specs.Policies.{policy_of};
-ghost use Rattle.sng_scope.specs.Written.{policy_data, policy_text};
+ghost use Rattle.sng_scope.specs.Written.{version_for, policy_data, policy_text};
 
 mod entries;
 mod scopes;
@@ -15,9 +15,9 @@ use entries::{clients_value, sources_value, topics_value};
 use serde_json::{Value, json};
 use std::alloc::{AllocError, Global};
 
-/// The canonical text of the policy: an object of version 1 on one line, without blanks, its members in the
-/// byte order of their names, and all four of them there. `read_policy` reads it as this very policy. Only
-/// memory can fail.
+/// The canonical text of the policy: an object on one line, without blanks, its members in the byte order of
+/// their names, and all four of them there. It is of version 2 where a scope ends, and else of version 1.
+/// `read_policy` reads it as this very policy. Only memory can fail.
 pub fn write_policy(alloc: Global, policy: &Policy) -> Result<Vec<u8>, AllocError>
     ensures text { IfOk result (λ text. text.items ≡ policy_text policy.now) }
     ensures read { IfOk result (λ text. policy_of text.items ≡ Ok policy.now) }
@@ -36,5 +36,13 @@ fn policy_value(alloc: Global, policy: &Policy) -> Result<Value, AllocError>
     let clients = clients_value(alloc, &policy.clients)?;
     let sources = sources_value(alloc, &policy.sources)?;
     let topics = topics_value(alloc, &policy.topics)?;
-    json!(in alloc; {"clients": clients, "sources": sources, "topics": topics, "version": 1u8})
+    let version = version_for(policy);
+    json!(in alloc; {"clients": clients, "sources": sources, "topics": topics, "version": version})
+}
+
+/// The least version that has what the policy needs.
+fn version_for(policy: &Policy) -> u8
+    ensures { result ≡ version_for policy.now }
+{
+    if policy.next_end().is_some() { 2 } else { 1 }
 }

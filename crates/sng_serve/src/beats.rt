@@ -1,15 +1,18 @@
-//! The clock of the gateway: a beat each second, told in ms since the start.
+//! The clock of the gateway: a beat each second, told in ms of Unix time.
 ghost use Rattle.std.specs.Prelude.{◌≡◌, ◌≢◌, ◌≤◌, ◌<◌, ◌↔◌, [], false};
 ghost use Rattle.sng_desk.specs.declared.source.Got.TheVariants.{Ended as ended_answer};
 ghost use Rattle.sng_desk.specs.declared.source.Got.TheVariants.{Failed as failed_answer};
 
 use crate::bell::Ear;
 use crate::hub::Hub;
+use crate::level::Level;
+use sng_bounds::drift::Drift;
+use sng_bounds::unix_clock::UnixClock;
 use sng_desk::{Beats, Got};
 use std::rt::Clock;
 use std::sync::Wait;
-use std::thread;
 use std::time::Duration;
+use std::{io, thread};
 
 /// How long a beat is, in ms.
 const BEAT_MS: u64 = 1000;
@@ -23,6 +26,13 @@ const LOOK_MS: u64 = 2000;
 /// How long one wait is until the socket was seen empty, in ms.
 const LOOK_STEP_MS: u64 = 20;
 
+/// The clock of a gateway that begins now.
+pub fn unix_clock<R: Clock>(rt: &R) -> io::Result<UnixClock> {
+    let wall = rt.since_1970()?;
+    let begun = rt.monotonic()?;
+    Ok(UnixClock { wall, begun })
+}
+
 /// Beats of the system's clock.
 #[derive(Drop)]
 pub struct SystemBeats<'a, R: Clock + Wait> {
@@ -31,7 +41,8 @@ pub struct SystemBeats<'a, R: Clock + Wait> {
     /// The worker that has these beats.
     by: u16,
     ear: Ear,
-    begun: Duration,
+    clock: UnixClock,
+    drift: Drift,
     due: Duration,
     /// Behind a gap: until when the beat is put off for what lies in the socket.
     held_until: Option<Duration>,
@@ -40,15 +51,16 @@ pub struct SystemBeats<'a, R: Clock + Wait> {
 
 impl<'a, R: Clock + Wait> SystemBeats<'a, R> {
     /// The beats of the worker with this tag, whose gate has to give back the token. The first one comes a
-    /// second after `begun`.
-    pub fn new(rt: &'a R, hub: &'a Hub, ear: Ear, begun: Duration, by: u16) -> SystemBeats<'a, R> {
+    /// second after the clock has begun.
+    pub fn new(rt: &'a R, hub: &'a Hub, ear: Ear, clock: UnixClock, by: u16) -> SystemBeats<'a, R> {
         SystemBeats {
             rt,
             hub,
             by,
             ear,
-            begun,
-            due: begun.saturating_add(Duration::from_millis(BEAT_MS)),
+            clock,
+            drift: Drift::new(),
+            due: clock.begun.saturating_add(Duration::from_millis(BEAT_MS)),
             held_until: None,
             failures: 0,
         }
@@ -79,8 +91,8 @@ impl<'a, R: Clock + Wait> SystemBeats<'a, R> {
         if self.due < now {
             self.due = now.saturating_add(Duration::from_millis(BEAT_MS));
         }
-        let clock = now.saturating_sub(self.begun).as_millis();
-        Got::Came(u64::try_from(clock).unwrap_or(u64::MAX))
+        self.tell_drift(now);
+        Got::Came(self.clock.ms(now))
     }
 }
 
@@ -108,6 +120,26 @@ impl<'a, R: Clock + Wait> Beats for SystemBeats<'a, R> {
 }
 
 impl<'a, R: Clock + Wait> SystemBeats<'a, R> {
+    /// Tells where the wall clock is far off the clock of the gateway.
+    fn tell_drift(&mut self, now: Duration)
+        ensures failures { self.new.failures ≡ self.old.failures }
+        ensures due { self.new.due ≡ self.old.due }
+    {
+        let Ok(wall) = self.rt.since_1970() else {
+            return;
+        };
+        let off = self.clock.off(now, wall);
+        if self.drift.tells(now, off) {
+            let seconds = off.as_secs();
+            self.hub.tell(
+                Level::Warning,
+                format_args!(
+                    "the wall clock is {seconds} s off the clock of the gateway, by which scopes end"
+                ),
+            );
+        }
+    }
+
     /// Waits once for a beat.
     fn wait(&mut self) -> Got<u64>
         ensures failures { self.old.failures ≤ self.new.failures }

@@ -1,6 +1,6 @@
 //! `sng serve`: the gateway between devices and a broker.
 
-use crate::beats::SystemBeats;
+use crate::beats::{SystemBeats, unix_clock};
 use crate::beginning::{Beginning, FirstEnd, begin};
 use crate::book_end::{BookEnd, end_book};
 use crate::closing::Accounts;
@@ -8,7 +8,7 @@ use crate::descriptors::{EMPTY, hold};
 use crate::hub::Hub;
 use crate::keeping::{Keeper, keep};
 use crate::level::Level;
-use crate::limits::FULL_ROWS;
+use crate::limits::{FULL_ROWS, KEPT_VOLUME_ROOM};
 use crate::link::BrokerLink;
 use crate::opening::{
     Ears, FolderKeeper, NotBegun, ServingCrew, Shared, Watchers, crew_of, make_shared, open,
@@ -24,8 +24,10 @@ use crate::tell::tell;
 use crate::tray::Tray;
 use crate::writers::{ERRORS_PATIENCE_MS, OUTPUT_PATIENCE_MS, wait_for};
 use sng_archive::Device;
+use sng_bounds::unix_clock::UnixClock;
 use sng_crew::{Crew, Ended, NotStarted, Upstream, run_workers};
 use sng_desk::{Beats, Datagrams, Desk, Filing, Gate, Piece, Policies, Share, Volume};
+use sng_grants::Policy;
 use sng_ledger::Closed;
 use sng_operator::ask::{Ask, Fault, Words, ask_of, config_of};
 use sng_operator::config::Config;
@@ -36,6 +38,7 @@ use sng_operator::verbosity::Verbosity;
 use sng_scope::read_policy;
 use sng_script::Status;
 use sng_script::ending::ended;
+use sng_times::Time;
 use std::alloc::{AllocError, Global};
 use std::fs::File;
 use std::io::Write;
@@ -276,7 +279,7 @@ struct Followers<K: Device + Drop> {
     keeper: Option<Keeper<K>>,
 }
 
-/// Serves by the socket. The policy of the start is in force before a worker reads.
+/// Serves by the socket. The clock is set and the policy of the start in force before a worker reads.
 fn serve_by<
     R: Threads + Wait + Sync + Net + Clock + Files + Input + Print + Eprint + AllocGlobal,
     K: Device + Drop,
@@ -298,20 +301,24 @@ where
     let roles = Roles::new(ask.workers);
     let shares = ask.workers.saturating_add(OTHERS + 1);
     let (mut desk, mut shares) = Desk::new(rt.alloc(), FULL_ROWS, shares)?;
-    let beginning = begin_first(rt, hub, &mut desk, &mut shares, &ask)?;
+    if hub.handover.is_kept {
+        desk.set_room(KEPT_VOLUME_ROOM);
+    }
+    let clock = unix_clock(rt)?;
+    let beginning = begin_first(rt, hub, &mut desk, &mut shares, &ask, &clock)?;
     hub.handover.room.note_made(desk.rows_made());
     let first = hand_off_first(rt, hub, beginning)?;
     tell_open(hub, socket);
     let gate = Switch::new(rt, hub, roles);
     let prints_rows = ask.prints_rows;
-    let crew = crew_of(rt, hub, ask, shares, socket, ears)?;
+    let crew = crew_of(rt, hub, ask, shares, socket, ears, clock)?;
     let desk = Mutex::new(desk);
     let ran = run_crew(rt, hub, &desk, crew, &gate, followers);
     let desk = desk.into_inner();
     Ok(finish(rt, hub, roles, desk, first, ran, prints_rows))
 }
 
-/// Hands off what the first act made, where the book goes to disk: no row behind it could go there before.
+/// Hands off what the first acts made, where the book goes to disk: no row behind it could go there before.
 fn hand_off_first<'a, R: Wait>(
     rt: &'a R,
     hub: &'a Hub,
@@ -348,29 +355,41 @@ where
     run(rt, hub, desk, crew, gate, followers)
 }
 
-/// Brings the policy of the start into force, and tells it.
+/// Sets the clock, brings the policy of the start into force, and tells both.
 fn begin_first<R: AllocGlobal>(
     rt: &R,
     hub: &Hub,
     desk: &mut Desk,
     shares: &mut Vec<Share>,
     ask: &Ask,
+    clock: &UnixClock,
 ) -> Result<Beginning, NotBegun> {
     let Some(share) = shares.pop() else {
         return Err(NotBegun::Memory);
     };
-    let alloc = rt.alloc();
-    let Some(file) = &ask.policy else {
-        return Ok(begin(alloc, desk, share, None)?);
+    let policy = first_policy(rt.alloc(), ask)?;
+    let lists = match &policy {
+        Some(policy) => Some(Lists::of(policy)),
+        None => None,
     };
-    // it was read before, so only memory can be wanting
-    let Ok(policy) = read_policy(alloc, file.text.as_slice()) else {
-        return Err(NotBegun::Memory);
-    };
-    let lists = Lists::of(&policy);
-    let beginning = begin(alloc, desk, share, Some(policy))?;
-    hub.tell(Level::Info, format_args!("policy in force: {lists}"));
+    let now = clock.ms(clock.begun);
+    let beginning = begin(rt.alloc(), desk, share, now, policy)?;
+    hub.tell(Level::Info, format_args!("clock: {}", Time(now)));
+    if let Some(lists) = lists {
+        hub.tell(Level::Info, format_args!("policy in force: {lists}"));
+    }
     Ok(beginning)
+}
+
+/// The policy of the start, where there is one. Its text was read before, so only memory can be wanting.
+fn first_policy(alloc: Global, ask: &Ask) -> Result<Option<Policy>, NotBegun> {
+    let Some(file) = &ask.policy else {
+        return Ok(None);
+    };
+    match read_policy(alloc, file.text.as_slice()) {
+        Ok(policy) => Ok(Some(policy)),
+        Err(_) => Err(NotBegun::Memory),
+    }
 }
 
 /// What a run came to.

@@ -1,6 +1,6 @@
 pub mod HeldLemmas
-mod KeptLemmas
-mod HoldersLemmas
+pub mod KeptLemmas
+pub mod HoldersLemmas
 mod GreatestHeld
 mod HoldersListed
 mod PlacesListed
@@ -13,3 +13,4 @@ mod There
 mod WillLemmas
 mod SleepLemmas
 pub mod Crossing
+pub mod HoldingsMade

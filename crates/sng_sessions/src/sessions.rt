@@ -16,6 +16,7 @@ ghost use Rattle.sng_sessions.specs.Standing.{place_at, place_of, client_at, tol
 ghost use Rattle.sng_sessions.specs.Places.{moved_at};
 ghost use Rattle.sng_sessions.specs.Holding.{holders_from, places_from};
 ghost use Rattle.sng_sessions.specs.Handed.{delivered, handed_by, answered};
+ghost use Rattle.sng_sessions.specs.Kept.{Keeps, SaysHeld, SameOfOthers};
 ghost use Rattle.sng_sessions.specs.Sleeping.{changed};
 ghost use Rattle.sng_sessions.specs.Willing.{stating_at};
 
@@ -241,6 +242,17 @@ impl Sessions {
         self.standing.clients(alloc, filter)
     }
 
+    /// Who holds what, apart from the clients, so that endings can be tried on it. Only memory can fail.
+    pub fn holdings(&self, alloc: Global) -> Result<Standing, AllocError>
+        ensures { IfOk result (λ standing. Keeps standing self.now) }
+    {
+        let mut standing = Standing::new(alloc);
+        for place in 0..self.len() {
+            add_held(alloc, place, self.filters(place), &mut standing)?;
+        }
+        Ok(standing)
+    }
+
     /// Whether the filter stands for any client: one look-up. Takes no memory.
     pub fn is_held(&self, filter: &TopicFilter) -> bool
         ensures { result ≡ is_held self.now filter.now }
@@ -405,4 +417,22 @@ impl Sessions {
             }
         }
     }
+}
+
+/// These stand for the client at the place, where nothing stood for it. An `Err` is a failed allocation.
+fn add_held(
+    alloc: Global,
+    place: usize,
+    held: &[Held],
+    standing: &mut Standing,
+) -> Result<(), AllocError>
+    requires once { IsOneClients held.now }
+    requires empty { SaysHeld standing.old place [] }
+    ensures held { OnOk result (SaysHeld standing.new place held.now) }
+    ensures others { OnOk result (SameOfOthers standing.old standing.new place) }
+{
+    for one in held {
+        standing.add(alloc, place, &one.filter, one.qos)?;
+    }
+    Ok(())
 }

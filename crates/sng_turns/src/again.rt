@@ -10,8 +10,8 @@ ghost use Rattle.sng_turns.specs.Again.{handed_again_outs, handed_again_comes, r
 use crate::serve::{Settled, serve_plan};
 use crate::turn::{note_hand, repeat_publish, repeat_register};
 use sng_book::{Decision, Out, Outcome, Outs};
-use sng_grants::Policy;
 use sng_history::receive;
+use sng_policy::InForce;
 use sng_queue::{Exchange, Sending, TopicIdKind, Waiting};
 use sng_sessions::{Change, Handed, Sessions, is_unanswered};
 use sng_text::TopicName;
@@ -55,7 +55,7 @@ struct Unacknowledged<'a> {
 /// What is let out for what is open with the client at this place and was not answered in time.
 pub fn again(
     alloc: Global,
-    policy: &Policy,
+    policy: &InForce,
     sessions: &Sessions,
     place: usize,
     outs: &mut Outs,
@@ -86,7 +86,7 @@ pub fn again(
 /// An id was announced for the front.
 fn announced_again(
     alloc: Global,
-    policy: &Policy,
+    policy: &InForce,
     sessions: &Sessions,
     place: usize,
     sent: &Sending,
@@ -109,7 +109,7 @@ fn announced_again(
 /// The front, for which an id was announced, is judged so.
 fn announced_judged(
     alloc: Global,
-    policy: &Policy,
+    policy: &InForce,
     sessions: &Sessions,
     place: usize,
     open: Announced<'_>,
@@ -142,7 +142,7 @@ fn announced_judged(
 /// A message was handed over.
 fn handed_again(
     alloc: Global,
-    policy: &Policy,
+    policy: &InForce,
     sessions: &Sessions,
     place: usize,
     open: Unacknowledged<'_>,
@@ -161,7 +161,7 @@ fn handed_again(
 /// A message that was handed over is judged so.
 fn handed_judged(
     alloc: Global,
-    policy: &Policy,
+    policy: &InForce,
     sessions: &Sessions,
     place: usize,
     open: Unacknowledged<'_>,

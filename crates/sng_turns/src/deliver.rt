@@ -16,8 +16,8 @@ use crate::known::{KnownId, known_id};
 use crate::turn::{Mail, Recipient, note_hand, take_turn};
 use bytes::Bytes;
 use sng_book::{Denial, Outcome, Outs, Place, RoomDenial};
-use sng_grants::Policy;
 use sng_history::receive;
+use sng_policy::InForce;
 use sng_queue::Waiting;
 use sng_sessions::{Opens, Sessions};
 use sng_standing::Holder;
@@ -55,7 +55,7 @@ pub struct Kept {
 /// greatest that is granted among the client's filters that match. Answers what is kept of it.
 pub fn deliver(
     alloc: Global,
-    policy: &Policy,
+    policy: &InForce,
     message: &Incoming,
     sessions: &Sessions,
     outs: &mut Outs,
@@ -72,7 +72,7 @@ pub fn deliver(
 /// due messages.
 fn deliver_each(
     alloc: Global,
-    policy: &Policy,
+    policy: &InForce,
     message: &Incoming,
     sessions: &Sessions,
     holders: &[Holder],
@@ -95,7 +95,7 @@ fn deliver_each(
 /// The message goes to this client, where it is due messages.
 fn deliver_to(
     alloc: Global,
-    policy: &Policy,
+    policy: &InForce,
     message: &Incoming,
     sessions: &Sessions,
     to: Holder,
@@ -133,7 +133,7 @@ fn lesser(a: Qos, b: Qos) -> Qos
 /// turn, where nothing is before it, or waits.
 fn arrive(
     alloc: Global,
-    policy: &Policy,
+    policy: &InForce,
     arrival: Arrival<'_>,
     sessions: &Sessions,
     place: usize,
@@ -181,7 +181,7 @@ fn is_free(sessions: &Sessions, place: usize) -> bool
 /// The turn of the message as it comes.
 fn turn(
     alloc: Global,
-    policy: &Policy,
+    policy: &InForce,
     arrival: Arrival<'_>,
     sessions: &Sessions,
     place: usize,

@@ -8,8 +8,8 @@ ghost use Rattle.sng_turns.specs.HandingOver.{gone_outs, id_or_none};
 use crate::known::{fixed_id, known_id};
 use crate::turn::{Mail, Recipient, note_hand, take_turn};
 use sng_book::{Denial, Outcome, Outs, PeerDenial};
-use sng_grants::Policy;
 use sng_history::receive;
+use sng_policy::InForce;
 use sng_queue::{Queue, Waiting};
 use sng_sessions::{Handed, Opens};
 use sng_text::ClientId;
@@ -19,7 +19,7 @@ use std::alloc::{AllocError, Global};
 /// what it comes to, where those before the place are settled already.
 pub fn hand_over(
     alloc: Global,
-    policy: &Policy,
+    policy: &InForce,
     to: Recipient<'_>,
     queue: &Queue,
     first: usize,
@@ -65,7 +65,7 @@ pub fn is_open(opens: &Opens) -> bool
 /// The turn of one that waits.
 fn turn(
     alloc: Global,
-    policy: &Policy,
+    policy: &InForce,
     to: Recipient<'_>,
     message: &Waiting,
     outs: &mut Outs,

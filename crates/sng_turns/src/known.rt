@@ -4,9 +4,8 @@ ghost use Rattle.sng_ids.specs.Ids.{confirmed, id_of};
 ghost use Rattle.sng_history.specs.Requests.{id_in};
 ghost use Rattle.sng_turns.specs.HandingOver.{fixed_id, known_id, id_or_none};
 
-use sng_grants::Policy;
 use sng_ids::IdTable;
-use sng_policy::topic_id;
+use sng_policy::InForce;
 use sng_queue::TopicIdKind;
 use sng_text::TopicName;
 
@@ -19,7 +18,7 @@ pub struct KnownId {
 
 /// The topic id of a name that is the same for each client: a name of two octets is its own short name, and
 /// another one may have a predefined id, of which the least counts. Takes no memory.
-pub fn fixed_id(policy: &Policy, name: &TopicName) -> Option<KnownId>
+pub fn fixed_id(policy: &InForce, name: &TopicName) -> Option<KnownId>
     ensures { result ≡ fixed_id policy.now name.now }
 {
     let text = name.text();
@@ -29,7 +28,7 @@ pub fn fixed_id(policy: &Policy, name: &TopicName) -> Option<KnownId>
             id: id_in(text),
         });
     }
-    match topic_id(policy, name) {
+    match policy.topic_id(name) {
         Some(id) => Some(KnownId {
             kind: TopicIdKind::Predefined,
             id,

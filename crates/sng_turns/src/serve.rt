@@ -10,7 +10,7 @@ use crate::hand_over::{hand_over, is_open};
 use crate::turn::Recipient;
 use sng_book::{Address, Out, Outs};
 use sng_frames::write_ping_response;
-use sng_grants::Policy;
+use sng_policy::InForce;
 use sng_sessions::{Handed, Sessions};
 use sng_states::ClientState;
 use sng_text::Octets;
@@ -55,7 +55,7 @@ impl Settled {
 /// settled; no exchange is open with it then. Answers what it comes to.
 pub fn serve_plan(
     alloc: Global,
-    policy: &Policy,
+    policy: &InForce,
     phase: ClientState,
     sessions: &Sessions,
     place: usize,

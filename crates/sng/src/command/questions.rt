@@ -9,6 +9,8 @@ use std::alloc::{AllocError, Global};
 pub struct MayWords<'a> {
     /// The file of the policy.
     pub policy: &'a str,
+    /// The time for which it is asked; now where there is none.
+    pub at: Option<&'a str>,
     /// The source that asks, where it is no client.
     pub source: Option<&'a str>,
     /// The client; of a source the action.
@@ -64,7 +66,12 @@ fn with_policy_and_source<'a>(
         .long("source")
         .help("Asks for the source with this IPv4 address: CLIENT is left out")
         .action(ArgAction::Set);
-    command.arg(source)
+    let command = command.arg(source)?;
+    let at = Arg::new(alloc, "TIME")
+        .long("at")
+        .help("Asks for this time: ms of Unix time, or a date and a time; without it for now")
+        .action(ArgAction::Set);
+    command.arg(at)
 }
 
 /// The command with the words of `sng may` that are always there.
@@ -94,6 +101,7 @@ fn object<'a>(alloc: Global) -> Result<Arg<'a>, AllocError> {
 pub fn may_words<'a>(matches: &ArgMatches<'a>) -> MayWords<'a> {
     MayWords {
         policy: matches.get_str("FILE").unwrap_or(""),
+        at: matches.get_str("TIME"),
         source: matches.get_str("IP"),
         first: matches.get_str("CLIENT").unwrap_or(""),
         second: matches.get_str("ACTION").unwrap_or(""),

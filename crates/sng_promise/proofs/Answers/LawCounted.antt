@@ -26,7 +26,7 @@ use Rattle.sng_book.specs.declared.out.Out.TheVariants.{Note}
 use Rattle.sng_book.specs.declared.row.Row.{Row}
 use Rattle.sng_history.specs.State.{opening}
 use Rattle.sng_history.specs.Lawful.{Lawful}
-use Rattle.sng_laws.specs.Views.{policy_in_force}
+use Rattle.sng_laws.specs.Views.{last_policy}
 use Rattle.sng_laws.specs.ViewsMessages.{Publishes, message_in, message_at, is_exactly_once}
 use Rattle.sng_laws.specs.ViewsMessages.{is_without_session}
 use Rattle.sng_laws.specs.ViewsClients.{phase_of, address_of, is_there, is_at, those_at, accepted, is_active}
@@ -140,7 +140,7 @@ meant_some policy told Reserved id reserved bad nameless untold = absurd (let e 
 record Asked (h : List Row) (id : List ℕ) (p : Publish) : Type 0 where
   active : is_active (phase_of id h) ≡ true
   may : may_ask h id ≡ true
-  named : is_some (name_meant (policy_in_force h) (names_told id h) p.flags.id_type p.topic_id) ≡ true
+  named : is_some (name_meant (last_policy h) (names_told id h) p.flags.id_type p.topic_id) ≡ true
 
 both_true : (a b : Bool) → a ≡ true → b ≡ true → (a && b) ≡ true
 both_true true b one two = two
@@ -149,7 +149,7 @@ both_true false b one two = absurd (let e = one in cc)
 allowed_asked : (h : List Row) (id : List ℕ) (p : Publish) → judged (session_rules h id p) ≡ Allowed
     → Asked h id p
 allowed_asked h id p is =
-    let policy = policy_in_force h in
+    let policy = last_policy h in
     let told = names_told id h in
     let type = p.flags.id_type in
     let none = all_false (session_rules h id p) is in
@@ -227,14 +227,14 @@ counted_by h row from p id true o brought twice is again judgement =
     repeated h row from p id brought (is ∙ rw again refl)
 counted_by h row from p id false Allowed brought twice is again judgement =
     let asked = allowed_asked h id p judgement in
-    let name = name_meant (policy_in_force h) (names_told id h) p.flags.id_type p.topic_id in
+    let name = name_meant (last_policy h) (names_told id h) p.flags.id_type p.topic_id in
     let exactly = twice_is p.flags.qos twice in
     taken_by h row from p id name asked.named brought exactly
     (is ∙ rw (again, asked.may, judgement, exactly) refl)
     (not_open (is_exactly_once p.flags.qos) (is_active (phase_of id h)) (is_open p.msg_id (open_of id h)) twice
     asked.active again)
 counted_by h row from p id false (Denied rule) brought twice is again judgement =
-    let name = name_meant (policy_in_force h) (names_told id h) p.flags.id_type p.topic_id in
+    let name = name_meant (last_policy h) (names_told id h) p.flags.id_type p.topic_id in
     denied_by h row from p id (if may_ask h id then name else None) rule brought
     (is ∙ rw (again, judgement) refl)
 

@@ -21,7 +21,7 @@ use Rattle.sng_book.specs.declared.outcome.FormDenial.TheVariants.{OutOfTurn}
 use Rattle.sng_book.specs.declared.outcome.GrantDenial.TheVariants.{NoScope}
 use Rattle.sng_book.specs.declared.outcome.Outcome.TheVariants.{Allowed}
 use Rattle.sng_book.specs.declared.row.Row.{Row}
-use Rattle.sng_laws.specs.Views.{policy_in_force}
+use Rattle.sng_laws.specs.Views.{last_policy}
 use Rattle.sng_laws.specs.ViewsClients.{phase_of}
 use Rattle.sng_history.specs.Verdicts.{and_then}
 use Rattle.sng_laws.specs.LawsRules.{Rule, judged}
@@ -57,7 +57,7 @@ both_true false b is = absurd (let e = is in cc)
 
 pub covered_exactly : (h : List Row) (id : List ℕ) (r : TopicRequest) → SubscribesExactly h id r
 covered_exactly h id r text may meant have =
-    let policy = policy_in_force h in
+    let policy = last_policy h in
     let is : is_filter text ≡ true = meant_filter policy r.flags.id_type r.topic text meant in
     let both = both_true (is_active (phase_of id h)) (lists policy id) may in
     let more = gap_rule policy id text ∷ room_rules h id r.flags.id_type text in
@@ -74,11 +74,11 @@ covered_exactly h id r text may meant have =
     by_grant outcome joins (scope_grant policy id text (scope_of policy.clients id) refl both.1)
   where
     by_grant : (let more : List Rule =
-        gap_rule (policy_in_force h) id text ∷ room_rules h id r.flags.id_type text in
+        gap_rule (last_policy h) id text ∷ room_rules h id r.flags.id_type text in
         judged (subscribe_rules h id r) ≡ judged more)
-        → JoinsReceiving (policy_in_force h) id text (subscribe_grant (policy_in_force h) id text)
-        → (((gap : List ℕ) × (subscribe_grant (policy_in_force h) id text ≡ on_filter.Uncovered gap))
-        ⊎ (subscribe_grant (policy_in_force h) id text ≡ on_filter.Allowed))
+        → JoinsReceiving (last_policy h) id text (subscribe_grant (last_policy h) id text)
+        → (((gap : List ℕ) × (subscribe_grant (last_policy h) id text ≡ on_filter.Uncovered gap))
+        ⊎ (subscribe_grant (last_policy h) id text ≡ on_filter.Allowed))
         → CoveredExactly h id r text
     by_grant outcome joins (inl gap) =
         let shown = joins.uncovered gap.0 gap.1 in

@@ -31,7 +31,7 @@ use Rattle.sng_history.specs.Outgoing.{turns, handed_over}
 use Rattle.sng_history.specs.Lawful.{denial_of, woken_notes}
 use Rattle.sng_history.specs.Steps.{notes_for}
 use Rattle.sng_history.specs.Good.{AtRest}
-use Rattle.sng_laws.specs.Views.{policy_in_force}
+use Rattle.sng_laws.specs.Views.{last_policy}
 use Rattle.sng_laws.specs.ViewsClients.{is_asleep, names_told, those_at}
 use Rattle.sng_laws.specs.ViewsHanding.{waits_for, progress_of, names_known}
 use Rattle.sng_laws.specs.LawsState.{ClientShown}
@@ -109,7 +109,7 @@ other_ping h s from named dropped x Lost other busy = rw other refl
 -- it wakes its client, for whom nothing is open then
 woken_ping : (h : List Row) (s : State) (from : Address) (named : List ℕ) (dropped : List Release)
     (x : Client)
-    → x.buffer.exchange ≡ None → s.policy ≡ policy_in_force h → ClientShown h x
+    → x.buffer.exchange ≡ None → s.policy ≡ last_policy h → ClientShown h x
     → let a = by_cause s (ByMessage from (ToPing (Some named))) in
     let y = awake (heard_if true s.clock x) in
     let notes = handed_over s.policy (awake x) in
@@ -130,7 +130,7 @@ own_ping : (h : List Row) (s : State) (from : Address) (named : List ℕ) (dropp
     (phase : ClientState)
     → bytes_eq named x.id ≡ true → is_drained (in_state x phase) ≡ false
     → (let e : Option Exchange = if takes_messages phase then None else x.buffer.exchange in e) ≡ None
-    → s.policy ≡ policy_in_force h → ClientShown h x → PingBy h s from (Some named) dropped (in_state x phase)
+    → s.policy ≡ last_policy h → ClientShown h x → PingBy h s from (Some named) dropped (in_state x phase)
 own_ping h s from named dropped x Active own busy quiet policy shown = rw own refl
 own_ping h s from named dropped x Asleep own busy quiet policy shown =
     rw own (woken_ping h s from named dropped x quiet policy shown)
@@ -142,7 +142,7 @@ own_ping h s from named dropped x Lost own busy quiet policy shown = rw own refl
 
 named_ping : (h : List Row) (s : State) (from : Address) (named : List ℕ) (dropped : List Release)
     (x : Client) (b : Bool)
-    → bytes_eq named x.id ≡ b → s.policy ≡ policy_in_force h → ClientShown h x → AtRest x
+    → bytes_eq named x.id ≡ b → s.policy ≡ last_policy h → ClientShown h x → AtRest x
     → PingBy h s from (Some named) dropped x
 named_ping h s from named dropped x true is policy shown rest =
     own_ping h s from named dropped x x.phase is rest.busy rest.quiet policy shown
@@ -151,14 +151,14 @@ named_ping h s from named dropped x false is policy shown rest =
 
 ping_there : (h : List Row) (s : State) (from : Address) (client : Option (List ℕ)) (dropped : List Release)
     (x : Client)
-    → s.policy ≡ policy_in_force h → ClientShown h x → AtRest x → PingBy h s from client dropped x
+    → s.policy ≡ last_policy h → ClientShown h x → AtRest x → PingBy h s from client dropped x
 ping_there h s from None dropped x policy shown rest = bare_ping h s from dropped x x.phase rest.busy
 ping_there h s from (Some named) dropped x policy shown rest =
     named_ping h s from named dropped x (bytes_eq named x.id) refl policy shown rest
 
 ping_part : (h : List Row) (s : State) (from : Address) (client : Option (List ℕ)) (dropped : List Release)
     (x : Client) (b : Bool)
-    → s.policy ≡ policy_in_force h → ClientShown h x → AtRest x → (b ≡ true → x.address ≡ from)
+    → s.policy ≡ last_policy h → ClientShown h x → AtRest x → (b ≡ true → x.address ≡ from)
     → let a = by_cause s (ByMessage from (ToPing client)) in
     let y : Client =
     if b then (if is_waking client x then awake (heard_if true s.clock x) else heard_if true s.clock x)

@@ -30,7 +30,7 @@ use Rattle.sng_history.specs.Verdicts.{is_active, may_ask, name_in, room, once_r
 use Rattle.sng_history.specs.Verdicts.{publish_named, publish_once_by, publish_once_named}
 use Rattle.sng_history.specs.Whole.{spell, replied, stranger_to, drops, frame_row, drained_outs}
 use Rattle.sng_history.specs.Steps.{notes_for}
-use Rattle.sng_laws.specs.Views.{policy_in_force, is_up}
+use Rattle.sng_laws.specs.Views.{last_policy, is_up}
 use Rattle.sng_laws.specs.ViewsMessages.{is_exactly_once}
 use Rattle.sng_laws.specs.ViewsHanding.{names_known}
 use Rattle.sng_laws.specs.ViewsClients.{names_told, those_at}
@@ -109,7 +109,7 @@ pub asked_judged : (h : List Row) (s : State) (x : Client) (p : Publish) (more :
     → ClientShown h x → more ≡ judged (room_shown h x.id p)
     → ask_by s x p more (may_ask s.policy x)
     ≡ note.Publish (who.Client x.id)
-    (if asks.may_ask h x.id then name_meant (policy_in_force h) (names_told x.id h) p.flags.id_type p.topic_id
+    (if asks.may_ask h x.id then name_meant (last_policy h) (names_told x.id h) p.flags.id_type p.topic_id
     else None)
     (judged (session_rules h x.id p))
 asked_judged h s x p more shown is room =
@@ -134,7 +134,7 @@ publish_judged : (h : List Row) (s : State) (x : Client) (p : Publish) → State
     → s.link.in_flight ≡ in_flight h → ClientShown h x → is_exactly_once p.flags.qos ≡ false
     → publish_ask s x p
     ≡ note.Publish (who.Client x.id)
-    (if asks.may_ask h x.id then name_meant (policy_in_force h) (names_told x.id h) p.flags.id_type p.topic_id
+    (if asks.may_ask h x.id then name_meant (last_policy h) (names_told x.id h) p.flags.id_type p.topic_id
     else None)
     (judged (session_rules h x.id p))
 publish_judged h s x p shown flights is other =
@@ -167,7 +167,7 @@ publish_there : (h : List Row) (s : State) (from : Address) (p : Publish) (dropp
 publish_there h s from p dropped x shown flights is other =
     let y : Client = heard_if true s.clock x in
     let name =
-    if asks.may_ask h x.id then name_meant (policy_in_force h)
+    if asks.may_ask h x.id then name_meant (last_policy h)
     (names_told x.id h) p.flags.id_type p.topic_id else None in
     let o = judged (session_rules h x.id p) in
     ap (λ said. spell (by_cause s (ByMessage from (ToPublish p))) dropped y (said ∷ []))

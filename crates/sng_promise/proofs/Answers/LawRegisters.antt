@@ -30,7 +30,7 @@ use Rattle.sng_history.specs.Standing.{Release}
 use Rattle.sng_history.specs.Verdicts.{is_active, register_ask}
 use Rattle.sng_history.specs.Whole.{spell, replied, stranger_to, drops, frame_row, drained_outs}
 use Rattle.sng_history.specs.Steps.{notes_for}
-use Rattle.sng_laws.specs.Views.{policy_in_force}
+use Rattle.sng_laws.specs.Views.{last_policy}
 use Rattle.sng_laws.specs.ViewsHanding.{names_known}
 use Rattle.sng_laws.specs.ViewsClients.{phase_of, is_among, names_told, those_at, id_told}
 use Rattle.sng_laws.specs.LawsState.{ClientShown}
@@ -129,7 +129,7 @@ register_there : (h : List Row) (s : State) (from : Address) (r : Register) (dro
     ≡ register_answer h x.address r x.id
 register_there h s from r dropped x shown is =
     let y : Client = heard_if true s.clock x in
-    let policy = policy_in_force h in
+    let policy = last_policy h in
     let names = names_told x.id h in
     ap (λ said. spell (by_cause s (ByMessage from (ToRegister r))) dropped y (said ∷ []))
     (register_judged h s x r.name shown is)

@@ -30,7 +30,7 @@ use Rattle.sng_history.specs.Answers.{pubrec, pubcomp}
 use Rattle.sng_history.specs.Verdicts.{is_active, is_repeat, may_ask, once_room, publish_once_ask}
 use Rattle.sng_history.specs.Whole.{spell, replied, stranger_to, drops, frame_row, drained_outs, part}
 use Rattle.sng_history.specs.Steps.{notes_for}
-use Rattle.sng_laws.specs.Views.{policy_in_force}
+use Rattle.sng_laws.specs.Views.{last_policy}
 use Rattle.sng_laws.specs.ViewsMessages.{is_exactly_once}
 use Rattle.sng_laws.specs.ViewsClients.{names_told, those_at}
 use Rattle.sng_laws.specs.ViewsFlight.{in_flight}
@@ -87,7 +87,7 @@ once_judged : (h : List Row) (s : State) (x : Client) (p : Publish) (active : Bo
     → ClientShown h x → OpenShown h x → is_repeat p x ≡ false
     → publish_once_ask s x p
     ≡ note.Publish (who.Client x.id)
-    (if asks.may_ask h x.id then name_meant (policy_in_force h) (names_told x.id h) p.flags.id_type p.topic_id
+    (if asks.may_ask h x.id then name_meant (last_policy h) (names_told x.id h) p.flags.id_type p.topic_id
     else None)
     (judged (session_rules h x.id p))
 once_judged h s x p true active twice shown flights is opened first =
@@ -119,7 +119,7 @@ first_there : (h : List Row) (s : State) (from : Address) (p : Publish) (dropped
 first_there h s from p dropped x twice shown flights is opened first =
     let y : Client = heard_if true s.clock x in
     let name =
-    if asks.may_ask h x.id then name_meant (policy_in_force h)
+    if asks.may_ask h x.id then name_meant (last_policy h)
     (names_told x.id h) p.flags.id_type p.topic_id else None in
     let o = judged (session_rules h x.id p) in
     let said = Note (note.Publish (who.Client x.id) name o) in

@@ -41,7 +41,7 @@ use Rattle.sng_history.specs.Verdicts.{subscribe_ask}
 use Rattle.sng_history.specs.Answers.{flags_of, id_given}
 use Rattle.sng_history.specs.Whole.{spell, drained_outs, replied, granted_to, stranger_to, drops, frame_row}
 use Rattle.sng_history.specs.Steps.{notes_for}
-use Rattle.sng_laws.specs.Views.{policy_in_force}
+use Rattle.sng_laws.specs.Views.{last_policy}
 use Rattle.sng_laws.specs.ViewsHanding.{names_known}
 use Rattle.sng_laws.specs.ViewsClients.{phase_of, tells_id, names_told, is_among, those_at}
 use Rattle.sng_laws.specs.ViewsStanding.{standing_of}
@@ -146,7 +146,7 @@ subscribe_judged : (h : List Row) (s : State) (x : Client) (r : TopicRequest) �
     → ClientShown h x
     → subscribe_ask s x r
     ≡ note.Subscribe (who.Client x.id)
-    (if asks.may_ask h x.id then filter_meant (policy_in_force h) r.flags.id_type r.topic else None)
+    (if asks.may_ask h x.id then filter_meant (last_policy h) r.flags.id_type r.topic else None)
     (judged (subscribe_rules h x.id r))
 subscribe_judged h s x r shown is =
     rw (is.phase, sym (active_same x.phase), sym shown.policy)
@@ -200,11 +200,11 @@ allowed_form true true id form more is =
 replied_as : (h : List Row) (s : State) (from : Address) (r : TopicRequest) (x y : Client) (o : Outcome)
     → judged (subscribe_rules h x.id r) ≡ o → y.ids ≡ marked (names_told x.id h) (names_known x.id h)
     → replied (ByMessage from (ToSubscribe r)) y
-    (if asks.may_ask h x.id then filter_meant (policy_in_force h) r.flags.id_type r.topic else None) o
+    (if asks.may_ask h x.id then filter_meant (last_policy h) r.flags.id_type r.topic else None) o
     ≡ suback y.address (id_granted (names_told x.id h) r.flags.id_type r.topic) r o ∷ []
 replied_as h s from r x y (Denied rule) is ids = rw (code_same rule) refl
 replied_as h s from r x y Allowed is ids =
-    let policy = policy_in_force h in
+    let policy = last_policy h in
     let text = or_empty (filter_meant policy r.flags.id_type r.topic) in
     let may =
     allowed_form (laws.is_active (phase_of x.id h)) (lists policy x.id) x.id (form_rules policy r)
@@ -225,7 +225,7 @@ subscribe_there h s from r dropped x shown is =
     let c = ByMessage from (ToSubscribe r) in
     let y : Client = heard_if true s.clock x in
     let text =
-    if asks.may_ask h x.id then filter_meant (policy_in_force h) r.flags.id_type r.topic else None in
+    if asks.may_ask h x.id then filter_meant (last_policy h) r.flags.id_type r.topic else None in
     let o = judged (subscribe_rules h x.id r) in
     ap (λ said. spell (by_cause s c) dropped y (said ∷ [])) (subscribe_judged h s x r shown is)
     ∙ ap (λ outs. Note (note.Subscribe (who.Client x.id) text o) ∷ outs)

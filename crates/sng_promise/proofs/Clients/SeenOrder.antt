@@ -29,7 +29,7 @@ use Rattle.sng_history.specs.Whole.{Notes, entry_outs}
 use Rattle.sng_history.specs.Lawful.{fixed_for}
 use Rattle.sng_history.specs.Steps.{outs_by, outs_of, notes_for, newcomers_for, client_next}
 use Rattle.sng_history.specs.Good.{Each}
-use Rattle.sng_laws.specs.Views.{policy_in_force, clock_at, is_up}
+use Rattle.sng_laws.specs.Views.{last_policy, clock_at, is_up}
 use Rattle.sng_laws.specs.ViewsMessages.{message_in}
 use Rattle.sng_laws.specs.ViewsClients.{is_admitted, is_among, accepted, accepted_in, accepted_by}
 use Rattle.sng_laws.specs.ViewsStanding.{standing_of}
@@ -47,7 +47,7 @@ use Rattle.sng_history.proofs.ClientIds.{ids_of}
 
 -- what is kept is what the rows show, with the clients in the order in which each was accepted first
 pub record StateShown (h : List Row) (s : State) : Type 0 where
-  pub policy : s.policy ≡ policy_in_force h
+  pub policy : s.policy ≡ last_policy h
   pub clock : s.clock ≡ clock_at h
   pub up : s.up ≡ is_up h
   pub waits : s.link.waiting ≡ waiting h

@@ -24,7 +24,7 @@ use Rattle.sng_history.specs.State.{clock_by, up_by}
 use Rattle.sng_history.specs.Lawful.{Lawful, fixed_for}
 use Rattle.sng_history.specs.Steps.{outs_of, newcomers_for, client_next, next_of}
 use Rattle.sng_history.specs.Good.{Good}
-use Rattle.sng_laws.specs.Views.{policy_in_force, clock_at, is_up}
+use Rattle.sng_laws.specs.Views.{last_policy, clock_at, is_up}
 use Rattle.sng_laws.specs.ViewsMessages.{message_at}
 use Rattle.sng_laws.specs.ViewsClients.{is_among, accepted, accepted_in}
 use Rattle.sng_laws.specs.ViewsStanding.{standing_of, standing_after}
@@ -71,7 +71,7 @@ still from (Ok message) = record { policy = λ b. refl; clock = λ b. refl; up =
 still from (Err broke) = record { policy = λ b. refl; clock = λ b. refl; up = λ b. refl }
 
 record Moved (s : State) (e : Event) (rows h : List Row) : Type 0 where
-  policy : policy_by (cause_of e) s.policy ≡ policy_in_force rows
+  policy : policy_by (cause_of e) s.policy ≡ last_policy rows
   clock : clock_by (cause_of e) s.clock ≡ clock_at rows
   up : up_by (cause_of e) s.up ≡ is_up rows
 

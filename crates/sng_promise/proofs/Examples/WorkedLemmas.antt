@@ -17,7 +17,7 @@ use Rattle.sng_promise.specs.Examples.{waits_replaced, waits_down}
 ab_ascii : IsAscii (97 ∷ 98 ∷ [])
 ab_ascii = search rules
 
-ab_utf8 : is_utf8 (97 ∷ 98 ∷ []) ≡ true
+pub ab_utf8 : is_utf8 (97 ∷ 98 ∷ []) ≡ true
 ab_utf8 = is_utf8-from_IsUtf8 (97 ∷ 98 ∷ []) (IsUtf8-from_ascii (97 ∷ 98 ∷ []) ab_ascii)
 
 before_take_short : Lawful opening (before_take publish_ab)

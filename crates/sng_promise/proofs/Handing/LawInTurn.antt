@@ -30,7 +30,7 @@ use Rattle.sng_history.specs.Whole.{any_from, stranger_to, entry_row, entry_outs
 use Rattle.sng_history.specs.Answers.{code_of, connack}
 use Rattle.sng_history.specs.Lawful.{Lawful, fixed_for}
 use Rattle.sng_history.specs.Steps.{notes_for, newcomers_for, outs_by, outs_of}
-use Rattle.sng_laws.specs.Views.{policy_in_force}
+use Rattle.sng_laws.specs.Views.{last_policy}
 use Rattle.sng_laws.specs.ViewsMessages.{Message as Spoken, message_at}
 use Rattle.sng_laws.specs.ViewsClients.{phase_of, address_of, own_message, phase_spoken}
 use Rattle.sng_laws.specs.ViewsClients.{is_among, accepted}
@@ -226,10 +226,10 @@ row_turns by h s e st id = by_known (is_among id (accepted h)) refl
 
 turn_row : (by : ℕ) (h : List Row) (s : State) (e : Event) (outs : List Out) (id : List ℕ)
     → outs ≡ outs_of s e → Stands h s
-    → (around s (cause_of e)).policy ≡ policy_in_force (record { by = by; event = e; outs = outs } ∷ h)
+    → (around s (cause_of e)).policy ≡ last_policy (record { by = by; event = e; outs = outs } ∷ h)
     → let rows =
     record { by = by; event = e; outs = outs } ∷ h in
-    RowInTurn (policy_in_force rows) h e (due_of id rows) outs id
+    RowInTurn (last_policy rows) h e (due_of id rows) outs id
 turn_row by h s e outs id is st policy =
     let rows = record { by = by; event = e; outs = outs } ∷ h in
     subst (λ p. RowInTurn p h e (due_of id rows) outs id) policy

@@ -10,11 +10,11 @@ use Rattle.sng_book.specs.declared.out.Out.{Out}
 use Rattle.sng_book.specs.declared.out.Out.TheVariants.{Send, Wire, Note}
 use Rattle.sng_book.specs.declared.row.Row.{Row}
 use Rattle.sng_history.specs.State.{opening}
-use Rattle.sng_history.specs.Lawful.{Lawful}
+use Rattle.sng_history.specs.Books.{LawfulBook}
 use Rattle.sng_laws.specs.Views.{policy_in_force}
 use Rattle.sng_laws.specs.LawsHanding.{IsJudged, AllJudged, EachHandJudged}
 use Rattle.sng_laws.specs.LawsPromise.{MayHand, Stands, AllStand, EachStands}
-use Rattle.sng_promise.proofs.InForce.LawPromise.{promise_law}
+use Rattle.sng_promise.proofs.BookLaws.{book_told}
 
 hand_judged : (policy : Policy) (id name : List ℕ) (o : Outcome) → MayHand policy id name o
     → IsJudged policy (note.Hand id name o)
@@ -49,5 +49,5 @@ each_judged : (h : List Row) → EachStands h → EachHandJudged h
 each_judged [] each = tt
 each_judged (row ∷ h) each = (each_judged h each.0, all_judged (policy_in_force (row ∷ h)) row.outs each.1)
 
-pub judged_law : (h : List Row) → Lawful opening h → EachHandJudged h
-judged_law h l = each_judged h (promise_law h l)
+pub judged_law : (h : List Row) → LawfulBook opening h → EachHandJudged h
+judged_law h book = each_judged h (book_told h book).stands

@@ -46,7 +46,7 @@ use Rattle.sng_promise.proofs.Handing.SeenHandingNotes.{occasion_by, view_notes,
 use Rattle.sng_promise.proofs.Handing.SeenAnswered.{confirmed_view}
 use Rattle.sng_promise.proofs.Handing.SeenProgress.{start_view}
 use Rattle.sng_laws.specs.ViewsSendings.{Last, last_after, last_of}
-use Rattle.sng_laws.specs.Views.{policy_in_force, clock_at}
+use Rattle.sng_laws.specs.Views.{last_policy, clock_at}
 use Rattle.sng_promise.proofs.Handing.SeenViewNotes.{view_of, last_outs, last_same, outs_view}
 
 -- ---- what the event shows before the notes
@@ -275,7 +275,7 @@ occasion_same (Tick clock) = refl
 -- the row, by the policy and the clock that are in force as it is written
 pub record InForce (a : Around) (by : ℕ) (h : List Row) (e : Event) (outs : List Out) : Type 0 where
   pub cause : a.cause ≡ cause_of e
-  pub policy : a.policy ≡ policy_in_force (record { by = by; event = e; outs = outs } ∷ h)
+  pub policy : a.policy ≡ last_policy (record { by = by; event = e; outs = outs } ∷ h)
   pub clock : a.clock ≡ clock_at (record { by = by; event = e; outs = outs } ∷ h)
 
 pub row_view : (a : Around) (id : List ℕ) (by : ℕ) (h : List Row) (e : Event) (outs : List Out)

@@ -1,4 +1,4 @@
--- Each note of each row stands under the policy in force at that row.
+-- Each note of each plain row stands under the policy in force at that row.
 use Rattle.std.proofs.Common.{ℕ, List, [], ◌∷◌, refl, sym, subst, Ok, Err}
 use Rattle.std.specs.declared.result.Result.{Result}
 use Rattle.std.specs.Prelude.{Option, Some, None}
@@ -24,7 +24,8 @@ use Rattle.sng_history.specs.State.{State, opening, state_of, policy_by}
 use Rattle.sng_history.specs.Steps.{outs_by}
 use Rattle.sng_history.specs.Good.{Each}
 use Rattle.sng_history.specs.Lawful.{Lawful, fixed_for}
-use Rattle.sng_laws.specs.LawsPromise.{AllStand, EachStands, Stands}
+use Rattle.sng_laws.specs.LawsPromise.{AllStand, Stands}
+use Rattle.sng_laws.specs.Views.{last_policy}
 use Rattle.sng_promise.proofs.InForce.EachNote.{EachNote}
 use Rattle.sng_promise.proofs.InForce.EachNoteRow.{note_fixed}
 use Rattle.sng_history.proofs.Hands.{Every}
@@ -96,7 +97,12 @@ row_stands s c broken filters =
 
 -- ---- the law
 
-pub promise_law : (h : List Row) → Lawful opening h → EachStands h
+-- in plain rows that is the policy of the last replacement
+abbrev pub EachStandsPlain : List Row → Type 0
+EachStandsPlain [] = Unit {0}
+EachStandsPlain (row ∷ earlier) = EachStandsPlain earlier × AllStand (last_policy (row ∷ earlier)) row.outs
+
+pub promise_law : (h : List Row) → Lawful opening h → EachStandsPlain h
 promise_law [] l = tt
 promise_law (row ∷ h) l =
     let s = state_of opening h in

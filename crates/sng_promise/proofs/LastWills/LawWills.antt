@@ -24,7 +24,7 @@ use Rattle.sng_history.specs.WillAsks.{statement_follows, statement_notes}
 use Rattle.sng_history.specs.Whole.{spell, stranger_to, drops, frame_row, drained_outs}
 use Rattle.sng_history.specs.Steps.{notes_for}
 use Rattle.sng_history.specs.Good.{AtRest}
-use Rattle.sng_laws.specs.Views.{policy_in_force}
+use Rattle.sng_laws.specs.Views.{last_policy}
 use Rattle.sng_laws.specs.ViewsClients.{those_at}
 use Rattle.sng_laws.specs.ViewsWills.{stating_of}
 use Rattle.sng_laws.specs.LawsState.{ClientShown}
@@ -50,7 +50,7 @@ use Rattle.sng_promise.proofs.LastWills.LawWillDialogue.{goes_on_shown}
 abbrev FollowsBy : List Row → State → Address → Statement → List Release → Client → Bool → Outcome → Type 0
 FollowsBy h s from statement dropped x has o =
     has_turn h x.id statement ≡ has
-    → judged ((not has, Form OutOfTurn) ∷ topic_rules (policy_in_force h) x.id (topic_of h x.id statement))
+    → judged ((not has, Form OutOfTurn) ∷ topic_rules (last_policy h) x.id (topic_of h x.id statement))
     ≡ o
     → let_out (by_cause s (ByMessage from (ToState statement))) dropped
     (stated_by (Some statement) o (heard_if true s.clock x))
@@ -67,7 +67,7 @@ delete_by : (h : List Row) (s : State) (from : Address) (dropped : List Release)
     (o : Outcome)
     → AtRest x → StateShown h s → ClientShown h x → FollowsBy h s from (StatesTopic None) dropped x has o
 delete_by h s from dropped x has (Denied rule) rest state shown turn is =
-    denied_follows h s from (StatesTopic None) dropped x has (policy_in_force h) None rule is shown rest.busy
+    denied_follows h s from (StatesTopic None) dropped x has (last_policy h) None rule is shown rest.busy
 delete_by h s from dropped x false Allowed rest state shown turn is = absurd cc
 delete_by h s from dropped x true Allowed rest state shown turn is =
     let here = in_dialogue_turn h x (not (is_some (stating_of x.id h).awaited)) shown turn in
@@ -77,7 +77,7 @@ topic_by : (h : List Row) (s : State) (from : Address) (w : WillTopic) (dropped 
     (has : Bool) (o : Outcome)
     → AtRest x → StateShown h s → ClientShown h x → FollowsBy h s from (StatesTopic (Some w)) dropped x has o
 topic_by h s from w dropped x has (Denied rule) rest state shown turn is =
-    denied_follows h s from (StatesTopic (Some w)) dropped x has (policy_in_force h)
+    denied_follows h s from (StatesTopic (Some w)) dropped x has (last_policy h)
     (Some w.topic) rule is shown rest.busy
 topic_by h s from w dropped x false Allowed rest state shown turn is = absurd cc
 topic_by h s from w dropped x true Allowed rest state shown turn is =
@@ -90,7 +90,7 @@ message_by : (h : List Row) (s : State) (from : Address) (message : List ℕ) (d
 message_by h s from message dropped x has (Denied rule) rest state shown turn is =
     let topic = topic_of h x.id (StatesMessage message) in
     denied_follows h s from (StatesMessage message) dropped x has
-    (policy_in_force h) topic rule is shown rest.busy
+    (last_policy h) topic rule is shown rest.busy
 message_by h s from message dropped x false Allowed rest state shown turn is = absurd cc
 message_by h s from message dropped x true Allowed rest state shown turn is =
     let here = in_dialogue_turn h x (is_some (stating_of x.id h).awaited) shown turn in

@@ -15,7 +15,7 @@ use Rattle.sng_promise.proofs.WantedFilters.UpstreamWanted.{wanted_shown}
 use Rattle.sng_history.specs.State.{State, opening, state_of}
 use Rattle.sng_history.specs.Lawful.{Lawful, exits_for}
 use Rattle.sng_history.specs.Steps.{outs_of}
-use Rattle.sng_laws.specs.Views.{policy_in_force}
+use Rattle.sng_laws.specs.Views.{last_policy}
 use Rattle.sng_laws.specs.ViewsLink.{departures, wires_in}
 use Rattle.sng_laws.specs.ViewsFlight.{agains, allowed_again, in_flight}
 use Rattle.sng_laws.specs.LawsFlight.{AllReturn, is_beginning, EachReturns, AreIds, IdsApart, given_at}
@@ -37,7 +37,7 @@ use Rattle.sng_promise.proofs.Link.LawWires.{datagram_still, broker_wires, repla
 
 abbrev RowReturns : List Row → Event → List Out → Type 0
 RowReturns h e outs =
-    MatchBool (is_beginning e) (AllReturn (policy_in_force h) (in_flight h) (agains outs)) (agains outs ≡ [])
+    MatchBool (is_beginning e) (AllReturn (last_policy h) (in_flight h) (agains outs)) (agains outs ≡ [])
 
 take_returns : (s : State) (b : Bool) → s.up ≡ b → agains (outs_of s Take) ≡ []
 take_returns s true is = rw is (none_again s.policy s.link s.link.waiting)

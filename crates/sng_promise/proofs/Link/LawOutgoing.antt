@@ -33,7 +33,7 @@ use Rattle.sng_history.specs.Verdicts.{exit}
 use Rattle.sng_history.specs.State.{State, opening, state_of}
 use Rattle.sng_history.specs.Lawful.{Lawful}
 use Rattle.sng_history.specs.Steps.{outs_of}
-use Rattle.sng_laws.specs.Views.{policy_in_force, is_up}
+use Rattle.sng_laws.specs.Views.{last_policy, is_up}
 use Rattle.sng_laws.specs.ViewsFlight.{in_flight}
 use Rattle.sng_laws.specs.ViewsStanding.{held_in}
 use Rattle.sng_laws.specs.LawsState.{RestShown}
@@ -160,9 +160,9 @@ take_whole h s st are same =
     ∙ (ap (λ b. if b then taken_outs s.policy held (given_by s.link) s.link.waiting else []) st.shown.up
     ∙ (ap (λ policy. if is_up h then taken_outs policy held (given_by s.link) s.link.waiting else [])
     st.shown.policy
-    ∙ (ap (λ g. if is_up h then taken_outs (policy_in_force h) held g s.link.waiting else [])
+    ∙ (ap (λ g. if is_up h then taken_outs (last_policy h) held g s.link.waiting else [])
     (given_shown h s.link are)
-    ∙ ap (λ items. if is_up h then taken_outs (policy_in_force h) held given items else []) st.shown.waits)))
+    ∙ ap (λ items. if is_up h then taken_outs (last_policy h) held given items else []) st.shown.waits)))
 
 -- ---- as a connection begins
 
@@ -222,8 +222,8 @@ up_whole h s st are =
     (subscribed_anew link (filters_wanted s.link)
     ∙ ap (λ g. map (λ octets. Wire octets) (subscribes_with g (filters_wanted s.link))) given)
     ∙ (ap (λ policy. begun policy flights h (filters_wanted s.link)) st.shown.policy
-    ∙ (ap (λ sent. begun (policy_in_force h) sent h (filters_wanted s.link)) are.in_flight
-    ∙ ap (λ wants. begun (policy_in_force h) (in_flight h) h (map (λ w. w.filter) wants)) are.wanted)))
+    ∙ (ap (λ sent. begun (last_policy h) sent h (filters_wanted s.link)) are.in_flight
+    ∙ ap (λ wants. begun (last_policy h) (in_flight h) h (map (λ w. w.filter) wants)) are.wanted)))
 
 -- ---- the rows
 

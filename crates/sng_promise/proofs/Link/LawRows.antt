@@ -17,7 +17,7 @@ use Rattle.sng_history.specs.Exits.{subscribing}
 use Rattle.sng_history.specs.State.{State, opening, state_of}
 use Rattle.sng_history.specs.Lawful.{Lawful, exits_for}
 use Rattle.sng_history.specs.Steps.{outs_of}
-use Rattle.sng_laws.specs.Views.{policy_in_force, is_up}
+use Rattle.sng_laws.specs.Views.{last_policy, is_up}
 use Rattle.sng_laws.specs.ViewsLink.{Departure, publications, asked, asked_with, added, waiting, left}
 use Rattle.sng_laws.specs.ViewsLink.{lets_out, drops, departures, wires_in, sends_in}
 use Rattle.sng_laws.specs.LawsLink.{about_asked, about_left, LeavesInOrder, AllDepart, EachDeparts}
@@ -46,7 +46,7 @@ anew_wires s = subscribing_wires (resumed s.link s.clock (exits_for s ByUp)) (fi
 
 abbrev RowDeparts : List Row → Event → List Out → Type 0
 RowDeparts h e outs =
-    MatchBool (lets_out e h) (AllDepart (policy_in_force h) (publications (waiting h)) (departures outs))
+    MatchBool (lets_out e h) (AllDepart (last_policy h) (publications (waiting h)) (departures outs))
     (departures outs ≡ [])
 
 take_departs : (s : State) (b : Bool) → s.up ≡ b
@@ -125,7 +125,7 @@ lefts_append (x ∷ xs) ys = ap (λ rest. about_left x ∷ rest) (lefts_append x
 
 order_row : (h : List Row) (outs : List Out) (drop b : Bool) (new : List Publication) (more : List Item)
     → publications more ≡ new → LeavesInOrder h
-    → MatchBool b (AllDepart (policy_in_force h) (publications (waiting h)) (departures outs))
+    → MatchBool b (AllDepart (last_policy h) (publications (waiting h)) (departures outs))
     (departures outs ≡ [])
     → abouts (asked h ++ new) ≡ map about_left (left h ++ departures outs)
     ++ abouts (publications ((if b then [] else (if drop then publishes (waiting h) else waiting h))
@@ -135,7 +135,7 @@ order_row h outs drop true new more is order all =
     abouts_append (asked h) new
     ∙ (ap (λ xs. xs ++ abouts new)
     (order ∙ (ap (λ xs. map about_left (left h) ++ xs)
-    (sym (about_all (policy_in_force h) (publications (waiting h)) ds all))
+    (sym (about_all (last_policy h) (publications (waiting h)) ds all))
     ∙ sym (lefts_append (left h) ds)))
     ∙ ap (λ xs. map about_left (left h ++ ds) ++ abouts xs) (sym is))
 order_row h outs drop false new more is order none =

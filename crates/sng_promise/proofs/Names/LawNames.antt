@@ -25,7 +25,7 @@ use Rattle.sng_history.specs.Lawful.{Lawful}
 use Rattle.sng_history.specs.Steps.{newcomers_for, outs_by}
 use Rattle.sng_laws.specs.ViewsClients.{is_admitted, is_among, accepted, with_name, names_after}
 use Rattle.sng_laws.specs.ViewsClients.{names_told, those_at, phase_of, id_told}
-use Rattle.sng_laws.specs.Views.{policy_in_force}
+use Rattle.sng_laws.specs.Views.{last_policy}
 use Rattle.sng_laws.specs.ViewsMessages.{message_at, subscribe_in}
 use Rattle.sng_laws.specs.LawsState.{OneMore}
 use Rattle.sng_laws.specs.LawsRules.{judged, may_publish}
@@ -113,7 +113,7 @@ pub name_told : (h : List Row) (row : Row) (from : Address) (r : Register) (id :
     → told_as (id_told r.name (names_told id h)) (names_told id (row ∷ h)) ≡ Some r.name
 name_told h row from r id l brought at may =
     let names = names_told id h in
-    let policy = policy_in_force h in
+    let policy = last_policy h in
     let outs : row.outs ≡ register_answer h from r id =
     register_law h row from r l brought
     ∙ ap (answer_to (register_stranger from) (register_answer h from r)) at in

@@ -18,7 +18,7 @@ use Rattle.sng_book.specs.declared.out.Out.TheVariants.{Note}
 use Rattle.sng_book.specs.declared.row.Row.{Row}
 use Rattle.sng_history.specs.State.{opening}
 use Rattle.sng_history.specs.Lawful.{Lawful}
-use Rattle.sng_laws.specs.Views.{policy_in_force}
+use Rattle.sng_laws.specs.Views.{last_policy}
 use Rattle.sng_laws.specs.ViewsMessages.{message_in, message_at, subscribe_in}
 use Rattle.sng_laws.specs.ViewsClients.{phase_of, those_at, tells_id, names_told, id_told, with_name}
 use Rattle.sng_laws.specs.ViewsClients.{names_after}
@@ -71,7 +71,7 @@ pub name_subscribed_told : (h : List Row) (row : Row) (from : Address) (r : Topi
     → told_as (id_granted (names_told id h) r.flags.id_type r.topic) (names_told id (row ∷ h)) ≡ Some r.topic
 name_subscribed_told h row from r id l brought at may tells =
     let names = names_told id h in
-    let policy = policy_in_force h in
+    let policy = last_policy h in
     let meant_as = filter_meant policy r.flags.id_type r.topic in
     let is = named policy r.flags.id_type r.topic names tells in
     let k = id_granted names r.flags.id_type r.topic in

@@ -7,7 +7,6 @@ use Rattle.sng_grants.specs.declared.policy.Policy.{Policy}
 use Rattle.sng_policy.specs.Grants.{subscribe_grant}
 use Rattle.sng_policy.specs.declared.grant.FilterGrant.{FilterGrant}
 use Rattle.sng_policy.specs.declared.grant.FilterGrant.TheVariants as on_filter
-use Rattle.sng_policy.proofs.SubscriptionLemmas.{subscribing_is_receiving}
 use Rattle.sng_fan.specs.declared.held.Held.{Held}
 use Rattle.sng_fan.specs.Subscriptions.{has_text, stands, without_filter}
 use Rattle.sng_frames.specs.declared.messages.subscribe.TopicRequest.{TopicRequest}
@@ -23,22 +22,21 @@ use Rattle.sng_history.specs.State.{opening, state_of}
 use Rattle.sng_history.specs.Verdicts.{coverage, filter_outcome}
 use Rattle.sng_history.specs.Lawful.{Lawful}
 use Rattle.sng_history.specs.Good.{Each, AllCovered}
-use Rattle.sng_laws.specs.Views.{policy_in_force}
+use Rattle.sng_laws.specs.Views.{last_policy}
 use Rattle.sng_laws.specs.ViewsMessages.{Message, message_at, subscribe_in}
 use Rattle.sng_laws.specs.ViewsClients.{is_among, speaks_of}
 use Rattle.sng_laws.specs.ViewsStanding.{is_clean, joined_by, left_by, standing_by, standing_after}
 use Rattle.sng_laws.specs.ViewsStanding.{standing_of}
-use Rattle.sng_laws.specs.LawsStanding.{StandingIsAllowed, StandingIsReceived, is_text, begins_by}
+use Rattle.sng_laws.specs.LawsStanding.{is_text, begins_by}
 use Rattle.sng_laws.specs.LawsStanding.{begins_in, StaysEndedBy, StaysEndedBeside}
 use Rattle.sng_history.proofs.Own.{same_means}
 use Rattle.sng_history.proofs.Holding.{with_stands}
 use Rattle.sng_history.proofs.ClientIds.{ids_of}
 use Rattle.sng_promise.proofs.Clients.SeenState.{stands as state_stands}
 use Rattle.sng_promise.proofs.Standing.StandingState.{FiltersShown, standing_shown}
-use Rattle.sng_promise.proofs.Standing.StandingFilters.{standing_filter}
 use Rattle.sng_history.proofs.Booleans.{or_neither}
 
--- ---- each is allowed
+-- ---- each is allowed, in plain rows
 
 allowed_grant : (client text : List ℕ) (g : FilterGrant) → filter_outcome client text g ≡ Allowed
     → g ≡ on_filter.Allowed
@@ -83,22 +81,18 @@ among_covered policy h id text (x ∷ xs) true is none covered shown stood =
         (subst (λ held. stands held text ≡ true) (ap (λ i. standing_of i h) e ∙ sym shown.0) stood))
     at false same is rest = rest is
 
-pub standing_allowed : (h : List Row) → Lawful opening h → StandingIsAllowed h
+pub standing_allowed : (h : List Row) → Lawful opening h → (id text : List ℕ)
+    → stands (standing_of id h) text ≡ true → subscribe_grant (last_policy h) id text ≡ on_filter.Allowed
 standing_allowed h l id text stood =
     let s = state_of opening h in
     let was = state_stands h l in
     let shown = standing_shown h l in
-    let policy = policy_in_force h in
+    let policy = last_policy h in
     allowed_grant id text (subscribe_grant policy id text)
     (among_covered policy h id text s.clients (is_among id (ids_of s.clients)) refl
     (λ none. shown.strangers id (subst (λ ids. is_among id ids ≡ false) was.shown.order none))
     (subst (λ p. Each (λ x. AllCovered p x.id x.filters) s.clients) was.shown.policy was.good.covered)
     shown.filters stood)
-
-pub standing_received : (h : List Row) → Lawful opening h → StandingIsReceived h
-standing_received h l id text name stood has is_name matched =
-    (subscribing_is_receiving (policy_in_force h) id text (standing_filter h l id text stood) has).allowed
-    (standing_allowed h l id text stood) name is_name matched
 
 -- ---- what ended stays so
 

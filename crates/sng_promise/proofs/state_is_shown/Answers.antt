@@ -1,3 +1,4 @@
+use Rattle.sng_promise.proofs.BookLaws.{book_state}
 use Rattle.sng_promise.proofs.Clients.SeenState.{stands}
 use Rattle.sng_promise.proofs.Clients.NeverAccepted.{never_accepted}
 use Rattle.sng_promise.proofs.Link.SeenLast.{rest_shown}
@@ -6,9 +7,9 @@ use Rattle.sng_promise.proofs.state_is_shown.Goals as goal
 
 pub returns : goal.returns
 returns c = record {
-  policy = λ h l. (stands h l).shown.policy;
-  clock = λ h l. (stands h l).shown.clock;
-  up = λ h l. (stands h l).shown.up;
+  policy = λ h s book. (book_state h s book).policy;
+  clock = λ h s book. (book_state h s book).clock;
+  up = λ h s book. (book_state h s book).up;
   waits = λ h l. (stands h l).shown.waits;
   rest = rest_shown;
   order = λ h l. (stands h l).shown.order;

@@ -1,11 +1,11 @@
-//! The member `clients`: an object of scopes by client id (MQTT-SN 1.2, 5.3.1).
+//! The member `clients`: an object of grants by client id (MQTT-SN 1.2, 5.3.1).
 ghost use Rattle.std.specs.Prelude.{◌≡◌, ◌⊎◌, [], IfOk, IfErr, Ok, Err, codes, length, ◌≤◌};
 ghost use Rattle.serde_json.specs.Find.{get};
 ghost use Rattle.serde_json.specs.View.{view, members_view};
 ghost use Rattle.sng_scope.specs.Policies.{client_of, clients_of, clients_onto};
 
 use super::members_within;
-use crate::scope_form::scope_from;
+use crate::grant_form::grant_from;
 use crate::{Clients, PolicyFault};
 use serde_json::{Map, Value};
 use sng_grants::MAX_POLICY_CLIENTS;
@@ -13,29 +13,33 @@ use sng_text::{ClientId, TextFault};
 use std::alloc::Global;
 
 /// The clients that the policy lists: none where it has no such member.
-pub fn clients_in(alloc: Global, policy: &Value) -> Result<Clients, PolicyFault>
-    ensures ok { IfOk result (λ c. clients_of (get (codes "clients") (view policy.now)) ≡ Ok c) }
+pub fn clients_in(alloc: Global, ends: bool, policy: &Value) -> Result<Clients, PolicyFault>
+    ensures ok { IfOk result (λ c. clients_of ends (get (codes "clients") (view policy.now)) ≡ Ok c) }
     ensures err { IfErr result (λ e. (e ≡ PolicyFault.Memory)
-        ⊎ (clients_of (get (codes "clients") (view policy.now)) ≡ Err e)) }
+        ⊎ (clients_of ends (get (codes "clients") (view policy.now)) ≡ Err e)) }
 {
     match policy.get("clients") {
         None => Ok(Clients::new(alloc)),
-        Some(clients) => clients_of(alloc, members_within(clients, MAX_POLICY_CLIENTS)?),
+        Some(clients) => clients_of(alloc, ends, members_within(clients, MAX_POLICY_CLIENTS)?),
     }
 }
 
-fn clients_of(alloc: Global, members: &Map<String, Value>) -> Result<Clients, PolicyFault>
+fn clients_of(
+    alloc: Global,
+    ends: bool,
+    members: &Map<String, Value>,
+) -> Result<Clients, PolicyFault>
     requires { length members.now.entries ≤ MAX_POLICY_CLIENTS }
-    ensures ok { IfOk result (λ c. clients_onto [] (members_view members.now.entries) ≡ Ok c) }
+    ensures ok { IfOk result (λ c. clients_onto ends [] (members_view members.now.entries) ≡ Ok c) }
     ensures err { IfErr result (λ e. (e ≡ PolicyFault.Memory)
-        ⊎ (clients_onto [] (members_view members.now.entries) ≡ Err e)) }
+        ⊎ (clients_onto ends [] (members_view members.now.entries) ≡ Err e)) }
 {
     let mut clients = Clients::new(alloc);
     for (name, value) in members {
         let client = client_from(alloc, name.as_str())?;
-        let scope = scope_from(alloc, value)?;
+        let grant = grant_from(alloc, ends, value)?;
         clients
-            .insert(client, scope)
+            .insert(client, grant)
             .map_err(|_| PolicyFault::Memory)?;
     }
     Ok(clients)

@@ -1,11 +1,11 @@
-//! The member `sources`: an object of scopes by IPv4 address.
+//! The member `sources`: an object of grants by IPv4 address.
 ghost use Rattle.std.specs.Prelude.{◌≡◌, ◌⊎◌, [], IfOk, IfErr, Ok, Err, codes, length, ◌≤◌};
 ghost use Rattle.serde_json.specs.Find.{get};
 ghost use Rattle.serde_json.specs.View.{view, members_view};
 ghost use Rattle.sng_scope.specs.Policies.{sources_of, sources_onto};
 
 use super::members_within;
-use crate::scope_form::scope_from;
+use crate::grant_form::grant_from;
 use crate::{PolicyFault, Sources};
 use serde_json::{Map, Value};
 use sng_grants::MAX_SOURCES;
@@ -13,31 +13,35 @@ use sng_text::read_ipv4;
 use std::alloc::Global;
 
 /// The sources that the policy lists: none where it has no such member.
-pub fn sources_in(alloc: Global, policy: &Value) -> Result<Sources, PolicyFault>
-    ensures ok { IfOk result (λ s. sources_of (get (codes "sources") (view policy.now)) ≡ Ok s) }
+pub fn sources_in(alloc: Global, ends: bool, policy: &Value) -> Result<Sources, PolicyFault>
+    ensures ok { IfOk result (λ s. sources_of ends (get (codes "sources") (view policy.now)) ≡ Ok s) }
     ensures err { IfErr result (λ e. (e ≡ PolicyFault.Memory)
-        ⊎ (sources_of (get (codes "sources") (view policy.now)) ≡ Err e)) }
+        ⊎ (sources_of ends (get (codes "sources") (view policy.now)) ≡ Err e)) }
 {
     match policy.get("sources") {
         None => Ok(Sources::new(alloc)),
-        Some(sources) => sources_of(alloc, members_within(sources, MAX_SOURCES)?),
+        Some(sources) => sources_of(alloc, ends, members_within(sources, MAX_SOURCES)?),
     }
 }
 
-fn sources_of(alloc: Global, members: &Map<String, Value>) -> Result<Sources, PolicyFault>
+fn sources_of(
+    alloc: Global,
+    ends: bool,
+    members: &Map<String, Value>,
+) -> Result<Sources, PolicyFault>
     requires { length members.now.entries ≤ MAX_SOURCES }
-    ensures ok { IfOk result (λ s. sources_onto [] (members_view members.now.entries) ≡ Ok s) }
+    ensures ok { IfOk result (λ s. sources_onto ends [] (members_view members.now.entries) ≡ Ok s) }
     ensures err { IfErr result (λ e. (e ≡ PolicyFault.Memory)
-        ⊎ (sources_onto [] (members_view members.now.entries) ≡ Err e)) }
+        ⊎ (sources_onto ends [] (members_view members.now.entries) ≡ Err e)) }
 {
     let mut sources = Sources::new(alloc);
     for (name, value) in members {
         let Some(source) = read_ipv4(name.as_bytes()) else {
             return Err(PolicyFault::BadSource);
         };
-        let scope = scope_from(alloc, value)?;
+        let grant = grant_from(alloc, ends, value)?;
         sources
-            .insert(source, scope)
+            .insert(source, grant)
             .map_err(|_| PolicyFault::Memory)?;
     }
     Ok(sources)

@@ -5,44 +5,43 @@ ghost use Rattle.sng_text.specs.ClientIds.{is_client_id};
 ghost use Rattle.sng_text.specs.Ipv4.{IsAddress};
 ghost use Rattle.sng_text.specs.Texts.{is_name};
 ghost use Rattle.sng_grants.specs.Laws.{AreInOrder, AreIdsInOrder};
-ghost use Rattle.sng_grants.specs.Scopes.{IsScope};
 ghost use Rattle.sng_grants.specs.Topics.{IsTopicId};
-ghost use Rattle.sng_scope.specs.Bounds.{AreWithin};
+ghost use Rattle.sng_scope.specs.Bounds.{AreWithin, IsGrant};
 ghost use Rattle.sng_scope.specs.Written.{clients_data, sources_data, topics_data};
 
-use super::scopes::scope_value;
+use super::scopes::grant_value;
 use super::texts::{decimal_of, dotted_of, string_of, text_of};
 use crate::{Clients, Sources, Topics};
 use serde_json::{Map, Value, put};
 use sng_grants::{MAX_POLICY_CLIENTS, MAX_SOURCES, MAX_TOPICS};
 use std::alloc::{AllocError, Global};
 
-/// The scopes by client id.
+/// The grants by client id.
 pub fn clients_value(alloc: Global, clients: &Clients) -> Result<Value, AllocError>
     ensures json { IfOk result (λ v. view v ≡ clients_data clients.now) }
     ensures within { IfOk result
-        (λ v. AreWithin MAX_POLICY_CLIENTS (λ client. is_client_id client ≡ true) IsScope clients.now) }
+        (λ v. AreWithin MAX_POLICY_CLIENTS (λ client. is_client_id client ≡ true) IsGrant clients.now) }
     ensures ordered { IfOk result (λ v. AreInOrder clients.now) }
 {
     let mut members = Map::new(alloc);
     let _count = clients.len();
-    for (client, scope) in clients.iter() {
-        let value = scope_value(alloc, scope)?;
+    for (client, grant) in clients.iter() {
+        let value = grant_value(alloc, grant)?;
         put(&mut members, alloc, text_of(client.text()), value)?;
     }
     Ok(Value::from(members))
 }
 
-/// The scopes by IPv4 address.
+/// The grants by IPv4 address.
 pub fn sources_value(alloc: Global, sources: &Sources) -> Result<Value, AllocError>
     ensures json { IfOk result (λ v. view v ≡ sources_data sources.now) }
-    ensures within { IfOk result (λ v. AreWithin MAX_SOURCES IsAddress IsScope sources.now) }
+    ensures within { IfOk result (λ v. AreWithin MAX_SOURCES IsAddress IsGrant sources.now) }
     ensures ordered { IfOk result (λ v. AreInOrder sources.now) }
 {
     let mut members = Map::new(alloc);
     let _count = sources.len();
-    for (source, scope) in sources.iter() {
-        let value = scope_value(alloc, scope)?;
+    for (source, grant) in sources.iter() {
+        let value = grant_value(alloc, grant)?;
         let name = dotted_of(alloc, *source)?;
         put(&mut members, alloc, name.as_str(), value)?;
     }

@@ -1,16 +1,29 @@
-//! Scopes as JSON: the list of pairs of a topic filter and the permissions on it (RFC 9237, 2; RFC 9431,
-//! 2.3).
+//! Grants and scopes as JSON: the list of pairs of a topic filter and the permissions on it (RFC 9237, 2; RFC
+//! 9431, 2.3).
 ghost use Rattle.std.specs.Prelude.{◌≡◌, true, All, IfOk};
 ghost use Rattle.serde_json.specs.Data.{array};
 ghost use Rattle.serde_json.specs.View.{view, items_view};
 ghost use Rattle.sng_grants.specs.Scopes.{IsScope};
 ghost use Rattle.sng_text.specs.Texts.{is_filter};
-ghost use Rattle.sng_scope.specs.Written.{permissions_data, pair_data, scope_data};
+ghost use Rattle.sng_scope.specs.Bounds.{IsGrant};
+ghost use Rattle.sng_scope.specs.Written.{permissions_data, pair_data, scope_data, grant_data};
 
 use super::texts::text_of;
-use crate::{Pair, Scope};
+use crate::{Grant, Pair, Scope};
 use serde_json::{Value, json};
 use std::alloc::{AllocError, Global};
+
+/// The grant: its scope, in an object with its end where it has one.
+pub fn grant_value(alloc: Global, grant: &Grant) -> Result<Value, AllocError>
+    ensures json { IfOk result (λ v. view v ≡ grant_data grant.now) }
+    ensures within { IfOk result (λ v. IsGrant grant.now) }
+{
+    let scope = scope_value(alloc, &grant.scope)?;
+    match grant.until {
+        None => Ok(scope),
+        Some(end) => json!(in alloc; {"exp": end, "scope": scope}),
+    }
+}
 
 /// The scope as an array of its pairs, which shows that it keeps to its bounds.
 pub fn scope_value(alloc: Global, scope: &Scope) -> Result<Value, AllocError>

@@ -17,4 +17,5 @@ loop-ending-preserved c =
           ended_more _ _ _ _ _ _ _ _ c.loop-ending.invariant.ended c.end_one.ensures.next
           c.end_one.ensures.outs;
       room = omega (arith, size, c.loop-ending.invariant.room, c.end_one.ensures.spare);
+      spent = omega (arith, size, c.loop-ending.invariant.spent, c.end_one.ensures.spare);
     }

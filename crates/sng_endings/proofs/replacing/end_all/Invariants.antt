@@ -1,4 +1,4 @@
-use Rattle.std.proofs.Common.{◌≤◌, ◌*◌, length}
+use Rattle.std.proofs.Common.{◌≤◌, ◌+◌, ◌*◌, length}
 use Rattle.sng_endings.specs.Replacing.{moved}
 use Rattle.sng_endings.proofs.Planning.{Ended}
 use Rattle.sng_endings.proofs.replacing.end_all.Given as goal
@@ -8,4 +8,6 @@ invariant-loop-ending l = record {
   ended : Ended (moved l.fn.link l.fn.sessions) (moved l.link l.sessions) l.fn.outs.outs l.outs.outs
       l.yielded;
   room : length l.ending-iterator.rest.items * 2 ≤ l.outs.spare;
+  spent : l.fn.outs.spare + length l.ending-iterator.rest.items * 2
+      ≤ l.outs.spare + length l.fn.endings.items * 2;
 }

@@ -5,4 +5,4 @@ use Rattle.sng_places.proofs.entries.check_clients.Given as goal
 
 abbrev pub invariant-loop-name : goal.invariant-loop-name
 invariant-loop-name l =
-    clients_check (members_view l.name-iterator) ≡ clients_check (members_view l.members.entries)
+    clients_check l.ends (members_view l.name-iterator) ≡ clients_check l.ends (members_view l.members.entries)

@@ -5,4 +5,4 @@ use Rattle.sng_places.proofs.entries.check_sources.Given as goal
 
 abbrev pub invariant-loop-name : goal.invariant-loop-name
 invariant-loop-name l =
-    sources_check (members_view l.name-iterator) ≡ sources_check (members_view l.members.entries)
+    sources_check l.ends (members_view l.name-iterator) ≡ sources_check l.ends (members_view l.members.entries)

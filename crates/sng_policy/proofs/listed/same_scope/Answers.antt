@@ -7,6 +7,7 @@ use Rattle.sng_policy.proofs.listed.same_scope.Goals as goal
 
 pub returns-in-Some-Some-clause-same : goal.returns-in-Some-Some-clause-same
 returns-in-Some-Some-clause-same c =
-    let value : c.eq.result ≡ same_scope c.args.before.now c.args.after.now c.args.client.now =
+    let value : c.same_grant.result ≡ same_scope c.args.before.now c.args.after.now c.args.client.now =
     grind (arith, common_steps) in
-    Decides-at c.eq.result _ value (same_scope-Decides c.args.before.now c.args.after.now c.args.client.now)
+    Decides-at c.same_grant.result _ value
+    (same_scope-Decides c.args.before.now c.args.after.now c.args.client.now)

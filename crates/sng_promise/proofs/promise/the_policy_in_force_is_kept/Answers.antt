@@ -1,12 +1,9 @@
-use Rattle.sng_promise.proofs.Link.LawRows.{links}
-use Rattle.sng_promise.proofs.InForce.LawPromise.{promise_law}
-use Rattle.sng_promise.proofs.InForce.LawReached.{reached_law}
+use Rattle.sng_promise.proofs.BookLaws.{book_told}
 use Rattle.sng_promise.proofs.promise.the_policy_in_force_is_kept.Goals as goal
 
 pub returns : goal.returns
-returns c =
-    record {
-      notes = promise_law;
-      reached = reached_law;
-      announced = λ h l. (links h l).announced;
-    }
+returns c = record {
+  notes = λ h book. (book_told h book).stands;
+  reached = λ h book. (book_told h book).reaches;
+  announced = λ h book. (book_told h book).announced;
+}

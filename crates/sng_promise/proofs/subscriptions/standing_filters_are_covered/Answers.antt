@@ -1,6 +1,5 @@
-use Rattle.sng_promise.proofs.Standing.StandingFilters.{standing_filter}
-use Rattle.sng_promise.proofs.Standing.StandingLaws.{standing_allowed, standing_received}
+use Rattle.sng_promise.proofs.BookLaws.{book_filters, book_allowed, book_received}
 use Rattle.sng_promise.proofs.subscriptions.standing_filters_are_covered.Goals as goal
 
 pub returns : goal.returns
-returns c = record { filters = standing_filter; allowed = standing_allowed; received = standing_received }
+returns c = record { filters = book_filters; allowed = book_allowed; received = book_received }

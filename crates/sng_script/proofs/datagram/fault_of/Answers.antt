@@ -1,4 +1,4 @@
-use Rattle.std.proofs.Common.{◌≡◌, ◌%◌, length, [], sym, arith}
+use Rattle.std.proofs.Common.{◌≡◌, ◌%◌, length, sym, arith}
 use Rattle.std.proofs.lemmas.Grind.{common_steps}
 use Rattle.sng_script.proofs.PieceLemmas.{digit_piece, other_piece}
 use Rattle.sng_script.proofs.datagram.fault_of.Goals as goal

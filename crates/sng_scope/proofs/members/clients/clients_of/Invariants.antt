@@ -6,5 +6,5 @@ use Rattle.sng_scope.proofs.members.clients.clients_of.Given as goal
 
 abbrev pub invariant-loop-name : goal.invariant-loop-name
 invariant-loop-name l =
-    (clients_onto l.clients (members_view l.name-iterator) ≡ clients_onto [] (members_view l.members.entries))
+    (clients_onto l.ends l.clients (members_view l.name-iterator) ≡ clients_onto l.ends [] (members_view l.members.entries))
     × (length l.clients + length l.name-iterator ≤ MAX_POLICY_CLIENTS)
