@@ -35,6 +35,7 @@ use Rattle.sng_book.specs.declared.outcome.RoomDenial.TheVariants.{UpstreamDown,
 use Rattle.sng_book.specs.declared.outcome.Outcome.{Outcome}
 use Rattle.sng_book.specs.declared.outcome.Outcome.TheVariants.{Allowed, Denied}
 use Rattle.sng_book.specs.Denials.{is_allowed}
+pub use Rattle.sng_book.specs.Traces.{same_address}
 use Rattle.sng_history.specs.Causes.{Cause, request_of, subscribe_asked, statement_asked, id_opened}
 use Rattle.sng_history.specs.Causes.{Statement, StatesTopic, StatesMessage, UpdatesTopic, UpdatesMessage}
 use Rattle.sng_history.specs.Causes.{Request, ToPing, ToLeave, ToSleep, ToRegister, ToPublish, ToSubscribe}
@@ -76,9 +77,6 @@ pub record Around : Type 0 where
   pub policy : Policy
   pub clock : ℕ
   pub cause : Cause
-
-abbrev pub same_address : Address → Address → Bool
-same_address a b = bytes_eq a.ip b.ip && (a.port == b.port)
 
 -- the client has a session, and the address is where it is
 abbrev pub is_here : Client → Address → Bool

@@ -1,38 +1,11 @@
--- What the notes of a row say: of whom a note speaks, and how the items came out that left.
-use Rattle.std.specs.Prelude.{ℕ, Bool, false, List, [], ◌∷◌, ◌++◌, if◌then◌else◌}
-use Rattle.std.specs.Str.{bytes_eq}
+-- What the notes of a row say: which are a client's, and how the items came out that left.
+use Rattle.std.specs.Prelude.{ℕ, List, [], ◌∷◌, ◌++◌, if◌then◌else◌}
 use Rattle.sng_book.specs.declared.decision.Decision.{Decision}
 use Rattle.sng_book.specs.declared.decision.Decision.TheVariants as note
-use Rattle.sng_book.specs.declared.decision.Who.{Who}
-use Rattle.sng_book.specs.declared.decision.Who.TheVariants as who
 use Rattle.sng_book.specs.declared.outcome.Outcome.{Outcome}
 use Rattle.sng_book.specs.declared.out.Out.{Out}
 use Rattle.sng_book.specs.declared.out.Out.TheVariants.{Send, Wire, Note}
-
-abbrev pub is_client : List ℕ → Who → Bool
-is_client id (who.Client client) = bytes_eq id client
-is_client id (who.Source source) = false
-is_client id (who.Address address) = false
-is_client id who.Broker = false
-
--- the note is the client's; what left for the broker is the link's, whoever asked for it
-abbrev pub is_of : List ℕ → Decision → Bool
-is_of id (note.Connect client outcome) = bytes_eq id client
-is_of id (note.Register who name outcome) = is_client id who
-is_of id (note.Publish who name outcome) = is_client id who
-is_of id (note.Subscribe who filter outcome) = is_client id who
-is_of id (note.Unsubscribe who filter outcome) = is_client id who
-is_of id (note.Will who name outcome) = is_client id who
-is_of id (note.Announce client name) = bytes_eq id client
-is_of id (note.Hand client name outcome) = bytes_eq id client
-is_of id (note.Retry client name outcome) = bytes_eq id client
-is_of id (note.Forward who name outcome) = false
-is_of id (note.Again who name outcome) = false
-is_of id (note.End client filter outcome) = bytes_eq id client
-is_of id (note.Lost client) = bytes_eq id client
-is_of id (note.Left client) = bytes_eq id client
-is_of id note.Outbox = false
-is_of id (note.Frame who outcome) = is_client id who
+pub use Rattle.sng_book.specs.Traces.{is_client, is_of}
 
 abbrev pub said_of : List ℕ → Out → List Decision
 said_of id (Note said) = if is_of id said then said ∷ [] else []
