@@ -48,3 +48,6 @@ pub mod OneEnds
 pub mod Awaited
 pub mod BookSteps
 pub mod BookExact
+pub mod SentTo
+pub mod Stayed
+pub mod ExampleIds

@@ -26,7 +26,7 @@ use Rattle.sng_isolation.specs.View.{part_of}
 use Rattle.sng_isolation.specs.Trace.{reaches, trace_of}
 use Rattle.sng_isolation.specs.Room.{HasRoom}
 use Rattle.sng_isolation.specs.Isolation.{kept_of}
-use Rattle.sng_isolation.proofs.Stayed.{enters_by}
+use Rattle.sng_history.proofs.Stayed.{enters_by}
 use Rattle.sng_isolation.proofs.Silent.{Silent}
 use Rattle.sng_isolation.proofs.Foreign.{other_silent}
 use Rattle.sng_isolation.proofs.ForeignStep.{kept_next}

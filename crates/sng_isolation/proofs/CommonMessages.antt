@@ -30,7 +30,7 @@ use Rattle.sng_isolation.specs.Own.{is_own}
 use Rattle.sng_isolation.specs.Trace.{trace_of}
 use Rattle.sng_isolation.specs.Room.{HasRoom}
 use Rattle.sng_isolation.specs.Isolation.{kept_of}
-use Rattle.sng_isolation.proofs.Stayed.{enters_by}
+use Rattle.sng_history.proofs.Stayed.{enters_by}
 use Rattle.sng_isolation.proofs.Silent.{Silent, silent_off}
 use Rattle.sng_isolation.proofs.Alike.{is_mine, mine, Alike, IsPlaced, Sound, GoesOn}
 use Rattle.sng_isolation.proofs.Fan.{others_behind, fans}

@@ -9,9 +9,9 @@ use Rattle.sng_book.specs.declared.decision.Who.TheVariants as who
 use Rattle.sng_book.specs.declared.outcome.Denial.{Denial}
 use Rattle.sng_book.specs.declared.outcome.Outcome.TheVariants.{Denied}
 use Rattle.sng_book.specs.declared.out.Out.TheVariants.{Note}
-use Rattle.sng_history.specs.Causes.{Request, ToPing, ToLeave, ToSleep, ToRegister, ToPublish, ToSubscribe}
-use Rattle.sng_history.specs.Causes.{ToUnsubscribe, ToConfirm, ToAcknowledge, ToState, Untaken, Cause}
-use Rattle.sng_history.specs.Causes.{ToPublishOnce, ToRelease, ByMessage, BySource, ByBroken}
+use Rattle.sng_history.specs.Causes.{Request}
+use Rattle.sng_history.specs.Causes.{Cause}
+use Rattle.sng_history.specs.Causes.{ByMessage, BySource, ByBroken}
 use Rattle.sng_history.specs.Clients.{Client, is_here}
 use Rattle.sng_history.specs.State.{State, around}
 use Rattle.sng_history.specs.Standing.{Release}
@@ -27,8 +27,8 @@ use Rattle.sng_history.proofs.Told.{tells}
 use Rattle.sng_history.proofs.Says.{mute_stranger}
 use Rattle.sng_history.proofs.SaysUpstream.{foreign_source}
 use Rattle.sng_isolation.specs.Own.{is_own}
-use Rattle.sng_isolation.proofs.SentTo.{AllTo, part_to}
-use Rattle.sng_isolation.proofs.Stayed.{enters_by, fixed_put}
+use Rattle.sng_history.proofs.SentTo.{part_to, stranger_goes}
+use Rattle.sng_history.proofs.Stayed.{enters_by, fixed_put}
 use Rattle.sng_isolation.proofs.Silent.{Silent, silent_flat, silent_either, silent_by}
 use Rattle.sng_isolation.proofs.Still.{Unconcerned, part_none, message_unconcerned, broken_unconcerned}
 
@@ -71,21 +71,6 @@ rows_silent id own s from c dropped off other still rest elsewhere =
     (each_with AtRest (Elsewhere id from) (λ x. Silent id own (part (around s c) dropped (fixed_for s c x) x))
     s.clients
     (λ x at away. part_silent id own s from c dropped x off (other x) (still x) at away) rest elsewhere)
-
-stranger_goes : (from : Address) (request : Request) → AllTo from (stranger_to from request)
-stranger_goes from (ToPing client) = (refl, tt)
-stranger_goes from ToLeave = (refl, tt)
-stranger_goes from (ToSleep duration) = (refl, tt)
-stranger_goes from (ToRegister r) = (refl, tt)
-stranger_goes from (ToPublish p) = (refl, tt)
-stranger_goes from (ToPublishOnce p) = (refl, tt)
-stranger_goes from (ToRelease n) = (refl, tt)
-stranger_goes from (ToSubscribe r) = (refl, tt)
-stranger_goes from (ToUnsubscribe r) = (refl, tt)
-stranger_goes from (ToConfirm r) = (refl, tt)
-stranger_goes from (ToAcknowledge r) = (refl, tt)
-stranger_goes from (ToState statement) = (refl, tt)
-stranger_goes from (Untaken message) = tt
 
 pub message_silent : (id : List ℕ) (own : List Address) (s : State) (from : Address) (request : Request)
     → is_own own from ≡ false → Each AtRest s.clients → Each (Elsewhere id from) s.clients

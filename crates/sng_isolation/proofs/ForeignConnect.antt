@@ -30,8 +30,8 @@ use Rattle.sng_history.proofs.Places.{let_in_at}
 use Rattle.sng_history.proofs.Spelled.{spell_other, spell_exits}
 use Rattle.sng_history.proofs.SaysParts.{entering_about}
 use Rattle.sng_isolation.specs.Own.{is_own}
-use Rattle.sng_isolation.proofs.SentTo.{AllTo, spell_to, Stayed}
-use Rattle.sng_isolation.proofs.Stayed.{entering_put}
+use Rattle.sng_history.proofs.SentTo.{AllTo, spell_to, Stayed}
+use Rattle.sng_history.proofs.Stayed.{entering_put}
 use Rattle.sng_isolation.proofs.Silent.{Silent, silent_both, silent_flat, silent_by, skipped}
 use Rattle.sng_isolation.proofs.Still.{connect_unconcerned}
 use Rattle.sng_isolation.proofs.Foreign.{Elsewhere, part_silent}

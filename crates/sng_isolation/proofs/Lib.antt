@@ -1,6 +1,4 @@
-pub mod SentTo
 pub mod Silent
-pub mod Stayed
 pub mod Still
 pub mod Foreign
 pub mod ForeignConnect

@@ -28,8 +28,8 @@ use Rattle.sng_history.proofs.Entries.{own_next, hearing_next}
 use Rattle.sng_history.proofs.Places.{let_in_at}
 use Rattle.sng_history.proofs.GoodNext.{good_next}
 use Rattle.sng_isolation.specs.Own.{is_own}
-use Rattle.sng_isolation.proofs.SentTo.{stayed_at}
-use Rattle.sng_isolation.proofs.Stayed.{enters_by, fixed_put}
+use Rattle.sng_history.proofs.SentTo.{stayed_at}
+use Rattle.sng_history.proofs.Stayed.{enters_by, fixed_put}
 use Rattle.sng_isolation.proofs.Alike.{IsPlaced, Sound}
 
 -- a client keeps its address, but with its own CONNECT

@@ -1,30 +1,11 @@
 -- The datagrams of the worked examples, read.
-use Rattle.std.proofs.Common.{◌≡◌, true, [], ◌∷◌, refl, rules}
-use Rattle.std.specs.Str.{is_utf8, chars, IsAscii}
-use Rattle.std.proofs.lemmas.Str.{is_utf8-from_IsUtf8, IsUtf8-from_ascii, chars-IsAscii}
+use Rattle.std.proofs.Common.{◌≡◌, true, [], ◌∷◌, refl}
 use Rattle.sng_book.specs.declared.event.Event.TheVariants.{Datagram}
 use Rattle.sng_history.specs.Causes.{cause_of}
+use Rattle.sng_history.proofs.ExampleIds.{s1_utf8, s1_chars, s2_utf8, s2_chars}
 use Rattle.sng_isolation.specs.Examples.{s1, home, connect_s2, comes, others_come, first_alone, with_another}
 use Rattle.sng_isolation.specs.Isolation.{is_stray, LookAlike}
 use Rattle.sng_isolation.specs.Own.{own_of}
-
-s1_ascii : IsAscii (115 ∷ 49 ∷ [])
-s1_ascii = search rules
-
-s1_utf8 : is_utf8 (115 ∷ 49 ∷ []) ≡ true
-s1_utf8 = is_utf8-from_IsUtf8 (115 ∷ 49 ∷ []) (IsUtf8-from_ascii (115 ∷ 49 ∷ []) s1_ascii)
-
-s1_chars : chars (115 ∷ 49 ∷ []) ≡ 115 ∷ 49 ∷ []
-s1_chars = chars-IsAscii (115 ∷ 49 ∷ []) s1_ascii
-
-s2_ascii : IsAscii (115 ∷ 50 ∷ [])
-s2_ascii = search rules
-
-s2_utf8 : is_utf8 (115 ∷ 50 ∷ []) ≡ true
-s2_utf8 = is_utf8-from_IsUtf8 (115 ∷ 50 ∷ []) (IsUtf8-from_ascii (115 ∷ 50 ∷ []) s2_ascii)
-
-s2_chars : chars (115 ∷ 50 ∷ []) ≡ 115 ∷ 50 ∷ []
-s2_chars = chars-IsAscii (115 ∷ 50 ∷ []) s2_ascii
 
 pub own_home : own_of s1 comes others_come ≡ home ∷ []
 own_home = rw (s1_utf8, s1_chars, s2_utf8, s2_chars) refl

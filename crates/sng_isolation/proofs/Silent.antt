@@ -15,7 +15,7 @@ use Rattle.sng_history.specs.Notes.{notes_of, exits_in, is_of, exit_of}
 use Rattle.sng_history.specs.Good.{Each}
 use Rattle.sng_isolation.specs.Own.{is_own}
 use Rattle.sng_isolation.specs.Trace.{speaks_of, returns, tells, reaches, trace_of}
-use Rattle.sng_isolation.proofs.SentTo.{AllTo}
+use Rattle.sng_history.proofs.SentTo.{AllTo}
 
 -- nothing of it is for the client
 abbrev pub Silent : List ℕ → List Address → List Out → Type 0

@@ -20,7 +20,7 @@ use Rattle.sng_history.specs.Whole.{part, answer, drained_outs}
 use Rattle.sng_history.specs.Lawful.{fixed_for}
 use Rattle.sng_history.specs.Steps.{client_next}
 use Rattle.sng_history.proofs.Steady.{undrained}
-use Rattle.sng_isolation.proofs.Stayed.{beside_notes}
+use Rattle.sng_history.proofs.Stayed.{beside_notes}
 
 -- the cause brings nothing to the client, and notes nothing of it
 pub record Unconcerned (s : State) (c : Cause) (x : Client) : Type 0 where

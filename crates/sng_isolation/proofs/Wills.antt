@@ -19,16 +19,12 @@ use Rattle.sng_history.specs.Ticking.{will_of, testament, testaments, with_item,
 use Rattle.sng_history.specs.Ticking.{is_lost_at, is_ping_due, ticked}
 use Rattle.sng_history.specs.Losing.{before}
 use Rattle.sng_history.specs.Good.{Each, Distinct}
+use Rattle.sng_history.proofs.WillsPlaced.{placed_append}
 use Rattle.sng_isolation.specs.Isolation.{kept_of}
 use Rattle.sng_isolation.proofs.Alike.{is_by, is_mine, mine}
 use Rattle.sng_isolation.proofs.Fan.{own_part, others_behind}
 
 -- ---- the link
-
-all_placed_both : (link : Link) (ps qs : List Publication)
-    → all_placed link (ps ++ qs) ≡ all_placed (all_placed link ps) qs
-all_placed_both link [] qs = refl
-all_placed_both link (p ∷ ps) qs = all_placed_both (placed link p) ps qs
 
 -- a publish of another
 placed_other : (id : List ℕ) (link : Link) (p : Publication) → is_by id p.origin ≡ false
@@ -75,7 +71,7 @@ pub wills_others : (id : List ℕ) (now : ℕ) (link : Link) (xs : List Client)
     → mine id (with_wills link now xs).waiting ≡ mine id link.waiting
 wills_others id now link [] away = refl
 wills_others id now link (x ∷ xs) away =
-    ap (λ after. mine id after.waiting) (all_placed_both link (testament now x) (testaments now xs))
+    ap (λ after. mine id after.waiting) (placed_append link (testament now x) (testaments now xs))
     ∙ (wills_others id now (all_placed link (testament now x)) xs away.1
     ∙ testament_other id now link x away.0)
 
@@ -130,7 +126,7 @@ later_before id now link x xs None away room = tt
 later_before id now link x xs (Some y) away room =
     subst (λ (after : Link). FindsRoom after (testament now y))
     (ap (λ (ys : List Client). all_placed link (testaments now ys)) (one away)
-    ∙ all_placed_both link (testament now x) (testaments now (before id xs))) room
+    ∙ placed_append link (testament now x) (testaments now (before id xs))) room
   where
     one : bytes_eq id x.id ≡ false → before id (x ∷ xs) ≡ x ∷ before id xs
     one is = rw is refl
@@ -145,7 +141,7 @@ wills_trace id now link (x ∷ xs) apart room =
   where
     first : mine id (with_wills link now (x ∷ xs)).waiting
         ≡ mine id (with_wills (all_placed link (testament now x)) now xs).waiting
-    first = ap (λ after. mine id after.waiting) (all_placed_both link (testament now x) (testaments now xs))
+    first = ap (λ after. mine id after.waiting) (placed_append link (testament now x) (testaments now xs))
 
     by_one : (b : Bool) → bytes_eq id x.id ≡ b
         → WillFindsRoom id now link (x ∷ xs) (cond b (Some x) (kept_of id xs))

@@ -5,7 +5,6 @@ pub mod SeenSleepers
 pub mod SeenPongsMessages
 pub mod SeenPongs
 pub mod LawPonged
-pub mod SentTo
 pub mod QuietNotes
 pub mod QuietParts
 pub mod SentAway

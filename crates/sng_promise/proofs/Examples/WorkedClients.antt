@@ -1,7 +1,5 @@
 -- The worked rows of clients are lawful, or not, by computation.
-use Rattle.std.proofs.Common.{◌≡◌, ℕ, true, false, List, [], ◌∷◌, refl, ap, sym, ◌∙◌, subst, rules}
-use Rattle.std.specs.Str.{is_utf8, chars, IsAscii}
-use Rattle.std.proofs.lemmas.Str.{is_utf8-from_IsUtf8, IsUtf8-from_ascii, chars-IsAscii}
+use Rattle.std.proofs.Common.{◌≡◌, ℕ, true, false, List, [], ◌∷◌, refl, ap, sym, ◌∙◌, subst}
 use Rattle.sng_frames.specs.declared.flags.TopicIdType.TheVariants.{Normal}
 use Rattle.sng_frames.specs.declared.qos.FrameQos.TheVariants.{AtMostOnce}
 use Rattle.sng_frames.specs.declared.messages.connect.Connect.{Connect}
@@ -18,28 +16,11 @@ use Rattle.sng_book.specs.declared.event.Event.TheVariants.{Datagram}
 use Rattle.sng_history.specs.Causes.{Cause, ByConnect, cause_of}
 use Rattle.sng_history.specs.State.{State, opening, after, state_of}
 use Rattle.sng_history.specs.Lawful.{LawfulBy, LawfulRow, Lawful}
+use Rattle.sng_history.proofs.ExampleIds.{s1_utf8, s1_chars, s2_utf8, s2_chars}
 use Rattle.sng_promise.specs.Examples.{row}
 use Rattle.sng_promise.specs.ExamplesClients.{one_listed, both_listed, s1, s2, home, away, connect_s1}
 use Rattle.sng_promise.specs.ExamplesClients.{connect_s2, ping_s2, disconnect, lets_in, welcome, bye, s1_home}
 use Rattle.sng_promise.specs.ExamplesClients.{not_listed, moves, takes_over, goes, pings, at_home}
-
-s1_ascii : IsAscii (115 ∷ 49 ∷ [])
-s1_ascii = search rules
-
-pub s1_utf8 : is_utf8 (115 ∷ 49 ∷ []) ≡ true
-s1_utf8 = is_utf8-from_IsUtf8 (115 ∷ 49 ∷ []) (IsUtf8-from_ascii (115 ∷ 49 ∷ []) s1_ascii)
-
-pub s1_chars : chars (115 ∷ 49 ∷ []) ≡ 115 ∷ 49 ∷ []
-s1_chars = chars-IsAscii (115 ∷ 49 ∷ []) s1_ascii
-
-s2_ascii : IsAscii (115 ∷ 50 ∷ [])
-s2_ascii = search rules
-
-s2_utf8 : is_utf8 (115 ∷ 50 ∷ []) ≡ true
-s2_utf8 = is_utf8-from_IsUtf8 (115 ∷ 50 ∷ []) (IsUtf8-from_ascii (115 ∷ 50 ∷ []) s2_ascii)
-
-s2_chars : chars (115 ∷ 50 ∷ []) ≡ 115 ∷ 50 ∷ []
-s2_chars = chars-IsAscii (115 ∷ 50 ∷ []) s2_ascii
 
 pub home_one : Lawful opening (s1_home one_listed)
 home_one = (

@@ -15,7 +15,8 @@ use Rattle.sng_promise.specs.ExamplesClients.{subscribes_ab}
 use Rattle.sng_promise.specs.ExamplesBooks.{lends_under_a, subscribed_in_time, ends_unlisted}
 use Rattle.sng_promise.specs.ExamplesBooks.{ended_at_its_end, kept_at_its_end}
 use Rattle.sng_promise.proofs.Examples.WorkedAsks.{then, came}
-use Rattle.sng_promise.proofs.Examples.WorkedClients.{hello, cause_s1, s1_utf8, s1_chars}
+use Rattle.sng_history.proofs.ExampleIds.{s1_utf8, s1_chars}
+use Rattle.sng_promise.proofs.Examples.WorkedClients.{hello, cause_s1}
 use Rattle.sng_promise.proofs.Examples.WorkedSubscriptions.{ab_utf8}
 
 -- ---- the states, one after the other

@@ -26,7 +26,7 @@ use Rattle.sng_promise.specs.ExamplesSleep.{message_one, handed_one, handed_agai
 use Rattle.sng_promise.specs.ExamplesSleep.{retries_ab}
 use Rattle.sng_promise.specs.ExamplesSleep.{open_one, again_one, answered_one, tried_out, given_up}
 use Rattle.sng_promise.specs.ExamplesSleep.{is_tried_out}
-use Rattle.sng_promise.proofs.Examples.WorkedClients.{s1_utf8, s1_chars}
+use Rattle.sng_history.proofs.ExampleIds.{s1_utf8, s1_chars}
 use Rattle.sng_promise.proofs.Examples.WorkedAsks.{then, came}
 use Rattle.sng_promise.proofs.Examples.WorkedSubscriptions.{ab_utf8, stands}
 use Rattle.sng_promise.proofs.Examples.WorkedMessages.{under_in, under_is, ab_in, ab_is, stands_under}

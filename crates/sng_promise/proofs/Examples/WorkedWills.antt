@@ -22,7 +22,8 @@ use Rattle.sng_promise.specs.ExamplesWills.{ping_broker, packet_twice, will_aske
 use Rattle.sng_promise.specs.ExamplesWills.{will_stated}
 use Rattle.sng_promise.specs.ExamplesWills.{minute_half, lost_s1, will_published, left_s1, will_unpublished}
 use Rattle.sng_promise.specs.ExamplesWills.{awaits_topic, is_silent, is_lost}
-use Rattle.sng_promise.proofs.Examples.WorkedClients.{hello, s1_utf8, s1_chars}
+use Rattle.sng_history.proofs.ExampleIds.{s1_utf8, s1_chars}
+use Rattle.sng_promise.proofs.Examples.WorkedClients.{hello}
 use Rattle.sng_promise.proofs.Examples.WorkedAsks.{t1_utf8, t2_utf8, up_one, then, came}
 
 -- ---- the states, one after the other

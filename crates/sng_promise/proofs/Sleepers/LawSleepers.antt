@@ -46,7 +46,7 @@ use Rattle.sng_laws.specs.ViewsMessages.{connect_in, message_in}
 use Rattle.sng_laws.specs.ViewsClients.{is_among, accepted}
 use Rattle.sng_laws.specs.LawsSleep.{sent_to, came_from_place, names, concerns, LeftAlone}
 use Rattle.sng_history.proofs.Keeping.{exact_by}
-use Rattle.sng_promise.proofs.Sleepers.SentTo.{AllTo}
+use Rattle.sng_history.proofs.SentTo.{stranger_goes}
 use Rattle.sng_promise.proofs.Sleepers.QuietNotes.{NoneSent}
 use Rattle.sng_history.proofs.ClientIds.{ids_of}
 use Rattle.sng_promise.proofs.Clients.SeenState.{stands}
@@ -69,21 +69,6 @@ frame_away id s c stranger place other off sleep none =
     away_either place (any_from c s.clients)
     (flat_map (λ x. part (around s c) dropped (fixed_for s c x) x) s.clients) stranger
     (rows_away id s c dropped place other off sleep) none
-
-stranger_goes : (from : Address) (request : Request) → AllTo from (stranger_to from request)
-stranger_goes from (ToPing client) = (refl, tt)
-stranger_goes from ToLeave = (refl, tt)
-stranger_goes from (ToSleep duration) = (refl, tt)
-stranger_goes from (ToRegister r) = (refl, tt)
-stranger_goes from (ToPublish p) = (refl, tt)
-stranger_goes from (ToPublishOnce p) = (refl, tt)
-stranger_goes from (ToRelease n) = (refl, tt)
-stranger_goes from (ToSubscribe r) = (refl, tt)
-stranger_goes from (ToUnsubscribe r) = (refl, tt)
-stranger_goes from (ToConfirm r) = (refl, tt)
-stranger_goes from (ToAcknowledge r) = (refl, tt)
-stranger_goes from (ToState statement) = (refl, tt)
-stranger_goes from (Untaken message) = tt
 
 message_away : (id : List ℕ) (s : State) (from : Address) (request : Request) (place : Address)
     → same_address from place ≡ false

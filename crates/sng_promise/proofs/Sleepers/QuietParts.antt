@@ -2,14 +2,11 @@
 use Rattle.std.proofs.Common.{◌≡◌, Bool, true, false, List, [], ◌∷◌, ◌++◌, refl, ap, sym, ◌∙◌, subst}
 use Rattle.std.proofs.Common.{if◌then◌else◌}
 use Rattle.std.specs.Prelude.{◌&&◌, is_none, slice_get}
-use Rattle.std.specs.Str.{bytes_eq}
 use Rattle.sng_states.specs.States.{takes_messages, is_awake}
 use Rattle.sng_states.specs.declared.state.ClientState.{ClientState}
 use Rattle.sng_states.specs.declared.state.ClientState.TheVariants.{Dialogue, Active, Asleep, Awake}
 use Rattle.sng_states.specs.declared.state.ClientState.TheVariants.{Disconnected, Lost}
-use Rattle.sng_frames.specs.declared.messages.connect.Connect.{Connect}
 use Rattle.sng_book.specs.Denials.{is_allowed}
-use Rattle.sng_book.specs.declared.address.Address.{Address}
 use Rattle.sng_book.specs.declared.decision.Decision.{Decision}
 use Rattle.sng_book.specs.declared.decision.Decision.TheVariants as note
 use Rattle.sng_book.specs.declared.out.Out.{Out}
@@ -30,32 +27,12 @@ use Rattle.sng_history.specs.Losing.{before, lost_notes, again_notes}
 use Rattle.sng_history.specs.Lawful.{refused_end, fixed_to, fixed_for}
 use Rattle.sng_history.specs.Whole.{frames_of, spell, answer, drained_outs, part}
 use Rattle.sng_history.proofs.Hands.{Every, every_append}
+use Rattle.sng_history.proofs.Stayed.{enters_by, beside_notes}
 use Rattle.sng_promise.proofs.Sleepers.QuietNotes.{NoneSent, none_both, Quiet, quiet_ends, quiet_refused}
 use Rattle.sng_promise.proofs.Sleepers.QuietNotes.{quiet_away}
 use Rattle.sng_promise.proofs.Sleepers.QuietNotes.{quiet_kept, quiet_lost, quiet_again, quiet_either}
 
 -- ---- each cause but a CONNECT of its own, which came from elsewhere
-
--- the cause is a CONNECT of the client
-abbrev pub enters_by : Cause → Client → Bool
-enters_by (ByConnect from connect) x = bytes_eq connect.client_id x.id
-enters_by (ByMessage from request) x = false
-enters_by (BySource from p) x = false
-enters_by (ByBroken from rule) x = false
-enters_by (ByPacket p) x = false
-enters_by ByUp x = false
-enters_by ByDown x = false
-enters_by ByTake x = false
-enters_by (ByReplace policy) x = false
-enters_by (ByTick clock) x = false
-
--- what another client than the one that connects has
-pub beside_notes : (s : State) (from : Address) (connect : Connect) (x : Client)
-    → bytes_eq connect.client_id x.id ≡ false
-    → fixed_for s (ByConnect from connect) x
-    ≡ (if is_allowed (entry s connect)
-    then (if is_here x from then note.Left x.id ∷ all_gone x.id x.buffer.waiting else []) else [])
-beside_notes s from connect x is = rw is refl
 
 none_from : (a : Around) (b : Bool) (notes : List Decision) → b ≡ false
     → Every (Quiet a) (if b then notes else [])

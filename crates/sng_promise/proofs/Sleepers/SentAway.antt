@@ -10,7 +10,7 @@ use Rattle.sng_history.specs.Good.{Each}
 use Rattle.sng_laws.specs.ViewsLink.{sends_in}
 use Rattle.sng_laws.specs.LawsSleep.{sent_to}
 use Rattle.sng_history.proofs.Places.{address_means}
-use Rattle.sng_promise.proofs.Sleepers.SentTo.{AllTo}
+use Rattle.sng_history.proofs.SentTo.{AllTo}
 use Rattle.sng_promise.proofs.Sleepers.QuietNotes.{NoneSent}
 
 pub away_both : (place : Address) (xs ys : List Out) → sent_to place xs ≡ [] → sent_to place ys ≡ []

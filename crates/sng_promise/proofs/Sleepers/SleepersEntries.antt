@@ -18,12 +18,12 @@ use Rattle.sng_book.specs.declared.outcome.Outcome.TheVariants.{Allowed, Denied}
 use Rattle.sng_book.specs.declared.out.Out.{Out}
 use Rattle.sng_book.specs.declared.out.Out.TheVariants.{Send}
 use Rattle.sng_history.specs.Causes.{ByConnect}
-use Rattle.sng_history.specs.Clients.{opened, cleaned, Around, Client, same_address, is_here, let_in, note_by}
+use Rattle.sng_history.specs.Clients.{Around, Client, same_address, is_here, let_in}
 use Rattle.sng_history.specs.Standing.{drop_notes}
 use Rattle.sng_history.specs.State.{State, around}
 use Rattle.sng_history.specs.Verdicts.{entry}
 use Rattle.sng_history.specs.Answers.{code_of, dismissed, connack, welcome}
-use Rattle.sng_history.specs.Outgoing.{all_gone, handed_over}
+use Rattle.sng_history.specs.Outgoing.{all_gone}
 use Rattle.sng_history.specs.Lawful.{entering_notes, fixed_for}
 use Rattle.sng_history.specs.Whole.{spell, part, drops, moved, beside, entering_part, around_welcome}
 use Rattle.sng_history.specs.Whole.{entry_outs}
@@ -31,11 +31,12 @@ use Rattle.sng_history.specs.Steps.{notes_for, outs_by}
 use Rattle.sng_history.specs.Good.{Each}
 use Rattle.sng_laws.specs.LawsSleep.{sent_to}
 use Rattle.sng_history.proofs.Own.{same_means, each_map}
-use Rattle.sng_history.proofs.Hands.{every_gone, every_handed}
-use Rattle.sng_promise.proofs.Sleepers.SentTo.{AllTo, both_to, drops_to, spell_to, Stayed}
+use Rattle.sng_history.proofs.Places.{let_in_at}
+use Rattle.sng_history.proofs.SentTo.{AllTo, both_to, drops_to, spell_to, Stayed}
+use Rattle.sng_history.proofs.Stayed.{entering_put}
 use Rattle.sng_promise.proofs.Sleepers.SentAway.{away_both, away_flat, to_away, flip_address}
 use Rattle.sng_promise.proofs.Sleepers.SleepersHere.{Sleeper}
-use Rattle.sng_promise.proofs.Sleepers.SleepersParts.{messages_put, elsewhere, part_away}
+use Rattle.sng_promise.proofs.Sleepers.SleepersParts.{elsewhere, part_away}
 
 moved_away : (id : List ℕ) (place from : Address) (client : List ℕ) (x : Client) → bytes_eq id client ≡ false
     → Sleeper id place x
@@ -73,38 +74,6 @@ beside_part id s from connect place x off sleeps = by_same (bytes_eq connect.cli
         else part (around s (ByConnect from connect)) [] (fixed_for s (ByConnect from connect) x) x) ≡ []
     by_same true is = refl
     by_same false is = part_away id s (ByConnect from connect) [] place x is off sleeps
-
--- what the one that connects is sent goes to where it is now
-entering_put : (s : State) (from : Address) (connect : Connect) (x : Client) (o : Outcome)
-    → Stayed (around s (ByConnect from connect)) (entering_notes s from connect x o)
-entering_put s from connect x (Denied rule) = tt
-entering_put s from connect x Allowed = by_clean connect.flags.clean
-  where
-    by_clean : (clean : Bool) → Stayed (around s (ByConnect from connect))
-        (if clean then all_gone x.id x.buffer.waiting
-        else handed_over s.policy (let_in s.clock from connect x))
-    by_clean true =
-        let a = around s (ByConnect from connect) in
-        every_gone (λ said. (y : Client) → (note_by a said y).address ≡ y.address) x.id x.buffer.waiting
-        (messages_put a x.id)
-    by_clean false =
-        let a = around s (ByConnect from connect) in
-        let y = let_in s.clock from connect x in
-        every_handed (λ said. (z : Client) → (note_by a said z).address ≡ z.address) s.policy y
-        (messages_put a y.id)
-
-let_in_at : (clock : ℕ) (from : Address) (connect : Connect) (x : Client)
-    → (let_in clock from connect x).address ≡ from
-let_in_at clock from connect x = let_in_place connect.flags.will connect.flags.clean
-  where
-    let_in_place : (will clean : Bool)
-        → (opened will (cleaned clean
-        (record x { address = from; ids = []; duration = connect.duration; heard = clock }))).address
-        ≡ from
-    let_in_place true true = refl
-    let_in_place true false = refl
-    let_in_place false true = refl
-    let_in_place false false = refl
 
 spelled_at : (a : Around) (place : Address) (x : Client) (notes : List Decision) → x.address ≡ place
     → Stayed a notes

@@ -36,7 +36,7 @@ use Rattle.sng_history.specs.Answers.{refusal, code_of, sent_to, puback, dismiss
 use Rattle.sng_history.specs.Answers.{dialogue_ended, statement_refused, pong, pubrec, pubcomp}
 use Rattle.sng_history.specs.Whole.{takes_leave, farewell, denied_to, denied_by, granted_to, granted_by}
 use Rattle.sng_history.specs.Whole.{replied, dropped_with, handed_frames, repeated_frames, frames_of}
-use Rattle.sng_history.specs.Whole.{spell, pong_by, answer_to, answer, drained_outs, part}
+use Rattle.sng_history.specs.Whole.{spell, pong_by, answer_to, answer, drained_outs, part, stranger_to}
 use Rattle.sng_history.proofs.Steady.{start_lasts}
 use Rattle.sng_history.proofs.Hands.{Every}
 
@@ -272,3 +272,20 @@ part_to a dropped notes x stayed =
     (both_to x.address (spell a dropped y notes) (drained_outs z)
     (subst (λ place. AllTo place (spell a dropped y notes)) here (spell_to a dropped y notes stayed))
     (subst (λ place. AllTo place (drained_outs z)) (stayed_at a notes y stayed ∙ here) (drained_to z)))
+
+-- ---- the answer where nobody is
+
+pub stranger_goes : (from : Address) (request : Request) → AllTo from (stranger_to from request)
+stranger_goes from (ToPing client) = (refl, tt)
+stranger_goes from ToLeave = (refl, tt)
+stranger_goes from (ToSleep duration) = (refl, tt)
+stranger_goes from (ToRegister r) = (refl, tt)
+stranger_goes from (ToPublish p) = (refl, tt)
+stranger_goes from (ToPublishOnce p) = (refl, tt)
+stranger_goes from (ToRelease n) = (refl, tt)
+stranger_goes from (ToSubscribe r) = (refl, tt)
+stranger_goes from (ToUnsubscribe r) = (refl, tt)
+stranger_goes from (ToConfirm r) = (refl, tt)
+stranger_goes from (ToAcknowledge r) = (refl, tt)
+stranger_goes from (ToState statement) = (refl, tt)
+stranger_goes from (Untaken message) = tt

@@ -21,7 +21,7 @@ use Rattle.sng_history.specs.Lawful.{fixed_for, entering_notes}
 use Rattle.sng_history.proofs.Hands.{OfMessages, every_if, every_gone, every_handed}
 use Rattle.sng_history.proofs.Steady.{handed_steady, repeated_steady, received_steady}
 use Rattle.sng_history.proofs.Statements.{stated_keeps}
-use Rattle.sng_isolation.proofs.SentTo.{Stayed}
+use Rattle.sng_history.proofs.SentTo.{Stayed}
 
 put : (a : Around) (said : Decision) (x : Client) → ((y : Client) → entered_by a.clock a.cause y ≡ y)
     → (note_by a said x).address ≡ x.address
