@@ -11,15 +11,15 @@ use Rattle.sng_outbox.specs.declared.origin.Origin.{Origin}
 use Rattle.sng_outbox.specs.declared.origin.Origin.TheVariants as origin
 use Rattle.sng_grants.specs.declared.policy.Policy.{Policy}
 use Rattle.sng_book.specs.declared.address.Address.{Address}
+use Rattle.sng_book.specs.Traces.{is_own, trace_of}
 use Rattle.sng_history.specs.Causes.{Cause, ByReplace, ByConnect, ByMessage, BySource, ByBroken, ByPacket, ByUp}
 use Rattle.sng_history.specs.Causes.{ByDown, ByTake, ByTick}
 use Rattle.sng_history.specs.Clients.{Client}
 use Rattle.sng_history.specs.State.{State}
 use Rattle.sng_history.specs.Steps.{outs_by, next_by}
 use Rattle.sng_history.specs.Good.{Each, Good}
-use Rattle.sng_isolation.specs.Own.{names, is_own}
+use Rattle.sng_isolation.specs.Own.{names}
 use Rattle.sng_isolation.specs.View.{part_of}
-use Rattle.sng_isolation.specs.Trace.{trace_of}
 use Rattle.sng_isolation.specs.Room.{HasRoom}
 use Rattle.sng_isolation.specs.Isolation.{kept_of, IsHarmless}
 use Rattle.sng_isolation.proofs.Silent.{Silent}

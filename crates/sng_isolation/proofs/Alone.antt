@@ -4,6 +4,7 @@ use Rattle.std.specs.Prelude.{◌&&◌, ◌||◌}
 use Rattle.std.specs.Str.{bytes_eq}
 use Rattle.sng_states.specs.States.{has_session}
 use Rattle.sng_book.specs.declared.address.Address.{Address}
+use Rattle.sng_book.specs.Traces.{is_own}
 use Rattle.sng_history.specs.Causes.{Cause, ByConnect, ByMessage, BySource, ByBroken, ByPacket, ByUp, ByDown}
 use Rattle.sng_history.specs.Causes.{ByTake, ByReplace, ByTick}
 use Rattle.sng_history.specs.Lawful.{exits_for}
@@ -15,7 +16,6 @@ use Rattle.sng_history.proofs.Own.{each_all, each_map}
 use Rattle.sng_history.proofs.Booleans.{and_no, left_holds, right_holds, or_neither}
 use Rattle.sng_history.proofs.Places.{address_means}
 use Rattle.sng_history.proofs.Says.{says}
-use Rattle.sng_isolation.specs.Own.{is_own}
 use Rattle.sng_isolation.specs.Isolation.{is_at_place, is_there, IsForeign, LeavesAlone}
 use Rattle.sng_isolation.proofs.Silent.{none_told}
 use Rattle.sng_isolation.proofs.Foreign.{Elsewhere}

@@ -5,6 +5,7 @@ use Rattle.sng_book.specs.declared.address.Address.{Address}
 use Rattle.sng_book.specs.declared.event.Event.{Event}
 use Rattle.sng_book.specs.declared.out.Out.{Out}
 use Rattle.sng_book.specs.declared.row.Row.{Row}
+use Rattle.sng_book.specs.Traces.{trace_of}
 use Rattle.sng_history.specs.Books.{IsBook, LawfulBook, row_outs, row_next}
 use Rattle.sng_history.specs.Causes.{cause_of}
 use Rattle.sng_history.specs.State.{State, opening}
@@ -13,7 +14,7 @@ use Rattle.sng_history.proofs.BookSteps.{book_opening}
 use Rattle.sng_history.proofs.GoodNext.{good_opening}
 use Rattle.sng_isolation.specs.Own.{named_from}
 use Rattle.sng_isolation.specs.View.{view}
-use Rattle.sng_isolation.specs.Trace.{trace_of, trace}
+use Rattle.sng_isolation.specs.Trace.{trace}
 use Rattle.sng_isolation.specs.Room.{HasRoom, EachHasRoom}
 use Rattle.sng_isolation.specs.Isolation.{IsHarmless, AllHarmless}
 use Rattle.sng_isolation.proofs.Alike.{Alike, Sound}

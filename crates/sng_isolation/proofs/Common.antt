@@ -6,6 +6,7 @@ use Rattle.std.specs.Option.{option_map}
 use Rattle.std.specs.Str.{bytes_eq}
 use Rattle.sng_book.specs.declared.address.Address.{Address}
 use Rattle.sng_book.specs.declared.decision.Decision.{Decision}
+use Rattle.sng_book.specs.Traces.{reaches, trace_of}
 use Rattle.sng_history.specs.Causes.{Cause}
 use Rattle.sng_history.specs.Causes.{ByConnect, ByMessage, BySource, ByBroken, ByPacket, ByUp, ByDown, ByTake}
 use Rattle.sng_history.specs.Causes.{ByReplace, ByTick}
@@ -23,7 +24,6 @@ use Rattle.sng_history.proofs.Own.{same_means, each_map}
 use Rattle.sng_history.proofs.Says.{says}
 use Rattle.sng_isolation.specs.Own.{names}
 use Rattle.sng_isolation.specs.View.{part_of}
-use Rattle.sng_isolation.specs.Trace.{reaches, trace_of}
 use Rattle.sng_isolation.specs.Room.{HasRoom}
 use Rattle.sng_isolation.specs.Isolation.{kept_of}
 use Rattle.sng_history.proofs.Stayed.{enters_by}

@@ -13,6 +13,7 @@ use Rattle.sng_book.specs.declared.outcome.Outcome.{Outcome}
 use Rattle.sng_book.specs.declared.outcome.Outcome.TheVariants.{Allowed, Denied}
 use Rattle.sng_book.specs.declared.out.Out.{Out}
 use Rattle.sng_book.specs.declared.out.Out.TheVariants.{Note}
+use Rattle.sng_book.specs.Traces.{speaks_of, reaches, trace_of}
 use Rattle.sng_history.specs.Causes.{Cause, ByConnect}
 use Rattle.sng_history.specs.Clients.{Client, blank, same_address, let_in}
 use Rattle.sng_history.specs.Standing.{drop_notes, released, unsubscribes}
@@ -26,7 +27,6 @@ use Rattle.sng_history.specs.Good.{Each}
 use Rattle.sng_history.proofs.Own.{same_self, same_means, each_map}
 use Rattle.sng_history.proofs.Booleans.{or_neither}
 use Rattle.sng_history.proofs.Kept.{client_id}
-use Rattle.sng_isolation.specs.Trace.{speaks_of, reaches, trace_of}
 use Rattle.sng_isolation.specs.Room.{is_crowded, crowds, HasRoom}
 use Rattle.sng_isolation.specs.Isolation.{kept_of}
 use Rattle.sng_isolation.proofs.Alone.{right_fails}

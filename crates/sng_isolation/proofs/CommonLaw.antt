@@ -3,9 +3,9 @@ use Rattle.std.proofs.Common.{◌≡◌, ℕ, Bool, true, false, List, refl, sym
 use Rattle.std.specs.Prelude.{◌&&◌, not}
 use Rattle.std.specs.Str.{bytes_eq}
 use Rattle.sng_book.specs.declared.address.Address.{Address}
+use Rattle.sng_book.specs.Traces.{is_own}
 use Rattle.sng_history.specs.Causes.{Cause, ByConnect, ByMessage, BySource, ByBroken, ByPacket, ByUp, ByDown}
 use Rattle.sng_history.specs.Causes.{ByTake, ByReplace, ByTick}
-use Rattle.sng_isolation.specs.Own.{is_own}
 use Rattle.sng_isolation.specs.Isolation.{IsHarmless}
 use Rattle.sng_isolation.proofs.ForeignStep.{CameFrom}
 use Rattle.sng_isolation.proofs.Alike.{IsShown, CommonEvent}

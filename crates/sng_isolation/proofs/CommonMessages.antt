@@ -13,6 +13,7 @@ use Rattle.sng_book.specs.declared.outcome.Denial.{Denial}
 use Rattle.sng_book.specs.declared.outcome.Outcome.TheVariants.{Denied}
 use Rattle.sng_book.specs.declared.out.Out.{Out}
 use Rattle.sng_book.specs.declared.out.Out.TheVariants.{Note}
+use Rattle.sng_book.specs.Traces.{is_own, trace_of}
 use Rattle.sng_history.specs.Causes.{Request, Cause, publish_asked, ByMessage, BySource, ByBroken}
 use Rattle.sng_history.specs.Clients.{Client, is_here, is_from}
 use Rattle.sng_history.specs.Standing.{released, unsubscribes}
@@ -26,8 +27,6 @@ use Rattle.sng_history.proofs.Own.{each_map, each_with}
 use Rattle.sng_history.proofs.Places.{here_is}
 use Rattle.sng_history.proofs.SaysUpstream.{foreign_source}
 use Rattle.sng_history.proofs.Told.{tells}
-use Rattle.sng_isolation.specs.Own.{is_own}
-use Rattle.sng_isolation.specs.Trace.{trace_of}
 use Rattle.sng_isolation.specs.Room.{HasRoom}
 use Rattle.sng_isolation.specs.Isolation.{kept_of}
 use Rattle.sng_history.proofs.Stayed.{enters_by}

@@ -11,6 +11,7 @@ use Rattle.sng_book.specs.declared.outcome.Outcome.{Outcome}
 use Rattle.sng_book.specs.declared.outcome.Outcome.TheVariants.{Allowed, Denied}
 use Rattle.sng_book.specs.declared.out.Out.{Out}
 use Rattle.sng_book.specs.declared.out.Out.TheVariants.{Note}
+use Rattle.sng_book.specs.Traces.{reaches, trace_of}
 use Rattle.sng_history.specs.Causes.{ByReplace}
 use Rattle.sng_history.specs.Clients.{Around, Client, without, notes_by, drained, client_by}
 use Rattle.sng_history.specs.Standing.{Release, released, unsubscribes}
@@ -22,7 +23,6 @@ use Rattle.sng_history.specs.Steps.{notes_for, client_next, clients_next}
 use Rattle.sng_history.specs.Good.{Each, AtRest, AllCovered}
 use Rattle.sng_history.proofs.Hands.{Every}
 use Rattle.sng_history.proofs.Own.{each_map, each_with, same_means}
-use Rattle.sng_isolation.specs.Trace.{reaches, trace_of}
 use Rattle.sng_isolation.proofs.Silent.{Silent, silent_flat}
 use Rattle.sng_isolation.proofs.Still.{Unconcerned, part_none, next_none}
 use Rattle.sng_isolation.proofs.Foreign.{other_silent}

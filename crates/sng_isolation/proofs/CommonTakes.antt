@@ -15,6 +15,7 @@ use Rattle.sng_book.specs.declared.outcome.Outcome.{Outcome}
 use Rattle.sng_book.specs.declared.outcome.Outcome.TheVariants.{Allowed, Denied}
 use Rattle.sng_book.specs.declared.out.Out.{Out}
 use Rattle.sng_book.specs.declared.out.Out.TheVariants.{Note, Wire}
+use Rattle.sng_book.specs.Traces.{trace_of}
 use Rattle.sng_history.specs.Causes.{ByTake}
 use Rattle.sng_history.specs.Exits.{exits_of, forwarded}
 use Rattle.sng_history.specs.Exits.{leaving}
@@ -25,7 +26,6 @@ use Rattle.sng_history.specs.State.{State}
 use Rattle.sng_history.specs.Verdicts.{exit}
 use Rattle.sng_history.specs.Steps.{outs_by, next_by}
 use Rattle.sng_history.proofs.Own.{same_means}
-use Rattle.sng_isolation.specs.Trace.{trace_of}
 use Rattle.sng_isolation.proofs.Alike.{is_by, mine, Alike, Sound, GoesOn}
 use Rattle.sng_isolation.proofs.Policies.{SaysSame, exit_same, says_same}
 use Rattle.sng_isolation.proofs.Common.{kept_common}

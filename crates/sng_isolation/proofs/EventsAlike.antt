@@ -11,13 +11,13 @@ use Rattle.sng_book.specs.declared.address.Address.{Address}
 use Rattle.sng_book.specs.declared.event.Event.{Event}
 use Rattle.sng_book.specs.declared.event.Event.TheVariants as event
 use Rattle.sng_book.specs.declared.out.Out.{Out}
+use Rattle.sng_book.specs.Traces.{trace_of}
 use Rattle.sng_history.specs.Books.{left, ends_by, ended, row_outs, row_next}
 use Rattle.sng_history.specs.Causes.{Cause, ByReplace, ByTick}
 use Rattle.sng_history.specs.State.{State, later}
 use Rattle.sng_history.specs.Steps.{outs_by, next_by}
 use Rattle.sng_history.proofs.Booleans.{or_neither}
 use Rattle.sng_isolation.specs.View.{part_of}
-use Rattle.sng_isolation.specs.Trace.{trace_of}
 use Rattle.sng_isolation.specs.Room.{crowds, HasRoom}
 use Rattle.sng_isolation.proofs.Alike.{Alike, Sound, IsShown}
 use Rattle.sng_isolation.proofs.CommonLaw.{common_event}

@@ -7,13 +7,13 @@ use Rattle.sng_grants.specs.declared.policy.Policy.{Policy}
 use Rattle.sng_book.specs.declared.address.Address.{Address}
 use Rattle.sng_book.specs.declared.event.Event.{Event}
 use Rattle.sng_book.specs.declared.event.Event.TheVariants as event
+use Rattle.sng_book.specs.Traces.{is_own, trace_of}
 use Rattle.sng_history.specs.Books.{row_outs, row_next}
 use Rattle.sng_history.specs.Causes.{Cause, cause_of}
 use Rattle.sng_history.specs.State.{State}
 use Rattle.sng_history.specs.Steps.{outs_by, next_by}
-use Rattle.sng_isolation.specs.Own.{names, named_from, is_own}
+use Rattle.sng_isolation.specs.Own.{names, named_from}
 use Rattle.sng_isolation.specs.View.{part_of, seen}
-use Rattle.sng_isolation.specs.Trace.{trace_of}
 use Rattle.sng_isolation.specs.Room.{HasRoom}
 use Rattle.sng_isolation.specs.Isolation.{IsHarmless}
 use Rattle.sng_isolation.proofs.Silent.{Silent}

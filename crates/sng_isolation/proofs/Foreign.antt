@@ -9,6 +9,7 @@ use Rattle.sng_book.specs.declared.decision.Who.TheVariants as who
 use Rattle.sng_book.specs.declared.outcome.Denial.{Denial}
 use Rattle.sng_book.specs.declared.outcome.Outcome.TheVariants.{Denied}
 use Rattle.sng_book.specs.declared.out.Out.TheVariants.{Note}
+use Rattle.sng_book.specs.Traces.{is_own}
 use Rattle.sng_history.specs.Causes.{Request}
 use Rattle.sng_history.specs.Causes.{Cause}
 use Rattle.sng_history.specs.Causes.{ByMessage, BySource, ByBroken}
@@ -26,7 +27,6 @@ use Rattle.sng_history.proofs.Spelled.{part_other, part_exits}
 use Rattle.sng_history.proofs.Told.{tells}
 use Rattle.sng_history.proofs.Says.{mute_stranger}
 use Rattle.sng_history.proofs.SaysUpstream.{foreign_source}
-use Rattle.sng_isolation.specs.Own.{is_own}
 use Rattle.sng_history.proofs.SentTo.{part_to, stranger_goes}
 use Rattle.sng_history.proofs.Stayed.{enters_by, fixed_put}
 use Rattle.sng_isolation.proofs.Silent.{Silent, silent_flat, silent_either, silent_by}

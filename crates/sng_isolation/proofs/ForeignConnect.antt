@@ -15,6 +15,7 @@ use Rattle.sng_book.specs.declared.outcome.Outcome.{Outcome}
 use Rattle.sng_book.specs.declared.outcome.Outcome.TheVariants.{Allowed, Denied}
 use Rattle.sng_book.specs.declared.out.Out.{Out}
 use Rattle.sng_book.specs.declared.out.Out.TheVariants.{Note, Send}
+use Rattle.sng_book.specs.Traces.{is_own}
 use Rattle.sng_history.specs.Causes.{ByConnect}
 use Rattle.sng_history.specs.Clients.{Client, same_address, let_in}
 use Rattle.sng_history.specs.State.{State, around}
@@ -29,7 +30,6 @@ use Rattle.sng_history.proofs.Own.{same_means, each_all, each_with, each_map, fl
 use Rattle.sng_history.proofs.Places.{let_in_at}
 use Rattle.sng_history.proofs.Spelled.{spell_other, spell_exits}
 use Rattle.sng_history.proofs.SaysParts.{entering_about}
-use Rattle.sng_isolation.specs.Own.{is_own}
 use Rattle.sng_history.proofs.SentTo.{AllTo, spell_to, Stayed}
 use Rattle.sng_history.proofs.Stayed.{entering_put}
 use Rattle.sng_isolation.proofs.Silent.{Silent, silent_both, silent_flat, silent_by, skipped}

@@ -13,6 +13,7 @@ use Rattle.sng_frames.specs.declared.frame.SnFrame.{SnFrame}
 use Rattle.sng_frames.specs.declared.frame.SnFrame.TheVariants as frame
 use Rattle.sng_book.specs.Denials.{is_allowed}
 use Rattle.sng_book.specs.declared.address.Address.{Address}
+use Rattle.sng_book.specs.Traces.{is_own}
 use Rattle.sng_history.specs.Causes.{Cause, datagram_cause, publish_cause, disconnect_cause}
 use Rattle.sng_history.specs.Causes.{ByConnect, ByMessage, BySource, ByBroken, ByPacket, ByUp, ByDown, ByTake}
 use Rattle.sng_history.specs.Causes.{ByReplace, ByTick}
@@ -24,7 +25,7 @@ use Rattle.sng_history.specs.Steps.{outs_by, newcomers_for, client_next, clients
 use Rattle.sng_history.specs.Good.{Each, AtRest}
 use Rattle.sng_history.proofs.Own.{each_with, same_means, flip}
 use Rattle.sng_history.proofs.Kept.{client_id}
-use Rattle.sng_isolation.specs.Own.{names, is_own}
+use Rattle.sng_isolation.specs.Own.{names}
 use Rattle.sng_isolation.specs.Isolation.{kept_of}
 use Rattle.sng_isolation.proofs.Silent.{Silent}
 use Rattle.sng_isolation.proofs.Still.{Unconcerned, next_none, message_unconcerned, broken_unconcerned}

@@ -7,6 +7,7 @@ use Rattle.sng_states.specs.States.{has_session}
 use Rattle.sng_frames.specs.declared.messages.publish.Publish.{Publish}
 use Rattle.sng_book.specs.declared.address.Address.{Address}
 use Rattle.sng_book.specs.declared.decision.Decision.{Decision}
+use Rattle.sng_book.specs.Traces.{is_own}
 use Rattle.sng_history.specs.Causes.{Request, Cause, publish_asked}
 use Rattle.sng_history.specs.Causes.{ByConnect, ByMessage, BySource, ByBroken, ByPacket, ByUp, ByDown, ByTake}
 use Rattle.sng_history.specs.Causes.{ByReplace, ByTick}
@@ -23,7 +24,7 @@ use Rattle.sng_history.proofs.Booleans.{and_no}
 use Rattle.sng_history.proofs.Places.{here_is}
 use Rattle.sng_history.proofs.SaysUpstream.{foreign_source}
 use Rattle.sng_history.proofs.Told.{tells}
-use Rattle.sng_isolation.specs.Own.{names, is_own}
+use Rattle.sng_isolation.specs.Own.{names}
 use Rattle.sng_isolation.proofs.Still.{message_unconcerned}
 use Rattle.sng_isolation.proofs.Foreign.{Elsewhere}
 use Rattle.sng_isolation.proofs.ForeignConnect.{Off}

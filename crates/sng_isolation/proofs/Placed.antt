@@ -10,6 +10,7 @@ use Rattle.sng_book.specs.declared.address.Address.{Address}
 use Rattle.sng_book.specs.declared.outcome.Denial.{Denial}
 use Rattle.sng_book.specs.declared.outcome.Outcome.{Outcome}
 use Rattle.sng_book.specs.declared.outcome.Outcome.TheVariants.{Allowed, Denied}
+use Rattle.sng_book.specs.Traces.{is_own}
 use Rattle.sng_history.specs.Causes.{Cause}
 use Rattle.sng_history.specs.Causes.{ByConnect, ByMessage, BySource, ByBroken, ByPacket, ByUp, ByDown, ByTake}
 use Rattle.sng_history.specs.Causes.{ByReplace, ByTick}
@@ -27,7 +28,6 @@ use Rattle.sng_history.proofs.Kept.{client_id}
 use Rattle.sng_history.proofs.Entries.{own_next, hearing_next}
 use Rattle.sng_history.proofs.Places.{let_in_at}
 use Rattle.sng_history.proofs.GoodNext.{good_next}
-use Rattle.sng_isolation.specs.Own.{is_own}
 use Rattle.sng_history.proofs.SentTo.{stayed_at}
 use Rattle.sng_history.proofs.Stayed.{enters_by, fixed_put}
 use Rattle.sng_isolation.proofs.Alike.{IsPlaced, Sound}

@@ -10,11 +10,11 @@ use Rattle.sng_book.specs.declared.decision.Decision.TheVariants as note
 use Rattle.sng_book.specs.declared.outcome.Outcome.{Outcome}
 use Rattle.sng_book.specs.declared.out.Out.{Out}
 use Rattle.sng_book.specs.declared.out.Out.TheVariants.{Send, Wire, Note}
+use Rattle.sng_book.specs.Traces.{is_own, speaks_of, reaches, trace_of}
 use Rattle.sng_history.specs.Clients.{Client}
 use Rattle.sng_history.specs.Notes.{notes_of, exits_in, is_of, exit_of}
 use Rattle.sng_history.specs.Good.{Each}
-use Rattle.sng_isolation.specs.Own.{is_own}
-use Rattle.sng_isolation.specs.Trace.{speaks_of, returns, tells, reaches, trace_of}
+use Rattle.sng_isolation.specs.Trace.{returns, tells}
 use Rattle.sng_history.proofs.SentTo.{AllTo}
 
 -- nothing of it is for the client

@@ -12,12 +12,12 @@ use Rattle.sng_book.specs.declared.outcome.FormDenial.TheVariants.{BadName}
 use Rattle.sng_book.specs.declared.outcome.Outcome.TheVariants.{Denied}
 use Rattle.sng_book.specs.declared.out.Out.{Out}
 use Rattle.sng_book.specs.declared.out.Out.TheVariants.{Note}
+use Rattle.sng_book.specs.Traces.{trace_of}
 use Rattle.sng_history.specs.Links.{Link}
 use Rattle.sng_history.specs.Packets.{Answer, Delivers, Acknowledges, Grants, Refuses, Confirms, Strange}
 use Rattle.sng_history.specs.Packets.{answer_outs, has_place, owed, dropped}
 use Rattle.sng_history.specs.Ticking.{is_ping_due, ping_dropped}
 use Rattle.sng_history.proofs.SaysUpstream.{mute_packet, mute_ping}
-use Rattle.sng_isolation.specs.Trace.{trace_of}
 use Rattle.sng_isolation.proofs.Silent.{Silent, AllOff, silent_off}
 use Rattle.sng_isolation.proofs.Spelling.{both_same}
 

@@ -12,12 +12,12 @@ use Rattle.sng_book.specs.declared.outcome.Outcome.{Outcome}
 use Rattle.sng_book.specs.declared.outcome.Outcome.TheVariants.{Allowed, Denied}
 use Rattle.sng_book.specs.declared.out.Out.{Out}
 use Rattle.sng_book.specs.declared.out.Out.TheVariants.{Note}
+use Rattle.sng_book.specs.Traces.{speaks_of, reaches, trace_of}
 use Rattle.sng_history.specs.Causes.{request_of}
 use Rattle.sng_history.specs.Clients.{Around, Client, is_author, start_by, handed, note_by, notes_by, drained}
 use Rattle.sng_history.specs.Clients.{client_by}
 use Rattle.sng_history.specs.Standing.{Release, is_release, drop_note}
 use Rattle.sng_history.specs.Whole.{replied, dropped_with, frames_of, spell, answer, drained_outs, part}
-use Rattle.sng_isolation.specs.Trace.{speaks_of, reaches, trace_of}
 use Rattle.sng_isolation.specs.View.{part_of}
 use Rattle.sng_isolation.proofs.Silent.{Silent}
 

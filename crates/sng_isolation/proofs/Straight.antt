@@ -2,10 +2,11 @@
 use Rattle.std.proofs.Common.{◌≡◌, ℕ, false, List, ap, sym, ◌∙◌, subst}
 use Rattle.std.specs.Str.{bytes_eq}
 use Rattle.sng_book.specs.declared.address.Address.{Address}
+use Rattle.sng_book.specs.Traces.{is_own}
 use Rattle.sng_history.specs.Causes.{Cause, ByConnect, ByMessage, BySource, ByBroken, ByPacket, ByUp, ByDown}
 use Rattle.sng_history.specs.Causes.{ByTake, ByReplace, ByTick}
 use Rattle.sng_history.proofs.Own.{same_self, same_means, flip}
-use Rattle.sng_isolation.specs.Own.{names, is_own}
+use Rattle.sng_isolation.specs.Own.{names}
 use Rattle.sng_isolation.proofs.ForeignStep.{CameFrom}
 use Rattle.sng_isolation.proofs.Alike.{IsShown}
 use Rattle.sng_isolation.proofs.Placed.{IsStraight}

@@ -3,10 +3,11 @@ use Rattle.std.proofs.Common.{◌≡◌, ℕ, true, List, [], ◌∷◌, ◌++�
 use Rattle.std.specs.Prelude.{◌&&◌, ◌||◌, ◌==◌}
 use Rattle.sng_book.specs.declared.address.Address.{Address}
 use Rattle.sng_book.specs.declared.row.Row.{Row}
+use Rattle.sng_book.specs.Traces.{is_own}
 use Rattle.sng_history.specs.Clients.{same_address}
 use Rattle.sng_history.proofs.Own.{same_self}
 use Rattle.sng_history.proofs.Booleans.{or_right}
-use Rattle.sng_isolation.specs.Own.{named_from, named_in, own_of, is_own}
+use Rattle.sng_isolation.specs.Own.{named_from, named_in, own_of}
 use Rattle.sng_isolation.specs.Isolation.{TwoRuns}
 use Rattle.sng_isolation.proofs.Faces.{AllOwn}
 use Rattle.sng_isolation.proofs.BooksAlike.{Owned, books_alike}

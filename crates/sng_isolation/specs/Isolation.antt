@@ -7,6 +7,7 @@ use Rattle.sng_book.specs.declared.address.Address.{Address}
 use Rattle.sng_book.specs.declared.event.Event.TheVariants as event
 use Rattle.sng_book.specs.declared.out.Out.{Out}
 use Rattle.sng_book.specs.declared.row.Row.{Row}
+use Rattle.sng_book.specs.Traces.{is_own, trace_of}
 use Rattle.sng_history.specs.Books.{IsBook, LawfulBook}
 use Rattle.sng_history.specs.Causes.{Cause, cause_of, ByConnect, ByMessage, BySource, ByBroken, ByPacket, ByUp}
 use Rattle.sng_history.specs.Causes.{ByDown, ByTake, ByReplace, ByTick}
@@ -14,9 +15,9 @@ use Rattle.sng_history.specs.Clients.{Client, is_here}
 use Rattle.sng_history.specs.Packets.{Answer, Delivers, Acknowledges, Grants, Refuses, Confirms, Strange}
 use Rattle.sng_history.specs.Packets.{answer_of}
 use Rattle.sng_history.specs.State.{State, opening}
-use Rattle.sng_isolation.specs.Own.{names, own_of, is_own}
+use Rattle.sng_isolation.specs.Own.{names, own_of}
 use Rattle.sng_isolation.specs.View.{view}
-use Rattle.sng_isolation.specs.Trace.{tells, trace_of, trace}
+use Rattle.sng_isolation.specs.Trace.{tells, trace}
 use Rattle.sng_isolation.specs.Room.{EachHasRoom}
 
 -- ---- one step

@@ -1,7 +1,7 @@
 -- The addresses of a client: where a CONNECT that names it comes from (MQTT-SN 1.2, 5.4.4), whether that is
 -- accepted or not.
 use Rattle.std.specs.Prelude.{ℕ, Bool, false, List, [], ◌∷◌, ◌++◌, if◌then◌else◌}
-use Rattle.std.specs.List.{flat_map, list_any}
+use Rattle.std.specs.List.{flat_map}
 use Rattle.std.specs.Str.{bytes_eq}
 use Rattle.sng_book.specs.declared.address.Address.{Address}
 use Rattle.sng_book.specs.declared.event.Event.{Event}
@@ -9,7 +9,6 @@ use Rattle.sng_book.specs.declared.event.Event.TheVariants as event
 use Rattle.sng_book.specs.declared.row.Row.{Row}
 use Rattle.sng_history.specs.Causes.{Cause, cause_of, ByConnect, ByMessage, BySource, ByBroken, ByPacket, ByUp}
 use Rattle.sng_history.specs.Causes.{ByDown, ByTake, ByReplace, ByTick}
-use Rattle.sng_history.specs.Clients.{same_address}
 
 -- it is a CONNECT that names the client
 abbrev pub names : List ℕ → Cause → Bool
@@ -42,7 +41,3 @@ named_in id rows = flat_map (λ row. named_from id row.event) rows
 -- the client's own addresses: those of either of two books
 abbrev pub own_of : List ℕ → List Row → List Row → List Address
 own_of id h k = named_in id h ++ named_in id k
-
--- it is one of these addresses
-abbrev pub is_own : List Address → Address → Bool
-is_own own place = list_any (same_address place) own

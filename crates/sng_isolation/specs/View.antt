@@ -11,7 +11,7 @@ use Rattle.sng_book.specs.declared.address.Address.{Address}
 use Rattle.sng_book.specs.declared.event.Event.{Event}
 use Rattle.sng_book.specs.declared.event.Event.TheVariants as event
 use Rattle.sng_book.specs.declared.row.Row.{Row}
-use Rattle.sng_isolation.specs.Own.{is_own}
+use Rattle.sng_book.specs.Traces.{is_own}
 
 -- of those who are listed the client alone
 abbrev pub grants_to : List ℕ → List (List ℕ × Grant) → List (List ℕ × Grant)

@@ -2,13 +2,13 @@
 ghost use Rattle.std.specs.Prelude.{◌≡◌, true, false, [], ◌∷◌};
 ghost use Rattle.sng_book.specs.declared.event.Event.TheVariants.{Datagram, Replace};
 ghost use Rattle.sng_book.specs.declared.outcome.Place.TheVariants.{Outbox, Exchanges};
+ghost use Rattle.sng_book.specs.Traces.{trace_of};
 ghost use Rattle.sng_history.specs.Causes.{cause_of};
 ghost use Rattle.sng_isolation.specs.Examples.{s1, s2, home, away, connect_s1, connect_s2, comes, others_come};
 ghost use Rattle.sng_isolation.specs.Examples.{lists_both, lists_first, first_alone, with_another, of_both, of_first, finds_full};
 ghost use Rattle.sng_isolation.specs.Isolation.{is_stray, LookAlike};
 ghost use Rattle.sng_isolation.specs.Own.{own_of};
 ghost use Rattle.sng_isolation.specs.Room.{HasRoom};
-ghost use Rattle.sng_isolation.specs.Trace.{trace_of};
 ghost use Rattle.sng_isolation.specs.View.{seen};
 
 /// `own`: a client's addresses are those from which a CONNECT names it, in either book. `unseen`, `seen`: it sees a
