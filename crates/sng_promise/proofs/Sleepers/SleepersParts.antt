@@ -27,7 +27,6 @@ use Rattle.sng_promise.proofs.Sleepers.SentAway.{away_flat, none_away, to_away, 
 use Rattle.sng_promise.proofs.Sleepers.SleepersHere.{Sleeper}
 use Rattle.sng_history.proofs.Booleans.{and_no}
 
-)
 -- where the cause came from
 abbrev pub from_of : Cause → Option Address
 from_of (ByConnect from connect) = Some from
