@@ -51,20 +51,14 @@ impl<U: Upstream, D: Datagrams, F: Filing<Piece>> Promise<WorkerEnd<U, D, F>>
 /// The same of the worker at a clock.
 #[derive(Drop)]
 pub struct TickerPromise<B, D, F, V> {
-    source: Snapshot<B>,
-    sender: Snapshot<D>,
-    share: Snapshot<Share>,
-    filing: Snapshot<F>,
-    /// Nothing is promised of what it takes. It tells the thread's type where the end's volumes were filed.
-    volume_filing: Snapshot<V>,
+    post: Snapshot<ClockPost<B, D, F, V>>,
     may_stop: bool,
 }
 
 impl<B: Beats, D: Datagrams, F: Filing<Piece>, V: Filing<Volume>> Promise<TickerEnd<B, D, F, V>>
     for TickerPromise<B, D, F, V> {
     ghost kept_by = { λ p end. TickerEnded B.tells B.gave B.failures B.has_ended D.tells D.passed F.tells
-        F.took F.handed_back V.handed_back p.source.value p.sender.value p.share.value p.filing.value
-        p.may_stop end };
+        F.took F.handed_back V.tells V.took V.handed_back p.post.value p.may_stop end };
 }
 
 /// The same of the worker at policies.
@@ -247,24 +241,17 @@ pub fn start_ticker<
     may_stop: bool,
 ) -> Result<PromisedHandle<TickerEnd<B, D, F, V>, TickerPromise<B, D, F, V>>, NotStarted>
     requires { may_stop ≡ G.may_stop gate.now }
-    ensures { IfOk result (λ h. (h.promise.source.value ≡ post.source)
-        × (h.promise.sender.value ≡ post.sender) × (h.promise.share.value ≡ post.share)
-        × (h.promise.filing.value ≡ post.filing) × (h.promise.may_stop ≡ may_stop)) }
+    ensures { IfOk result (λ h. (h.promise.post.value ≡ post) × (h.promise.may_stop ≡ may_stop)) }
 {
     let promise = TickerPromise {
-        source: Snapshot::of(&post.source),
-        sender: Snapshot::of(&post.sender),
-        share: Snapshot::of(&post.share),
-        filing: Snapshot::of(&post.filing),
-        volume_filing: Snapshot::of(&post.volume_filing),
+        post: Snapshot::of(&post),
         may_stop,
     };
     let Ok(handle) = scope.spawn_with(
         promise,
         move || -> TickerEnd<B, D, F, V>
             ensures { TickerEnded B.tells B.gave B.failures B.has_ended D.tells D.passed F.tells F.took
-                F.handed_back V.handed_back post.source post.sender post.share post.filing
-                (G.may_stop gate.entry.now) result }
+                F.handed_back V.tells V.took V.handed_back post (G.may_stop gate.entry.now) result }
         { ticker(rt, alloc, desk.desk(), post, gate) },
     ) else {
         return Err(halted(gate));

@@ -80,8 +80,8 @@ pub fn run_workers<
         F.handed_back crew.upstream.terms crew.upstream.source crew.upstream.sender crew.upstream.share
         crew.upstream.filing (G.may_stop gate.now) ends.upstream) }
     ensures ticker { IfOk result (λ ends. TickerEnded B.tells B.gave B.failures B.has_ended D.tells D.passed
-        F.tells F.took F.handed_back V.handed_back crew.ticker.source crew.ticker.sender crew.ticker.share
-        crew.ticker.filing (G.may_stop gate.now) ends.ticker) }
+        F.tells F.took F.handed_back V.tells V.took V.handed_back crew.ticker (G.may_stop gate.now)
+        ends.ticker) }
     ensures policies { IfOk result (λ ends. LoaderEnded P.tells P.gave P.failures P.has_ended F.tells F.took
         F.handed_back crew.policies.source crew.policies.share crew.policies.filing (G.may_stop gate.now)
         ends.policies) }
@@ -109,8 +109,8 @@ pub fn run_workers<
                 F.tells F.took F.handed_back upstream.terms upstream.source upstream.sender upstream.share
                 upstream.filing may_stop ends.upstream) }
             ensures ticker { IfOk result (λ ends. TickerEnded B.tells B.gave B.failures B.has_ended D.tells
-                D.passed F.tells F.took F.handed_back V.handed_back ticker.source ticker.sender ticker.share
-                ticker.filing may_stop ends.ticker) }
+                D.passed F.tells F.took F.handed_back V.tells V.took V.handed_back ticker may_stop
+                ends.ticker) }
             ensures policies { IfOk result (λ ends. LoaderEnded P.tells P.gave P.failures P.has_ended
                 F.tells F.took F.handed_back policies.source policies.share policies.filing may_stop
                 ends.policies) }

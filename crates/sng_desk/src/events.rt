@@ -5,6 +5,7 @@ ghost use Rattle.sng_book.specs.declared.event.Event.{Event as event};
 ghost use Rattle.sng_desk.specs.declared.source.Got.TheVariants.{Ended as ended_answer};
 ghost use Rattle.sng_desk.specs.declared.source.Got.TheVariants.{Failed as failed_answer};
 ghost use Rattle.sng_desk.specs.Acts.{Moves};
+ghost use Rattle.sng_desk.specs.Pieces.{Grown, Line as line_type, no_line};
 ghost use Rattle.sng_desk.specs.Working.{given_by};
 ghost use Rattle.sng_desk.specs.Sources.{datagram_events, tick_events, replace_events};
 
@@ -38,6 +39,9 @@ pub trait Source: Drop {
     /// The datagrams that were passed to it, in order, each with the address to which it goes.
     ghost passed: { Self → List (Address × List ℕ) };
 
+    /// What it has of volumes: those that it cut out are what was filed of them, and behind it what waits.
+    ghost line: { Self → line_type };
+
     /// The next event.
     fn ask(&mut self) -> Got<Event>
         ensures given { Moves tells gave self.old self.new (given_by result) }
@@ -45,19 +49,22 @@ pub trait Source: Drop {
         ensures failures { failures self.old ≤ failures self.new }
         ensures failed { (result ≡ failed_answer) ↔ (failures self.old < failures self.new) }
         ensures ended { result ≡ ended_answer → has_ended self.new ≡ true }
-        ensures ends { has_ended self.new ≡ true → (result ≡ ended_answer) ⊎ (has_ended self.old ≡ true) };
+        ensures ends { has_ended self.new ≡ true → (result ≡ ended_answer) ⊎ (has_ended self.old ≡ true) }
+        ensures line { line self.new ≡ line self.old };
 
     /// Passes a datagram on. It may be lost.
     fn send(&mut self, to: Address, datagram: &Octets)
         ensures given { Moves tells gave self.old self.new [] }
         ensures passed { Moves told passed self.old self.new ((to, datagram.now) ∷ []) }
-        ensures failures { failures self.new ≡ failures self.old };
+        ensures failures { failures self.new ≡ failures self.old }
+        ensures line { line self.new ≡ line self.old };
 
     /// What it does at the desk after an act, once what came of that was passed on.
     fn tend<R: Wait, G: Gate>(&mut self, rt: &R, desk: &Mutex<Desk>, gate: &G, by: u16)
         ensures given { Moves tells gave self.old self.new [] }
         ensures passed { Moves told passed self.old self.new [] }
-        ensures failures { failures self.new ≡ failures self.old };
+        ensures failures { failures self.new ≡ failures self.old }
+        ensures line { Grown (line self.old) (line self.new) };
 }
 
 /// Datagrams, sent by what they came from.
@@ -78,6 +85,8 @@ impl<D: Datagrams> Source for Devices<D> {
     ghost told = { λ s. D.tells s.datagrams };
 
     ghost passed = { λ s. D.passed s.datagrams };
+
+    ghost line = { λ _. no_line };
 
     fn ask(&mut self) -> Got<Event> {
         match self.datagrams.receive() {
@@ -116,6 +125,14 @@ impl<B: Beats, D: Datagrams, V: Filing<Volume>> Source for Clock<B, D, V> {
 
     ghost passed = { λ s. D.passed s.sender };
 
+    ghost line = { λ s. record {
+      tells = V.tells s.cuts.filing;
+      took = V.took s.cuts.filing;
+      waiting = s.cuts.volumes.items;
+      rows = s.cuts.rows;
+      next = s.cuts.next;
+    } };
+
     fn ask(&mut self) -> Got<Event> {
         match self.beats.next() {
             Got::Came(clock) => Got::Came(Event::Tick(clock)),
@@ -152,6 +169,8 @@ impl<P: Policies> Source for Loader<P> {
     ghost told = { λ s. false };
 
     ghost passed = { λ s. [] };
+
+    ghost line = { λ _. no_line };
 
     fn ask(&mut self) -> Got<Event> {
         match self.policies.next() {

@@ -3,7 +3,7 @@
 //! the act lets out for clients is sent. The worker at a clock then cuts the book where it has grown enough,
 //! and hands the volume off.
 ghost use Rattle.std.specs.Prelude.{[], false, vec_len};
-ghost use Rattle.sng_desk.specs.Pieces.{Waits};
+ghost use Rattle.sng_desk.specs.Pieces.{CutOut, Waits};
 ghost use Rattle.sng_desk.specs.Sources.{datagram_events, tick_events, replace_events};
 ghost use Rattle.sng_desk.specs.Working.{HasEnded};
 
@@ -56,7 +56,7 @@ pub fn udp_worker<R: Wait, D: Datagrams, F: Filing<Piece>, G: Gate>(
 }
 
 /// A worker at a clock. After each beat it cuts the book where its open volume has so many rows, and hands
-/// the volume off.
+/// the volume off. Where another cut the book, so that the open volume begins elsewhere, it cuts no more.
 pub fn ticker<R: Wait, B: Beats, D: Datagrams, F: Filing<Piece>, V: Filing<Volume>, G: Gate>(
     rt: &R,
     alloc: Global,
@@ -68,6 +68,8 @@ pub fn ticker<R: Wait, B: Beats, D: Datagrams, F: Filing<Piece>, V: Filing<Volum
         F.tells F.took F.handed_back post.source post.sender post.share post.filing (G.may_stop gate.now)
         result.worker.source result.worker.sender result.worker.share result.worker.filing result.worker.rest
         result.worker.fault }
+    ensures volumes { CutOut V.tells V.took post.first post.rows post.volume_filing result.volume_filing
+        result.volumes.items }
     ensures left { Waits (vec_len result.volumes) (V.handed_back result.volume_filing) }
 {
     let ClockPost {
@@ -75,13 +77,14 @@ pub fn ticker<R: Wait, B: Beats, D: Datagrams, F: Filing<Piece>, V: Filing<Volum
         source,
         sender,
         filing,
+        first,
         rows,
         volume_filing,
     } = post;
     let source = Clock {
         beats: source,
         sender,
-        cuts: Cuts::new(alloc, rows, volume_filing),
+        cuts: Cuts::new(alloc, first, rows, volume_filing),
     };
     let WorkerEnd {
         rest,

@@ -2,7 +2,7 @@
 ghost use Rattle.std.specs.Prelude.{◌≡◌, ◌≤◌, ◌∷◌, []};
 ghost use Rattle.sng_desk.specs.Sights.{Share as share_sight};
 ghost use Rattle.sng_desk.specs.Acts.{Moves, sends_in, sends_of};
-ghost use Rattle.sng_desk.specs.Pieces.{HandsOff, IsLeft, piece_of};
+ghost use Rattle.sng_desk.specs.Pieces.{Grown, HandsOff, IsLeft, piece_of};
 ghost use Rattle.sng_desk.specs.Working.{Going, HasEnded, NextFor, Served, Worked};
 
 use crate::desk::{Desk, Receipt, Share};
@@ -39,6 +39,7 @@ impl<S: Source, F: Filing<Piece>> SourceWorker<S, F> {
             (piece_of self.new.filer.place self.new.hand.log.trail) }
         ensures over { NextFor result (S.failures self.old.source) (S.failures self.new.source)
             (S.has_ended self.new.source) (G.may_stop gate.now) self.new.hand.log.trail }
+        ensures line { Grown (S.line self.old.source) (S.line self.new.source) }
     {
         if self.hand.log.is_full() {
             return Next::Over(Some(WorkerFault::BookFull));
@@ -55,6 +56,7 @@ impl<S: Source, F: Filing<Piece>> SourceWorker<S, F> {
         ensures filer { self.new.filer ≡ self.old.filer }
         ensures over { NextFor result (S.failures self.old.source) (S.failures self.new.source)
             (S.has_ended self.new.source) (G.may_stop gate.now) self.new.hand.log.trail }
+        ensures line { Grown (S.line self.old.source) (S.line self.new.source) }
     {
         if !gate.before(self.hand.log.by()) {
             return Next::Over(None);
@@ -81,6 +83,7 @@ impl<S: Source, F: Filing<Piece>> SourceWorker<S, F> {
             self.old.hand.log.trail self.old.hand.share self.new.source self.new.hand.log.trail
             self.new.hand.share }
         ensures filer { self.new.filer ≡ self.old.filer }
+        ensures line { Grown (S.line self.old.source) (S.line self.new.source) }
     {
         let from = self.hand.log.count();
         let _taken = self.hand.act(rt, desk, gate, event);
@@ -121,6 +124,7 @@ fn send_all<S: Source>(source: &mut S, receipts: &[Receipt])
     ensures given { Moves S.tells S.gave source.old source.new [] }
     ensures passed { Moves S.told S.passed source.old source.new (sends_of receipts.now) }
     ensures failures { S.failures source.new ≡ S.failures source.old }
+    ensures line { S.line source.new ≡ S.line source.old }
 {
     for receipt in receipts {
         send_outs(source, receipt.outs());
@@ -131,6 +135,7 @@ fn send_outs<S: Source>(source: &mut S, outs: &[Out])
     ensures given { Moves S.tells S.gave source.old source.new [] }
     ensures passed { Moves S.told S.passed source.old source.new (sends_in outs.now) }
     ensures failures { S.failures source.new ≡ S.failures source.old }
+    ensures line { S.line source.new ≡ S.line source.old }
 {
     for out in outs {
         send_out(source, out);
@@ -141,6 +146,7 @@ fn send_out<S: Source>(source: &mut S, out: &Out)
     ensures given { Moves S.tells S.gave source.old source.new [] }
     ensures passed { Moves S.told S.passed source.old source.new (sends_in (out.now ∷ [])) }
     ensures failures { S.failures source.new ≡ S.failures source.old }
+    ensures line { S.line source.new ≡ S.line source.old }
 {
     match out {
         Out::Send(to, datagram) => source.send(*to, datagram),
@@ -159,9 +165,10 @@ pub fn work<R: Wait, S: Source, F: Filing<Piece>, G: Gate>(
     filing: F,
     gate: &G,
 ) -> WorkerEnd<S, NoSender, F>
-    ensures { HasEnded S.tells S.gave S.failures S.has_ended S.told S.passed F.tells F.took F.handed_back
-        source source share filing (G.may_stop gate.now) result.source result.source result.share
-        result.filing result.rest result.fault }
+    ensures ended { HasEnded S.tells S.gave S.failures S.has_ended S.told S.passed F.tells F.took
+        F.handed_back source source share filing (G.may_stop gate.now) result.source result.source
+        result.share result.filing result.rest result.fault }
+    ensures line { Grown (S.line source) (S.line result.source) }
 {
     let log = Log::new(alloc, share.tag());
     let mut worker = SourceWorker {

@@ -2,7 +2,7 @@ use Rattle.sng_desk.proofs.workers.udp_worker.Goals as goal
 
 pub returns : goal.returns
 returns g c =
-    let e = c.work-rest.ensures in
+    let e = c.work-rest.ensures.ended in
     let w = e.going.worked in
     record {
       going = record {

@@ -22,4 +22,5 @@ loop-receipt-preserved g c =
           (sends_of (take i receipts)) (sends_in receipt.outs) c.loop-receipt.invariant.passed
           (rw c.outs.ensures at c.send_outs.ensures.passed));
       failures = omega (arith, c.loop-receipt.invariant.failures, c.send_outs.ensures.failures);
+      line = c.send_outs.ensures.line ∙ c.loop-receipt.invariant.line;
     }

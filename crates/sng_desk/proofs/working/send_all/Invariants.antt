@@ -8,4 +8,5 @@ invariant-loop-receipt g l = record {
   passed : Moves g.S.Source.told g.S.Source.passed l.fn.source l.source
       (sends_of (take l.receipt-index l.receipts));
   failures : g.S.Source.failures l.source ≡ g.S.Source.failures l.fn.source;
+  line : g.S.Source.line l.source ≡ g.S.Source.line l.fn.source;
 }

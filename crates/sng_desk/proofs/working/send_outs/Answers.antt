@@ -19,4 +19,5 @@ loop-out-preserved g c =
           c.loop-out.source c.send_out.new.source (sends_in (take i outs)) (sends_in (out
           ∷ [])) c.loop-out.invariant.passed c.send_out.ensures.passed);
       failures = omega (arith, c.loop-out.invariant.failures, c.send_out.ensures.failures);
+      line = c.send_out.ensures.line ∙ c.loop-out.invariant.line;
     }

@@ -1,4 +1,4 @@
-use Rattle.sng_desk.specs.Pieces.{piece_of}
+use Rattle.sng_desk.specs.Pieces.{Grown, piece_of}
 use Rattle.sng_desk.specs.Working.{Going}
 use Rattle.sng_desk.proofs.working.work.Given as goal
 
@@ -10,4 +10,5 @@ invariant-loop g l = record {
       g.F.Filing.tells g.F.Filing.took l.fn.source l.fn.source l.fn.share l.fn.filing l.worker.source
       l.worker.source l.worker.hand.share l.worker.filer.filing
       (piece_of l.worker.filer.place l.worker.hand.log.trail);
+  line : Grown (g.S.Source.line l.fn.source) (g.S.Source.line l.worker.source);
 }

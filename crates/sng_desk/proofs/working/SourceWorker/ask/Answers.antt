@@ -1,4 +1,5 @@
 use Rattle.std.proofs.Common.{refl, arith}
+use Rattle.sng_desk.proofs.Lining.{grown_none, grown_on}
 use Rattle.sng_desk.proofs.Going.{still, worked_none, worked_one}
 use Rattle.sng_desk.proofs.working.SourceWorker.ask.Goals as goal
 
@@ -59,3 +60,36 @@ returns-in-Failed-clause-worked g c =
 -- with nothing the worker goes on
 pub returns-in-Nothing-clause-over : goal.returns-in-Nothing-clause-over
 returns-in-Nothing-clause-over g c = tt
+
+pub returns-in-Came-clause-line : goal.returns-in-Came-clause-line
+returns-in-Came-clause-line g c =
+    let s = g.S.Source in
+    let old = s.line c.args.self.now.source in
+    let mid = s.line c.ask.new.self in
+    grown_on old mid (s.line c.serve.new.self.source) (grown_none old mid c.in-Came.ensures.line)
+    c.serve.ensures.line
+
+pub returns-then-not-before-clause-line : goal.returns-then-not-before-clause-line
+returns-then-not-before-clause-line g c =
+    let old = g.S.Source.line c.args.self.now.source in
+    grown_none old old refl
+
+pub returns-then-is_err-clause-line : goal.returns-then-is_err-clause-line
+returns-then-is_err-clause-line g c =
+    let old = g.S.Source.line c.args.self.now.source in
+    grown_none old old refl
+
+pub returns-in-Nothing-clause-line : goal.returns-in-Nothing-clause-line
+returns-in-Nothing-clause-line g c =
+    let s = g.S.Source in
+    grown_none (s.line c.args.self.now.source) (s.line c.ask.new.self) c.in-Nothing.ensures.line
+
+pub returns-in-Ended-clause-line : goal.returns-in-Ended-clause-line
+returns-in-Ended-clause-line g c =
+    let s = g.S.Source in
+    grown_none (s.line c.args.self.now.source) (s.line c.ask.new.self) c.in-Ended.ensures.line
+
+pub returns-in-Failed-clause-line : goal.returns-in-Failed-clause-line
+returns-in-Failed-clause-line g c =
+    let s = g.S.Source in
+    grown_none (s.line c.args.self.now.source) (s.line c.ask.new.self) c.in-Failed.ensures.line

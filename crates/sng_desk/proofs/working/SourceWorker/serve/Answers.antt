@@ -1,6 +1,7 @@
 use Rattle.std.proofs.Common.{arith, ◌≤◌, []}
 use Rattle.std.proofs.lemmas.List.{append-nil}
 use Rattle.sng_desk.specs.Acts.{Moves, sends_of}
+use Rattle.sng_desk.proofs.Lining.{grown_none, grown_on}
 use Rattle.sng_desk.proofs.Going.{moves_on, served}
 use Rattle.sng_desk.proofs.working.SourceWorker.serve.Goals as goal
 
@@ -22,3 +23,11 @@ returns-clause-served g c =
     old.hand.log.trail old.hand.share hand.log.trail hand.share c.act-taken.result c.count-from.result
     c.count-from.ensures c.act-taken.ensures.acted given
     (rw c.receipts_from.ensures at passed) kept
+
+pub returns-clause-line : goal.returns-clause-line
+returns-clause-line g c =
+    let s = g.S.Source in
+    let old = s.line c.args.self.now.source in
+    let sent = s.line c.send_all.new.source in
+    grown_on old sent (s.line c.tend.new.self) (grown_none old sent c.send_all.ensures.line)
+    c.tend.ensures.line

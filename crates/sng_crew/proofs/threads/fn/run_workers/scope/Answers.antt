@@ -35,7 +35,7 @@ returns-in-Ok g c =
       upstream = search rules;
       ticker =
           let same = c.in_ok-tick.ensures in
-          rw (sym same.0, sym same.1, sym same.2, sym same.3, sym same.4) c.join-ticker.ensures;
+          rw (sym same.0, sym same.1) c.join-ticker.ensures;
       policies = search rules;
     }
 
