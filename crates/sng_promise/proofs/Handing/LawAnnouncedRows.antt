@@ -63,8 +63,7 @@ use Rattle.sng_history.proofs.Says.{says}
 use Rattle.sng_history.proofs.Spelled.{AllAbout}
 use Rattle.sng_history.proofs.Sent.{drops_sent}
 use Rattle.sng_history.proofs.Keeping.{each_left, exact_by}
-use Rattle.sng_promise.proofs.Sleepers.QuietParts.{enters_by}
-use Rattle.sng_promise.proofs.Sleepers.QuietParts as quiet
+use Rattle.sng_history.proofs.Stayed.{enters_by, beside_notes}
 use Rattle.sng_promise.proofs.Clients.SeenNotes.{admitted_notes, names_by_notes, names_notes}
 use Rattle.sng_promise.proofs.Handing.SeenFollows.{View}
 use Rattle.sng_promise.proofs.Handing.SeenHandingNotes.{view_by, Moved}
@@ -96,7 +95,7 @@ pub record Ready (told : Names) (s : State) (c : Cause) (x : Client) : Type 0 wh
 modest_fixed : (s : State) (c : Cause) (x : Client) (id : List ℕ) → enters_by c x ≡ false
     → admitted_notes id (fixed_for s c x) ≡ false
 modest_fixed s (ByConnect from connect) x id other =
-    ap (admitted_notes id) (quiet.beside_notes s from connect x other)
+    ap (admitted_notes id) (beside_notes s from connect x other)
     ∙ connects.beside_notes s from connect x id (is_here x from) (entry s connect)
 modest_fixed s (ByMessage from request) x id other =
     note_if id (fixed_to s request x) (is_here x from) (request_note s request x id)
