@@ -1,0 +1,5 @@
+pub mod Histories
+pub mod Traces
+pub mod Addresses
+pub mod Found
+pub mod Agreement
