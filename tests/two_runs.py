@@ -1,5 +1,5 @@
 #!/usr/bin/env python3
-"""two_runs.py [--pairs N] [--first SEED]
+"""two_runs.py [--pairs N] [--first SEED] [--model]
 
 Tries to break the promise that clients are apart (docs/promise.md): two runs that look the same to a client
 leave the same trace of it, whatever other clients send.
@@ -13,17 +13,29 @@ connection and its publishes that wait, and behind each datagram of others all o
 were. So each step of the proof is tried, and not just its end.
 
 Then come pairs that break one premise each, by hand and at random, and how many of their traces differ: where
-none does, the premise would not be needed. The exit status is 1 where the law is broken, where fewer of the
-pairs than WANTED meet its premises, or where a premise is not needed.
+none does, the premise would not be needed.
+
+`two_runs` of sng_two_runs is called with the first CALLED pairs and with each that breaks one premise, by a
+program (two_runs.rt.in) that `rt try` builds: it has to answer true just where the traces of the model agree.
+With --model it is not called.
+
+The exit status is 1 where the law is broken, where fewer of the pairs than WANTED meet its premises, where a
+premise is not needed, or where the call says something else of a pair than the model.
 """
 import argparse
 import collections
 import copy
+import glob
 import json
+import os
 import random
+import shutil
+import subprocess
 import sys
+import tempfile
 
 sys.dont_write_bytecode = True
+import calls
 import gateway_model
 import random_scripts
 from gateway_model import Publish, shown
@@ -31,6 +43,8 @@ from gateway_model import Publish, shown
 # How many pairs are tried, for how many of a hundred the premises have to hold, and how many are tried in which
 # they mostly do not
 PAIRS, WANTED, BREAKING = 1500, 90, 600
+# For how many of the pairs the call is made, too: it takes half a second for each, most of it to read policies
+CALLED = 120
 MOST_SHOWN = 400
 # The notes by which a client is told that a place is full that all clients share
 SHARED = ('22 Full Clients', '22 Full InFlight', '22 Full Outbox')
@@ -391,6 +405,78 @@ def again_differs():
     return [line for line in other if line.startswith('note again s1') and line not in one]
 
 
+# The call
+
+
+class Called:
+    """The pairs for which the call is made, each with whether its traces agree in the model; and the program
+    that makes it, while the model goes on."""
+
+    PROGRAM, SECONDS = 'two_runs', '300'
+
+    def __init__(self, is_wanted):
+        self.is_wanted, self.pairs = is_wanted, []
+        self.room, self.tried = tempfile.TemporaryDirectory(), None
+
+    def add(self, client, one, other, run, second):
+        if not self.tried:
+            self.pairs.append((client, one, other, run.trace == second.trace))
+
+    def begin(self):
+        """Makes the call for the pairs so far, where that is wanted, and takes no more of them."""
+        if self.tried or not self.is_wanted:
+            return
+        lines = []
+        for client, one, other, _ in self.pairs:
+            lines += ['pair ' + client.decode(), *one, 'beside', *other, 'end']
+        with open(os.path.join(self.room.name, 'pairs'), 'w+') as file:
+            file.write('\n'.join(lines) + '\n')
+            file.seek(0)
+            self.tried = subprocess.Popen(
+                ['rt', 'try', '--steps', '1', '--seconds', self.SECONDS], cwd=self.lay(), stdin=file, text=True,
+                stdout=subprocess.PIPE, stderr=subprocess.PIPE)
+
+    def lay(self):
+        """The program's crate beside a copy of the code."""
+        for source in glob.glob(os.path.join(calls.ROOT, 'crates', '*', 'src')):
+            shutil.copytree(source, os.path.join(self.room.name, os.path.relpath(source, calls.ROOT)))
+        shutil.copy(os.path.join(calls.ROOT, 'HANDLES'), self.room.name)
+        crate = os.path.join(self.room.name, 'crates', self.PROGRAM)
+        os.makedirs(os.path.join(crate, 'src'))
+        text = os.path.join(calls.HERE, self.PROGRAM + calls.ENDING)
+        shutil.copy(text, os.path.join(crate, 'src', 'main.rt'))
+        with open(os.path.join(calls.ROOT, 'crates.txt')) as file, open(text) as main:
+            crates = file.read()
+            needed = calls.libraries([main.read()], crates)
+        with open(os.path.join(self.room.name, 'crates.txt'), 'w') as file:
+            file.write('%s\n%s: %s\n' % (crates, self.PROGRAM, ' '.join(needed)))
+        subprocess.run(['git', 'init', '-q', self.room.name], check=True)
+        return crate
+
+    def answers(self):
+        """What the call answers for each pair."""
+        printed, said = self.tried.communicate()
+        answers = printed.split('\n')[:-1]
+        if len(answers) != len(self.pairs):
+            raise SystemExit('the call was made for %d of %d pairs\n%s' % (
+                len(answers), len(self.pairs), said[-3000:]))
+        return answers
+
+    def judge(self):
+        """How many answers are not what the model says."""
+        self.begin()
+        if not self.tried:
+            return 0
+        wrong = 0
+        for (client, one, other, agree), answer in zip(self.pairs, self.answers()):
+            if answer != str(agree).lower():
+                wrong += 1
+                report('of a pair of the call', client, one, other, ['the call says ' + answer])
+        print('%7d pairs of the call, of which %d differ; %d answers are wrong' % (
+            len(self.pairs), sum(not agree for _, _, _, agree in self.pairs), wrong))
+        return wrong
+
+
 # Tried
 
 
@@ -400,14 +486,17 @@ def report(seed, client, one, other, found):
         print('-- %s\n%s' % (name, '\n'.join(line[:200] for line in lines[:MOST_SHOWN])))
 
 
-def tried(pairs, first):
+def tried(pairs, first, called):
     """Tries so many pairs: counts of what they met, and how many broke the law."""
     counts, failed, seed = collections.Counter(), 0, first
     while counts['pairs'] < pairs:
         for client, one, other in pairs_of(seed):
             run, second = runs_of(client, one, other)
+            called.add(client, one, other, run, second)
             broken = premises(run, second)
             counts['pairs'] += 1
+            if counts['pairs'] == CALLED:
+                called.begin()
             counts['meet the premises'] += not broken - {'free'}
             counts['meet them, and nobody is told that a place is full'] += not broken
             if broken - {'free'}:
@@ -423,7 +512,7 @@ def tried(pairs, first):
     return counts, failed
 
 
-def broken_pairs(pairs, first):
+def broken_pairs(pairs, first, called):
     """How many pairs break one premise alone, by hand and at random, and in how many of these traces differ."""
     counts = collections.Counter()
     cases = [(b's1', one, other) for _, one, other in by_hand()]
@@ -433,6 +522,7 @@ def broken_pairs(pairs, first):
         run, second = runs_of(client, one, other)
         broken = premises(run, second) - {'free'}
         if len(broken) == 1:
+            called.add(client, one, other, run, second)
             what = broken.pop()
             counts[what] += 1
             counts[what, 'differ'] += run.trace != second.trace
@@ -443,8 +533,11 @@ def main():
     reader = argparse.ArgumentParser(description='Tries to break the promise that clients are apart.')
     reader.add_argument('--pairs', type=int, default=PAIRS)
     reader.add_argument('--first', type=int, default=0)
+    reader.add_argument('--model', action='store_true', help='without the call')
     given = reader.parse_args()
-    counts, failed = tried(given.pairs, given.first)
+    called = Called(not given.model)
+    breaks = broken_pairs(given.pairs * BREAKING // PAIRS // 4, given.first, called)
+    counts, failed = tried(given.pairs, given.first, called)
     for what, many in sorted(counts.items()):
         print('%7d %s' % (many, what))
     tame = counts['meet the premises'] * 100 < WANTED * counts['pairs']
@@ -455,12 +548,12 @@ def main():
         if premises(run, second) - {'free'} != {what} or run.trace == second.trace:
             failed += 1
             print('a pair does not break just %s, or its traces agree' % what)
-    breaks = broken_pairs(given.pairs * BREAKING // PAIRS // 4, given.first)
     for what in ('room', 'refusals', 'strays'):
         print('%7d break no premise but %s; the traces of %d differ' % (
             breaks[what], what, breaks[what, 'differ']))
         tame |= not breaks[what, 'differ']
     print('%7d notes of publishes that are sent again differ in two runs' % len(again_differs()))
+    failed += called.judge()
     print('%d failed' % failed)
     return 1 if failed or tame or not again_differs() else 0
 
