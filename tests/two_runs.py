@@ -44,7 +44,7 @@ from gateway_model import Publish, shown
 # they mostly do not
 PAIRS, WANTED, BREAKING = 1500, 90, 600
 # For how many of the pairs the call is made, too: it takes half a second for each, most of it to read policies
-CALLED = 120
+CALLED = 300
 MOST_SHOWN = 400
 # The notes by which a client is told that a place is full that all clients share
 SHARED = ('22 Full Clients', '22 Full InFlight', '22 Full Outbox')
