@@ -412,7 +412,7 @@ class Called:
     """The pairs for which the call is made, each with whether its traces agree in the model; and the program
     that makes it, while the model goes on."""
 
-    PROGRAM, SECONDS = 'two_runs', '300'
+    PROGRAM, SECONDS = 'two_runs', '900'
 
     def __init__(self, is_wanted):
         self.is_wanted, self.pairs = is_wanted, []
