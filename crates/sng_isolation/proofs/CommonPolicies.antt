@@ -165,10 +165,10 @@ common_policy id own s t p q sound also alike same =
         clock = alike.clock;
         up = alike.up;
         waits =
-            mine_both id s.link.waiting (unsubscribes s.link (released s.clients (clients_next s c)))
-            t.link.waiting (unsubscribes t.link (released t.clients (clients_next t d))) alike.waits
-            (mine_unsubscribes id s.link (released s.clients (clients_next s c))
-            ∙ sym (mine_unsubscribes id t.link (released t.clients (clients_next t d))));
+            mine_both id s.link.waiting (unsubscribes s.policy.limits s.link (released s.clients (clients_next s c)))
+            t.link.waiting (unsubscribes s.policy.limits t.link (released t.clients (clients_next t d))) alike.waits
+            (mine_unsubscribes s.policy.limits id s.link (released s.clients (clients_next s c))
+            ∙ sym (mine_unsubscribes s.policy.limits id t.link (released t.clients (clients_next t d))));
       };
     }
 
@@ -226,7 +226,7 @@ hidden_policy id own s p sound same =
         clock = refl;
         up = refl;
         waits =
-            sym (mine_behind id s.link.waiting (unsubscribes s.link (released s.clients (clients_next s c)))
-            (mine_unsubscribes id s.link (released s.clients (clients_next s c))));
+            sym (mine_behind id s.link.waiting (unsubscribes s.policy.limits s.link (released s.clients (clients_next s c)))
+            (mine_unsubscribes s.policy.limits id s.link (released s.clients (clients_next s c))));
       };
     }

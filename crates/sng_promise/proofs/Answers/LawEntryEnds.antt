@@ -57,7 +57,6 @@ use Rattle.sng_promise.proofs.Standing.LawEnds.{Kept, drops_shown}
 use Rattle.sng_promise.proofs.Answers.LawDisconnects.{gone_spelled}
 use Rattle.sng_history.proofs.Booleans.{and_no}
 use Rattle.sng_history.proofs.ClientIds.{length_ids}
-use Rattle.sng_history.specs.declared.limits.TheConstants.{MAX_CLIENTS}
 
 -- ---- the verdict
 
@@ -78,7 +77,7 @@ pub entry_ruled : (h : List Row) (s : State) (c : Connect) → StateShown h s
 entry_ruled h s c shown =
     rw (sym shown.policy, sym shown.order, known_among c.client_id s.clients, length_ids s.clients)
     (ruled c.client_id (c.protocol_id == 1) (lists s.policy c.client_id) (is_known c.client_id s.clients)
-    (nat_lt (length s.clients) MAX_CLIENTS))
+    (nat_lt (length s.clients) s.policy.limits.clients))
 
 -- ---- another client at the address leaves
 
@@ -272,3 +271,4 @@ clean_row h s from c st is =
     (each_with (ClientShown h) AtRest
     (λ x. Kept h (stays_by c) x (client_next s (ByConnect from c) x)) s.clients
     (λ x known rest. kept_entry h s from c x is known rest.busy) st.shown.clients st.good.rest)
+    ∙ ap (λ (p : Policy). map (λ end. Note note.Outbox) (untold p.limits h (stays_by c))) st.shown.policy

@@ -4,12 +4,12 @@ use Rattle.std.proofs.Common.{ap, sym, ◌∙◌, if◌then◌else◌, length, O
 use Rattle.std.specs.Prelude.{◌&&◌, not, nat_lt, Option, None, Some}
 use Rattle.std.specs.declared.result.Result.{Result}
 use Rattle.std.proofs.lemmas.List.{append-nil}
+use Rattle.sng_grants.specs.Limits.{flight_limit}
 use Rattle.sng_policy.specs.Grants.{lists}
 use Rattle.sng_states.specs.declared.limits.TheConstants.{MAX_OPEN_IDS}
 use Rattle.sng_frames.specs.declared.qos.FrameQos.{FrameQos}
 use Rattle.sng_frames.specs.declared.qos.FrameQos.TheVariants as qos
 use Rattle.sng_frames.specs.declared.messages.publish.Publish.{Publish}
-use Rattle.sng_outbox.specs.declared.limits.TheConstants.{MAX_IN_FLIGHT, MAX_OUTBOX_ITEMS}
 use Rattle.sng_book.specs.declared.address.Address.{Address}
 use Rattle.sng_book.specs.declared.decision.Decision.{Decision}
 use Rattle.sng_book.specs.declared.decision.Decision.TheVariants as note
@@ -101,8 +101,8 @@ asked_said s x told knows p more rest true true active listed is room =
 abbrev pub room_shown : List Row → List ℕ → Publish → List Rule
 room_shown h id p =
     room_table (is_up h) (is_exactly_once p.flags.qos && not (nat_lt (length (open_of id h)) MAX_OPEN_IDS))
-    (is_acknowledged p.flags.qos && not (nat_lt (unacknowledged h) MAX_IN_FLIGHT))
-    (nat_lt (length (waiting h)) MAX_OUTBOX_ITEMS)
+    (is_acknowledged p.flags.qos && not (nat_lt (unacknowledged h) (flight_limit (last_limits h))))
+    (nat_lt (length (waiting h)) (last_limits h).waiting)
 
 -- the verdict on a PUBLISH, as the rows show it
 pub asked_judged : (h : List Row) (s : State) (x : Client) (p : Publish) (more : Outcome) → StateShown h s
@@ -119,9 +119,9 @@ asked_judged h s x p more shown is room =
     (lists s.policy x.id) refl refl is.ids room)
 
 pub crowded_same : (h : List Row) (s : State) (q : FrameQos) → StateShown h s → s.link.in_flight ≡ in_flight h
-    → is_crowded s q ≡ (is_acknowledged q && not (nat_lt (unacknowledged h) MAX_IN_FLIGHT))
+    → is_crowded s q ≡ (is_acknowledged q && not (nat_lt (unacknowledged h) (flight_limit (last_limits h))))
 crowded_same h s q shown flights =
-    ap (λ n. is_acknowledged q && not (nat_lt n MAX_IN_FLIGHT)) (load_same h s shown flights)
+    ap (λ n. is_acknowledged q && not (nat_lt n (flight_limit (last_limits h)))) (load_same h s shown flights)
 
 publish_room : (h : List Row) (s : State) (id : List ℕ) (p : Publish) → StateShown h s
     → s.link.in_flight ≡ in_flight h → is_exactly_once p.flags.qos ≡ false

@@ -11,7 +11,6 @@ use Rattle.sng_frames.specs.declared.flags.TopicIdType.{TopicIdType}
 use Rattle.sng_frames.specs.declared.flags.TopicIdType.TheVariants.{Normal, Predefined, Short, Reserved}
 use Rattle.sng_frames.specs.declared.messages.publish.Publish.{Publish}
 use Rattle.sng_outbox.specs.declared.origin.Origin.TheVariants as origin
-use Rattle.sng_outbox.specs.declared.limits.TheConstants.{MAX_OUTBOX_ITEMS}
 use Rattle.sng_book.specs.declared.address.Address.{Address}
 use Rattle.sng_book.specs.declared.decision.Decision.TheVariants as note
 use Rattle.sng_book.specs.declared.decision.Who.TheVariants as who
@@ -35,13 +34,13 @@ abbrev name_rules : State → List Pair → List ℕ → List Rule
 name_rules s pairs name =
     (not (is_granted permission.Publish pairs name), Grant (MissingPub name))
     ∷ (not s.up, Room UpstreamDown)
-    ∷ (not (nat_lt (length s.link.waiting) MAX_OUTBOX_ITEMS), Room (Full place.Outbox))
+    ∷ (not (nat_lt (length s.link.waiting) s.policy.limits.waiting), Room (Full place.Outbox))
     ∷ []
 
 tail_ruled : (s : State) (source name : List ℕ) (pairs : List Pair) (g u r : Bool)
     → scope_of s.policy.sources source ≡ Some pairs
     → is_granted permission.Publish pairs name ≡ g → s.up ≡ u
-    → nat_lt (length s.link.waiting) MAX_OUTBOX_ITEMS ≡ r
+    → nat_lt (length s.link.waiting) s.policy.limits.waiting ≡ r
     → verdict s (origin.Source source) name AtMostOnce ≡ judged (name_rules s pairs name)
 tail_ruled s source name pairs true true true scope granted up free = rw (scope, granted, up, free) refl
 tail_ruled s source name pairs true true false scope granted up full = rw (scope, granted, up, full) refl
@@ -53,7 +52,7 @@ name_ruled : (s : State) (source name : List ℕ) (pairs : List Pair)
     → verdict s (origin.Source source) name AtMostOnce ≡ judged (name_rules s pairs name)
 name_ruled s source name pairs scope =
     tail_ruled s source name pairs (is_granted permission.Publish pairs name) s.up
-    (nat_lt (length s.link.waiting) MAX_OUTBOX_ITEMS) scope refl refl refl
+    (nat_lt (length s.link.waiting) s.policy.limits.waiting) scope refl refl refl
 
 -- what forbids a publish of a listed device
 abbrev type_rules : State → List Pair → TopicIdType → ℕ → List Rule
@@ -101,7 +100,7 @@ state_rules s source p =
     ∷ (is_nameless s.policy p.flags.id_type p.topic_id, Form (UnknownId kind.Predefined p.topic_id))
     ∷ (not (may_publish (scope_of s.policy.sources source) name), Grant (MissingPub name))
     ∷ (not s.up, Room UpstreamDown)
-    ∷ (not (nat_lt (length s.link.waiting) MAX_OUTBOX_ITEMS), Room (Full place.Outbox))
+    ∷ (not (nat_lt (length s.link.waiting) s.policy.limits.waiting), Room (Full place.Outbox))
     ∷ []
 
 abbrev StateRuled : State → List ℕ → Publish → Type 0

@@ -56,7 +56,6 @@ use Rattle.sng_laws.specs.LawsSubscriptions.{subscribe_rules, qos_granted, id_gr
 use Rattle.sng_laws.specs.LawsSubscriptions.{subscribe_stranger, subscribe_answer}
 use Rattle.sng_history.proofs.Asks.{of_subscribe}
 use Rattle.sng_history.proofs.Places.{here_is}
-use Rattle.sng_outbox.specs.declared.limits.TheConstants.{MAX_OUTBOX_ITEMS}
 use Rattle.sng_promise.proofs.Clients.SeenClients.{heard_if}
 use Rattle.sng_promise.proofs.Names.Marked.{marked, id_marked, full_marked}
 use Rattle.sng_promise.proofs.Names.SeenIds.{gets_same}
@@ -100,7 +99,7 @@ room_judged h s x r text shown is =
     ap (λ all. is_full all text) is.filters
     ∙ ap (λ b. not (stands held text) && b) (most_by (length held) MAX_SUBSCRIPTIONS) in
     room_by s.up (gets_id r.flags.id_type text && is_full_for text x.ids) (is_full x.filters text)
-    (nat_lt (length s.link.waiting) MAX_OUTBOX_ITEMS)
+    (nat_lt (length s.link.waiting) s.policy.limits.waiting)
     ∙ rw (full, crowded, shown.up, shown.waits) refl
 
 -- a client that may ask

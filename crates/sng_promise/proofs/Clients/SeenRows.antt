@@ -159,7 +159,7 @@ event_shows s x (Replace policy) =
     ends_show x None (around s (ByReplace policy)) s.clock (ends_under policy x.id x.filters)
     (ends_all x.id x.id (around s (ByReplace policy)) policy x.filters x)
 event_shows s x (Tick clock) =
-    tick_shows (around s (ByTick clock)) s.policy s.link (later s.clock clock) s.clock s.clients x None
+    tick_shows s.policy.limits (around s (ByTick clock)) s.policy s.link (later s.clock clock) s.clock s.clients x None
 
 read_same : (h : List Row) (s : State) (x : Client) (from : Address) (datagram : List ℕ)
     → s.clock ≡ clock_at h → ClientShown h x

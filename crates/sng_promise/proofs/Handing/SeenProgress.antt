@@ -210,4 +210,4 @@ row_moved s ByTake x due v shown = shown
 row_moved s (ByReplace policy) x due v shown =
     ends_moved (around s (ByReplace policy)) x.id due policy x.filters v x shown
 row_moved s (ByTick clock) x due v shown =
-    tick_moved (around s (ByTick clock)) due s.link (later s.clock clock) s.clients v x refl shown
+    tick_moved s.policy.limits (around s (ByTick clock)) due s.link (later s.clock clock) s.clients v x refl shown

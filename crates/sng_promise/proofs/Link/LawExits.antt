@@ -82,7 +82,7 @@ again_exit policy (sent ∷ flights) more only =
 -- ---- the laws
 
 take_exits : (s : State) (b : Bool) → s.up ≡ b → OnlyExits (outs_of s Take)
-take_exits s true is = rw is (all_exit s.policy s.link s.link.waiting)
+take_exits s true is = rw is (all_exit s.policy s.link (outgoing s.link))
 take_exits s false is = rw is tt
 
 pub row_exits : (s : State) (e : Event) → is_upstream e ≡ true → OnlyExits (outs_of s e)

@@ -15,7 +15,6 @@ use Rattle.sng_frames.specs.declared.frame.SnFrame.TheVariants as frame
 use Rattle.sng_outbox.specs.Sending.{publishes}
 use Rattle.sng_outbox.specs.declared.item.Item.{Item}
 use Rattle.sng_outbox.specs.declared.item.Item.TheVariants as item
-use Rattle.sng_outbox.specs.declared.limits.TheConstants.{MAX_OUTBOX_ITEMS}
 use Rattle.sng_book.specs.declared.address.Address.{Address}
 use Rattle.sng_book.specs.declared.event.Event.{Event}
 use Rattle.sng_book.specs.declared.event.Event.TheVariants.{Datagram, Broker, Up, Down, Take, Replace, Tick}
@@ -60,21 +59,21 @@ Waits s c items told gone =
 
 -- a message of a session
 message_waits : (s : State) (from : Address) (request : Request) (gone : List (List ℕ))
-    → unsubscribes s.link (released s.clients (clients_next s (ByMessage from request)))
+    → unsubscribes s.policy.limits s.link (released s.clients (clients_next s (ByMessage from request)))
     ≡ map item.Unsubscribe gone
     → Waits s (ByMessage from request)
     (items_in (publish_asked request) (outs_by s (ByMessage from request))) true gone
 message_waits s from request gone is =
     let outs = outs_by s (ByMessage from request) in
     ap (λ items. s.link.waiting ++ (items
-    ++ unsubscribes s.link (released s.clients (clients_next s (ByMessage from request)))))
+    ++ unsubscribes s.policy.limits s.link (released s.clients (clients_next s (ByMessage from request)))))
     (sym (message_asks s from request) ∙ outs_shown (publish_asked request) outs)
     ∙ ap (λ more. s.link.waiting ++ (items_in (publish_asked request) outs ++ more))
     (is ∙ sym (append-nil (map item.Unsubscribe gone)))
 
 publish_waits : (s : State) (from : Address) (p : Publish) (q : FrameQos) (gone : List (List ℕ))
     → let c = publish_cause from p q in
-    unsubscribes s.link (released s.clients (clients_next s c)) ≡ map item.Unsubscribe gone
+    unsubscribes (policy_by c s.policy).limits s.link (released s.clients (clients_next s c)) ≡ map item.Unsubscribe gone
     → Waits s c (items_in (Some p) (outs_by s c)) (not (is_without_session q)) gone
 publish_waits s from p qos.WithoutSession gone is =
     let said = source_ask s from.ip p in
@@ -87,14 +86,14 @@ publish_waits s from p qos.ExactlyOnce gone is = message_waits s from (ToPublish
 
 disconnect_waits : (s : State) (from : Address) (duration : Option ℕ) (gone : List (List ℕ))
     → let c = datagram_cause from (Ok (frame.Disconnect duration)) in
-    unsubscribes s.link (released s.clients (clients_next s c)) ≡ map item.Unsubscribe gone
+    unsubscribes (policy_by c s.policy).limits s.link (released s.clients (clients_next s c)) ≡ map item.Unsubscribe gone
     → Waits s c (items_for (message_in (Ok (frame.Disconnect duration))) (outs_by s c)) true gone
 disconnect_waits s from None gone is = message_waits s from ToLeave gone is
 disconnect_waits s from (Some duration) gone is = message_waits s from (ToSleep duration) gone is
 
 datagram_waits : (s : State) (from : Address) (read : Result SnFrame FrameFault) (gone : List (List ℕ))
     → let c = datagram_cause from read in
-    unsubscribes s.link (released s.clients (clients_next s c)) ≡ map item.Unsubscribe gone
+    unsubscribes (policy_by c s.policy).limits s.link (released s.clients (clients_next s c)) ≡ map item.Unsubscribe gone
     → Waits s c (items_for (message_in read) (outs_by s c)) (is_spoken (message_in read)) gone
 datagram_waits s from (Ok (frame.Connect connect)) gone is =
     ap (λ more. s.link.waiting ++ more) (is ∙ sym (append-nil (map item.Unsubscribe gone)))
@@ -145,7 +144,7 @@ waits_row s (Datagram from datagram) h is items apart order shown wills own =
     let e = Datagram from datagram in
     rw (sym items)
     (datagram_waits s from (frame_of datagram)
-    (take (MAX_OUTBOX_ITEMS - length s.link.waiting) (released_among e h (outs_of s e) [] (accepted h)))
+    (take ((policy_by (cause_of e) s.policy).limits.waiting - length s.link.waiting) (released_among e h (outs_of s e) [] (accepted h)))
     (unsubscribes_are h s e shown own order))
 waits_row s (Broker sent) h is items apart order shown wills own =
     let owed =
@@ -162,7 +161,7 @@ waits_row s Take h is items apart order shown wills own =
 waits_row s (Replace policy) h is items apart order shown wills own =
     let e = Replace policy in
     let gone =
-    take (MAX_OUTBOX_ITEMS - length s.link.waiting) (released_among e h (outs_of s e) [] (accepted h)) in
+    take ((policy_by (cause_of e) s.policy).limits.waiting - length s.link.waiting) (released_among e h (outs_of s e) [] (accepted h)) in
     rw (sym items)
     (ap (λ more. s.link.waiting ++ more)
     (unsubscribes_are h s e shown own order ∙ sym (append-nil (map item.Unsubscribe gone))))

@@ -248,7 +248,7 @@ room_cases : (P : Decision → Type 0) (s : State) (x : Client) (p : Publish) (n
 room_cases P s x p name Allowed is active cases =
     cases.allowed name active
     (not_full (exit s.policy (origin.Client x.id) name) s.up (is_full_for p.msg_id x.unreleased)
-    (Room UpstreamDown) (Room (Full place.Exchanges)) (room_in s.link AtLeastOnce) is)
+    (Room UpstreamDown) (Room (Full place.Exchanges)) (room_in s.policy.limits s.link AtLeastOnce) is)
 room_cases P s x p name (Denied rule) is active cases = cases.denied (Some name) rule
 
 named_cases : (P : Decision → Type 0) (s : State) (x : Client) (p : Publish)

@@ -156,7 +156,7 @@ rows_dropped s c none quiet =
     let outs = flat_map (part_for s c D) s.clients in
     let all : AllTell D outs (released s.clients (map (client_next s c) s.clients)) =
     tell_from s c D outs [] s.clients (each_tells s c D s.clients none) in
-    none_told D D outs refl (tell_drop D outs (places_left s.link)
+    none_told D D outs refl (tell_drop D outs (places_left s.policy.limits s.link)
     (released s.clients (map (client_next s c) s.clients)) all) quiet
 
 -- a CONNECT that is accepted

@@ -85,9 +85,9 @@ ends_released (suc n) [] short = tt
 ends_released (suc n) (r ∷ rs) short = (short.0, ends_released n rs short.1)
 
 ends_let_go : (s : State) (after : List Client) → Each OwnFilters s.clients
-    → ShortEnds (unsubscribes s.link (released s.clients after))
+    → ShortEnds (unsubscribes s.policy.limits s.link (released s.clients after))
 ends_let_go s after short =
-    ends_released (places_left s.link) (released s.clients after) (short_from [] s.clients after short)
+    ends_released (places_left s.policy.limits s.link) (released s.clients after) (short_from [] s.clients after short)
 
 pub ends_next : (s : State) (c : Cause) → Each OwnFilters s.clients → ShortEnds s.link.waiting
     → ShortEnds (waiting_next s c)
