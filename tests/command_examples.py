@@ -2,8 +2,8 @@
 """command_examples.py [PROGRAM]
 
 Types a wrong command line of each command, and compares what is told: the fault, and as the last line an
-example of that very command, which is then run as it stands, in a folder with the files that it names. It has
-to end with status 0, or to listen where it serves. PROGRAM is the proved program where none is given. Exit
+example of that very command, which is then run as it stands, in a folder with the files that it names, and
+for `sng status` beside a gateway. It has to end with status 0, or to listen where it serves. PROGRAM is the proved program where none is given. Exit
 status 1 where one does not."""
 import os
 import re
@@ -13,7 +13,7 @@ import sys
 import tempfile
 
 sys.dont_write_bytecode = True
-from live_parts import Failure, Process
+from live_parts import HOST, Failure, Process
 
 HERE = os.path.dirname(os.path.abspath(__file__))
 ROOT = os.path.dirname(HERE)
@@ -24,7 +24,7 @@ POLICY = '{"version":1,"clients":{"s1":[["t/1",["pub"]]]}}'
 WRONG = (([], 'serve'), (['nonsense'], 'serve'), (['--nonsense'], 'serve'), (['play', 'x'], 'play'),
          (['check'], 'check'), (['book'], 'book'), (['cover'], 'cover'), (['may', 's1'], 'may'),
          (['policy', 'a', 'b'], 'policy'), (['serve', '--listen', '0.0.0.0:1884'], 'serve'),
-         (['serve', '--workers', '9'], 'serve'), (['broker'], 'broker'))
+         (['serve', '--workers', '9'], 'serve'), (['status', 'a', 'b'], 'status'), (['broker'], 'broker'))
 
 
 def told(program, words):
@@ -49,10 +49,33 @@ def run(program, example, folder):
         finally:
             process.kill()
         return
+    if example.split()[0] == 'status':
+        beside_a_gateway(program, lambda port: works(re.sub(r':\d+$', ':' + port, words), folder))
+    else:
+        works(words, folder)
+
+
+def works(words, folder):
     done = subprocess.run(['/bin/sh', '-c', words], cwd=folder, stdin=subprocess.DEVNULL, capture_output=True,
                           text=True, timeout=20, check=False)
     if done.returncode or done.stderr:
-        raise Failure('an example that works, and not %r: %s' % (example, done.stdout + done.stderr))
+        raise Failure('an example that works, and not %r: %s' % (words, done.stdout + done.stderr))
+
+
+def beside_a_gateway(program, act):
+    """Acts with the port at which a gateway serves its figures that has a broker."""
+    broker = Process([program, 'broker', '--listen', HOST + ':0'])
+    try:
+        port = broker.line('err', r'listening on [\d.]+:(\d+)')[1]
+        gateway = Process([program, 'serve', '--listen', HOST + ':0', '--broker', HOST + ':' + port, '--id',
+                           'gw1', '--workers', '1', '--metrics', HOST + ':0'])
+        try:
+            gateway.line('err', 'connected$')
+            act(gateway.line('err', r'figures at http://[\d.]+:(\d+)/')[1])
+        finally:
+            gateway.kill()
+    finally:
+        broker.kill()
 
 
 def main():

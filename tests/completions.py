@@ -150,7 +150,7 @@ def tried(shell, offers, commands, options):
             yield '%s sng %s --' % (shell, name), offers(['sng', name, '--']), sorted(known)
     yield shell + ' ACTION', offers(['sng', 'may', '--policy', 'p', 's1', 'p']), ['publish']
     yield shell + ' --workers', offers(['sng', 'serve', '--workers', '']), list('12345678')
-    yield shell + ' help', offers(['sng', 'help', 's']), ['serve']
+    yield shell + ' help', offers(['sng', 'help', 's']), ['serve', 'status']
 
 
 def results(program):

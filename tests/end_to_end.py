@@ -50,13 +50,15 @@ SHORT = 16 * 1024 * 1024
 # The texts of the help that have a number, with the constants that they tell of, and where these stand
 HELP_SOURCES = sorted(glob.glob(os.path.join(ROOT, 'crates/sng/src/command/*.rt')))
 HELP_CONSTANTS = [os.path.join(ROOT, 'crates/%s.rt' % name)
-                  for name in ('sng_config/src/limits', 'sng_operator/src/ask', 'sng_bookkeeper/src/limits')]
+                  for name in ('sng_config/src/limits', 'sng_operator/src/ask', 'sng_bookkeeper/src/limits',
+                               'sng_serve/src/asking')]
 HELP_TEXTS = (
     'How many workers read datagrams, from 1 to {MAX_WORKERS}',
     'How many tries to connect may fail in a row: {USUAL_TRIES} where it is left out; 0 is no end',
     'How many denied datagrams a second one stranger may send: {each} where it is left out',
     'How many all strangers together may send: {all} where it is left out',
     'The folder where the book is kept on disk: without it a run ends with {ROWS_AHEAD} rows',
+    'Where it serves its figures, IP:PORT: {USUAL_METRICS} where it is left out',
 )
 
 # A run of the program: standard input, the exit status, and standard output and standard error, where they
@@ -256,17 +258,20 @@ def command_lines():
                         ('play-with-a-word', ['play', 'x']), ('no-such-option', ['cover', '--x', 'a'])):
         yield Case('command-line-' + name, words, b'', 2, b'')
     for words in (['--help'], ['check', '--help'], ['book', '--help'], ['cover', '--help'], ['may', '--help'],
-                  ['policy', '--help'], ['serve', '--help'], ['broker', '--help'], ['help']):
+                  ['policy', '--help'], ['serve', '--help'], ['status', '--help'], ['broker', '--help'],
+                  ['help']):
         yield Case('-'.join(words).replace('--', ''), words, b'', 0, None)
 
 
 def constants():
-    """The numbers of the constants that the help tells of, and of the fields of such a constant, by name."""
+    """The numbers and the texts of the constants that the help tells of, and of the fields of such a constant, by
+    name."""
     found = {}
     for source in HELP_CONSTANTS:
         text = read(source).decode()
         for name, number in re.findall(r'(?:const |^ {4})(\w+): (?:\w+ = )?([\d_]+)[;,]$', text, re.MULTILINE):
             found[name] = int(number)
+        found.update(re.findall(r'const (\w+): &str = "([^"]*)";$', text, re.MULTILINE))
     return found
 
 
@@ -276,7 +281,9 @@ def is_helped_right(proved):
     wanted = sorted(text.format(**constants()) for text in HELP_TEXTS)
     source = ''.join(read(source).decode() for source in HELP_SOURCES)
     told = sorted(text for text in re.findall(r'\.help\(\s*"([^"]*)"', source) if re.search(r'\b\d', text))
-    printed = run_proved(Case('', ['serve', '--help'], b'', 0, None))[1].decode() if proved else ''
+    helps = [run_proved(Case('', [name, '--help'], b'', 0, None))[1].decode()
+             for name in ('serve', 'status') if proved]
+    printed = ''.join(helps)
     if told == wanted and all(text in printed or not proved for text in wanted):
         return True
     print('  the help is to tell', wanted, '\n  found', told, printed)

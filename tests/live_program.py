@@ -230,8 +230,8 @@ def a_configuration_at_fault(room):
         came = room.told('serve', '--config', path, *words)
         told = 'sng: %s\n' % told.replace('FILE', path)
         wanted(came == (1, '', told), '%r: %r, and not %r' % (text, told, came))
-    names = 'listen, broker, id, workers, policy, book, tries, flood-each, flood-all, verbose, rows, ' \
-            'no-watch, log-time'
+    names = 'listen, broker, id, workers, policy, book, metrics, tries, flood-each, flood-all, verbose, ' \
+            'rows, no-watch, log-time'
     case(good + 'listne = "x"\n', 'FILE, line 5: `listne` is not a setting; the settings are ' + names)
     case(good + '\nid = "gw2"', 'FILE, line 6: `id` is set on line 3 already')
     case(good + 'tries = "5"', 'FILE, line 5: `tries` wants a whole number from 0 to 4294967295')

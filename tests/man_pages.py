@@ -17,7 +17,7 @@ sys.dont_write_bytecode = True
 ROOT = os.path.dirname(os.path.dirname(os.path.abspath(__file__)))
 PROVED = os.path.join(ROOT, 'crates', 'sng', 'out', 'sng')
 MAKER = os.path.join(ROOT, 'packaging', 'man.py')
-COMMANDS = ('play', 'check', 'book', 'cover', 'may', 'policy', 'serve', 'broker')
+COMMANDS = ('play', 'check', 'book', 'cover', 'may', 'policy', 'serve', 'status', 'broker')
 # Options in examples of other programs
 OF_OTHERS = {'--base64url', '--offline'}
 

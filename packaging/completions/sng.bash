@@ -9,7 +9,7 @@ _sng() {
     command=''
   fi
   case $command in
-    '') options='-h --help -V --version' words='play check book cover may policy serve broker help' ;;
+    '') options='-h --help -V --version' words='play check book cover may policy serve status broker help' ;;
     play) options='-h --help' ;;
     check) options='--book -h --help' files=yes ;;
     book)
@@ -22,15 +22,16 @@ _sng() {
     policy) options='--print -h --help' files=yes ;;
     serve)
       options='--config --listen --broker --id --workers --tries --policy --no-watch --book
-        --verbose --rows --log-time --flood-each --flood-all -h --help'
+        --metrics --verbose --rows --log-time --flood-each --flood-all -h --help'
       ;;
+    status) options='-h --help' ;;
     broker) options='--listen -h --help' ;;
-    help) words='play check book cover may policy serve broker help' ;;
+    help) words='play check book cover may policy serve status broker help' ;;
   esac
   case $before in
     --config | --policy | --book) options='' words='' files=yes ;;
     --workers) options='' words='1 2 3 4 5 6 7 8' ;;
-    --listen | --broker | --id | --tries | --source | --at | --flood-each | --flood-all) return ;;
+    --listen | --broker | --metrics | --id | --tries | --source | --at | --flood-each | --flood-all) return ;;
     --client | --from | --name | --kind | --since | --until | --row) return ;;
   esac
   case $current in

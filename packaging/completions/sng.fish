@@ -19,6 +19,8 @@ complete -c sng -n $first -a may -d 'Tells what a policy allows'
 complete -c sng -n $first -a policy -d 'Checks a policy, and shows where its first fault stands'
 complete -c sng -n $first -a serve \
     -d 'Serves between MQTT-SN devices and an MQTT broker, until `quit` or the end of input'
+complete -c sng -n $first -a status \
+    -d 'Tells how a running gateway stands, which serves its figures by --metrics'
 complete -c sng -n $first -a broker \
     -d 'A small MQTT broker for tests, until it is stopped from outside'
 complete -c sng -n $first -a help -d 'Print this message or the help of the given subcommand(s)'
@@ -26,7 +28,7 @@ complete -c sng -n $first -a help -d 'Print this message or the help of the give
 complete -c sng -n "$behind check" -F
 complete -c sng -n "$behind book" -F
 complete -c sng -n "$behind policy" -F
-complete -c sng -n "$behind help" -a 'play check book cover may policy serve broker help'
+complete -c sng -n "$behind help" -a 'play check book cover may policy serve status broker help'
 
 complete -c sng -n "$behind check" -l book -rF \
     -d 'The folders of books on disk, each of which is checked, or files of one'
@@ -67,6 +69,8 @@ complete -c sng -n "$behind serve" -l policy -rF \
 complete -c sng -n "$behind serve" -l no-watch -d 'Does not look whether the file of the policy changes'
 complete -c sng -n "$behind serve" -l book -rF \
     -d 'The folder where the book is kept on disk: without it a run ends with 1000000 rows'
+complete -c sng -n "$behind serve" -l metrics -x \
+    -d 'Where figures are asked for over HTTP, IP:PORT: nowhere where it is left out'
 complete -c sng -n "$behind serve" -l verbose -d 'Prints rows as they are made'
 complete -c sng -n "$behind serve" -l rows -d 'Prints all rows as the gateway stops'
 complete -c sng -n "$behind serve" -l log-time -d 'Begins each line on standard error with the time'

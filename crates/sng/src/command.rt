@@ -15,11 +15,8 @@ pub use escape::filters_among;
 pub use examples::example_of;
 pub use questions::{MayWords, PolicyWords};
 use sng_script::Status;
-use sng_serve::Words as ServeWords;
+use sng_serve::{VERSION, Words as ServeWords};
 use std::alloc::{AllocError, Global};
-
-/// The version, and the logic that proves it, whose sum `rt version` prints.
-const VERSION: &str = "0.1.0, proved by rattle logic dac8208d650f15bf";
 
 /// What the command line asks for.
 #[derive(Drop)]
@@ -40,6 +37,8 @@ pub enum Chosen<'a> {
     Policy(PolicyWords<'a>),
     /// Serves between devices and a broker.
     Serve(ServeWords<'a>),
+    /// Tells how the gateway stands that serves its figures at this address.
+    Status(&'a str),
     /// Serves MQTT clients at this address, for tests.
     Broker(&'a str),
 }
@@ -60,6 +59,7 @@ fn choice<'a>(alloc: Global, matches: &ArgMatches<'a>) -> Result<Chosen<'a>, All
         Some(("may", asked)) => Ok(Chosen::May(questions::may_words(asked))),
         Some(("policy", asked)) => Ok(Chosen::Policy(questions::policy_words(asked))),
         Some(("serve", asked)) => Ok(Chosen::Serve(services::serve_words(asked))),
+        Some(("status", asked)) => Ok(Chosen::Status(services::status_word(asked))),
         Some(("broker", asked)) => Ok(Chosen::Broker(services::broker_word(asked))),
         _ => Ok(Chosen::Play),
     }

@@ -42,6 +42,9 @@ fn main(rt: HostRuntime) -> ExitCode {
             Ok(Chosen::May(asked)) => End::from(may::answer(&rt, words.as_slice(), &asked)),
             Ok(Chosen::Policy(asked)) => End::from(policy::check(&rt, words.as_slice(), asked)),
             Ok(Chosen::Serve(asked)) => serving::serve(&rt, words.as_slice(), &asked),
+            Ok(Chosen::Status(address)) => {
+                End::from(serving::status(&rt, words.as_slice(), address))
+            }
             Ok(Chosen::Broker(listen)) => {
                 End::from(serving::broker(&rt, words.as_slice(), listen))
             }

@@ -1,4 +1,4 @@
-//! `sng serve ..` and `sng broker ..`.
+//! `sng serve ..`, `sng status ..` and `sng broker ..`.
 use crate::file::{first_no_text, report_word};
 use sng_script::Status;
 use sng_serve::{End, Words};
@@ -35,6 +35,18 @@ where
     match first_no_text(words) {
         Some(place) => End::from(report_word(rt, place)),
         None => sng_serve::serve(rt, asked),
+    }
+}
+
+/// Tells how the gateway stands that serves its figures at the address.
+pub fn status<R: Clock + Net + Print + Eprint + AllocGlobal>(
+    rt: &R,
+    words: &[Octets],
+    address: &str,
+) -> Status {
+    match first_no_text(words) {
+        Some(place) => report_word(rt, place),
+        None => sng_serve::status(rt, address),
     }
 }
 

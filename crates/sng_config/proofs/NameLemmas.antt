@@ -1,6 +1,6 @@
 -- Names as they are written.
 use Rattle.std.proofs.Common.{◌≡◌, Some, refl}
-use Rattle.sng_config.specs.declared.names.TextName.TheVariants.{Listen, Broker, Id, Policy, Book}
+use Rattle.sng_config.specs.declared.names.TextName.TheVariants.{Listen, Broker, Id, Policy, Book, Metrics}
 use Rattle.sng_config.specs.declared.names.NumberName.TheVariants.{Workers, Tries, FloodEach, FloodAll}
 use Rattle.sng_config.specs.declared.names.SwitchName.TheVariants.{Verbose, Rows, NoWatch, LogTime}
 use Rattle.sng_config.specs.declared.names.Name.{Name}
@@ -14,6 +14,7 @@ read-back (Text Broker) = refl
 read-back (Text Id) = refl
 read-back (Text Policy) = refl
 read-back (Text Book) = refl
+read-back (Text Metrics) = refl
 read-back (Number Workers) = refl
 read-back (Number Tries) = refl
 read-back (Number FloodEach) = refl

@@ -3,7 +3,7 @@ use Rattle.std.specs.Prelude.{ℕ, ◌^◌, ◌-◌, List, codes, find}
 use Rattle.std.specs.declared.option.Option.{Option}
 use Rattle.std.specs.Str.{bytes_eq}
 use Rattle.sng_config.specs.declared.names.TextName.{TextName}
-use Rattle.sng_config.specs.declared.names.TextName.TheVariants.{Listen, Broker, Id, Policy, Book}
+use Rattle.sng_config.specs.declared.names.TextName.TheVariants.{Listen, Broker, Id, Policy, Book, Metrics}
 use Rattle.sng_config.specs.declared.names.NumberName.{NumberName}
 use Rattle.sng_config.specs.declared.names.NumberName.TheVariants.{Workers, Tries, FloodEach, FloodAll}
 use Rattle.sng_config.specs.declared.names.SwitchName.{SwitchName}
@@ -19,6 +19,7 @@ text_word Broker = codes "broker"
 text_word Id = codes "id"
 text_word Policy = codes "policy"
 text_word Book = codes "book"
+text_word Metrics = codes "metrics"
 
 abbrev pub number_word : NumberName → List ℕ
 number_word Workers = codes "workers"

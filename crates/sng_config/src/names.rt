@@ -15,6 +15,7 @@ pub enum TextName {
     Id,
     Policy,
     Book,
+    Metrics,
 }
 
 /// The settings that are numbers.
@@ -44,13 +45,14 @@ pub enum Name {
 }
 
 /// All settings, in the order in which they are told.
-pub const NAMES: [Name; 13] = [
+pub const NAMES: [Name; 14] = [
     Name::Text(TextName::Listen),
     Name::Text(TextName::Broker),
     Name::Text(TextName::Id),
     Name::Number(NumberName::Workers),
     Name::Text(TextName::Policy),
     Name::Text(TextName::Book),
+    Name::Text(TextName::Metrics),
     Name::Number(NumberName::Tries),
     Name::Number(NumberName::FloodEach),
     Name::Number(NumberName::FloodAll),
@@ -71,6 +73,7 @@ impl TextName {
             TextName::Id => "id",
             TextName::Policy => "policy",
             TextName::Book => "book",
+            TextName::Metrics => "metrics",
         }
     }
 }

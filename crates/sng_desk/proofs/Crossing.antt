@@ -8,6 +8,7 @@ use Rattle.std.specs.contracts.alloc.Global as Heap
 use Rattle.std.specs.contracts.impls.GlobalAllocator.TheImpl.{ghosts}
 use Rattle.std.proofs.Crossing.{Arc-send}
 use Rattle.sng_book.proofs.book.Book.TheSendSync as book
+use Rattle.sng_tally.proofs.tally.Tally.TheSendSync as tally
 use Rattle.sng_core.proofs.copying.CoreCopy.TheSendSync as copy
 use Rattle.sng_core.proofs.Crossing.{core_send}
 use Rattle.sng_core.specs.contracts.copying.CoreCopy as CoreCopy
@@ -22,7 +23,7 @@ fields_send = struct_send (shape inside.the_type) (
   search sendable,
   (
     search sendable,
-    (opened_send, (core_send, (book.the_send, (search sendable, (search sendable, tt))))),
+    (opened_send, (core_send, (book.the_send, (tally.the_send, (search sendable, (search sendable, tt)))))),
   ),
 )
 

@@ -1,4 +1,5 @@
 pub mod Spanning
+pub mod Tallying
 pub mod Acting
 pub mod Going
 pub mod Handing

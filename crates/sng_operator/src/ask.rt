@@ -61,6 +61,8 @@ pub struct Words<'a> {
     pub is_unwatched: bool,
     /// The folder where the book is kept on disk.
     pub book: Option<&'a str>,
+    /// Where figures are asked for, as IP:PORT.
+    pub metrics: Option<&'a str>,
     /// Rows are printed as they are made.
     pub is_verbose: bool,
     /// All rows are printed as the gateway stops.
@@ -85,6 +87,8 @@ pub struct Ask {
     pub is_watched: bool,
     /// The folder where the book is kept on disk, where it is.
     pub book: Option<String>,
+    /// Where figures are asked for, where they are served.
+    pub metrics: Option<SocketAddr>,
     pub is_verbose: bool,
     pub prints_rows: bool,
     pub tells_time: bool,
@@ -185,6 +189,7 @@ pub fn ask_of<'a, R: Files + AllocGlobal>(
         None => None,
     };
     let book = book_in(rt.alloc(), words, config)?;
+    let metrics = metrics_in(words, config)?;
     Ok(Ask {
         listen,
         broker,
@@ -195,6 +200,7 @@ pub fn ask_of<'a, R: Files + AllocGlobal>(
         policy,
         is_watched: !config.switch(SwitchName::NoWatch, words.is_unwatched),
         book,
+        metrics,
         is_verbose: config.switch(SwitchName::Verbose, words.is_verbose),
         prints_rows: config.switch(SwitchName::Rows, words.prints_rows),
         tells_time: config.switch(SwitchName::LogTime, words.tells_time),
@@ -225,6 +231,17 @@ fn book_in<'a>(
         return Err(Fault::RowsOfBook);
     }
     Ok(Some(String::from_str(alloc, given.word)?))
+}
+
+/// Where figures are asked for, where they are served.
+fn metrics_in<'a>(
+    words: &Words<'a>,
+    config: &'a Config<'a>,
+) -> Result<Option<SocketAddr>, Fault<'a>> {
+    match config.text(TextName::Metrics, words.metrics) {
+        Some(given) => Ok(Some(address_in(given)?)),
+        None => Ok(None),
+    }
 }
 
 /// How many workers share the socket.

@@ -19,6 +19,8 @@ pub mod roles;
 pub mod rows;
 pub mod status;
 pub mod verbosity;
+pub mod version;
 
 pub use ask::Words;
 pub use ends::End;
+pub use version::VERSION;

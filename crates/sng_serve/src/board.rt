@@ -2,8 +2,8 @@
 //! reads holds up nobody who posts one.
 
 use crate::bell::Bell;
+use crate::count::Count;
 use crate::level::Level;
-use crate::tally::Tally;
 use std::alloc::{AllocError, Global};
 use std::collections::VecDeque;
 use std::fmt::Display;
@@ -34,7 +34,7 @@ pub struct Board {
     waiting: AtomicU64,
     rows: AtomicU64,
     /// Texts that found no place, or could not be written.
-    pub lost: Tally,
+    pub lost: Count,
     /// Wakes the writer.
     pub bell: Bell,
 }
@@ -46,7 +46,7 @@ impl Board {
             texts: Mutex::new(VecDeque::with_capacity(alloc, PLACES)?),
             waiting: AtomicU64::new(0),
             rows: AtomicU64::new(0),
-            lost: Tally::new(),
+            lost: Count::new(),
             bell,
         })
     }

@@ -3,10 +3,10 @@
 
 use crate::bell::Bell;
 use crate::board::Board;
+use crate::count::Count;
 use crate::handover::Handover;
 use crate::level::Level;
 use crate::shelf::Shelf;
-use crate::tally::Tally;
 use crate::token::Token;
 use sng_bounds::answers::Answers;
 use sng_bounds::flood::Flood;
@@ -14,7 +14,7 @@ use sng_operator::ends::Halt;
 use sng_operator::verbosity::Verbosity;
 use std::alloc::Global;
 use std::fmt::Display;
-use std::sync::atomic::{AtomicBool, AtomicU8, Ordering};
+use std::sync::atomic::{AtomicBool, AtomicU8, AtomicU64, Ordering};
 use std::sync::{Arc, Mutex};
 
 /// What wakes those that wait.
@@ -26,6 +26,8 @@ pub struct Bells {
     pub clock: Bell,
     /// Wakes whoever prints rows.
     pub printer: Bell,
+    /// Wakes whoever answers what is asked over HTTP, where that is served.
+    pub reception: Option<Bell>,
 }
 
 #[derive(Drop)]
@@ -44,6 +46,8 @@ pub struct Hub {
     has_refused_policy: AtomicBool,
     /// Which rows are printed, by its number.
     verbosity: AtomicU8,
+    /// The clock of the gateway, in ms of Unix time, by the last tick.
+    clock_ms: AtomicU64,
     /// Held by the worker that reads the devices' socket: one reads at a time, so what comes has an order.
     pub listening: Mutex<()>,
     /// The right to act and to send.
@@ -53,15 +57,17 @@ pub struct Hub {
     /// How often an answer may leave for who has no session.
     pub answers: Mutex<Answers>,
     /// Acts that were refused for want of memory, and turns of workers that were left out.
-    pub refusals: Tally,
+    pub refusals: Count,
     /// Datagrams that could not be sent.
-    pub unsent: Tally,
+    pub unsent: Count,
     /// Answers that were held back.
-    pub held_back: Tally,
+    pub held_back: Count,
     /// Datagrams that were passed over: the gateway had sent them itself.
-    pub passed_over: Tally,
+    pub passed_over: Count,
     /// Datagrams that were passed over in a flood.
-    pub flooded: Tally,
+    pub flooded: Count,
+    /// Texts that were refused as policies.
+    pub refused_policies: Count,
     /// The rows that were cut out of the book, for whoever prints rows.
     pub shelf: Shelf,
     /// What stands between the workers and the book on disk.
@@ -72,6 +78,8 @@ pub struct Hub {
     pub clock: Bell,
     /// Wakes whoever prints rows.
     pub printer: Bell,
+    /// Wakes whoever answers what is asked over HTTP, where that is served.
+    pub reception: Option<Bell>,
     /// What waits for standard output, and for standard error.
     pub output: Arc<Board, Global>,
     pub errors: Arc<Board, Global>,
@@ -91,6 +99,7 @@ impl Hub {
             upstream,
             clock,
             printer,
+            reception,
         } = bells;
         Hub {
             stops: AtomicBool::new(false),
@@ -104,20 +113,23 @@ impl Hub {
             wants_status: AtomicBool::new(false),
             has_refused_policy: AtomicBool::new(false),
             verbosity: AtomicU8::new(Verbosity::Off.number()),
+            clock_ms: AtomicU64::new(0),
             listening: Mutex::new(()),
             token: Token::new(),
             flood: Mutex::new(flood),
             answers: Mutex::new(answers),
-            refusals: Tally::new(),
-            unsent: Tally::new(),
-            held_back: Tally::new(),
-            passed_over: Tally::new(),
-            flooded: Tally::new(),
+            refusals: Count::new(),
+            unsent: Count::new(),
+            held_back: Count::new(),
+            passed_over: Count::new(),
+            flooded: Count::new(),
+            refused_policies: Count::new(),
             shelf,
             handover,
             upstream,
             clock,
             printer,
+            reception,
             output,
             errors,
         }
@@ -162,6 +174,16 @@ impl Hub {
             return Some(Halt::LostWorker);
         }
         None
+    }
+
+    /// A tick was acted on.
+    pub fn note_clock(&self, ms: u64) {
+        self.clock_ms.store(ms, Ordering::SeqCst);
+    }
+
+    /// The clock of the gateway, in ms of Unix time, by the last tick.
+    pub fn clock_ms(&self) -> u64 {
+        self.clock_ms.load(Ordering::SeqCst)
     }
 
     /// A worker looked into the devices' socket, and nothing lay in it.
@@ -248,6 +270,9 @@ impl Hub {
         self.is_over.store(true, Ordering::SeqCst);
         self.printer.ring();
         self.handover.bell.ring();
+        if let Some(bell) = &self.reception {
+            bell.ring();
+        }
     }
 
     /// Whether all workers have ended.

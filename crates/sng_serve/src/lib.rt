@@ -1,13 +1,16 @@
 //! The gateway between devices and a broker: sockets, a clock, standard input and the desk's workers at them.
 #![tactic(auto)]
 
+pub mod asking;
 pub mod beats;
 pub mod beginning;
 pub mod bell;
 pub mod board;
 mod book_end;
 mod closing;
+pub mod count;
 mod descriptors;
+pub mod figures;
 pub mod handover;
 pub mod hub;
 pub mod keeping;
@@ -19,6 +22,8 @@ pub mod patient;
 mod policies;
 mod policy_source;
 mod printing;
+pub mod question;
+pub mod reception;
 mod reports;
 pub mod room;
 mod rows;
@@ -29,18 +34,19 @@ pub mod socket;
 mod stamp;
 mod streams;
 pub mod switch;
-pub mod tally;
 mod tell;
 mod test_client;
 pub mod testing;
 pub mod token;
 pub mod tray;
+pub mod visit;
 mod watch;
 mod wire;
 mod writers;
 
-pub use limits::{FULL_ROWS, NEARLY_FULL_ROWS, VOLUME_ROWS};
+pub use asking::{USUAL_METRICS, status};
+pub use limits::{FULL_ROWS, MAX_VISITORS, NEARLY_FULL_ROWS, VISIT_MS, VOLUME_ROWS};
 pub use serving::serve;
 pub use sng_config::{MAX_FLOOD, MAX_WORKERS, MIN_FLOOD, MIN_WORKERS};
-pub use sng_operator::{End, Words};
+pub use sng_operator::{End, VERSION, Words};
 pub use testing::broker;

@@ -31,5 +31,11 @@ pub const PIECE_ENTRIES: usize = 256;
 /// worker at the clock.
 pub const TURN_ROWS: u64 = MAX_TURN_EVENTS as u64;
 
+/// So many visitors who ask for figures are heard at a time. Others wait unaccepted.
+pub const MAX_VISITORS: usize = 32;
+
+/// How long a visit is at most, in ms.
+pub const VISIT_MS: u64 = 5000;
+
 /// The worker at the clock, without which no row comes to disk, begins no turn while fewer rows are left.
 pub const CLOCK_ROWS: u64 = 64;

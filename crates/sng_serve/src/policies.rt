@@ -297,6 +297,7 @@ fn give<R: AllocGlobal>(rt: &R, hub: &Hub, in_force: &mut InForce, text: &[u8]) 
 
 /// Prints the fault of a policy text, and tells it with its place.
 fn refuse<R: AllocGlobal>(rt: &R, hub: &Hub, text: &[u8], fault: PolicyFault) {
+    hub.refused_policies.add(1);
     let mut line = Vec::new(rt.alloc());
     if push_refused(&mut line, fault).is_ok() {
         hub.print(line);

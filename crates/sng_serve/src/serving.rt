@@ -12,11 +12,12 @@ use crate::limits::{FULL_ROWS, KEPT_VOLUME_ROOM};
 use crate::link::BrokerLink;
 use crate::opening::{
     Ears, FolderKeeper, NotBegun, ServingCrew, Shared, Watchers, crew_of, make_shared, open,
-    open_book, tell_open,
+    open_book, open_reception, tell_open,
 };
 use crate::patient::StandardInput;
 use crate::policies::OperatorPolicies;
 use crate::printing::{Printed, Shown, start_printer};
+use crate::reception::{Reception, start_reception};
 use crate::rows::print_all;
 use crate::socket::Socket;
 use crate::switch::Switch;
@@ -194,6 +195,14 @@ fn report_start<R: Print + Eprint + AllocGlobal>(rt: &R, why: &NotBegun) -> Stat
             );
             ended(Status::Unreadable, true)
         }
+        NotBegun::Metrics(address, error) => {
+            tell(
+                rt,
+                Level::Error,
+                format_args!("--metrics: cannot open {address}: {error}"),
+            );
+            ended(Status::Unreadable, true)
+        }
         NotBegun::System(error) => {
             tell(rt, Level::Error, format_args!("cannot start: {error}"));
             ended(Status::Unreadable, true)
@@ -258,15 +267,20 @@ where
     R::Stream: Send,
 {
     let socket = open(rt, ask.listen)?;
+    let (reception, bell) = open_reception(rt, ask.metrics)?;
     let Shared {
         hub,
         ears,
         watchers,
-    } = make_shared(rt, &ask, keeper.is_some())?;
+    } = make_shared(rt, &ask, keeper.is_some(), bell)?;
     if ask.is_verbose {
         hub.set_verbosity(Verbosity::On);
     }
-    let followers = Followers { watchers, keeper };
+    let followers = Followers {
+        watchers,
+        keeper,
+        reception,
+    };
     let end = serve_by(rt, &hub, &socket, ears, followers, ask)?;
     let _ = wait_for(rt, &hub.errors, ERRORS_PATIENCE_MS);
     Ok(end)
@@ -277,6 +291,7 @@ where
 struct Followers<K: Device + Drop> {
     watchers: Watchers,
     keeper: Option<Keeper<K>>,
+    reception: Option<Reception>,
 }
 
 /// Serves by the socket. The clock is set and the policy of the start in force before a worker reads.
@@ -309,6 +324,9 @@ where
     hub.handover.room.note_made(desk.rows_made());
     let first = hand_off_first(rt, hub, beginning)?;
     tell_open(hub, socket);
+    if let Some(reception) = &followers.reception {
+        reception.tell_open(hub);
+    }
     let gate = Switch::new(rt, hub, roles);
     let prints_rows = ask.prints_rows;
     let crew = crew_of(rt, hub, ask, shares, socket, ears, clock)?;
@@ -374,6 +392,7 @@ fn begin_first<R: AllocGlobal>(
     };
     let now = clock.ms(clock.begun);
     let beginning = begin(rt.alloc(), desk, share, now, policy)?;
+    hub.note_clock(now);
     hub.tell(Level::Info, format_args!("clock: {}", Time(now)));
     if let Some(lists) = lists {
         hub.tell(Level::Info, format_args!("policy in force: {lists}"));
@@ -438,11 +457,14 @@ fn run<
         ticker,
         policies,
     } = crew;
-    let Followers { watchers, keeper } = followers;
-    let Watchers {
-        printer,
-        keeper: ear,
-    } = watchers;
+    let Followers {
+        watchers: Watchers {
+            printer,
+            keeper: ear,
+        },
+        keeper,
+        reception,
+    } = followers;
     thread::scope(thread::scope_env(), rt, |scope| {
         let Some(printer) = start_printer(scope, rt, desk, hub, printer) else {
             return Ran::refused(Printed::none());
@@ -457,11 +479,15 @@ fn run<
             hub.end();
             return Ran::refused(printer.join(rt));
         };
+        let reception = start_reception(scope, rt, desk, hub, reception);
         let keeper = match keeper {
             Some(keeper) => Some(keep(rt, desk, hub, ear, keeper)),
             None => None,
         };
         let left = workers.join(rt);
+        if let Some(reception) = reception {
+            reception.join(rt);
+        }
         Ran {
             left,
             printed: printer.join(rt),

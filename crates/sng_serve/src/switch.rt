@@ -2,11 +2,11 @@
 //! and tells an operator what came of acts and workers.
 ghost use Rattle.std.specs.Prelude.{true};
 
+use crate::count::Count;
 use crate::hub::Hub;
 use crate::level::Level;
 use crate::limits::{CLOCK_ROWS, FULL_ROWS, NEARLY_FULL_ROWS, PIECE_ENTRIES, TURN_ROWS};
 use crate::socket::second_of;
-use crate::tally::Tally;
 use sng_book::Event;
 use sng_desk::{ActFault, Gate, Receipt, Volume, WorkerFault};
 use sng_operator::denials::denies_all;
@@ -83,8 +83,8 @@ impl<'a, R: Clock + Wait> Switch<'a, R> {
     }
 
     /// Tells a count that is not 0.
-    fn tell_count(&self, tally: &Tally, what: &str) {
-        let count = tally.take();
+    fn tell_count(&self, count: &Count, what: &str) {
+        let count = count.take();
         if count > 0 {
             self.hub
                 .tell(Level::Warning, format_args!("{count} {what}"));
@@ -292,6 +292,9 @@ impl<'a, R: Clock + Wait> Gate for Switch<'a, R> {
         let (role, row) = (self.roles.of(by), receipt.number());
         if role == Role::Broker {
             self.hub.acted_upstream();
+        }
+        if let Event::Tick(ms) = receipt.event() {
+            self.hub.note_clock(*ms);
         }
         if self.may_fill(role) {
             self.hub.upstream.ring();

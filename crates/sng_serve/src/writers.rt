@@ -62,7 +62,7 @@ fn write_errors<R: Wait + Clock + Eprint>(rt: &R, errors: &Board, mut ear: Ear, 
         };
         let lost = errors.lost.take();
         if lost > 0 && eprint_lost(rt, lost).is_none() {
-            errors.lost.add(lost);
+            errors.lost.put_back(lost);
         }
         if eprint_line(rt, line.bytes.as_slice(), tells_time).is_none() {
             errors.lost.add(1);

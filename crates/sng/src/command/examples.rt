@@ -10,6 +10,7 @@ pub fn example_of(word: &str) -> &'static str {
         "cover" => "cover 'a/+' 'a/#'",
         "may" => "may --policy policy.json s1 publish t/1",
         "policy" => "policy policy.json",
+        "status" => "status 127.0.0.1:9884",
         "broker" => "broker --listen 127.0.0.1:1883",
         _ => {
             "serve --listen 0.0.0.0:1884 --broker 127.0.0.1:1883 --id gw1 --workers 1 --policy policy.json"

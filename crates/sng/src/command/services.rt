@@ -1,13 +1,14 @@
-//! The commands that go on until they are stopped: `serve` and `broker`.
+//! The commands that go on until they are stopped, `serve` and `broker`, and `status`, which asks a gateway.
 
 use crate::command::{with, with_word};
 use clap::{Arg, ArgAction, ArgMatches, Command, value_parser};
-use sng_serve::{MAX_FLOOD, MAX_WORKERS, MIN_FLOOD, MIN_WORKERS, Words};
+use sng_serve::{MAX_FLOOD, MAX_WORKERS, MIN_FLOOD, MIN_WORKERS, USUAL_METRICS, Words};
 use std::alloc::{AllocError, Global};
 
 /// The program's command with those of this module.
 pub fn with_services<'a>(alloc: Global, command: Command<'a>) -> Result<Command<'a>, AllocError> {
     let command = with(command, serve_command(alloc))?;
+    let command = with(command, status_command(alloc))?;
     with(command, broker_command(alloc))
 }
 
@@ -21,6 +22,7 @@ fn serve_command<'a>(alloc: Global) -> Result<Command<'a>, AllocError> {
     let command = with_policy(alloc, command)?;
     let command = with_printing(alloc, command)?;
     let command = with_book(alloc, command)?;
+    let command = with_metrics(alloc, command)?;
     with_flood_limits(alloc, command)
 }
 
@@ -115,6 +117,15 @@ fn with_book<'a>(alloc: Global, command: Command<'a>) -> Result<Command<'a>, All
     command.arg(book)
 }
 
+/// The command with the option that says where figures are asked for.
+fn with_metrics<'a>(alloc: Global, command: Command<'a>) -> Result<Command<'a>, AllocError> {
+    let metrics = Arg::new(alloc, "METRICS")
+        .long("metrics")
+        .help("Where figures are asked for over HTTP, IP:PORT: nowhere where it is left out")
+        .action(ArgAction::Set);
+    command.arg(metrics)
+}
+
 /// The command with the options that say what is passed over in a flood.
 fn with_flood_limits<'a>(alloc: Global, command: Command<'a>) -> Result<Command<'a>, AllocError> {
     let each = Arg::new(alloc, "EACH")
@@ -144,11 +155,26 @@ pub fn serve_words<'a>(matches: &ArgMatches<'a>) -> Words<'a> {
         flood_all: matches.get_one::<u32>("ALL"),
         policy: matches.get_str("FILE"),
         book: matches.get_str("FOLDER"),
+        metrics: matches.get_str("METRICS"),
         is_unwatched: matches.get_flag("no-watch"),
         is_verbose: matches.get_flag("verbose"),
         prints_rows: matches.get_flag("rows"),
         tells_time: matches.get_flag("log-time"),
     }
+}
+
+fn status_command<'a>(alloc: Global) -> Result<Command<'a>, AllocError> {
+    let address = Arg::new(alloc, "ADDRESS")
+        .help("Where it serves its figures, IP:PORT: 127.0.0.1:9884 where it is left out")
+        .action(ArgAction::Set);
+    Command::new(alloc, "status")
+        .about("Tells how a running gateway stands, which serves its figures by --metrics")
+        .arg(address)
+}
+
+/// The address that `sng status ..` names, or else the usual one.
+pub fn status_word<'a>(matches: &ArgMatches<'a>) -> &'a str {
+    matches.get_str("ADDRESS").unwrap_or(USUAL_METRICS)
 }
 
 fn broker_command<'a>(alloc: Global) -> Result<Command<'a>, AllocError> {

@@ -1,0 +1,11 @@
+use Rattle.std.proofs.Common.{◌≡◌, ◌++◌, drop}
+use Rattle.sng_metrics.specs.Counts.{row_samples}
+use Rattle.sng_metrics.specs.Metrics.{name_of}
+use Rattle.sng_metrics.specs.Pages.{samples_text}
+use Rattle.sng_metrics.specs.declared.metric.Metric.TheVariants as metric
+use Rattle.sng_metrics.proofs.counts.push_row_samples.Given as goal
+
+abbrev pub invariant-loop-kind : goal.invariant-loop-kind
+invariant-loop-kind l =
+    l.text.items ++ samples_text (name_of metric.Rows) (row_samples l.tally (drop l.kind-index l.kinds))
+    ≡ l.fn.text.items ++ samples_text (name_of metric.Rows) (row_samples l.tally l.kinds)

@@ -1,0 +1,16 @@
+pub mod Answers
+pub mod Counts
+pub mod Figures
+pub mod Gauges
+pub mod Healths
+pub mod Laws
+pub mod Metrics
+pub mod Numbers
+pub mod Pages
+pub mod Readings
+pub mod Requests
+pub mod Responses
+pub mod Statuses
+pub mod Summaries
+pub mod Tables
+pub mod Visits
