@@ -1,4 +1,6 @@
 //! The file of a policy, and the words that name it.
+ghost use Rattle.std.specs.Prelude.{◌≢◌};
+
 use crate::report::out_of_memory;
 use sng_script::Status;
 use sng_script::ending::ended;
@@ -30,7 +32,9 @@ pub fn first_no_text(words: &[Octets]) -> Option<usize> {
 }
 
 /// Prints that the word at this place is not UTF-8.
-pub fn report_word<R: Print>(rt: &R, place: usize) -> Status {
+pub fn report_word<R: Print>(rt: &R, place: usize) -> Status
+    ensures { result ≢ Status.Done }
+{
     let printed = println!(rt; "bad word {place}");
     ended(Status::Unreadable, printed.is_ok())
 }

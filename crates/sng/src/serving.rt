@@ -1,4 +1,7 @@
 //! `sng serve ..`, `sng status ..` and `sng broker ..`.
+ghost use Rattle.std.specs.Prelude.{◌≡◌};
+ghost use Rattle.sng_serve.specs.Askings.{IsWell};
+
 use crate::file::{first_no_text, report_word};
 use sng_script::Status;
 use sng_serve::{End, Words};
@@ -43,7 +46,9 @@ pub fn status<R: Clock + Net + Print + Eprint + AllocGlobal>(
     rt: &R,
     words: &[Octets],
     address: &str,
-) -> Status {
+) -> Status
+    ensures { result ≡ Status.Done → IsWell }
+{
     match first_no_text(words) {
         Some(place) => report_word(rt, place),
         None => sng_serve::status(rt, address),

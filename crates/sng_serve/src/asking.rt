@@ -1,10 +1,13 @@
 //! `sng status`: asks a running gateway for its figures, and prints those that matter.
+ghost use Rattle.std.specs.Prelude.{◌≡◌, ◌≢◌, IfOk};
+ghost use Rattle.sng_serve.specs.Askings.{EndsBy, IsOfAnswer, IsWell, status_of};
 
 use crate::level::Level;
 use crate::question::{NoAnswer, answer_at};
 use crate::tell::tell;
 use sng_metrics::{
-    AnswerFault, Page, Summary, SummaryFault, push_table, read_answer, read_summary, request_for,
+    AnswerFault, Health, Page, Summary, SummaryFault, push_table, read_answer, read_summary,
+    request_for,
 };
 use sng_operator::ask::socket_address_of;
 use sng_script::Status;
@@ -86,26 +89,34 @@ impl From<SummaryFault> for Unknown {
 
 /// Prints how the gateway stands that serves its figures at the address, or tells why that is not known. The
 /// status is that of no answer where not all is well there.
-pub fn status<R: Clock + Net + Print + Eprint + AllocGlobal>(rt: &R, address: &str) -> Status {
-    let shown = match summary_at(rt, address) {
-        Ok(summary) => show(rt, &summary),
-        Err(why) => Err(why),
-    };
-    match shown {
-        Ok(status) => status,
-        Err(Unknown::Memory) => {
-            let printed = rt.println("out of memory");
-            ended(Status::OutOfMemory, printed.is_ok())
-        }
-        Err(why) => {
-            tell(rt, Level::Error, format_args!("{address}: {why}"));
-            Status::Unreadable
-        }
+pub fn status<R: Clock + Net + Print + Eprint + AllocGlobal>(rt: &R, address: &str) -> Status
+    ensures { result ≡ Status.Done → IsWell }
+{
+    match summary_at(rt, address) {
+        Ok(summary) => match show(rt, &summary) {
+            Ok(status) => status,
+            Err(why) => report(rt, address, why),
+        },
+        Err(why) => report(rt, address, why),
     }
 }
 
+/// Tells why it is not known how the gateway at the address stands.
+fn report<R: Print + Eprint + AllocGlobal>(rt: &R, address: &str, why: Unknown) -> Status
+    ensures { result ≢ Status.Done }
+{
+    if let Unknown::Memory = why {
+        let printed = rt.println("out of memory");
+        return ended(Status::OutOfMemory, printed.is_ok());
+    }
+    tell(rt, Level::Error, format_args!("{address}: {why}"));
+    Status::Unreadable
+}
+
 /// What is read off the page of figures at the address.
-fn summary_at<R: Clock + Net + AllocGlobal>(rt: &R, address: &str) -> Result<Summary, Unknown> {
+fn summary_at<R: Clock + Net + AllocGlobal>(rt: &R, address: &str) -> Result<Summary, Unknown>
+    ensures { IfOk result IsOfAnswer }
+{
     let Some(place) = socket_address_of(address) else {
         return Err(Unknown::NoAddress);
     };
@@ -119,14 +130,22 @@ fn summary_at<R: Clock + Net + AllocGlobal>(rt: &R, address: &str) -> Result<Sum
 }
 
 /// Prints the table.
-fn show<R: Print + AllocGlobal>(rt: &R, summary: &Summary) -> Result<Status, Unknown> {
+fn show<R: Print + AllocGlobal>(rt: &R, summary: &Summary) -> Result<Status, Unknown>
+    ensures { IfOk result (EndsBy summary.now.health) }
+{
     let mut text = Vec::new(rt.alloc());
     push_table(&mut text, summary)?;
     let printed = io::writer(rt).write_all(text.as_slice());
-    let status = if summary.health.is_well() {
+    Ok(ended(status_of(summary.health), printed.is_ok()))
+}
+
+/// The status that tells of this health.
+fn status_of(health: Health) -> Status
+    ensures { result ≡ status_of health }
+{
+    if health.is_well() {
         Status::Done
     } else {
         Status::Unreadable
-    };
-    Ok(ended(status, printed.is_ok()))
+    }
 }

@@ -1,7 +1,8 @@
 //! What is told to who asks for figures: the counts of the desk, copied in one hold of it, and what the
 //! program counts beside them.
-ghost use Rattle.std.specs.Prelude.{◌≡◌, ◌+◌, length};
-ghost use Rattle.sng_core.specs.Census.{census_of};
+ghost use Rattle.std.specs.Prelude.{◌≡◌, IfOk};
+ghost use Rattle.sng_serve.specs.Answers.{AreCountsOf, AreFiguresOf, AreOfSomeDesk, IsAnswer, IsHealthOf};
+ghost use Rattle.sng_serve.specs.Answers.{clients_of};
 
 use crate::hub::Hub;
 use sng_core::census::{Census, ClientCounts};
@@ -30,10 +31,7 @@ pub struct Counts {
 
 /// What the desk counts now. It takes no memory, and one walk over the clients.
 pub fn counts_of(desk: &Desk) -> Counts
-    ensures tally { result.tally ≡ desk.now.tally }
-    ensures census { result.census ≡ census_of desk.now.state }
-    ensures rows { result.rows ≡ desk.now.before + length desk.now.rows }
-    ensures limit { result.limit ≡ desk.now.limit }
+    ensures { AreCountsOf desk.now result }
 {
     Counts {
         tally: desk.tally(),
@@ -60,7 +58,9 @@ impl<'a, R: Clock + Wait + AllocGlobal> Front<'a, R> {
     }
 
     /// The answer to a visitor of whom this was heard. One of whom more was to come has used up his time.
-    pub fn answer(&self, heard: Heard) -> Result<Vec<u8>, AllocError> {
+    pub fn answer(&self, heard: Heard) -> Result<Vec<u8>, AllocError>
+        ensures { IfOk result (λ octets. IsAnswer heard octets.items) }
+    {
         let alloc = self.rt.alloc();
         match heard {
             Heard::Asked(Page::Metrics, form) => {
@@ -76,12 +76,16 @@ impl<'a, R: Clock + Wait + AllocGlobal> Front<'a, R> {
     }
 
     /// What the desk counts now, copied in one hold of it.
-    fn counts(&self) -> Counts {
+    fn counts(&self) -> Counts
+        ensures { AreOfSomeDesk result }
+    {
         counts_of(&self.desk.lock(self.rt))
     }
 
     /// Whether all is well. A book on disk that cannot be written takes no rows, though some may wait for it.
-    fn health(&self, counts: &Counts) -> Health {
+    fn health(&self, counts: &Counts) -> Health
+        ensures { IsHealthOf counts.now result }
+    {
         let room = &self.hub.handover.room;
         Health {
             broker_is_up: counts.census.is_up,
@@ -90,7 +94,9 @@ impl<'a, R: Clock + Wait + AllocGlobal> Front<'a, R> {
     }
 
     /// The figures beside the tally.
-    fn figures(&self, counts: &Counts) -> Figures<'static> {
+    fn figures(&self, counts: &Counts) -> Figures<'static>
+        ensures { AreFiguresOf counts.now result }
+    {
         let (hub, census) = (self.hub, &counts.census);
         Figures {
             version: VERSION,
@@ -112,12 +118,7 @@ impl<'a, R: Clock + Wait + AllocGlobal> Front<'a, R> {
 
 /// How many clients are in each state.
 fn client_figures(clients: &ClientCounts) -> ClientFigures
-    ensures active { result.active ≡ clients.now.active }
-    ensures asleep { result.asleep ≡ clients.now.asleep }
-    ensures awake { result.awake ≡ clients.now.awake }
-    ensures in_dialogue { result.in_dialogue ≡ clients.now.in_dialogue }
-    ensures disconnected { result.disconnected ≡ clients.now.disconnected }
-    ensures lost { result.lost ≡ clients.now.lost }
+    ensures { result ≡ clients_of clients.now }
 {
     ClientFigures {
         active: clients.active as u64,

@@ -1,4 +1,5 @@
 //! One question to a gateway over HTTP (RFC 9112), on a connection of its own, and the octets of its answer.
+ghost use Rattle.std.specs.Prelude.{◌≤◌, length, IfOk};
 
 use crate::bell::Ear;
 use crate::writers::{is_past, time_after};
@@ -68,7 +69,9 @@ pub fn answer_at<R: Clock + Net + AllocGlobal>(
     rt: &R,
     address: SocketAddr,
     request: &[u8],
-) -> Result<Vec<u8>, NoAnswer> {
+) -> Result<Vec<u8>, NoAnswer>
+    ensures { IfOk result (λ answer. length answer.items ≤ MAX_ANSWER) }
+{
     let mut question = Question::begin(rt, address)?;
     question.dial()?;
     question.put(request)?;
@@ -142,7 +145,9 @@ impl<'a, R: Clock + Net + AllocGlobal> Question<'a, R> {
     }
 
     /// Reads the answer, until the gateway closes the connection behind it.
-    fn take(&mut self) -> Result<Vec<u8>, NoAnswer> {
+    fn take(&mut self) -> Result<Vec<u8>, NoAnswer>
+        ensures { IfOk result (λ answer. length answer.items ≤ MAX_ANSWER) }
+    {
         let mut answer = Vec::new(self.rt.alloc());
         let mut buffer = vec![in self.rt.alloc(); 0; READ_BYTES]?;
         for _ in 0..u64::MAX {

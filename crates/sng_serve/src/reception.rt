@@ -1,6 +1,11 @@
 //! Who asks for figures over HTTP is taken here, by one thread: so many visitors at a time, each for some
 //! seconds at most. Others wait unaccepted. Nobody at work for devices waits for this thread but for the
 //! instant in which it copies the counts of the desk (`figures.rt`), and what fails here ends nothing.
+ghost use Rattle.std.specs.Prelude.{◌≡◌, ◌≤◌, ◌<◌, length, not, vec_len, OnOk, OnErr};
+ghost use Rattle.std.specs.List.{AllZip, filter};
+ghost use Rattle.std.specs.Duration.{as_nanos};
+ghost use Rattle.sng_serve.specs.Visits.{HadTurns, HasComeTo, HaveCome, IsRound, IsTurn, IsWithin, is_over};
+ghost use Rattle.sng_serve.specs.declared.limits.TheConstants.{MAX_VISITORS};
 
 use crate::bell::{Bell, Ear};
 use crate::figures::Front;
@@ -19,7 +24,7 @@ use std::rt::Clock;
 use std::sync::{Mutex, Wait};
 use std::thread::{JoinHandle, Scope, Threads};
 use std::time::Duration;
-use std::{cmp, io, thread};
+use std::{io, thread};
 
 /// How many octets one read takes at most.
 const READ_BYTES: usize = 4096;
@@ -49,6 +54,7 @@ pub struct Reception {
     begun: Duration,
     /// The last visitor could not be taken.
     is_short: bool,
+    ghost few: { length visits.items ≤ MAX_VISITORS },
 }
 
 impl Reception {
@@ -90,46 +96,35 @@ impl Reception {
     }
 
     /// Takes new visitors, and lets each of them have his turn. Whether more may be there.
-    fn turn<R: Clock + Wait + AllocGlobal>(&mut self, front: &Front<'_, R>, now: Duration) -> bool {
+    fn turn<R: Clock + Wait + AllocGlobal>(&mut self, front: &Front<'_, R>, now: Duration) -> bool
+        ensures { IsRound now self.old.visits.items self.new.visits.items }
+    {
         self.accept_all(now);
-        let mut is_busy = false;
-        for place in 0..self.visits.len() {
-            is_busy = self.attend(front, now, place) || is_busy;
-        }
-        let before = self.visits.len();
-        self.visits.retain(|visit| !visit.is_over());
-        is_busy || self.visits.len() < before
-    }
-
-    /// The turn of the visitor at this place.
-    fn attend<R: Clock + Wait + AllocGlobal>(
-        &mut self,
-        front: &Front<'_, R>,
-        now: Duration,
-        place: usize,
-    ) -> bool {
-        match self.visits.get_mut(place) {
-            Some(visit) => visit.turn(front, now, self.buffer.as_mut_slice()),
-            None => false,
-        }
+        attend(&mut self.visits, front, now, self.buffer.as_mut_slice())
     }
 
     /// Takes visitors who wait, while there is a place.
-    fn accept_all(&mut self, now: Duration) {
+    fn accept_all(&mut self, now: Duration)
+        ensures { HaveCome now self.old.visits.items self.new.visits.items }
+    {
         self.is_short = false;
-        for _ in self.visits.len()..MAX_VISITORS {
-            match self.accept(now) {
-                Ok(()) => {}
-                Err(error) => {
-                    self.is_short = error.kind() != ErrorKind::WouldBlock;
-                    return;
-                }
+        for _ in 0..MAX_VISITORS {
+            if MAX_VISITORS <= self.visits.len() {
+                return;
+            }
+            if let Err(error) = self.accept(now) {
+                self.is_short = error.kind() != ErrorKind::WouldBlock;
+                return;
             }
         }
     }
 
-    /// Takes one visitor.
-    fn accept(&mut self, now: Duration) -> io::Result<()> {
+    /// Takes one visitor, for whom there is a place.
+    fn accept(&mut self, now: Duration) -> io::Result<()>
+        requires { length self.old.visits.items < MAX_VISITORS }
+        ensures come { OnOk result (HasComeTo now self.old.visits.items self.new.visits.items) }
+        ensures err { OnErr result (self.new.visits.items ≡ self.old.visits.items) }
+    {
         let (stream, _) = self.listener.accept()?;
         let end = now.saturating_add(Duration::from_millis(VISIT_MS));
         let visit = Visit::begin(self.alloc, self.ear.registry(), ANY, stream, end)?;
@@ -143,12 +138,66 @@ impl Reception {
         } else {
             LONGEST_WAIT_MS
         };
-        let mut end = now.saturating_add(Duration::from_millis(longest));
-        for visit in self.visits.iter() {
-            end = cmp::min(end, visit.end());
-        }
+        let latest = now.saturating_add(Duration::from_millis(longest));
+        let end = first_end(self.visits.as_slice(), latest);
         self.ear.wait(end.saturating_sub(now))
     }
+}
+
+/// Lets each visitor have his turn, and forgets who is gone. Whether more may be there.
+fn attend<R: Clock + Wait + AllocGlobal>(
+    visits: &mut Vec<Visit>,
+    front: &Front<'_, R>,
+    now: Duration,
+    buffer: &mut [u8],
+) -> bool
+    ensures turns { HadTurns now visits.old.items visits.new.items }
+    ensures few { vec_len visits.new ≤ vec_len visits.old }
+{
+    let is_busy = attend_all(visits, front, now, buffer);
+    forget_all(visits) || is_busy
+}
+
+/// Lets each visitor have his turn. Whether more may be there.
+fn attend_all<R: Clock + Wait + AllocGlobal>(
+    visits: &mut Vec<Visit>,
+    front: &Front<'_, R>,
+    now: Duration,
+    buffer: &mut [u8],
+) -> bool
+    ensures turns { AllZip (IsTurn now) visits.old.items visits.new.items }
+    ensures as_many { vec_len visits.new ≡ vec_len visits.old }
+{
+    let mut is_busy = false;
+    for visit in visits.iter_mut() {
+        is_busy = visit.turn(front, now, buffer) || is_busy;
+    }
+    is_busy
+}
+
+/// Forgets those that are over. Whether there were any.
+fn forget_all(visits: &mut Vec<Visit>) -> bool
+    ensures left { visits.new.items ≡ filter (λ visit. not (is_over visit)) visits.old.items }
+    ensures few { vec_len visits.new ≤ vec_len visits.old }
+{
+    let before = visits.len();
+    visits.retain(|visit| !visit.is_over());
+    visits.len() < before
+}
+
+/// When the first of these visits has taken too long, or the latest time where that is before it.
+fn first_end(visits: &[Visit], latest: Duration) -> Duration
+    ensures latest { as_nanos result ≤ as_nanos latest }
+    ensures each { IsWithin result visits.now }
+{
+    let mut end = latest;
+    for visit in visits {
+        let other = visit.end();
+        if other.as_nanos() < end.as_nanos() {
+            end = other;
+        }
+    }
+    end
 }
 
 /// Starts the thread that takes visitors, where there are to be any. Where none can be had, that is told, and

@@ -313,27 +313,54 @@ where
     R::Listener: Send,
     R::Stream: Send,
 {
-    let roles = Roles::new(ask.workers);
+    let (roles, prints_rows) = (Roles::new(ask.workers), ask.prints_rows);
+    let Prepared {
+        desk,
+        shares,
+        clock,
+        first,
+    } = prepare(rt, hub, &ask)?;
+    tell_open(hub, socket);
+    if let Some(reception) = &followers.reception {
+        reception.tell_open(hub);
+    }
+    let crew = crew_of(rt, hub, ask, shares, socket, ears, clock)?;
+    let desk = Mutex::new(desk);
+    let gate = Switch::new(rt, hub, roles);
+    let ran = run_settled(rt, hub, &desk, crew, &gate, followers, first);
+    Ok(finish(rt, hub, roles, desk.into_inner(), ran, prints_rows))
+}
+
+/// What stands before a worker begins: the desk behind its first acts, and the shares of the workers.
+#[derive(Drop)]
+struct Prepared<'a, R: Wait> {
+    desk: Desk,
+    shares: Vec<Share>,
+    clock: UnixClock,
+    first: FirstEnd<Tray<'a, R>>,
+}
+
+/// Makes the desk, sets its clock, brings the policy of the start into force, and hands off what came of it.
+fn prepare<'a, R: Wait + Clock + AllocGlobal>(
+    rt: &'a R,
+    hub: &'a Hub,
+    ask: &Ask,
+) -> Result<Prepared<'a, R>, NotBegun> {
+    let clock = unix_clock(rt)?;
     let shares = ask.workers.saturating_add(OTHERS + 1);
     let (mut desk, mut shares) = Desk::new(rt.alloc(), FULL_ROWS, shares)?;
     if hub.handover.is_kept {
         desk.set_room(KEPT_VOLUME_ROOM);
     }
-    let clock = unix_clock(rt)?;
-    let beginning = begin_first(rt, hub, &mut desk, &mut shares, &ask, &clock)?;
+    let beginning = begin_first(rt, hub, &mut desk, &mut shares, ask, &clock)?;
     hub.handover.room.note_made(desk.rows_made());
     let first = hand_off_first(rt, hub, beginning)?;
-    tell_open(hub, socket);
-    if let Some(reception) = &followers.reception {
-        reception.tell_open(hub);
-    }
-    let gate = Switch::new(rt, hub, roles);
-    let prints_rows = ask.prints_rows;
-    let crew = crew_of(rt, hub, ask, shares, socket, ears, clock)?;
-    let desk = Mutex::new(desk);
-    let ran = run_crew(rt, hub, &desk, crew, &gate, followers);
-    let desk = desk.into_inner();
-    Ok(finish(rt, hub, roles, desk, first, ran, prints_rows))
+    Ok(Prepared {
+        desk,
+        shares,
+        clock,
+        first,
+    })
 }
 
 /// Hands off what the first acts made, where the book goes to disk: no row behind it could go there before.
@@ -371,6 +398,42 @@ where
     R::Stream: Send,
 {
     run(rt, hub, desk, crew, gate, followers)
+}
+
+/// Runs the workers, and puts together what they left.
+fn run_settled<
+    'a,
+    R: Threads + Wait + Sync + Net + Clock + Files + Input + Print + Eprint + AllocGlobal,
+    K: Device + Drop,
+>(
+    rt: &'a R,
+    hub: &'a Hub,
+    desk: &Mutex<Desk>,
+    crew: ServingCrew<'a, R>,
+    gate: &Switch<'a, R>,
+    followers: Followers<K>,
+    first: FirstEnd<Tray<'a, R>>,
+) -> Ran<Settled, K>
+where
+    R::Reader: Send,
+    R::File: Send,
+    R::Dir: Send,
+    R::Listener: Send,
+    R::Stream: Send,
+{
+    let Ran {
+        left,
+        printed,
+        keeper,
+    } = run_crew(rt, hub, desk, crew, gate, followers);
+    Ran {
+        left: match left {
+            Ok(left) => Ok(settle(rt, left, first)),
+            Err(NotStarted) => Err(NotStarted),
+        },
+        printed,
+        keeper,
+    }
 }
 
 /// Sets the clock, brings the policy of the start into force, and tells both.
@@ -526,15 +589,36 @@ fn start_workers<
         .ok()
 }
 
+/// What all workers left, put together.
+#[derive(Drop)]
+struct Settled {
+    /// None where an allocation failed.
+    accounts: Option<Accounts>,
+    /// Standard input could not be read.
+    lost_input: bool,
+}
+
+/// Puts together what all workers left.
+fn settle<R: Clock + Net + Wait + Files + Input + Print + Eprint + AllocGlobal>(
+    rt: &R,
+    left: Left<'_, R>,
+    first: FirstEnd<Tray<'_, R>>,
+) -> Settled {
+    let lost_input = left.policies.source.has_lost_input();
+    Settled {
+        accounts: accounts_of(rt, left, first).ok(),
+        lost_input,
+    }
+}
+
 /// Holds what the workers left against the book, and prints what comes of it. Where standard input could not
 /// be read, nothing is printed.
-fn finish<R: Clock + Net + Wait + Files + Input + Print + Eprint + AllocGlobal, K: Device + Drop>(
+fn finish<R: Clock + Wait + Print + Eprint + AllocGlobal, K: Device + Drop>(
     rt: &R,
     hub: &Hub,
     roles: Roles,
     desk: Desk,
-    first: FirstEnd<Tray<'_, R>>,
-    ran: Ran<Left<'_, R>, K>,
+    ran: Ran<Settled, K>,
     prints_rows: bool,
 ) -> End {
     let Ran {
@@ -542,15 +626,15 @@ fn finish<R: Clock + Net + Wait + Files + Input + Print + Eprint + AllocGlobal, 
         printed,
         keeper,
     } = ran;
-    let Ok(ended) = left else {
+    let Ok(settled) = left else {
         hub.tell(
             Level::Error,
             "a thread was refused: a limit of processes, or memory",
         );
         return End::from(tell_closed(rt, hub, None, printed));
     };
-    let lost_input = ended.policies.source.has_lost_input();
-    let Ok(accounts) = accounts_of(rt, ended, first) else {
+    let lost_input = settled.lost_input;
+    let Some(accounts) = settled.accounts else {
         return End::from(report(rt, &Fault::Memory));
     };
     let end = match keeper {

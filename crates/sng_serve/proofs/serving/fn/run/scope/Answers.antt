@@ -6,8 +6,8 @@ use Rattle.sng_serve.proofs.serving.fn.run.scope.Goals as goal
 pub start_printer-requires-sync-M : goal.start_printer-requires-sync-M
 start_printer-requires-sync-M g c κs within = search (desk_send, crosses, sendable) depth 20
 
-pub start_reception-requires-sync-M : goal.start_reception-requires-sync-M
-start_reception-requires-sync-M g c κs within = search (desk_send, crosses, sendable) depth 20
+pub start_reception-reception-requires-sync-M : goal.start_reception-reception-requires-sync-M
+start_reception-reception-requires-sync-M g c κs within = search (desk_send, crosses, sendable) depth 20
 
 pub start_workers-requires-sync-M : goal.start_workers-requires-sync-M
 start_workers-requires-sync-M g c κs within = search (desk_send, crosses, sendable) depth 20
