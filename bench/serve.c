@@ -1,11 +1,13 @@
-/* What bench/serve.py measures with: a broker that counts, devices that send, and a plain relay for scale.
+/* What bench/serve.py measures with: a broker that counts, devices that send, and plain programs for scale.
  *
  *   serve relay LISTEN_PORT BROKER_PORT               the relay: each datagram is a PUBLISH, written at once
+ *   serve cast LISTEN_PORT BROKER_PORT                messages alone: each is sent to all who subscribed
  *   serve minus BROKER_PORT COUNT                     PUBLISHes at QoS -1, 100 on the way at most: a second
+ *   serve burst BROKER_PORT COUNT                     PUBLISHes at QoS -1 without a pause: how many arrive
  *   serve one BROKER_PORT COUNT WINDOW                PUBLISHes at QoS 1 of one session: a second, p50, p99
  *   serve fan BROKER_PORT COUNT DEVICES               messages to so many devices: a second, p50, p99
  *
- * The last three listen as a broker on BROKER_PORT and wait for the gateway, whose UDP port is a line of
+ * The last four listen as a broker on BROKER_PORT and wait for the gateway, whose UDP port is a line of
  * standard input. One connection, loopback alone, every wait bounded by 20 s. */
 #define _GNU_SOURCE
 #include <arpa/inet.h>
@@ -24,6 +26,9 @@
 
 /* More on the way than WINDOW would not fit into the usual buffer of a socket, and be lost. */
 enum { SECONDS = 20, WINDOW = 100, DEVICES = 128 };
+
+/* A burst is over when so many ms nothing more arrives. */
+enum { QUIET_MS = 1000 };
 
 static atomic_long arrived;
 static int broker_side = -1;
@@ -85,15 +90,28 @@ static size_t publish(unsigned char *to, const unsigned char *from, size_t n, un
     return at + data;
 }
 
-static void relay(int listen_port, int broker_port) {
-    int udp = datagrams(listen_port, 0), tcp = socket(AF_INET, SOCK_STREAM, 0), on = 1;
-    struct sockaddr_in a = local(broker_port), from;
-    struct timeval none = {0, 0};
-    setsockopt(udp, SOL_SOCKET, SO_RCVTIMEO, &none, sizeof none);
+/* A connection to the broker, begun as a gateway does. */
+static int upstream(int broker_port) {
+    int tcp = socket(AF_INET, SOCK_STREAM, 0), on = 1;
+    struct sockaddr_in a = local(broker_port);
     if (connect(tcp, (void *)&a, sizeof a) < 0) stop("broker");
     setsockopt(tcp, IPPROTO_TCP, TCP_NODELAY, &on, sizeof on);
-    unsigned char in[2048], out[2100], rest[4096];
     write_all(tcp, (const unsigned char *)"\x10\x0f\0\4MQTT\4\2\0\x3c\0\3gw1", 17);
+    return tcp;
+}
+
+/* A socket that waits for datagrams without an end. */
+static int served(int listen_port) {
+    int udp = datagrams(listen_port, 0);
+    struct timeval none = {0, 0};
+    setsockopt(udp, SOL_SOCKET, SO_RCVTIMEO, &none, sizeof none);
+    return udp;
+}
+
+static void relay(int listen_port, int broker_port) {
+    int tcp = upstream(broker_port), udp = served(listen_port);
+    struct sockaddr_in from;
+    unsigned char in[2048], out[2100], rest[4096];
     for (unsigned id = 1;; id = id % 65535 + 1) {
         socklen_t size = sizeof from;
         ssize_t n = recvfrom(udp, in, sizeof in, 0, (void *)&from, &size);
@@ -104,6 +122,47 @@ static void relay(int listen_port, int broker_port) {
             sendto(udp, ack, 7, 0, (void *)&from, size);
         }
         while (recv(tcp, rest, sizeof rest, MSG_DONTWAIT) > 0) {}
+    }
+}
+
+/* Lets in who connects and subscribes, and sends each message of the broker, of 127 bytes at most behind its
+ * length, to each of them: the same calls as those of a gateway, and no decision. */
+static void cast(int listen_port, int broker_port) {
+    int tcp = upstream(broker_port), udp = served(listen_port);
+    struct sockaddr_in all[DEVICES];
+    struct pollfd both[2] = {{udp, POLLIN, 0}, {tcp, POLLIN, 0}};
+    unsigned char in[4096], out[2048] = {0, 0x0c, 0x02};
+    size_t held = 0;
+    int count = 0;
+    for (;;) {
+        if (poll(both, 2, -1) < 0) stop("poll");
+        if (both[0].revents) {
+            struct sockaddr_in from;
+            socklen_t size = sizeof from;
+            ssize_t n = recvfrom(udp, out + 8, sizeof out - 8, 0, (void *)&from, &size);
+            if (n > 6 && out[9] == 0x04) sendto(udp, "\3\5\0", 3, 0, (void *)&from, size);
+            if (n > 6 && out[9] == 0x12 && count < DEVICES) {
+                all[count++] = from;
+                sendto(udp, "\x08\x13\0\0\0\0\1\0", 8, 0, (void *)&from, size);
+            }
+        }
+        if (!both[1].revents) continue;
+        ssize_t n = read(tcp, in + held, sizeof in - held);
+        if (n <= 0) return;
+        held += n;
+        size_t at = 0;
+        while (held - at >= 2 && held - at >= 2u + in[at + 1]) {
+            size_t name = in[at] >> 4 == 3 ? 2 + in[at + 3] : 0, data = in[at + 1] - name;
+            if (name) {
+                out[0] = 7 + data;
+                memcpy(out + 3, in + at + 4, 2);
+                out[5] = out[6] = 0;
+                memcpy(out + 7, in + at + 2 + name, data);
+                for (int i = 0; i < count; i++) sendto(udp, out, 7 + data, 0, (void *)&all[i], sizeof all[i]);
+            }
+            at += 2 + in[at + 1];
+        }
+        memmove(in, in + at, held -= at);
     }
 }
 
@@ -194,6 +253,23 @@ static void minus(long count) {
     told(count, now() - begun, NULL, 0);
 }
 
+/* Sends so many without a pause, and waits until nothing more arrives. */
+static void burst(long count) {
+    int s = datagrams(0, udp_port());
+    unsigned char frame[39] = {39, 0x0c, 0x62, 'a', 'b', 0, 0};
+    double begun = now(), last = begun;
+    for (long sent = 0; sent < count; sent++)
+        if (send(s, frame, sizeof frame, 0) < 0) stop("send");
+    double sending = now() - begun;
+    for (long seen = 0; now() - last < QUIET_MS / 1e3; usleep(1000)) {
+        long come = atomic_load(&arrived);
+        if (come != seen) last = now();
+        seen = come;
+    }
+    printf("rate %.0f arrived %ld\n", count / sending, atomic_load(&arrived));
+    fflush(stdout);
+}
+
 static void one(long count, long window) {
     int s = datagrams(0, udp_port());
     unsigned char got[2048], frame[39] = {39, 0x0c, 0x20, 0, 1};
@@ -256,11 +332,13 @@ static void fan(long count, int devices) {
 int main(int n, char **words) {
     signal(SIGPIPE, SIG_IGN);
     if (n >= 4 && !strcmp(words[1], "relay")) relay(atoi(words[2]), atoi(words[3]));
+    if (n >= 4 && !strcmp(words[1], "cast")) cast(atoi(words[2]), atoi(words[3]));
     if (n < 4) return 2;
     pthread_t broker;
     pthread_create(&broker, NULL, answer, (void *)(long)atoi(words[2]));
     long count = atol(words[3]);
     if (!strcmp(words[1], "minus")) minus(count);
+    if (!strcmp(words[1], "burst")) burst(count);
     if (!strcmp(words[1], "one")) one(count, atol(words[4]));
     if (!strcmp(words[1], "fan")) fan(count, atoi(words[4]));
     return 0;

@@ -2,11 +2,12 @@
 """serve.py [SNG]
 
 Measures `sng serve` on loopback (SNG is the build that `rt run` leaves in crates/sng/out/sng, where none is
-given), beside a plain relay of UDP to TCP that decides and keeps nothing (serve.c, built on the spot by
-`cc -O2`). Prints how many PUBLISHes a second reach the broker at QoS -1 and at QoS 1, with 1, 2 and 4
-workers; how many messages of the broker a second reach 1, 10 and 100 devices; the median and the 99th percentile of a
-round trip in microseconds; the memory of a row; and what an idle gateway uses of a processor. Each figure is
-of payloads of 32 bytes, that of the run in the middle of several; relay and gateway take turns."""
+given), beside plain programs that decide and keep nothing (serve.c, built on the spot by `cc -O2`): a relay of
+UDP to TCP, and one that sends each message of the broker to each device. Prints how many PUBLISHes a second
+reach the broker at QoS -1 and at QoS 1, with 1, 2 and 4 workers; how many of a burst of 10,000 reach it; how
+many messages of the broker a second reach 1, 10 and 100 devices; the median and the 99th percentile of a round
+trip in microseconds; the memory of a row; and what an idle gateway uses of a processor. Each figure is of
+payloads of 32 bytes, that of the run in the middle of several; plain program and gateway take turns."""
 import json
 import os
 import re
@@ -23,7 +24,7 @@ HOST = '127.0.0.1'
 ROUNDS = 5
 SECONDS = 60
 IDLE_SECONDS = 20
-MINUS, ONE, TRIPS = '100000', '30000', '10000'
+MINUS, ONE, TRIPS, BURST = '100000', '30000', '10000', '10000'
 POLICY = {'version': 1, 'sources': {HOST: [['ab', ['pub']]]},
           'clients': dict({'s1': [['t/1', ['pub']]]}, **{'d%03d' % k: [['ab', ['sub']]] for k in range(100)})}
 
@@ -48,14 +49,14 @@ def processor_seconds(pid):
         return sum(map(int, stat.read().rsplit(')', 1)[1].split()[11:13])) / os.sysconf('SC_CLK_TCK')
 
 
-def by_relay(tool, words):
+def by_plain(tool, program, words):
     port, udp = free_port(socket.SOCK_STREAM), free_port(socket.SOCK_DGRAM)
     driver = subprocess.Popen([tool, words[0], str(port), *words[1:]], stdin=subprocess.PIPE,
                               stdout=subprocess.PIPE, text=True)
     relay = None
     try:
         for _ in range(100):
-            relay = subprocess.Popen([tool, 'relay', str(udp), str(port)], stderr=subprocess.DEVNULL)
+            relay = subprocess.Popen([tool, program, str(udp), str(port)], stderr=subprocess.DEVNULL)
             try:
                 relay.wait(0.1)
             except subprocess.TimeoutExpired:
@@ -124,10 +125,10 @@ def idle(tool, sng, policy, workers):
             process.wait()
 
 
-def middles(runs):
+def middles(runs, by='rate'):
     """Of several rounds, in each of which the runs take turns, the run in the middle by its rate, of each."""
     rounds = [[run() for run in runs] for _ in range(ROUNDS)]
-    return [sorted(came, key=lambda one: one['rate'])[ROUNDS // 2] for came in zip(*rounds)]
+    return [sorted(came, key=lambda one: one[by])[ROUNDS // 2] for came in zip(*rounds)]
 
 
 def show(name, came, scale=None):
@@ -139,8 +140,14 @@ def show(name, came, scale=None):
     if scale:
         line += '   rate x %.2f' % (came['rate'] / scale['rate'])
         if 'p50' in came:
-            line += ', p50 x %.2f' % (came['p50'] / scale['p50'])
+            line += ', p50 x %.2f, p99 x %.2f' % (came['p50'] / scale['p50'], came['p99'] / scale['p99'])
     print(line, flush=True)
+
+
+def show_burst(relay, *others):
+    for name, came in zip(('relay', 'sng, workers 1', 'sng, workers 2', 'sng, workers 4'), (relay, *others)):
+        print('of a burst of %s at QoS -1: %s %6.0f, of %.0f sent a second' % (BURST, name, came['arrived'],
+                                                                              came['rate']), flush=True)
 
 
 def main():
@@ -152,15 +159,20 @@ def main():
             json.dump(POLICY, file)
         for title, words in (('QoS -1', ['minus', MINUS]), ('QoS 1, 32 on the way', ['one', ONE, '32']),
                              ('QoS 1, one at a time', ['one', TRIPS, '1'])):
-            scale, *others = middles([partial(by_relay, tool, words)] + [
+            scale, *others = middles([partial(by_plain, tool, 'relay', words)] + [
                 partial(by_gateway, tool, sng, policy, workers, words) for workers in (1, 2, 4)])
             show(title + ': relay', scale)
             for workers, came in zip((1, 2, 4), others):
                 show('%s: sng, workers %d' % (title, workers), came, scale)
+        show_burst(*middles([partial(by_plain, tool, 'relay', ['burst', BURST])] + [
+            partial(by_gateway, tool, sng, policy, workers, ['burst', BURST]) for workers in (1, 2, 4)],
+            'arrived'))
         for devices in (1, 10, 100):
             words = ['fan', str(max(200, 20000 // devices)), str(devices)]
-            came, = middles([partial(by_gateway, tool, sng, policy, 2, words)])
-            show('to %d devices: sng, workers 2' % devices, came)
+            scale, came = middles([partial(by_plain, tool, 'cast', words),
+                                   partial(by_gateway, tool, sng, policy, 2, words)])
+            show('to %d devices: plain' % devices, scale)
+            show('to %d devices: sng, workers 2' % devices, came, scale)
         for workers in (1, 8):
             print('idle, workers %d: %.4f of a processor' % (workers, idle(tool, sng, policy, workers)))
 
