@@ -1,6 +1,7 @@
 //! What all workers of a running gateway share beside the desk: whether they are to stop, and how those that
 //! wait are woken.
 
+use crate::backlog::Backlog;
 use crate::bell::Bell;
 use crate::board::Board;
 use crate::count::Count;
@@ -52,6 +53,8 @@ pub struct Hub {
     pub listening: Mutex<()>,
     /// The right to act and to send.
     pub token: Token,
+    /// For which acts of the workers at the socket the worker at the broker was not woken yet.
+    pub backlog: Backlog,
     /// Which datagrams are passed over in a flood.
     pub flood: Mutex<Flood>,
     /// How often an answer may leave for who has no session.
@@ -116,6 +119,7 @@ impl Hub {
             clock_ms: AtomicU64::new(0),
             listening: Mutex::new(()),
             token: Token::new(),
+            backlog: Backlog::new(),
             flood: Mutex::new(flood),
             answers: Mutex::new(answers),
             refusals: Count::new(),
