@@ -15,6 +15,7 @@ pub mod wills;
 
 pub use copying::{ClientCopy, SessionsCopy};
 pub use handing::{Handed, Opens, number_after};
+pub use ids::NewName;
 pub use sessions::Sessions;
 pub use sleeping::{Change, is_tried_out, is_unanswered};
 pub use wills::Stating;

@@ -22,7 +22,7 @@ ghost use Rattle.sng_sessions.specs.Willing.{stating_at};
 
 use crate::copying::SessionsCopy;
 use crate::handing::{Handed, Opens, answer_at, deliver_at, hand_at};
-use crate::ids::ClientIds;
+use crate::ids::{ClientIds, NewName};
 use crate::places::{NewTables, admit, hear_at, leave_at, lose_at, readmit, tell_at, tell_if};
 use crate::session::Session;
 use crate::sleeping::{Change, change_at};
@@ -34,7 +34,7 @@ use sng_fan::Held;
 use sng_fan::subscriptions::Subscriptions;
 use sng_frames::{Connect, Publish};
 use sng_ids::IdTable;
-use sng_queue::{Queue, Waiting};
+use sng_queue::{Parcel, Queue};
 use sng_standing::{Holder, Standing};
 use sng_states::{ClientState, OpenIds};
 use sng_text::{ClientId, Qos, TopicFilter, TopicName};
@@ -270,7 +270,7 @@ impl Sessions {
     }
 
     /// The client at this place is heard, and is told the id that the name has from now on. Takes no memory.
-    pub fn tell(&mut self, place: usize, name: TopicName, clock: u64)
+    pub fn tell(&mut self, place: usize, name: NewName, clock: u64)
         requires { is_full_for name (client_at self.old place).ids ≡ false }
         ensures { self.new ≡ moved_at place (told_at clock (Some name) Allowed) self.old }
     {
@@ -286,7 +286,7 @@ impl Sessions {
 
     /// A message comes to wait for the client at this place, where fewer wait than may, and an exchange
     /// begins. Takes no memory.
-    pub fn deliver(&mut self, place: usize, message: Waiting, opens: Opens, clock: u64)
+    pub fn deliver(&mut self, place: usize, message: Parcel, opens: Opens, clock: u64)
         ensures { self.new ≡ moved_at place (delivered clock message opens) self.old }
     {
         deliver_at(&mut self.clients, place, message, opens, clock);
@@ -344,7 +344,7 @@ impl Sessions {
         &mut self,
         alloc: Global,
         place: usize,
-        name: Option<TopicName>,
+        name: Option<NewName>,
         filter: TopicFilter,
         qos: Qos,
         clock: u64,
@@ -405,8 +405,8 @@ impl Sessions {
             }
             None => {
                 let tables = NewTables {
-                    ids: ClientIds::new(alloc)?,
-                    queue: Queue::new(alloc)?,
+                    ids: ClientIds::new(alloc),
+                    queue: Queue::new(alloc),
                     filters: Subscriptions::new(alloc)?,
                     wills: WillDialogue::new(alloc),
                 };
