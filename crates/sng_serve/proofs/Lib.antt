@@ -1,2 +1,3 @@
 pub mod VisitLemmas
 pub mod AskingLemmas
+pub mod Reaches

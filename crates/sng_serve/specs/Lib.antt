@@ -5,3 +5,4 @@ pub mod Closings
 pub mod Answers
 pub mod Visits
 pub mod Askings
+pub mod Reaches

@@ -21,8 +21,10 @@ pub struct Bell {
 }
 
 impl Bell {
+    /// Where it rang and was not heard yet, this reads alone: rings of many workers do not get in each
+    /// other's way.
     pub fn ring(&self) {
-        if !self.rung.swap(true, Ordering::SeqCst) {
+        if !self.rung.load(Ordering::SeqCst) && !self.rung.swap(true, Ordering::SeqCst) {
             let _ = self.waker.wake();
         }
     }

@@ -1,6 +1,7 @@
 //! What all workers of a running gateway share beside the desk: whether they are to stop, and how those that
 //! wait are woken.
 
+use crate::backlog::Backlog;
 use crate::bell::Bell;
 use crate::board::Board;
 use crate::count::Count;
@@ -52,6 +53,8 @@ pub struct Hub {
     pub listening: Mutex<()>,
     /// The right to act and to send.
     pub token: Token,
+    /// For which acts of the workers at the socket the worker at the broker was not woken yet.
+    pub backlog: Backlog,
     /// Which datagrams are passed over in a flood.
     pub flood: Mutex<Flood>,
     /// How often an answer may leave for who has no session.
@@ -116,6 +119,7 @@ impl Hub {
             clock_ms: AtomicU64::new(0),
             listening: Mutex::new(()),
             token: Token::new(),
+            backlog: Backlog::new(),
             flood: Mutex::new(flood),
             answers: Mutex::new(answers),
             refusals: Count::new(),
@@ -143,6 +147,14 @@ impl Hub {
     /// Prints a text of whole lines on standard output, for which nobody waits.
     pub fn print(&self, text: Vec<u8>) {
         (*self.output).post(text);
+    }
+
+    /// Counts a datagram that is passed over.
+    pub fn pass_over(&self, count: &Count) {
+        count.add(1);
+        if self.backlog.pass_over() {
+            self.upstream.ring();
+        }
     }
 
     /// Stops all workers, each once it has finished its turn.

@@ -2,6 +2,7 @@
 #![tactic(auto)]
 
 pub mod asking;
+pub mod backlog;
 pub mod beats;
 pub mod beginning;
 pub mod bell;
@@ -23,6 +24,7 @@ mod policies;
 mod policy_source;
 mod printing;
 pub mod question;
+pub mod reach;
 pub mod reception;
 mod reports;
 pub mod room;
@@ -39,6 +41,7 @@ mod test_client;
 pub mod testing;
 pub mod token;
 pub mod tray;
+mod udp_calls;
 pub mod visit;
 mod watch;
 mod wire;

@@ -7,6 +7,7 @@ ghost use Rattle.sng_crew.specs.declared.connection.ReadAnswer.TheVariants.{Gone
 use crate::bell::Ear;
 use crate::hub::Hub;
 use crate::level::Level;
+use crate::reach::Reach;
 use crate::watch::Watch;
 use crate::wire::{Came, Sent, Wire};
 use mqtt_frames::encode_disconnect;
@@ -39,6 +40,8 @@ pub struct BrokerLink<'a, R: Clock + Net + Wait + AllocGlobal> {
     most: u32,
     tries: Tries,
     wire: Wire,
+    /// How far the worker was given what came.
+    reach: Reach,
     patience: Patience,
     /// When the broker accepted the connection.
     accepted: Duration,
@@ -71,6 +74,7 @@ impl<'a, R: Clock + Net + Wait + AllocGlobal> BrokerLink<'a, R> {
             most: tries,
             tries: Tries::new(),
             wire: Wire::new(alloc)?,
+            reach: Reach::new(),
             patience: Patience::new(Duration::ZERO),
             accepted: Duration::ZERO,
             first: Vec::with_capacity(alloc, CONNACK_BYTES)?,
@@ -320,6 +324,7 @@ impl<'a, R: Clock + Net + Wait + AllocGlobal> Upstream for BrokerLink<'a, R> {
         match self.watch.dial(self.address) {
             Ok(stream) => {
                 self.wire.open(stream);
+                self.reach = Reach::new();
                 self.patience = Patience::new(self.watch.now());
                 Opening::Made
             }
@@ -331,11 +336,13 @@ impl<'a, R: Clock + Net + Wait + AllocGlobal> Upstream for BrokerLink<'a, R> {
         }
     }
 
-    /// The worker has the token with what the broker sent. A connection that is over, and a look at what
-    /// waits for the broker, send nothing to devices.
+    /// The worker has the token with what the broker sent to devices. Acknowledgements, a connection that is
+    /// over, and a look at what waits for the broker send nothing to devices.
     fn read(&mut self) -> ReadAnswer {
         let answer = self.listen();
-        if let ReadAnswer::Piece(_) = &answer {
+        if let ReadAnswer::Piece(piece) = &answer
+            && self.reach.takes(piece.as_slice())
+        {
             self.hub.token.take(self.rt, self.by);
         }
         answer

@@ -3,7 +3,7 @@
 use crate::beats::{SystemBeats, unix_clock};
 use crate::beginning::{Beginning, FirstEnd, begin};
 use crate::book_end::{BookEnd, end_book};
-use crate::closing::Accounts;
+use crate::closing::{Accounts, accounts_of};
 use crate::descriptors::{EMPTY, hold};
 use crate::hub::Hub;
 use crate::keeping::{Keeper, keep};
@@ -598,15 +598,16 @@ struct Settled {
     lost_input: bool,
 }
 
-/// Puts together what all workers left.
+/// Puts together what all workers left. The worker at the broker takes leave of it.
 fn settle<R: Clock + Net + Wait + Files + Input + Print + Eprint + AllocGlobal>(
     rt: &R,
-    left: Left<'_, R>,
+    mut left: Left<'_, R>,
     first: FirstEnd<Tray<'_, R>>,
 ) -> Settled {
     let lost_input = left.policies.source.has_lost_input();
+    left.upstream.source.finish();
     Settled {
-        accounts: accounts_of(rt, left, first).ok(),
+        accounts: accounts_of(rt.alloc(), left, first).ok(),
         lost_input,
     }
 }
@@ -671,7 +672,10 @@ fn finish_rows<R: Clock + Wait + Print + Eprint + AllocGlobal>(
         Some(closed) if prints_rows => printed.and_left(print_all(rt, hub, closed)),
         _ => printed,
     };
-    let rows = closed.map(|closed| closed.desk.rows_made());
+    let rows = match &closed {
+        Some(closed) => Some(closed.desk.rows_made()),
+        None => None,
+    };
     End::from(tell_closed(rt, hub, rows, printed))
 }
 
@@ -693,25 +697,6 @@ fn finish_book<R: Clock + AllocGlobal>(rt: &R, hub: &Hub, end: BookEnd, printed:
     } else {
         End::from(status)
     }
-}
-
-/// What all workers left. The worker at the broker takes leave of it.
-fn accounts_of<R: Clock + Net + Wait + Files + Input + Print + Eprint + AllocGlobal>(
-    rt: &R,
-    ended: Left<'_, R>,
-    first: FirstEnd<Tray<'_, R>>,
-) -> Result<Accounts, AllocError> {
-    let mut accounts = Accounts::new(rt.alloc());
-    accounts.take_first(first)?;
-    for end in ended.udp {
-        accounts.take(end)?;
-    }
-    let mut upstream = ended.upstream;
-    upstream.source.finish();
-    accounts.take(upstream)?;
-    accounts.take_ticker(ended.ticker)?;
-    accounts.take(ended.policies)?;
-    Ok(accounts)
 }
 
 /// Prints how many rows were closed, or that they were not, and waits until all is printed, as far as that

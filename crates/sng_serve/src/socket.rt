@@ -5,6 +5,7 @@ ghost use Rattle.sng_desk.specs.declared.source.Got.TheVariants.{Ended as ended_
 ghost use Rattle.sng_desk.specs.declared.source.Got.TheVariants.{Failed as failed_answer};
 
 use crate::hub::Hub;
+use crate::udp_calls::receive_now;
 use sng_book::Address;
 use sng_bounds::paths::Paths;
 use sng_desk::{Datagrams, Got};
@@ -83,7 +84,7 @@ impl<'a, R: Net + Clock + Wait> Socket<'a, R> {
     {
         self.errors = 0;
         if self.is_own(from) {
-            self.hub.passed_over.add(1);
+            self.hub.pass_over(&self.hub.passed_over);
             return Got::Nothing;
         }
         let Some(bytes) = self.buffer.as_slice().get(..count) else {
@@ -110,13 +111,30 @@ impl<'a, R: Net + Clock + Wait> Socket<'a, R> {
         from.port() == self.port && is_of_this_machine(self.rt, *from.ip())
     }
 
-    /// Waits for a datagram.
+    /// The datagram that lies in the socket, or else one for which it waits.
     fn listen(&mut self) -> Got<(Address, Octets)>
         ensures failures { self.old.failures ≤ self.new.failures }
         ensures failed { (result ≡ failed_answer) ↔ (self.old.failures < self.new.failures) }
         ensures goes_on { result ≢ ended_answer }
     {
-        match self.socket.recv_from(self.buffer.as_mut_slice()) {
+        match receive_now(&self.socket, self.buffer.as_mut_slice()) {
+            Some((count, from)) => self.take(from, count),
+            None => self.wait(),
+        }
+    }
+
+    /// Waits for a datagram. The worker at the broker is woken before, where something may wait for it.
+    fn wait(&mut self) -> Got<(Address, Octets)>
+        ensures failures { self.old.failures ≤ self.new.failures }
+        ensures failed { (result ≡ failed_answer) ↔ (self.old.failures < self.new.failures) }
+        ensures goes_on { result ≢ ended_answer }
+    {
+        if self.hub.backlog.begin_wait() {
+            self.hub.upstream.ring();
+        }
+        let received = self.socket.recv_from(self.buffer.as_mut_slice());
+        self.hub.backlog.end_wait(received.is_ok());
+        match received {
             Ok((count, SocketAddr::V4(from))) => self.take(from, count),
             Ok((_, SocketAddr::V6(_))) => Got::Nothing,
             Err(error) => self.missed(&error),
@@ -219,7 +237,7 @@ impl<'a, R: Net + Clock + Wait> Datagrams for Socket<'a, R> {
         };
         hub.token.take(self.rt, self.by);
         if self.is_flooded(*from) {
-            hub.flooded.add(1);
+            hub.pass_over(&hub.flooded);
             return Got::Nothing;
         }
         got

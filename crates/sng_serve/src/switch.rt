@@ -49,12 +49,13 @@ impl<'a, R: Clock + Wait> Switch<'a, R> {
         }
     }
 
-    /// Whether something may wait for the broker after an act of such a worker.
-    fn may_fill(&self, role: Role) -> bool {
+    /// Whether the worker at the broker is to look what waits for it, after an act of such a worker.
+    fn is_to_look(&self, role: Role) -> bool {
         match role {
             Role::Broker => false,
             Role::Clock => { self.beats.fetch_add(1, Ordering::SeqCst) % BEATS_BETWEEN_LOOKS == 0 }
-            Role::Devices | Role::Policies => true,
+            Role::Devices => self.hub.backlog.add(),
+            Role::Policies => true,
         }
     }
 
@@ -296,7 +297,7 @@ impl<'a, R: Clock + Wait> Gate for Switch<'a, R> {
         if let Event::Tick(ms) = receipt.event() {
             self.hub.note_clock(*ms);
         }
-        if self.may_fill(role) {
+        if self.is_to_look(role) {
             self.hub.upstream.ring();
         }
         self.hub.printer.ring();
