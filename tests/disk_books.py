@@ -9,7 +9,7 @@ import glob
 import os
 
 HERE = os.path.dirname(os.path.abspath(__file__))
-MAX_LINE = 64 * 1024 * 1024
+MAX_LINE = 256 * 1024 * 1024
 FORMAT = b'# sng book 1\n'
 MARK = b'# time 20261126T120000Z\n'
 

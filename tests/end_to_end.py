@@ -44,7 +44,7 @@ BOOK_SCRIPT = 'scripts/refused-policy-leaves-the-one-before.script'
 # The files that the words of a case name, for the build without proof
 DATA = [word for name in (POLICY, ENDS, 'cover.table', BOOK_SCRIPT)
         for word in ('--data', '%s=%s' % (name, os.path.join(HERE, name)))]
-MAX_LINE = 64 * 1024 * 1024
+MAX_LINE = 256 * 1024 * 1024
 MEMORY = 512 * 1024 * 1024
 SHORT = 16 * 1024 * 1024
 # The texts of the help that have a number, with the constants that they tell of, and where these stand

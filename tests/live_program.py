@@ -257,7 +257,7 @@ def a_configuration_at_fault(room):
 
 def an_input_that_cannot_be_read(room):
     policy, long = room.file('policy.json', '{"version":1}'), room.file('long', '')
-    os.truncate(long, 64 * 1024 * 1024 + 1)
+    os.truncate(long, 256 * 1024 * 1024 + 1)
     for path, more in ((room.folder, []), (room.folder, ['--policy', policy]), (long, [])):
         source = os.open(path, os.O_RDONLY)
         try:

@@ -20,8 +20,8 @@ EPOCH = datetime.datetime(1970, 1, 1)
 SENTENCES = {
     '1 NotJson': 'the text is not JSON in UTF-8, or a scope given as a text does not decode to such'
                  ' JSON',
-    '2 Shape': 'the text is JSON, but not of the shape of a policy of version 1 or 2 or of'
-               ' a scope',
+    '2 Shape': 'the text is JSON, but not of the shape of a policy of version 1, 2 or 4 or'
+               ' of a scope',
     '3 BadFilter': 'a filter in a scope is not a valid topic filter, or is too long',
     '4 BadPermission': 'a permission in a scope is neither `pub` nor `sub`',
     '5 BadBase64': 'a scope given as a text is not base64url without padding',
@@ -152,6 +152,9 @@ def canonical(text):
         parts[part] = {name: grant_of(given) for name, given in parts[part].items()}
     grants = [grant for part in ('clients', 'sources') for grant in parts[part].values()]
     parts['version'] = 2 if any(isinstance(grant, dict) for grant in grants) else 1
+    set_to = {**policy_texts.LIMITS, **value.get('limits', {})}
+    if set_to != policy_texts.LIMITS:
+        parts.update(version=4, limits=set_to)
     return json.dumps(parts, ensure_ascii=False, separators=(',', ':'), sort_keys=True).encode() + b'\n'
 
 

@@ -3,8 +3,8 @@
 
 Checks docs/policy.schema.json, which editors can use, against the policy texts of tests/policy_texts.py:
 it accepts each text that the program accepts, and refuses each that the program refuses, but for what no
-schema sees: what is not JSON, what a scope given as a text stands for, a version or an end written as 1.0 or
--0, and half of a surrogate pair. It needs a validator, the Python package jsonschema (Debian: python3-jsonschema),
+schema sees: what is not JSON, what a scope given as a text stands for, a number written as 1.0 or -0, how many
+entries a limit allows that the policy sets itself, and half of a surrogate pair. It needs a validator, the Python package jsonschema (Debian: python3-jsonschema),
 version 4 or later; where that is missing it says so, checks nothing, and ends with status 0."""
 import json
 import os
@@ -32,8 +32,10 @@ def is_hidden(value):
     grants = [each for part in ('clients', 'sources') for each in value.get(part, {}).values()]
     objects = [grant for grant in grants if isinstance(grant, dict)]
     scopes = grants + [each['scope'] for each in objects]
-    numbers = [value['version']] + [each.get('exp') for each in objects]
-    return any(isinstance(it, float) for it in numbers) or any(isinstance(it, str) for it in scopes)
+    numbers = [value['version'], *value.get('limits', {}).values()] + [each.get('exp') for each in objects]
+    is_counted = any(name in value.get('limits', {}) for name in ('clients', 'sources', 'topics'))
+    return (is_counted or any(isinstance(it, float) for it in numbers)
+            or any(isinstance(it, str) for it in scopes))
 
 
 def main():

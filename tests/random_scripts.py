@@ -223,7 +223,9 @@ BAD_POLICIES = [
     '{"version":1,"topics":{"1":"a/#"}}', '{"version":1,"clients":{"s1":[%s]}}' % ','.join(['["a",[]]'] * 65),
     '{"version":1,"clients":{"s1":{"scope":[]}}}', '{"version":2,"clients":{"s1":{"exp":1}}}',
     '{"version":2,"clients":{"s1":{"scope":[],"exp":1.0}}}', '{"version":2,"sources":{"1.2.3.4":{"scope":{}}}}',
-    '{"version":2,"clients":{"s1":{"scope":[["a+",[]]],"exp":18446744073709551616}}}',
+    '{"version":2,"clients":{"s1":{"scope":[["a+",[]]],"exp":18446744073709551616}}}', '{"version":2,"limits":{}}',
+    '{"version":4,"limits":{"clients":1},"clients":{"s1":[],"s2":[]}}', '{"version":4,"limits":{"clients":0}}',
+    '{"version":4,"limits":{"waiting":511}}', '{"version":4,"limits":{"queue":64}}', '{"version":4,"limits":[]}',
 ]
 WORDS = [['pub'], ['pub'], ['pub', 'sub'], ['sub', 'pub', 'pub'], ['sub'], ['sub'], []]
 UNREADABLE = ['x', 'up ', 'take now', 'from 10.0.0.9:4000', 'from 10.0.0.9 0216', 'from 10.0.0.9:65536 0216',
@@ -303,6 +305,8 @@ class World:
 
     def __init__(self, seed):
         self.random = random.Random(seed)
+        # What limits are drawn from, so that all else is drawn alike with them and without
+        self.limiting = random.Random('limits %d' % seed)
         self.addresses = self.random.sample(ADDRESSES, self.one((2, 2, 3, 4)))
         self.clients = self.random.sample(CLIENTS, self.one((2, 3, 4)))
         self.names = self.random.sample(NAMES, self.among(3, 5))
@@ -525,7 +529,17 @@ class World:
         scopes = list(clients.values()) + list(sources.values())
         version = 2 if any(isinstance(scope, dict) for scope in scopes) or self.chance(0.1) else 1
         parts = {'version': version, 'clients': clients, 'sources': sources, 'topics': topics}
+        if self.limiting.random() < 0.15:
+            parts.update(version=4, limits=self.limits(clients=clients, sources=sources, topics=topics))
         return 'policy ' + json.dumps(parts, ensure_ascii=self.chance(0.5))
+
+    def limits(self, **listed):
+        """Some limits, mostly just enough for what the policy lists."""
+        one = self.limiting.choice
+        limits = {'waiting': one((512, 513, 600, 65_000)), 'in_flight': one((128, 129, 150, 16_000))}
+        for part, entries in listed.items():
+            limits[part] = max(len(entries) + one((0, 0, 0, 1, 100)), gateway_model.LIMITS[part][1])
+        return {part: limit for part, limit in limits.items() if one((True, True, False))}
 
     def bad_policy(self):
         return 'policy ' + self.one(BAD_POLICIES)

@@ -7,14 +7,14 @@ from laws.texts import shown
 @law
 def released(book, pattern):
     """Of a filter that stands for nobody any more the broker is told by an UNSUBSCRIBE, which waits, or is
-    dropped and noted where 512 items wait."""
+    dropped and noted where as many items wait as the policy allows."""
     if not standing.is_held(book, pattern):
         joins_or_drops(book, link.Item('unsubscribe', name=pattern))
 
 
 @law
 def joins_or_drops(book, item):
-    """An UNSUBSCRIBE, a PUBACK or a PINGREQ that finds no room among the 512 items is noted as `outbox`,
+    """An UNSUBSCRIBE, a PUBACK or a PINGREQ that finds no room among the items that wait is noted as `outbox`,
     and no other."""
     if link.lacks_place(book):
         book.noted('outbox', 'broker', '-', '22 Full Outbox')

@@ -7,7 +7,6 @@ from laws.frames import written
 from laws.handing import PINGRESP, gone, hand_over, out_of_turn
 from laws.texts import shown
 
-MOST_CLIENTS = 256
 DISCONNECT, WILLTOPICREQ = written(0x18), written(0x06)
 
 
@@ -18,7 +17,7 @@ def connack(code):
 @law
 def connects(book, frame, where, here):
     """A CONNECT is denied by 2 for another ProtocolId, by 3 where the policy in force does not list the
-    client, by 22 where 256 others were accepted before, and accepted otherwise; denied, CONNACK has the
+    client, by 22 where as many others were accepted before as the policy allows, and accepted otherwise; denied, CONNACK has the
     code of that."""
     client = frame.client
     outcome = 'allowed'
@@ -26,7 +25,7 @@ def connects(book, frame, where, here):
         outcome = '2 NotSupported'
     elif client not in book.policy.clients:
         outcome = '3 NoScope ' + shown(client)
-    elif client not in clients.accepted(book) and len(clients.accepted(book)) >= MOST_CLIENTS:
+    elif client not in clients.accepted(book) and len(clients.accepted(book)) >= book.policy.limits['clients']:
         outcome = '22 Full Clients'
     book.noted('connect', shown(client), '-', outcome)
     if outcome == 'allowed':

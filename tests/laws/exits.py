@@ -13,7 +13,10 @@ def shown_origin(origin):
 
 @law
 def takes(book):
-    """At a take while up just what waits leaves, in order; while down nothing does."""
+    """At a take while up each SUBSCRIBE that is owed has to leave, and then just what waits leaves, in order;
+    while down nothing does."""
+    for pattern in standing.owed(book) if link.is_up(book) else []:
+        subscribes(book, pattern)
     items = link.waiting(book) if link.is_up(book) else []
     for item in items:
         leaves(book, item)
@@ -57,7 +60,10 @@ def published(book, item, number):
 @law
 def subscribes(book, pattern):
     """A SUBSCRIBE leaves where its filter stands for somebody, with the next packet id, and asks for QoS
-    1."""
+    1. Where too many are open it is owed, and does not leave."""
+    if not standing.may_open(book, pattern):
+        book.tell('owed', None, pattern)
+        return
     number = link.next_id(book)
     book.wired(written(0x82, two(number), sized(pattern), b'\1'))
     book.tell('subscribed', None, (number, pattern))

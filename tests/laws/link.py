@@ -11,8 +11,6 @@ from dataclasses import dataclass
 from laws.book import View
 from laws.standing import wanted
 
-MOST_ITEMS, MOST_IN_FLIGHT = 512, 128
-
 
 @dataclass(frozen=True)
 class Item:
@@ -90,6 +88,6 @@ def lacks_place(book, qos=0):
     """Where a publish finds no place: among those of QoS 1, or among all items. None where it finds one."""
     items = waiting(book)
     waits = sum(1 for item in items if item.kind == 'publish' and item.qos)
-    if qos and waits + len(in_flight(book)) >= MOST_IN_FLIGHT:
+    if qos and waits + len(in_flight(book)) >= book.policy.limits['in_flight']:
         return '22 Full InFlight'
-    return '22 Full Outbox' if len(items) >= MOST_ITEMS else None
+    return '22 Full Outbox' if len(items) >= book.policy.limits['waiting'] else None

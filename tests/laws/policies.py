@@ -9,7 +9,10 @@ from dataclasses import dataclass, field
 
 from laws.texts import gap, is_client_id, is_filter, is_name, matches, shown
 
-MOST_LISTED, MOST_TOPICS, MOST_PAIRS, MOST_NESTED = 256, 1024, 64, 127
+MOST_PAIRS, MOST_NESTED = 64, 127
+# Of each limit that a policy may set what it is where it does not, and the least and the most that it may be
+LIMITS = {'clients': (256, 1, 65_000), 'sources': (256, 0, 65_000), 'topics': (1024, 0, 65_534),
+          'waiting': (512, 512, 65_000), 'in_flight': (128, 128, 16_000)}
 MOST_END = 2 ** 64 - 1
 NUMBERS = {'NotJson': 1, 'Shape': 2, 'BadFilter': 3, 'BadPermission': 4, 'BadBase64': 5, 'BadClientId': 6,
            'BadSource': 7, 'BadTopicId': 8, 'TooMany': 9}
@@ -24,18 +27,19 @@ class Refused(Exception):
 
 @dataclass
 class Policy:
-    """Clients and sources, each with pairs of a filter and its permissions; the topics by their ids; and when
-    which of the clients (bytes) and sources (str) end."""
+    """Clients and sources, each with pairs of a filter and its permissions; the topics by their ids; when which
+    of the clients (bytes) and sources (str) end; and the limits."""
     clients: dict = field(default_factory=dict)
     sources: dict = field(default_factory=dict)
     topics: dict = field(default_factory=dict)
     ends: dict = field(default_factory=dict)
+    limits: dict = field(default_factory=lambda: read_limits({}))
 
     def at(self, clock):
         """What is left of it at a clock: whose end that has reached is not listed."""
         def left(scopes):
             return {who: pairs for who, pairs in scopes.items() if self.ends.get(who, clock + 1) > clock}
-        return Policy(left(self.clients), left(self.sources), self.topics, self.ends)
+        return Policy(left(self.clients), left(self.sources), self.topics, self.ends, self.limits)
 
     def publish_outcome(self, origin, name):
         """What the policy says of a publish of a client (bytes) or a source (str) under a name."""
@@ -71,15 +75,24 @@ def grants(scope, word, name):
 
 def read_policy(text):
     value = read_json(text)
-    known = {'version', 'clients', 'sources', 'topics'}
-    need(isinstance(value, dict) and type(value.get('version')) is int and value['version'] in (1, 2)
-         and set(value) <= known, 'Shape')
-    ending = value['version'] == 2
-    listed = (members(value, 'clients', MOST_LISTED, lambda key, it: read_client(key, it, ending)),
-              members(value, 'sources', MOST_LISTED, lambda key, it: read_source(key, it, ending)))
+    need(isinstance(value, dict) and type(value.get('version')) is int and value['version'] in (1, 2, 4), 'Shape')
+    known = ('version', 'clients', 'sources', 'topics') + (('limits',) if value['version'] == 4 else ())
+    need(set(value) <= set(known), 'Shape')
+    limits, ending = read_limits(value.get('limits', {})), value['version'] > 1
+    listed = (members(value, 'clients', limits['clients'], lambda key, it: read_client(key, it, ending)),
+              members(value, 'sources', limits['sources'], lambda key, it: read_source(key, it, ending)))
     clients, sources = ({who: pairs for who, (pairs, _) in part} for part in listed)
     ends = {who: end for part in listed for who, (_, end) in part if end is not None}
-    return Policy(clients, sources, dict(members(value, 'topics', MOST_TOPICS, read_topic)), ends)
+    topics = dict(members(value, 'topics', limits['topics'], read_topic))
+    return Policy(clients, sources, topics, ends, limits)
+
+
+def read_limits(given):
+    """All limits, those that are given among them."""
+    need(isinstance(given, dict) and set(given) <= set(LIMITS), 'Shape')
+    need(all(type(given[name]) is int and LIMITS[name][1] <= given[name] <= LIMITS[name][2] for name in given),
+         'Shape')
+    return {name: given.get(name, usual) for name, (usual, _, _) in LIMITS.items()}
 
 
 def members(value, name, most, read):
@@ -115,7 +128,7 @@ def is_ip(text):
 
 
 def read_ending(value, ending):
-    """A scope with its end or None. In version 2 it may be an object that has both as members."""
+    """A scope with its end or None. In versions 2 and 4 it may be an object that has both as members."""
     if not (ending and isinstance(value, dict)):
         return read_scope(value), None
     need('scope' in value and all(name in ('scope', 'exp') for name in value), 'Shape')

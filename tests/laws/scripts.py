@@ -7,7 +7,7 @@ from laws.frames import read_frame
 from laws.packets import Stream
 from laws.policies import Refused, is_ip, read_policy
 
-MOST_CLOCK, MOST_LINE = 2 ** 64 - 1, 64 * 1024 * 1024
+MOST_CLOCK, MOST_LINE = 2 ** 64 - 1, 256 * 1024 * 1024
 
 
 @dataclass

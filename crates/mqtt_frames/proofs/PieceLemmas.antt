@@ -22,7 +22,7 @@ use Rattle.mqtt_frames.specs.Reading.{body_of}
 use Rattle.mqtt_frames.specs.Headers.{behind_group, length_at, with_kind, with_length, header_at}
 use Rattle.mqtt_frames.specs.Fronts.{sized, behind_header, decode}
 use Rattle.mqtt_frames.specs.Streams.{Read, read_all, behind_body, read_of}
-use Rattle.mqtt_frames.specs.Streams.{IsReady}
+use Rattle.mqtt_frames.specs.Streams.{IsReady, Lacks}
 use Rattle.mqtt_frames.proofs.ReadIsSpelled.{behind_group-told, with_length-told, behind_header-told}
 use Rattle.mqtt_frames.proofs.StreamLemmas.{header_at-more, header_at-positive, body-more, decode-within}
 use Rattle.mqtt_frames.proofs.StreamLemmas.{not_sized}
@@ -287,3 +287,23 @@ pub waits_ready : (s : StreamStatus) (held : List ℕ) → s ≡ statuses.Readin
 waits_ready statuses.Reading held reads ready = ready
 waits_ready (statuses.Kept fault) held reads ready = absurd cc
 waits_ready statuses.Failed held reads ready = absurd cc
+
+-- bytes that lack more than there are
+
+pub lacks_none : (held : List ℕ) → Lacks held 0
+lacks_none held more fewer = absurd (omega (arith, fewer))
+
+pub lacks_part : (bytes : List ℕ) (kind : Kind) (start rest missing : ℕ)
+    → header_at bytes ≡ headers.Known kind start rest → start + rest ≤ MAX_PACKET
+    → length bytes + missing ≡ start + rest → Lacks bytes missing
+lacks_part bytes kind start rest missing told short sum more fewer =
+    elim (header_at-more bytes more) [
+      | inl cut ↦ absurd (let e : headers.Known kind start rest ≡ headers.Unfinished = sym told ∙ cut in cc)
+      | inr same ↦ (let all : header_at (bytes ++ more) ≡ headers.Known kind start rest = same ∙ told in
+          let part : length (bytes ++ more) < start + rest = omega (arith, length-append bytes more) in
+          rw (
+            all,
+            le-ltb MAX_PACKET (start + rest) short,
+            lt-ltb (length (bytes ++ more)) (start + rest) part,
+          ) refl)
+    ]

@@ -1,5 +1,5 @@
 -- Which packets a stream of bytes is, and what is answered when it comes in pieces (MQTT 3.1.1, 4.2 and 4.8).
-use Rattle.std.specs.Prelude.{◌≡◌, ℕ, zero, suc, List, [], ◌∷◌, ◌++◌, length, drop, Some, None, Ok, Err}
+use Rattle.std.specs.Prelude.{◌≡◌, ℕ, zero, suc, ◌<◌, List, [], ◌∷◌, ◌++◌, length, drop, Some, None, Ok, Err}
 use Rattle.std.specs.declared.option.Option.{Option}
 use Rattle.std.specs.declared.result.Result.{Result}
 use Rattle.mqtt_frames.specs.declared.fault.PacketFault.{PacketFault}
@@ -80,6 +80,10 @@ abbrev pub IsReady : StreamStatus → List ℕ → Type 0
 IsReady status.Reading held = decode held ≡ front.Waiting
 IsReady (status.Kept fault) held = held ≡ []
 IsReady status.Failed held = held ≡ []
+
+-- so many bytes at least are missing behind these before a packet is whole or has a fault
+abbrev pub Lacks : List ℕ → ℕ → Type 0
+Lacks held missing = (more : List ℕ) → length more < missing → decode (held ++ more) ≡ front.Waiting
 
 -- an allocation can fail where a stream that reads is fed a byte or more
 abbrev pub TakesMemory : State → List ℕ → Type 0

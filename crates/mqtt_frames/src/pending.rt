@@ -1,9 +1,9 @@
 //! The bytes of an unfinished packet, and the piece that comes behind them (MQTT 3.1.1, 4.2).
-ghost use Rattle.std.specs.Prelude.{◌≡◌, ◌+◌, ◌*◌, ◌≤◌, ◌++◌, length, take, drop, IfOk, OnOk, OnErr};
+ghost use Rattle.std.specs.Prelude.{◌≡◌, ◌+◌, ◌≤◌, ◌++◌, length, take, drop, IfOk, OnOk, OnErr};
 ghost use Rattle.mqtt_frames.specs.Reading.{body_of};
 ghost use Rattle.mqtt_frames.specs.Headers.{header_at, IsBrief};
 ghost use Rattle.mqtt_frames.specs.Fronts.{decode};
-ghost use Rattle.mqtt_frames.specs.Streams.{read_all, with_packets, behind_body, read_of, ending_of};
+ghost use Rattle.mqtt_frames.specs.Streams.{read_all, with_packets, behind_body, read_of, ending_of, Lacks};
 ghost use Rattle.mqtt_frames.specs.declared.header.Header.TheVariants as headers;
 ghost use Rattle.mqtt_frames.specs.declared.wire.decode.Front.TheVariants as fronts;
 
@@ -25,19 +25,22 @@ pub struct Taken {
     pub packets: Vec<Packet>,
     /// The fault that stands behind them.
     pub fault: Option<PacketFault>,
+    /// So many bytes at least are missing of the packet that is held, as far as is known.
+    pub missing: usize,
 }
 
 /// Takes the next piece. Where no fault comes of it, the bytes of the packet that is unfinished then are
 /// held; where an allocation failed, those of before.
+#[tactic(auto, using(crate::proofs::PieceLemmas::lacks_none))]
 pub fn take(alloc: Global, held: &mut Vec<u8>, piece: &[u8]) -> Result<Taken, AllocError>
     requires { decode held.old.items ≡ fronts.Waiting }
     ensures ok { IfOk result (λ taken.
         read_all (held.old.items ++ piece.now) ≡ read_of taken.packets.items taken.fault held.new.items) }
+    ensures missing { IfOk result (λ taken. Lacks held.new.items taken.missing) }
     ensures err { OnErr result (held.new.items ≡ held.old.items) }
 {
     if held.is_empty() {
-        let packets = Vec::with_capacity(alloc, whole_packets(piece))?;
-        return read_behind(alloc, held, packets, piece);
+        return read_behind(alloc, held, Vec::new(alloc), piece);
     }
     match header_of(held, piece)? {
         Header::Unfinished => {
@@ -45,11 +48,13 @@ pub fn take(alloc: Global, held: &mut Vec<u8>, piece: &[u8]) -> Result<Taken, Al
             Ok(Taken {
                 packets: Vec::new(alloc),
                 fault: None,
+                missing: 0,
             })
         }
         Header::Faulty(fault) => Ok(Taken {
             packets: Vec::new(alloc),
             fault: Some(fault),
+            missing: 0,
         }),
         Header::Known(kind, start, rest) => complete(alloc, held, kind, start, rest, piece),
     }
@@ -96,6 +101,7 @@ fn complete(
     requires brief { IsBrief (headers.Known kind start rest) }
     ensures ok { IfOk result (λ taken.
         read_all (held.old.items ++ piece.now) ≡ read_of taken.packets.items taken.fault held.new.items) }
+    ensures missing { IfOk result (λ taken. Lacks held.new.items taken.missing) }
     ensures err { OnErr result (held.new.items ≡ held.old.items) }
 {
     let total = start + rest;
@@ -103,6 +109,7 @@ fn complete(
         return Ok(Taken {
             packets: Vec::new(alloc),
             fault: Some(PacketFault::TooLong),
+            missing: 0,
         });
     }
     let before = held.len();
@@ -114,6 +121,7 @@ fn complete(
         return Ok(Taken {
             packets: Vec::new(alloc),
             fault: None,
+            missing: missing - piece.len(),
         });
     }
     let (part, behind) = piece.split_at(missing);
@@ -126,6 +134,7 @@ fn complete(
 }
 
 /// Reads the packet that the held bytes are as a whole, and what stands behind it.
+#[tactic(auto, using(crate::proofs::PieceLemmas::lacks_none))]
 fn completed(
     alloc: Global,
     held: &mut Vec<u8>,
@@ -136,24 +145,27 @@ fn completed(
     requires { start ≤ length held.old.items }
     ensures ok { IfOk result (λ taken. behind_body (body_of kind (drop start held.old.items)) behind.now
         ≡ read_of taken.packets.items taken.fault held.new.items) }
+    ensures missing { IfOk result (λ taken. Lacks held.new.items taken.missing) }
     ensures err { OnErr result (held.new.items ≡ held.old.items) }
 {
     let (_, body) = held.as_slice().split_at(start);
     match decode::body_of(alloc, kind, body) {
         Ok(packet) => {
-            let mut packets = Vec::with_capacity(alloc, 1 + whole_packets(behind))?;
+            let mut packets = Vec::new(alloc);
             packets.push(packet)?;
             read_behind(alloc, held, packets, behind)
         }
         Err(ReadFault::Packet(fault)) => Ok(Taken {
             packets: Vec::new(alloc),
             fault: Some(fault),
+            missing: 0,
         }),
         Err(ReadFault::Memory) => Err(AllocError),
     }
 }
 
 /// Reads bytes that stand behind packets, and holds those of an unfinished packet in place of what was held.
+#[tactic(auto, using(crate::proofs::PieceLemmas::lacks_none))]
 fn read_behind(
     alloc: Global,
     held: &mut Vec<u8>,
@@ -162,6 +174,7 @@ fn read_behind(
 ) -> Result<Taken, AllocError>
     ensures ok { IfOk result (λ taken. with_packets packets.items (read_all bytes.now)
         ≡ read_of taken.packets.items taken.fault held.new.items) }
+    ensures missing { IfOk result (λ taken. Lacks held.new.items taken.missing) }
     ensures err { OnErr result (held.new.items ≡ held.old.items) }
 {
     let (packets, ending) = read_all(alloc, packets, bytes)?;
@@ -171,11 +184,13 @@ fn read_behind(
             Ok(Taken {
                 packets,
                 fault: None,
+                missing: 0,
             })
         }
         Remainder::Fault(fault) => Ok(Taken {
             packets,
             fault: Some(fault),
+            missing: 0,
         }),
     }
 }
@@ -223,21 +238,4 @@ fn read_all(
             }
         }
     }
-}
-
-/// How many packets are whole at the front of the bytes by their fixed headers alone: as many answers need
-/// room at most.
-fn whole_packets(bytes: &[u8]) -> usize
-    ensures { 2 * result ≤ length bytes.now }
-{
-    let mut count = 0;
-    let mut rest = bytes;
-    while let Header::Known(_, start, size) = header::header_at(rest) {
-        if rest.len() < start + size {
-            break;
-        }
-        count += 1;
-        rest = rest.split_at(start + size).1;
-    }
-    count
 }

@@ -26,16 +26,18 @@ pub struct Stream {
     status: StreamStatus,
     /// The bytes of an unfinished packet; none after a fault.
     held: Vec<u8>,
+    /// So many bytes at least are missing of the packet that is held, as far as is known.
+    missing: usize,
 }
 
 impl Model for Stream {
-    ghost use Rattle.mqtt_frames.specs.Streams.{State, state_of, IsReady};
+    ghost use Rattle.mqtt_frames.specs.Streams.{State, state_of, IsReady, Lacks};
 
     ghost Value = { State };
 
     ghost view = { λ s. state_of s.status s.held.items };
 
-    ghost invariant = { λ s. IsReady s.status s.held.items };
+    ghost invariant = { λ s. IsReady s.status s.held.items × Lacks s.held.items s.missing };
 }
 
 impl Stream {
@@ -46,6 +48,7 @@ impl Stream {
         Stream {
             status: StreamStatus::Reading,
             held: Vec::new(alloc),
+            missing: 0,
         }
     }
 
@@ -78,12 +81,26 @@ impl Stream {
                 if piece.is_empty() {
                     return Ok(Vec::new(alloc));
                 }
-                let Taken { packets, fault } = pending::take(alloc, &mut self.held, piece)?;
+                if piece.len() < self.missing {
+                    self.held.extend_from_slice(piece)?;
+                    self.missing -= piece.len();
+                    return Ok(Vec::new(alloc));
+                }
+                let taken = pending::take(alloc, &mut self.held, piece)?;
+                let Taken {
+                    packets,
+                    fault,
+                    missing,
+                } = taken;
                 match fault {
-                    None => Ok(packets),
+                    None => {
+                        self.missing = missing;
+                        Ok(packets)
+                    }
                     Some(fault) => {
                         // what was held is freed
                         self.held = Vec::new(alloc);
+                        self.missing = 0;
                         if packets.is_empty() {
                             self.status = StreamStatus::Failed;
                             return Err(StreamFault::from(fault));

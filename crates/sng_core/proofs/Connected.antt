@@ -56,7 +56,7 @@ dropped_are s from connect good may =
     let a = around s (ByConnect from connect) in
     let f = welcoming a from connect in
     let g = client_next s (ByConnect from connect) in
-    let n = places_left s.link in
+    let n = places_left s.policy.limits s.link in
     let moves : map g s.clients ≡ map f s.clients ++ [] =
     map_same g f s.clients (each_map AtRest (λ x. g x ≡ f x) s.clients
     (λ x at. entering_next s from connect x at.busy may) good.rest)
@@ -102,13 +102,13 @@ with_link s link xs = record s { link = link; clients = xs }
 abbrev link_with : State → List Client → Link
 link_with s xs =
     record s.link {
-      waiting = s.link.waiting ++ unsubscribes s.link (released s.clients xs);
+      waiting = s.link.waiting ++ unsubscribes s.policy.limits s.link (released s.clients xs);
       wanted = still_wanted xs s.link.wanted;
     }
 
 -- the link lets go of just those
 link_goes : (s : State) (from : Address) (connect : Connect) → Good s
-    → let_go s.link (alone_by connect s.clients)
+    → let_go s.policy.limits s.link (alone_by connect s.clients)
     ≡ link_with s (welcomed (around s (ByConnect from connect)) from connect s.clients)
 link_goes s from connect good =
     let a = around s (ByConnect from connect) in
@@ -118,17 +118,19 @@ link_goes s from connect good =
     let goes = lets_go s.clock from connect f s.clients (welcoming_alike a from connect) good.apart in
     let xs = map f s.clients ++ rest in
     let other : List ℕ → Bool = λ text. not (gone_in texts text) in
-    let told : told_gone s.link texts ≡ unsubscribes s.link (released s.clients xs) =
-    ap (λ ts. map item.Unsubscribe (take (places_left s.link) ts)) (sym (goes.released rest))
-    ∙ sym (take_texts (places_left s.link) (released s.clients xs)) in
+    let told : told_gone s.policy.limits s.link texts
+    ≡ unsubscribes s.policy.limits s.link (released s.clients xs) =
+    ap (λ ts. map item.Unsubscribe (take (places_left s.policy.limits s.link) ts)) (sym (goes.released rest))
+    ∙ sym (take_texts (places_left s.policy.limits s.link) (released s.clients xs)) in
     let kept : still_wanted xs s.link.wanted ≡ filter (λ w. other w.filter) s.link.wanted =
     keep_same (is_held xs) other s.link.wanted
     (λ text is. welcomed_held a from connect s.clients text
     ∙ goes.held text (sym (good.wanted_held text) ∙ is)) in
-    let_go_is s.link texts
+    let_go_is s.policy.limits s.link texts
     ∙ (ap (λ items. with_both s.link (s.link.waiting ++ items) (filter (λ w. other w.filter) s.link.wanted))
     told
-    ∙ (ap (with_both s.link (s.link.waiting ++ unsubscribes s.link (released s.clients xs))) (sym kept)
+    ∙ (ap (with_both s.link
+    (s.link.waiting ++ unsubscribes s.policy.limits s.link (released s.clients xs))) (sym kept)
     ∙ ap (link_with s) (sym (welcomed_are a from connect s.clients))))
 
 accept_row : (s : State) (from : Address) (connect : Connect) → Good s → entry s connect ≡ Allowed
@@ -172,8 +174,9 @@ link_stays s from good =
     let all : List ℕ → Bool = λ text. true in
     let none : released s.clients (map f s.clients) ≡ [] =
     ap (released s.clients) (sym (append-nil (map f s.clients))) ∙ released_none f [] s.clients [] same in
-    let told : unsubscribes s.link (released s.clients (map f s.clients)) ≡ [] =
-    ap (unsubscribes s.link) none ∙ ap (map _) (take-nil (places_left s.link)) in
+    let told : unsubscribes s.policy.limits s.link (released s.clients (map f s.clients)) ≡ [] =
+    ap (unsubscribes s.policy.limits s.link) none
+    ∙ ap (map _) (take-nil (places_left s.policy.limits s.link)) in
     let kept : still_wanted (map f s.clients) s.link.wanted ≡ s.link.wanted =
     keep_same (is_held (map f s.clients)) all s.link.wanted
     (λ text is. held_each f s.clients text same ∙ (sym (good.wanted_held text) ∙ is))

@@ -203,7 +203,8 @@ outs_if s p false good is = rw is (sym (all_silent s p s.clients is good.rest))
 pub publish_outs : (s : State) (p : Publish) → Good s
     → packet_outs s (Delivers p) ≡ outs_by s (ByPacket (packet.Publish p))
 publish_outs s p good =
-    ap (λ outs. outs ++ answer_outs s.up s.link (Delivers p)) (outs_if s p (is_name p.name) good refl)
+    ap (λ outs. outs ++ answer_outs s.policy.limits s.up s.link (Delivers p))
+    (outs_if s p (is_name p.name) good refl)
 
 clients_if : (s : State) (p : Publish) (named : Bool) → Good s → is_name p.name ≡ named
     → keep_all s.clock (named_kept s p) s.clients ≡ map (client_next s (brings p)) s.clients

@@ -4,6 +4,7 @@ use Rattle.std.proofs.Common.{◌≡◌, ℕ, zero, suc, Bool, true, false, List
 use Rattle.std.proofs.Common.{subst, ◌∙◌}
 use Rattle.std.specs.Prelude.{if◌then◌else◌, Option, Some, None}
 use Rattle.sng_grants.specs.Ends.{in_force, next_end}
+use Rattle.sng_grants.specs.Limits.{Limits}
 use Rattle.sng_grants.specs.Sources.{is_reached}
 use Rattle.sng_grants.specs.declared.policy.Policy.{Policy}
 use Rattle.sng_queue.specs.Messages.{Message}
@@ -40,6 +41,7 @@ use Rattle.sng_core.specs.Ending.{ended_of, ending_outs, ending_next}
 use Rattle.sng_core.specs.Losing.{lost_outs, loss_of}
 use Rattle.sng_core.specs.declared.tick.Due.{Due}
 use Rattle.sng_core.specs.declared.tick.Due.TheVariants.{Lost, Unanswered}
+use Rattle.sng_core.proofs.DueLemmas.{dues_stay}
 use Rattle.sng_core.proofs.Replacing.{replaced_outs, moved_by}
 use Rattle.sng_core.proofs.TickRows.{tick_row}
 
@@ -139,38 +141,54 @@ room_moved clock room text (suc place) (x ∷ xs) =
 -- ---- once all have
 
 outs_ended : (policy : Policy) (clock : ℕ) (room : Room) (m : Moved) (endings : List SubscriptionEnd)
-    → dues_outs policy clock room (all_next m endings).clients ≡ dues_outs policy clock room m.clients
+    → dues_outs policy clock room (all_next policy.limits m endings).clients
+    ≡ dues_outs policy clock room m.clients
 outs_ended policy clock room m [] = refl
 outs_ended policy clock room m (e ∷ endings) =
-    outs_ended policy clock room (ended_next m e) endings
+    outs_ended policy clock room (ended_next policy.limits m e) endings
     ∙ outs_moved policy clock room e.filter e.place m.clients
 
 plan_ended : (policy : Policy) (clock : ℕ) (room : Room) (first : ℕ) (m : Moved)
     (endings : List SubscriptionEnd)
-    → dues_plan policy clock room first (all_next m endings).clients
+    → dues_plan policy clock room first (all_next policy.limits m endings).clients
     ≡ dues_plan policy clock room first m.clients
 plan_ended policy clock room first m [] = refl
 plan_ended policy clock room first m (e ∷ endings) =
-    plan_ended policy clock room first (ended_next m e) endings
+    plan_ended policy clock room first (ended_next policy.limits m e) endings
     ∙ plan_moved policy clock room first e.filter e.place m.clients
 
-room_ended : (clock : ℕ) (room : Room) (m : Moved) (endings : List SubscriptionEnd)
-    → dues_room clock room (all_next m endings).clients ≡ dues_room clock room m.clients
-room_ended clock room m [] = refl
-room_ended clock room m (e ∷ endings) =
-    room_ended clock room (ended_next m e) endings ∙ room_moved clock room e.filter e.place m.clients
+room_ended : (limits : Limits) (clock : ℕ) (room : Room) (m : Moved) (endings : List SubscriptionEnd)
+    → dues_room clock room (all_next limits m endings).clients ≡ dues_room clock room m.clients
+room_ended limits clock room m [] = refl
+room_ended limits clock room m (e ∷ endings) =
+    room_ended limits clock room (ended_next limits m e) endings
+    ∙ room_moved clock room e.filter e.place m.clients
 
 -- nor is the broker pinged meanwhile
-pinged_by : (link : Link) (text : List ℕ) (held : Bool)
-    → (if held then link else let_go link text).pinged ≡ link.pinged
-pinged_by link text true = refl
-pinged_by link text false = refl
+pinged_by : (limits : Limits) (link : Link) (text : List ℕ) (held : Bool)
+    → (if held then link else let_go limits link text).pinged ≡ link.pinged
+pinged_by limits link text true = refl
+pinged_by limits link text false = refl
 
-pinged_ended : (m : Moved) (endings : List SubscriptionEnd) → (all_next m endings).link.pinged ≡ m.link.pinged
-pinged_ended m [] = refl
-pinged_ended m (e ∷ endings) =
-    pinged_ended (ended_next m e) endings
-    ∙ pinged_by m.link e.filter (is_held (ended_next m e).clients e.filter)
+pinged_ended : (limits : Limits) (m : Moved) (endings : List SubscriptionEnd)
+    → (all_next limits m endings).link.pinged ≡ m.link.pinged
+pinged_ended limits m [] = refl
+pinged_ended limits m (e ∷ endings) =
+    pinged_ended limits (ended_next limits m e) endings
+    ∙ pinged_by limits m.link e.filter (is_held (ended_next limits m e).clients e.filter)
+
+-- so a PINGREQ is due behind all that ends and all that was due where it was before
+pub due_behind : (limits : Limits) (up : Bool) (clock : ℕ) (at_first made behind after : Link)
+    (clients then_clients : List Client) (endings : List SubscriptionEnd) (dues : List Due)
+    → made ≡ at_first → moved behind then_clients ≡ all_next limits (moved made clients) endings
+    → after ≡ dues_link limits dues behind → is_ping_due up at_first clock ≡ is_ping_due up after clock
+due_behind limits up clock at_first made behind after clients then_clients endings dues same ends comes =
+    let since : after.pinged ≡ at_first.pinged =
+    ap (λ (l : Link). l.pinged) comes
+    ∙ (dues_stay limits dues behind
+    ∙ (ap (λ (m : Moved). m.link.pinged) ends
+    ∙ (pinged_ended limits (moved made clients) endings ∙ ap (λ (l : Link). l.pinged) same))) in
+    ap (λ (n : ℕ). is_ping_due up (record at_first { pinged = n }) clock) (sym since)
 
 -- ---- the row
 
@@ -184,17 +202,18 @@ ends_made s policy good =
     let m = ended_of s policy in moved_by s policy policy m.link m.clients good refl refl
 
 rest_outs : (s : State) (policy : Policy) (clock : ℕ)
-    → (let room = room_of (ended_of s policy).link in
+    → (let room = room_of policy.limits (ended_of s policy).link in
     dues_outs policy clock room s.clients ++ ping_outs s clock (dues_room clock room s.clients))
     ≡ ticked_outs (after_ends s policy) clock
 rest_outs s policy clock =
     let m : Moved = moved s.link s.clients in
     let endings = endings_from policy 0 s.clients in
-    let room = room_of (all_next m endings).link in
+    let limits = policy.limits in
+    let room = room_of limits (all_next limits m endings).link in
     ap₂ (λ (some more : List Out). some ++ more) (sym (outs_ended policy clock room m endings))
     (ap₂ (λ (since : ℕ) (left_over : Room).
     ping_noted (is_ping_due s.up (record s.link { pinged = since }) clock) left_over)
-    (sym (pinged_ended m endings)) (sym (room_ended clock room m endings)))
+    (sym (pinged_ended limits m endings)) (sym (room_ended limits clock room m endings)))
 
 rest_next : (s : State) (clock : ℕ)
     → ending_next s clock ≡ ticked_next (after_ends s (in_force clock s.policy)) clock
@@ -202,14 +221,15 @@ rest_next s clock =
     let policy = in_force clock s.policy in
     let m : Moved = moved s.link s.clients in
     let endings = endings_from policy 0 s.clients in
-    let n = all_next m endings in
+    let limits = policy.limits in
+    let n = all_next limits m endings in
     ap (λ (plan : List Due). let t : State = record s {
       policy = policy;
       clock = clock;
-      link = pinged s.up (dues_link plan n.link) clock;
+      link = pinged limits s.up (dues_link limits plan n.link) clock;
       clients = dues_clients clock plan n.clients;
     } in t)
-    (sym (plan_ended policy clock (room_of n.link) 0 m endings))
+    (sym (plan_ended policy clock (room_of limits n.link) 0 m endings))
 
 pub ending_made : (s : State) (clock : ℕ) → Good s
     → (let now = later s.clock clock in

@@ -24,6 +24,7 @@ use Rattle.sng_history.specs.Answers.{denied_note, refused}
 use Rattle.sng_history.specs.Whole.{frames_of, stranger_to}
 use Rattle.sng_history.specs.Steps.{outs_by, client_next, next_by, newcomers_for}
 use Rattle.sng_history.specs.Links.{Link, resumed, filters_wanted, subscribe_sent, subscribes_sent}
+use Rattle.sng_history.specs.Links.{may_open}
 use Rattle.sng_history.specs.Exits.{agains_of, beginning}
 use Rattle.sng_history.specs.Good.{Each, AtRest, Good}
 use Rattle.sng_history.proofs.EndlessRequests.{denied_stays}
@@ -156,10 +157,18 @@ source_row s from p good =
     (ap (with_all s (s.link.waiting ++ asked_by (Some p) (source_ask s from.ip p)))
     (sym (idle_clients s (BySource from p) good (record { none = refl; same = λ x. refl }))))
 
+-- whether it leaves or is owed
+sent_waiting : (link : Link) (filter : List ℕ) (b : Bool) → may_open link.wanted filter ≡ b
+    → (subscribe_sent link filter).waiting ≡ link.waiting
+sent_waiting link filter true is = rw is refl
+sent_waiting link filter false is = rw is refl
+
 subscribes_waiting : (link : Link) (filters : List (List ℕ))
     → (subscribes_sent link filters).waiting ≡ link.waiting
 subscribes_waiting link [] = refl
-subscribes_waiting link (filter ∷ filters) = subscribes_waiting (subscribe_sent link filter) filters
+subscribes_waiting link (filter ∷ filters) =
+    subscribes_waiting (subscribe_sent link filter) filters
+    ∙ sent_waiting link filter (may_open link.wanted filter) refl
 
 -- what waits is the same before what goes out and after it
 pub begun : (s : State) (link : Link)

@@ -1,6 +1,6 @@
 -- Which filters stand, and which are wanted, once the broker refused one.
-use Rattle.std.proofs.Common.{◌≡◌, ◌<◌, ℕ, zero, suc, Bool, true, false, List, [], ◌∷◌, ◌++◌, map, take, drop}
-use Rattle.std.proofs.Common.{length, refl, ap, sym, ◌∙◌, arith}
+use Rattle.std.proofs.Common.{◌≡◌, ℕ, Bool, true, false, List, [], ◌∷◌, map}
+use Rattle.std.proofs.Common.{refl, ap, sym, ◌∙◌}
 use Rattle.std.specs.Prelude.{if◌then◌else◌, ◌&&◌, ◌||◌, not, filter, Option, Some, None}
 use Rattle.std.specs.List.{find}
 use Rattle.std.specs.Option.{option_map}
@@ -8,7 +8,7 @@ use Rattle.std.specs.Str.{bytes_eq}
 use Rattle.std.proofs.lemmas.List.{append-nil}
 use Rattle.sng_fan.specs.declared.held.Held.{Held}
 use Rattle.sng_fan.specs.Subscriptions.{has_text, stands, without_filter}
-use Rattle.sng_history.specs.Clients.{Client, blank, without}
+use Rattle.sng_history.specs.Clients.{Client, without}
 use Rattle.sng_history.specs.Links.{Wanted, is_filter_of, is_open, wants, closed}
 use Rattle.sng_history.specs.Packets.{Answer, Refuses}
 use Rattle.sng_history.specs.Packets.{answered, filter_open}

@@ -1,8 +1,8 @@
 -- Whose subscriptions end as the broker refuses a filter: the clients for whom it stands, each at its place.
 -- All others are as they were.
-use Rattle.std.proofs.Common.{◌≡◌, ℕ, zero, suc, ◌+◌, ◌<◌, Bool, true, false, List, [], ◌∷◌, ◌++◌, map}
+use Rattle.std.proofs.Common.{◌≡◌, ℕ, suc, ◌+◌, ◌<◌, Bool, true, false, List, [], ◌∷◌, ◌++◌, map}
 use Rattle.std.proofs.Common.{length}
-use Rattle.std.proofs.Common.{zero-add, refl, sym, ap, ◌∙◌, subst, arith}
+use Rattle.std.proofs.Common.{zero-add, refl, sym, ap, ◌∙◌, arith}
 use Rattle.std.specs.Prelude.{if◌then◌else◌}
 use Rattle.std.proofs.lemmas.List.{append_assoc}
 use Rattle.sng_book.specs.declared.decision.Decision.TheVariants as note
@@ -11,7 +11,6 @@ use Rattle.sng_book.specs.declared.outcome.PeerDenial.TheVariants.{BrokerRefused
 use Rattle.sng_book.specs.declared.outcome.Outcome.TheVariants.{Denied}
 use Rattle.sng_book.specs.declared.out.Out.{Out}
 use Rattle.sng_book.specs.declared.out.Out.TheVariants.{Note}
-use Rattle.sng_fan.specs.Subscriptions.{without_filter}
 use Rattle.sng_history.specs.Clients.{Client, without}
 use Rattle.sng_history.specs.Standing.{holds}
 use Rattle.sng_sessions.specs.Holding.{places_from}

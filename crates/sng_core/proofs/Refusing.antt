@@ -228,8 +228,9 @@ other_row s p none good =
     let a = answer_of p in
     let o = refused_filter s.link a in
     makes s (ByPacket p) (packet_outs s a) (packet_next s a) good
-    (ap (λ outs. refused_notes o s.clients ++ (outs ++ answer_outs s.up s.link a)) (none_out s a none)
-    ∙ sym (ap (λ outs. outs ++ answer_outs s.up s.link a)
+    (ap (λ outs. refused_notes o s.clients ++ (outs ++ answer_outs s.policy.limits s.up s.link a))
+    (none_out s a none)
+    ∙ sym (ap (λ outs. outs ++ answer_outs s.policy.limits s.up s.link a)
     (parts_alone s p s.clients none good.rest ∙ rows_are s p o)))
     (ap (λ xs. record (packet_next s a) { clients = xs }) (none_moves s a (refused_clients o s.clients) none)
     ∙ sym (ap (with_clients s a) (all_clients s p none good.rest)

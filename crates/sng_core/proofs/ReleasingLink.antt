@@ -1,6 +1,6 @@
 -- The link lets go of the filters that stand for nobody any more, and those that find no place are noted.
 use Rattle.std.proofs.Common.{◌≡◌, ◌<◌, ◌-◌, ◌+◌, ℕ, zero, suc, Bool, true, false, List, [], ◌∷◌, ◌++◌, map}
-use Rattle.std.proofs.Common.{take, drop, length, refl, ap, sym, ◌∙◌, arith}
+use Rattle.std.proofs.Common.{take, drop, length, refl, ap, sym, ◌∙◌, subst, arith}
 use Rattle.std.specs.Prelude.{if◌then◌else◌, ◌&&◌, ◌||◌, not, nat_lt, filter}
 use Rattle.std.specs.List.{list_any}
 use Rattle.std.specs.Str.{bytes_eq}
@@ -10,7 +10,7 @@ use Rattle.std.proofs.lemmas.Bool.Decides.{nat_tests}
 use Rattle.sng_fan.specs.declared.held.Held.{Held}
 use Rattle.sng_fan.specs.Subscriptions.{stands}
 use Rattle.sng_wanted.specs.Filters.{without_wanted}
-use Rattle.sng_outbox.specs.declared.limits.TheConstants.{MAX_OUTBOX_ITEMS}
+use Rattle.sng_grants.specs.Limits.{Limits}
 use Rattle.sng_outbox.specs.declared.item.Item.{Item}
 use Rattle.sng_outbox.specs.declared.item.Item.TheVariants as item
 use Rattle.sng_book.specs.declared.decision.Decision.TheVariants as note
@@ -19,6 +19,7 @@ use Rattle.sng_history.specs.Links.{Link, Wanted, is_filter_of}
 use Rattle.sng_history.specs.Packets.{has_place}
 use Rattle.sng_history.specs.Standing.{Release}
 use Rattle.sng_history.specs.Standing.{places_left, drop_notes}
+use Rattle.sng_link.specs.Rooms.{LinkRoom, HasPlaces}
 use Rattle.sng_history.proofs.Own.{same_means}
 use Rattle.sng_history.proofs.Booleans.{and_no}
 use Rattle.sng_core.specs.Connecting.{dropped_notes, alone_in, let_go_one, let_go}
@@ -82,54 +83,69 @@ pub without_gone : (wanted : List Wanted) (texts : List (List ℕ))
 without_gone wanted [] = all_kept wanted
 without_gone wanted (t ∷ ts) = without_gone (without_wanted wanted t) ts ∙ twice t ts wanted
 
-abbrev pub told_gone : Link → List (List ℕ) → List Item
-told_gone link texts = map item.Unsubscribe (take (places_left link) texts)
+abbrev pub told_gone : Limits → Link → List (List ℕ) → List Item
+told_gone limits link texts = map item.Unsubscribe (take (places_left limits link) texts)
 
-abbrev pub let_go_form : Link → List (List ℕ) → Link
-let_go_form link texts =
+abbrev pub let_go_form : Limits → Link → List (List ℕ) → Link
+let_go_form limits link texts =
     record link {
-      waiting = link.waiting ++ told_gone link texts;
+      waiting = link.waiting ++ told_gone limits link texts;
       wanted = filter (λ w. not (gone_in texts w.filter)) link.wanted;
     }
 
-pub let_go_more : (link : Link) (texts : List (List ℕ)) (text : List ℕ)
-    → let_go link (texts ++ text ∷ []) ≡ let_go_one (let_go link texts) text
-let_go_more link [] text = refl
-let_go_more link (t ∷ ts) text = let_go_more (let_go_one link t) ts text
+pub let_go_more : (limits : Limits) (link : Link) (texts : List (List ℕ)) (text : List ℕ)
+    → let_go limits link (texts ++ text ∷ []) ≡ let_go_one limits (let_go limits link texts) text
+let_go_more limits link [] text = refl
+let_go_more limits link (t ∷ ts) text = let_go_more limits (let_go_one limits link t) ts text
 
-waiting_by : (w : List Item) (t : List ℕ) (ts : List (List ℕ)) (b : Bool)
-    → nat_lt (length w) MAX_OUTBOX_ITEMS ≡ b
+waiting_by : (most : ℕ) (w : List Item) (t : List ℕ) (ts : List (List ℕ)) (b : Bool)
+    → nat_lt (length w) most ≡ b
     → (if b then w ++ item.Unsubscribe t ∷ [] else w)
     ++ map item.Unsubscribe (take
-    (MAX_OUTBOX_ITEMS - length (if b then w ++ item.Unsubscribe t ∷ [] else w)) ts)
-    ≡ w ++ map item.Unsubscribe (take (MAX_OUTBOX_ITEMS - length w) (t ∷ ts))
-waiting_by w t ts true is =
+    (most - length (if b then w ++ item.Unsubscribe t ∷ [] else w)) ts)
+    ≡ w ++ map item.Unsubscribe (take (most - length w) (t ∷ ts))
+waiting_by most w t ts true is =
     let one : List Item = item.Unsubscribe t ∷ [] in
-    let lt : length w < MAX_OUTBOX_ITEMS = grind (arith, nat_tests, is) in
+    let lt : length w < most = grind (arith, nat_tests, is) in
     let longer : length (w ++ one) ≡ length w + 1 = length-append w one in
-    let less : MAX_OUTBOX_ITEMS - length w ≡ suc (MAX_OUTBOX_ITEMS - length (w ++ one)) =
+    let less : most - length w ≡ suc (most - length (w ++ one)) =
     omega (arith, lt, longer) in
-    append_assoc w one (map item.Unsubscribe (take (MAX_OUTBOX_ITEMS - length (w ++ one)) ts))
+    append_assoc w one (map item.Unsubscribe (take (most - length (w ++ one)) ts))
     ∙ ap (λ n. w ++ map item.Unsubscribe (take n (t ∷ ts))) (sym less)
-waiting_by w t ts false is =
-    let none : MAX_OUTBOX_ITEMS - length w ≡ 0 = grind (arith, nat_tests, is) in
+waiting_by most w t ts false is =
+    let none : most - length w ≡ 0 = grind (arith, nat_tests, is) in
     ap (λ n. w ++ map item.Unsubscribe (take n ts)) none
     ∙ ap (λ n. w ++ map item.Unsubscribe (take n (t ∷ ts))) (sym none)
 
 abbrev pub with_both : Link → List Item → List Wanted → Link
 with_both link items wanted = record link { waiting = items; wanted = wanted }
 
-pub let_go_is : (link : Link) (texts : List (List ℕ)) → let_go link texts ≡ let_go_form link texts
-let_go_is link [] =
+pub let_go_is : (limits : Limits) (link : Link) (texts : List (List ℕ))
+    → let_go limits link texts ≡ let_go_form limits link texts
+let_go_is limits link [] =
     sym (ap (λ items. with_both link items (filter (λ w. true) link.wanted))
-    (ap (λ more. link.waiting ++ map item.Unsubscribe more) (take-nil (places_left link))
+    (ap (λ more. link.waiting ++ map item.Unsubscribe more) (take-nil (places_left limits link))
     ∙ append-nil link.waiting) ∙ ap (with_both link link.waiting) (sym (all_kept link.wanted)))
-let_go_is link (t ∷ ts) =
-    let_go_is (let_go_one link t) ts
+let_go_is limits link (t ∷ ts) =
+    let_go_is limits (let_go_one limits link t) ts
     ∙ (ap (λ items. with_both link items
     (filter (λ w. not (gone_in ts w.filter)) (without_wanted link.wanted t)))
-    (waiting_by link.waiting t ts (has_place link) refl)
-    ∙ ap (with_both link (link.waiting ++ told_gone link (t ∷ ts))) (twice t ts link.wanted))
+    (waiting_by limits.waiting link.waiting t ts (has_place limits link) refl)
+    ∙ ap (with_both link (link.waiting ++ told_gone limits link (t ∷ ts))) (twice t ts link.wanted))
+
+-- ---- the room
+
+-- there is room for the first of them, and for the rest behind it
+pub one-place : (texts rest : List (List ℕ)) (text : List ℕ) (l : LinkRoom) → texts ≡ text ∷ rest
+    → HasPlaces (length texts) l → HasPlaces 1 l
+one-place texts rest text l is has =
+    let size : length texts ≡ suc (length rest) = ap (λ (ts : List (List ℕ)). length ts) is in
+    (omega (arith, size, has.0), omega (arith, size, has.1))
+
+pub rest-places : (texts rest : List (List ℕ)) (text : List ℕ) (l : LinkRoom) → texts ≡ text ∷ rest
+    → HasPlaces (length texts) l → HasPlaces (suc (length rest)) l
+rest-places texts rest text l is has =
+    subst (λ n. HasPlaces n l) (ap (λ (ts : List (List ℕ)). length ts) is) has
 
 -- ---- the notes of those that are dropped
 

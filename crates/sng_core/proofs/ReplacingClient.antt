@@ -61,12 +61,14 @@ one_next : (s : State) (a : Around) (policy : Policy) (place : ℕ) (client : Li
     (h : Held) (rest : List Held) (z : Client) (releases : List Release) (o : Outcome)
     → place ≡ length earlier
     → ((y : Client) (rs : List Release)
-    → all_next (course s (earlier ++ y ∷ xs) rs) (endings_by policy place client rest)
-    ≡ course s (earlier ++ notes_by a (ends_under policy client rest) y ∷ xs)
+    → all_next policy.limits (course policy.limits s (earlier ++ y ∷ xs) rs)
+    (endings_by policy place client rest)
+    ≡ course policy.limits s (earlier ++ notes_by a (ends_under policy client rest) y ∷ xs)
     (rs ++ releases_of client (others earlier xs) (lost policy client rest)))
-    → all_next (course s (earlier ++ z ∷ xs) releases)
+    → all_next policy.limits (course policy.limits s (earlier ++ z ∷ xs) releases)
     (ending_of place client h.filter o ++ endings_by policy place client rest)
-    ≡ course s (earlier ++ notes_by a (end_of client h.filter o ++ ends_under policy client rest) z ∷ xs)
+    ≡ course policy.limits s
+    (earlier ++ notes_by a (end_of client h.filter o ++ ends_under policy client rest) z ∷ xs)
     (releases ++ releases_of client (others earlier xs) (lost_of h.filter o ++ lost policy client rest))
 one_next s a policy place client earlier xs h rest z releases Allowed is later = later z releases
 one_next s a policy place client earlier xs h rest z releases (Denied rule) is later =
@@ -76,10 +78,10 @@ one_next s a policy place client earlier xs h rest z releases (Denied rule) is l
     let y = without text z in
     let held = is_held (Middle earlier z xs text) text in
     let more = releases_of client (others earlier xs) (lost policy client rest) in
-    ap (λ (t : State). all_next t (endings_by policy place client rest))
-    (ended_course s earlier z xs releases client e is)
+    ap (λ (t : State). all_next policy.limits t (endings_by policy place client rest))
+    (ended_course policy.limits s earlier z xs releases client e is)
     ∙ (later y (releases ++ gone_if held client text)
-    ∙ ap (course s (earlier ++ notes_by a (ends_under policy client rest) y ∷ xs))
+    ∙ ap (course policy.limits s (earlier ++ notes_by a (ends_under policy client rest) y ∷ xs))
     (gone_then releases more client text held
     ∙ ap (λ b. releases ++ (if b then more else record { client = client; filter = text } ∷ more))
     (gone_held earlier z xs text)))
@@ -87,11 +89,12 @@ one_next s a policy place client earlier xs h rest z releases (Denied rule) is l
 pub client_course : (s : State) (a : Around) (policy : Policy) (place : ℕ) (client : List ℕ)
     (earlier xs : List Client) (rest : List Held) → place ≡ length earlier
     → (z : Client) (releases : List Release)
-    → all_next (course s (earlier ++ z ∷ xs) releases) (endings_by policy place client rest)
-    ≡ course s (earlier ++ notes_by a (ends_under policy client rest) z ∷ xs)
+    → all_next policy.limits (course policy.limits s (earlier ++ z ∷ xs) releases)
+    (endings_by policy place client rest)
+    ≡ course policy.limits s (earlier ++ notes_by a (ends_under policy client rest) z ∷ xs)
     (releases ++ releases_of client (others earlier xs) (lost policy client rest))
 client_course s a policy place client earlier xs [] is z releases =
-    ap (course s (earlier ++ z ∷ xs)) (sym (append-nil releases))
+    ap (course policy.limits s (earlier ++ z ∷ xs)) (sym (append-nil releases))
 client_course s a policy place client earlier xs (h ∷ rest) is z releases =
     one_next s a policy place client earlier xs h rest z releases (coverage policy client h.filter) is
     (client_course s a policy place client earlier xs rest is)
@@ -154,17 +157,18 @@ one_outs : (s : State) (a : Around) (dropped : List Release) (policy : Policy) (
     (earlier xs : List Client) (h : Held) (rest : List Held) (z : Client) (releases later : List Release)
     (o : Outcome)
     → z.id ≡ client → place ≡ length earlier
-    → dropped ≡ dropped_of s.link
+    → dropped ≡ dropped_of policy.limits s.link
     (releases ++ (releases_of client (others earlier xs) (lost_of h.filter o ++ lost policy client rest)
     ++ later))
     → stands rest h.filter ≡ false → list_any (is_release client h.filter) releases ≡ false
     → Unreleased client releases rest → list_any (is_release client h.filter) later ≡ false
     → ((y : Client) (rs : List Release) → y.id ≡ client → Unreleased client rs rest
-    → dropped ≡ dropped_of s.link
+    → dropped ≡ dropped_of policy.limits s.link
     (rs ++ (releases_of client (others earlier xs) (lost policy client rest) ++ later))
-    → all_outs (course s (earlier ++ y ∷ xs) rs) (endings_by policy place client rest)
+    → all_outs policy.limits (course policy.limits s (earlier ++ y ∷ xs) rs)
+    (endings_by policy place client rest)
     ≡ spell a dropped y (ends_under policy client rest))
-    → all_outs (course s (earlier ++ z ∷ xs) releases)
+    → all_outs policy.limits (course policy.limits s (earlier ++ z ∷ xs) releases)
     (ending_of place client h.filter o ++ endings_by policy place client rest)
     ≡ spell a dropped z (end_of client h.filter o ++ ends_under policy client rest)
 one_outs s a dropped policy place client earlier xs h rest z releases later Allowed own is drops once none un
@@ -176,39 +180,40 @@ one_outs s a dropped policy place client earlier xs h rest z releases later
     record { place = place; filter = text; note = note.End client text (Denied rule) } in
     let held = is_held (Middle earlier z xs text) text in
     let behind = releases_of client (others earlier xs) (lost policy client rest) in
-    let link = (course s (earlier ++ z ∷ xs) releases).link in
+    let link = (course policy.limits s (earlier ++ z ∷ xs) releases).link in
     let split : releases ++ (releases_of client (others earlier xs) (text ∷ lost policy client rest) ++ later)
     ≡ releases ++ (gone_if held client text ++ (behind ++ later)) =
     ap (λ rs. releases ++ rs)
     (ap (λ b. (if b then behind else record { client = client; filter = text } ∷ behind) ++ later)
     (sym (gone_held earlier z xs text)) ∙ gone_first behind later client text held) in
-    let drops_are : dropped ≡ dropped_of s.link
+    let drops_are : dropped ≡ dropped_of policy.limits s.link
     (releases ++ (gone_if held client text ++ (behind ++ later))) =
-    drops ∙ ap (dropped_of s.link) split in
-    let next_drops : dropped ≡ dropped_of s.link
+    drops ∙ ap (dropped_of policy.limits s.link) split in
+    let next_drops : dropped ≡ dropped_of policy.limits s.link
     ((releases ++ gone_if held client text) ++ (behind ++ later)) =
-    drops_are ∙ ap (dropped_of s.link)
+    drops_are ∙ ap (dropped_of policy.limits s.link)
     (sym (append_assoc releases (gone_if held client text) (behind ++ later))) in
     let behind_none : list_any (is_release client text) (behind ++ later) ≡ false =
     list_any-append (is_release client text) behind later
     ∙ rw (releases_miss policy client text (others earlier xs) rest once) then_none in
     let clients_are : ended_clients (earlier ++ z ∷ xs) e ≡ Middle earlier z xs text =
     rw is (moved_behind (without text) earlier z xs) in
-    let notes_are : ended_notes link (ended_clients (earlier ++ z ∷ xs) e) text
+    let notes_are : ended_notes policy.limits link (ended_clients (earlier ++ z ∷ xs) e) text
     ≡ drop_note dropped z.id text =
-    ap (λ ys. ended_notes link ys text) clients_are
-    ∙ (dropped_said s.link releases (behind ++ later) client text held none behind_none
+    ap (λ ys. ended_notes policy.limits link ys text) clients_are
+    ∙ (dropped_said policy.limits s.link releases (behind ++ later) client text held none behind_none
     ∙ (ap (λ rs. drop_note rs client text) (sym drops_are)
     ∙ ap (λ c. drop_note dropped c text) (sym own))) in
-    let after_are : all_outs (ended_next (course s (earlier ++ z ∷ xs) releases) e)
+    let after_are : all_outs policy.limits
+    (ended_next policy.limits (course policy.limits s (earlier ++ z ∷ xs) releases) e)
     (endings_by policy place client rest)
     ≡ spell a dropped (without text z) (ends_under policy client rest) =
-    ap (λ (t : State). all_outs t (endings_by policy place client rest))
-    (ended_course s earlier z xs releases client e is)
+    ap (λ (t : State). all_outs policy.limits t (endings_by policy place client rest))
+    (ended_course policy.limits s earlier z xs releases client e is)
     ∙ more (without text z) (releases ++ gone_if held client text) own
     (unreleased_more client text releases held rest once un) next_drops in
     ap (λ outs. Note e.note ∷ (outs
-    ++ all_outs (ended_next (course s (earlier ++ z ∷ xs) releases) e)
+    ++ all_outs policy.limits (ended_next policy.limits (course policy.limits s (earlier ++ z ∷ xs) releases) e)
     (endings_by policy place client rest))) notes_are
     ∙ ap (λ outs. Note e.note ∷ (drop_note dropped z.id text ++ outs)) after_are
 
@@ -217,9 +222,10 @@ pub client_says : (s : State) (a : Around) (dropped : List Release) (policy : Po
     → place ≡ length earlier
     → HeldOnce rest → Unreleased client later rest
     → (z : Client) (releases : List Release) → z.id ≡ client → Unreleased client releases rest
-    → dropped ≡ dropped_of s.link
+    → dropped ≡ dropped_of policy.limits s.link
     (releases ++ (releases_of client (others earlier xs) (lost policy client rest) ++ later))
-    → all_outs (course s (earlier ++ z ∷ xs) releases) (endings_by policy place client rest)
+    → all_outs policy.limits (course policy.limits s (earlier ++ z ∷ xs) releases)
+    (endings_by policy place client rest)
     ≡ spell a dropped z (ends_under policy client rest)
 client_says s a dropped policy place earlier xs later client [] is once then_un z releases own un drops = refl
 client_says s a dropped policy place earlier xs later client

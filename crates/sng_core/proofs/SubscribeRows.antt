@@ -1,11 +1,12 @@
 -- The row and the next state of a SUBSCRIBE, as code makes them.
-use Rattle.std.proofs.Common.{◌≡◌, ℕ, zero, suc, Bool, true, false, ◌<◌, length, List, [], ◌∷◌, ◌++◌, refl}
-use Rattle.std.proofs.Common.{ap, sym, ◌∙◌, subst, arith}
-use Rattle.std.specs.Prelude.{if◌then◌else◌, slice_get, Option, Some, None, Ok, Err}
+use Rattle.std.proofs.Common.{◌≡◌, ℕ, zero, suc, Bool, true, false, List, [], ◌∷◌, ◌++◌, refl}
+use Rattle.std.proofs.Common.{ap, sym, ◌∙◌, subst}
+use Rattle.std.specs.Prelude.{if◌then◌else◌, ◌&&◌, slice_get, Option, Some, None, Ok, Err}
 use Rattle.std.specs.declared.result.Result.{Result}
 use Rattle.std.proofs.lemmas.List.{append-nil}
 use Rattle.sng_frames.specs.declared.messages.subscribe.TopicRequest.{TopicRequest}
 use Rattle.sng_text.specs.declared.qos.Qos.{Qos}
+use Rattle.sng_ids.specs.Ids.{Ids, is_full_for}
 use Rattle.sng_outbox.specs.declared.item.Item.{Item}
 use Rattle.sng_outbox.specs.declared.item.Item.TheVariants as item
 use Rattle.sng_book.specs.declared.address.Address.{Address}
@@ -29,8 +30,6 @@ use Rattle.sng_history.specs.Whole.{frames_of, replied, stranger_to}
 use Rattle.sng_history.specs.Lawful.{fixed_for}
 use Rattle.sng_history.specs.Steps.{asked_by_all, asked_for, next_by}
 use Rattle.sng_history.specs.Good.{Good}
-use Rattle.sng_wanted.specs.declared.limits.TheConstants.{MAX_WANTED}
-use Rattle.sng_history.proofs.FewWanted.{few_wanted}
 use Rattle.sng_history.proofs.FiltersKept.{may_stand}
 use Rattle.sng_history.proofs.EndlessRequests.{subscribe_endless}
 use Rattle.sng_history.proofs.EndlessAsks.{endless_link}
@@ -185,15 +184,20 @@ stands_by : (clock : ℕ) (r : TopicRequest) (filter : List ℕ) (told : Bool) (
 stands_by clock r filter true x is = rw is refl
 stands_by clock r filter false x is = rw is refl
 
+-- the link once a SUBSCRIBE of the filter waits
+abbrev pub subscribed_link : Link → List ℕ → Link
+subscribed_link link one =
+    record link {
+      waiting = link.waiting ++ item.Subscribe one ∷ [];
+      wanted = with_wanted link.wanted one;
+    }
+
 -- the sessions and the link once the subscription stands
 pub kept : (s : State) (r : TopicRequest) (place : ℕ) (filter one : List ℕ) (name : Option (List ℕ)) (q : Qos)
     (link : Link) (xs : List Client)
     → one ≡ filter → name ≡ (if gets_id r.flags.id_type filter then Some filter else None)
     → q ≡ granted r.flags.qos
-    → link ≡ record s.link {
-      waiting = s.link.waiting ++ item.Subscribe one ∷ [];
-      wanted = with_wanted s.link.wanted one;
-    }
+    → link ≡ subscribed_link s.link one
     → xs ≡ moved_at place (subscribed_at s.clock name filter q) s.clients
     → (let after : State = record s { link = link; clients = xs } in after)
     ≡ stands_at s r place (record { filter = Some filter; outcome = Allowed })
@@ -220,6 +224,12 @@ pub named_is : (s : State) (x : Client) (r : TopicRequest) (filter id : List ℕ
     ≡ subscribe_named s x r (filter_in s.policy r.flags.id_type r.topic)
 named_is s x r filter id covered room o named is covers same fits = rw (named, is, covers, same, fits) refl
 
--- fewer filters are wanted than there is room for
-pub wanted_room : (s : State) → Good s → length s.link.wanted < MAX_WANTED
-wanted_room s good = omega (arith, few_wanted s good)
+-- ---- there is room for the name that the client is told with an id of it
+
+same_told : (filter x : List ℕ) → Some filter ≡ Some x → filter ≡ x
+same_told filter x same = cc
+
+pub told_fits : (told : Bool) (filter x : List ℕ) (ids : Ids) → (told && is_full_for filter ids) ≡ false
+    → (if told then Some filter else None) ≡ Some x → is_full_for x ids ≡ false
+told_fits true filter x ids fits is = subst (λ n. is_full_for n ids ≡ false) (same_told filter x is) fits
+told_fits false filter x ids fits is = absurd cc

@@ -4,6 +4,7 @@ use Rattle.std.proofs.Common.{ap, sym, ◌∙◌, subst}
 use Rattle.std.specs.Prelude.{if◌then◌else◌, Option, Some, None}
 use Rattle.std.specs.List.{flat_map}
 use Rattle.std.proofs.lemmas.List.{append-nil, append_assoc}
+use Rattle.sng_grants.specs.Limits.{Limits}
 use Rattle.sng_wills.specs.declared.will.Will.{Will}
 use Rattle.sng_queue.specs.Messages.{Message}
 use Rattle.sng_outbox.specs.declared.item.Item.TheVariants as item
@@ -42,34 +43,37 @@ use Rattle.sng_core.proofs.AgainRows.{again_row}
 -- ---- what one loss does to the link
 
 -- the will that finds its place waits
-will_by : (link : Link) (id : List ℕ) (will : Will) (o : Outcome) → room_in link will.qos ≡ o
-    → placed_if link (kept_by id will o) ≡ placed link (publication_of id will)
-will_by link id will Allowed is = refl
-will_by link id will (Denied rule) is =
+will_by : (limits : Limits) (link : Link) (id : List ℕ) (will : Will) (o : Outcome)
+    → room_in limits link will.qos ≡ o
+    → placed_if limits link (kept_by id will o) ≡ placed limits link (publication_of id will)
+will_by limits link id will Allowed is = refl
+will_by limits link id will (Denied rule) is =
     sym (ap (λ o. if is_allowed o then with_item link (item.Publish (publication_of id will)) else link) is)
 
-pub will_placed : (link : Link) (id : List ℕ) (will : Option Will)
-    → placed_if link (kept_will (room_of link) id will) ≡ all_placed link (will_of id will)
-will_placed link id None = refl
-will_placed link id (Some will) =
-    ap (λ o. placed_if link (kept_by id will o)) (sym (room_same link will.qos))
-    ∙ will_by link id will (room_in link will.qos) refl
+pub will_placed : (limits : Limits) (link : Link) (id : List ℕ) (will : Option Will)
+    → placed_if limits link (kept_will (room_of limits link) id will)
+    ≡ all_placed limits link (will_of id will)
+will_placed limits link id None = refl
+will_placed limits link id (Some will) =
+    ap (λ o. placed_if limits link (kept_by id will o)) (sym (room_same limits link will.qos))
+    ∙ will_by limits link id will (room_in limits link will.qos) refl
 
 -- and the room is what is left then
-will_room : (link : Link) (id : List ℕ) (will : Option Will)
-    → room_of (all_placed link (will_of id will)) ≡ room_behind (room_of link) will
-will_room link id None = refl
-will_room link id (Some will) = room_placed link (publication_of id will)
+will_room : (limits : Limits) (link : Link) (id : List ℕ) (will : Option Will)
+    → room_of limits (all_placed limits link (will_of id will)) ≡ room_behind (room_of limits link) will
+will_room limits link id None = refl
+will_room limits link id (Some will) = room_placed limits link (publication_of id will)
 
-after_by : (link : Link) (x : Client) (over : Bool)
-    → room_of (all_placed link (if over then will_of x.id x.wills.will else []))
-    ≡ (if over then room_behind (room_of link) x.wills.will else room_of link)
-after_by link x true = will_room link x.id x.wills.will
-after_by link x false = refl
+after_by : (limits : Limits) (link : Link) (x : Client) (over : Bool)
+    → room_of limits (all_placed limits link (if over then will_of x.id x.wills.will else []))
+    ≡ (if over then room_behind (room_of limits link) x.wills.will else room_of limits link)
+after_by limits link x true = will_room limits link x.id x.wills.will
+after_by limits link x false = refl
 
-pub after_room : (clock : ℕ) (link : Link) (x : Client)
-    → room_of (all_placed link (testament clock x)) ≡ room_after clock (room_of link) x
-after_room clock link x = after_by link x (is_lost_at clock x)
+pub after_room : (limits : Limits) (clock : ℕ) (link : Link) (x : Client)
+    → room_of limits (all_placed limits link (testament clock x))
+    ≡ room_after clock (room_of limits link) x
+after_room limits clock link x = after_by limits link x (is_lost_at clock x)
 
 -- ---- what is let out for one client
 
@@ -80,13 +84,13 @@ dropped_by : (a : Around) (id : List ℕ) (will : Will) (o : Outcome) (y : Clien
 dropped_by a id will Allowed y clock is = refl
 dropped_by a id will (Denied rule) y clock is = rw is refl
 
-dropped_spelled : (a : Around) (link : Link) (id : List ℕ) (will : Option Will) (y : Client) (clock : ℕ)
-    → a.cause ≡ ByTick clock
-    → spell a [] y (will_dropped link id (will_of id will)) ≡ will_outs (room_of link) id will
-dropped_spelled a link id None y clock is = refl
-dropped_spelled a link id (Some will) y clock is =
-    dropped_by a id will (room_in link will.qos) y clock is
-    ∙ ap (turned_down id will.topic) (room_same link will.qos)
+dropped_spelled : (a : Around) (limits : Limits) (link : Link) (id : List ℕ) (will : Option Will) (y : Client)
+    (clock : ℕ) → a.cause ≡ ByTick clock
+    → spell a [] y (will_dropped limits link id (will_of id will)) ≡ will_outs (room_of limits link) id will
+dropped_spelled a limits link id None y clock is = refl
+dropped_spelled a limits link id (Some will) y clock is =
+    dropped_by a id will (room_in limits link will.qos) y clock is
+    ∙ ap (turned_down id will.topic) (room_same limits link will.qos)
 
 -- what is gone comes before it
 gone_then : (a : Around) (id : List ℕ) (waiting : List Message) (more : List Decision) (outs : List Out)
@@ -98,13 +102,13 @@ gone_then a id (m ∷ waiting) more outs y same =
     ap (λ rest. Note (note.Hand id m.name (Denied (Peer Gone))) ∷ rest)
     (gone_then a id waiting more outs (note_by a (note.Hand id m.name (Denied (Peer Gone))) y) same)
 
-lost_spelled : (a : Around) (link : Link) (x : Client) (clock : ℕ) → a.cause ≡ ByTick clock
-    → spell a [] x (lost_notes link x) ≡ lost_outs (room_of link) x
-lost_spelled a link x clock is =
+lost_spelled : (a : Around) (limits : Limits) (link : Link) (x : Client) (clock : ℕ) → a.cause ≡ ByTick clock
+    → spell a [] x (lost_notes limits link x) ≡ lost_outs (room_of limits link) x
+lost_spelled a limits link x clock is =
     ap (λ rest. Note (note.Lost x.id) ∷ rest)
-    (gone_then a x.id x.buffer.waiting (will_dropped link x.id (will_of x.id x.wills.will))
-    (will_outs (room_of link) x.id x.wills.will) (lost x)
-    (λ z. dropped_spelled a link x.id x.wills.will z clock is))
+    (gone_then a x.id x.buffer.waiting (will_dropped limits link x.id (will_of x.id x.wills.will))
+    (will_outs (room_of limits link) x.id x.wills.will) (lost x)
+    (λ z. dropped_spelled a limits link x.id x.wills.will z clock is))
 
 -- what is let out for a client, and behind it that nothing is left
 abbrev spelled_by : Around → Client → List Decision → List Out
@@ -112,23 +116,25 @@ spelled_by a x notes = spell a [] x notes ++ drained_outs (notes_by a notes x)
 
 due_by : (s : State) (tick clock : ℕ) (link : Link) (x : Client) (over : Bool) → AtRest x
     → (let a = around s (ByTick tick) in
-    spelled_by a x (if over then lost_notes link x else again_notes s.policy clock x)
-    ≡ (if over then lost_outs (room_of link) x else again_outs s.policy clock x))
+    let limits = s.policy.limits in
+    spelled_by a x (if over then lost_notes limits link x else again_notes s.policy clock x)
+    ≡ (if over then lost_outs (room_of limits link) x else again_outs s.policy clock x))
 due_by s tick clock link x true rest =
     let a = around s (ByTick tick) in
-    (λ i. lost_spelled a link x tick refl i ++ drained_outs (lost_next s tick link x i))
-    ∙ append-nil (lost_outs (room_of link) x)
+    let limits = s.policy.limits in
+    (λ i. lost_spelled a limits link x tick refl i ++ drained_outs (lost_next s tick limits link x i))
+    ∙ append-nil (lost_outs (room_of limits link) x)
 due_by s tick clock link x false rest = sym (again_row (around s (ByTick tick)) clock x rest)
 
 -- ---- all clients, in order
 
 -- the link once the wills of those before are placed, and that of one more
-more_placed : (link : Link) (clock : ℕ) (pre : List Client) (y : Client)
-    → all_placed link (testaments clock (pre ++ y ∷ []))
-    ≡ all_placed (all_placed link (testaments clock pre)) (testament clock y)
-more_placed link clock pre y =
-    ap (all_placed link) (testaments_with clock pre y)
-    ∙ placed_append link (testaments clock pre) (testament clock y)
+more_placed : (limits : Limits) (link : Link) (clock : ℕ) (pre : List Client) (y : Client)
+    → all_placed limits link (testaments clock (pre ++ y ∷ []))
+    ≡ all_placed limits (all_placed limits link (testaments clock pre)) (testament clock y)
+more_placed limits link clock pre y =
+    ap (all_placed limits link) (testaments_with clock pre y)
+    ∙ placed_append limits link (testaments clock pre) (testament clock y)
 
 abbrev spelled_for : State → ℕ → Link → ℕ → List Client → Client → List Out
 spelled_for s tick link clock all x =
@@ -137,19 +143,23 @@ spelled_for s tick link clock all x =
 pub rows_from : (s : State) (link : Link) (clock tick : ℕ) (pre ys all : List Client) → Each AtRest ys
     → Distinct all → all ≡ pre ++ ys
     → flat_map (spelled_for s tick link clock all) ys
-    ≡ dues_outs s.policy clock (room_of (all_placed link (testaments clock pre))) ys
+    ≡ dues_outs s.policy clock
+    (room_of s.policy.limits (all_placed s.policy.limits link (testaments clock pre))) ys
 rows_from s link clock tick pre [] all rest apart parts = refl
 rows_from s link clock tick pre (y ∷ ys) all rest apart parts =
     let a = around s (ByTick tick) in
-    let l = all_placed link (testaments clock pre) in
+    let limits = s.policy.limits in
+    let l = all_placed limits link (testaments clock pre) in
     let here : before y.id all ≡ pre =
     ap (before y.id) parts ∙ before_is pre y ys (subst Distinct parts apart) in
-    let first : spelled_for s tick link clock all y ≡ due_outs s.policy clock (room_of l) y =
-    ap (λ xs. spelled_by a y (if is_lost_at clock y then lost_notes (all_placed link (testaments clock xs)) y
+    let first : spelled_for s tick link clock all y ≡ due_outs s.policy clock (room_of limits l) y =
+    ap (λ xs. spelled_by a y (if is_lost_at clock y
+    then lost_notes limits (all_placed limits link (testaments clock xs)) y
     else again_notes s.policy clock y)) here
     ∙ due_by s tick clock l y (is_lost_at clock y) rest.0 in
-    let room : room_of (all_placed link (testaments clock (pre ++ y ∷ []))) ≡ room_after clock (room_of l) y =
-    ap room_of (more_placed link clock pre y) ∙ after_room clock l y in
+    let room : room_of limits (all_placed limits link (testaments clock (pre ++ y ∷ [])))
+    ≡ room_after clock (room_of limits l) y =
+    ap (room_of limits) (more_placed limits link clock pre y) ∙ after_room limits clock l y in
     let more =
     rows_from s link clock tick (pre ++ y ∷ []) ys all rest.1 apart
     (parts ∙ sym (append_assoc pre (y ∷ []) ys)) in

@@ -3,6 +3,7 @@ use Rattle.std.proofs.Common.{◌≡◌, ℕ, zero, suc, Bool, true, false, List
 use Rattle.std.proofs.Common.{ap, sym, ◌∙◌, arith}
 use Rattle.std.specs.Prelude.{if◌then◌else◌, ◌&&◌}
 use Rattle.std.proofs.lemmas.List.{append-nil, append_assoc, length-append}
+use Rattle.sng_grants.specs.Limits.{Limits}
 use Rattle.sng_grants.specs.declared.policy.Policy.{Policy}
 use Rattle.sng_outbox.specs.declared.item.Item.TheVariants as item
 use Rattle.sng_outbox.specs.declared.item.Publication.{Publication}
@@ -47,37 +48,45 @@ use Rattle.sng_core.proofs.Found.{moved_behind}
 -- ---- what is planned, carried out
 
 again_link : (policy : Policy) (clock place : ℕ) (x : Client) (late : Bool) (link : Link) (more : List Due)
-    → dues_link ((if late then Unanswered place (exchange_comes policy x x.buffer.exchange) ∷ [] else [])
-    ++ more) link ≡ dues_link more link
+    → dues_link policy.limits
+    ((if late then Unanswered place (exchange_comes policy x x.buffer.exchange) ∷ [] else []) ++ more) link
+    ≡ dues_link policy.limits more link
 again_link policy clock place x true link more = refl
 again_link policy clock place x false link more = refl
 
 link_by : (policy : Policy) (clock : ℕ) (link : Link) (place : ℕ) (x : Client) (over : Bool) (more : List Due)
-    → dues_link ((if over then Lost (loss_of (room_of link) place x) ∷ [] else again_at policy clock place x)
+    → (let limits = policy.limits in
+    dues_link limits
+    ((if over then Lost (loss_of (room_of limits link) place x) ∷ [] else again_at policy clock place x)
     ++ more) link
-    ≡ dues_link more (all_placed link (if over then will_of x.id x.wills.will else []))
-link_by policy clock link place x true more = ap (dues_link more) (will_placed link x.id x.wills.will)
+    ≡ dues_link limits more (all_placed limits link (if over then will_of x.id x.wills.will else [])))
+link_by policy clock link place x true more =
+    ap (dues_link policy.limits more) (will_placed policy.limits link x.id x.wills.will)
 link_by policy clock link place x false more =
     again_link policy clock place x (is_repeating clock x) link more
 
 plan_link : (policy : Policy) (clock : ℕ) (link : Link) (place : ℕ) (xs : List Client)
-    → dues_link (dues_plan policy clock (room_of link) place xs) link ≡ with_wills link clock xs
+    → dues_link policy.limits (dues_plan policy clock (room_of policy.limits link) place xs) link
+    ≡ with_wills policy.limits link clock xs
 plan_link policy clock link place [] = refl
 plan_link policy clock link place (x ∷ xs) =
-    let l = all_placed link (testament clock x) in
+    let limits = policy.limits in
+    let l = all_placed limits link (testament clock x) in
     link_by policy clock link place x (is_lost_at clock x)
-    (dues_plan policy clock (room_after clock (room_of link) x) (suc place) xs)
-    ∙ (ap (λ r. dues_link (dues_plan policy clock r (suc place) xs) l) (sym (after_room clock link x))
+    (dues_plan policy clock (room_after clock (room_of limits link) x) (suc place) xs)
+    ∙ (ap (λ r. dues_link limits (dues_plan policy clock r (suc place) xs) l)
+    (sym (after_room limits clock link x))
     ∙ (plan_link policy clock l (suc place) xs
-    ∙ sym (placed_append link (testament clock x) (testaments clock xs))))
+    ∙ sym (placed_append limits link (testament clock x) (testaments clock xs))))
 
-plan_room : (clock : ℕ) (link : Link) (xs : List Client)
-    → dues_room clock (room_of link) xs ≡ room_of (with_wills link clock xs)
-plan_room clock link [] = refl
-plan_room clock link (x ∷ xs) =
-    let l = all_placed link (testament clock x) in
-    ap (λ r. dues_room clock r xs) (sym (after_room clock link x))
-    ∙ (plan_room clock l xs ∙ ap room_of (sym (placed_append link (testament clock x) (testaments clock xs))))
+plan_room : (limits : Limits) (clock : ℕ) (link : Link) (xs : List Client)
+    → dues_room clock (room_of limits link) xs ≡ room_of limits (with_wills limits link clock xs)
+plan_room limits clock link [] = refl
+plan_room limits clock link (x ∷ xs) =
+    let l = all_placed limits link (testament clock x) in
+    ap (λ r. dues_room clock r xs) (sym (after_room limits clock link x))
+    ∙ (plan_room limits clock l xs
+    ∙ ap (room_of limits) (sym (placed_append limits link (testament clock x) (testaments clock xs))))
 
 -- what comes of one client
 abbrev due_next : Policy → ℕ → Client → Client
@@ -172,9 +181,11 @@ placed_pinged : (link : Link) (p : Publication) (o : Outcome)
 placed_pinged link p Allowed = refl
 placed_pinged link p (Denied rule) = refl
 
-all_pinged : (link : Link) (ps : List Publication) → (all_placed link ps).pinged ≡ link.pinged
-all_pinged link [] = refl
-all_pinged link (p ∷ ps) = all_pinged (placed link p) ps ∙ placed_pinged link p (room_in link p.qos)
+all_pinged : (limits : Limits) (link : Link) (ps : List Publication)
+    → (all_placed limits link ps).pinged ≡ link.pinged
+all_pinged limits link [] = refl
+all_pinged limits link (p ∷ ps) =
+    all_pinged limits (placed limits link p) ps ∙ placed_pinged link p (room_in limits link p.qos)
 
 noted_by : (due place : Bool) → (if due && (if place then false else true) then Note note.Outbox ∷ [] else [])
     ≡ (if due then (if place then [] else Note note.Outbox ∷ []) else [])
@@ -182,20 +193,21 @@ noted_by true true = refl
 noted_by true false = refl
 noted_by false place = refl
 
-due_same : (up : Bool) (link : Link) (clock : ℕ) (ps : List Publication)
-    → is_ping_due up link clock ≡ is_ping_due up (all_placed link ps) clock
-due_same up link clock ps =
-    ap (λ since. is_ping_due up (record link { pinged = since }) clock) (sym (all_pinged link ps))
+due_same : (limits : Limits) (up : Bool) (link : Link) (clock : ℕ) (ps : List Publication)
+    → is_ping_due up link clock ≡ is_ping_due up (all_placed limits link ps) clock
+due_same limits up link clock ps =
+    ap (λ since. is_ping_due up (record link { pinged = since }) clock) (sym (all_pinged limits link ps))
 
-ping_same : (up : Bool) (link : Link) (clock : ℕ) (xs : List Client)
-    → ping_noted (is_ping_due up link clock) (dues_room clock (room_of link) xs)
-    ≡ ping_dropped up (with_wills link clock xs) clock
-ping_same up link clock xs =
-    let l = with_wills link clock xs in
+ping_same : (limits : Limits) (up : Bool) (link : Link) (clock : ℕ) (xs : List Client)
+    → ping_noted (is_ping_due up link clock) (dues_room clock (room_of limits link) xs)
+    ≡ ping_dropped limits up (with_wills limits link clock xs) clock
+ping_same limits up link clock xs =
+    let l = with_wills limits link clock xs in
     let due = is_ping_due up l clock in
-    (λ i. ping_noted (due_same up link clock (testaments clock xs) i) (plan_room clock link xs i))
-    ∙ (ap (λ none. if due && none then Note note.Outbox ∷ [] else []) (place_left l)
-    ∙ noted_by due (has_place l))
+    (λ i. ping_noted (due_same limits up link clock (testaments clock xs) i)
+    (plan_room limits clock link xs i))
+    ∙ (ap (λ none. if due && none then Note note.Outbox ∷ [] else []) (place_left limits l)
+    ∙ noted_by due (has_place limits l))
 
 -- ---- the row
 
@@ -206,13 +218,13 @@ tick_outs : (s : State) (clock : ℕ) → Good s → ticked_outs s (later s.cloc
 tick_outs s clock good =
     let now = later s.clock clock in
     let rows = rows_from s s.link now clock [] s.clients s.clients good.rest good.apart refl in
-    λ i. sym rows i ++ ping_same s.up s.link now s.clients i
+    λ i. sym rows i ++ ping_same s.policy.limits s.up s.link now s.clients i
 
 tick_clients : (s : State) (clock : ℕ) → Good s
     → (ticked_next s (later s.clock clock)).clients ≡ map (client_next s (ByTick clock)) (s.clients ++ [])
 tick_clients s clock good =
     let now = later s.clock clock in
-    plan_clients s.policy now (room_of s.link) [] s.clients
+    plan_clients s.policy now (room_of s.policy.limits s.link) [] s.clients
     ∙ (same_all s clock s.clients good.rest
     ∙ ap (map (client_next s (ByTick clock))) (sym (append-nil s.clients)))
 
@@ -221,5 +233,5 @@ pub tick_row : (s : State) (clock : ℕ) → Good s
 tick_row s clock good =
     let now = later s.clock clock in
     makes s (ByTick clock) (ticked_outs s now) (ticked_next s now) good (tick_outs s clock good)
-    (λ i. at_clock s now (pinged s.up (plan_link s.policy now s.link 0 s.clients i) now)
+    (λ i. at_clock s now (pinged s.policy.limits s.up (plan_link s.policy now s.link 0 s.clients i) now)
     (tick_clients s clock good i))

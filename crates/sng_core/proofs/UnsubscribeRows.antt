@@ -8,7 +8,6 @@ use Rattle.std.proofs.Math.Seq.{take-nil}
 use Rattle.std.proofs.lemmas.List.{append-nil}
 use Rattle.sng_fan.specs.Subscriptions.{IsOneClients}
 use Rattle.sng_frames.specs.declared.messages.subscribe.TopicRequest.{TopicRequest}
-use Rattle.sng_outbox.specs.declared.limits.TheConstants.{MAX_OUTBOX_ITEMS}
 use Rattle.sng_book.specs.declared.address.Address.{Address}
 use Rattle.sng_book.specs.declared.decision.Decision.TheVariants as note
 use Rattle.sng_book.specs.declared.decision.Who.TheVariants as who
@@ -44,7 +43,7 @@ use Rattle.sng_core.proofs.UnsubscribeHeld.{judged_noted, acked, judged_still}
 
 abbrev link_then : State → List Client → Link
 link_then s after = record s.link {
-  waiting = s.link.waiting ++ ([] ++ unsubscribes s.link (released s.clients after));
+  waiting = s.link.waiting ++ ([] ++ unsubscribes s.policy.limits s.link (released s.clients after));
   wanted = joined (still_wanted after s.link.wanted) [];
 }
 
@@ -73,12 +72,17 @@ nobody_row s from r good at =
     (sym (ap (λ b. if b then flat_map (part_for s c (drops_for s c)) s.clients
     else stranger_to from (ToUnsubscribe r)) any))
     (sym (next_is s from r s.clients after
-    ∙ (rw (same_released [] s.clients, take-nil (places_left s.link), append-nil s.link.waiting, still)
-    refl)))
+    ∙ (rw (
+      same_released [] s.clients,
+      take-nil (places_left s.policy.limits s.link),
+      append-nil s.link.waiting,
+      still,
+    ) refl)))
 
 -- what is let out for the client
 part_is : (s : State) (from : Address) (r : TopicRequest) (i : ℕ) (x : Client) (j : JudgedFilter)
-    (place : Bool) → x ≡ client_at s.clients i → has_place s.link ≡ place → is_here x from ≡ true
+    (place : Bool) → x ≡ client_at s.clients i → has_place s.policy.limits s.link ≡ place
+    → is_here x from ≡ true
     → unsubscribe_ask s.policy x r ≡ note.Unsubscribe (who.Client x.id) j.filter j.outcome
     → unsubscribe_noted s r i j ≡ plain_part s (ByMessage from (ToUnsubscribe r))
     (if place then [] else map (release x) (let_go s.clients i j.filter j.outcome)) x
@@ -106,7 +110,7 @@ found_row s from r i good at =
     let j = unsubscribe_judged s.policy r x in
     let gone = let_go s.clients i j.filter j.outcome in
     let few = gone_few s.clients i j.filter j.outcome in
-    let place = has_place s.link in
+    let place = has_place s.policy.limits s.link in
     let read : slice_get s.clients i ≡ Some x = read_at s.clients i (within from s.clients i at) in
     let here = found_here from s.clients i x at read in
     let once = each_at (λ y. IsOneClients y.filters) s.clients i x good.once read in
@@ -126,9 +130,9 @@ found_row s from r i good at =
     one_released (ends_next s.clock j) s.clients i x read
     ∙ judged_released s i x j.filter j.outcome refl once in
     let dropped : drops_for s c ≡ (if place then [] else map (release x) gone) =
-    ap (λ ys. dropped_of s.link (released s.clients ys)) moved
-    ∙ (ap (dropped_of s.link) go ∙ drop_by x gone
-    (length s.link.waiting) MAX_OUTBOX_ITEMS place refl few) in
+    ap (λ ys. dropped_of s.policy.limits s.link (released s.clients ys)) moved
+    ∙ (ap (dropped_of s.policy.limits s.link) go ∙ drop_by x gone
+    (length s.link.waiting) s.policy.limits.waiting place refl few) in
     makes s c (unsubscribe_noted s r i j) (ends_at s i j) good
     (part_is s from r i x j place refl refl here (unsubscribe_said s.policy r x)
     ∙ ((sym (plain_row s c (if place then [] else map (release x) gone) x still)
@@ -140,7 +144,7 @@ found_row s from r i good at =
     (sym (next_is s from r (moved_at i (ends_next s.clock j) s.clients) after
     ∙ (rw (
       go,
-      take_by x gone (length s.link.waiting) MAX_OUTBOX_ITEMS place refl few,
+      take_by x gone (length s.link.waiting) s.policy.limits.waiting place refl few,
       judged_still s i x j.filter j.outcome good read refl,
     ) refl)))
 

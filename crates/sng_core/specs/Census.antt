@@ -1,13 +1,10 @@
 -- What is counted of a state: its clients one by one, and the lists beside them.
-use Rattle.std.specs.Prelude.{ℕ, ◌+◌, ◌*◌, List, [], ◌∷◌, length}
+use Rattle.std.specs.Prelude.{ℕ, ◌+◌, ◌-◌, ◌^◌, min, List, [], ◌∷◌, length}
 use Rattle.sng_states.specs.declared.state.ClientState.{ClientState}
 use Rattle.sng_states.specs.declared.state.ClientState.TheVariants.{Dialogue, Active, Asleep, Awake}
 use Rattle.sng_states.specs.declared.state.ClientState.TheVariants.{Disconnected, Lost}
 use Rattle.sng_history.specs.Clients.{Client}
 use Rattle.sng_history.specs.State.{State}
-use Rattle.sng_history.specs.declared.limits.TheConstants.{MAX_CLIENTS}
-use Rattle.sng_queue.specs.declared.limits.TheConstants.{MAX_QUEUED}
-use Rattle.sng_fan.specs.declared.limits.TheConstants.{MAX_SUBSCRIPTIONS}
 use Rattle.sng_core.specs.declared.census.ClientCounts.{ClientCounts}
 use Rattle.sng_core.specs.declared.census.Census.{Census}
 
@@ -23,19 +20,23 @@ nobody = record {
   messages = 0;
 }
 
+-- so many more; a count has 64 bits, and stays at its greatest number
+abbrev pub more : ℕ → ℕ → ℕ
+more count n = min (count + n) (2 ^ 64 - 1)
+
 -- one more in this state
 abbrev pub with_phase : ClientState → ClientCounts → ClientCounts
-with_phase Active c = record c { active = c.active + 1 }
-with_phase Asleep c = record c { asleep = c.asleep + 1 }
-with_phase Awake c = record c { awake = c.awake + 1 }
-with_phase Dialogue c = record c { in_dialogue = c.in_dialogue + 1 }
-with_phase Disconnected c = record c { disconnected = c.disconnected + 1 }
-with_phase Lost c = record c { lost = c.lost + 1 }
+with_phase Active c = record c { active = more c.active 1 }
+with_phase Asleep c = record c { asleep = more c.asleep 1 }
+with_phase Awake c = record c { awake = more c.awake 1 }
+with_phase Dialogue c = record c { in_dialogue = more c.in_dialogue 1 }
+with_phase Disconnected c = record c { disconnected = more c.disconnected 1 }
+with_phase Lost c = record c { lost = more c.lost 1 }
 
 -- one more in this state, with so many filters and messages
 abbrev pub counted_as : ClientState → ℕ → ℕ → ClientCounts → ClientCounts
 counted_as phase filters messages c =
-    with_phase phase (record c { filters = c.filters + filters; messages = c.messages + messages })
+    with_phase phase (record c { filters = more c.filters filters; messages = more c.messages messages })
 
 abbrev pub counted : ClientCounts → Client → ClientCounts
 counted c x = counted_as x.phase (length x.filters) (length x.buffer.waiting) c
@@ -60,10 +61,3 @@ census_of s = record {
     topics = length s.policy.topics;
   };
 }
-
--- all that was counted, which stays small: each client in its state, with its filters and its messages
-abbrev pub total : ClientCounts → ℕ
-total c = c.active + c.asleep + c.awake + c.in_dialogue + c.disconnected + c.lost + c.filters + c.messages
-
-abbrev pub MOST : ℕ
-MOST = (1 + MAX_SUBSCRIPTIONS + MAX_QUEUED) * MAX_CLIENTS

@@ -23,6 +23,7 @@ use Rattle.sng_history.specs.Packets.{has_place}
 use Rattle.sng_history.specs.Standing.{is_held, places_left}
 use Rattle.sng_history.specs.State.{State}
 use Rattle.sng_sessions.specs.Standing.{place_at, place_of, client_at}
+use Rattle.sng_grants.specs.Limits.{Limits}
 use Rattle.sng_grants.specs.declared.policy.Policy.{Policy}
 use Rattle.sng_sessions.specs.Handed.{handed_by}
 use Rattle.sng_sessions.specs.declared.handing.Opens.TheVariants.{Nothing}
@@ -65,15 +66,15 @@ abbrev pub alone_by : Connect → List Client → List (List ℕ)
 alone_by connect xs = if connect.flags.clean then alone_at xs (place_of connect.client_id xs) else []
 
 -- the filter is wanted no more, and the broker is told so where there is place
-abbrev pub let_go_one : Link → List ℕ → Link
-let_go_one link text = record link {
-  waiting = if has_place link then link.waiting ++ item.Unsubscribe text ∷ [] else link.waiting;
+abbrev pub let_go_one : Limits → Link → List ℕ → Link
+let_go_one limits link text = record link {
+  waiting = if has_place limits link then link.waiting ++ item.Unsubscribe text ∷ [] else link.waiting;
   wanted = without_wanted link.wanted text;
 }
 
-abbrev pub let_go : Link → List (List ℕ) → Link
-let_go link [] = link
-let_go link (text ∷ texts) = let_go (let_go_one link text) texts
+abbrev pub let_go : Limits → Link → List (List ℕ) → Link
+let_go limits link [] = link
+let_go limits link (text ∷ texts) = let_go limits (let_go_one limits link text) texts
 
 -- ---- a CONNECT with its verdict, and the state after it
 
@@ -113,7 +114,7 @@ refused_outs from id rule = Note (note.Connect id (Denied rule)) ∷ connack fro
 
 -- how many UNSUBSCRIBEs find no place
 abbrev pub dropped_by : State → Connect → ℕ
-dropped_by s connect = length (alone_by connect s.clients) - places_left s.link
+dropped_by s connect = length (alone_by connect s.clients) - places_left s.policy.limits s.link
 
 -- the client that connects, where it is known
 abbrev pub returning : State → Connect → Option Client
@@ -127,7 +128,7 @@ connect_outs s from connect (Denied rule) = refused_outs from connect.client_id 
 
 abbrev pub connect_next : State → Address → Connect → Outcome → State
 connect_next s from connect Allowed = record s {
-  link = let_go s.link (alone_by connect s.clients);
+  link = let_go s.policy.limits s.link (alone_by connect s.clients);
   clients =
       moved_if (place_of connect.client_id s.clients)
       (handed_by s.clock (own_plan s.policy connect (returning s connect)))

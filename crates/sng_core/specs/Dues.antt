@@ -1,8 +1,10 @@
 -- What a tick of the clock lets out and leads to, client by client, with no notes (MQTT-SN 1.2, 5.4.4, 6.3,
 -- 6.11 and 6.13).
-use Rattle.std.specs.Prelude.{ℕ, suc, ◌==◌, ◌&&◌, Bool, List, [], ◌∷◌, ◌++◌, if◌then◌else◌, Option, Some}
+use Rattle.std.specs.Prelude.{ℕ, suc, ◌+◌, ◌==◌, ◌&&◌, Bool, List, [], ◌∷◌, ◌++◌, if◌then◌else◌, Option, Some}
 use Rattle.std.specs.Prelude.{None}
+use Rattle.sng_grants.specs.Limits.{Limits}
 use Rattle.sng_grants.specs.declared.policy.Policy.{Policy}
+use Rattle.sng_outbox.specs.declared.item.Publication.{Publication}
 use Rattle.sng_book.specs.declared.decision.Decision.TheVariants as note
 use Rattle.sng_book.specs.declared.out.Out.{Out}
 use Rattle.sng_book.specs.declared.out.Out.TheVariants.{Note}
@@ -65,17 +67,36 @@ abbrev pub due_clients : ℕ → List Client → Due → List Client
 due_clients clock xs (Lost loss) = lost_clients xs loss
 due_clients clock xs (Unanswered place retried) = retried_clients clock place retried xs
 
-abbrev pub due_link : Link → Due → Link
-due_link link (Lost loss) = lost_link link loss
-due_link link (Unanswered place retried) = link
+abbrev pub due_link : Limits → Link → Due → Link
+due_link limits link (Lost loss) = lost_link limits link loss
+due_link limits link (Unanswered place retried) = link
 
 abbrev pub dues_clients : ℕ → List Due → List Client → List Client
 dues_clients clock [] xs = xs
 dues_clients clock (due ∷ dues) xs = dues_clients clock dues (due_clients clock xs due)
 
-abbrev pub dues_link : List Due → Link → Link
-dues_link [] link = link
-dues_link (due ∷ dues) link = dues_link dues (due_link link due)
+abbrev pub dues_link : Limits → List Due → Link → Link
+dues_link limits [] link = link
+dues_link limits (due ∷ dues) link = dues_link limits dues (due_link limits link due)
+
+-- ---- how many items they bring to wait
+
+-- one for a will that finds its place
+abbrev pub wills_kept : Option Publication → ℕ
+wills_kept None = 0
+wills_kept (Some p) = 1
+
+abbrev pub items_of : Due → ℕ
+items_of (Lost loss) = wills_kept loss.will
+items_of (Unanswered place retried) = 0
+
+abbrev pub all_items : List Due → ℕ
+all_items [] = 0
+all_items (due ∷ dues) = items_of due + all_items dues
+
+-- and one for a PINGREQ that is due
+abbrev pub pings_due : Bool → ℕ
+pings_due due = if due then 1 else 0
 
 -- ---- the tick
 
@@ -87,14 +108,14 @@ ping_outs s clock room = ping_noted (is_ping_due s.up s.link clock) room
 
 abbrev pub ticked_outs : State → ℕ → List Out
 ticked_outs s clock =
-    dues_outs s.policy clock (room_of s.link) s.clients
-    ++ ping_outs s clock (dues_room clock (room_of s.link) s.clients)
+    let room = room_of s.policy.limits s.link in
+    dues_outs s.policy clock room s.clients ++ ping_outs s clock (dues_room clock room s.clients)
 
 abbrev pub ticked_next : State → ℕ → State
 ticked_next s clock =
-    let plan = dues_plan s.policy clock (room_of s.link) 0 s.clients in
+    let plan = dues_plan s.policy clock (room_of s.policy.limits s.link) 0 s.clients in
     record s {
       clock = clock;
-      link = pinged s.up (dues_link plan s.link) clock;
+      link = pinged s.policy.limits s.up (dues_link s.policy.limits plan s.link) clock;
       clients = dues_clients clock plan s.clients;
     }

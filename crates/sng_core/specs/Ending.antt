@@ -12,23 +12,23 @@ use Rattle.sng_core.specs.Dues.{dues_outs, dues_plan, dues_room, dues_clients, d
 
 -- the clients and the link once what ends has ended
 abbrev pub ended_of : State → Policy → Moved
-ended_of s policy = all_next (moved s.link s.clients) (endings_from policy 0 s.clients)
+ended_of s policy = all_next policy.limits (moved s.link s.clients) (endings_from policy 0 s.clients)
 
 abbrev pub ending_outs : State → ℕ → List Out
 ending_outs s clock =
     let policy = in_force clock s.policy in
-    let room = room_of (ended_of s policy).link in
-    all_outs (moved s.link s.clients) (endings_from policy 0 s.clients)
+    let room = room_of policy.limits (ended_of s policy).link in
+    all_outs policy.limits (moved s.link s.clients) (endings_from policy 0 s.clients)
     ++ (dues_outs policy clock room s.clients ++ ping_outs s clock (dues_room clock room s.clients))
 
 abbrev pub ending_next : State → ℕ → State
 ending_next s clock =
     let policy = in_force clock s.policy in
     let m = ended_of s policy in
-    let plan = dues_plan policy clock (room_of m.link) 0 s.clients in
+    let plan = dues_plan policy clock (room_of policy.limits m.link) 0 s.clients in
     record s {
       policy = policy;
       clock = clock;
-      link = pinged s.up (dues_link plan m.link) clock;
+      link = pinged policy.limits s.up (dues_link policy.limits plan m.link) clock;
       clients = dues_clients clock plan m.clients;
     }

@@ -26,7 +26,7 @@ use Rattle.sng_frames.specs.Writing.{written}
 use Rattle.sng_frames.specs.declared.flags.TopicIdType.{TopicIdType}
 use Rattle.sng_frames.specs.declared.frame.SnFrame.TheVariants as frame
 use Rattle.sng_frames.specs.declared.messages.publish.Publish.{Publish}
-use Rattle.sng_history.specs.Links.{link_after, resumed, filters_wanted, subscribes_sent}
+use Rattle.sng_history.specs.Links.{link_after, outgoing, resumed, filters_wanted, subscribes_sent}
 use Rattle.sng_history.specs.Verdicts.{exit, and_then, room, may_ask, name_given, id_room, name_in}
 use Rattle.sng_core.specs.declared.verdict.Judged.{Judged}
 use Rattle.sng_history.specs.Answers.{denied_note, refused, code_of, regack, puback, dismissed}
@@ -167,15 +167,15 @@ carried s p (Some place) =
 
 -- ---- the link
 
--- what waits leaves, where there is a connection
+-- what has to leave does, where there is a connection
 abbrev pub taken_outs : State → List Out
-taken_outs s = if s.up then leaving s.link s.link.waiting (exits_of s.policy s.link.waiting) else []
+taken_outs s = if s.up then leaving s.link (outgoing s.link) (exits_of s.policy (outgoing s.link)) else []
 
 abbrev pub taken_next : State → State
 taken_next s =
     record s {
       link = if s.up then
-          record (link_after s.link s.link.waiting (exits_of s.policy s.link.waiting)) { waiting = [] }
+          record (link_after s.link (outgoing s.link) (exits_of s.policy (outgoing s.link))) { waiting = [] }
           else s.link;
     }
 

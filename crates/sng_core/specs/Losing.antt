@@ -1,6 +1,7 @@
 -- How a client is lost, with no notes (MQTT-SN 1.2, 5.4.4, 6.3 and 6.13): what is let out, and where its will
 -- finds its place.
 use Rattle.std.specs.Prelude.{ℕ, List, [], ◌∷◌, ◌++◌, Option, Some, None}
+use Rattle.sng_grants.specs.Limits.{Limits}
 use Rattle.sng_wills.specs.declared.will.Will.{Will}
 use Rattle.sng_outbox.specs.declared.item.Publication.{Publication}
 use Rattle.sng_outbox.specs.declared.origin.Origin.TheVariants as origin
@@ -64,12 +65,12 @@ loss_of room place x = record { place = place; will = kept_will room x.id x.will
 
 -- ---- what is planned is carried out
 
-abbrev pub placed_if : Link → Option Publication → Link
-placed_if link None = link
-placed_if link (Some p) = placed link p
+abbrev pub placed_if : Limits → Link → Option Publication → Link
+placed_if limits link None = link
+placed_if limits link (Some p) = placed limits link p
 
 abbrev pub lost_clients : List Client → LostClient → List Client
 lost_clients xs l = moved_at l.place lost xs
 
-abbrev pub lost_link : Link → LostClient → Link
-lost_link link l = placed_if link l.will
+abbrev pub lost_link : Limits → Link → LostClient → Link
+lost_link limits link l = placed_if limits link l.will

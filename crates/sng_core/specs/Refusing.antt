@@ -68,14 +68,15 @@ delivered_clients s Strange xs = xs
 -- what a packet of the broker lets out
 abbrev pub packet_outs : State → Answer → List Out
 packet_outs s a =
-    refused_notes (refused_filter s.link a) s.clients ++ (delivered_outs s a ++ answer_outs s.up s.link a)
+    refused_notes (refused_filter s.link a) s.clients
+    ++ (delivered_outs s a ++ answer_outs s.policy.limits s.up s.link a)
 
 -- and the state after it
 abbrev pub packet_link : State → Answer → Link
 packet_link s a =
     let moved = answered s.link a in
     record moved {
-      waiting = s.link.waiting ++ acknowledgements s.up s.link a;
+      waiting = s.link.waiting ++ acknowledgements s.policy.limits s.up s.link a;
       wanted = refused_wanted (refused_filter s.link a) moved.wanted;
     }
 

@@ -94,7 +94,7 @@ is_name_full (Some name) ids = is_full_for name ids
 pub record HasRoom (s : State) (x : Client) (r : TopicRequest) (filter : List ℕ) : Type 0 where
   pub ids : (gets_id r.flags.id_type filter && is_full_for filter x.ids) ≡ false
   pub filters : is_full x.filters filter ≡ false
-  pub waits : has_place s.link ≡ true
+  pub waits : has_place s.policy.limits s.link ≡ true
 
 -- where it was allowed
 abbrev pub IsAllowed : State → Client → TopicRequest → JudgedFilter → Type 0
@@ -145,7 +145,8 @@ abbrev pub unsubscribe_noted : State → TopicRequest → ℕ → JudgedFilter �
 unsubscribe_noted s r place j =
     let x = client_at s.clients place in
     Note (note.Unsubscribe (who.Client x.id) j.filter j.outcome)
-    ∷ (untold_of (has_place s.link) (let_go s.clients place j.filter j.outcome) ++ unsuback x.address r ∷ [])
+    ∷ (untold_of (has_place s.policy.limits s.link) (let_go s.clients place j.filter j.outcome)
+    ++ unsuback x.address r ∷ [])
 
 abbrev pub unsubscribe_outs : State → TopicRequest → Option ℕ → List Out → List Out
 unsubscribe_outs s r None stranger = stranger
@@ -162,7 +163,7 @@ let_go_next s place j =
     record s {
       link =
           record s.link {
-            waiting = s.link.waiting ++ told_of (has_place s.link) gone;
+            waiting = s.link.waiting ++ told_of (has_place s.policy.limits s.link) gone;
             wanted = unwanted s.link.wanted gone;
           };
     }

@@ -1,9 +1,7 @@
 //! What the gateway counts where it is asked: its clients by state, what stands and waits for them, what
 //! waits for the broker, and what the policy in force lists. Nothing changes by it.
-ghost use Rattle.std.specs.Prelude.{◌≡◌, ◌≤◌, ◌+◌, length};
-ghost use Rattle.sng_history.specs.Good.{Good};
-ghost use Rattle.sng_history.specs.declared.limits.TheConstants.{MAX_CLIENTS};
-ghost use Rattle.sng_core.specs.Census.{nobody, counted_as, counts_of, census_of, total, MOST};
+ghost use Rattle.std.specs.Prelude.{◌≡◌, length};
+ghost use Rattle.sng_core.specs.Census.{nobody, more, counted_as, counts_of, census_of};
 
 use crate::parts::Parts;
 use sng_grants::Policy;
@@ -56,7 +54,6 @@ pub struct Census {
 impl Parts {
     /// What is counted of the state: one walk over the clients. Takes no memory.
     pub fn census(&self) -> Census
-        requires { Good self.now }
         ensures { result ≡ census_of self.now }
     {
         Census {
@@ -86,28 +83,26 @@ impl ClientCounts {
         }
     }
 
-    /// One client more, in this state, with so many filters and messages.
+    /// One client more, in this state, with so many filters and messages. A count has 64 bits, and stays at
+    /// its greatest number.
     fn add(&mut self, phase: ClientState, filters: usize, messages: usize)
-        requires few { total self.old + 1 + filters + messages ≤ MOST }
-        ensures value { self.new ≡ counted_as phase filters messages self.old }
-        ensures more { total self.new ≡ total self.old + 1 + filters + messages }
+        ensures { self.new ≡ counted_as phase filters messages self.old }
     {
-        self.filters += filters;
-        self.messages += messages;
+        self.filters = self.filters.saturating_add(filters);
+        self.messages = self.messages.saturating_add(messages);
         match phase {
-            ClientState::Active => self.active += 1,
-            ClientState::Asleep => self.asleep += 1,
-            ClientState::Awake => self.awake += 1,
-            ClientState::Dialogue => self.in_dialogue += 1,
-            ClientState::Disconnected => self.disconnected += 1,
-            ClientState::Lost => self.lost += 1,
+            ClientState::Active => self.active = self.active.saturating_add(1),
+            ClientState::Asleep => self.asleep = self.asleep.saturating_add(1),
+            ClientState::Awake => self.awake = self.awake.saturating_add(1),
+            ClientState::Dialogue => self.in_dialogue = self.in_dialogue.saturating_add(1),
+            ClientState::Disconnected => self.disconnected = self.disconnected.saturating_add(1),
+            ClientState::Lost => self.lost = self.lost.saturating_add(1),
         }
     }
 }
 
 /// The clients by state, and what stands and waits for them.
 fn counts(sessions: &Sessions) -> ClientCounts
-    requires { length sessions.now ≤ MAX_CLIENTS }
     ensures { result ≡ counts_of sessions.now }
 {
     let mut counts = ClientCounts::nobody();

@@ -1,9 +1,10 @@
 //! The connection to the broker: how it begins and ends, and how what waits leaves by it (MQTT 3.1.1, 3.1
 //! and 4.4).
-ghost use Rattle.std.specs.Prelude.{◌≡◌, ◌<◌, false, length, if◌then◌else◌, IfOk, OnOk, OnErr};
-ghost use Rattle.sng_wanted.specs.declared.limits.TheConstants.{MAX_WANTED};
+ghost use Rattle.std.specs.Prelude.{◌≡◌, ◌≤◌, false, if◌then◌else◌, IfOk, OnOk, OnErr};
+ghost use Rattle.sng_grants.specs.declared.limits.TheConstants.{MAX_FLIGHT};
 ghost use Rattle.sng_outbox.specs.Sending.{publishes};
 ghost use Rattle.sng_history.specs.Exits.{agains_of, beginning};
+ghost use Rattle.sng_link.specs.Rooms.{load_of};
 ghost use Rattle.sng_core.specs.Forms.{taken_outs, taken_next, begun_next};
 
 use crate::parts::Parts;
@@ -14,7 +15,7 @@ impl Parts {
     /// The broker's connection is up. Where one was up, that one ended; what is in flight is judged and sent
     /// again, and what is wanted is subscribed anew.
     pub fn begin_connection(&mut self, alloc: Global) -> Result<OutsPair, AllocError>
-        requires { length self.old.link.wanted < MAX_WANTED }
+        requires { load_of self.old.link ≤ MAX_FLIGHT }
         ensures outs { IfOk result (λ outs. outs
             ≡ beginning self.old.link self.old.clock (agains_of self.old.policy self.old.link.in_flight)) }
         ensures next { OnOk result (self.new ≡ begun_next self.old) }
@@ -51,9 +52,9 @@ impl Parts {
         self.link.keep_publishes();
     }
 
-    /// What waits leaves, where there is a connection.
+    /// What has to leave does, where there is a connection: what is owed, and then what waits.
     pub fn take(&mut self, alloc: Global) -> Result<OutsPair, AllocError>
-        requires { length self.old.link.wanted < MAX_WANTED }
+        requires { load_of self.old.link ≤ MAX_FLIGHT }
         ensures outs { IfOk result (λ outs. outs ≡ taken_outs self.old) }
         ensures next { OnOk result (self.new ≡ taken_next self.old) }
         ensures err { OnErr result (self.new ≡ self.old) }

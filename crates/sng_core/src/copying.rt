@@ -1,5 +1,6 @@
 //! The gateway's state between two steps, in memory for what it holds and not for what it may hold.
-ghost use Rattle.std.specs.Prelude.{◌≡◌, ◌↔◌, [], IsTrue, IfOk};
+ghost use Rattle.std.specs.Prelude.{◌≡◌, ◌↔◌, IsTrue, IfOk};
+ghost use Rattle.sng_grants.specs.Policies.{no_policy};
 ghost use Rattle.sng_history.specs.State.{opening};
 
 use crate::parts::Parts;
@@ -41,13 +42,14 @@ impl CoreCopy {
             && self.sessions.is_empty()
     }
 
-    /// Whether the policy in force lists nothing.
+    /// Whether the policy in force lists nothing, and sets no limit.
     fn grants_nothing(&self) -> bool
-        ensures { IsTrue result ↔ (self.now.policy ≡ record { clients = []; sources = []; topics = [] }) }
+        ensures { IsTrue result ↔ (self.now.policy ≡ no_policy) }
     {
         self.policy.policy().clients.is_empty()
             && self.policy.policy().sources.is_empty()
             && self.policy.policy().topics.is_empty()
+            && self.policy.limits().are_default()
     }
 }
 

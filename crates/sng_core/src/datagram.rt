@@ -1,7 +1,6 @@
 //! One datagram (MQTT-SN 1.2, 5): the client at its address is looked up, once, and what the message asks is
 //! brought to who takes it.
 ghost use Rattle.std.specs.Prelude.{◌≡◌, ◌<◌, length, IfOk, OnOk, OnErr};
-ghost use Rattle.sng_wanted.specs.declared.limits.TheConstants.{MAX_WANTED};
 ghost use Rattle.sng_frames.specs.Reading.{frame_of};
 ghost use Rattle.sng_history.specs.Causes.{ByMessage, BySource, ByBroken, datagram_cause, frame_cause};
 ghost use Rattle.sng_history.specs.Good.{Good};
@@ -128,8 +127,7 @@ impl Parts {
         place: usize,
         request: SessionRequest,
     ) -> Result<OutsPair, AllocError>
-        requires few { length self.old.link.wanted < MAX_WANTED }
-        requires place { place < length self.old.clients }
+        requires { place < length self.old.clients }
         ensures outs { IfOk result (λ outs. outs ≡ request_outs self.old place request) }
         ensures next { OnOk result (self.new ≡ request_next self.old place request) }
         ensures err { OnErr result (self.new ≡ self.old) }

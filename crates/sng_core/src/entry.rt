@@ -1,11 +1,12 @@
 //! A CONNECT (MQTT-SN 1.2, 5.4.4, 6.2, 6.3 and 6.14): what it lets out is planned first, and the last call
 //! that can fail comes before the first change.
-ghost use Rattle.std.specs.Prelude.{◌≡◌, ◌<◌, ◌-◌, ◌∷◌, ◌++◌, [], length, IfSome, IfOk, OnOk, OnErr};
+ghost use Rattle.std.specs.Prelude.{◌≡◌, ◌<◌, ◌-◌, ◌∷◌, ◌++◌, [], ℕ, suc, length, IfSome, IfOk, OnOk, OnErr};
 ghost use Rattle.sng_history.specs.Causes.{ByConnect};
 ghost use Rattle.sng_history.specs.Good.{Good};
 ghost use Rattle.sng_history.specs.Steps.{outs_by, next_by};
 ghost use Rattle.sng_history.specs.Standing.{places_left};
 ghost use Rattle.sng_history.specs.Verdicts.{entry};
+ghost use Rattle.sng_link.specs.Rooms.{HasPlaces};
 ghost use Rattle.sng_sessions.specs.Handed.{handed_by};
 ghost use Rattle.sng_core.specs.Forms.{place_at, place_of, client_at, at_place, moved_if, heard_at, entered};
 ghost use Rattle.sng_core.specs.Connecting.{moved_outs, put_out, dropped_notes, own_outs, own_plan};
@@ -18,10 +19,10 @@ use crate::verdict::entry;
 use sng_book::{Address, Decision, Denial, Out, Outcome, Outs, OutsPair};
 use sng_fan::Held;
 use sng_frames::Connect;
-use sng_ids::IdTable;
+use sng_grants::Limits;
 use sng_link::Link;
 use sng_policy::InForce;
-use sng_sessions::{Handed, Opens, Sessions};
+use sng_sessions::{ClientIds, Handed, Opens, Sessions};
 use sng_text::{ClientId, TopicFilter};
 use sng_turns::hand_over::{all_gone, hand_over};
 use sng_turns::turn::Recipient;
@@ -91,7 +92,8 @@ impl Parts {
         ensures err { OnErr result (self.new ≡ self.old) }
     {
         let alone = alone(alloc, &self.sessions, &connect)?;
-        let dropped = unplaced(&alone, &self.link);
+        let limits = self.policy.limits();
+        let dropped = unplaced(&alone, &self.link, limits);
         let sessions = &self.sessions;
         let mut outs = accepted_outs(alloc, from, &connect.client_id, sessions, at, dropped)?;
         let place = sessions.find(&connect.client_id);
@@ -105,6 +107,7 @@ impl Parts {
             &mut outs,
         )?;
         let outs = OutsPair::of(alloc, outs)?;
+        self.link.room(alone.len())?;
         enter(
             alloc,
             from,
@@ -114,7 +117,7 @@ impl Parts {
             handed,
             self.clock,
         )?;
-        let_go(&mut self.link, alone);
+        let_go(&mut self.link, limits, alone);
         Ok(outs)
     }
 }
@@ -151,7 +154,7 @@ fn entering(
     if connect.flags.will {
         return Ok(nothing_handed());
     }
-    let ids = IdTable::new(alloc);
+    let ids = ClientIds::new(alloc);
     let to = Recipient {
         id: &connect.client_id,
         address: from,
@@ -251,10 +254,10 @@ fn add_alone(
 }
 
 /// How many UNSUBSCRIBEs of these filters find no place.
-fn unplaced(filters: &Vec<TopicFilter>, link: &Link) -> usize
-    ensures { result ≡ length filters.now.items - places_left link.now }
+fn unplaced(filters: &Vec<TopicFilter>, link: &Link, limits: Limits) -> usize
+    ensures { result ≡ length filters.now.items - places_left limits link.now.link }
 {
-    beyond(filters.len(), link.places_left())
+    beyond(filters.len(), link.places_left(limits))
 }
 
 /// How many of so many find none of these places.
@@ -264,21 +267,24 @@ fn beyond(count: usize, places: usize) -> usize
     if count > places { count - places } else { 0 }
 }
 
-/// The filters are wanted no more, and the broker is told so while there is place. Takes no memory.
-fn let_go(link: &mut Link, filters: Vec<TopicFilter>)
-    ensures { link.new ≡ let_go link.old filters.items }
+/// The filters are wanted no more, and the broker is told so while the limits leave place. Takes no memory.
+fn let_go(link: &mut Link, limits: Limits, filters: Vec<TopicFilter>)
+    requires { HasPlaces (length filters.items) link.old }
+    ensures { link.new.link ≡ let_go limits link.old.link filters.items }
 {
     for filter in filters {
-        let_go_one(link, filter);
+        let_go_one(link, limits, filter);
     }
 }
 
-/// The filter is wanted no more, and the broker is told so where there is place. Takes no memory.
-fn let_go_one(link: &mut Link, filter: TopicFilter)
-    ensures { link.new ≡ let_go_one link.old filter }
+/// The filter is wanted no more, and the broker is told so where the limits leave place. Takes no memory.
+fn let_go_one(link: &mut Link, limits: Limits, filter: TopicFilter)
+    requires { HasPlaces 1 link.old }
+    ensures link { link.new.link ≡ let_go_one limits link.old.link filter }
+    ensures room { (count : ℕ) → HasPlaces (suc count) link.old → HasPlaces count link.new }
 {
     link.unwant(&filter);
-    if link.has_place() {
+    if link.has_place(limits) {
         link.unsubscribe(filter);
     }
 }

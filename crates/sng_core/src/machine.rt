@@ -30,8 +30,8 @@ impl Model for Core {
 }
 
 impl Core {
-    /// The state before any event: nothing is granted, the broker's connection is down, nothing waits, and no
-    /// client was accepted.
+    /// The state before any event: nothing is granted and no limit is set, the broker's connection is down,
+    /// nothing waits, and no client was accepted. Room for what comes is made as it comes.
     pub fn new(alloc: Global) -> Result<Core, AllocError>
         ensures { IfOk result (λ core. IsBook opening [] core) }
     {
@@ -59,6 +59,7 @@ impl Core {
     {
         self.parts.census()
     }
+
     /// An equal state, in memory for what this one holds. Only memory can fail.
     pub fn copy(&self, alloc: Global) -> Result<CoreCopy, AllocError>
         ensures { IfOk result (λ c. c ≡ self.now) }

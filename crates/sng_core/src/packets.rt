@@ -1,5 +1,5 @@
-//! A packet of the broker (MQTT 3.1.1, 3.3, 3.4, 3.9 and 4.3.2): what it lets out is planned first, and what
-//! changes cannot fail.
+//! A packet of the broker (MQTT 3.1.1, 3.3, 3.4, 3.9 and 4.3.2): what it lets out is planned first, with
+//! the room for what comes to wait, and what changes cannot fail.
 ghost use Rattle.std.specs.Prelude.{◌≡◌, ◌∷◌, ◌++◌, ◌<◌, ℕ, [], None, length, map, if◌then◌else◌, IfOk, OnOk};
 ghost use Rattle.std.specs.Prelude.{OnErr};
 ghost use Rattle.sng_history.specs.Causes.{ByPacket};
@@ -70,18 +70,23 @@ impl Parts {
         ensures err { OnErr result (self.new ≡ self.old) }
     {
         let owed = owed(self.is_up, publish.packet_id);
-        let has_place = self.link.has_place();
+        let has_place = self.link.has_place(self.policy.limits());
         let mut outs = Outs::new(alloc);
         let kept = self.delivered(alloc, publish, &mut outs)?;
         note_dropped(has_place, owed, &mut outs)?;
         let outs = OutsPair::of(alloc, outs)?;
-        keep_all(kept, &mut self.sessions, self.clock);
-        if has_place {
-            if let Some(packet_id) = owed {
+        match owed_in_place(has_place, owed) {
+            Some(packet_id) => {
+                self.link.room(1)?;
+                keep_all(kept, &mut self.sessions, self.clock);
                 self.link.acknowledge(packet_id);
+                Ok(outs)
+            }
+            None => {
+                keep_all(kept, &mut self.sessions, self.clock);
+                Ok(outs)
             }
         }
-        Ok(outs)
     }
 
     /// What the message lets out for each client, or that its name is none. Answers what is kept of it.
@@ -215,6 +220,13 @@ fn owed(is_up: bool, packet_id: Option<u16>) -> Option<u16>
     ensures { result ≡ (if is_up then packet_id else None) }
 {
     if is_up { packet_id } else { None }
+}
+
+/// The packet id of an acknowledgement that finds its place.
+fn owed_in_place(has_place: bool, owed: Option<u16>) -> Option<u16>
+    ensures { result ≡ (if has_place then owed else None) }
+{
+    if has_place { owed } else { None }
 }
 
 /// The QoS of a message: it has a packet id at QoS 1.

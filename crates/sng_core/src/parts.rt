@@ -24,12 +24,18 @@ impl Model for Parts {
     ghost Value = { State };
 
     ghost view = { λ p.
-        record { policy = p.policy; clock = p.clock; up = p.is_up; link = p.link; clients = p.sessions } };
+        record {
+          policy = p.policy;
+          clock = p.clock;
+          up = p.is_up;
+          link = p.link.link;
+          clients = p.sessions;
+        } };
 }
 
 impl Parts {
-    /// Before any event nothing is granted, the broker's connection is down, nothing waits, and no client was
-    /// accepted.
+    /// Before any event nothing is granted and no limit is set, the broker's connection is down, nothing waits,
+    /// and no client was accepted.
     pub fn new(alloc: Global) -> Result<Parts, AllocError>
         ensures { IfOk result (λ parts. parts ≡ opening) }
     {

@@ -1,5 +1,5 @@
 //! A PUBLISH of a client at QoS 0 or 1 (MQTT-SN 1.2, 5.4.12, 5.4.13 and 6.6): what is let out is planned
-//! first, and what changes cannot fail.
+//! first, with the room for what comes to wait, and what changes cannot fail.
 ghost use Rattle.std.specs.Prelude.{◌≡◌, ◌<◌, ◌∷◌, ◌++◌, [], length, Some, IfOk, OnOk, OnErr};
 ghost use Rattle.sng_frames.specs.Writing.{written};
 ghost use Rattle.sng_history.specs.Answers.{puback};
@@ -41,11 +41,18 @@ impl Parts {
         let judged = judged(alloc, &self.policy, room, &self.sessions, place, &publish)?;
         let outs = noted(alloc, &publish, &self.sessions, place, &judged)?;
         let asked = publication(self.sessions.id(place), publish, judged)?;
-        self.sessions.hear(place, self.clock);
-        if let Some(publication) = asked {
-            self.link.push(publication);
+        match asked {
+            Some(publication) => {
+                self.link.room(1)?;
+                self.sessions.hear(place, self.clock);
+                self.link.push(publication);
+                Ok(outs)
+            }
+            None => {
+                self.sessions.hear(place, self.clock);
+                Ok(outs)
+            }
         }
-        Ok(outs)
     }
 }
 

@@ -1,5 +1,6 @@
 //! A PUBLISH of a client at QoS 2, and the PUBREL by which the client releases it (MQTT-SN 1.2, 5.4.12,
-//! 5.4.14 and 6.6; MQTT 3.1.1, 4.3.3): what is let out is planned first, and what changes cannot fail.
+//! 5.4.14 and 6.6; MQTT 3.1.1, 4.3.3): what is let out is planned first, with the room for what comes to
+//! wait, and what changes cannot fail.
 ghost use Rattle.std.specs.Prelude.{◌≡◌, ◌<◌, ◌∷◌, ◌++◌, [], false, length, Some, IfOk, OnOk, OnErr};
 ghost use Rattle.sng_history.specs.Answers.{pubrec, pubcomp};
 ghost use Rattle.sng_history.specs.Verdicts.{is_repeat, once_room};
@@ -67,6 +68,7 @@ impl Parts {
         let asked = publication(self.sessions.id(place), publish, judged)?;
         match asked {
             Some(publication) => {
+                self.link.room(1)?;
                 self.sessions
                     .change(place, Change::Receives(msg_id), self.clock);
                 self.link.push(publication);
@@ -91,7 +93,7 @@ impl Parts {
         if self.sessions.unreleased(place).is_full_for(publish.msg_id) {
             return Outcome::Denied(Denial::Room(RoomDenial::Full(Place::Exchanges)));
         }
-        self.link.room(Qos::AtLeastOnce)
+        self.link.room_in(self.policy.limits(), Qos::AtLeastOnce)
     }
 }
 

@@ -16,10 +16,9 @@ use sng_book::{
 };
 use sng_frames::{Register, ReturnCode, SnFrame, TopicAck, write_register_ack};
 use sng_history::exit;
-use sng_ids::IdTable;
 use sng_outbox::Origin;
 use sng_policy::InForce;
-use sng_sessions::Sessions;
+use sng_sessions::{ClientIds, NewName, Sessions};
 use sng_text::{Octets, TopicName};
 use std::alloc::{AllocError, Global};
 
@@ -42,7 +41,7 @@ pub fn register(
     let msg_id = register.msg_id;
     let judged = judged(policy, sessions, place, register.name)?;
     let outs = noted(alloc, msg_id, sessions, place, &judged)?;
-    tell(clock, judged, sessions, place);
+    tell(alloc, clock, judged, sessions, place)?;
     Ok(outs)
 }
 
@@ -97,8 +96,8 @@ fn named(
 }
 
 /// A name without an id gets one while there are some.
-fn id_room(name: &TopicName, ids: &IdTable) -> Outcome
-    ensures { result ≡ id_room name.now ids.now.ids }
+fn id_room(name: &TopicName, ids: &ClientIds) -> Outcome
+    ensures { result ≡ id_room name.now ids.now }
 {
     if ids.is_full_for(name) {
         Outcome::Denied(Denial::Room(RoomDenial::Full(Place::Ids)))
@@ -180,19 +179,35 @@ fn regack(
     Ok(Out::Send(to, Octets::from(datagram)))
 }
 
-/// The client is heard, and is told the id of the name where that was allowed. Takes no memory.
-fn tell(clock: u64, judged: Judged, sessions: &mut Sessions, place: usize)
+/// The client is heard, and is told the id of the name where that was allowed. An `Err` is a failed
+/// allocation, and nothing changed.
+fn tell(
+    alloc: Global,
+    clock: u64,
+    judged: Judged,
+    sessions: &mut Sessions,
+    place: usize,
+) -> Result<(), AllocError>
     requires { (name : List ℕ) → judged.name ≡ Some name → judged.outcome ≡ Outcome.Allowed
         → is_full_for name (client_at sessions.old place).ids ≡ false }
-    ensures { sessions.new ≡ moved_at place (told_at clock judged.name judged.outcome) sessions.old }
+    ensures ok { OnOk result (sessions.new
+        ≡ moved_at place (told_at clock judged.name judged.outcome) sessions.old) }
+    ensures err { OnErr result (sessions.new ≡ sessions.old) }
 {
     let Judged { name, outcome } = judged;
     let Some(name) = name else {
         sessions.hear(place, clock);
-        return;
+        return Ok(());
     };
     match outcome {
-        Outcome::Allowed => sessions.tell(place, name, clock),
-        Outcome::Denied(_) => sessions.hear(place, clock),
+        Outcome::Allowed => {
+            let name = NewName::new(alloc, name)?;
+            sessions.tell(place, name, clock);
+            Ok(())
+        }
+        Outcome::Denied(_) => {
+            sessions.hear(place, clock);
+            Ok(())
+        }
     }
 }

@@ -59,6 +59,7 @@ impl Parts {
         let asked = Decision::Publish(Who::Source(source), Some(name.copy()?), verdict);
         let outs = only(alloc, Out::Note(asked))?;
         if is_allowed {
+            self.link.room(1)?;
             let retain = publish.flags.retain;
             let payload = publish.payload;
             self.link.push(Publication {

@@ -1,12 +1,12 @@
 //! A SUBSCRIBE of a client (MQTT-SN 1.2, 5.4.15, 5.4.16 and 6.9): what is let out is planned first, and the
 //! last call that can fail comes before the first change.
 ghost use Rattle.std.specs.Prelude.{◌≡◌, ◌<◌, ◌∷◌, ◌++◌, [], length, Some, IfOk, OnOk, OnErr, Ok};
-ghost use Rattle.sng_wanted.specs.declared.limits.TheConstants.{MAX_WANTED};
 ghost use Rattle.std.specs.Prelude.{None, if◌then◌else◌};
 ghost use Rattle.sng_fan.specs.Subscriptions.{is_full};
 ghost use Rattle.sng_history.specs.Answers.{suback, flags_of, id_given, refused};
 ghost use Rattle.sng_history.specs.Requests.{gets_id};
 ghost use Rattle.sng_history.specs.Verdicts.{coverage, filter_in, subscribe_room, subscribe_room_in};
+ghost use Rattle.sng_link.specs.Rooms.{HasPlaces, HasFilters};
 ghost use Rattle.sng_core.specs.Forms.{client_at};
 ghost use Rattle.sng_core.specs.Subscribing.{subscribe_judged, subscribe_named, subscribe_reply};
 ghost use Rattle.sng_core.specs.Subscribing.{subscribe_noted, subscribe_outs, stands_at, stood, is_name_full};
@@ -23,8 +23,8 @@ use sng_frames::{
     write_subscribe_ack,
 };
 use sng_history::coverage;
-use sng_ids::IdTable;
-use sng_sessions::Sessions;
+use sng_link::Link;
+use sng_sessions::{ClientIds, NewName, Sessions};
 use sng_text::{Octets, Qos, TopicFilter, TopicName};
 use sng_turns::known::id_in;
 use std::alloc::{AllocError, Global};
@@ -38,8 +38,7 @@ impl Parts {
         place: usize,
         request: TopicRequest,
     ) -> Result<OutsPair, AllocError>
-        requires few { length self.old.link.wanted < MAX_WANTED }
-        requires place { place < length self.old.clients }
+        requires { place < length self.old.clients }
         ensures outs { IfOk result (λ outs. outs
             ≡ subscribe_outs self.old request (client_at self.old.clients place)) }
         ensures next { OnOk result (self.new ≡ stood self.old request (Some place)) }
@@ -135,7 +134,7 @@ impl Parts {
         if is_full(&self.sessions, place, filter) {
             return Outcome::Denied(Denial::Room(RoomDenial::Full(Place::Subscriptions)));
         }
-        if self.link.has_place() {
+        if self.link.has_place(self.policy.limits()) {
             Outcome::Allowed
         } else {
             Outcome::Denied(Denial::Room(RoomDenial::Full(Place::Outbox)))
@@ -151,8 +150,7 @@ impl Parts {
         request: &TopicRequest,
         judged: JudgedFilter,
     ) -> Result<(), AllocError>
-        requires few { length self.old.link.wanted < MAX_WANTED }
-        requires room { IsAllowed self.old (client_at self.old.clients place) request.now judged }
+        requires { IsAllowed self.old (client_at self.old.clients place) request.now judged }
         ensures ok { OnOk result (self.new ≡ stands_at self.old request.now place judged) }
         ensures err { OnErr result (self.new ≡ self.old) }
     {
@@ -178,21 +176,47 @@ impl Parts {
         request: &TopicRequest,
         filter: TopicFilter,
     ) -> Result<(), AllocError>
-        requires few { length self.old.link.wanted < MAX_WANTED }
-        requires room { HasRoom self.old (client_at self.old.clients place) request.now filter }
+        requires { HasRoom self.old (client_at self.old.clients place) request.now filter }
         ensures ok { OnOk result (self.new ≡ stands_at self.old request.now place
             (record { filter = Some filter; outcome = Outcome.Allowed })) }
         ensures err { OnErr result (self.new ≡ self.old) }
     {
         let item = filter.copy()?;
         let wanted = filter.copy()?;
-        let name = name_told(alloc, request.flags.id_type, &filter)?;
+        let name = new_name(alloc, request, &filter)?;
         let qos = granted(request.flags.qos);
+        make_room(&mut self.link)?;
         self.sessions
             .subscribe(alloc, place, name, filter, qos, self.clock)?;
         self.link.subscribe(item, wanted);
         Ok(())
     }
+}
+
+/// The name that the client is told with an id of it, with the memory for that, where the filter is one.
+fn new_name(
+    alloc: Global,
+    request: &TopicRequest,
+    filter: &TopicFilter,
+) -> Result<Option<NewName>, AllocError>
+    ensures { IfOk result (λ name. name
+        ≡ (if gets_id request.now.flags.id_type filter.now then Some filter.now else None)) }
+{
+    match name_told(alloc, request.flags.id_type, filter)? {
+        Some(name) => Ok(Some(NewName::new(alloc, name)?)),
+        None => Ok(None),
+    }
+}
+
+/// Room for one more SUBSCRIBE that waits, and one more filter that is wanted. An `Err` is a failed
+/// allocation.
+fn make_room(link: &mut Link) -> Result<(), AllocError>
+    ensures link { link.new.link ≡ link.old.link }
+    ensures places { OnOk result (HasPlaces 1 link.new) }
+    ensures filters { OnOk result (HasFilters 1 link.new) }
+{
+    link.room_for_filters(1)?;
+    link.room(1)
 }
 
 /// The note, and the SUBACK.
@@ -250,8 +274,8 @@ fn reply(
 }
 
 /// Whether the name, where there is one, has no id and none is left.
-fn is_full_for(ids: &IdTable, name: &Option<TopicName>) -> bool
-    ensures { result ≡ is_name_full name.now ids.now.ids }
+fn is_full_for(ids: &ClientIds, name: &Option<TopicName>) -> bool
+    ensures { result ≡ is_name_full name.now ids.now }
 {
     match name {
         Some(name) => ids.is_full_for(name),
@@ -306,11 +330,11 @@ fn flags_of(qos: Qos) -> Flags
 fn id_given(
     alloc: Global,
     request: &TopicRequest,
-    ids: &IdTable,
+    ids: &ClientIds,
     filter: &TopicFilter,
 ) -> Result<u16, AllocError>
     ensures { IfOk result (λ id. id
-        ≡ id_given request.now.flags.id_type request.now.topic ids.now.ids filter.now) }
+        ≡ id_given request.now.flags.id_type request.now.topic ids.now filter.now) }
 {
     match request.flags.id_type {
         TopicIdType::Predefined => Ok(id_in(request.topic.as_slice())),

@@ -2,26 +2,29 @@
 //! end by then, the subscriptions end that are not allowed any more; then each client that was silent for too
 //! long, or did not answer as often as it was asked, is lost, and its will waits for the broker where it finds
 //! its place; what another one did not answer in time is sent again; a PINGREQ to the broker comes behind them
-//! where it is due. What is let out is planned first, and what changes cannot fail. Where nothing is due nothing
-//! takes memory.
-ghost use Rattle.std.specs.Prelude.{◌≡◌, ◌<◌, ◌≤◌, ◌+◌, ◌*◌, ◌++◌, [], length, IfOk, OnOk, OnErr};
+//! where it is due. What is let out is planned first, with the room for what comes to wait, and what changes
+//! cannot fail. Where nothing is due nothing takes memory.
+ghost use Rattle.std.specs.Prelude.{◌≡◌, ◌<◌, ◌≤◌, ◌+◌, ◌*◌, ◌++◌, [], ℕ, true, length, IfOk, OnOk, OnErr};
 ghost use Rattle.sng_grants.specs.Ends.{next_end};
 ghost use Rattle.sng_grants.specs.Sources.{is_reached};
 ghost use Rattle.sng_history.specs.Books.{tick_outs, tick_next};
 ghost use Rattle.sng_history.specs.Good.{Good, Each, AllCovered};
 ghost use Rattle.sng_history.specs.State.{later};
-ghost use Rattle.sng_history.specs.Ticking.{is_ping_due, is_lost_at};
+ghost use Rattle.sng_history.specs.Ticking.{is_ping_due, is_lost_at, pinged};
 ghost use Rattle.sng_core.specs.Forms.{client_at};
 ghost use Rattle.sng_core.specs.Losing.{publication_of, will_outs, kept_will, room_behind, lost_outs};
 ghost use Rattle.sng_core.specs.Losing.{loss_of, lost_clients, lost_link};
 ghost use Rattle.sng_core.specs.Dues.{due_outs, due_at, room_after, dues_outs, dues_plan, dues_room};
 ghost use Rattle.sng_core.specs.Dues.{due_clients, due_link, dues_clients, dues_link, ping_noted};
-ghost use Rattle.sng_core.specs.Dues.{ticked_outs, ticked_next, due_list};
+ghost use Rattle.sng_core.specs.Dues.{ticked_outs, ticked_next, due_list, wills_kept, items_of, all_items};
+ghost use Rattle.sng_core.specs.Dues.{pings_due};
+ghost use Rattle.sng_link.specs.Rooms.{HasPlaces};
 ghost use Rattle.sng_core.specs.Ending.{ending_outs, ending_next};
 
 use crate::parts::Parts;
 use sng_book::{Decision, Out, Outcome, Outs, OutsPair, ReservedOuts, Who};
 use sng_endings::{end_all, endings, room_after};
+use sng_grants::Limits;
 use sng_link::{Link, Room};
 use sng_outbox::{Origin, Publication};
 use sng_policy::InForce;
@@ -94,18 +97,33 @@ impl Parts {
         ensures err { OnErr result (self.new ≡ self.old) }
     {
         let policy = self.policy.left(clock)?;
+        let limits = policy.limits();
         let endings = endings(alloc, &self.policy, &policy, &self.sessions)?;
-        let mut room = room_after(alloc, endings.as_slice(), &self.sessions, &self.link)?;
+        let mut room = room_after(
+            alloc,
+            endings.as_slice(),
+            limits,
+            &self.sessions,
+            &self.link,
+        )?;
         let mut outs = Outs::new(alloc);
         let sessions = &self.sessions;
         let dues = dues(alloc, &policy, clock, sessions, &mut room, &mut outs)?;
-        note_ping(self.link.is_ping_due(self.is_up, clock), room, &mut outs)?;
+        let is_due = self.link.is_ping_due(self.is_up, clock);
+        note_ping(is_due, room, &mut outs)?;
         let mut all = room_for(alloc, endings.len(), outs.len())?;
         let again = outs.copy(alloc)?;
-        end_all(endings, &mut self.sessions, &mut self.link, &mut all);
+        make_room(&mut self.link, endings.len(), dues.as_slice(), is_due)?;
+        end_all(
+            endings,
+            limits,
+            &mut self.sessions,
+            &mut self.link,
+            &mut all,
+        );
         all.append(outs, again);
-        carry_out(dues, &mut self.sessions, &mut self.link, clock);
-        self.link.ping(self.is_up, clock);
+        carry_out(dues, limits, &mut self.sessions, &mut self.link, clock);
+        ping_broker(&mut self.link, limits, self.is_up, clock, is_due);
         self.policy = policy;
         self.clock = clock;
         Ok(all.into_pair())
@@ -117,14 +135,17 @@ impl Parts {
         ensures next { OnOk result (self.new ≡ ticked_next self.old clock) }
         ensures err { OnErr result (self.new ≡ self.old) }
     {
+        let limits = self.policy.limits();
         let mut outs = Outs::new(alloc);
-        let mut room = self.link.room_left();
+        let mut room = self.link.room_left(limits);
         let sessions = &self.sessions;
         let dues = dues(alloc, &self.policy, clock, sessions, &mut room, &mut outs)?;
-        note_ping(self.link.is_ping_due(self.is_up, clock), room, &mut outs)?;
+        let is_due = self.link.is_ping_due(self.is_up, clock);
+        note_ping(is_due, room, &mut outs)?;
         let outs = OutsPair::of(alloc, outs)?;
-        carry_out(dues, &mut self.sessions, &mut self.link, clock);
-        self.link.ping(self.is_up, clock);
+        make_room(&mut self.link, 0, dues.as_slice(), is_due)?;
+        carry_out(dues, limits, &mut self.sessions, &mut self.link, clock);
+        ping_broker(&mut self.link, limits, self.is_up, clock, is_due);
         self.clock = clock;
         Ok(outs)
     }
@@ -141,6 +162,42 @@ fn room_for(alloc: Global, endings: usize, more: usize) -> Result<ReservedOuts, 
     match ends.checked_add(more) {
         Some(room) => ReservedOuts::with_room(alloc, room),
         None => Err(AllocError),
+    }
+}
+
+/// Room on the link for what so many endings and these dues bring to wait, and for a PINGREQ where one is due.
+fn make_room(link: &mut Link, endings: usize, dues: &[Due], is_due: bool) -> Result<(), AllocError>
+    ensures link { link.new.link ≡ link.old.link }
+    ensures room { OnOk result
+        (HasPlaces (endings + (all_items dues.now + pings_due is_due)) link.new) }
+{
+    let items = items_in(dues) + usize::from(is_due);
+    match endings.checked_add(items) {
+        Some(count) => link.room(count),
+        None => Err(AllocError),
+    }
+}
+
+/// How many items these bring to wait, no more than there are dues.
+fn items_in(dues: &[Due]) -> usize
+    ensures count { result ≡ all_items dues.now }
+    ensures few { all_items dues.now ≤ length dues.now }
+{
+    let mut count = 0;
+    for due in dues {
+        count += items_of(due);
+    }
+    count
+}
+
+/// How many it brings to wait: one where it is a will that finds its place.
+fn items_of(due: &Due) -> usize
+    ensures count { result ≡ items_of due.now }
+    ensures few { items_of due.now ≤ 1 }
+{
+    match due {
+        Due::Lost(loss) => usize::from(loss.will.is_some()),
+        Due::Unanswered(_, _) => 0,
     }
 }
 
@@ -286,35 +343,52 @@ fn publication(client: &ClientId, will: &Will) -> Result<Publication, AllocError
     })
 }
 
+/// The PINGREQ to the broker waits where it is due and finds its place. Takes no memory.
+fn ping_broker(link: &mut Link, limits: Limits, is_up: bool, clock: u64, is_due: bool)
+    requires due { is_due ≡ is_ping_due is_up link.old.link clock }
+    requires room { HasPlaces (pings_due is_due) link.old }
+    ensures { link.new.link ≡ pinged limits is_up link.old.link clock }
+{
+    link.ping(limits, is_up, clock);
+}
+
 /// All this comes of the clients, one after another. Takes no memory.
-fn carry_out(dues: Vec<Due>, sessions: &mut Sessions, link: &mut Link, clock: u64)
+fn carry_out(dues: Vec<Due>, limits: Limits, sessions: &mut Sessions, link: &mut Link, clock: u64)
+    requires { HasPlaces (all_items dues.items) link.old }
     ensures sessions { sessions.new ≡ dues_clients clock dues.items sessions.old }
-    ensures link { link.new ≡ dues_link dues.items link.old }
+    ensures link { link.new.link ≡ dues_link limits dues.items link.old.link }
+    ensures room { (count : ℕ) → HasPlaces (all_items dues.items + count) link.old
+        → HasPlaces count link.new }
 {
     for due in dues {
-        carry_out_one(due, sessions, link, clock);
+        carry_out_one(due, limits, sessions, link, clock);
     }
 }
 
 /// This comes of one client. Takes no memory.
-fn carry_out_one(due: Due, sessions: &mut Sessions, link: &mut Link, clock: u64)
+fn carry_out_one(due: Due, limits: Limits, sessions: &mut Sessions, link: &mut Link, clock: u64)
+    requires { HasPlaces (items_of due) link.old }
     ensures sessions { sessions.new ≡ due_clients clock sessions.old due }
-    ensures link { link.new ≡ due_link link.old due }
+    ensures link { link.new.link ≡ due_link limits link.old.link due }
+    ensures room { (count : ℕ) → HasPlaces (items_of due + count) link.old → HasPlaces count link.new }
 {
     match due {
-        Due::Lost(loss) => carry_loss(loss, sessions, link),
+        Due::Lost(loss) => carry_loss(loss, limits, sessions, link),
         Due::Unanswered(place, retried) => carry_again(retried, sessions, place, clock),
     }
 }
 
 /// One is lost. Takes no memory.
-fn carry_loss(loss: LostClient, sessions: &mut Sessions, link: &mut Link)
+fn carry_loss(loss: LostClient, limits: Limits, sessions: &mut Sessions, link: &mut Link)
+    requires { HasPlaces (wills_kept loss.will) link.old }
     ensures sessions { sessions.new ≡ lost_clients sessions.old loss }
-    ensures link { link.new ≡ lost_link link.old loss }
+    ensures link { link.new.link ≡ lost_link limits link.old.link loss }
+    ensures room { (count : ℕ) → HasPlaces (wills_kept loss.will + count) link.old
+        → HasPlaces count link.new }
 {
     let LostClient { place, will } = loss;
     sessions.lose(place);
     if let Some(will) = will {
-        link.place(will);
+        link.place(limits, will);
     }
 }

@@ -1,5 +1,5 @@
 //! An UNSUBSCRIBE of a client (MQTT-SN 1.2, 5.4.17, 5.4.18 and 6.9): what is let out is planned first, and
-//! what changes cannot fail.
+//! the last call that can fail comes before the first change.
 ghost use Rattle.std.specs.Prelude.{◌≡◌, ◌<◌, ◌∷◌, ◌++◌, [], length, Some, true, IfOk, OnOk, OnErr};
 ghost use Rattle.sng_history.specs.Answers.{unsuback};
 ghost use Rattle.sng_history.specs.Packets.{has_place};
@@ -35,7 +35,7 @@ impl Parts {
     {
         let judged = self.unsubscribe_judged(alloc, place, &request)?;
         let outs = self.unsubscribe_noted(alloc, &request, place, &judged)?;
-        self.end_judged(place, judged);
+        self.end_judged(place, judged)?;
         Ok(outs)
     }
 
@@ -92,13 +92,14 @@ impl Parts {
         outs: &mut Outs,
     ) -> Result<(), AllocError>
         requires { place < length self.now.clients }
-        ensures { OnOk result (outs.new ≡ outs.old ++ untold_of (has_place self.now.link)
+        ensures { OnOk result (outs.new ≡ outs.old
+            ++ untold_of (has_place self.now.policy.limits self.now.link)
             (let_go self.now.clients place judged.now.filter judged.now.outcome)) }
     {
         let Some(filter) = &judged.filter else {
             return Ok(());
         };
-        if !judged.outcome.is_allowed() || self.link.has_place() {
+        if !judged.outcome.is_allowed() || self.link.has_place(self.policy.limits()) {
             return Ok(());
         }
         if holds_alone(&self.sessions, place, filter) {
@@ -107,36 +108,46 @@ impl Parts {
         Ok(())
     }
 
-    /// The client at this place is heard, and where it was allowed its subscription ends.
-    fn end_judged(&mut self, place: usize, judged: JudgedFilter)
+    /// The client at this place is heard, and where it was allowed its subscription ends. An `Err` is a failed
+    /// allocation, and nothing changes.
+    fn end_judged(&mut self, place: usize, judged: JudgedFilter) -> Result<(), AllocError>
         requires { place < length self.old.clients }
-        ensures { self.new ≡ ends_at self.old place judged }
+        ensures ok { OnOk result (self.new ≡ ends_at self.old place judged) }
+        ensures err { OnErr result (self.new ≡ self.old) }
     {
         let JudgedFilter { filter, outcome } = judged;
         let Some(filter) = filter else {
             self.sessions.hear(place, self.clock);
-            return;
+            return Ok(());
         };
         match outcome {
             Outcome::Allowed => self.end_subscription(place, filter),
-            Outcome::Denied(_) => self.sessions.hear(place, self.clock),
+            Outcome::Denied(_) => {
+                self.sessions.hear(place, self.clock);
+                Ok(())
+            }
         }
     }
 
-    /// The subscription of the client at this place to the filter ends.
-    fn end_subscription(&mut self, place: usize, filter: TopicFilter)
+    /// The subscription of the client at this place to the filter ends. Where it was the last one, the broker
+    /// is told so while there is place. An `Err` is a failed allocation, and nothing changes.
+    fn end_subscription(&mut self, place: usize, filter: TopicFilter) -> Result<(), AllocError>
         requires { place < length self.old.clients }
-        ensures { self.new ≡ ends_at self.old place
-            (record { filter = Some filter; outcome = Outcome.Allowed }) }
+        ensures ok { OnOk result (self.new ≡ ends_at self.old place
+            (record { filter = Some filter; outcome = Outcome.Allowed })) }
+        ensures err { OnErr result (self.new ≡ self.old) }
     {
-        let is_last = holds_alone(&self.sessions, place, &filter);
-        self.sessions.unsubscribe(place, &filter, self.clock);
-        if is_last {
-            self.link.unwant(&filter);
-            if self.link.has_place() {
-                self.link.unsubscribe(filter);
-            }
+        if !holds_alone(&self.sessions, place, &filter) {
+            self.sessions.unsubscribe(place, &filter, self.clock);
+            return Ok(());
         }
+        self.link.room(1)?;
+        self.sessions.unsubscribe(place, &filter, self.clock);
+        self.link.unwant(&filter);
+        if self.link.has_place(self.policy.limits()) {
+            self.link.unsubscribe(filter);
+        }
+        Ok(())
     }
 }
 

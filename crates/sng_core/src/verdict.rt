@@ -3,7 +3,6 @@ ghost use Rattle.std.specs.Prelude.{◌≡◌, ◌<◌, length, nat_lt, Some, No
 ghost use Rattle.sng_text.specs.Texts.{is_name};
 ghost use Rattle.sng_policy.specs.Grants.{topic};
 ghost use Rattle.sng_ids.specs.Ids.{name_of};
-ghost use Rattle.sng_history.specs.declared.limits.TheConstants.{MAX_CLIENTS};
 ghost use Rattle.sng_history.specs.State.{is_known};
 ghost use Rattle.sng_history.specs.Verdicts.{verdict, room, and_then, name_in, octets_of, predefined_name};
 ghost use Rattle.sng_history.specs.Verdicts.{told_name, entry_by, may_ask};
@@ -12,15 +11,15 @@ ghost use Rattle.sng_core.specs.Forms.{client_at, unread};
 use crate::parts::Parts;
 use sng_book::{Denial, FormDenial, GrantDenial, IdKind, Outcome, Place, RoomDenial};
 use sng_frames::{Connect, TopicIdType};
-use sng_history::{MAX_CLIENTS, exit};
-use sng_ids::IdTable;
+use sng_history::exit;
 use sng_outbox::Origin;
 use sng_policy::InForce;
-use sng_sessions::Sessions;
+use sng_sessions::{ClientIds, Sessions};
 use sng_text::{ClientId, Qos, TextFault, TopicName};
 use std::alloc::{AllocError, Global};
 
-/// The verdict on a CONNECT (MQTT-SN 1.2, 5.4.4). An `Err` is a failed allocation, for a denial that shows
+/// The verdict on a CONNECT (MQTT-SN 1.2, 5.4.4): a client that was not accepted before finds its place where
+/// the policy's limits let one more in. An `Err` is a failed allocation, for a denial that shows
 /// the client.
 pub fn entry(
     policy: &InForce,
@@ -36,7 +35,7 @@ pub fn entry(
     if !policy.lists(id) {
         return Ok(Outcome::Denied(Denial::Grant(GrantDenial::NoScope(id.copy()?))));
     }
-    if is_known(sessions, id) || sessions.len() < MAX_CLIENTS {
+    if is_known(sessions, id) || sessions.len() < policy.limits().clients() {
         Ok(Outcome::Allowed)
     } else {
         Ok(Outcome::Denied(Denial::Room(RoomDenial::Full(Place::Clients))))
@@ -124,7 +123,7 @@ impl Parts {
         ensures { result ≡ room self.now qos }
     {
         if self.is_up {
-            self.link.room(qos)
+            self.link.room_in(self.policy.limits(), qos)
         } else {
             Outcome::Denied(Denial::Room(RoomDenial::UpstreamDown))
         }
@@ -153,11 +152,11 @@ pub fn source_name(
 pub fn client_name(
     alloc: Global,
     policy: &InForce,
-    ids: &IdTable,
+    ids: &ClientIds,
     id_type: TopicIdType,
     id: u16,
 ) -> Result<Result<TopicName, Denial>, AllocError>
-    ensures { IfOk result (λ named. named ≡ name_in policy.now (Some ids.now.ids) id_type id) }
+    ensures { IfOk result (λ named. named ≡ name_in policy.now (Some ids.now) id_type id) }
 {
     match id_type {
         TopicIdType::Short => short_name(alloc, id),
@@ -190,8 +189,8 @@ fn predefined_name(policy: &InForce, id: u16) -> Result<Result<TopicName, Denial
 }
 
 /// A normal id has the name that the client was told with it.
-fn normal_name(ids: &IdTable, id: u16) -> Result<Result<TopicName, Denial>, AllocError>
-    ensures { IfOk result (λ named. named ≡ told_name id (name_of id ids.now.ids)) }
+fn normal_name(ids: &ClientIds, id: u16) -> Result<Result<TopicName, Denial>, AllocError>
+    ensures { IfOk result (λ named. named ≡ told_name id (name_of id ids.now)) }
 {
     match ids.name_of(id) {
         Some(name) => Ok(Ok(name.copy()?)),

@@ -3,6 +3,7 @@ use Rattle.std.proofs.Common.{◌≡◌, ◌<◌, ◌+◌, ◌≤◌, ℕ, zero,
 use Rattle.std.proofs.Common.{refl, ap, sym, ◌∙◌, arith, add-one, drop-cons}
 use Rattle.std.proofs.lemmas.List.{append-nil, append_assoc}
 use Rattle.std.specs.Option.{option_map}
+use Rattle.sng_grants.specs.Limits.{Limits}
 use Rattle.sng_grants.specs.Sources.{grant_of}
 use Rattle.sng_grants.specs.declared.policy.Policy.{Policy}
 use Rattle.sng_policy.specs.Grants.{subscribe_by}
@@ -98,36 +99,40 @@ scope_kept before after xs place endings covered within same =
 
 -- ---- the endings one after another
 
-pub next_push : (s : Moved) (endings : List SubscriptionEnd) (e : SubscriptionEnd)
-    → all_next s (endings ++ e ∷ []) ≡ ended_next (all_next s endings) e
-next_push s [] e = refl
-next_push s (g ∷ endings) e = next_push (ended_next s g) endings e
+pub next_push : (limits : Limits) (s : Moved) (endings : List SubscriptionEnd) (e : SubscriptionEnd)
+    → all_next limits s (endings ++ e ∷ []) ≡ ended_next limits (all_next limits s endings) e
+next_push limits s [] e = refl
+next_push limits s (g ∷ endings) e = next_push limits (ended_next limits s g) endings e
 
-pub outs_push : (s : Moved) (endings : List SubscriptionEnd) (e : SubscriptionEnd)
-    → all_outs s (endings ++ e ∷ []) ≡ all_outs s endings ++ ended_outs (all_next s endings) e
-outs_push s [] e = append-nil (ended_outs s e)
-outs_push s (g ∷ endings) e =
-    ap (λ outs. ended_outs s g ++ outs) (outs_push (ended_next s g) endings e)
-    ∙ sym (append_assoc (ended_outs s g) (all_outs (ended_next s g) endings)
-    (ended_outs (all_next (ended_next s g) endings) e))
+pub outs_push : (limits : Limits) (s : Moved) (endings : List SubscriptionEnd) (e : SubscriptionEnd)
+    → all_outs limits s (endings ++ e ∷ [])
+    ≡ all_outs limits s endings ++ ended_outs limits (all_next limits s endings) e
+outs_push limits s [] e = append-nil (ended_outs limits s e)
+outs_push limits s (g ∷ endings) e =
+    ap (λ outs. ended_outs limits s g ++ outs) (outs_push limits (ended_next limits s g) endings e)
+    ∙ sym (append_assoc (ended_outs limits s g) (all_outs limits (ended_next limits s g) endings)
+    (ended_outs limits (all_next limits (ended_next limits s g) endings) e))
 
 -- these ended so far, and this is what they let out
-pub record Ended (first now : Moved) (before said : List Out) (endings : List SubscriptionEnd) : Type 0 where
-  pub next : now ≡ all_next first endings
-  pub outs : said ≡ before ++ all_outs first endings
+pub record Ended (limits : Limits) (first now : Moved) (before said : List Out) (endings : List SubscriptionEnd)
+    : Type 0 where
+  pub next : now ≡ all_next limits first endings
+  pub outs : said ≡ before ++ all_outs limits first endings
 
-pub ended_more : (first now after : Moved) (before outs more : List Out) (endings : List SubscriptionEnd)
-    (e : SubscriptionEnd)
-    → Ended first now before outs endings
-    → after ≡ ended_next now e → more ≡ outs ++ ended_outs now e
-    → Ended first after before more (endings ++ e ∷ [])
-ended_more first now after before outs more endings e so_far after_is more_is = record {
-  next = after_is ∙ (ap (λ (t : Moved). ended_next t e) so_far.next ∙ sym (next_push first endings e));
+pub ended_more : (limits : Limits) (first now after : Moved) (before outs more : List Out)
+    (endings : List SubscriptionEnd) (e : SubscriptionEnd)
+    → Ended limits first now before outs endings
+    → after ≡ ended_next limits now e → more ≡ outs ++ ended_outs limits now e
+    → Ended limits first after before more (endings ++ e ∷ [])
+ended_more limits first now after before outs more endings e so_far after_is more_is = record {
+  next = after_is
+      ∙ (ap (λ (t : Moved). ended_next limits t e) so_far.next ∙ sym (next_push limits first endings e));
   outs = more_is
-      ∙ (ap (λ os. os ++ ended_outs now e) so_far.outs
-      ∙ (append_assoc before (all_outs first endings) (ended_outs now e)
-      ∙ ap (λ os. before ++ os) (ap (λ (t : Moved). all_outs first endings ++ ended_outs t e) so_far.next
-      ∙ sym (outs_push first endings e))));
+      ∙ (ap (λ os. os ++ ended_outs limits now e) so_far.outs
+      ∙ (append_assoc before (all_outs limits first endings) (ended_outs limits now e)
+      ∙ ap (λ os. before ++ os)
+      (ap (λ (t : Moved). all_outs limits first endings ++ ended_outs limits t e) so_far.next
+      ∙ sym (outs_push limits first endings e))));
 }
 
 -- one fewer is left

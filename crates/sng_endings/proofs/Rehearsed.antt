@@ -7,7 +7,7 @@ use Rattle.std.proofs.lemmas.List.Sums.{sum_by-append}
 use Rattle.sng_outbox.specs.Sending.{asks_for_ack}
 use Rattle.sng_outbox.specs.declared.item.Item.{Item}
 use Rattle.sng_outbox.specs.declared.item.Item.TheVariants as item
-use Rattle.sng_outbox.specs.declared.limits.TheConstants.{MAX_OUTBOX_ITEMS}
+use Rattle.sng_grants.specs.Limits.{Limits}
 use Rattle.sng_history.specs.Clients.{Client, without}
 use Rattle.sng_history.specs.Links.{Link}
 use Rattle.sng_history.specs.Packets.{has_place}
@@ -63,47 +63,48 @@ keeps_ended before after xs e keeps moves =
 abbrev room_made : ℕ → ℕ → Room
 room_made places flights = record { places = places; flights = flights }
 
-let_go_by : (link : Link) (text : List ℕ) (place : Bool) → has_place link ≡ place
-    → room_of (let_go link text) ≡ record (room_of link) { places = (room_of link).places - 1 }
-let_go_by link text true is =
+let_go_by : (limits : Limits) (link : Link) (text : List ℕ) (place : Bool) → has_place limits link ≡ place
+    → room_of limits (let_go limits link text)
+    ≡ record (room_of limits link) { places = (room_of limits link).places - 1 }
+let_go_by limits link text true is =
     let size = length-append link.waiting (item.Unsubscribe text ∷ []) in
     let more = sum_by-append (λ (i : Item). if asks_for_ack i then 1 else 0) link.waiting (item.Unsubscribe text ∷ []) in
     rw is (ap₂ room_made (omega (arith, size)) (omega (arith, more)))
-let_go_by link text false is =
-    let full : MAX_OUTBOX_ITEMS ≤ length link.waiting = ltb-false (length link.waiting) MAX_OUTBOX_ITEMS is in
+let_go_by limits link text false is =
+    let full : limits.waiting ≤ length link.waiting = ltb-false (length link.waiting) limits.waiting is in
     rw is (ap₂ room_made (omega (arith, full)) refl)
 
-room_ended : (link : Link) (text : List ℕ) (held : Bool)
-    → room_of (if held then link else let_go link text) ≡ room_left held (room_of link)
-room_ended link text true = refl
-room_ended link text false = let_go_by link text (has_place link) refl
+room_ended : (limits : Limits) (link : Link) (text : List ℕ) (held : Bool)
+    → room_of limits (if held then link else let_go limits link text) ≡ room_left held (room_of limits link)
+room_ended limits link text true = refl
+room_ended limits link text false = let_go_by limits link text (has_place limits link) refl
 
 -- ---- one ending after another
 
 -- so far the endings are tried: who holds what, the room, and the endings that are left
-pub record Rehearsed (link : Link) (xs : List Client) (endings : List SubscriptionEnd) (root : Node) (room : Room)
+pub record Rehearsed (limits : Limits) (link : Link) (xs : List Client) (endings : List SubscriptionEnd) (root : Node) (room : Room)
     (rest : List SubscriptionEnd) : Type 0 where
   pub state : Moved
   pub keeps : Keeps root state.clients
-  pub room_is : room ≡ room_of state.link
-  pub leads : all_next state rest ≡ all_next (moved link xs) endings
+  pub room_is : room ≡ room_of limits state.link
+  pub leads : all_next limits state rest ≡ all_next limits (moved link xs) endings
 
-pub rehearsed_on : (link : Link) (xs : List Client) (endings rest : List SubscriptionEnd) (before after : Node)
-    (room now : Room) (e : SubscriptionEnd) → Rehearsed link xs endings before room (e ∷ rest)
+pub rehearsed_on : (limits : Limits) (link : Link) (xs : List Client) (endings rest : List SubscriptionEnd) (before after : Node)
+    (room now : Room) (e : SubscriptionEnd) → Rehearsed limits link xs endings before room (e ∷ rest)
     → MovesAt before after e.place e.filter None
     → ((ys : List Client) → Keeps after ys → now ≡ room_left (is_held ys e.filter) room)
-    → Rehearsed link xs endings after now rest
-rehearsed_on link xs endings rest before after room now e so_far moves room_now =
+    → Rehearsed limits link xs endings after now rest
+rehearsed_on limits link xs endings rest before after room now e so_far moves room_now =
     let m : Moved = so_far.state in
     let keeps = keeps_ended before after m.clients e so_far.keeps moves in
     let held = is_held (ended_clients m.clients e) e.filter in
     record {
-      state = ended_next m e;
+      state = ended_next limits m e;
       keeps = keeps;
       room_is =
           room_now (ended_clients m.clients e) keeps
           ∙ ap (room_left held) so_far.room_is
-          ∙ sym (room_ended m.link e.filter held);
+          ∙ sym (room_ended limits m.link e.filter held);
       leads = so_far.leads;
     }
 
@@ -115,10 +116,10 @@ room_tried root xs text held before now keeps says is =
     is ∙ ap (λ (h : Bool). room_left h before) (held-by root xs text held keeps says)
 
 -- all are tried
-pub rehearsed_all : (link : Link) (xs : List Client) (endings rest : List SubscriptionEnd) (root : Node) (room : Room)
-    → rest ≡ [] → Rehearsed link xs endings root room rest
-    → room ≡ room_of (all_next (moved link xs) endings).link
-rehearsed_all link xs endings rest root room none so_far =
+pub rehearsed_all : (limits : Limits) (link : Link) (xs : List Client) (endings rest : List SubscriptionEnd) (root : Node) (room : Room)
+    → rest ≡ [] → Rehearsed limits link xs endings root room rest
+    → room ≡ room_of limits (all_next limits (moved link xs) endings).link
+rehearsed_all limits link xs endings rest root room none so_far =
     so_far.room_is
-    ∙ ap (λ (m : Moved). room_of m.link)
-    (ap (λ (more : List SubscriptionEnd). all_next so_far.state more) (sym none) ∙ so_far.leads)
+    ∙ ap (λ (m : Moved). room_of limits m.link)
+    (ap (λ (more : List SubscriptionEnd). all_next limits so_far.state more) (sym none) ∙ so_far.leads)

@@ -1,6 +1,7 @@
 -- What of the subscriptions ends as another policy comes into force: one ending after another, in the order
 -- in which they come.
 use Rattle.std.specs.Prelude.{ℕ, suc, ◌-◌, Bool, List, [], ◌∷◌, ◌++◌, if◌then◌else◌, Option, Some, None}
+use Rattle.sng_grants.specs.Limits.{Limits}
 use Rattle.sng_grants.specs.declared.policy.Policy.{Policy}
 use Rattle.sng_fan.specs.declared.held.Held.{Held}
 use Rattle.sng_outbox.specs.declared.item.Item.TheVariants as item
@@ -24,29 +25,28 @@ abbrev pub ending_list : Option SubscriptionEnd → List SubscriptionEnd
 ending_list None = []
 ending_list (Some ending) = ending ∷ []
 
--- the filter stands for nobody any more: it is wanted no more, and the broker is told so where there is place
--- for that
-abbrev pub let_go : Link → List ℕ → Link
-let_go link text = record link {
-  waiting = if has_place link then link.waiting ++ item.Unsubscribe text ∷ [] else link.waiting;
+-- the filter stands for nobody any more: it is wanted no more, and the broker is told so where the limits leave
+-- place for that
+abbrev pub let_go : Limits → Link → List ℕ → Link
+let_go limits link text = record link {
+  waiting = if has_place limits link then link.waiting ++ item.Unsubscribe text ∷ [] else link.waiting;
   wanted = without_wanted link.wanted text;
 }
 
--- and where there is none that is noted
-abbrev pub untold_of : Link → List Out
-untold_of link = if has_place link then [] else Note note.Outbox ∷ []
+-- and where they leave none that is noted
+abbrev pub untold_of : Limits → Link → List Out
+untold_of limits link = if has_place limits link then [] else Note note.Outbox ∷ []
 
 -- the clients once one filter stands no more for the client at its place
 abbrev pub ended_clients : List Client → SubscriptionEnd → List Client
 ended_clients xs e = moved_at e.place (without e.filter) xs
 
 -- the link after one ending, and what it lets out, where the filter stands for somebody still, or does not
-abbrev pub ended_link : Link → List Client → List ℕ → Link
-ended_link link after text = if is_held after text then link else let_go link text
+abbrev pub ended_link : Limits → Link → List Client → List ℕ → Link
+ended_link limits link after text = if is_held after text then link else let_go limits link text
 
-abbrev pub ended_notes : Link → List Client → List ℕ → List Out
-ended_notes link after text =
-    if is_held after text then [] else untold_of link
+abbrev pub ended_notes : Limits → Link → List Client → List ℕ → List Out
+ended_notes limits link after text = if is_held after text then [] else untold_of limits link
 
 -- the room for publishes once a filter has ended that somebody holds still, or nobody: of that the broker is
 -- told where there is place
@@ -61,22 +61,23 @@ pub record Moved : Type 0 where
 abbrev pub moved : Link → List Client → Moved
 moved link clients = record { link = link; clients = clients }
 
-abbrev pub ended_next : Moved → SubscriptionEnd → Moved
-ended_next m e =
+abbrev pub ended_next : Limits → Moved → SubscriptionEnd → Moved
+ended_next limits m e =
     let after = ended_clients m.clients e in
-    moved (ended_link m.link after e.filter) after
+    moved (ended_link limits m.link after e.filter) after
 
-abbrev pub ended_outs : Moved → SubscriptionEnd → List Out
-ended_outs m e = Note e.note ∷ ended_notes m.link (ended_clients m.clients e) e.filter
+abbrev pub ended_outs : Limits → Moved → SubscriptionEnd → List Out
+ended_outs limits m e = Note e.note ∷ ended_notes limits m.link (ended_clients m.clients e) e.filter
 
 -- one after another
-abbrev pub all_next : Moved → List SubscriptionEnd → Moved
-all_next m [] = m
-all_next m (e ∷ endings) = all_next (ended_next m e) endings
+abbrev pub all_next : Limits → Moved → List SubscriptionEnd → Moved
+all_next limits m [] = m
+all_next limits m (e ∷ endings) = all_next limits (ended_next limits m e) endings
 
-abbrev pub all_outs : Moved → List SubscriptionEnd → List Out
-all_outs m [] = []
-all_outs m (e ∷ endings) = ended_outs m e ++ all_outs (ended_next m e) endings
+abbrev pub all_outs : Limits → Moved → List SubscriptionEnd → List Out
+all_outs limits m [] = []
+all_outs limits m (e ∷ endings) =
+    ended_outs limits m e ++ all_outs limits (ended_next limits m e) endings
 
 -- the ending of a filter that is denied to the client at this place
 abbrev pub ending_of : ℕ → List ℕ → List ℕ → Outcome → List SubscriptionEnd

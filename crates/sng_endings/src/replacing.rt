@@ -1,13 +1,15 @@
 //! Another policy comes into force: each subscription that it does not allow ends (MQTT-SN 1.2, 6.9). What
 //! ends is planned first, with all memory, and what changes cannot fail.
-ghost use Rattle.std.specs.Prelude.{◌≡◌, ◌≤◌, ◌<◌, ◌+◌, ◌*◌, ◌++◌, [], length, IfOk, OnOk, OnErr};
+ghost use Rattle.std.specs.Prelude.{◌≡◌, ◌≤◌, ◌<◌, ◌+◌, ◌*◌, ◌++◌, [], ℕ, suc, length, IfOk, OnOk, OnErr};
 ghost use Rattle.sng_history.specs.Good.{Each, AllCovered};
 ghost use Rattle.sng_history.specs.Verdicts.{coverage};
+ghost use Rattle.sng_link.specs.Rooms.{HasPlaces};
 ghost use Rattle.sng_sessions.specs.Standing.{client_at};
 ghost use Rattle.sng_endings.specs.Replacing.{moved, ended_next, ended_outs, all_next, all_outs, ending_list};
 ghost use Rattle.sng_endings.specs.Replacing.{ending_of, endings_by, endings_from, let_go, untold_of};
 
 use sng_book::{Decision, NotePair, Out, Outcome, OutsPair, ReservedOuts};
+use sng_grants::Limits;
 use sng_history::coverage;
 use sng_link::Link;
 use sng_policy::{InForce, same_scope};
@@ -32,8 +34,8 @@ struct Plan {
 }
 
 /// The policy comes into force. The subscriptions end that it does not allow, each client's in order of first
-/// standing; of a filter that stands for nobody any more the broker is told where there is place. Each that
-/// stands has to be allowed by the policy that was in force. An `Err` is a failed allocation, and nothing
+/// standing; of a filter that stands for nobody any more the broker is told where its limits leave place. Each
+/// that stands has to be allowed by the policy that was in force. An `Err` is a failed allocation, and nothing
 /// changed.
 pub fn replace(
     alloc: Global,
@@ -43,17 +45,18 @@ pub fn replace(
     link: &mut Link,
 ) -> Result<OutsPair, AllocError>
     requires { Each (λ x. AllCovered in_force.old x.id x.filters) sessions.old }
-    ensures outs { IfOk result (λ outs. outs
-        ≡ all_outs (moved link.old sessions.old) (endings_from policy 0 sessions.old)) }
+    ensures outs { IfOk result (λ outs. outs ≡ all_outs policy.limits
+        (moved link.old.link sessions.old) (endings_from policy 0 sessions.old)) }
     ensures policy { OnOk result (in_force.new ≡ policy) }
-    ensures moved { OnOk result (moved link.new sessions.new
-        ≡ all_next (moved link.old sessions.old) (endings_from policy 0 sessions.old)) }
+    ensures moved { OnOk result (moved link.new.link sessions.new ≡ all_next policy.limits
+        (moved link.old.link sessions.old) (endings_from policy 0 sessions.old)) }
     ensures same_policy { OnErr result (in_force.new ≡ in_force.old) }
     ensures same_clients { OnErr result (sessions.new ≡ sessions.old) }
     ensures same_link { OnErr result (link.new ≡ link.old) }
 {
     let Plan { endings, mut outs } = planned_all(alloc, in_force, &policy, sessions)?;
-    end_all(endings, sessions, link, &mut outs);
+    link.room(endings.len())?;
+    end_all(endings, policy.limits(), sessions, link, &mut outs);
     *in_force = policy;
     Ok(outs.into_pair())
 }
@@ -125,34 +128,46 @@ fn add_changed(
     add_endings(alloc, policy, sessions, place, endings)
 }
 
-/// These end, one after another. Takes no memory.
+/// These end, one after another, and the broker is told of filters that stand for nobody any more where the
+/// limits leave place. Takes no memory.
 pub fn end_all(
     endings: Vec<SubscriptionEnd>,
+    limits: Limits,
     sessions: &mut Sessions,
     link: &mut Link,
     outs: &mut ReservedOuts,
 )
-    requires { length endings.items * 2 ≤ outs.old.spare }
-    ensures next { moved link.new sessions.new ≡ all_next (moved link.old sessions.old) endings.items }
-    ensures outs { outs.new.outs ≡ outs.old.outs ++ all_outs (moved link.old sessions.old) endings.items }
+    requires outs { length endings.items * 2 ≤ outs.old.spare }
+    requires places { HasPlaces (length endings.items) link.old }
+    ensures next { moved link.new.link sessions.new
+        ≡ all_next limits (moved link.old.link sessions.old) endings.items }
+    ensures outs { outs.new.outs
+        ≡ outs.old.outs ++ all_outs limits (moved link.old.link sessions.old) endings.items }
     ensures spare { outs.old.spare ≤ outs.new.spare + length endings.items * 2 }
+    ensures room { (count : ℕ) → HasPlaces (length endings.items + count) link.old
+        → HasPlaces count link.new }
 {
     for ending in endings {
-        end_one(ending, sessions, link, outs);
+        end_one(ending, limits, sessions, link, outs);
     }
 }
 
 /// One ends. Takes no memory.
 fn end_one(
     ending: SubscriptionEnd,
+    limits: Limits,
     sessions: &mut Sessions,
     link: &mut Link,
     outs: &mut ReservedOuts,
 )
-    requires { 2 ≤ outs.old.spare }
-    ensures next { moved link.new sessions.new ≡ ended_next (moved link.old sessions.old) ending }
-    ensures outs { outs.new.outs ≡ outs.old.outs ++ ended_outs (moved link.old sessions.old) ending }
+    requires outs { 2 ≤ outs.old.spare }
+    requires place { HasPlaces 1 link.old }
+    ensures next { moved link.new.link sessions.new
+        ≡ ended_next limits (moved link.old.link sessions.old) ending }
+    ensures outs { outs.new.outs
+        ≡ outs.old.outs ++ ended_outs limits (moved link.old.link sessions.old) ending }
     ensures spare { outs.old.spare ≤ outs.new.spare + 2 }
+    ensures room { (count : ℕ) → HasPlaces (suc count) link.old → HasPlaces count link.new }
 {
     let SubscriptionEnd {
         place,
@@ -163,20 +178,22 @@ fn end_one(
     outs.push(Out::Note(note), Out::Note(again));
     sessions.end(place, &filter);
     if !sessions.is_held(&filter) {
-        let_go(filter, link, outs);
+        let_go(filter, limits, link, outs);
     }
 }
 
-/// The filter stands for nobody any more: it is wanted no more, and the broker is told so where there is
+/// The filter stands for nobody any more: it is wanted no more, and the broker is told so where the limits leave
 /// place; else that is noted. Takes no memory.
-fn let_go(filter: TopicFilter, link: &mut Link, outs: &mut ReservedOuts)
-    requires { 1 ≤ outs.old.spare }
-    ensures link { link.new ≡ let_go link.old filter }
-    ensures outs { outs.new.outs ≡ outs.old.outs ++ untold_of link.old }
+fn let_go(filter: TopicFilter, limits: Limits, link: &mut Link, outs: &mut ReservedOuts)
+    requires outs { 1 ≤ outs.old.spare }
+    requires place { HasPlaces 1 link.old }
+    ensures link { link.new.link ≡ let_go limits link.old.link filter }
+    ensures outs { outs.new.outs ≡ outs.old.outs ++ untold_of limits link.old.link }
     ensures spare { outs.old.spare ≤ outs.new.spare + 1 }
+    ensures room { (count : ℕ) → HasPlaces (suc count) link.old → HasPlaces count link.new }
 {
     link.unwant(&filter);
-    if link.has_place() {
+    if link.has_place(limits) {
         link.unsubscribe(filter);
     } else {
         outs.push(Out::Note(Decision::Outbox), Out::Note(Decision::Outbox));

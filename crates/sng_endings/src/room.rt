@@ -9,22 +9,25 @@ ghost use Rattle.sng_sessions.specs.Kept.{Keeps};
 ghost use Rattle.sng_standing.specs.Standing.{MovesAt};
 
 use crate::SubscriptionEnd;
+use sng_grants::Limits;
 use sng_link::{Link, Room};
 use sng_sessions::Sessions;
 use sng_standing::Standing;
 use std::alloc::{AllocError, Global};
 
-/// The room that there is once these have ended. Only memory can fail.
+/// The room that the limits leave once these have ended. Only memory can fail.
 pub fn room_after(
     alloc: Global,
     endings: &[SubscriptionEnd],
+    limits: Limits,
     sessions: &Sessions,
     link: &Link,
 ) -> Result<Room, AllocError>
-    ensures { IfOk result (λ room. room ≡ room_of (all_next (moved link.now sessions.now) endings.now).link) }
+    ensures { IfOk result (λ room. room
+        ≡ room_of limits (all_next limits (moved link.now.link sessions.now) endings.now).link) }
 {
     let mut standing = sessions.holdings(alloc)?;
-    let mut room = link.room_left();
+    let mut room = link.room_left(limits);
     for ending in endings {
         try_end(ending, &mut standing, &mut room);
     }

@@ -1,6 +1,6 @@
 -- What is left of grants at a clock, and when the first of them ends.
 use Rattle.std.proofs.Common.{◌≡◌, ◌≤◌, ℕ, Bool, true, false, not, List, [], ◌∷◌, Ordering, Less}
-use Rattle.std.proofs.Common.{Option, Some, None, cond, refl, ap, ap₂, sym, ◌∙◌, nat_le, subst, if◌then◌else◌, arith}
+use Rattle.std.proofs.Common.{length, Option, Some, None, cond, refl, ap, ap₂, sym, ◌∙◌, nat_le, subst, if◌then◌else◌, arith}
 use Rattle.std.specs.Option.{option_and_then, option_map}
 use Rattle.std.specs.BTreeMap.{is_at}
 use Rattle.std.specs.Cmp.Lexicographic.{slice_cmp}
@@ -11,7 +11,7 @@ use Rattle.std.specs.Ordering.{nat_cmp, is_eq}
 use Rattle.sng_grants.specs.Laws.{GrantsEnd, EndsStay, NothingEndsBefore}
 use Rattle.sng_grants.specs.Sources.{scope_left, is_reached, left_at, sooner, first_end}
 use Rattle.sng_grants.specs.declared.grant.Grant.{Grant}
-use Rattle.sng_grants.specs.declared.policy.Policy.{Policy}
+use Rattle.sng_grants.specs.Policies.{Policy}
 use Rattle.sng_grants.specs.declared.scope.Pair.{Pair}
 use Rattle.sng_grants.proofs.FoundLemmas.{same_key}
 
@@ -110,12 +110,29 @@ left_twice before now (entry ∷ listed) order =
     (left_twice before now listed order)
 
 abbrev made : Policy → List (List ℕ × Grant) → List (List ℕ × Grant) → Policy
-made policy clients sources = record { clients = clients; sources = sources; topics = policy.topics }
+made policy clients sources =
+    record { clients = clients; sources = sources; topics = policy.topics; limits = policy.limits }
 
 pub ends_stay : EndsStay
 ends_stay before now policy order =
     ap₂ (made policy) (left_twice before now policy.clients order)
     (left_twice before now policy.sources order)
+
+-- no more are left than were listed
+fewer_by : {X : Type 0} (kept : Bool) (x : X) (left listed : List X) → length left ≤ length listed
+    → length (cond kept (x ∷ left) left) ≤ length (x ∷ listed)
+fewer_by true x left listed fewer = omega (arith, fewer)
+fewer_by false x left listed fewer = omega (arith, fewer)
+
+fewer : {K : Type 0} (clock : ℕ) (listed : List (K × Grant)) → length (left_at clock listed) ≤ length listed
+fewer clock [] = omega arith
+fewer clock (entry ∷ listed) =
+    fewer_by (not (is_reached clock entry.1.until)) entry (left_at clock listed) listed (fewer clock listed)
+
+pub few_left : {K : Type 0} (clock : ℕ) (listed new : List (K × Grant)) (most : ℕ) → new ≡ left_at clock listed
+    → length listed ≤ most → length new ≤ most
+few_left clock listed new most is few =
+    subst (λ (es : List (_ × Grant)). length es ≤ most) (sym is) (omega (arith, fewer clock listed, few))
 
 -- ---- the first end
 

@@ -2,7 +2,7 @@
 use Rattle.std.specs.Prelude.{ℕ}
 use Rattle.std.specs.declared.option.Option.{Option}
 use Rattle.sng_grants.specs.Sources.{left_at, sooner, first_end}
-use Rattle.sng_grants.specs.declared.policy.Policy.{Policy}
+use Rattle.sng_grants.specs.Policies.{Policy}
 
 -- what is in force of a policy at a clock: all but the grants that have ended
 abbrev pub in_force : ℕ → Policy → Policy
@@ -10,6 +10,7 @@ in_force clock policy = record {
   clients = left_at clock policy.clients;
   sources = left_at clock policy.sources;
   topics = policy.topics;
+  limits = policy.limits;
 }
 
 -- the first end of a policy's grants

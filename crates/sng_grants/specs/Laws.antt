@@ -8,7 +8,7 @@ use Rattle.sng_grants.specs.Sources.{grant_of, scope_of, scope_left, left_at, is
 use Rattle.sng_grants.specs.Ends.{in_force, next_end}
 use Rattle.sng_grants.specs.Topics.{name_of, id_of}
 use Rattle.sng_grants.specs.declared.grant.Grant.{Grant}
-use Rattle.sng_grants.specs.declared.policy.Policy.{Policy}
+use Rattle.sng_grants.specs.Policies.{Policy}
 
 -- the keys of clients and of sources are in order, and none stands twice
 abbrev pub AreInOrder : List (List ℕ × Grant) → Type 0

@@ -4,13 +4,27 @@ ghost use Rattle.std.specs.Prelude.{◌≡◌};
 ghost use Rattle.sng_grants.specs.Laws.{GrantsAreFound, GrantsEnd, EndsStay, NothingEndsBefore};
 ghost use Rattle.sng_grants.specs.Laws.{NamesAreFound, IdsAreLeast};
 
-use crate::{MAX_PAIRS, MAX_POLICY_CLIENTS, MAX_SOURCES, MAX_TOPICS};
+use crate::{
+    DEFAULT_CLIENTS, DEFAULT_FLIGHT, DEFAULT_SOURCES, DEFAULT_TOPICS, DEFAULT_WAITING, MAX_FLIGHT,
+    MAX_PAIRS, MAX_POLICY_CLIENTS, MAX_SOURCES, MAX_TOPICS, MAX_WAITING,
+};
 
-/// The limits of a policy.
+/// The limits of a policy that sets none.
+pub fn default_limits()
+    ensures clients { DEFAULT_CLIENTS ≡ 256 }
+    ensures sources { DEFAULT_SOURCES ≡ 256 }
+    ensures topics { DEFAULT_TOPICS ≡ 1024 }
+    ensures waiting { DEFAULT_WAITING ≡ 512 }
+    ensures in_flight { DEFAULT_FLIGHT ≡ 128 }
+{}
+
+/// The greatest limits that a policy may set, and how many pairs a scope may have.
 pub fn limits()
-    ensures clients { MAX_POLICY_CLIENTS ≡ 256 }
-    ensures sources { MAX_SOURCES ≡ 256 }
-    ensures topics { MAX_TOPICS ≡ 1024 }
+    ensures clients { MAX_POLICY_CLIENTS ≡ 65000 }
+    ensures sources { MAX_SOURCES ≡ 65000 }
+    ensures topics { MAX_TOPICS ≡ 65534 }
+    ensures waiting { MAX_WAITING ≡ 65000 }
+    ensures in_flight { MAX_FLIGHT ≡ 16000 }
     ensures pairs { MAX_PAIRS ≡ 64 }
 {}
 

@@ -12,7 +12,10 @@ pub mod scope;
 pub mod topics;
 
 pub use grant::{Grant, is_reached, sooner};
-pub use limits::{MAX_PAIRS, MAX_POLICY_CLIENTS, MAX_SOURCES, MAX_TOPICS};
+pub use limits::{
+    DEFAULT_CLIENTS, DEFAULT_FLIGHT, DEFAULT_SOURCES, DEFAULT_TOPICS, DEFAULT_WAITING, Limits,
+    MAX_FLIGHT, MAX_PAIRS, MAX_POLICY_CLIENTS, MAX_SOURCES, MAX_TOPICS, MAX_WAITING,
+};
 pub use listed::Listed;
 pub use policy::{Clients, Policy, Sources};
 pub use scope::{Pair, Scope};

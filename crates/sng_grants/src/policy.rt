@@ -1,13 +1,15 @@
 //! A policy: the grants and topics that are in force together.
-ghost use Rattle.std.specs.Prelude.{◌≡◌, [], IfOk};
+ghost use Rattle.std.specs.Prelude.{◌≡◌, IfOk};
 ghost use Rattle.std.specs.Option.{option_copied};
 ghost use Rattle.sng_grants.specs.Ends.{in_force, next_end};
+ghost use Rattle.sng_grants.specs.Policies.{ListsWithin, no_policy};
 ghost use Rattle.sng_grants.specs.Sources.{scope_of, first_end};
 
-use crate::{Grant, Listed, MAX_POLICY_CLIENTS, MAX_SOURCES, Scope, Topics, sooner};
+use crate::{Grant, Limits, Listed, MAX_POLICY_CLIENTS, MAX_SOURCES, Scope, Topics, sooner};
 use sng_text::ClientId;
 use std::alloc::{AllocError, Global};
 use std::collections::btree_map::Iter;
+use std::marker::Model;
 
 /// The grant of each client that a policy lists, by client id. Contracts see the list of client ids with
 /// their grants, in the byte order of the ids.
@@ -17,25 +19,55 @@ pub type Clients = Listed<ClientId, Grant, MAX_POLICY_CLIENTS>;
 /// their grants, in their order.
 pub type Sources = Listed<[u8; 4], Grant, MAX_SOURCES>;
 
-/// Who may do what: clients and sources, each with its scope and the end of that, and the names of predefined
-/// topic ids.
+/// Who may do what: clients and sources, each with its scope and the end of that, the names of predefined
+/// topic ids, and the limits in force with them. No more of each is listed than these allow.
 #[derive(Debug, Drop)]
 pub struct Policy {
     pub clients: Clients,
     pub sources: Sources,
     pub topics: Topics,
+    pub limits: Limits,
+}
+
+impl Model for Policy {
+    ghost use Rattle.sng_grants.specs.Policies.{Policy as PolicyRecord, ListsWithin};
+
+    ghost Value = { PolicyRecord };
+
+    ghost view = { λ p. record {
+      clients = p.clients;
+      sources = p.sources;
+      topics = p.topics;
+      limits = p.limits;
+    } };
+
+    ghost invariant = { λ p. ListsWithin (record {
+      clients = p.clients;
+      sources = p.sources;
+      topics = p.topics;
+      limits = p.limits;
+    }) };
 }
 
 impl Policy {
-    /// A policy that grants nothing.
+    /// A policy that grants nothing, and sets no limit.
     pub fn new(alloc: Global) -> Policy
-        ensures { result ≡ record { clients = []; sources = []; topics = [] } }
+        ensures { result ≡ no_policy }
     {
         Policy {
             clients: Clients::new(alloc),
             sources: Sources::new(alloc),
             topics: Topics::new(alloc),
+            limits: Limits::new(),
         }
+    }
+
+    /// The limits that the policy sets.
+    pub fn limits(&self) -> Limits
+        ensures value { result ≡ self.now.limits }
+        ensures within { ListsWithin self.now }
+    {
+        self.limits
     }
 
     /// The scope of the client, where it is listed, whenever that ends. Takes no memory.
@@ -113,6 +145,7 @@ impl Policy {
             clients,
             sources,
             topics,
+            limits: self.limits,
         })
     }
 }

@@ -4,6 +4,7 @@ use Rattle.std.specs.Prelude.{◌||◌, not, filter}
 use Rattle.std.specs.List.{list_any}
 use Rattle.std.proofs.lemmas.List.{append-nil}
 use Rattle.std.proofs.Math.Seq.{drop-nil, take-nil}
+use Rattle.sng_grants.specs.Limits.{Limits}
 use Rattle.sng_outbox.specs.declared.item.Item.TheVariants as item
 use Rattle.sng_fan.specs.declared.held.Held.{Held}
 use Rattle.sng_fan.specs.Subscriptions.{has_text, stands}
@@ -12,7 +13,7 @@ use Rattle.sng_history.specs.Clients.{Client}
 use Rattle.sng_history.specs.Links.{Wanted, is_filter_of, wants}
 use Rattle.sng_history.specs.Standing.{holds, is_held, ended, released_from, released, dropped_of}
 use Rattle.sng_history.specs.Standing.{unsubscribes, places_left, still_wanted}
-use Rattle.sng_history.specs.State.{State}
+use Rattle.sng_history.specs.State.{State, policy_by}
 use Rattle.sng_history.specs.Steps.{newcomers_for, client_next, clients_next}
 use Rattle.sng_history.specs.Good.{Good}
 use Rattle.sng_history.proofs.Own.{same_self}
@@ -106,16 +107,18 @@ endless_released s c e =
     ap (released s.clients) (present s c e.0) ∙ none_released (client_next s c) [] s.clients e.1
 
 -- nothing is let go of upstream,
-pub endless_unsubscribes : (s : State) (c : Cause) → Endless s c
-    → unsubscribes s.link (released s.clients (clients_next s c)) ≡ []
-endless_unsubscribes s c e =
-    ap (unsubscribes s.link) (endless_released s c e)
-    ∙ ap (map (λ r. item.Unsubscribe r.filter)) (take-nil (places_left s.link))
+pub endless_unsubscribes : (s : State) (c : Cause) (limits : Limits) → Endless s c
+    → unsubscribes limits s.link (released s.clients (clients_next s c)) ≡ []
+endless_unsubscribes s c limits e =
+    ap (unsubscribes limits s.link) (endless_released s c e)
+    ∙ ap (map (λ r. item.Unsubscribe r.filter)) (take-nil (places_left limits s.link))
 
 -- nothing is dropped,
 pub endless_drops : (s : State) (c : Cause) → Endless s c → drops_for s c ≡ []
 endless_drops s c e =
-    ap (dropped_of s.link) (none_released (client_next s c) [] s.clients e.1) ∙ drop-nil (places_left s.link)
+    let limits = (policy_by c s.policy).limits in
+    ap (dropped_of limits s.link) (none_released (client_next s c) [] s.clients e.1)
+    ∙ drop-nil (places_left limits s.link)
 
 -- and the wanted filters stay
 pub endless_wanted : (s : State) (c : Cause) → Good s → Endless s c

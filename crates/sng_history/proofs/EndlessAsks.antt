@@ -159,7 +159,7 @@ pub endless_link : (s : State) (from : Address) (request : Request) → Good s
     { waiting = s.link.waiting ++ asked_for s c; wanted = joined s.link.wanted (asked_for s c) })
 endless_link s from request good e =
     let c = ByMessage from request in
-    rw (endless_unsubscribes s c e, endless_wanted s c good e, append-nil (asked_for s c)) refl
+    rw (endless_unsubscribes s c s.policy.limits e, endless_wanted s c good e, append-nil (asked_for s c)) refl
 
 -- and where nothing is asked for either, the link stays
 pub still_link : (s : State) (from : Address) (request : Request) → Good s

@@ -12,7 +12,6 @@ use Rattle.sng_history.specs.Clients.{Client}
 use Rattle.sng_history.specs.Links.{Wanted, wants}
 use Rattle.sng_history.specs.Standing.{holds, is_held}
 use Rattle.sng_history.specs.State.{State}
-use Rattle.sng_history.specs.declared.limits.TheConstants.{MAX_CLIENTS}
 use Rattle.sng_history.specs.Good.{Each, WantedOnce, Good}
 use Rattle.sng_history.proofs.Own.{same_self, same_means, flip}
 use Rattle.sng_history.proofs.Booleans.{or_right}
@@ -134,9 +133,8 @@ few_texts (x ∷ xs) each =
     length-map x.filters (λ (h : Held). h.filter) in
     omega (arith, length-append (map (λ (h : Held). h.filter) x.filters) (all_texts xs), few_texts xs each.1)
 
-pub few_wanted : (s : State) → Good s → length s.link.wanted ≤ MAX_CLIENTS * MAX_SUBSCRIPTIONS
+pub few_wanted : (s : State) → Good s → length s.link.wanted ≤ MAX_SUBSCRIPTIONS * length s.clients
 few_wanted s good =
-    let most : length s.clients ≤ MAX_CLIENTS = good.most in
     let all =
     few s.link.wanted (all_texts s.clients) good.wanted_once
     (λ text is. held_among s.clients text (sym (good.wanted_held text) ∙ is)) in

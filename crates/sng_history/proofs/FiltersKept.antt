@@ -173,7 +173,7 @@ pub record MayStand (s : State) (x : Client) (r : TopicRequest) (text : List ℕ
   pub covers : coverage s.policy x.id text ≡ Allowed
   pub ids : (gets_id r.flags.id_type text && is_full_for text x.ids) ≡ false
   pub fits : is_full x.filters text ≡ false
-  pub waits : has_place s.link ≡ true
+  pub waits : has_place s.policy.limits s.link ≡ true
 
 pub may_stand : (s : State) (x : Client) (r : TopicRequest) (text : List ℕ)
     → subscribe_verdict s x r text ≡ Allowed → MayStand s x r text
@@ -183,7 +183,7 @@ may_stand s x r text is =
     (allowed_second (coverage s.policy x.id text) (subscribe_room s x r text) is) in
     let each =
     room_by (gets_id r.flags.id_type text && is_full_for text x.ids) (is_full x.filters text)
-    (has_place s.link) room in
+    (has_place s.policy.limits s.link) room in
     record {
       covers = allowed_first (coverage s.policy x.id text) (subscribe_room s x r text) is;
       ids = each.0;

@@ -20,7 +20,6 @@ use Rattle.sng_book.specs.declared.outcome.Outcome.{Outcome}
 use Rattle.sng_book.specs.declared.outcome.Outcome.TheVariants.{Allowed, Denied}
 use Rattle.sng_book.specs.Denials.{is_allowed}
 use Rattle.sng_states.specs.States.{has_session, is_due_messages, is_active}
-use Rattle.sng_history.specs.declared.limits.TheConstants.{MAX_CLIENTS}
 use Rattle.sng_history.specs.Causes.{Statement, statement_asked}
 use Rattle.sng_history.specs.Causes.{Request, ToPing, ToLeave, ToSleep, ToRegister, ToPublish, ToSubscribe}
 use Rattle.sng_history.specs.Causes.{ToUnsubscribe}
@@ -56,6 +55,7 @@ use Rattle.sng_history.proofs.Asks.{of_register, of_publish, of_publish_once, of
 use Rattle.sng_history.proofs.Asks.{of_unsubscribe}
 use Rattle.sng_history.proofs.WaitingAcks.{allowed_second}
 use Rattle.sng_history.proofs.Waiting.{few_next}
+use Rattle.sng_history.proofs.FewOpen.{few_subscribes_next}
 use Rattle.sng_history.proofs.Kept.{client_id, map_distinct, present_distinct}
 use Rattle.sng_history.proofs.Filters.{once_next, covered_next}
 use Rattle.sng_history.proofs.Wanted.{wanted_once_next}
@@ -203,49 +203,6 @@ places_next s (ByReplace policy) apart places rest =
 places_next s (ByTick clock) apart places rest =
     stay_all s (ByTick clock) refl (λ x. settled_tick s clock x) places
 
--- ---- there are no more than may be
-
-room_means : (known fits : Bool) (rule : Denial)
-    → (let o : Outcome = if known || fits then Allowed else Denied rule in o) ≡ Allowed → known ≡ false
-    → fits ≡ true
-room_means true fits rule is unknown = absurd cc
-room_means false true rule is unknown = refl
-room_means false false rule is unknown = absurd cc
-
-fits_by : (n : ℕ) → nat_lt n MAX_CLIENTS ≡ true → n + 1 ≤ MAX_CLIENTS
-fits_by n is = grind (arith, nat_tests)
-
-entry_most : (s : State) (connect : Connect) (o : Outcome) (known : Bool) → entry s connect ≡ o
-    → is_known connect.client_id s.clients ≡ known → length s.clients ≤ MAX_CLIENTS
-    → length (s.clients ++ (if is_allowed o && not known then blank connect.client_id ∷ [] else []))
-    ≤ MAX_CLIENTS
-entry_most s connect (Denied rule) known is k most = rw (append-nil s.clients) most
-entry_most s connect Allowed true is k most = rw (append-nil s.clients) most
-entry_most s connect Allowed false is k most =
-    let id = connect.client_id in
-    let room : entry_room s.clients id ≡ Allowed =
-    allowed_second (client_scope s.policy id) (entry_room s.clients id)
-    (allowed_second (entry_form connect)
-    (and_then (client_scope s.policy id) (entry_room s.clients id)) is) in
-    let fits : nat_lt (length s.clients) MAX_CLIENTS ≡ true =
-    room_means (is_known id s.clients) (nat_lt (length s.clients) MAX_CLIENTS)
-    (Room (Full place.Clients)) room k in
-    rw (length-append s.clients (blank id ∷ [])) (fits_by (length s.clients) fits)
-
-most_next : (s : State) (c : Cause) → length s.clients ≤ MAX_CLIENTS
-    → length (s.clients ++ newcomers_for s c) ≤ MAX_CLIENTS
-most_next s (ByConnect from connect) most =
-    entry_most s connect (entry s connect) (is_known connect.client_id s.clients) refl refl most
-most_next s (ByMessage from request) most = rw (append-nil s.clients) most
-most_next s (BySource from p) most = rw (append-nil s.clients) most
-most_next s (ByBroken from rule) most = rw (append-nil s.clients) most
-most_next s (ByPacket p) most = rw (append-nil s.clients) most
-most_next s ByUp most = rw (append-nil s.clients) most
-most_next s ByDown most = rw (append-nil s.clients) most
-most_next s ByTake most = rw (append-nil s.clients) most
-most_next s (ByReplace policy) most = rw (append-nil s.clients) most
-most_next s (ByTick clock) most = rw (append-nil s.clients) most
-
 pub good_next : (s : State) (c : Cause) → Good s → Good (next_by s c)
 good_next s c good = record {
   apart =
@@ -253,8 +210,8 @@ good_next s c good = record {
       (λ x. client_id (around s c) (fixed_for s c x) x) (present_distinct s c good.apart);
   places = places_next s c good.apart good.places good.rest;
   rest = rest_next s c good.rest;
-  most = rw (length-map (s.clients ++ newcomers_for s c)) (most_next s c good.most);
   few = few_next s c good.places good.few;
+  few_subscribes = few_subscribes_next s c good;
   once = once_next s c good;
   few_open = few_open_next s c good.few_open;
   covered = covered_next s c good;
@@ -267,8 +224,8 @@ good_opening = record {
   apart = tt;
   places = tt;
   rest = tt;
-  most = omega arith;
   few = omega arith;
+  few_subscribes = omega arith;
   once = tt;
   few_open = tt;
   covered = tt;

@@ -20,7 +20,7 @@ use Rattle.sng_history.specs.Causes.{ByUp, ByDown, ByTake, ByReplace, ByTick}
 use Rattle.sng_history.specs.Clients.{Client, let_in, client_by}
 use Rattle.sng_history.specs.Notes.{notes_of}
 use Rattle.sng_history.specs.State.{State, around, later, after, state_of, present_in, newcomers, clients_by}
-use Rattle.sng_history.specs.State.{asked_by, asked_in}
+use Rattle.sng_history.specs.State.{asked_by, asked_in, policy_by}
 use Rattle.sng_history.specs.Packets.{answer_of, answer_outs}
 use Rattle.sng_history.specs.Ticking.{with_wills, ping_dropped}
 use Rattle.sng_history.specs.Standing.{Release, released, dropped_of}
@@ -51,7 +51,8 @@ moved_same s c m n same =
 
 drops_same : (s : State) (c : Cause) (m n : Notes) → NotesAgree m.of n.of s.clients
     → drops s c m ≡ drops s c n
-drops_same s c m n same = ap (λ xs. dropped_of s.link (released s.clients xs)) (moved_same s c m n same)
+drops_same s c m n same =
+    ap (λ xs. dropped_of (policy_by c s.policy).limits s.link (released s.clients xs)) (moved_same s c m n same)
 
 rows_same : (s : State) (c : Cause) (dropped : List Release) (m n : Notes) → NotesAgree m.of n.of s.clients
     → client_rows s c dropped m ≡ client_rows s c dropped n
@@ -105,13 +106,14 @@ whole_same s (BySource from p) m n exits same = refl
 whole_same s (ByBroken from rule) m n exits same =
     frame_same s (ByBroken from rule) (Note (note.Frame (who.Address from) (Denied rule)) ∷ []) m n same
 whole_same s (ByPacket p) m n exits same =
-    ap (λ outs. outs ++ answer_outs s.up s.link (answer_of p)) (rows_same s (ByPacket p) [] m n same)
+    ap (λ outs. outs ++ answer_outs s.policy.limits s.up s.link (answer_of p)) (rows_same s (ByPacket p) [] m n same)
 whole_same s ByUp m n exits same = ap (beginning s.link s.clock) exits
 whole_same s ByDown m n exits same = refl
 whole_same s (ByReplace policy) m n exits same = both_same s (ByReplace policy) m n same
 whole_same s (ByTick clock) m n exits same =
     let now = later s.clock clock in
-    ap (λ outs. outs ++ ping_dropped s.up (with_wills s.link now s.clients) now)
+    let limits = s.policy.limits in
+    ap (λ outs. outs ++ ping_dropped limits s.up (with_wills limits s.link now s.clients) now)
     (rows_same s (ByTick clock) [] m n same)
 
 pub each_left : (P : Client → Type 0) (xs ys : List Client) → Each P (xs ++ ys) → Each P xs

@@ -40,6 +40,7 @@ pub mod PacketRests
 pub mod Rests
 pub mod AddressesKept
 pub mod GoodNext
+pub mod FewOpen
 pub mod FewWanted
 pub mod Ceilings
 pub mod ClientIds

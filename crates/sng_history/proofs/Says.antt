@@ -214,8 +214,8 @@ says s (BySource from p) apart =
     mute_says s (BySource from p) (outs_by s (BySource from p)) refl refl refl (foreign_source s from.ip p)
     (λ x. refl)
 says s (ByPacket p) apart =
-    rows_says s (ByPacket p) [] (answer_outs s.up s.link (answer_of p)) refl refl refl apart
-    (mute_packet s.up s.link (answer_of p))
+    rows_says s (ByPacket p) [] (answer_outs s.policy.limits s.up s.link (answer_of p)) refl refl refl apart
+    (mute_packet s.policy.limits s.up s.link (answer_of p))
 says s ByUp apart =
     all_here s ByUp (outs_by s ByUp) refl refl (up_exits s)
     (each_all (λ x. notes_of x.id (outs_by s ByUp) ≡ fixed_for s ByUp x) s.clients (λ x. up_none s x.id))
@@ -230,5 +230,7 @@ says s (ByReplace policy) apart =
     (rows_says s c (drops_for s c) [] refl refl refl apart mute_none)
 says s (ByTick clock) apart =
     let now = later s.clock clock in
-    let link = with_wills s.link now s.clients in
-    rows_says s (ByTick clock) [] (ping_dropped s.up link now) refl refl refl apart (mute_ping s.up link now)
+    let limits = s.policy.limits in
+    let link = with_wills limits s.link now s.clients in
+    rows_says s (ByTick clock) [] (ping_dropped limits s.up link now) refl refl refl apart
+    (mute_ping limits s.up link now)

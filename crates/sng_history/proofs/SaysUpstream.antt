@@ -11,6 +11,7 @@ use Rattle.sng_outbox.specs.declared.in_flight.InFlight.{InFlight}
 use Rattle.sng_outbox.specs.declared.item.Item.{Item}
 use Rattle.sng_outbox.specs.declared.item.Item.TheVariants as item
 use Rattle.sng_outbox.specs.declared.item.Publication.{Publication}
+use Rattle.sng_grants.specs.Limits.{Limits}
 use Rattle.sng_grants.specs.declared.policy.Policy.{Policy}
 use Rattle.sng_book.specs.declared.decision.Decision.{Decision}
 use Rattle.sng_book.specs.declared.decision.Decision.TheVariants as note
@@ -24,13 +25,15 @@ use Rattle.sng_book.specs.declared.out.Out.{Out}
 use Rattle.sng_book.specs.declared.out.Out.TheVariants.{Note}
 use Rattle.sng_history.specs.Causes.{ByUp, ByTake}
 use Rattle.sng_history.specs.Notes.{notes_of, said_of, exits_in, exits_of_out}
-use Rattle.sng_history.specs.Links.{Link, wants, next_packet_id, packet_id_by, exited, resumed}
-use Rattle.sng_history.specs.Links.{filters_wanted, subscribe_sent, subscribe_left, unsubscribe_left}
+use Rattle.sng_history.specs.Links.{Link, wants, may_open, next_packet_id, packet_id_by, exited, resumed}
+use Rattle.sng_history.specs.Links.{outgoing}
+use Rattle.sng_history.specs.Links.{filters_wanted, subscribe_sent, subscribe_left}
+use Rattle.sng_history.specs.Links.{unsubscribe_left}
 use Rattle.sng_history.specs.State.{State}
 use Rattle.sng_history.specs.Ticking.{is_ping_due, ping_dropped}
 use Rattle.sng_history.specs.Verdicts.{source_ask, named_ask, name_in, exit}
 use Rattle.sng_history.specs.Exits.{exits_of, forwarded, subscribe_packet, unsubscribe_packet, subscribing}
-use Rattle.sng_history.specs.Exits.{leaving, agains_of, sent_again, resending}
+use Rattle.sng_history.specs.Exits.{subscribe_out, subscribe_leaves, leaving, agains_of, sent_again, resending}
 use Rattle.sng_history.specs.Packets.{Answer, Delivers, Acknowledges, Grants, Refuses, Confirms}
 use Rattle.sng_history.specs.Packets.{Strange as StrangePacket, owed, has_place, dropped, misnamed}
 use Rattle.sng_history.specs.Packets.{answer_outs}
@@ -47,25 +50,33 @@ forwarded_says p packet_id Allowed outs = refl
 forwarded_says p packet_id (Denied rule) outs = refl
 
 -- an out without exits adds none, and one of nobody adds no note
-wire_exits : (b : Bool) (out : Out) (outs : List Out) → exits_of_out out ≡ []
-    → exits_in ((if b then out ∷ [] else []) ++ outs) ≡ exits_in outs
-wire_exits true out outs none = ap (λ exits. exits ++ exits_in outs) none
-wire_exits false out outs none = refl
-
 no_wire_exits : (b : Bool) (out : Out) (outs : List Out) → exits_of_out out ≡ []
     → exits_in ((if b then [] else out ∷ []) ++ outs) ≡ exits_in outs
 no_wire_exits true out outs none = refl
 no_wire_exits false out outs none = ap (λ exits. exits ++ exits_in outs) none
 
-wire_none : (d : List ℕ) (b : Bool) (out : Out) (outs : List Out) → said_of d out ≡ []
-    → notes_of d ((if b then out ∷ [] else []) ++ outs) ≡ notes_of d outs
-wire_none d true out outs none = ap (λ notes. notes ++ notes_of d outs) none
-wire_none d false out outs none = refl
-
 no_wire_none : (d : List ℕ) (b : Bool) (out : Out) (outs : List Out) → said_of d out ≡ []
     → notes_of d ((if b then [] else out ∷ []) ++ outs) ≡ notes_of d outs
 no_wire_none d true out outs none = refl
 no_wire_none d false out outs none = ap (λ notes. notes ++ notes_of d outs) none
+
+-- outs without a note in front of others
+front_exits : (front outs : List Out) → Mute front → exits_in (front ++ outs) ≡ exits_in outs
+front_exits front outs mute = exits_append front outs ∙ ap (λ exits. exits ++ exits_in outs) mute.exits
+
+front_none : (d : List ℕ) (front outs : List Out) → Mute front → notes_of d (front ++ outs) ≡ notes_of d outs
+front_none d front outs mute =
+    notes_append d front outs ∙ ap (λ notes. notes ++ notes_of d outs) (mute.notes d)
+
+-- a SUBSCRIBE has no note
+mute_subscribe : (link : Link) (filter : List ℕ) → Mute (subscribe_out link filter)
+mute_subscribe link filter =
+    mute_if (may_open link.wanted filter) (subscribe_packet (next_packet_id link) filter ∷ [])
+    (record { notes = λ c. refl; exits = refl; asks = λ q. refl })
+
+mute_leaves : (link : Link) (filter : List ℕ) → Mute (subscribe_leaves link filter)
+mute_leaves link filter =
+    mute_if (wants link.wanted filter) (subscribe_out link filter) (mute_subscribe link filter)
 
 pub leaving_exits : (policy : Policy) (link : Link) (items : List Item)
     → exits_in (leaving link items (exits_of policy items)) ≡ exits_of policy items
@@ -75,8 +86,8 @@ leaving_exits policy link (item.Publish p ∷ items) =
     forwarded_says p (packet_id_by link p.qos) o (leaving (exited link p o) items (exits_of policy items))
     ∙ ap (λ outcomes. o ∷ outcomes) (leaving_exits policy (exited link p o) items)
 leaving_exits policy link (item.Subscribe filter ∷ items) =
-    wire_exits (wants link.wanted filter) (subscribe_packet (next_packet_id link) filter)
-    (leaving (subscribe_left link filter) items (exits_of policy items)) refl
+    front_exits (subscribe_leaves link filter) (leaving (subscribe_left link filter) items (exits_of policy items))
+    (mute_leaves link filter)
     ∙ leaving_exits policy (subscribe_left link filter) items
 leaving_exits policy link (item.Unsubscribe filter ∷ items) =
     no_wire_exits (wants link.wanted filter) (unsubscribe_packet (next_packet_id link) filter)
@@ -98,8 +109,8 @@ leaving_none d policy link (item.Publish p ∷ items) =
     forwarded_none d p (packet_id_by link p.qos) o (leaving (exited link p o) items (exits_of policy items))
     ∙ leaving_none d policy (exited link p o) items
 leaving_none d policy link (item.Subscribe filter ∷ items) =
-    wire_none d (wants link.wanted filter) (subscribe_packet (next_packet_id link) filter)
-    (leaving (subscribe_left link filter) items (exits_of policy items)) refl
+    front_none d (subscribe_leaves link filter)
+    (leaving (subscribe_left link filter) items (exits_of policy items)) (mute_leaves link filter)
     ∙ leaving_none d policy (subscribe_left link filter) items
 leaving_none d policy link (item.Unsubscribe filter ∷ items) =
     no_wire_none d (wants link.wanted filter) (unsubscribe_packet (next_packet_id link) filter)
@@ -108,12 +119,20 @@ leaving_none d policy link (item.Unsubscribe filter ∷ items) =
 leaving_none d policy link (item.Acknowledge packet_id ∷ items) = leaving_none d policy link items
 leaving_none d policy link (item.Ping ∷ items) = leaving_none d policy link items
 
+-- SUBSCRIBEs have no notes
+pub mute_subscribing : (link : Link) (filters : List (List ℕ)) → Mute (subscribing link filters)
+mute_subscribing link [] = mute_none
+mute_subscribing link (filter ∷ filters) =
+    mute_both (subscribe_out link filter) (subscribing (subscribe_sent link filter) filters)
+    (mute_subscribe link filter)
+    (mute_subscribing (subscribe_sent link filter) filters)
+
 pub take_exits : (s : State) (up : Bool) → s.up ≡ up → exits_in (outs_by s ByTake) ≡ exits_for s ByTake
-take_exits s true is = rw is (leaving_exits s.policy s.link s.link.waiting)
+take_exits s true is = rw is (leaving_exits s.policy s.link (outgoing s.link))
 take_exits s false is = rw is refl
 
 pub take_none : (s : State) (d : List ℕ) (up : Bool) → s.up ≡ up → notes_of d (outs_by s ByTake) ≡ []
-take_none s d true is = rw is (leaving_none d s.policy s.link s.link.waiting)
+take_none s d true is = rw is (leaving_none d s.policy s.link (outgoing s.link))
 take_none s d false is = rw is refl
 
 -- ---- what is sent again
@@ -142,15 +161,6 @@ resending_none d policy [] = refl
 resending_none d policy (sent ∷ flights) =
     again_none d sent (exit policy sent.publication.origin sent.publication.name)
     (resending flights (agains_of policy flights)) ∙ resending_none d policy flights
-
--- the SUBSCRIBEs of a new connection have no notes
-pub mute_subscribing : (link : Link) (filters : List (List ℕ)) → Mute (subscribing link filters)
-mute_subscribing link [] = mute_none
-mute_subscribing link (filter ∷ filters) =
-    mute_both (subscribe_packet (next_packet_id link) filter ∷ [])
-    (subscribing (subscribe_sent link filter) filters)
-    (record { notes = λ c. refl; exits = refl; asks = λ q. refl })
-    (mute_subscribing (subscribe_sent link filter) filters)
 
 abbrev anew : State → List Out
 anew s = subscribing (resumed s.link s.clock (agains_of s.policy s.link.in_flight)) (filters_wanted s.link)
@@ -183,27 +193,28 @@ mute_dropped place None = mute_none
 mute_dropped place (Some packet_id) =
     mute_note place note.Outbox (record { notes = λ c. refl; exits = refl; asks = λ q. refl })
 
-pub mute_packet : (up : Bool) (link : Link) (a : Answer) → Mute (answer_outs up link a)
-mute_packet up link (Delivers p) =
-    mute_both (misnamed p.name) (dropped (has_place link) (owed up p))
+pub mute_packet : (limits : Limits) (up : Bool) (link : Link) (a : Answer) → Mute (answer_outs limits up link a)
+mute_packet limits up link (Delivers p) =
+    mute_both (misnamed p.name) (dropped (has_place limits link) (owed up p))
     (mute_note (is_name p.name) (note.Frame who.Broker (Denied (Form BadName)))
     (record { notes = λ c. refl; exits = refl; asks = λ q. refl }))
-    (mute_dropped (has_place link) (owed up p))
-mute_packet up link (Acknowledges packet_id) = mute_none
-mute_packet up link (Grants packet_id) = mute_none
-mute_packet up link (Refuses packet_id) = mute_none
-mute_packet up link Confirms = mute_none
-mute_packet up link StrangePacket = record { notes = λ c. refl; exits = refl; asks = λ q. refl }
+    (mute_dropped (has_place limits link) (owed up p))
+mute_packet limits up link (Acknowledges packet_id) = mute_none
+mute_packet limits up link (Grants packet_id) = mute_none
+mute_packet limits up link (Refuses packet_id) = mute_none
+mute_packet limits up link Confirms = mute_none
+mute_packet limits up link StrangePacket = record { notes = λ c. refl; exits = refl; asks = λ q. refl }
 
 -- ---- a PINGREQ for which there is no place at a tick
 
 mute_full : (has : Bool) → Mute (if has then [] else Note note.Outbox ∷ [])
 mute_full has = mute_note has note.Outbox (record { notes = λ c. refl; exits = refl; asks = λ q. refl })
 
-pub mute_ping : (up : Bool) (link : Link) (clock : ℕ) → Mute (ping_dropped up link clock)
-mute_ping up link clock =
-    mute_if (is_ping_due up link clock) (if has_place link then [] else Note note.Outbox ∷ [])
-    (mute_full (has_place link))
+pub mute_ping : (limits : Limits) (up : Bool) (link : Link) (clock : ℕ)
+    → Mute (ping_dropped limits up link clock)
+mute_ping limits up link clock =
+    mute_if (is_ping_due up link clock) (if has_place limits link then [] else Note note.Outbox ∷ [])
+    (mute_full (has_place limits link))
 
 -- ---- a publish of a source
 

@@ -2,6 +2,7 @@
 -- is sent again: what holds of each of their kinds holds of all of them.
 use Rattle.std.proofs.Common.{◌≡◌, ℕ, Bool, true, false, List, [], ◌∷◌, ◌++◌, refl, ◌∙◌}
 use Rattle.std.specs.Prelude.{if◌then◌else◌, Option, Some, None}
+use Rattle.sng_grants.specs.Limits.{Limits}
 use Rattle.sng_grants.specs.declared.policy.Policy.{Policy}
 use Rattle.sng_queue.specs.Messages.{Message}
 use Rattle.sng_queue.specs.Buffers.{settle}
@@ -85,20 +86,19 @@ every_unplaced : (P : Decision → Type 0) (client : List ℕ) (p : Publication)
 every_unplaced P client p Allowed of = tt
 every_unplaced P client p (Denied rule) of = (of.drops p.name rule, tt)
 
-pub every_dropped : (P : Decision → Type 0) (link : Link) (client : List ℕ) (ps : List Publication)
-    → OfLost P client
-    → Every P (will_dropped link client ps)
-every_dropped P link client [] of = tt
-every_dropped P link client (p ∷ ps) of = every_unplaced P client p (room_in link p.qos) of
+pub every_dropped : (P : Decision → Type 0) (limits : Limits) (link : Link) (client : List ℕ)
+    (ps : List Publication) → OfLost P client → Every P (will_dropped limits link client ps)
+every_dropped P limits link client [] of = tt
+every_dropped P limits link client (p ∷ ps) of = every_unplaced P client p (room_in limits link p.qos) of
 
-pub every_lost : (P : Decision → Type 0) (link : Link) (x : Client) → OfLost P x.id
-    → Every P (lost_notes link x)
-every_lost P link x of =
+pub every_lost : (P : Decision → Type 0) (limits : Limits) (link : Link) (x : Client) → OfLost P x.id
+    → Every P (lost_notes limits link x)
+every_lost P limits link x of =
     let will = will_of x.id x.wills.will in
     let goes = every_gone P x.id x.buffer.waiting of.messages in (
       of.loses,
-      every_append P (all_gone x.id x.buffer.waiting) (will_dropped link x.id will) goes
-          (every_dropped P link x.id will of),
+      every_append P (all_gone x.id x.buffer.waiting) (will_dropped limits link x.id will) goes
+          (every_dropped P limits link x.id will of),
     )
 
 -- ---- what is sent again
@@ -150,9 +150,9 @@ pub every_tick : (P : Decision → Type 0) (policy : Policy) (link : Link) (cloc
     → ((name : List ℕ) (outcome : Outcome) → P (note.Retry x.id name outcome))
     → Every P (tick_notes policy link clock xs x)
 every_tick P policy link clock xs x of again =
-    let left = all_placed link (testaments clock (before x.id xs)) in
-    every_either P (is_lost_at clock x) (lost_notes left x) (again_notes policy clock x)
-    (every_lost P left x of)
+    let left = all_placed policy.limits link (testaments clock (before x.id xs)) in
+    every_either P (is_lost_at clock x) (lost_notes policy.limits left x) (again_notes policy clock x)
+    (every_lost P policy.limits left x of)
     (every_again P policy clock x (record { again = again; messages = of.messages }))
 
 -- ---- what they leave of a client

@@ -1,6 +1,7 @@
 -- After a tick a client is lost, or at rest: what was open with it was sent again, or is over.
 use Rattle.std.proofs.Common.{◌≡◌, ℕ, Bool, true, false, List, [], ◌∷◌, refl, ap, sym, ◌∙◌, subst}
 use Rattle.std.specs.Prelude.{if◌then◌else◌, Option, Some, None}
+use Rattle.sng_grants.specs.Limits.{Limits}
 use Rattle.sng_states.specs.States.{takes_messages}
 use Rattle.sng_queue.specs.declared.exchange.Exchange.{Exchange}
 use Rattle.sng_queue.specs.declared.exchange.Exchange.TheVariants.{Announcing, Acknowledging}
@@ -36,20 +37,20 @@ unplaced_stays : (s : State) (clock : ℕ) (id : List ℕ) (p : Publication) (o 
 unplaced_stays s clock id p Allowed x = refl
 unplaced_stays s clock id p (Denied rule) x = refl
 
-dropped_stays : (s : State) (clock : ℕ) (link : Link) (id : List ℕ) (ps : List Publication) (x : Client)
-    → notes_by (around s (ByTick clock)) (will_dropped link id ps) x ≡ x
-dropped_stays s clock link id [] x = refl
-dropped_stays s clock link id (p ∷ ps) x = unplaced_stays s clock id p (room_in link p.qos) x
+dropped_stays : (s : State) (clock : ℕ) (limits : Limits) (link : Link) (id : List ℕ) (ps : List Publication) (x : Client)
+    → notes_by (around s (ByTick clock)) (will_dropped limits link id ps) x ≡ x
+dropped_stays s clock limits link id [] x = refl
+dropped_stays s clock limits link id (p ∷ ps) x = unplaced_stays s clock id p (room_in limits link p.qos) x
 
 -- the notes of a client that is lost make just this of it
-pub lost_next : (s : State) (clock : ℕ) (link : Link) (x : Client)
-    → notes_by (around s (ByTick clock)) (lost_notes link x) x ≡ lost x
-lost_next s clock link x =
+pub lost_next : (s : State) (clock : ℕ) (limits : Limits) (link : Link) (x : Client)
+    → notes_by (around s (ByTick clock)) (lost_notes limits link x) x ≡ lost x
+lost_next s clock limits link x =
     let a = around s (ByTick clock) in
     let will = will_of x.id x.wills.will in
-    notes_both a (all_gone x.id x.buffer.waiting) (will_dropped link x.id will) (lost x)
-    ∙ (ap (notes_by a (will_dropped link x.id will)) (gone_stays a x.id x.buffer.waiting (lost x) refl)
-    ∙ dropped_stays s clock link x.id will (lost x))
+    notes_both a (all_gone x.id x.buffer.waiting) (will_dropped limits link x.id will) (lost x)
+    ∙ (ap (notes_by a (will_dropped limits link x.id will)) (gone_stays a x.id x.buffer.waiting (lost x) refl)
+    ∙ dropped_stays s clock limits link x.id will (lost x))
 
 -- ---- one with whom something is open
 
@@ -114,12 +115,12 @@ rest_again a clock x rest = rest_repeating a clock x (is_repeating clock x) refl
 
 -- ---- each client
 
-tick_by : (s : State) (clock now : ℕ) (link : Link) (x : Client) (over : Bool)
+tick_by : (s : State) (clock now : ℕ) (limits : Limits) (link : Link) (x : Client) (over : Bool)
     → (let a = around s (ByTick clock) in
-    drained (notes_by a (if over then lost_notes link x else again_notes s.policy now x) x)
+    drained (notes_by a (if over then lost_notes limits link x else again_notes s.policy now x) x)
     ≡ (if over then lost x else drained (notes_by a (again_notes s.policy now x) x)))
-tick_by s clock now link x true = ap drained (lost_next s clock link x)
-tick_by s clock now link x false = refl
+tick_by s clock now limits link x true = ap drained (lost_next s clock limits link x)
+tick_by s clock now limits link x false = refl
 
 -- a client after a tick
 pub tick_next : (s : State) (clock : ℕ) (x : Client)
@@ -129,7 +130,8 @@ pub tick_next : (s : State) (clock : ℕ) (x : Client)
     else drained (notes_by (around s (ByTick clock)) (again_notes s.policy now x) x)))
 tick_next s clock x =
     let now = later s.clock clock in
-    tick_by s clock now (all_placed s.link (testaments now (before x.id s.clients))) x (is_lost_at now x)
+    tick_by s clock now s.policy.limits (all_placed s.policy.limits s.link (testaments now (before x.id s.clients))) x
+    (is_lost_at now x)
 
 rest_over : (over : Bool) (x y : Client) → AtRest y → AtRest (if over then lost x else y)
 rest_over true x y rest = record { handed = refl; quiet = refl; busy = refl; away = refl; dialogue = refl }

@@ -7,7 +7,8 @@ use Rattle.sng_text.specs.declared.qos.Qos.{Qos}
 use Rattle.sng_text.specs.declared.qos.Qos.TheVariants.{AtMostOnce, AtLeastOnce}
 use Rattle.sng_policy.specs.Grants.{lists_source}
 use Rattle.sng_outbox.specs.Sending.{publishes}
-use Rattle.sng_outbox.specs.declared.limits.TheConstants.{MAX_IN_FLIGHT}
+use Rattle.sng_grants.specs.Limits.{Limits}
+use Rattle.sng_grants.specs.declared.limits.TheConstants.{MAX_FLIGHT}
 use Rattle.sng_outbox.specs.declared.item.Item.{Item}
 use Rattle.sng_outbox.specs.declared.item.Item.TheVariants as item
 use Rattle.sng_outbox.specs.declared.item.Publication.{Publication}
@@ -25,12 +26,13 @@ use Rattle.sng_history.specs.Causes.{ByReplace, ByTick}
 use Rattle.sng_history.specs.Causes.{ToPublishOnce, ToRelease}
 use Rattle.sng_history.specs.Clients.{Client, is_here}
 use Rattle.sng_history.specs.Links.{Link}
-use Rattle.sng_history.specs.Links.{resumed, filters_wanted}
+use Rattle.sng_history.specs.Links.{outgoing}
+use Rattle.sng_history.specs.Links.{resumed, filters_owed, filters_wanted}
 use Rattle.sng_history.specs.Packets.{Answer, Delivers, Acknowledges, Grants, Refuses, Confirms, Strange}
 use Rattle.sng_history.specs.Packets.{answer_of, owed, has_place, acknowledgement, acknowledgements, answered}
 use Rattle.sng_history.specs.Room.{room_in}
 use Rattle.sng_history.specs.Ticking.{with_item, ticked}
-use Rattle.sng_history.specs.State.{State, later, subscribe_item, asked_by, link_moved}
+use Rattle.sng_history.specs.State.{State, later, policy_by, subscribe_item, asked_by, link_moved}
 use Rattle.sng_history.specs.Standing.{Release, released, places_left}
 use Rattle.sng_history.specs.Verdicts.{source_ask, is_repeat}
 use Rattle.sng_history.specs.Exits.{exits_of}
@@ -48,23 +50,36 @@ owed_acks place None = refl
 owed_acks true (Some packet_id) = refl
 owed_acks false (Some packet_id) = refl
 
-answer_acks : (up : Bool) (link : Link) (a : Answer) → acks (acknowledgements up link a) ≡ 0
-answer_acks up link (Delivers p) = owed_acks (has_place link) (owed up p)
-answer_acks up link (Acknowledges packet_id) = refl
-answer_acks up link (Grants packet_id) = refl
-answer_acks up link (Refuses packet_id) = refl
-answer_acks up link Confirms = refl
-answer_acks up link Strange = refl
+answer_acks : (limits : Limits) (up : Bool) (link : Link) (a : Answer)
+    → acks (acknowledgements limits up link a) ≡ 0
+answer_acks limits up link (Delivers p) = owed_acks (has_place limits link) (owed up p)
+answer_acks limits up link (Acknowledges packet_id) = refl
+answer_acks limits up link (Grants packet_id) = refl
+answer_acks limits up link (Refuses packet_id) = refl
+answer_acks limits up link Confirms = refl
+answer_acks limits up link Strange = refl
 
-up_few : (up : Bool) (items : List Item) (n m : ℕ) → n ≤ m → acks items + m ≤ MAX_IN_FLIGHT
-    → acks (if up then publishes items else items) + n ≤ MAX_IN_FLIGHT
+up_few : (up : Bool) (items : List Item) (n m : ℕ) → n ≤ m → acks items + m ≤ MAX_FLIGHT
+    → acks (if up then publishes items else items) + n ≤ MAX_FLIGHT
 up_few true items n m less few = omega (arith, counted-publishes items)
 up_few false items n m less few = omega arith
+
+subscribes_none : (texts : List (List ℕ)) → acks (map item.Subscribe texts) ≡ 0
+subscribes_none [] = refl
+subscribes_none (text ∷ texts) =
+    omega (arith, counted-front (item.Subscribe text) (map item.Subscribe texts), subscribes_none texts)
 
 take_few : (s : State) (up : Bool) → s.up ≡ up → Few s.link.waiting s.link.in_flight
     → Few (waiting_next s ByTake) (link_moved s ByTake (exits_for s ByTake)).in_flight
 take_few s true is few =
-    rw is (omega (arith, few, after_more s.link s.link.waiting (exits_of s.policy s.link.waiting)))
+    let owed = filters_owed s.link in
+    rw is (omega (
+      arith,
+      few,
+      after_more s.link (outgoing s.link) (exits_of s.policy (outgoing s.link)),
+      acks_append (map item.Subscribe owed) s.link.waiting,
+      subscribes_none owed,
+    ))
 take_few s false is few = rw is few
 
 -- only a PUBLISH of QoS 1 asks for an acknowledgement
@@ -96,8 +111,9 @@ released_none (r ∷ rs) =
       released_none rs,
     )
 
-let_go_none : (s : State) (after : List Client) → acks (let_go s after) ≡ 0
-let_go_none s after = released_none (take (places_left s.link) (released s.clients after))
+let_go_none : (s : State) (c : Cause) → acks (let_go s c) ≡ 0
+let_go_none s c =
+    released_none (take (places_left (policy_by c s.policy).limits s.link) (released s.clients (clients_next s c)))
 
 abbrev AskedFits : State → Address → Request → Type 0
 AskedFits s from request = Fits s (asked_for s (ByMessage from request))
@@ -137,21 +153,21 @@ asked_fits s from (ToState statement) places few = unasked_fits s from (ToState 
 asked_fits s from (Untaken message) places few = unasked_fits s from (Untaken message) refl few
 
 -- what the broker is told of filters that end needs no room among those
-go_few : (s : State) (after : List Client) → Few s.link.waiting s.link.in_flight
-    → Few (s.link.waiting ++ let_go s after) s.link.in_flight
-go_few s after few = omega (arith, few, acks_append s.link.waiting (let_go s after), let_go_none s after)
+go_few : (s : State) (c : Cause) → Few s.link.waiting s.link.in_flight
+    → Few (s.link.waiting ++ let_go s c) s.link.in_flight
+go_few s c few = omega (arith, few, acks_append s.link.waiting (let_go s c), let_go_none s c)
 
 message_few : (s : State) (from : Address) (request : Request) → OnePlace s.clients
     → Few s.link.waiting s.link.in_flight → Few (waiting_next s (ByMessage from request)) s.link.in_flight
 message_few s from request places few =
     let c = ByMessage from request in
-    let go = let_go s (clients_next s c) in
+    let go = let_go s c in
     omega (
       arith,
       asked_fits s from request places few,
       acks_append s.link.waiting (asked_for s c ++ go),
       acks_append (asked_for s c) go,
-      let_go_none s (clients_next s c),
+      let_go_none s c,
     )
 
 begun_few : (s : State) → Few s.link.waiting s.link.in_flight
@@ -166,37 +182,38 @@ begun_few s few =
 abbrev FewOf : Link → Type 0
 FewOf link = Few link.waiting link.in_flight
 
-will_few : (link : Link) (p : Publication) (q : Qos) → p.qos ≡ q → room_in link q ≡ Allowed → FewOf link
-    → FewOf (with_item link (item.Publish p))
-will_few link p AtMostOnce same is few =
+will_few : (limits : Limits) (link : Link) (p : Publication) (q : Qos) → p.qos ≡ q
+    → room_in limits link q ≡ Allowed → FewOf link → FewOf (with_item link (item.Publish p))
+will_few limits link p AtMostOnce same is few =
     let none : acks (item.Publish p ∷ []) ≡ 0 = rw same refl in
     omega (arith, few, none, acks_append link.waiting (item.Publish p ∷ []))
-will_few link p AtLeastOnce same is few =
+will_few limits link p AtLeastOnce same is few =
     let one : acks (item.Publish p ∷ []) ≡ 1 = rw same refl in
-    omega (arith, flight_in link is, one, acks_append link.waiting (item.Publish p ∷ []))
+    omega (arith, flight_in limits link is, one, acks_append link.waiting (item.Publish p ∷ []))
 
-ticked_few : (up : Bool) (link : Link) (clock : ℕ) (xs : List Client) → FewOf link
-    → FewOf (ticked up link clock xs)
-ticked_few up link clock xs few =
-    ticked_holds FewOf (record {
-      publish = λ l p is before. will_few l p p.qos refl is before;
+ticked_few : (limits : Limits) (up : Bool) (link : Link) (clock : ℕ) (xs : List Client) → FewOf link
+    → FewOf (ticked limits up link clock xs)
+ticked_few limits up link clock xs few =
+    ticked_holds limits FewOf (record {
+      publish = λ l p is before. will_few limits l p p.qos refl is before;
       ping = λ l now before. omega (arith, before, acks_append l.waiting (item.Ping ∷ []));
     }) up link clock xs few
 
 pub few_next : (s : State) (c : Cause) → OnePlace s.clients → Few s.link.waiting s.link.in_flight
     → Few (waiting_next s c) (link_moved s c (exits_for s c)).in_flight
-few_next s (ByConnect from connect) places few = go_few s (clients_next s (ByConnect from connect)) few
+few_next s (ByConnect from connect) places few = go_few s (ByConnect from connect) few
 few_next s (ByMessage from request) places few = message_few s from request places few
 few_next s (BySource from p) places few =
     more s.link.waiting (asked_by (Some p) (source_ask s from.ip p)) (length s.link.in_flight)
     (omega (arith, source_acks s from.ip p (lists_source s.policy from.ip) refl))
 few_next s (ByBroken from rule) places few = few
 few_next s (ByPacket p) places few =
-    more s.link.waiting (acknowledgements s.up s.link (answer_of p))
+    more s.link.waiting (acknowledgements s.policy.limits s.up s.link (answer_of p))
     (length (answered s.link (answer_of p)).in_flight)
-    (omega (arith, answer_acks s.up s.link (answer_of p), answered_less s.link (answer_of p)))
+    (omega (arith, answer_acks s.policy.limits s.up s.link (answer_of p), answered_less s.link (answer_of p)))
 few_next s ByUp places few = begun_few s few
 few_next s ByDown places few = omega (arith, counted-publishes s.link.waiting)
 few_next s ByTake places few = take_few s s.up refl few
-few_next s (ByReplace policy) places few = go_few s (clients_next s (ByReplace policy)) few
-few_next s (ByTick clock) places few = ticked_few s.up s.link (later s.clock clock) s.clients few
+few_next s (ByReplace policy) places few = go_few s (ByReplace policy) few
+few_next s (ByTick clock) places few =
+    ticked_few s.policy.limits s.up s.link (later s.clock clock) s.clients few

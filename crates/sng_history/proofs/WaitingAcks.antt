@@ -13,7 +13,8 @@ use Rattle.sng_text.specs.declared.qos.Qos.TheVariants.{AtMostOnce, AtLeastOnce}
 use Rattle.sng_policy.specs.Grants.{lists_source}
 use Rattle.sng_frames.specs.declared.messages.publish.Publish.{Publish}
 use Rattle.sng_outbox.specs.Sending.{asks_for_ack, load}
-use Rattle.sng_outbox.specs.declared.limits.TheConstants.{MAX_IN_FLIGHT}
+use Rattle.sng_grants.specs.Limits.{Limits, flight_limit}
+use Rattle.sng_grants.specs.declared.limits.TheConstants.{MAX_FLIGHT}
 use Rattle.sng_outbox.specs.declared.in_flight.InFlight.{InFlight}
 use Rattle.sng_outbox.specs.declared.item.Item.{Item}
 use Rattle.sng_outbox.specs.declared.origin.Origin.{Origin}
@@ -46,13 +47,13 @@ acks items = count_by asks_for_ack items
 
 -- no more wait or are in flight than may
 abbrev pub Few : List Item → List InFlight → Type 0
-Few items flights = acks items + length flights ≤ MAX_IN_FLIGHT
+Few items flights = acks items + length flights ≤ MAX_FLIGHT
 
 pub acks_append : (xs ys : List Item) → acks (xs ++ ys) ≡ acks xs + acks ys
 acks_append xs ys = sum_by-append (λ i. if asks_for_ack i then 1 else 0) xs ys
 
-pub more : (xs ys : List Item) (n : ℕ) → acks ys + (acks xs + n) ≤ MAX_IN_FLIGHT
-    → acks (xs ++ ys) + n ≤ MAX_IN_FLIGHT
+pub more : (xs ys : List Item) (n : ℕ) → acks ys + (acks xs + n) ≤ MAX_FLIGHT
+    → acks (xs ++ ys) + n ≤ MAX_FLIGHT
 more xs ys n few = omega (arith, acks_append xs ys)
 
 -- ---- a publish of a source, which never does
@@ -76,8 +77,8 @@ source_acks s source p false is = rw is refl
 
 -- ---- a publish of a client, which finds room
 
-within : (n : ℕ) → nat_lt n MAX_IN_FLIGHT ≡ true → n < MAX_IN_FLIGHT
-within n is = grind (arith, nat_tests)
+within : (limits : Limits) (n : ℕ) → nat_lt n (flight_limit limits) ≡ true → n < MAX_FLIGHT
+within limits n is = let few : n < flight_limit limits = grind (arith, nat_tests) in omega (arith, few)
 
 -- the second of two verdicts allows what both do
 pub allowed_second : (a b : Outcome) → and_then a b ≡ Allowed → b ≡ Allowed
@@ -95,33 +96,34 @@ pub up_room : (up : Bool) (o : Outcome) → (if up then o else Denied (Room Upst
 up_room true o is = is
 up_room false o is = absurd cc
 
-pub flight_in : (link : Link) → room_in link AtLeastOnce ≡ Allowed
-    → load (record { waiting = link.waiting; in_flight = link.in_flight }) < MAX_IN_FLIGHT
-flight_in link is =
-    within (load (record { waiting = link.waiting; in_flight = link.in_flight }))
-    (has_it (has_flight link AtLeastOnce) (has_place link) is)
+pub flight_in : (limits : Limits) (link : Link) → room_in limits link AtLeastOnce ≡ Allowed
+    → load (record { waiting = link.waiting; in_flight = link.in_flight }) < MAX_FLIGHT
+flight_in limits link is =
+    within limits (load (record { waiting = link.waiting; in_flight = link.in_flight }))
+    (has_it (has_flight limits link AtLeastOnce) (has_place limits link) is)
 
 flight_room : (s : State) → room s AtLeastOnce ≡ Allowed
-    → load (record { waiting = s.link.waiting; in_flight = s.link.in_flight }) < MAX_IN_FLIGHT
-flight_room s is = flight_in s.link (up_room s.up (room_in s.link AtLeastOnce) is)
+    → load (record { waiting = s.link.waiting; in_flight = s.link.in_flight }) < MAX_FLIGHT
+flight_room s is =
+    flight_in s.policy.limits s.link (up_room s.up (room_in s.policy.limits s.link AtLeastOnce) is)
 
-item_acks : (asker : Origin) (name : List ℕ) (q : Qos) (p : Publish) (o : Outcome) (n : ℕ) → n ≤ MAX_IN_FLIGHT
-    → (o ≡ Allowed → q ≡ AtLeastOnce → n < MAX_IN_FLIGHT)
-    → acks (if is_allowed o then item_for asker name q p ∷ [] else []) + n ≤ MAX_IN_FLIGHT
+item_acks : (asker : Origin) (name : List ℕ) (q : Qos) (p : Publish) (o : Outcome) (n : ℕ) → n ≤ MAX_FLIGHT
+    → (o ≡ Allowed → q ≡ AtLeastOnce → n < MAX_FLIGHT)
+    → acks (if is_allowed o then item_for asker name q p ∷ [] else []) + n ≤ MAX_FLIGHT
 item_acks asker name AtMostOnce p Allowed n few fits = omega (arith, few)
 item_acks asker name AtLeastOnce p Allowed n few fits = omega (arith, fits refl refl)
 item_acks asker name q p (Denied rule) n few fits = omega (arith, few)
 
 verdict_room : (s : State) (asker : Origin) (name : List ℕ) (q : Qos) → verdict s asker name q ≡ Allowed
     → q ≡ AtLeastOnce
-    → load (record { waiting = s.link.waiting; in_flight = s.link.in_flight }) < MAX_IN_FLIGHT
+    → load (record { waiting = s.link.waiting; in_flight = s.link.in_flight }) < MAX_FLIGHT
 verdict_room s asker name q is once =
     flight_room s (subst (λ r. room s r ≡ Allowed) once
     (allowed_second (exit s.policy asker name) (room s q) is))
 
 -- the publish adds no more than there is room for
 abbrev pub Fits : State → List Item → Type 0
-Fits s items = acks items + (acks s.link.waiting + length s.link.in_flight) ≤ MAX_IN_FLIGHT
+Fits s items = acks items + (acks s.link.waiting + length s.link.in_flight) ≤ MAX_FLIGHT
 
 fits_none : (s : State) → Few s.link.waiting s.link.in_flight → Fits s []
 fits_none s few = omega (arith, few)
@@ -155,9 +157,10 @@ once_in true o is = absurd cc
 once_in false o is = is
 
 once_flight : (s : State) (x : Client) (p : Publish) → once_room s x p ≡ Allowed
-    → load (record { waiting = s.link.waiting; in_flight = s.link.in_flight }) < MAX_IN_FLIGHT
+    → load (record { waiting = s.link.waiting; in_flight = s.link.in_flight }) < MAX_FLIGHT
 once_flight s x p is =
-    flight_in s.link (once_in (is_full_for p.msg_id x.unreleased) (room_in s.link AtLeastOnce)
+    flight_in s.policy.limits s.link
+    (once_in (is_full_for p.msg_id x.unreleased) (room_in s.policy.limits s.link AtLeastOnce)
     (up_room s.up (once_room_in s x p) is))
 
 named_once : (s : State) (x : Client) (p : Publish) (named : Result (List ℕ) Denial)

@@ -1,6 +1,6 @@
 -- No more publishes at QoS 1 are in flight than may be, as items leave and answers come.
 use Rattle.std.proofs.Common.{◌≡◌, ◌≤◌, ◌+◌, ℕ, Bool, true, false, List, [], ◌∷◌, ◌++◌, length, refl, ap}
-use Rattle.std.proofs.Common.{arith}
+use Rattle.std.proofs.Common.{◌∙◌, arith}
 use Rattle.std.specs.Prelude.{if◌then◌else◌}
 use Rattle.sng_text.specs.declared.qos.Qos.{Qos}
 use Rattle.sng_text.specs.declared.qos.Qos.TheVariants.{AtMostOnce, AtLeastOnce}
@@ -13,7 +13,7 @@ use Rattle.sng_outbox.proofs.LoadLemmas.{counted-front}
 use Rattle.sng_book.specs.declared.outcome.Outcome.{Outcome}
 use Rattle.sng_book.specs.declared.outcome.Outcome.TheVariants.{Allowed, Denied}
 use Rattle.sng_history.specs.Links.{Link, wants, next_packet_id, sent_by, exited, link_after, still_in_flight}
-use Rattle.sng_history.specs.Links.{subscribe_sent, subscribes_sent, subscribe_left}
+use Rattle.sng_history.specs.Links.{may_open, subscribe_sent, subscribes_sent, subscribe_left}
 use Rattle.sng_history.specs.Links.{unsubscribe_left}
 use Rattle.sng_history.specs.Packets.{Answer, Delivers, Acknowledges, Grants, Refuses, Confirms, Strange}
 use Rattle.sng_history.specs.Packets.{answered}
@@ -62,9 +62,14 @@ exited_more link p Allowed = sent_more link p p.qos
 exited_more link p (Denied rule) = omega arith
 
 -- subscriptions leave what is in flight as it is
+pub sent_flights : (link : Link) (filter : List ℕ) (b : Bool) → may_open link.wanted filter ≡ b
+    → (subscribe_sent link filter).in_flight ≡ link.in_flight
+sent_flights link filter true is = rw is refl
+sent_flights link filter false is = rw is refl
+
 subscribe_flights : (link : Link) (filter : List ℕ) (b : Bool) → wants link.wanted filter ≡ b
     → (subscribe_left link filter).in_flight ≡ link.in_flight
-subscribe_flights link filter true is = rw is refl
+subscribe_flights link filter true is = rw is (sent_flights link filter (may_open link.wanted filter) refl)
 subscribe_flights link filter false is = rw is refl
 
 unsubscribe_flights : (link : Link) (filter : List ℕ) (b : Bool) → wants link.wanted filter ≡ b
@@ -75,7 +80,9 @@ unsubscribe_flights link filter false is = rw is refl
 pub subscribes_flights : (link : Link) (filters : List (List ℕ))
     → (subscribes_sent link filters).in_flight ≡ link.in_flight
 subscribes_flights link [] = refl
-subscribes_flights link (filter ∷ filters) = subscribes_flights (subscribe_sent link filter) filters
+subscribes_flights link (filter ∷ filters) =
+    subscribes_flights (subscribe_sent link filter) filters
+    ∙ sent_flights link filter (may_open link.wanted filter) refl
 
 pub after_more : (link : Link) (items : List Item) (outcomes : List Outcome)
     → length (link_after link items outcomes).in_flight ≤ acks items + length link.in_flight

@@ -3,6 +3,7 @@
 use Rattle.std.proofs.Common.{ℕ, Bool, true, false, List, [], ◌∷◌, ◌++◌}
 use Rattle.std.specs.Prelude.{if◌then◌else◌, Option, Some, None}
 use Rattle.std.specs.List.{flat_map}
+use Rattle.sng_grants.specs.Limits.{Limits}
 use Rattle.sng_text.specs.declared.qos.Qos.{Qos}
 use Rattle.sng_text.specs.declared.qos.Qos.TheVariants.{AtMostOnce}
 use Rattle.sng_frames.specs.declared.messages.publish.Publish.{Publish}
@@ -27,7 +28,7 @@ use Rattle.sng_history.specs.Links.{Link}
 use Rattle.sng_history.specs.Packets.{Answer, Delivers, Acknowledges, Grants, Refuses, Confirms, Strange}
 use Rattle.sng_history.specs.Packets.{answer_of, owed, has_place, acknowledgement, acknowledgements}
 use Rattle.sng_history.specs.State.{State, item_for, item_asked, publish_item, subscribe_item, asked_by}
-use Rattle.sng_history.specs.State.{qos_of, waiting_by, later}
+use Rattle.sng_history.specs.State.{qos_of, waiting_by, later, policy_by}
 use Rattle.sng_history.specs.Standing.{released, unsubscribes}
 use Rattle.sng_history.specs.Verdicts.{source_ask}
 use Rattle.sng_history.specs.Lawful.{fixed_for}
@@ -114,19 +115,19 @@ item_owed P added place None = tt
 item_owed P added place (Some packet_id) =
     item_if P place (item.Acknowledge packet_id ∷ []) [] (added.acknowledge packet_id, tt) tt
 
-item_answer : (P : Item → Type 0) → Added P → (up : Bool) (link : Link) (a : Answer)
-    → EachItem P (acknowledgements up link a)
-item_answer P added up link (Delivers p) = item_owed P added (has_place link) (owed up p)
-item_answer P added up link (Acknowledges packet_id) = tt
-item_answer P added up link (Grants packet_id) = tt
-item_answer P added up link (Refuses packet_id) = tt
-item_answer P added up link Confirms = tt
-item_answer P added up link Strange = tt
+item_answer : (P : Item → Type 0) → Added P → (limits : Limits) (up : Bool) (link : Link) (a : Answer)
+    → EachItem P (acknowledgements limits up link a)
+item_answer P added limits up link (Delivers p) = item_owed P added (has_place limits link) (owed up p)
+item_answer P added limits up link (Acknowledges packet_id) = tt
+item_answer P added limits up link (Grants packet_id) = tt
+item_answer P added limits up link (Refuses packet_id) = tt
+item_answer P added limits up link Confirms = tt
+item_answer P added limits up link Strange = tt
 
-item_ticked : (P : Item → Type 0) → Added P → (up : Bool) (link : Link) (clock : ℕ) (xs : List Client)
-    → EachItem P link.waiting → EachItem P (ticked up link clock xs).waiting
-item_ticked P added up link clock xs all =
-    ticked_holds (λ l. EachItem P l.waiting) (record {
+item_ticked : (P : Item → Type 0) → Added P → (limits : Limits) (up : Bool) (link : Link) (clock : ℕ)
+    (xs : List Client) → EachItem P link.waiting → EachItem P (ticked limits up link clock xs).waiting
+item_ticked P added limits up link clock xs all =
+    ticked_holds limits (λ l. EachItem P l.waiting) (record {
       publish = λ l p room before. item_append P l.waiting (item.Publish p ∷ []) before (added.publish p, tt);
       ping = λ l now before. item_append P l.waiting (item.Ping ∷ []) before (added.ping, tt);
     }) up link clock xs all
@@ -135,17 +136,17 @@ item_ticked P added up link clock xs all =
 abbrev pub waiting_next : State → Cause → List Item
 waiting_next s c = waiting_by s c (asked_for s c) (clients_next s c)
 
--- the UNSUBSCRIBEs of filters that stand for nobody any more, where these are the clients then
-abbrev pub let_go : State → List Client → List Item
-let_go s after = unsubscribes s.link (released s.clients after)
+-- the UNSUBSCRIBEs of filters that stand for nobody any more after the step
+abbrev pub let_go : State → Cause → List Item
+let_go s c = unsubscribes (policy_by c s.policy).limits s.link (released s.clients (clients_next s c))
 
 pub each_next : (P : Item → Type 0) → Added P → (s : State) (c : Cause)
-    → EachItem P (let_go s (clients_next s c)) → EachItem P s.link.waiting → EachItem P (waiting_next s c)
+    → EachItem P (let_go s c) → EachItem P s.link.waiting → EachItem P (waiting_next s c)
 each_next P added s (ByConnect from connect) ends all =
-    item_append P s.link.waiting (let_go s (clients_next s (ByConnect from connect))) all ends
+    item_append P s.link.waiting (let_go s (ByConnect from connect)) all ends
 each_next P added s (ByMessage from request) ends all =
     let c = ByMessage from request in
-    let go = let_go s (clients_next s c) in
+    let go = let_go s c in
     let adds : Client → List Item = λ x. asked_by_all (publish_asked request) (fixed_for s c x) in
     item_append P s.link.waiting (asked_for s c ++ go) all
     (item_append P (asked_for s c) go
@@ -155,13 +156,13 @@ each_next P added s (BySource from p) ends all =
     (item_said P added (Some p) (source_ask s from.ip p))
 each_next P added s (ByBroken from rule) ends all = all
 each_next P added s (ByPacket p) ends all =
-    item_append P s.link.waiting (acknowledgements s.up s.link (answer_of p)) all
-    (item_answer P added s.up s.link (answer_of p))
+    item_append P s.link.waiting (acknowledgements s.policy.limits s.up s.link (answer_of p)) all
+    (item_answer P added s.policy.limits s.up s.link (answer_of p))
 each_next P added s ByUp ends all =
     item_if P s.up (publishes s.link.waiting) s.link.waiting (item_publishes P s.link.waiting all) all
 each_next P added s ByDown ends all = item_publishes P s.link.waiting all
 each_next P added s ByTake ends all = item_if P s.up [] s.link.waiting tt all
 each_next P added s (ByReplace policy) ends all =
-    item_append P s.link.waiting (let_go s (clients_next s (ByReplace policy))) all ends
+    item_append P s.link.waiting (let_go s (ByReplace policy)) all ends
 each_next P added s (ByTick clock) ends all =
-    item_ticked P added s.up s.link (later s.clock clock) s.clients all
+    item_ticked P added s.policy.limits s.up s.link (later s.clock clock) s.clients all

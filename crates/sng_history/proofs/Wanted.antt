@@ -52,10 +52,10 @@ among_by wanted filter text true is there =
 among_by wanted filter text false is there = sym (or_no (wants wanted text))
 
 with_by : (wanted : List Wanted) (filter text : List ℕ) (there : Bool) → wants wanted filter ≡ there
-    → wants (if there then wanted else wanted ++ record { filter = filter; open_id = None } ∷ []) text
+    → wants (if there then wanted else wanted ++ record { filter = filter; open_id = None; owed = false } ∷ []) text
     ≡ (wants wanted text || bytes_eq text filter)
 with_by wanted filter text true is = among_by wanted filter text (bytes_eq text filter) refl is
-with_by wanted filter text false is = wants_push wanted (record { filter = filter; open_id = None }) text
+with_by wanted filter text false is = wants_push wanted (record { filter = filter; open_id = None; owed = false }) text
 
 with_wants : (wanted : List Wanted) (filter text : List ℕ)
     → wants (with_wanted wanted filter) text ≡ (wants wanted text || bytes_eq text filter)
@@ -74,11 +74,11 @@ joined_wants wanted (item.Acknowledge packet_id ∷ items) text = joined_wants w
 joined_wants wanted (item.Ping ∷ items) text = joined_wants wanted items text
 
 once_push : (wanted : List Wanted) (filter : List ℕ) → wants wanted filter ≡ false → WantedOnce wanted
-    → WantedOnce (wanted ++ record { filter = filter; open_id = None } ∷ [])
+    → WantedOnce (wanted ++ record { filter = filter; open_id = None; owed = false } ∷ [])
 once_push [] filter none once = (refl, tt)
 once_push (w ∷ wanted) filter none once =
     let both = neither (bytes_eq filter w.filter) (wants wanted filter) none in (
-      wants_push wanted (record { filter = filter; open_id = None }) w.filter
+      wants_push wanted (record { filter = filter; open_id = None; owed = false }) w.filter
           ∙ rw (once.0) (flip w.filter filter both.0),
       once_push wanted filter both.1 once.1,
     )
@@ -89,7 +89,7 @@ once_push (w ∷ wanted) filter none once =
 
 once_with_by : (wanted : List Wanted) (filter : List ℕ) (there : Bool) → wants wanted filter ≡ there
     → WantedOnce wanted
-    → WantedOnce (if there then wanted else wanted ++ record { filter = filter; open_id = None } ∷ [])
+    → WantedOnce (if there then wanted else wanted ++ record { filter = filter; open_id = None; owed = false } ∷ [])
 once_with_by wanted filter true is once = once
 once_with_by wanted filter false is once = once_push wanted filter is once
 

@@ -5,6 +5,7 @@ use Rattle.std.specs.List.{list_any}
 use Rattle.std.specs.Str.{bytes_eq}
 use Rattle.sng_text.specs.declared.qos.Qos.{Qos}
 use Rattle.sng_text.specs.declared.qos.Qos.TheVariants.{AtMostOnce, AtLeastOnce}
+use Rattle.sng_grants.specs.Limits.{Limits}
 use Rattle.sng_outbox.specs.declared.item.Publication.{Publication}
 use Rattle.sng_outbox.specs.declared.item.Item.{Item}
 use Rattle.sng_outbox.specs.declared.item.Item.TheVariants as item
@@ -13,7 +14,8 @@ use Rattle.sng_book.specs.declared.outcome.Outcome.TheVariants.{Allowed, Denied}
 use Rattle.sng_history.specs.Causes.{Cause}
 use Rattle.sng_history.specs.Causes.{ByConnect, ByMessage, BySource, ByBroken, ByPacket, ByUp, ByDown, ByTake}
 use Rattle.sng_history.specs.Causes.{ByReplace, ByTick}
-use Rattle.sng_history.specs.Links.{Link, Wanted, is_filter_of, wants, opened, is_open, closed}
+use Rattle.sng_history.specs.Links.{Link, Wanted, is_filter_of, wants, may_open, opened, owing, is_open, closed}
+use Rattle.sng_history.specs.Links.{outgoing}
 use Rattle.sng_history.specs.Links.{next_packet_id, sent_by, exited, link_after, resumed, filters_wanted}
 use Rattle.sng_history.specs.Links.{subscribe_sent, subscribes_sent, subscribe_left, unsubscribe_left}
 use Rattle.sng_history.specs.Packets.{Answer, Delivers, Acknowledges, Grants, Refuses, Confirms, Strange}
@@ -95,17 +97,24 @@ same_map : (f : Wanted → Wanted) (wanted : List Wanted) → ((w : Wanted) → 
 same_map f [] same = refl
 same_map f (w ∷ wanted) same = rw (same w, same_map f wanted same) refl
 
-entry_if : (b : Bool) (w : Wanted) (open_id : Option ℕ)
-    → (let v : Wanted = if b then record w { open_id = open_id } else w in v).filter ≡ w.filter
-entry_if true w open_id = refl
-entry_if false w open_id = refl
+entry_if : (b : Bool) (w v : Wanted) → v.filter ≡ w.filter
+    → (let u : Wanted = if b then v else w in u).filter ≡ w.filter
+entry_if true w v same = same
+entry_if false w v same = refl
 
 opened_same : (wanted : List Wanted) (text : List ℕ) (packet_id : ℕ)
     → SameFilters (opened wanted text packet_id) wanted
-opened_same wanted text packet_id = same_map _ wanted (λ w. entry_if (is_filter_of text w) w (Some packet_id))
+opened_same wanted text packet_id =
+    same_map _ wanted
+    (λ w. entry_if (is_filter_of text w) w (record w { open_id = Some packet_id; owed = false }) refl)
 
-closed_same : (wanted : List Wanted) (packet_id : ℕ) → SameFilters (closed wanted packet_id) wanted
-closed_same wanted packet_id = same_map _ wanted (λ w. entry_if (is_open packet_id w) w None)
+owing_same : (wanted : List Wanted) (text : List ℕ) → SameFilters (owing wanted text) wanted
+owing_same wanted text =
+    same_map _ wanted (λ w. entry_if (is_filter_of text w) w (record w { owed = true }) refl)
+
+pub closed_same : (wanted : List Wanted) (packet_id : ℕ) → SameFilters (closed wanted packet_id) wanted
+closed_same wanted packet_id =
+    same_map _ wanted (λ w. entry_if (is_open packet_id w) w (record w { open_id = None }) refl)
 
 pub once_texts : (a b : List Wanted) → SameFilters a b → WantedOnce b → WantedOnce a
 once_texts [] b same once = tt
@@ -129,13 +138,21 @@ sent_same : (link : Link) (p : Publication) (q : Qos) → (sent_by link p q).wan
 sent_same link p AtMostOnce = refl
 sent_same link p AtLeastOnce = refl
 
-exited_same : (link : Link) (p : Publication) (o : Outcome) → (exited link p o).wanted ≡ link.wanted
+pub exited_same : (link : Link) (p : Publication) (o : Outcome) → (exited link p o).wanted ≡ link.wanted
 exited_same link p Allowed = sent_same link p p.qos
 exited_same link p (Denied rule) = refl
 
+sent_filters_by : (link : Link) (text : List ℕ) (may : Bool) → may_open link.wanted text ≡ may
+    → SameFilters (subscribe_sent link text).wanted link.wanted
+sent_filters_by link text true is = rw is (opened_same link.wanted text (next_packet_id link))
+sent_filters_by link text false is = rw is (owing_same link.wanted text)
+
+pub sent_filters : (link : Link) (text : List ℕ) → SameFilters (subscribe_sent link text).wanted link.wanted
+sent_filters link text = sent_filters_by link text (may_open link.wanted text) refl
+
 subscribe_same : (link : Link) (text : List ℕ) (b : Bool) → wants link.wanted text ≡ b
     → SameFilters (subscribe_left link text).wanted link.wanted
-subscribe_same link text true is = rw is (opened_same link.wanted text (next_packet_id link))
+subscribe_same link text true is = rw is (sent_filters link text)
 subscribe_same link text false is = rw is refl
 
 unsubscribe_same : (link : Link) (text : List ℕ) (b : Bool) → wants link.wanted text ≡ b
@@ -162,9 +179,9 @@ anew_same : (link : Link) (texts : List (List ℕ))
     → SameFilters (subscribes_sent link texts).wanted link.wanted
 anew_same link [] = refl
 anew_same link (text ∷ texts) =
-    anew_same (subscribe_sent link text) texts ∙ opened_same link.wanted text (next_packet_id link)
+    anew_same (subscribe_sent link text) texts ∙ sent_filters link text
 
-answered_same : (link : Link) (a : Answer) → SameFilters (answered link a).wanted link.wanted
+pub answered_same : (link : Link) (a : Answer) → SameFilters (answered link a).wanted link.wanted
 answered_same link (Delivers p) = refl
 answered_same link (Acknowledges packet_id) = refl
 answered_same link (Grants packet_id) = closed_same link.wanted packet_id
@@ -174,14 +191,14 @@ answered_same link Strange = refl
 
 take_same : (s : State) (b : Bool) → s.up ≡ b
     → SameFilters (link_moved s ByTake (exits_for s ByTake)).wanted s.link.wanted
-take_same s true is = rw is (left_same s.link s.link.waiting (exits_of s.policy s.link.waiting))
+take_same s true is = rw is (left_same s.link (outgoing s.link) (exits_of s.policy (outgoing s.link)))
 take_same s false is = rw is refl
 
 -- a tick leaves them as they are
-ticked_wanted : (up : Bool) (link : Link) (clock : ℕ) (xs : List Client)
-    → (ticked up link clock xs).wanted ≡ link.wanted
-ticked_wanted up link clock xs =
-    ticked_holds (λ l. l.wanted ≡ link.wanted)
+pub ticked_wanted : (limits : Limits) (up : Bool) (link : Link) (clock : ℕ) (xs : List Client)
+    → (ticked limits up link clock xs).wanted ≡ link.wanted
+ticked_wanted limits up link clock xs =
+    ticked_holds limits (λ l. l.wanted ≡ link.wanted)
     (record { publish = λ l p room same. same; ping = λ l now same. same }) up link clock xs refl
 
 pub moved_wanted : (s : State) (c : Cause) → SameFilters (link_moved s c (exits_for s c)).wanted s.link.wanted
@@ -195,4 +212,4 @@ moved_wanted s ByDown = refl
 moved_wanted s ByTake = take_same s s.up refl
 moved_wanted s (ByReplace policy) = refl
 moved_wanted s (ByTick clock) =
-    ap (map (λ w. w.filter)) (ticked_wanted s.up s.link (later s.clock clock) s.clients)
+    ap (map (λ w. w.filter)) (ticked_wanted s.policy.limits s.up s.link (later s.clock clock) s.clients)

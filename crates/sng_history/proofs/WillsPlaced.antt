@@ -2,6 +2,7 @@
 use Rattle.std.proofs.Common.{◌≡◌, ℕ, Bool, false, List, [], ◌∷◌, ◌++◌, refl, ap, sym, ◌∙◌, if◌then◌else◌}
 use Rattle.std.proofs.lemmas.List.{append_assoc, append-nil}
 use Rattle.std.specs.Str.{bytes_eq}
+use Rattle.sng_grants.specs.Limits.{Limits}
 use Rattle.sng_outbox.specs.declared.item.Publication.{Publication}
 use Rattle.sng_history.specs.Clients.{Client}
 use Rattle.sng_history.specs.Links.{Link}
@@ -10,10 +11,10 @@ use Rattle.sng_history.proofs.Own.{same_self, flip}
 use Rattle.sng_history.specs.Good.{Each, Distinct}
 use Rattle.sng_history.specs.Losing.{before}
 
-pub placed_append : (link : Link) (ps qs : List Publication)
-    → all_placed link (ps ++ qs) ≡ all_placed (all_placed link ps) qs
-placed_append link [] qs = refl
-placed_append link (p ∷ ps) qs = placed_append (placed link p) ps qs
+pub placed_append : (limits : Limits) (link : Link) (ps qs : List Publication)
+    → all_placed limits link (ps ++ qs) ≡ all_placed limits (all_placed limits link ps) qs
+placed_append limits link [] qs = refl
+placed_append limits link (p ∷ ps) qs = placed_append limits (placed limits link p) ps qs
 
 middle : (P : Client → Type 0) (xs : List Client) (y : Client) (ys : List Client) → Each P (xs ++ y ∷ ys)
     → P y

@@ -14,8 +14,9 @@ use Rattle.sng_book.specs.declared.outcome.Outcome.{Outcome}
 use Rattle.sng_book.specs.declared.outcome.Outcome.TheVariants.{Allowed, Denied}
 use Rattle.sng_book.specs.declared.out.Out.{Out}
 use Rattle.sng_book.specs.declared.out.Out.TheVariants.{Wire, Note}
-use Rattle.sng_history.specs.Links.{Link, wants, next_packet_id, packet_id_by, exited, resumed}
-use Rattle.sng_history.specs.Links.{filters_wanted, subscribe_sent, subscribe_left, unsubscribe_left}
+use Rattle.sng_history.specs.Links.{Link, wants, may_open, next_packet_id, packet_id_by, exited, resumed}
+use Rattle.sng_history.specs.Links.{filters_wanted, subscribe_sent, subscribe_left}
+use Rattle.sng_history.specs.Links.{unsubscribe_left}
 use Rattle.sng_history.specs.Verdicts.{exit}
 
 -- the packet of a publish: its own name, payload and Retain, and its packet id at QoS 1 (MQTT 3.1.1, 3.3)
@@ -62,21 +63,24 @@ abbrev pub unsubscribe_packet : ℕ → List ℕ → Out
 unsubscribe_packet packet_id filter =
     Wire (written (packet.Unsubscribe (record { packet_id = packet_id; filters = filter ∷ [] })))
 
--- a SUBSCRIBE goes out where its filter is wanted, and an UNSUBSCRIBE where it is not, each with the next
--- packet id
+-- a SUBSCRIBE that has to leave goes out where it may be open, with the next packet id
+abbrev pub subscribe_out : Link → List ℕ → List Out
+subscribe_out link filter =
+    if may_open link.wanted filter then subscribe_packet (next_packet_id link) filter ∷ [] else []
+
+-- it has to leave where its filter is wanted, and an UNSUBSCRIBE where it is not, with the next packet id
 abbrev pub subscribe_leaves : Link → List ℕ → List Out
-subscribe_leaves link filter =
-    if wants link.wanted filter then subscribe_packet (next_packet_id link) filter ∷ [] else []
+subscribe_leaves link filter = if wants link.wanted filter then subscribe_out link filter else []
 
 abbrev pub unsubscribe_leaves : Link → List ℕ → List Out
 unsubscribe_leaves link filter =
     if wants link.wanted filter then [] else unsubscribe_packet (next_packet_id link) filter ∷ []
 
--- a SUBSCRIBE of each of these filters
+-- a SUBSCRIBE of each of these filters has to leave
 abbrev pub subscribing : Link → List (List ℕ) → List Out
 subscribing link [] = []
 subscribing link (filter ∷ filters) =
-    subscribe_packet (next_packet_id link) filter ∷ subscribing (subscribe_sent link filter) filters
+    subscribe_out link filter ++ subscribing (subscribe_sent link filter) filters
 
 -- the packet that keeps the connection alive (MQTT 3.1.1, 3.12)
 abbrev pub pinging : Out

@@ -1,6 +1,5 @@
 -- What holds of every state between rows that the gateway comes to: its clients are apart, in their ids and
--- where they are, each is at rest, and there are no more than may be. A history may begin at any state, so no
--- law of rows asks for it.
+-- where they are, and each is at rest. A history may begin at any state, so no law of rows asks for it.
 use Rattle.std.specs.Prelude.{ℕ, ◌≡◌, ◌≤◌, false, not, ◌&&◌, List, [], ◌∷◌, length, if◌then◌else◌, None}
 use Rattle.std.specs.Str.{bytes_eq}
 use Rattle.sng_grants.specs.declared.policy.Policy.{Policy}
@@ -9,15 +8,15 @@ use Rattle.sng_fan.specs.declared.held.Held.{Held}
 use Rattle.sng_states.specs.States.{in_dialogue, has_session, takes_messages}
 use Rattle.sng_states.specs.OpenIds.{IsOpenIds}
 use Rattle.sng_outbox.specs.Sending.{load}
-use Rattle.sng_outbox.specs.declared.limits.TheConstants.{MAX_IN_FLIGHT}
+use Rattle.sng_grants.specs.declared.limits.TheConstants.{MAX_FLIGHT}
 use Rattle.sng_queue.specs.Buffers.{nothing}
 use Rattle.sng_wills.specs.Wills.{is_closed}
 use Rattle.sng_book.specs.declared.address.Address.{Address}
 use Rattle.sng_book.specs.declared.outcome.Outcome.TheVariants.{Allowed}
-use Rattle.sng_history.specs.declared.limits.TheConstants.{MAX_CLIENTS}
+use Rattle.sng_history.specs.declared.limits.TheConstants.{MAX_OPEN_SUBSCRIBES}
 use Rattle.sng_history.specs.Clients.{Client, is_here, is_drained}
 use Rattle.sng_history.specs.Outgoing.{is_free}
-use Rattle.sng_history.specs.Links.{Wanted, wants}
+use Rattle.sng_history.specs.Links.{Wanted, open_ids, wants}
 use Rattle.sng_history.specs.Standing.{is_held}
 use Rattle.sng_history.specs.State.{State}
 use Rattle.sng_history.specs.Verdicts.{coverage}
@@ -73,10 +72,10 @@ pub record Good (s : State) : Type 0 where
   pub places : OnePlace s.clients
   -- nothing is left to do for any of them
   pub rest : Each AtRest s.clients
-  -- there are no more than may be
-  pub most : length s.clients ≤ MAX_CLIENTS
-  -- no more publishes at QoS 1 wait or are in flight than may
-  pub few : load (record { waiting = s.link.waiting; in_flight = s.link.in_flight }) ≤ MAX_IN_FLIGHT
+  -- no more publishes at QoS 1 wait or are in flight than any policy allows, and no more SUBSCRIBEs are open
+  -- than may be
+  pub few : load (record { waiting = s.link.waiting; in_flight = s.link.in_flight }) ≤ MAX_FLIGHT
+  pub few_subscribes : length (open_ids s.link.wanted) ≤ MAX_OPEN_SUBSCRIBES
   -- each client's filters stand once, there are no more of them than may be, and the policy in force allows
   -- each
   pub once : Each (λ x. IsOneClients x.filters) s.clients

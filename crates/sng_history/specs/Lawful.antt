@@ -40,11 +40,12 @@ use Rattle.sng_history.specs.Answers.{denied_note}
 use Rattle.sng_history.specs.Exits.{exits_of, agains_of}
 use Rattle.sng_history.specs.Outgoing.{all_gone, refusals, out_of_turn, handed_over, delivered_notes}
 use Rattle.sng_history.specs.Whole.{whole_by, notes_in}
+use Rattle.sng_history.specs.Links.{outgoing}
 
 -- the outcomes with which publishes have to leave: at a take while up each that waits, and as a connection
 -- begins each that is in flight, judged by the policy in force
 abbrev pub exits_for : State → Cause → List Outcome
-exits_for s ByTake = if s.up then exits_of s.policy s.link.waiting else []
+exits_for s ByTake = if s.up then exits_of s.policy (outgoing s.link) else []
 exits_for s (ByConnect from connect) = []
 exits_for s (ByMessage from request) = []
 exits_for s (BySource from p) = []

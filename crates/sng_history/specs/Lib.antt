@@ -22,3 +22,4 @@ pub mod Good
 pub mod Entering
 pub mod Steps
 pub mod Books
+pub mod Samples

@@ -1,7 +1,7 @@
 -- The link to the broker, and how what leaves on it moves it (MQTT 3.1.1, 2.3.1 and 4.4).
-use Rattle.std.specs.Prelude.{ℕ, Bool, ◌==◌, false, List, [], ◌∷◌, ◌++◌, map, if◌then◌else◌, Option, Some}
-use Rattle.std.specs.Prelude.{None}
-use Rattle.std.specs.List.{list_any}
+use Rattle.std.specs.Prelude.{ℕ, Bool, ◌==◌, ◌&&◌, ◌||◌, true, false, nat_lt, List, [], ◌∷◌, ◌++◌, length, map}
+use Rattle.std.specs.Prelude.{if◌then◌else◌, Option, Some, None, is_some}
+use Rattle.std.specs.List.{filter, list_any}
 use Rattle.std.specs.Str.{bytes_eq}
 use Rattle.sng_text.specs.declared.qos.Qos.{Qos}
 use Rattle.sng_text.specs.declared.qos.Qos.TheVariants.{AtMostOnce, AtLeastOnce}
@@ -12,12 +12,15 @@ use Rattle.sng_outbox.specs.declared.item.Item.TheVariants as item
 use Rattle.sng_outbox.specs.declared.item.Publication.{Publication}
 use Rattle.sng_book.specs.declared.outcome.Outcome.{Outcome}
 use Rattle.sng_book.specs.declared.outcome.Outcome.TheVariants.{Allowed, Denied}
+use Rattle.sng_history.specs.declared.limits.TheConstants.{MAX_OPEN_SUBSCRIBES}
 
--- a filter that stands for somebody, and the packet id of its open SUBSCRIBE, where it has one: its last one,
--- which the broker did not answer yet
+-- a filter that stands for somebody
 pub record Wanted : Type 0 where
   pub filter : List ℕ
+  -- the packet id of its open SUBSCRIBE, where it has one: its last one, which the broker did not answer yet
   pub open_id : Option ℕ
+  -- a SUBSCRIBE of it is owed: it had to leave while as many were open as may be
+  pub owed : Bool
 
 pub record Link : Type 0 where
   -- what waits to leave, the oldest first
@@ -52,10 +55,20 @@ is_filter_of filter w = bytes_eq filter w.filter
 abbrev pub wants : List Wanted → List ℕ → Bool
 wants wanted filter = list_any (is_filter_of filter) wanted
 
--- a SUBSCRIBE of the filter is open with this packet id, and none that was before
+-- one more SUBSCRIBE may be open, or one of the filter is, which the next takes the place of
+abbrev pub may_open : List Wanted → List ℕ → Bool
+may_open wanted filter =
+    nat_lt (length (open_ids wanted)) MAX_OPEN_SUBSCRIBES
+    || list_any (λ w. is_filter_of filter w && is_some w.open_id) wanted
+
+-- a SUBSCRIBE of the filter is open with this packet id, and none that was before; none is owed
 abbrev pub opened : List Wanted → List ℕ → ℕ → List Wanted
 opened wanted filter packet_id =
-    map (λ w. if is_filter_of filter w then record w { open_id = Some packet_id } else w) wanted
+    map (λ w. if is_filter_of filter w then record w { open_id = Some packet_id; owed = false } else w) wanted
+
+-- a SUBSCRIBE of the filter is owed
+abbrev pub owing : List Wanted → List ℕ → List Wanted
+owing wanted filter = map (λ w. if is_filter_of filter w then record w { owed = true } else w) wanted
 
 abbrev pub has_id : ℕ → Option ℕ → Bool
 has_id packet_id None = false
@@ -92,21 +105,23 @@ abbrev pub exited : Link → Publication → Outcome → Link
 exited link p Allowed = sent_by link p p.qos
 exited link p (Denied rule) = link
 
--- the link once a SUBSCRIBE of the filter was sent, and once an UNSUBSCRIBE was, whose packet id nothing
--- waits for
+-- the link once a SUBSCRIBE of the filter had to leave: it was sent, or is owed where it may not be open
 abbrev pub subscribe_sent : Link → List ℕ → Link
 subscribe_sent link filter =
-    record link { last = next_packet_id link; wanted = opened link.wanted filter (next_packet_id link) }
+    if may_open link.wanted filter
+    then record link { last = next_packet_id link; wanted = opened link.wanted filter (next_packet_id link) }
+    else record link { wanted = owing link.wanted filter }
 
+-- the link once an UNSUBSCRIBE was sent, whose packet id nothing waits for
 abbrev pub unsubscribe_sent : Link → Link
 unsubscribe_sent link = record link { last = next_packet_id link }
 
--- the link once a SUBSCRIBE of each of these was sent
+-- the link once a SUBSCRIBE of each of these had to leave
 abbrev pub subscribes_sent : Link → List (List ℕ) → Link
 subscribes_sent link [] = link
 subscribes_sent link (filter ∷ filters) = subscribes_sent (subscribe_sent link filter) filters
 
--- a SUBSCRIBE goes out where its filter is wanted, and an UNSUBSCRIBE where it is not
+-- a SUBSCRIBE has to leave where its filter is wanted, and an UNSUBSCRIBE where it is not
 abbrev pub subscribe_left : Link → List ℕ → Link
 subscribe_left link filter = if wants link.wanted filter then subscribe_sent link filter else link
 
@@ -128,6 +143,14 @@ resumed link clock outcomes =
 -- the filters that are wanted
 abbrev pub filters_wanted : Link → List (List ℕ)
 filters_wanted link = map (λ w. w.filter) link.wanted
+
+-- those of which a SUBSCRIBE is owed
+abbrev pub filters_owed : Link → List (List ℕ)
+filters_owed link = map (λ w. w.filter) (filter (λ w. w.owed) link.wanted)
+
+-- what leaves at a take: first a SUBSCRIBE of each of those, and then what waits
+abbrev pub outgoing : Link → List Item
+outgoing link = map item.Subscribe (filters_owed link) ++ link.waiting
 
 -- the link once these items left with these outcomes of the publishes among them
 abbrev pub link_after : Link → List Item → List Outcome → Link

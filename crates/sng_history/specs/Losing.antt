@@ -2,6 +2,7 @@
 -- 5.4.4, 6.3 and 6.13).
 use Rattle.std.specs.Prelude.{ℕ, List, [], ◌∷◌, ◌++◌, if◌then◌else◌, Option, Some, None}
 use Rattle.std.specs.Str.{bytes_eq}
+use Rattle.sng_grants.specs.Limits.{Limits}
 use Rattle.sng_grants.specs.declared.policy.Policy.{Policy}
 use Rattle.sng_queue.specs.Messages.{Message}
 use Rattle.sng_queue.specs.Buffers.{Buffer, settle}
@@ -30,15 +31,16 @@ abbrev pub unplaced : List ℕ → Publication → Outcome → List Decision
 unplaced id p Allowed = []
 unplaced id p (Denied rule) = note.Will (who.Client id) (Some p.name) (Denied rule) ∷ []
 
-abbrev pub will_dropped : Link → List ℕ → List Publication → List Decision
-will_dropped link id [] = []
-will_dropped link id (p ∷ ps) = unplaced id p (room_in link p.qos)
+abbrev pub will_dropped : Limits → Link → List ℕ → List Publication → List Decision
+will_dropped limits link id [] = []
+will_dropped limits link id (p ∷ ps) = unplaced id p (room_in limits link p.qos)
 
 -- the notes of a client that is lost: so, what waited for it, and that its will found no place in the link as
 -- those of the clients before it left it
-abbrev pub lost_notes : Link → Client → List Decision
-lost_notes link x =
-    note.Lost x.id ∷ (all_gone x.id x.buffer.waiting ++ will_dropped link x.id (will_of x.id x.wills.will))
+abbrev pub lost_notes : Limits → Link → Client → List Decision
+lost_notes limits link x =
+    note.Lost x.id
+    ∷ (all_gone x.id x.buffer.waiting ++ will_dropped limits link x.id (will_of x.id x.wills.will))
 
 -- the message that an exchange is about: it announced the front, or handed another one over
 abbrev pub message_open : Buffer → Exchange → Option Message
@@ -69,5 +71,6 @@ again_notes policy clock x = if is_repeating clock x then exchange_again policy 
 -- the notes that a tick makes of a client of these
 abbrev pub tick_notes : Policy → Link → ℕ → List Client → Client → List Decision
 tick_notes policy link clock xs x =
-    if is_lost_at clock x then lost_notes (all_placed link (testaments clock (before x.id xs))) x
+    if is_lost_at clock x
+    then lost_notes policy.limits (all_placed policy.limits link (testaments clock (before x.id xs))) x
     else again_notes policy clock x

@@ -9,7 +9,7 @@ use Rattle.mqtt_frames.specs.declared.packet.SubscribeCode.TheVariants as code
 use Rattle.mqtt_frames.specs.declared.packet.Packet.{Packet}
 use Rattle.mqtt_frames.specs.declared.packet.Packet.TheVariants as packet
 use Rattle.sng_outbox.specs.Sending.{without_first}
-use Rattle.sng_outbox.specs.declared.limits.TheConstants.{MAX_OUTBOX_ITEMS}
+use Rattle.sng_grants.specs.Limits.{Limits}
 use Rattle.sng_outbox.specs.declared.item.Item.{Item}
 use Rattle.sng_outbox.specs.declared.item.Item.TheVariants as item
 use Rattle.sng_book.specs.declared.decision.Decision.TheVariants as note
@@ -58,8 +58,8 @@ abbrev pub owed : Bool → Publish → Option ℕ
 owed up p = if up then p.packet_id else None
 
 -- one more item may wait
-abbrev pub has_place : Link → Bool
-has_place link = nat_lt (length link.waiting) MAX_OUTBOX_ITEMS
+abbrev pub has_place : Limits → Link → Bool
+has_place limits link = nat_lt (length link.waiting) limits.waiting
 
 -- the acknowledgement waits where there is place, and else it is dropped and noted
 abbrev pub acknowledgement : Bool → Option ℕ → List Item
@@ -70,13 +70,13 @@ abbrev pub dropped : Bool → Option ℕ → List Out
 dropped place None = []
 dropped place (Some packet_id) = if place then [] else Note note.Outbox ∷ []
 
-abbrev pub acknowledgements : Bool → Link → Answer → List Item
-acknowledgements up link (Delivers p) = acknowledgement (has_place link) (owed up p)
-acknowledgements up link (Acknowledges packet_id) = []
-acknowledgements up link (Grants packet_id) = []
-acknowledgements up link (Refuses packet_id) = []
-acknowledgements up link Confirms = []
-acknowledgements up link Strange = []
+abbrev pub acknowledgements : Limits → Bool → Link → Answer → List Item
+acknowledgements limits up link (Delivers p) = acknowledgement (has_place limits link) (owed up p)
+acknowledgements limits up link (Acknowledges packet_id) = []
+acknowledgements limits up link (Grants packet_id) = []
+acknowledgements limits up link (Refuses packet_id) = []
+acknowledgements limits up link Confirms = []
+acknowledgements limits up link Strange = []
 
 -- a PUBACK ends the publish in flight with its packet id, and after a SUBACK no SUBSCRIBE is open with its
 -- own
@@ -106,10 +106,10 @@ refused_filter link Confirms = None
 refused_filter link Strange = None
 
 -- what a packet lets out beside the notes of clients, and behind them
-abbrev pub answer_outs : Bool → Link → Answer → List Out
-answer_outs up link (Delivers p) = misnamed p.name ++ dropped (has_place link) (owed up p)
-answer_outs up link (Acknowledges packet_id) = []
-answer_outs up link (Grants packet_id) = []
-answer_outs up link (Refuses packet_id) = []
-answer_outs up link Confirms = []
-answer_outs up link Strange = Note (note.Frame who.Broker (Denied (Form NotSupported))) ∷ []
+abbrev pub answer_outs : Limits → Bool → Link → Answer → List Out
+answer_outs limits up link (Delivers p) = misnamed p.name ++ dropped (has_place limits link) (owed up p)
+answer_outs limits up link (Acknowledges packet_id) = []
+answer_outs limits up link (Grants packet_id) = []
+answer_outs limits up link (Refuses packet_id) = []
+answer_outs limits up link Confirms = []
+answer_outs limits up link Strange = Note (note.Frame who.Broker (Denied (Form NotSupported))) ∷ []

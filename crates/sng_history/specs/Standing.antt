@@ -5,7 +5,7 @@ use Rattle.std.specs.Prelude.{drop, if◌then◌else◌}
 use Rattle.std.specs.List.{list_any}
 use Rattle.std.specs.Str.{bytes_eq}
 use Rattle.sng_fan.specs.Subscriptions.{stands}
-use Rattle.sng_outbox.specs.declared.limits.TheConstants.{MAX_OUTBOX_ITEMS}
+use Rattle.sng_grants.specs.Limits.{Limits}
 use Rattle.sng_outbox.specs.declared.item.Item.{Item}
 use Rattle.sng_outbox.specs.declared.item.Item.TheVariants as item
 use Rattle.sng_book.specs.declared.decision.Decision.TheVariants as note
@@ -51,16 +51,17 @@ released_from earlier (x ∷ xs) (y ∷ ys) =
 abbrev pub released : List Client → List Client → List Release
 released before after = released_from [] before after
 
--- how many items more may wait
-abbrev pub places_left : Link → ℕ
-places_left link = MAX_OUTBOX_ITEMS - length link.waiting
+-- how many items more may wait; none where more wait than a policy allows that came since
+abbrev pub places_left : Limits → Link → ℕ
+places_left limits link = limits.waiting - length link.waiting
 
 -- an UNSUBSCRIBE waits for each filter that was released, while there is place; the others are dropped
-abbrev pub unsubscribes : Link → List Release → List Item
-unsubscribes link releases = map (λ r. item.Unsubscribe r.filter) (take (places_left link) releases)
+abbrev pub unsubscribes : Limits → Link → List Release → List Item
+unsubscribes limits link releases =
+    map (λ r. item.Unsubscribe r.filter) (take (places_left limits link) releases)
 
-abbrev pub dropped_of : Link → List Release → List Release
-dropped_of link releases = drop (places_left link) releases
+abbrev pub dropped_of : Limits → Link → List Release → List Release
+dropped_of limits link releases = drop (places_left limits link) releases
 
 -- the client's release of the filter is one of these
 abbrev pub is_release : List ℕ → List ℕ → Release → Bool

@@ -6,7 +6,7 @@ use Rattle.std.specs.List.{flat_map}
 use Rattle.std.specs.Str.{bytes_eq}
 use Rattle.sng_text.specs.declared.qos.Qos.{Qos}
 use Rattle.sng_text.specs.declared.qos.Qos.TheVariants.{AtMostOnce, AtLeastOnce}
-use Rattle.sng_grants.specs.declared.policy.Policy.{Policy}
+use Rattle.sng_grants.specs.Policies.{Policy, no_policy}
 use Rattle.sng_frames.specs.declared.qos.FrameQos.{FrameQos}
 use Rattle.sng_frames.specs.declared.qos.FrameQos.TheVariants as qos
 use Rattle.sng_frames.specs.declared.messages.publish.Publish.{Publish}
@@ -33,6 +33,7 @@ use Rattle.sng_history.specs.Clients.{Client, Around, blank, client_by}
 use Rattle.sng_history.specs.Notes.{notes_of, exits_in}
 use Rattle.sng_history.specs.Links.{Link, Wanted, idle, wants, link_after, resumed, filters_wanted}
 use Rattle.sng_history.specs.Links.{subscribes_sent}
+use Rattle.sng_history.specs.Links.{outgoing}
 use Rattle.sng_history.specs.Packets.{answer_of, acknowledgements, answered}
 use Rattle.sng_history.specs.Standing.{released, unsubscribes, still_wanted}
 use Rattle.sng_history.specs.Ticking.{ticked}
@@ -46,12 +47,12 @@ pub record State : Type 0 where
   pub link : Link
   pub clients : List Client
 
--- before any row nothing is granted, the clock is at 0, the connection is down, nothing waits, and no client
+-- before any row nothing is granted, no limit is set, the clock is at 0, the connection is down, nothing waits, and no client
 -- was accepted
 abbrev pub opening : State
 opening =
     record {
-      policy = record { clients = []; sources = []; topics = [] };
+      policy = no_policy;
       clock = 0;
       up = false;
       link = idle;
@@ -235,21 +236,24 @@ asked_in (ByTick clock) outs = []
 
 -- a take while up leaves nothing, and a tick lets the wills of lost clients and a PINGREQ wait; a lost
 -- connection, and a new one, leave the publishes alone; else what was asked for joins what waits, and behind
--- it the broker is told of filters that stand for nobody any more. The last list are the clients after the
--- row
+-- it the broker is told of filters that stand for nobody any more. What may wait is as many as the policy in
+-- force at the row allows. The last list are the clients after the row
 abbrev pub waiting_by : State → Cause → List Item → List Client → List Item
 waiting_by s (ByMessage from request) asked after =
-    s.link.waiting ++ (asked ++ unsubscribes s.link (released s.clients after))
+    s.link.waiting ++ (asked ++ unsubscribes s.policy.limits s.link (released s.clients after))
 waiting_by s (BySource from p) asked after = s.link.waiting ++ asked
 waiting_by s (ByConnect from connect) asked after =
-    s.link.waiting ++ unsubscribes s.link (released s.clients after)
-waiting_by s (ByReplace policy) asked after = s.link.waiting ++ unsubscribes s.link (released s.clients after)
+    s.link.waiting ++ unsubscribes s.policy.limits s.link (released s.clients after)
+waiting_by s (ByReplace policy) asked after =
+    s.link.waiting ++ unsubscribes policy.limits s.link (released s.clients after)
 waiting_by s (ByBroken from rule) asked after = s.link.waiting
-waiting_by s (ByPacket p) asked after = s.link.waiting ++ acknowledgements s.up s.link (answer_of p)
+waiting_by s (ByPacket p) asked after =
+    s.link.waiting ++ acknowledgements s.policy.limits s.up s.link (answer_of p)
 waiting_by s ByUp asked after = if s.up then publishes s.link.waiting else s.link.waiting
 waiting_by s ByDown asked after = publishes s.link.waiting
 waiting_by s ByTake asked after = if s.up then [] else s.link.waiting
-waiting_by s (ByTick clock) asked after = (ticked s.up s.link (later s.clock clock) s.clients).waiting
+waiting_by s (ByTick clock) asked after =
+    (ticked s.policy.limits s.up s.link (later s.clock clock) s.clients).waiting
 
 -- what leaves at a take while up moves the link, and a packet of the broker may answer what was sent. As a
 -- connection begins, what is in flight and denied now is forgotten, and each filter that is wanted is
@@ -262,14 +266,15 @@ link_moved s (ByBroken from rule) outcomes = s.link
 link_moved s (ByPacket p) outcomes = answered s.link (answer_of p)
 link_moved s ByUp outcomes = subscribes_sent (resumed s.link s.clock outcomes) (filters_wanted s.link)
 link_moved s ByDown outcomes = s.link
-link_moved s ByTake outcomes = if s.up then link_after s.link s.link.waiting outcomes else s.link
+link_moved s ByTake outcomes = if s.up then link_after s.link (outgoing s.link) outcomes else s.link
 link_moved s (ByReplace policy) outcomes = s.link
-link_moved s (ByTick clock) outcomes = ticked s.up s.link (later s.clock clock) s.clients
+link_moved s (ByTick clock) outcomes =
+    ticked s.policy.limits s.up s.link (later s.clock clock) s.clients
 
 -- a filter that is not wanted yet comes last
 abbrev pub with_wanted : List Wanted → List ℕ → List Wanted
 with_wanted wanted filter =
-    if wants wanted filter then wanted else wanted ++ record { filter = filter; open_id = None } ∷ []
+    if wants wanted filter then wanted else wanted ++ record { filter = filter; open_id = None; owed = false } ∷ []
 
 -- the filters of the subscriptions among these items are wanted, too
 abbrev pub joined : List Wanted → List Item → List Wanted

@@ -10,6 +10,7 @@ use Rattle.sng_queue.specs.declared.limits.TheConstants.{MAX_TRIES}
 use Rattle.sng_states.specs.States.{has_session, takes_messages}
 use Rattle.sng_states.specs.Silence.{overdue}
 use Rattle.sng_wills.specs.declared.will.Will.{Will}
+use Rattle.sng_grants.specs.Limits.{Limits}
 use Rattle.sng_outbox.specs.declared.item.Item.{Item}
 use Rattle.sng_outbox.specs.declared.item.Item.TheVariants as item
 use Rattle.sng_outbox.specs.declared.item.Publication.{Publication}
@@ -71,18 +72,18 @@ abbrev pub with_item : Link → Item → Link
 with_item link one = record link { waiting = link.waiting ++ one ∷ [] }
 
 -- a publish waits where there is place for it
-abbrev pub placed : Link → Publication → Link
-placed link p = if is_allowed (room_in link p.qos) then with_item link (item.Publish p) else link
+abbrev pub placed : Limits → Link → Publication → Link
+placed limits link p = if is_allowed (room_in limits link p.qos) then with_item link (item.Publish p) else link
 
-abbrev pub all_placed : Link → List Publication → Link
-all_placed link [] = link
-all_placed link (p ∷ ps) = all_placed (placed link p) ps
+abbrev pub all_placed : Limits → Link → List Publication → Link
+all_placed limits link [] = link
+all_placed limits link (p ∷ ps) = all_placed limits (placed limits link p) ps
 
 -- ---- the link
 
 -- the link once the wills of the clients wait that are lost
-abbrev pub with_wills : Link → ℕ → List Client → Link
-with_wills link clock xs = all_placed link (testaments clock xs)
+abbrev pub with_wills : Limits → Link → ℕ → List Client → Link
+with_wills limits link clock xs = all_placed limits link (testaments clock xs)
 
 -- a PINGREQ is due as long after the connection began, or the last one, as the keep alive of the connection
 -- allows
@@ -90,15 +91,15 @@ abbrev pub is_ping_due : Bool → Link → ℕ → Bool
 is_ping_due up link clock = up && nat_le PING_MS (clock - link.pinged)
 
 -- it waits where there is place, and else it is dropped and noted
-abbrev pub pinged : Bool → Link → ℕ → Link
-pinged up link clock =
-    if is_ping_due up link clock && has_place link then record (with_item link item.Ping) { pinged = clock }
+abbrev pub pinged : Limits → Bool → Link → ℕ → Link
+pinged limits up link clock =
+    if is_ping_due up link clock && has_place limits link then record (with_item link item.Ping) { pinged = clock }
     else link
 
-abbrev pub ping_dropped : Bool → Link → ℕ → List Out
-ping_dropped up link clock =
-    if is_ping_due up link clock then (if has_place link then [] else Note note.Outbox ∷ []) else []
+abbrev pub ping_dropped : Limits → Bool → Link → ℕ → List Out
+ping_dropped limits up link clock =
+    if is_ping_due up link clock then (if has_place limits link then [] else Note note.Outbox ∷ []) else []
 
 -- the link after the tick
-abbrev pub ticked : Bool → Link → ℕ → List Client → Link
-ticked up link clock xs = pinged up (with_wills link clock xs) clock
+abbrev pub ticked : Limits → Bool → Link → ℕ → List Client → Link
+ticked limits up link clock xs = pinged limits up (with_wills limits link clock xs) clock

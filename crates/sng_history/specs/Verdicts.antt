@@ -9,6 +9,7 @@ use Rattle.std.specs.declared.result.Result.{Result}
 use Rattle.sng_text.specs.Texts.{is_name, is_filter}
 use Rattle.sng_text.specs.declared.qos.Qos.{Qos}
 use Rattle.sng_text.specs.declared.qos.Qos.TheVariants.{AtMostOnce, AtLeastOnce}
+use Rattle.sng_grants.specs.Limits.{Limits}
 use Rattle.sng_grants.specs.declared.policy.Policy.{Policy}
 use Rattle.sng_policy.specs.Grants.{publish_grant, source_grant, subscribe_grant, lists, lists_source, topic}
 use Rattle.sng_policy.specs.declared.grant.NameGrant.{NameGrant}
@@ -44,7 +45,6 @@ use Rattle.sng_ids.specs.Ids.{Ids, name_of, is_full_for}
 use Rattle.sng_states.specs.States.{is_due_messages}
 pub use Rattle.sng_states.specs.States.{is_active}
 use Rattle.sng_states.specs.OpenIds as ids_open
-use Rattle.sng_history.specs.declared.limits.TheConstants.{MAX_CLIENTS}
 use Rattle.sng_history.specs.Clients.{Client}
 use Rattle.sng_history.specs.Packets.{has_place}
 use Rattle.sng_history.specs.Requests.{gets_id, id_in}
@@ -81,7 +81,7 @@ and_then (Denied denial) next = Denied denial
 
 -- whether there is a connection, and room for one more publish at this QoS
 abbrev pub room : State → Qos → Outcome
-room s q = if s.up then room_in s.link q else Denied (Room UpstreamDown)
+room s q = if s.up then room_in s.policy.limits s.link q else Denied (Room UpstreamDown)
 
 -- a publish under the name at this QoS is judged: by the policy in force, then by the connection and the room
 abbrev pub verdict : State → Origin → List ℕ → Qos → Outcome
@@ -136,14 +136,15 @@ abbrev pub client_scope : Policy → List ℕ → Outcome
 client_scope policy id = if lists policy id then Allowed else Denied (Grant (NoScope id))
 
 -- a client that was accepted once has its place
-abbrev pub entry_room : List Client → List ℕ → Outcome
-entry_room xs id =
-    if is_known id xs || nat_lt (length xs) MAX_CLIENTS then Allowed else Denied (Room (Full place.Clients))
+abbrev pub entry_room : Limits → List Client → List ℕ → Outcome
+entry_room limits xs id =
+    if is_known id xs || nat_lt (length xs) limits.clients then Allowed else Denied (Room (Full place.Clients))
 
 -- the verdict on a CONNECT (MQTT-SN 1.2, 5.4.4)
 abbrev pub entry_by : Policy → List Client → Connect → Outcome
 entry_by policy xs c =
-    and_then (entry_form c) (and_then (client_scope policy c.client_id) (entry_room xs c.client_id))
+    and_then (entry_form c)
+    (and_then (client_scope policy c.client_id) (entry_room policy.limits xs c.client_id))
 
 abbrev pub entry : State → Connect → Outcome
 entry s c = entry_by s.policy s.clients c
@@ -218,7 +219,7 @@ is_repeat p x = is_active x.phase && ids_open.has_id p.msg_id x.unreleased
 abbrev pub once_room_in : State → Client → Publish → Outcome
 once_room_in s x p =
     if ids_open.is_full_for p.msg_id x.unreleased then Denied (Room (Full place.Exchanges))
-    else room_in s.link AtLeastOnce
+    else room_in s.policy.limits s.link AtLeastOnce
 
 -- and whether there is a connection
 abbrev pub once_room : State → Client → Publish → Outcome
@@ -279,7 +280,7 @@ subscribe_room_in s x r filter =
     then Denied (Room (Full place.Ids))
     else (if is_full x.filters filter
     then Denied (Room (Full place.Subscriptions))
-    else (if has_place s.link then Allowed else Denied (Room (Full place.Outbox))))
+    else (if has_place s.policy.limits s.link then Allowed else Denied (Room (Full place.Outbox))))
 
 -- and whether there is a connection
 abbrev pub subscribe_room : State → Client → TopicRequest → List ℕ → Outcome

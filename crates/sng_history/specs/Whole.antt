@@ -30,7 +30,7 @@ use Rattle.sng_history.specs.Clients.{Client, Around, same_address, is_from, is_
 use Rattle.sng_history.specs.Clients.{note_by, notes_by, client_by, is_drained}
 use Rattle.sng_history.specs.Standing.{Release, released, dropped_of, drop_note, drop_notes}
 use Rattle.sng_history.specs.Notes.{notes_of, exits_in}
-use Rattle.sng_history.specs.State.{State, around, later}
+use Rattle.sng_history.specs.State.{State, around, later, policy_by}
 use Rattle.sng_history.specs.Ticking.{with_wills, ping_dropped}
 use Rattle.sng_history.specs.Verdicts.{source_ask, entry, is_active, ping_verdict, is_repeat}
 use Rattle.sng_history.specs.Answers.{denied_note, code_of, refused, regack, puback, suback, unsuback}
@@ -38,6 +38,7 @@ use Rattle.sng_history.specs.Answers.{statement_answer, statement_refused, dismi
 use Rattle.sng_history.specs.Answers.{pubrec, pubcomp}
 use Rattle.sng_history.specs.Exits.{leaving, beginning}
 use Rattle.sng_history.specs.Packets.{answer_of, answer_outs}
+use Rattle.sng_history.specs.Links.{outgoing}
 
 -- what a row's notes say that its cause alone need not fix: the notes of each client, and the outcomes of the
 -- items that leave
@@ -248,7 +249,7 @@ abbrev pub releases : State → Cause → Notes → List Release
 releases s c notes = released s.clients (moved_by s c notes)
 
 abbrev pub drops : State → Cause → Notes → List Release
-drops s c notes = dropped_of s.link (releases s c notes)
+drops s c notes = dropped_of (policy_by c s.policy).limits s.link (releases s c notes)
 
 -- what the row lets out for each client, in order
 abbrev pub client_rows : State → Cause → List Release → Notes → List Out
@@ -307,12 +308,14 @@ whole_by s (ByMessage from request) notes =
 whole_by s (BySource from p) notes = Note (source_ask s from.ip p) ∷ []
 whole_by s (ByBroken from rule) notes =
     frame_row s (ByBroken from rule) (Note (note.Frame (who.Address from) (Denied rule)) ∷ []) notes
-whole_by s (ByPacket p) notes = client_rows s (ByPacket p) [] notes ++ answer_outs s.up s.link (answer_of p)
+whole_by s (ByPacket p) notes =
+    client_rows s (ByPacket p) [] notes ++ answer_outs s.policy.limits s.up s.link (answer_of p)
 whole_by s ByUp notes = beginning s.link s.clock notes.exits
 whole_by s ByDown notes = []
-whole_by s ByTake notes = if s.up then leaving s.link s.link.waiting notes.exits else []
+whole_by s ByTake notes = if s.up then leaving s.link (outgoing s.link) notes.exits else []
 whole_by s (ByReplace policy) notes =
     client_rows s (ByReplace policy) (drops s (ByReplace policy) notes) notes
 whole_by s (ByTick clock) notes =
     client_rows s (ByTick clock) [] notes
-    ++ ping_dropped s.up (with_wills s.link (later s.clock clock) s.clients) (later s.clock clock)
+    ++ ping_dropped s.policy.limits s.up (with_wills s.policy.limits s.link (later s.clock clock) s.clients)
+    (later s.clock clock)

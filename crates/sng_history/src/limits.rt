@@ -1,7 +1,9 @@
-//! How many clients there may be, and how often the broker is asked whether it is there.
+//! How many SUBSCRIBEs may be open to the broker, and how often it is asked whether it is there.
+use sng_grants::MAX_FLIGHT;
 
-/// How many clients may be accepted. One that was accepted once is counted for good.
-pub const MAX_CLIENTS: usize = 256;
+/// How many SUBSCRIBEs may be open at once: packet ids have 16 bits (MQTT 3.1.1, 2.3.1), and what a policy may
+/// let be in flight has some of them.
+pub const MAX_OPEN_SUBSCRIBES: usize = 65_534 - MAX_FLIGHT;
 
 /// How long after its beginning, or after the last PINGREQ, a PINGREQ is due on the connection to the broker,
 /// in ms: half of the keep alive that its CONNECT states (MQTT 3.1.1, 3.1.2.10).

@@ -146,8 +146,8 @@ pub entry_same : (s t : State) (connect : Connect) → SaysSame connect.client_i
 entry_same s t connect same one two =
     let id = connect.client_id in
     then_same (entry_form connect) (entry_form connect)
-    (and_then (client_scope s.policy id) (entry_room s.clients id))
-    (and_then (client_scope t.policy id) (entry_room t.clients id)) refl
-    (then_same (client_scope s.policy id) (client_scope t.policy id) (entry_room s.clients id)
-    (entry_room t.clients id) (client_scope_same id s.policy t.policy same)
-    (entry_room_same s.clients t.clients id)) one two
+    (and_then (client_scope s.policy id) (entry_room s.policy.limits s.clients id))
+    (and_then (client_scope t.policy id) (entry_room t.policy.limits t.clients id)) refl
+    (then_same (client_scope s.policy id) (client_scope t.policy id) (entry_room s.policy.limits s.clients id)
+    (entry_room t.policy.limits t.clients id) (client_scope_same id s.policy t.policy same)
+    (entry_room_same s.policy.limits t.policy.limits s.clients t.clients id)) one two

@@ -264,9 +264,9 @@ common_connect id own s t from connect sound also alike is_named room other =
         clock = alike.clock;
         up = alike.up;
         waits =
-            mine_both id s.link.waiting (unsubscribes s.link (released s.clients (clients_next s c)))
-            t.link.waiting (unsubscribes t.link (released t.clients (clients_next t c))) alike.waits
-            (mine_unsubscribes id s.link (released s.clients (clients_next s c))
-            ∙ sym (mine_unsubscribes id t.link (released t.clients (clients_next t c))));
+            mine_both id s.link.waiting (unsubscribes s.policy.limits s.link (released s.clients (clients_next s c)))
+            t.link.waiting (unsubscribes t.policy.limits t.link (released t.clients (clients_next t c))) alike.waits
+            (mine_unsubscribes s.policy.limits id s.link (released s.clients (clients_next s c))
+            ∙ sym (mine_unsubscribes t.policy.limits id t.link (released t.clients (clients_next t c))));
       };
     }

@@ -10,8 +10,10 @@ use Rattle.sng_book.specs.declared.outcome.Outcome.TheVariants.{Allowed, Denied}
 use Rattle.sng_history.specs.Causes.{ByUp, ByDown}
 use Rattle.sng_history.specs.Exits.{subscribing}
 use Rattle.sng_history.specs.Exits.{agains_of, sent_again, resending}
+use Rattle.sng_history.specs.Exits.{subscribe_out, subscribe_packet}
 use Rattle.sng_history.specs.Links.{Link, resumed}
 use Rattle.sng_history.specs.Links.{filters_wanted, subscribe_sent}
+use Rattle.sng_history.specs.Links.{may_open, next_packet_id}
 use Rattle.sng_history.specs.State.{State}
 use Rattle.sng_history.specs.Steps.{outs_by, next_by}
 use Rattle.sng_isolation.proofs.Alike.{mine, Alike, Sound, GoesOn}
@@ -32,11 +34,22 @@ silent_resending id own (sent ∷ flights) (o ∷ outcomes) =
     silent_both id own (sent_again sent o) (resending flights outcomes) (silent_again id own sent o)
     (silent_resending id own flights outcomes)
 
+silent_out : (id : List ℕ) (own : List Address) (link : Link) (filter : List ℕ)
+    → Silent id own (subscribe_out link filter)
+silent_out id own link filter = by_open (may_open link.wanted filter)
+  where
+    by_open : (b : Bool)
+        → Silent id own (if b then subscribe_packet (next_packet_id link) filter ∷ [] else [])
+    by_open true = refl
+    by_open false = refl
+
 silent_subscribing : (id : List ℕ) (own : List Address) (link : Link) (filters : List (List ℕ))
     → Silent id own (subscribing link filters)
 silent_subscribing id own link [] = refl
 silent_subscribing id own link (filter ∷ filters) =
-    silent_subscribing id own (subscribe_sent link filter) filters
+    let next = subscribe_sent link filter in
+    silent_both id own (subscribe_out link filter) (subscribing next filters) (silent_out id own link filter)
+    (silent_subscribing id own next filters)
 
 silent_up : (id : List ℕ) (own : List Address) (s : State) → Silent id own (outs_by s ByUp)
 silent_up id own s =

@@ -129,11 +129,11 @@ asked_common id own s t from request sound also alike notes =
     alike.kept (λ x is it. ap (λ some. mine id (asked_by_all p some)) (notes x is it))
 
 ends_same : (id : List ℕ) (s t : State) (c : Cause)
-    → mine id (unsubscribes s.link (released s.clients (clients_next s c)))
-    ≡ mine id (unsubscribes t.link (released t.clients (clients_next t c)))
+    → mine id (unsubscribes s.policy.limits s.link (released s.clients (clients_next s c)))
+    ≡ mine id (unsubscribes t.policy.limits t.link (released t.clients (clients_next t c)))
 ends_same id s t c =
-    mine_unsubscribes id s.link (released s.clients (clients_next s c))
-    ∙ sym (mine_unsubscribes id t.link (released t.clients (clients_next t c)))
+    mine_unsubscribes s.policy.limits id s.link (released s.clients (clients_next s c))
+    ∙ sym (mine_unsubscribes t.policy.limits id t.link (released t.clients (clients_next t c)))
 
 pub common_message : (id : List ℕ) (own : List Address) (s t : State) (from : Address) (request : Request)
     → Sound id own s → Sound id own t → Alike id s t → is_own own from ≡ true
@@ -155,10 +155,13 @@ common_message id own s t from request sound also alike ours room other =
         up = alike.up;
         waits =
             mine_both id s.link.waiting
-            (asked_for s c ++ unsubscribes s.link (released s.clients (clients_next s c))) t.link.waiting
-            (asked_for t c ++ unsubscribes t.link (released t.clients (clients_next t c))) alike.waits
-            (mine_both id (asked_for s c) (unsubscribes s.link (released s.clients (clients_next s c)))
-            (asked_for t c) (unsubscribes t.link (released t.clients (clients_next t c)))
+            (asked_for s c ++ unsubscribes s.policy.limits s.link (released s.clients (clients_next s c)))
+            t.link.waiting
+            (asked_for t c ++ unsubscribes t.policy.limits t.link (released t.clients (clients_next t c)))
+            alike.waits
+            (mine_both id (asked_for s c) (unsubscribes s.policy.limits s.link
+            (released s.clients (clients_next s c)))
+            (asked_for t c) (unsubscribes t.policy.limits t.link (released t.clients (clients_next t c)))
             (asked_common id own s t from request sound also alike notes) (ends_same id s t c));
       };
     }

@@ -26,21 +26,21 @@ common_packet id own s t p sound also alike none =
     record {
       traces =
           behind_same id own (flat_map (λ x. part (around s c) [] (fixed_for s c x) x) s.clients)
-          (answer_outs s.up s.link a)
+          (answer_outs s.policy.limits s.up s.link a)
           (flat_map (λ x. part (around t c) [] (fixed_for t c x) x) t.clients)
-          (answer_outs t.up t.link a)
+          (answer_outs t.policy.limits t.up t.link a)
           (rows_common id own s t c [] [] (λ x. refl) sound also alike notes)
-          (silent_packet id own s.up s.link a) (silent_packet id own t.up t.link a);
+          (silent_packet s.policy.limits id own s.up s.link a) (silent_packet t.policy.limits id own t.up t.link a);
       alike = record {
         kept = kept_common id s t c refl alike notes;
         policy = alike.policy;
         clock = alike.clock;
         up = alike.up;
         waits =
-            mine_behind id s.link.waiting (acknowledgements s.up s.link a)
-            (mine_acknowledgements id s.up s.link a)
+            mine_behind id s.link.waiting (acknowledgements s.policy.limits s.up s.link a)
+            (mine_acknowledgements s.policy.limits id s.up s.link a)
             ∙ (alike.waits
-            ∙ sym (mine_behind id t.link.waiting (acknowledgements t.up t.link a)
-            (mine_acknowledgements id t.up t.link a)));
+            ∙ sym (mine_behind id t.link.waiting (acknowledgements t.policy.limits t.up t.link a)
+            (mine_acknowledgements t.policy.limits id t.up t.link a)));
       };
     }

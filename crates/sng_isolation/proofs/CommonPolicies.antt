@@ -1,5 +1,5 @@
--- What a policy does to a client that says the same to it, in two states that it cannot tell apart; and what one
--- does that says what the one in force says.
+-- What a policy does to a client that says the same to it, in two states that it cannot tell apart; and what
+-- one does that says what the one in force says.
 use Rattle.std.proofs.Common.{◌≡◌, ℕ, Bool, true, false, List, [], ◌∷◌, ◌++◌, refl, ap, ap₂, sym, ◌∙◌, subst}
 use Rattle.std.specs.Str.{bytes_eq}
 use Rattle.sng_grants.specs.declared.policy.Policy.{Policy}
@@ -165,10 +165,10 @@ common_policy id own s t p q sound also alike same =
         clock = alike.clock;
         up = alike.up;
         waits =
-            mine_both id s.link.waiting (unsubscribes s.link (released s.clients (clients_next s c)))
-            t.link.waiting (unsubscribes t.link (released t.clients (clients_next t d))) alike.waits
-            (mine_unsubscribes id s.link (released s.clients (clients_next s c))
-            ∙ sym (mine_unsubscribes id t.link (released t.clients (clients_next t d))));
+            mine_both id s.link.waiting (unsubscribes p.limits s.link (released s.clients (clients_next s c)))
+            t.link.waiting (unsubscribes q.limits t.link (released t.clients (clients_next t d))) alike.waits
+            (mine_unsubscribes p.limits id s.link (released s.clients (clients_next s c))
+            ∙ sym (mine_unsubscribes q.limits id t.link (released t.clients (clients_next t d))));
       };
     }
 
@@ -226,7 +226,7 @@ hidden_policy id own s p sound same =
         clock = refl;
         up = refl;
         waits =
-            sym (mine_behind id s.link.waiting (unsubscribes s.link (released s.clients (clients_next s c)))
-            (mine_unsubscribes id s.link (released s.clients (clients_next s c))));
+            sym (mine_behind id s.link.waiting (unsubscribes p.limits s.link (released s.clients (clients_next s c)))
+            (mine_unsubscribes p.limits id s.link (released s.clients (clients_next s c))));
       };
     }

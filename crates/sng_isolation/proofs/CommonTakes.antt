@@ -19,8 +19,10 @@ use Rattle.sng_book.specs.Traces.{trace_of}
 use Rattle.sng_history.specs.Causes.{ByTake}
 use Rattle.sng_history.specs.Exits.{exits_of, forwarded}
 use Rattle.sng_history.specs.Exits.{leaving}
+use Rattle.sng_history.specs.Exits.{subscribe_leaves, subscribe_packet}
 use Rattle.sng_history.specs.Links.{Link, wants, packet_id_by, exited}
 use Rattle.sng_history.specs.Links.{subscribe_left, unsubscribe_left}
+use Rattle.sng_history.specs.Links.{may_open, next_packet_id, filters_owed, outgoing}
 use Rattle.sng_history.specs.Notes.{is_client}
 use Rattle.sng_history.specs.State.{State}
 use Rattle.sng_history.specs.Verdicts.{exit}
@@ -56,10 +58,17 @@ forwarded_trace id own p packet_id (Denied rule) rest =
     ap (λ b. cond b (Note (note.Forward (who_of p.origin) p.name (Denied rule)) ∷ trace_of id own rest)
     (trace_of id own rest)) (speaks_by id p.origin)
 
-wire_trace : (id : List ℕ) (own : List Address) (b : Bool) (packet : List ℕ) (rest : List Out)
-    → trace_of id own ((if b then Wire packet ∷ [] else []) ++ rest) ≡ trace_of id own rest
-wire_trace id own true packet rest = refl
-wire_trace id own false packet rest = refl
+subscribe_trace : (id : List ℕ) (own : List Address) (link : Link) (filter : List ℕ) (rest : List Out)
+    → trace_of id own (subscribe_leaves link filter ++ rest) ≡ trace_of id own rest
+subscribe_trace id own link filter rest = by_two (wants link.wanted filter) (may_open link.wanted filter)
+  where
+    by_two : (wanted may : Bool)
+        → trace_of id own ((if wanted
+        then (if may then subscribe_packet (next_packet_id link) filter ∷ [] else []) else []) ++ rest)
+        ≡ trace_of id own rest
+    by_two true true = refl
+    by_two true false = refl
+    by_two false may = refl
 
 no_wire_trace : (id : List ℕ) (own : List Address) (b : Bool) (packet : List ℕ) (rest : List Out)
     → trace_of id own ((if b then [] else Wire packet ∷ []) ++ rest) ≡ trace_of id own rest
@@ -86,8 +95,7 @@ leaving_trace id own policy link (item.Publish p ∷ items) =
         ap (λ (outs : List Out). left_with policy (item.Publish p) ∷ outs) same
     by_own false same = same
 leaving_trace id own policy link (item.Subscribe filter ∷ items) =
-    wire_trace id own (wants link.wanted filter) _
-    (leaving (subscribe_left link filter) items (exits_of policy items))
+    subscribe_trace id own link filter (leaving (subscribe_left link filter) items (exits_of policy items))
     ∙ leaving_trace id own policy (subscribe_left link filter) items
 leaving_trace id own policy link (item.Unsubscribe filter ∷ items) =
     no_wire_trace id own (wants link.wanted filter) _
@@ -122,10 +130,19 @@ left_same id p q (item.Unsubscribe filter ∷ items) same = left_same id p q ite
 left_same id p q (item.Acknowledge packet_id ∷ items) same = left_same id p q items same
 left_same id p q (item.Ping ∷ items) same = left_same id p q items same
 
+-- what is owed is nobody's
+mine_owed : (id : List ℕ) (texts : List (List ℕ)) (items : List Item)
+    → mine id (map item.Subscribe texts ++ items) ≡ mine id items
+mine_owed id [] items = refl
+mine_owed id (text ∷ texts) items = mine_owed id texts items
+
 take_trace : (id : List ℕ) (own : List Address) (s : State) (b : Bool) → s.up ≡ b
     → trace_of id own (outs_by s ByTake)
     ≡ (let outs : List Out = if b then map (left_with s.policy) (mine id s.link.waiting) else [] in outs)
-take_trace id own s true is = rw is (leaving_trace id own s.policy s.link s.link.waiting)
+take_trace id own s true is =
+    rw is
+    (leaving_trace id own s.policy s.link (outgoing s.link)
+    ∙ ap (map (left_with s.policy)) (mine_owed id (filters_owed s.link) s.link.waiting))
 take_trace id own s false is = rw is refl
 
 pub common_take : (id : List ℕ) (own : List Address) (s t : State) → Sound id own s → Sound id own t
@@ -142,7 +159,8 @@ common_take id own s t sound also alike = record {
     policy = alike.policy;
     clock = alike.clock;
     up = alike.up;
-    waits = waits_by s ∙ (ap₂ (λ (b : Bool) (items : List Item). let some : List Item = if b then [] else items in some)
+    waits = waits_by s ∙ (ap₂ (λ (b : Bool) (items : List Item). let some : List Item =
+        if b then [] else items in some)
         alike.up alike.waits ∙ sym (waits_by t));
   };
 }

@@ -3,6 +3,7 @@ use Rattle.std.proofs.Common.{◌≡◌, ℕ, Bool, true, false, List, [], ◌�
 use Rattle.std.proofs.Common.{if◌then◌else◌}
 use Rattle.std.specs.Prelude.{Option, Some, None}
 use Rattle.std.specs.List.{flat_map}
+use Rattle.sng_grants.specs.Limits.{Limits}
 use Rattle.sng_outbox.specs.declared.item.Item.TheVariants as item
 use Rattle.sng_outbox.specs.declared.item.Publication.{Publication}
 use Rattle.sng_book.specs.declared.address.Address.{Address}
@@ -49,53 +50,59 @@ tick_notes_same id own s t clock sound also alike room other x is it =
 
 -- ---- the client's will
 
-will_room : (link : Link) (id : List ℕ) (ps : List Publication) → Every Roomy (will_dropped link id ps)
-    → FindsRoom link ps
-will_room link id [] roomy = tt
-will_room link id (p ∷ ps) roomy = by_room (room_in link p.qos) refl roomy
+will_room : (limits : Limits) (link : Link) (id : List ℕ) (ps : List Publication)
+    → Every Roomy (will_dropped limits link id ps)
+    → FindsRoom limits link ps
+will_room limits link id [] roomy = tt
+will_room limits link id (p ∷ ps) roomy = by_room (room_in limits link p.qos) refl roomy
   where
-    by_room : (o : Outcome) → room_in link p.qos ≡ o → Every Roomy (unplaced id p o)
-        → room_in link p.qos ≡ Allowed
+    by_room : (o : Outcome) → room_in limits link p.qos ≡ o → Every Roomy (unplaced id p o)
+        → room_in limits link p.qos ≡ Allowed
     by_room Allowed is free = is
     by_room (Denied rule) is free =
-        room_allowed link p.qos (subst (λ o. is_crowded o ≡ false) (sym is) free.0)
+        room_allowed limits link p.qos (subst (λ o. is_crowded o ≡ false) (sym is) free.0)
 
 tick_room : (s : State) (now : ℕ) (x : Client) → Every Roomy (tick_notes s.policy s.link now s.clients x)
-    → FindsRoom (all_placed s.link (testaments now (before x.id s.clients))) (testament now x)
+    → FindsRoom s.policy.limits (all_placed s.policy.limits s.link (testaments now (before x.id s.clients)))
+    (testament now x)
 tick_room s now x = by_lost (is_lost_at now x)
   where
     by_lost : (b : Bool)
-        → (let link = all_placed s.link (testaments now (before x.id s.clients)) in
-        Every Roomy (if b then lost_notes link x else again_notes s.policy now x)
-        → FindsRoom link (if b then will_of x.id x.wills.will else []))
+        → (let link = all_placed s.policy.limits s.link (testaments now (before x.id s.clients)) in
+        Every Roomy (if b then lost_notes s.policy.limits link x else again_notes s.policy now x)
+        → FindsRoom s.policy.limits link (if b then will_of x.id x.wills.will else []))
     by_lost true roomy =
-        let link = all_placed s.link (testaments now (before x.id s.clients)) in
-        will_room link x.id (will_of x.id x.wills.will)
-        (every_right Roomy (all_gone x.id x.buffer.waiting) (will_dropped link x.id (will_of x.id x.wills.will))
+        let link = all_placed s.policy.limits s.link (testaments now (before x.id s.clients)) in
+        will_room s.policy.limits link x.id (will_of x.id x.wills.will)
+        (every_right Roomy (all_gone x.id x.buffer.waiting)
+        (will_dropped s.policy.limits link x.id (will_of x.id x.wills.will))
         roomy.1)
     by_lost false roomy = tt
 
-kept_room : (id : List ℕ) (own : List Address) (s : State) (clock : ℕ) → Sound id own s → HasRoom id (outs_by s (ByTick clock))
-    → WillFindsRoom id (later s.clock clock) s.link s.clients (kept_of id s.clients)
+kept_room : (id : List ℕ) (own : List Address) (s : State) (clock : ℕ) → Sound id own s
+    → HasRoom id (outs_by s (ByTick clock))
+    → WillFindsRoom s.policy.limits id (later s.clock clock) s.link s.clients (kept_of id s.clients)
 kept_room id own s clock sound room = by_kept (kept_of id s.clients) refl
   where
     by_kept : (o : Option Client) → kept_of id s.clients ≡ o
-        → WillFindsRoom id (later s.clock clock) s.link s.clients o
+        → WillFindsRoom s.policy.limits id (later s.clock clock) s.link s.clients o
     by_kept None is = tt
     by_kept (Some x) is =
         let now = later s.clock clock in
-        subst (λ d. FindsRoom (all_placed s.link (testaments now (before d s.clients))) (testament now x))
+        subst (λ d. FindsRoom s.policy.limits
+        (all_placed s.policy.limits s.link (testaments now (before d s.clients))) (testament now x))
         (sym (same_means id x.id (kept_is id x s.clients is)))
         (tick_room s now x (roomy_fixed id s (ByTick clock) x sound.good room is))
 
-tick_waits : (id : List ℕ) (own : List Address) (s : State) (clock : ℕ) → Sound id own s → HasRoom id (outs_by s (ByTick clock))
+tick_waits : (id : List ℕ) (own : List Address) (s : State) (clock : ℕ) → Sound id own s
+    → HasRoom id (outs_by s (ByTick clock))
     → mine id (next_by s (ByTick clock)).link.waiting
     ≡ mine id s.link.waiting
     ++ own_part (λ x. map item.Publish (testament (later s.clock clock) x)) (kept_of id s.clients)
 tick_waits id own s clock sound room =
     let now = later s.clock clock in
-    ticked_mine id s.up s.link now s.clients
-    ∙ wills_trace id now s.link s.clients sound.good.apart (kept_room id own s clock sound room)
+    ticked_mine s.policy.limits id s.up s.link now s.clients
+    ∙ wills_trace s.policy.limits id now s.link s.clients sound.good.apart (kept_room id own s clock sound room)
 
 pub common_tick : (id : List ℕ) (own : List Address) (s t : State) (clock : ℕ) → Sound id own s
     → Sound id own t → Alike id s t → HasRoom id (outs_by s (ByTick clock))
@@ -109,12 +116,13 @@ common_tick id own s t clock sound also alike room other =
     record {
       traces =
           behind_same id own (flat_map (λ x. part (around s c) [] (fixed_for s c x) x) s.clients)
-          (ping_dropped s.up (with_wills s.link now s.clients) now)
+          (ping_dropped s.policy.limits s.up (with_wills s.policy.limits s.link now s.clients) now)
           (flat_map (λ x. part (around t c) [] (fixed_for t c x) x) t.clients)
-          (ping_dropped t.up (with_wills t.link then_time t.clients) then_time)
+          (ping_dropped t.policy.limits t.up (with_wills t.policy.limits t.link then_time t.clients) then_time)
           (rows_common id own s t c [] [] (λ x. refl) sound also alike notes)
-          (silent_ping id own s.up (with_wills s.link now s.clients) now)
-          (silent_ping id own t.up (with_wills t.link then_time t.clients) then_time);
+          (silent_ping s.policy.limits id own s.up (with_wills s.policy.limits s.link now s.clients) now)
+          (silent_ping t.policy.limits id own t.up (with_wills t.policy.limits t.link then_time t.clients)
+          then_time);
       alike = record {
         kept = kept_common id s t c refl alike notes;
         policy = alike.policy;

@@ -1,6 +1,7 @@
 -- Where a client finds room among the places that all share, it does not matter what else is there.
 use Rattle.std.proofs.Common.{◌≡◌, ℕ, Bool, true, false, List, refl, ap, sym, ◌∙◌, subst, if◌then◌else◌}
 use Rattle.std.specs.Prelude.{nat_lt, length, ◌||◌, ◌&&◌}
+use Rattle.sng_grants.specs.Limits.{Limits}
 use Rattle.sng_text.specs.declared.qos.Qos.{Qos}
 use Rattle.sng_text.specs.declared.qos.Qos.TheVariants.{AtLeastOnce}
 use Rattle.sng_states.specs.OpenIds as ids_open
@@ -14,7 +15,6 @@ use Rattle.sng_book.specs.declared.outcome.Denial.TheVariants.{Room}
 use Rattle.sng_book.specs.declared.outcome.RoomDenial.TheVariants.{UpstreamDown, Full}
 use Rattle.sng_book.specs.declared.outcome.Outcome.{Outcome}
 use Rattle.sng_book.specs.declared.outcome.Outcome.TheVariants.{Allowed, Denied}
-use Rattle.sng_history.specs.declared.limits.TheConstants.{MAX_CLIENTS}
 use Rattle.sng_history.specs.Clients.{Client}
 use Rattle.sng_history.specs.Links.{Link}
 use Rattle.sng_history.specs.Packets.{has_place}
@@ -60,32 +60,39 @@ room_by true true free = refl
 room_by true false free = absurd cc
 room_by false has free = absurd cc
 
-pub room_allowed : (link : Link) (q : Qos) → is_crowded (room_in link q) ≡ false → room_in link q ≡ Allowed
-room_allowed link q free = room_by (has_flight link q) (has_place link) free
+pub room_allowed : (limits : Limits) (link : Link) (q : Qos) → is_crowded (room_in limits link q) ≡ false
+    → room_in limits link q ≡ Allowed
+room_allowed limits link q free = room_by (has_flight limits link q) (has_place limits link) free
 
-pub room_in_same : (one two : Link) (q : Qos) → is_crowded (room_in one q) ≡ false
-    → is_crowded (room_in two q) ≡ false → room_in one q ≡ room_in two q
-room_in_same one two q free also = room_allowed one q free ∙ sym (room_allowed two q also)
+-- whatever the limits are
+pub room_in_same : (limits others : Limits) (one two : Link) (q : Qos) → is_crowded (room_in limits one q) ≡ false
+    → is_crowded (room_in others two q) ≡ false → room_in limits one q ≡ room_in others two q
+room_in_same limits others one two q free also =
+    room_allowed limits one q free ∙ sym (room_allowed others two q also)
 
 pub room_same : (s t : State) (q : Qos) → s.up ≡ t.up → is_crowded (room s q) ≡ false
     → is_crowded (room t q) ≡ false → room s q ≡ room t q
 room_same s t q up one two =
-    agree_outcome (λ is_up. if is_up then room_in s.link q else Denied (Room UpstreamDown))
-    (λ is_up. if is_up then room_in t.link q else Denied (Room UpstreamDown)) s.up t.up up by_up one two
+    agree_outcome (λ is_up. if is_up then room_in s.policy.limits s.link q else Denied (Room UpstreamDown))
+    (λ is_up. if is_up then room_in t.policy.limits t.link q else Denied (Room UpstreamDown)) s.up t.up up by_up
+    one two
   where
     by_up : (is_up : Bool)
-        → (let o : Outcome = if is_up then room_in s.link q else Denied (Room UpstreamDown) in
-        let p : Outcome = if is_up then room_in t.link q else Denied (Room UpstreamDown) in
+        → (let o : Outcome = if is_up then room_in s.policy.limits s.link q else Denied (Room UpstreamDown) in
+        let p : Outcome = if is_up then room_in t.policy.limits t.link q else Denied (Room UpstreamDown) in
         is_crowded o ≡ false → is_crowded p ≡ false → o ≡ p)
-    by_up true one two = room_in_same s.link t.link q one two
+    by_up true one two = room_in_same s.policy.limits t.policy.limits s.link t.link q one two
     by_up false one two = refl
 
 once_by : (s t : State) (full : Bool)
-    → (let o : Outcome = if full then Denied (Room (Full place.Exchanges)) else room_in s.link AtLeastOnce in
-    let p : Outcome = if full then Denied (Room (Full place.Exchanges)) else room_in t.link AtLeastOnce in
+    → (let o : Outcome = if full then Denied (Room (Full place.Exchanges)) else room_in s.policy.limits s.link
+    AtLeastOnce in
+    let p : Outcome = if full then Denied (Room (Full place.Exchanges)) else room_in t.policy.limits t.link
+    AtLeastOnce in
     is_crowded o ≡ false → is_crowded p ≡ false → o ≡ p)
 once_by s t true one two = refl
-once_by s t false one two = room_in_same s.link t.link AtLeastOnce one two
+once_by s t false one two =
+    room_in_same s.policy.limits t.policy.limits s.link t.link AtLeastOnce one two
 
 pub once_room_same : (s t : State) (x : Client) (p : Publish) → s.up ≡ t.up
     → is_crowded (once_room s x p) ≡ false → is_crowded (once_room t x p) ≡ false
@@ -129,7 +136,7 @@ subscribe_room_same s t x r filter up one two =
         is_crowded o ≡ false → is_crowded p ≡ false → o ≡ p)
     by_up true one two =
         subscribe_by (gets_id r.flags.id_type filter && is_full_for filter x.ids) (is_full x.filters filter)
-        (has_place s.link) (has_place t.link) one two
+        (has_place s.policy.limits s.link) (has_place t.policy.limits t.link) one two
     by_up false one two = refl
 
 entry_by : (fits : Bool)
@@ -138,8 +145,9 @@ entry_by : (fits : Bool)
 entry_by true free = refl
 entry_by false free = absurd cc
 
-pub entry_room_same : (xs ys : List Client) (id : List ℕ) → is_crowded (entry_room xs id) ≡ false
-    → is_crowded (entry_room ys id) ≡ false → entry_room xs id ≡ entry_room ys id
-entry_room_same xs ys id one two =
-    entry_by (is_known id xs || nat_lt (length xs) MAX_CLIENTS) one
-    ∙ sym (entry_by (is_known id ys || nat_lt (length ys) MAX_CLIENTS) two)
+pub entry_room_same : (limits others : Limits) (xs ys : List Client) (id : List ℕ)
+    → is_crowded (entry_room limits xs id) ≡ false
+    → is_crowded (entry_room others ys id) ≡ false → entry_room limits xs id ≡ entry_room others ys id
+entry_room_same limits others xs ys id one two =
+    entry_by (is_known id xs || nat_lt (length xs) limits.clients) one
+    ∙ sym (entry_by (is_known id ys || nat_lt (length ys) others.clients) two)

@@ -77,7 +77,7 @@ message_waits : (id : List ℕ) (s : State) (from : Address) (request : Request)
 message_waits id s from request elsewhere =
     let c = ByMessage from request in
     let asked = asked_for s c in
-    let ends = unsubscribes s.link (released s.clients (clients_next s c)) in
+    let ends = unsubscribes s.policy.limits s.link (released s.clients (clients_next s c)) in
     let none : mine id asked ≡ [] =
     none_flat (is_mine id) (λ x. asked_by_all (publish_asked request) (fixed_for s c x)) s.clients
     (each_map (Elsewhere id from)
@@ -86,7 +86,7 @@ message_waits id s from request elsewhere =
     sym (mine_behind id s.link.waiting (asked ++ ends)
     (filter-append (is_mine id) asked ends
     ∙ (ap (λ some. some ++ mine id ends) none
-    ∙ mine_unsubscribes id s.link (released s.clients (clients_next s c)))))
+    ∙ mine_unsubscribes s.policy.limits id s.link (released s.clients (clients_next s c)))))
 
 -- the note of a source is no client's
 own_note : (id : List ℕ) (said : Decision) (b : Bool) → is_of id said ≡ b
@@ -123,8 +123,9 @@ hidden_event id own s from c sound came off named =
           clock = refl;
           up = refl;
           waits =
-              sym (mine_behind id s.link.waiting (unsubscribes s.link (released s.clients (clients_next s c)))
-              (mine_unsubscribes id s.link (released s.clients (clients_next s c))));
+              sym (mine_behind id s.link.waiting
+              (unsubscribes s.policy.limits s.link (released s.clients (clients_next s c)))
+              (mine_unsubscribes s.policy.limits id s.link (released s.clients (clients_next s c))));
         }
     by_cause (ByMessage place request) came named elsewhere =
         let c = ByMessage place request in

@@ -4,6 +4,7 @@ use Rattle.std.specs.List.{filter}
 use Rattle.sng_grants.specs.Ends.{in_force}
 use Rattle.sng_grants.specs.declared.policy.Policy.{Policy}
 use Rattle.sng_isolation.specs.View.{part_of}
+use Rattle.sng_grants.specs.Policies.{no_policy}
 
 -- two tests may be asked in either order
 swapped : {A : Type 0} (f g : A → Bool) (xs : List A) → filter f (filter g xs) ≡ filter g (filter f xs)
@@ -25,7 +26,7 @@ swapped {A} f g (x ∷ xs) = by_two (f x) (g x) refl refl (swapped f g xs)
 pub in_force_part : (id : List ℕ) (clock : ℕ) (p : Policy)
     → part_of id (in_force clock p) ≡ in_force clock (part_of id p)
 in_force_part id clock p =
-    ap (λ listed. let q : Policy = record { clients = listed; sources = []; topics = p.topics } in q)
+    ap (λ listed. let q : Policy = record no_policy { clients = listed; topics = p.topics } in q)
     (swapped _ _ p.clients)
 
 pub in_force_same : (id : List ℕ) (one two : ℕ) (p q : Policy) → one ≡ two → part_of id p ≡ part_of id q

@@ -3,6 +3,7 @@ use Rattle.std.proofs.Common.{◌≡◌, ℕ, Bool, true, false, List, [], ◌�
 use Rattle.std.proofs.Common.{if◌then◌else◌}
 use Rattle.std.specs.Prelude.{not, None}
 use Rattle.std.specs.Str.{bytes_eq}
+use Rattle.sng_grants.specs.Limits.{Limits}
 use Rattle.sng_frames.specs.declared.messages.connect.Connect.{Connect}
 use Rattle.sng_outbox.specs.declared.item.Publication.{Publication}
 use Rattle.sng_book.specs.declared.address.Address.{Address}
@@ -138,26 +139,28 @@ packet_same s t a x none same =
 -- ---- a tick
 
 -- a will that found its place is not noted
-placed_unsaid : (link : Link) (id : List ℕ) (ps : List Publication) → Every Roomy (will_dropped link id ps)
-    → will_dropped link id ps ≡ []
-placed_unsaid link id [] roomy = refl
-placed_unsaid link id (p ∷ ps) roomy = by_room (room_in link p.qos) refl roomy
+placed_unsaid : (limits : Limits) (link : Link) (id : List ℕ) (ps : List Publication)
+    → Every Roomy (will_dropped limits link id ps)
+    → will_dropped limits link id ps ≡ []
+placed_unsaid limits link id [] roomy = refl
+placed_unsaid limits link id (p ∷ ps) roomy = by_room (room_in limits link p.qos) refl roomy
   where
-    by_room : (o : Outcome) → room_in link p.qos ≡ o → Every Roomy (unplaced id p o) → unplaced id p o ≡ []
+    by_room : (o : Outcome) → room_in limits link p.qos ≡ o → Every Roomy (unplaced id p o) → unplaced id p o ≡ []
     by_room Allowed is free = refl
     by_room (Denied rule) is free =
-        let found : room_in link p.qos ≡ Allowed =
-        room_allowed link p.qos (subst (λ o. is_crowded o ≡ false) (sym is) free.0) in
+        let found : room_in limits link p.qos ≡ Allowed =
+        room_allowed limits link p.qos (subst (λ o. is_crowded o ≡ false) (sym is) free.0) in
         absurd (let e : Allowed ≡ Denied rule = sym found ∙ is in cc)
 
-lost_same : (one two : Link) (x : Client) → Every Roomy (lost_notes one x) → Every Roomy (lost_notes two x)
-    → lost_notes one x ≡ lost_notes two x
-lost_same one two x free also =
+lost_same : (limits others : Limits) (one two : Link) (x : Client) → Every Roomy (lost_notes limits one x)
+    → Every Roomy (lost_notes others two x)
+    → lost_notes limits one x ≡ lost_notes others two x
+lost_same limits others one two x free also =
     let gone = all_gone x.id x.buffer.waiting in
     let will = will_of x.id x.wills.will in
     ap (λ notes. note.Lost x.id ∷ (gone ++ notes))
-    (placed_unsaid one x.id will (every_right Roomy gone (will_dropped one x.id will) free.1)
-    ∙ sym (placed_unsaid two x.id will (every_right Roomy gone (will_dropped two x.id will) also.1)))
+    (placed_unsaid limits one x.id will (every_right Roomy gone (will_dropped limits one x.id will) free.1)
+    ∙ sym (placed_unsaid others two x.id will (every_right Roomy gone (will_dropped others two x.id will) also.1)))
 
 pub tick_same : (s t : State) (now : ℕ) (x : Client) → SaysSame x.id s.policy t.policy
     → Every Roomy (tick_notes s.policy s.link now s.clients x)
@@ -166,14 +169,15 @@ pub tick_same : (s t : State) (now : ℕ) (x : Client) → SaysSame x.id s.polic
 tick_same s t now x same = by_lost (is_lost_at now x)
   where
     by_lost : (b : Bool)
-        → (let one = all_placed s.link (testaments now (before x.id s.clients)) in
-        let two = all_placed t.link (testaments now (before x.id t.clients)) in
-        Every Roomy (if b then lost_notes one x else again_notes s.policy now x)
-        → Every Roomy (if b then lost_notes two x else again_notes t.policy now x)
-        → (let first : List Decision = if b then lost_notes one x else again_notes s.policy now x in
-        let second : List Decision = if b then lost_notes two x else again_notes t.policy now x in
+        → (let one = all_placed s.policy.limits s.link (testaments now (before x.id s.clients)) in
+        let two = all_placed t.policy.limits t.link (testaments now (before x.id t.clients)) in
+        Every Roomy (if b then lost_notes s.policy.limits one x else again_notes s.policy now x)
+        → Every Roomy (if b then lost_notes t.policy.limits two x else again_notes t.policy now x)
+        → (let first : List Decision = if b then lost_notes s.policy.limits one x else again_notes s.policy now x in
+        let second : List Decision = if b then lost_notes t.policy.limits two x else again_notes t.policy now x in
         first ≡ second))
     by_lost true free also =
-        lost_same (all_placed s.link (testaments now (before x.id s.clients)))
-        (all_placed t.link (testaments now (before x.id t.clients))) x free also
+        lost_same s.policy.limits t.policy.limits
+        (all_placed s.policy.limits s.link (testaments now (before x.id s.clients)))
+        (all_placed t.policy.limits t.link (testaments now (before x.id t.clients))) x free also
     by_lost false free also = again_same s.policy t.policy now x same

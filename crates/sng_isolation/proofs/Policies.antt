@@ -23,6 +23,7 @@ use Rattle.sng_history.specs.Outgoing.{receive}
 use Rattle.sng_history.specs.Verdicts.{exit, name_outcome, filter_outcome, client_scope, coverage, name_in}
 use Rattle.sng_history.specs.Verdicts.{filter_in}
 use Rattle.sng_isolation.specs.View.{part_of}
+use Rattle.sng_grants.specs.Policies.{no_policy}
 
 -- the client has the same scope under both, and the predefined topic ids have the same names
 pub record SaysSame (id : List ℕ) (p q : Policy) : Type 0 where
@@ -83,7 +84,7 @@ client_scope_same id p q same =
 
 -- a policy of topics alone
 abbrev only : List (ℕ × List ℕ) → Policy
-only topics = record { clients = []; sources = []; topics = topics }
+only topics = record no_policy { topics = topics }
 
 pub known_same : (id : List ℕ) (ids : Ids) (name : List ℕ) (p q : Policy) → SaysSame id p q
     → known_as p ids name ≡ known_as q ids name

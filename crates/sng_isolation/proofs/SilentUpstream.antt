@@ -3,6 +3,7 @@
 use Rattle.std.proofs.Common.{◌≡◌, ℕ, Bool, true, false, List, [], ◌∷◌, ◌++◌, sym, ◌∙◌}
 use Rattle.std.proofs.Common.{if◌then◌else◌}
 use Rattle.std.specs.Prelude.{Option, Some, None}
+use Rattle.sng_grants.specs.Limits.{Limits}
 use Rattle.sng_text.specs.Texts.{is_name}
 use Rattle.sng_book.specs.declared.address.Address.{Address}
 use Rattle.sng_book.specs.declared.decision.Decision.TheVariants as note
@@ -31,21 +32,23 @@ dropped_off own room None = tt
 dropped_off own true (Some packet_id) = tt
 dropped_off own false (Some packet_id) = tt
 
-packet_off : (own : List Address) (up : Bool) (link : Link) (a : Answer) → AllOff own (answer_outs up link a)
-packet_off own up link (Delivers p) =
-    misnamed_off own (is_name p.name) (dropped (has_place link) (owed up p))
-    (dropped_off own (has_place link) (owed up p))
-packet_off own up link (Acknowledges packet_id) = tt
-packet_off own up link (Grants packet_id) = tt
-packet_off own up link (Refuses packet_id) = tt
-packet_off own up link Confirms = tt
-packet_off own up link Strange = tt
+packet_off : (limits : Limits) (own : List Address) (up : Bool) (link : Link) (a : Answer)
+    → AllOff own (answer_outs limits up link a)
+packet_off limits own up link (Delivers p) =
+    misnamed_off own (is_name p.name) (dropped (has_place limits link) (owed up p))
+    (dropped_off own (has_place limits link) (owed up p))
+packet_off limits own up link (Acknowledges packet_id) = tt
+packet_off limits own up link (Grants packet_id) = tt
+packet_off limits own up link (Refuses packet_id) = tt
+packet_off limits own up link Confirms = tt
+packet_off limits own up link Strange = tt
 
-pub silent_packet : (id : List ℕ) (own : List Address) (up : Bool) (link : Link) (a : Answer)
-    → Silent id own (answer_outs up link a)
-silent_packet id own up link a =
-    silent_off id own (answer_outs up link a) (packet_off own up link a) ((mute_packet up link a).notes id)
-    (mute_packet up link a).exits
+pub silent_packet : (limits : Limits) (id : List ℕ) (own : List Address) (up : Bool) (link : Link) (a : Answer)
+    → Silent id own (answer_outs limits up link a)
+silent_packet limits id own up link a =
+    silent_off id own (answer_outs limits up link a) (packet_off limits own up link a)
+    ((mute_packet limits up link a).notes id)
+    (mute_packet limits up link a).exits
 
 ping_off : (own : List Address) (due room : Bool)
     → AllOff own (if due then (if room then [] else Note note.Outbox ∷ []) else [])
@@ -53,11 +56,12 @@ ping_off own true true = tt
 ping_off own true false = tt
 ping_off own false room = tt
 
-pub silent_ping : (id : List ℕ) (own : List Address) (up : Bool) (link : Link) (clock : ℕ)
-    → Silent id own (ping_dropped up link clock)
-silent_ping id own up link clock =
-    silent_off id own (ping_dropped up link clock) (ping_off own (is_ping_due up link clock) (has_place link))
-    ((mute_ping up link clock).notes id) (mute_ping up link clock).exits
+pub silent_ping : (limits : Limits) (id : List ℕ) (own : List Address) (up : Bool) (link : Link) (clock : ℕ)
+    → Silent id own (ping_dropped limits up link clock)
+silent_ping limits id own up link clock =
+    silent_off id own (ping_dropped limits up link clock)
+    (ping_off own (is_ping_due up link clock) (has_place limits link))
+    ((mute_ping limits up link clock).notes id) (mute_ping limits up link clock).exits
 
 -- silent outs behind make no difference
 pub behind_same : (id : List ℕ) (own : List Address) (xs ys us vs : List Out)

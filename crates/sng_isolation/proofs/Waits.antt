@@ -6,6 +6,7 @@ use Rattle.std.specs.List.{filter}
 use Rattle.std.specs.Str.{bytes_eq}
 use Rattle.std.proofs.lemmas.List.{append-nil}
 use Rattle.std.proofs.lemmas.List.Elements.{filter-append}
+use Rattle.sng_grants.specs.Limits.{Limits}
 use Rattle.sng_frames.specs.declared.messages.publish.Publish.{Publish}
 use Rattle.sng_outbox.specs.Sending.{publishes}
 use Rattle.sng_outbox.specs.declared.item.Item.{Item}
@@ -34,9 +35,9 @@ mine_unsubscribed : (id : List ℕ) (releases : List Release)
 mine_unsubscribed id [] = refl
 mine_unsubscribed id (r ∷ releases) = mine_unsubscribed id releases
 
-pub mine_unsubscribes : (id : List ℕ) (link : Link) (releases : List Release)
-    → mine id (unsubscribes link releases) ≡ []
-mine_unsubscribes id link releases = mine_unsubscribed id (take (places_left link) releases)
+pub mine_unsubscribes : (limits : Limits) (id : List ℕ) (link : Link) (releases : List Release)
+    → mine id (unsubscribes limits link releases) ≡ []
+mine_unsubscribes limits id link releases = mine_unsubscribed id (take (places_left limits link) releases)
 
 -- what comes behind and is not the client's makes no difference
 pub mine_behind : (id : List ℕ) (items more : List Item) → mine id more ≡ []
@@ -58,14 +59,14 @@ mine_acknowledged id room None = refl
 mine_acknowledged id true (Some packet_id) = refl
 mine_acknowledged id false (Some packet_id) = refl
 
-pub mine_acknowledgements : (id : List ℕ) (up : Bool) (link : Link) (a : Answer)
-    → mine id (acknowledgements up link a) ≡ []
-mine_acknowledgements id up link (Delivers p) = mine_acknowledged id (has_place link) (owed up p)
-mine_acknowledgements id up link (Acknowledges packet_id) = refl
-mine_acknowledgements id up link (Grants packet_id) = refl
-mine_acknowledgements id up link (Refuses packet_id) = refl
-mine_acknowledgements id up link Confirms = refl
-mine_acknowledgements id up link Strange = refl
+pub mine_acknowledgements : (limits : Limits) (id : List ℕ) (up : Bool) (link : Link) (a : Answer)
+    → mine id (acknowledgements limits up link a) ≡ []
+mine_acknowledgements limits id up link (Delivers p) = mine_acknowledged id (has_place limits link) (owed up p)
+mine_acknowledgements limits id up link (Acknowledges packet_id) = refl
+mine_acknowledgements limits id up link (Grants packet_id) = refl
+mine_acknowledgements limits id up link (Refuses packet_id) = refl
+mine_acknowledgements limits id up link Confirms = refl
+mine_acknowledgements limits id up link Strange = refl
 
 -- the publishes alone outlive a connection
 pub mine_publishes : (id : List ℕ) (items : List Item) → mine id (publishes items) ≡ mine id items

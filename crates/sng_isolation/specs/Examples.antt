@@ -1,6 +1,8 @@
 -- What the words of the laws say of two clients, each at an address of its own.
 use Rattle.std.specs.Prelude.{ℕ, true, false, codes, List, [], ◌∷◌, Some}
 use Rattle.sng_grants.specs.Sources.{endless}
+use Rattle.sng_grants.specs.Policies.{no_policy}
+use Rattle.sng_grants.specs.Limits.{default_limits}
 use Rattle.sng_grants.specs.declared.grant.Grant.{Grant}
 use Rattle.sng_grants.specs.declared.policy.Policy.{Policy}
 use Rattle.sng_book.specs.declared.address.Address.{Address}
@@ -15,25 +17,7 @@ use Rattle.sng_book.specs.declared.outcome.Outcome.TheVariants.{Allowed, Denied}
 use Rattle.sng_book.specs.declared.out.Out.{Out}
 use Rattle.sng_book.specs.declared.out.Out.TheVariants.{Send, Wire, Note}
 use Rattle.sng_book.specs.declared.row.Row.{Row}
-
-abbrev pub s1 : List ℕ
-s1 = codes "s1"
-
-abbrev pub s2 : List ℕ
-s2 = codes "s2"
-
-abbrev pub home : Address
-home = record { ip = 10 ∷ 0 ∷ 0 ∷ 9 ∷ []; port = 4000 }
-
-abbrev pub away : Address
-away = record { ip = 10 ∷ 0 ∷ 0 ∷ 9 ∷ []; port = 4001 }
-
--- a CONNECT of each, with CleanSession and a Duration of 60 s
-abbrev pub connect_s1 : List ℕ
-connect_s1 = 0x08 ∷ 0x04 ∷ 0x04 ∷ 0x01 ∷ 0x00 ∷ 0x3c ∷ 0x73 ∷ 0x31 ∷ []
-
-abbrev pub connect_s2 : List ℕ
-connect_s2 = 0x08 ∷ 0x04 ∷ 0x04 ∷ 0x01 ∷ 0x00 ∷ 0x3c ∷ 0x73 ∷ 0x32 ∷ []
+pub use Rattle.sng_history.specs.Samples.{s1, s2, home, away, connect_s1, connect_s2}
 
 -- the row of a datagram
 abbrev pub row_of : Address → List ℕ → Row
@@ -53,16 +37,17 @@ lasting = endless (record { filter = codes "a/#"; publishes = false; subscribes 
 abbrev pub ending : Grant
 ending = record { scope = []; until = Some 5000 }
 
--- a policy lists both, and a source, and what of it is the first client's
+-- a policy lists both, and a source, and sets a limit, and what of it is the first client's
 abbrev pub lists_both : Policy
 lists_both = record {
   clients = (s1, ending) ∷ (s2, lasting) ∷ [];
   sources = (home.ip, lasting) ∷ [];
   topics = (1, codes "t/1") ∷ [];
+  limits = record default_limits { clients = 2 };
 }
 
 abbrev pub lists_first : Policy
-lists_first = record { clients = (s1, ending) ∷ []; sources = []; topics = (1, codes "t/1") ∷ [] }
+lists_first = record no_policy { clients = (s1, ending) ∷ []; topics = (1, codes "t/1") ∷ [] }
 
 -- the first client's CONNECT under either policy, and beside one another CONNECT, to which the gateway answers
 abbrev pub first_alone : List Row

@@ -40,9 +40,7 @@ use Rattle.sng_book.specs.declared.out.Out.{Out}
 use Rattle.sng_book.specs.declared.out.Out.TheVariants.{Send, Note}
 use Rattle.sng_book.specs.declared.row.Row.{Row}
 use Rattle.sng_history.specs.Clients.{same_address}
-use Rattle.sng_history.specs.declared.limits.TheConstants.{MAX_CLIENTS}
-use Rattle.sng_outbox.specs.declared.limits.TheConstants.{MAX_OUTBOX_ITEMS}
-use Rattle.sng_laws.specs.Views.{last_policy, is_up}
+use Rattle.sng_laws.specs.Views.{last_policy, last_limits, is_up}
 use Rattle.sng_laws.specs.ViewsClients.{is_awaiting, is_asleep, phase_of, address_of, accepted, is_among}
 use Rattle.sng_laws.specs.ViewsClients.{those_at}
 pub use Rattle.sng_laws.specs.ViewsClients.{is_active}
@@ -67,14 +65,14 @@ pub record Broken (row : Row) (from : Address) (broke : FrameFault) : Type 0 whe
 
 -- ---- CONNECT (MQTT-SN 1.2, 5.4.4 and 6.2)
 
--- what forbids a CONNECT, in order: another ProtocolId than 1, no scope, and no place for a client that was
--- never accepted
+-- what forbids a CONNECT, in order: another ProtocolId than 1, no scope, and for a client that was never accepted
+-- as many accepted ones as the policy in force allows
 abbrev pub connect_rules : List Row → Connect → List Rule
 connect_rules h c =
     (not (c.protocol_id == 1), Form NotSupported)
     ∷ (not (lists (last_policy h) c.client_id), Grant (NoScope c.client_id))
     ∷ (
-      not (is_among c.client_id (accepted h)) && not (nat_lt (length (accepted h)) MAX_CLIENTS),
+      not (is_among c.client_id (accepted h)) && not (nat_lt (length (accepted h)) (last_limits h).clients),
       Room (Full place.Clients),
     )
     ∷ []
@@ -174,7 +172,7 @@ source_rules h from p =
     ∷ (is_nameless policy type p.topic_id, Form (UnknownId kind.Predefined p.topic_id))
     ∷ (not (may_publish (scope_of policy.sources from.ip) name), Grant (MissingPub name))
     ∷ (not (is_up h), Room UpstreamDown)
-    ∷ (not (nat_lt (length (waiting h)) MAX_OUTBOX_ITEMS), Room (Full place.Outbox))
+    ∷ (not (nat_lt (length (waiting h)) (last_limits h).waiting), Room (Full place.Outbox))
     ∷ []
 
 -- the publish is noted, with the name where a listed device names one, and is not answered

@@ -21,7 +21,7 @@ use Rattle.sng_frames.specs.declared.return_code.ReturnCode.{ReturnCode}
 use Rattle.sng_frames.specs.declared.return_code.TheConstants.ReturnCode.{ACCEPTED}
 use Rattle.sng_frames.specs.declared.frame.SnFrame.TheVariants as frame
 use Rattle.sng_outbox.specs.Sending.{is_at_least_once}
-use Rattle.sng_outbox.specs.declared.limits.TheConstants.{MAX_IN_FLIGHT, MAX_OUTBOX_ITEMS}
+use Rattle.sng_grants.specs.Limits.{flight_limit}
 use Rattle.sng_book.specs.declared.address.Address.{Address}
 use Rattle.sng_book.specs.declared.decision.Decision.TheVariants as note
 use Rattle.sng_book.specs.declared.decision.Who.TheVariants as who
@@ -39,7 +39,7 @@ use Rattle.sng_book.specs.declared.out.Out.TheVariants.{Send, Note}
 use Rattle.sng_book.specs.declared.row.Row.{Row}
 use Rattle.sng_ids.specs.declared.limits.TheConstants.{MAX_TOPIC_IDS}
 use Rattle.sng_states.specs.declared.limits.TheConstants.{MAX_OPEN_IDS}
-use Rattle.sng_laws.specs.Views.{last_policy, is_up}
+use Rattle.sng_laws.specs.Views.{last_policy, last_limits, is_up}
 use Rattle.sng_laws.specs.LawsHanding.{arrivals, out_of_turn}
 use Rattle.sng_laws.specs.ViewsMessages.{is_without_session, is_exactly_once}
 use Rattle.sng_laws.specs.ViewsOpenIds.{is_open, open_of}
@@ -47,7 +47,7 @@ use Rattle.sng_laws.specs.ViewsHanding.{meant_for}
 use Rattle.sng_laws.specs.ViewsClients.{phase_of, address_of, accepted, is_among, names_told, id_told}
 use Rattle.sng_laws.specs.ViewsLink.{waiting, publications}
 use Rattle.sng_laws.specs.ViewsFlight.{in_flight}
-use Rattle.sng_laws.specs.ViewsStanding.{is_refusal, filter_with, wanted}
+use Rattle.sng_laws.specs.ViewsWanted.{is_refusal, filter_with, wanted}
 use Rattle.sng_laws.specs.LawsRules.{Rule, judged, may_publish}
 use Rattle.sng_laws.specs.LawsEnds.{refused_answer}
 use Rattle.sng_laws.specs.LawsAnswers.{bye, code_for, is_active, is_bad_short, is_nameless, name_read}
@@ -154,10 +154,10 @@ session_rules h id p =
       Room (Full place.Exchanges),
     )
     ∷ (
-      is_acknowledged p.flags.qos && not (nat_lt (unacknowledged h) MAX_IN_FLIGHT),
+      is_acknowledged p.flags.qos && not (nat_lt (unacknowledged h) (flight_limit (last_limits h))),
       Room (Full place.InFlight),
     )
-    ∷ (not (nat_lt (length (waiting h)) MAX_OUTBOX_ITEMS), Room (Full place.Outbox))
+    ∷ (not (nat_lt (length (waiting h)) (last_limits h).waiting), Room (Full place.Outbox))
     ∷ []
 
 -- PUBACK names the TopicId and the MsgId that came
@@ -221,7 +221,7 @@ abbrev pub message_answer : List Row → mqtt.Publish → List Out
 message_answer h p =
     flat_map (λ id. arrivals h id (address_of id h) (meant_for id p h)) (accepted h)
     ++ (if is_name p.name then [] else Note (note.Frame who.Broker (Denied (Form BadName))) ∷ [])
-    ++ (if is_some p.packet_id && (is_up h && not (nat_lt (length (waiting h)) MAX_OUTBOX_ITEMS))
+    ++ (if is_some p.packet_id && (is_up h && not (nat_lt (length (waiting h)) (last_limits h).waiting))
     then Note note.Outbox ∷ [] else [])
 
 -- a SUBACK whose first code refuses ends the filter of the SUBSCRIBE that it answers, for each client for

@@ -14,7 +14,8 @@ use Rattle.sng_book.specs.declared.outcome.Outcome.TheVariants.{Denied}
 use Rattle.sng_book.specs.declared.out.Out.{Out}
 use Rattle.sng_book.specs.declared.out.Out.TheVariants.{Note}
 use Rattle.sng_book.specs.declared.row.Row.{Row}
-use Rattle.sng_outbox.specs.declared.limits.TheConstants.{MAX_OUTBOX_ITEMS}
+use Rattle.sng_grants.specs.Limits.{Limits}
+use Rattle.sng_laws.specs.Views.{last_limits}
 use Rattle.sng_laws.specs.ViewsClients.{accepted}
 use Rattle.sng_laws.specs.ViewsLink.{waiting}
 use Rattle.sng_laws.specs.ViewsStanding.{standing_of}
@@ -52,20 +53,21 @@ last_ends_from h stays earlier (id ∷ ids) =
 abbrev pub last_ends : List Row → Stays → List (List ℕ × List ℕ)
 last_ends h stays = last_ends_from h stays [] (accepted h)
 
--- how many items more may wait for the broker
-abbrev pub places : List Row → ℕ
-places h = MAX_OUTBOX_ITEMS - length (waiting h)
+-- how many items more may wait for the broker, by these limits
+abbrev pub places : Limits → List Row → ℕ
+places limits h = limits.waiting - length (waiting h)
 
 -- those of the last ends of which the broker is not told, for want of place
-abbrev pub untold : List Row → Stays → List (List ℕ × List ℕ)
-untold h stays = drop (places h) (last_ends h stays)
+abbrev pub untold : Limits → List Row → Stays → List (List ℕ × List ℕ)
+untold limits h stays = drop (places limits h) (last_ends h stays)
 
 abbrev pub is_end : List ℕ → List ℕ → List ℕ × List ℕ → Bool
 is_end id text end = bytes_eq id end.0 && bytes_eq text end.1
 
 -- what is noted behind an end of which the broker is not told
-abbrev pub untold_note : List Row → Stays → List ℕ → List ℕ → List Out
-untold_note h stays id text = if list_any (is_end id text) (untold h stays) then Note note.Outbox ∷ [] else []
+abbrev pub untold_note : Limits → List Row → Stays → List ℕ → List ℕ → List Out
+untold_note limits h stays id text =
+    if list_any (is_end id text) (untold limits h stays) then Note note.Outbox ∷ [] else []
 
 -- ---- what a clean CONNECT ends
 
@@ -75,7 +77,7 @@ stays_by c other text = not (c.flags.clean && bytes_eq c.client_id other)
 
 -- it is noted as often as the broker is not told of one
 abbrev pub clean_answer : List Row → Connect → List Out
-clean_answer h c = map (λ end. Note note.Outbox) (untold h (stays_by c))
+clean_answer h c = map (λ end. Note note.Outbox) (untold (last_limits h) h (stays_by c))
 
 -- ---- what the broker ends
 

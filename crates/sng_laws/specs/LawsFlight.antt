@@ -1,7 +1,8 @@
 -- What is in flight to the broker, what is sent again over a new connection, and each packet that goes out,
 -- in the views' words.
-use Rattle.std.specs.Prelude.{ℕ, ◌≡◌, ◌≤◌, Bool, false, true, List, [], ◌∷◌, ◌++◌, map, MatchBool}
-use Rattle.std.specs.Prelude.{if◌then◌else◌, Some}
+use Rattle.std.specs.Prelude.{ℕ, ◌≡◌, ◌≤◌, ◌&&◌, ◌||◌, nat_lt, Bool, false, true, List, [], ◌∷◌, ◌++◌, length, map}
+use Rattle.std.specs.Prelude.{MatchBool, if◌then◌else◌, Some, is_some}
+use Rattle.std.specs.List.{list_any}
 use Rattle.sng_grants.specs.declared.policy.Policy.{Policy}
 use Rattle.mqtt_frames.specs.Packets.{written}
 use Rattle.mqtt_frames.specs.declared.packet.Packet.TheVariants as packet
@@ -17,10 +18,12 @@ use Rattle.sng_book.specs.declared.event.Event.TheVariants.{Up, Take}
 use Rattle.sng_book.specs.declared.out.Out.{Out}
 use Rattle.sng_book.specs.declared.row.Row.{Row}
 use Rattle.sng_history.specs.Links.{Wanted, open_ids}
+use Rattle.sng_history.specs.declared.limits.TheConstants.{MAX_OPEN_SUBSCRIBES}
 use Rattle.sng_laws.specs.Views.{last_policy, is_up}
-use Rattle.sng_laws.specs.ViewsLink.{Departure, listed, waiting, departures, wires_in}
+use Rattle.sng_laws.specs.ViewsLink.{Departure, listed, departures, wires_in}
 use Rattle.sng_laws.specs.ViewsFlight.{agains, allowed_again, in_flight, id_left, last_among, last_id}
-use Rattle.sng_laws.specs.ViewsStanding.{with_open, held_in, wanted}
+use Rattle.sng_laws.specs.ViewsStanding.{held_in, is_for}
+use Rattle.sng_laws.specs.ViewsWanted.{with_open, with_debt, outgoing, wanted}
 use Rattle.sng_laws.specs.LawsRules.{judged, publish_rules}
 
 -- ---- judged again
@@ -93,11 +96,20 @@ abbrev pub given_publishes : Given → List ℕ → Given
 given_publishes given ids =
     record given { in_flight = given.in_flight ++ ids; last = last_among ids given.last }
 
--- once a SUBSCRIBE by the filter got the next one, and once an UNSUBSCRIBE did
+-- one more SUBSCRIBE may be open, or one by the filter is, which the next takes the place of
+abbrev pub may_subscribe : Given → List ℕ → Bool
+may_subscribe given text =
+    nat_lt (length (open_ids given.wanted)) MAX_OPEN_SUBSCRIBES
+    || list_any (λ w. is_for text w && is_some w.open_id) given.wanted
+
+-- once a SUBSCRIBE by the filter had to leave: it got the next one, or is owed where it may not be open
 abbrev pub given_subscribe : Given → List ℕ → Given
 given_subscribe given text =
-    record given { wanted = with_open given.wanted text (next_given given); last = next_given given }
+    if may_subscribe given text
+    then record given { wanted = with_open given.wanted text (next_given given); last = next_given given }
+    else record given { wanted = with_debt given.wanted text }
 
+-- once an UNSUBSCRIBE got the next one
 abbrev pub given_unsubscribe : Given → Given
 given_unsubscribe given = record given { last = next_given given }
 
@@ -121,6 +133,11 @@ abbrev pub unsubscribe_with : ℕ → List ℕ → List ℕ
 unsubscribe_with packet_id text =
     written (packet.Unsubscribe (record { packet_id = packet_id; filters = text ∷ [] }))
 
+-- the SUBSCRIBE of the filter that has to leave, with the next packet id, where it may be open
+abbrev pub subscribe_by : Given → List ℕ → List (List ℕ)
+subscribe_by given text =
+    if may_subscribe given text then subscribe_with (next_given given) text ∷ [] else []
+
 -- a publish that leaves gets the next packet id, or none
 abbrev pub AreNext : Given → List ℕ → Type 0
 AreNext given [] = Unit {0}
@@ -129,8 +146,8 @@ AreNext given (packet_id ∷ another ∷ ids) = ⊥
 
 -- the packets of items that leave, in order: of a publish the one that follows its note, for an
 -- acknowledgement the PUBACK with its packet id (MQTT 3.1.1, 3.4), a PINGREQ (3.12), a SUBSCRIBE where its
--- filter stands for somebody then, and an UNSUBSCRIBE where its filter stands for nobody. A publish at QoS 1,
--- a SUBSCRIBE and an UNSUBSCRIBE have each the next packet id
+-- filter stands for somebody then and it may be open, and an UNSUBSCRIBE where its filter stands for nobody.
+-- A publish at QoS 1, a SUBSCRIBE and an UNSUBSCRIBE have each the next packet id
 abbrev pub PacketsFor : (List ℕ → Bool) → Given → List Item → List Departure → List (List ℕ) → Type 0
 PacketsFor held given [] ds sent = sent ≡ []
 PacketsFor held given (item.Publish p ∷ items) [] sent = PacketsFor held given items [] sent
@@ -143,7 +160,7 @@ PacketsFor held given (item.Acknowledge packet_id ∷ items) ds sent =
     × PacketsFor held given items ds rest)
 PacketsFor held given (item.Subscribe text ∷ items) ds sent =
     (rest : List (List ℕ))
-    × ((sent ≡ (if held text then subscribe_with (next_given given) text ∷ rest else rest))
+    × ((sent ≡ (if held text then subscribe_by given text else []) ++ rest)
     × PacketsFor held (if held text then given_subscribe given text else given) items ds rest)
 PacketsFor held given (item.Unsubscribe text ∷ items) ds sent =
     (rest : List (List ℕ))
@@ -153,18 +170,18 @@ PacketsFor held given (item.Ping ∷ items) ds sent =
     (rest : List (List ℕ)) × ((sent ≡ written packet.PingRequest ∷ rest)
     × PacketsFor held given items ds rest)
 
--- a SUBSCRIBE of each filter, in order, each with the next packet id
+-- the SUBSCRIBEs of these filters, which have to leave in this order
 abbrev pub subscribes_with : Given → List (List ℕ) → List (List ℕ)
 subscribes_with given [] = []
 subscribes_with given (text ∷ texts) =
-    subscribe_with (next_given given) text ∷ subscribes_with (given_subscribe given text) texts
+    subscribe_by given text ++ subscribes_with (given_subscribe given text) texts
 
--- what goes to the broker in a row: at a take while up the packets of all that waits, as a connection begins
--- those of what is judged again and then a SUBSCRIBE of each filter that stands for anybody, and else nothing
+-- what goes to the broker in a row: at a take while up the packets of all that leaves; as a connection begins
+-- those of what is judged again, and then a SUBSCRIBE of each filter that stands for anybody; and else nothing
 abbrev pub PacketsAt : Event → List Row → List Out → Type 0
 PacketsAt Take earlier outs =
     MatchBool (is_up earlier)
-    (PacketsFor (held_in earlier) (given_at (in_flight earlier) earlier) (waiting earlier) (departures outs)
+    (PacketsFor (held_in earlier) (given_at (in_flight earlier) earlier) (outgoing earlier) (departures outs)
     (wires_in outs))
     (wires_in outs ≡ [])
 PacketsAt Up earlier outs =

@@ -19,7 +19,7 @@ use Rattle.sng_book.specs.declared.address.Address.{Address}
 use Rattle.sng_outbox.specs.declared.item.Item.{Item}
 use Rattle.sng_outbox.specs.declared.item.Item.TheVariants as item
 use Rattle.sng_outbox.specs.declared.item.Publication.{Publication}
-use Rattle.sng_outbox.specs.declared.limits.TheConstants.{MAX_IN_FLIGHT, MAX_OUTBOX_ITEMS}
+use Rattle.sng_grants.specs.Limits.{flight_limit}
 use Rattle.sng_book.specs.declared.decision.Decision.{Decision}
 use Rattle.sng_book.specs.declared.decision.Decision.TheVariants as note
 use Rattle.sng_book.specs.declared.decision.Who.TheVariants as who
@@ -34,7 +34,7 @@ use Rattle.sng_book.specs.declared.out.Out.{Out}
 use Rattle.sng_book.specs.declared.out.Out.TheVariants.{Send, Wire, Note}
 use Rattle.sng_book.specs.declared.row.Row.{Row}
 use Rattle.sng_history.specs.declared.limits.TheConstants.{RETRY_MS}
-use Rattle.sng_laws.specs.Views.{ticks, greatest}
+use Rattle.sng_laws.specs.Views.{last_limits, ticks, greatest}
 use Rattle.sng_laws.specs.ViewsClients.{phase_of, address_of, duration_of, heard_of, accepted, id_told}
 use Rattle.sng_laws.specs.ViewsHanding.{Opening, Announced, HandedOver, is_at_least_once, is_taking}
 use Rattle.sng_laws.specs.ViewsHanding.{is_idle, progress_of, waits_for}
@@ -128,16 +128,16 @@ again_answer h clock id = if is_unanswered h clock id then again_at h id (addres
 
 -- ---- its will
 
--- what denies it a place where these items wait: at QoS 1, `MAX_IN_FLIGHT` publishes of QoS 1 that wait or
--- are in flight, and `MAX_OUTBOX_ITEMS` items that wait
+-- what denies it a place where these items wait: at QoS 1, as many publishes of QoS 1 that wait or are in flight
+-- as the policy in force allows, and as many items that wait
 abbrev pub place_rules : List Row → List Item → Publication → List Rule
 place_rules h items p = (
   is_at_least_once p.qos
       && not (nat_lt (length (filter (λ one. is_at_least_once one.qos) (publications items))
-      + length (in_flight h)) MAX_IN_FLIGHT),
+      + length (in_flight h)) (flight_limit (last_limits h))),
   Room (Full place.InFlight),
 )
-    ∷ (not (nat_lt (length items) MAX_OUTBOX_ITEMS), Room (Full place.Outbox))
+    ∷ (not (nat_lt (length items) (last_limits h).waiting), Room (Full place.Outbox))
     ∷ []
 
 -- it waits, or it is noted that it found no place
@@ -162,7 +162,7 @@ will_refused h items id (p ∷ ps) = refused_by id p (judged (place_rules h item
 -- the PINGREQ that is due and finds no place is noted last
 abbrev pub ping_noted : List Row → ℕ → List Item → List Out
 ping_noted h clock items =
-    if is_ping_due (Tick clock) h (pinged h) && not (nat_lt (length items) MAX_OUTBOX_ITEMS)
+    if is_ping_due (Tick clock) h (pinged h) && not (nat_lt (length items) (last_limits h).waiting)
     then Note note.Outbox ∷ [] else []
 
 -- in the order of first acceptance, each client that is lost: so, what waited for it is gone, and where its

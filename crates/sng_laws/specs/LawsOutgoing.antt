@@ -20,12 +20,12 @@ use Rattle.sng_book.specs.declared.out.Out.{Out}
 use Rattle.sng_book.specs.declared.out.Out.TheVariants.{Wire, Note}
 use Rattle.sng_book.specs.declared.row.Row.{Row}
 use Rattle.sng_laws.specs.Views.{last_policy, is_up}
-use Rattle.sng_laws.specs.ViewsLink.{waiting}
 use Rattle.sng_laws.specs.ViewsFlight.{in_flight}
-use Rattle.sng_laws.specs.ViewsStanding.{held_in, wanted}
+use Rattle.sng_laws.specs.ViewsStanding.{held_in}
+use Rattle.sng_laws.specs.ViewsWanted.{outgoing, wanted}
 use Rattle.sng_laws.specs.LawsRules.{judged, publish_rules}
 use Rattle.sng_laws.specs.LawsFlight.{Given, given_at, next_given, given_publishes, given_subscribe}
-use Rattle.sng_laws.specs.LawsFlight.{given_unsubscribe, subscribe_with, unsubscribe_with, subscribes_with}
+use Rattle.sng_laws.specs.LawsFlight.{given_unsubscribe, unsubscribe_with, subscribe_by, subscribes_with}
 
 -- the packet of a publish: its own name, payload and Retain, without DUP, under this packet id
 abbrev pub publish_with : Option ℕ → Publication → List ℕ
@@ -62,7 +62,7 @@ given_leaving given p (Denied rule) = given
 
 -- what each item lets out, in order, where the policy judges and these filters stand for somebody: a publish
 -- its note with its packet, an acknowledgement PUBACK, and a PINGREQ itself; a SUBSCRIBE goes out where its
--- filter stands, and an UNSUBSCRIBE where it does not
+-- filter stands and it may be open, and an UNSUBSCRIBE where its filter does not stand
 abbrev pub taken_outs : Policy → (List ℕ → Bool) → Given → List Item → List Out
 taken_outs policy held given [] = []
 taken_outs policy held given (item.Publish p ∷ items) =
@@ -70,8 +70,8 @@ taken_outs policy held given (item.Publish p ∷ items) =
     ++ taken_outs policy held (given_leaving given p (publish_judged policy p)) items
 taken_outs policy held given (item.Subscribe text ∷ items) =
     if held text
-    then Wire (subscribe_with (next_given given) text)
-    ∷ taken_outs policy held (given_subscribe given text) items
+    then map (λ octets. Wire octets) (subscribe_by given text)
+    ++ taken_outs policy held (given_subscribe given text) items
     else taken_outs policy held given items
 taken_outs policy held given (item.Unsubscribe text ∷ items) =
     if held text
@@ -83,12 +83,10 @@ taken_outs policy held given (item.Acknowledge packet_id ∷ items) =
 taken_outs policy held given (item.Ping ∷ items) =
     Wire (written packet.PingRequest) ∷ taken_outs policy held given items
 
--- all that a take lets out: while down nothing
+-- all that a take lets out, while down nothing
 abbrev pub take_answer : List Row → List Out
 take_answer h =
-    if is_up h
-    then taken_outs (last_policy h) (held_in h) (given_at (in_flight h) h) (waiting h)
-    else []
+    if is_up h then taken_outs (last_policy h) (held_in h) (given_at (in_flight h) h) (outgoing h) else []
 
 -- ---- as a connection begins
 

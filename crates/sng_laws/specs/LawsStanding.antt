@@ -23,7 +23,8 @@ use Rattle.sng_history.specs.Links.{Wanted}
 use Rattle.sng_laws.specs.Views.{policy_in_force}
 use Rattle.sng_laws.specs.ViewsMessages.{message_at, subscribe_in}
 use Rattle.sng_laws.specs.ViewsClients.{is_at, speaks_of}
-use Rattle.sng_laws.specs.ViewsStanding.{standing_of, is_for, wanted}
+use Rattle.sng_laws.specs.ViewsStanding.{standing_of, is_for}
+use Rattle.sng_laws.specs.ViewsWanted.{wanted}
 use Rattle.sng_laws.specs.LawsAnswers.{Brought}
 
 -- ---- what the policy says

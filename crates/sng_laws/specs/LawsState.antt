@@ -14,7 +14,8 @@ use Rattle.sng_laws.specs.ViewsSendings.{Last, last_of}
 use Rattle.sng_laws.specs.ViewsFlight.{in_flight, last_id}
 use Rattle.sng_laws.specs.ViewsLink.{pinged}
 use Rattle.sng_laws.specs.ViewsWills.{stating_of, will_of, stage_shown}
-use Rattle.sng_laws.specs.ViewsStanding.{standing_of, wanted}
+use Rattle.sng_laws.specs.ViewsStanding.{standing_of}
+use Rattle.sng_laws.specs.ViewsWanted.{wanted}
 use Rattle.sng_laws.specs.ViewsOpenIds.{is_open, open_of}
 
 -- the exchange is what the rows show to be open: the announcement of a name, or a message that was handed

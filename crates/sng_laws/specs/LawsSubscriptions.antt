@@ -40,8 +40,7 @@ use Rattle.sng_book.specs.declared.out.Out.{Out}
 use Rattle.sng_book.specs.declared.out.Out.TheVariants.{Send, Note}
 use Rattle.sng_book.specs.declared.row.Row.{Row}
 use Rattle.sng_ids.specs.declared.limits.TheConstants.{MAX_TOPIC_IDS}
-use Rattle.sng_outbox.specs.declared.limits.TheConstants.{MAX_OUTBOX_ITEMS}
-use Rattle.sng_laws.specs.Views.{last_policy, is_up}
+use Rattle.sng_laws.specs.Views.{last_policy, last_limits, is_up}
 use Rattle.sng_laws.specs.ViewsClients.{phase_of, is_at, accepted, is_among, tells_id, names_told, id_told}
 use Rattle.sng_laws.specs.ViewsLink.{waiting}
 use Rattle.sng_laws.specs.ViewsFlight.{number_in}
@@ -110,7 +109,7 @@ gap_rule policy id text =
 
 -- what forbids a subscription that is covered, in order: a connection that is down, a name without an id
 -- where `MAX_TOPIC_IDS` were told, a filter that does not stand for the client where `MAX_SUBSCRIPTIONS` do,
--- and `MAX_OUTBOX_ITEMS` items that wait
+-- and as many items that wait as the policy in force allows
 abbrev pub room_rules : List Row → List ℕ → TopicIdType → List ℕ → List Rule
 room_rules h id type text =
     let told = names_told id h in
@@ -124,7 +123,7 @@ room_rules h id type text =
       not (stands held text) && not (nat_lt (length held) MAX_SUBSCRIPTIONS),
       Room (Full place.Subscriptions),
     )
-    ∷ (not (nat_lt (length (waiting h)) MAX_OUTBOX_ITEMS), Room (Full place.Outbox))
+    ∷ (not (nat_lt (length (waiting h)) (last_limits h).waiting), Room (Full place.Outbox))
     ∷ []
 
 -- what forbids a SUBSCRIBE of a client, in order
@@ -191,7 +190,7 @@ stays_without h from text other one =
     not (is_at other from h && (is_active (phase_of other h) && bytes_eq text one))
 
 abbrev pub unsubscribed_note : List Row → Address → List ℕ → Option (List ℕ) → Outcome → List Out
-unsubscribed_note h from id (Some text) Allowed = untold_note h (stays_without h from text) id text
+unsubscribed_note h from id (Some text) Allowed = untold_note (last_limits h) h (stays_without h from text) id text
 unsubscribed_note h from id (Some text) (Denied rule) = []
 unsubscribed_note h from id None outcome = []
 
@@ -253,7 +252,7 @@ stays_under policy id text = is_allowed (judged (cover_rules policy id text))
 abbrev pub end_by : List Row → Policy → List ℕ → List ℕ → Outcome → List Out
 end_by h policy id text Allowed = []
 end_by h policy id text (Denied rule) =
-    Note (note.End id text (Denied rule)) ∷ untold_note h (stays_under policy) id text
+    Note (note.End id text (Denied rule)) ∷ untold_note policy.limits h (stays_under policy) id text
 
 -- of each client, in order, each filter that the policy does not allow ends, in the order in which each stood
 -- first

@@ -7,6 +7,7 @@ pub mod ViewsOpenIds
 pub mod ViewsHanding
 pub mod ViewsSendings
 pub mod ViewsLink
+pub mod ViewsWanted
 pub mod ViewsFlight
 pub mod LawsState
 pub mod LawsRules

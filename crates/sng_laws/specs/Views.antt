@@ -2,6 +2,8 @@
 -- broker's connection. A history is the list of its rows, the newest first.
 use Rattle.std.specs.Prelude.{ℕ, nat_le, Bool, true, false, List, [], ◌∷◌, ◌++◌, if◌then◌else◌}
 use Rattle.sng_grants.specs.Ends.{in_force}
+use Rattle.sng_grants.specs.Limits.{Limits}
+use Rattle.sng_grants.specs.Policies.{no_policy}
 use Rattle.sng_grants.specs.declared.policy.Policy.{Policy}
 use Rattle.sng_book.specs.declared.event.Event.{Event}
 use Rattle.sng_book.specs.declared.event.Event.TheVariants.{Up, Down, Replace, Tick}
@@ -9,14 +11,22 @@ use Rattle.sng_book.specs.declared.out.Out.{Out}
 use Rattle.sng_book.specs.declared.out.Out.TheVariants.{Send, Wire, Note}
 use Rattle.sng_book.specs.declared.row.Row.{Row}
 
--- the policy of the last replacement; before any, nothing is granted
+-- the policy of the last replacement; before any, nothing is granted and no limit is set
 abbrev pub policy_after : Event → Policy → Policy
 policy_after (Replace policy) before = policy
 policy_after other before = before
 
 abbrev pub last_policy : List Row → Policy
-last_policy [] = record { clients = []; sources = []; topics = [] }
+last_policy [] = no_policy
 last_policy (row ∷ earlier) = policy_after row.event (last_policy earlier)
+
+-- the limits that it sets
+abbrev pub last_limits : List Row → Limits
+last_limits h = (last_policy h).limits
+
+-- the limits in force at a row with this event: a replacement puts its own in force
+abbrev pub limits_at : Event → List Row → Limits
+limits_at e earlier = (policy_after e (last_policy earlier)).limits
 
 -- the clocks that were told, the newest first
 abbrev pub ticks_of : Event → List ℕ

@@ -2,6 +2,7 @@
 use Rattle.std.specs.Prelude.{ℕ, ◌-◌, nat_le, Bool, true, false, ◌&&◌, ◌||◌, not, List, [], ◌∷◌, ◌++◌, map}
 use Rattle.std.specs.Prelude.{filter, take, length, if◌then◌else◌, Option, Some, None}
 use Rattle.std.specs.List.{list_any}
+use Rattle.std.specs.Str.{bytes_eq}
 use Rattle.sng_text.specs.declared.qos.Qos.{Qos}
 use Rattle.sng_text.specs.declared.qos.Qos.TheVariants.{AtMostOnce, AtLeastOnce}
 use Rattle.mqtt_frames.specs.declared.packet.Packet.{Packet}
@@ -19,7 +20,6 @@ use Rattle.sng_outbox.specs.declared.item.Item.TheVariants as item
 use Rattle.sng_outbox.specs.declared.item.Publication.{Publication}
 use Rattle.sng_outbox.specs.declared.origin.Origin.{Origin}
 use Rattle.sng_outbox.specs.declared.origin.Origin.TheVariants as origin
-use Rattle.sng_outbox.specs.declared.limits.TheConstants.{MAX_OUTBOX_ITEMS}
 use Rattle.sng_book.specs.Denials.{is_allowed}
 use Rattle.sng_book.specs.declared.address.Address.{Address}
 use Rattle.sng_book.specs.declared.decision.Decision.{Decision}
@@ -34,7 +34,7 @@ use Rattle.sng_book.specs.declared.out.Out.{Out}
 use Rattle.sng_book.specs.declared.out.Out.TheVariants.{Send, Wire, Note}
 use Rattle.sng_book.specs.declared.row.Row.{Row}
 use Rattle.sng_history.specs.declared.limits.TheConstants.{PING_MS}
-use Rattle.sng_laws.specs.Views.{is_up, ticks, greatest, clock_at}
+use Rattle.sng_laws.specs.Views.{limits_at, is_up, ticks, greatest, clock_at}
 pub use Rattle.sng_laws.specs.Views.{wires_in}
 use Rattle.sng_laws.specs.ViewsMessages.{Message, Connects, Publishes}
 use Rattle.sng_laws.specs.ViewsMessages.{message_in}
@@ -266,12 +266,12 @@ told_with e earlier outs places =
     if is_told e then take places (released_among e earlier outs [] (accepted earlier)) else []
 
 -- what a row adds to what waits: what is asked for and allowed, an UNSUBSCRIBE of each filter that stands for
--- nobody any more while there is place, the acknowledgement that is owed, the wills of clients that are lost,
--- and the PINGREQ that is due
+-- nobody any more while there is place by the policy in force, the acknowledgement that is owed, the wills of
+-- clients that are lost, and the PINGREQ that is due
 abbrev pub added : Event → List Row → List Item → List Out → List Item
 added e earlier items outs =
     items_for (message_at e) outs
-    ++ (map item.Unsubscribe (told_with e earlier outs (MAX_OUTBOX_ITEMS - length items))
+    ++ (map item.Unsubscribe (told_with e earlier outs ((limits_at e earlier).waiting - length items))
     ++ (map item.Acknowledge (owed_with e earlier outs)
     ++ (map item.Publish (testaments_with e earlier outs) ++ pings_with e earlier outs)))
 
@@ -289,6 +289,15 @@ publications (item.Subscribe filter ∷ items) = publications items
 publications (item.Unsubscribe filter ∷ items) = publications items
 publications (item.Acknowledge packet_id ∷ items) = publications items
 publications (item.Ping ∷ items) = publications items
+
+-- a SUBSCRIBE of the filter is among these items
+abbrev pub subscribe_waits : List Item → List ℕ → Bool
+subscribe_waits [] text = false
+subscribe_waits (item.Subscribe filter ∷ items) text = bytes_eq text filter || subscribe_waits items text
+subscribe_waits (item.Publish p ∷ items) text = subscribe_waits items text
+subscribe_waits (item.Unsubscribe filter ∷ items) text = subscribe_waits items text
+subscribe_waits (item.Acknowledge packet_id ∷ items) text = subscribe_waits items text
+subscribe_waits (item.Ping ∷ items) text = subscribe_waits items text
 
 -- ---- what left
 

@@ -18,7 +18,7 @@ neither true b none = absurd (cc)
 neither false b none = (refl, none)
 
 -- two numbers differ whichever stands first
-differs_back : (a b : ℕ) → (a == b) ≡ false → (b == a) ≡ false
+pub differs_back : (a b : ℕ) → (a == b) ≡ false → (b == a) ≡ false
 differs_back a b unlike = ne_eqb b a (λ same. eqb-false a b unlike (sym same))
 
 same_use : (a b : List ℕ) (marks : List Bool) → AreInUse a marks → ((id : ℕ) → is_used a id ≡ is_used b id)
@@ -223,13 +223,14 @@ AmongThem ids None = Unit {0}
 AmongThem ids (Some former) = is_used ids former ≡ true
 
 -- a step that is taken back leaves the marks as they were
-pub back_forth : (ids : List ℕ) (marks : List Bool) (next : ℕ) (former : Option ℕ) → next ≤ 65535
-    → AreInUse ids marks → is_used ids next ≡ false → AmongThem ids former
-    → back_marks (forth_marks marks (record { packet_id = Some next; former = former }))
-    (record { packet_id = Some next; former = former }) ≡ marks
-back_forth ids marks next None small used free there =
+pub back_forth : (ids : List ℕ) (marks : List Bool) (next : ℕ) (former : Option ℕ) (owed : Bool)
+    → next ≤ 65535 → AreInUse ids marks → is_used ids next ≡ false → AmongThem ids former
+    → back_marks
+    (forth_marks marks (record { packet_id = Some next; former = former; owed = owed; owes = None }))
+    (record { packet_id = Some next; former = former; owed = owed; owes = None }) ≡ marks
+back_forth ids marks next None owed small used free there =
     ap (λ (n : Numbering). n.marks) (undone ids (record { marks = marks; last = 0 }) next true used free)
-back_forth ids marks next (Some former) small used free there =
+back_forth ids marks next (Some former) owed small used free there =
     let more = follow ids (record { marks = marks; last = 0 }) next small used in
     let still : is_used (next ∷ ids) former ≡ true =
     ap (λ b. is_id former next || b) there ∙ or_true (is_id former next) in

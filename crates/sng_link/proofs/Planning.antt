@@ -2,15 +2,15 @@
 use Rattle.std.proofs.Common.{◌≡◌, ℕ, ◌+◌, ◌≤◌, Bool, true, false, List, [], ◌∷◌, ◌++◌, length, set, cond}
 use Rattle.std.proofs.Common.{if◌then◌else◌, refl, sym, ◌∙◌, ap, subst, arith}
 use Rattle.std.specs.Prelude.{Option, Some, None, reverse}
-use Rattle.std.specs.List.{count_by, list_any}
+use Rattle.std.specs.List.{count_by, list_any, filter}
 use Rattle.std.proofs.lemmas.List.{append_assoc, map-append, length-map, length-append, reverse-append}
 use Rattle.std.proofs.lemmas.List.{set-get_or}
 use Rattle.sng_text.specs.declared.qos.Qos.{Qos}
 use Rattle.sng_text.specs.declared.qos.Qos.TheVariants.{AtMostOnce, AtLeastOnce}
 use Rattle.sng_grants.specs.declared.policy.Policy.{Policy}
 use Rattle.sng_outbox.specs.PacketIds.{Numbering, is_used, is_marked, next_id}
-use Rattle.sng_outbox.specs.Sending.{Sending, asks_for_ack, is_at_least_once, load}
-use Rattle.sng_outbox.specs.declared.limits.TheConstants.{MAX_IN_FLIGHT}
+use Rattle.sng_outbox.specs.Sending.{asks_for_ack, is_at_least_once}
+use Rattle.sng_grants.specs.declared.limits.TheConstants.{MAX_FLIGHT}
 use Rattle.sng_outbox.specs.declared.in_flight.InFlight.{InFlight}
 use Rattle.sng_outbox.specs.declared.item.Item.{Item}
 use Rattle.sng_outbox.specs.declared.item.Item.TheVariants as item
@@ -20,23 +20,25 @@ use Rattle.sng_outbox.proofs.LoadLemmas.{counted-front}
 use Rattle.sng_book.specs.declared.outcome.Outcome.{Outcome}
 use Rattle.sng_book.specs.declared.outcome.Outcome.TheVariants.{Allowed, Denied}
 use Rattle.sng_book.specs.declared.out.Out.{Out}
-use Rattle.sng_history.specs.Good.{WantedOnce}
-use Rattle.sng_history.specs.Links.{Link, Wanted, wants, opened, open_ids, next_packet_id, packet_id_by}
-use Rattle.sng_history.specs.Links.{sent_by, exited, subscribe_sent, unsubscribe_sent, is_open, link_after}
+use Rattle.sng_history.specs.Links.{Link, Wanted, wants, may_open, opened, owing, open_ids, next_packet_id}
+use Rattle.sng_history.specs.Links.{packet_id_by, sent_by, exited, subscribe_sent}
+use Rattle.sng_history.specs.Links.{unsubscribe_sent, is_open, link_after}
+use Rattle.sng_history.specs.declared.limits.TheConstants.{MAX_OPEN_SUBSCRIBES}
 use Rattle.sng_history.specs.Exits.{exits_of, forwarded, leaving}
 use Rattle.sng_history.specs.Verdicts.{exit}
-use Rattle.sng_wanted.specs.declared.limits.TheConstants.{MAX_WANTED}
-use Rattle.sng_wanted.proofs.Ceilings.{ids_suffice}
-use Rattle.sng_wanted.specs.Filters.{id_for, IsFree}
-use Rattle.sng_link.specs.Flights.{link_of, ids_of, ids_in_use, AreMarked}
+use Rattle.sng_history.proofs.FewOpen.{sent_open}
+use Rattle.sng_wanted.specs.Filters.{id_for, owed_for, WantedRoom}
+use Rattle.sng_link.specs.Flights.{ids_of, ids_in_use, AreMarked}
 use Rattle.sng_link.specs.Steps.{forth_marks, back_marks, back_wanted, undone_marks, undone_wanted, IsBack}
 use Rattle.sng_link.specs.Steps.{CanUndo, Logged}
-use Rattle.sng_link.specs.Taking.{IsNext, id_at, flight_id, no_step, step_under, item_outs, item_step}
-use Rattle.sng_link.specs.Taking.{numbered, wanted_after, item_left, plan_of, IsStep, Stands, Planned}
+use Rattle.sng_link.specs.Taking.{IsNext, id_at, flight_id, no_step, step_under, open_step, owe_step}
+use Rattle.sng_link.specs.Taking.{subscribe_step, item_outs, item_step, numbered}
+use Rattle.sng_link.specs.Taking.{wanted_after, item_left, plan_of, NextIsFree, LeftBy, Stands, Planned}
 use Rattle.sng_link.specs.declared.step.Step.{Step}
 use Rattle.sng_link.proofs.Marks.{one_between, back_forth, unused_both, used_right, AmongThem}
-use Rattle.sng_link.proofs.Wanting.{back_same, back_opened, opened_marked, opened_once, opened_length}
-use Rattle.sng_link.proofs.Wanting.{free_former, fresh_open, few_open, id_among}
+use Rattle.sng_link.proofs.Wanting.{back_same, back_opened, back_owing, opened_marked, opened_once}
+use Rattle.sng_link.proofs.Wanting.{opened_closed, owing_closed, owing_ids, owing_once, owing_same}
+use Rattle.sng_link.proofs.Wanting.{free_former, fresh_open, id_among}
 
 -- one step more, which can be taken back
 pub logged_more : (from : List Bool) (first : List Wanted) (log : List Step) (marks now : List Bool)
@@ -58,17 +60,16 @@ logged_more from first log marks now wanted later step before back marks_are wan
     }
 
 -- so few ids are in use that one is free
-few_ids : (m : Link) → length m.in_flight ≤ MAX_IN_FLIGHT → length m.wanted ≤ MAX_WANTED
+few_ids : (m : Link) → length m.in_flight ≤ MAX_FLIGHT → length (open_ids m.wanted) ≤ MAX_OPEN_SUBSCRIBES
     → length (ids_in_use m.in_flight m.wanted) ≤ 65534
 few_ids m few most =
     let counted = length-map m.in_flight (λ (sent : InFlight). sent.packet_id) in
     let longer = length-append (ids_of m.in_flight) (open_ids m.wanted) in
-    let fewer = few_open m.wanted in
-    omega (arith, counted, longer, fewer, few, most, ids_suffice)
+    omega (arith, counted, longer, few, most)
 
 pub next_is : (m : Link) (n : Numbering) (next : ℕ) → IsNext n next
     → AreMarked (ids_in_use m.in_flight m.wanted) n.marks → n.last ≡ m.last
-    → length m.in_flight ≤ MAX_IN_FLIGHT → length m.wanted ≤ MAX_WANTED
+    → length m.in_flight ≤ MAX_FLIGHT → length (open_ids m.wanted) ≤ MAX_OPEN_SUBSCRIBES
     → next ≡ next_packet_id m
 next_is m n next follows marked last few most =
     follows (ids_in_use m.in_flight m.wanted) (few_ids m few most) marked.marked
@@ -76,7 +77,7 @@ next_is m n next follows marked last few most =
 
 pub next_fresh : (m : Link) (n : Numbering) (next : ℕ) → IsNext n next
     → AreMarked (ids_in_use m.in_flight m.wanted) n.marks → n.last ≤ 65535
-    → length m.in_flight ≤ MAX_IN_FLIGHT → length m.wanted ≤ MAX_WANTED
+    → length m.in_flight ≤ MAX_FLIGHT → length (open_ids m.wanted) ≤ MAX_OPEN_SUBSCRIBES
     → is_used (ids_in_use m.in_flight m.wanted) next ≡ false
 next_fresh m n next follows marked small few most =
     let free = next_free (ids_in_use m.in_flight m.wanted) n.last (few_ids m few most) small in
@@ -86,12 +87,12 @@ module _ (from : List Bool) (start : List Wanted) (m : Link) (others : List Item
     (n : Numbering) where
   -- where fewer publishes are left
   room_left : (first : Item) → Stands from start (first ∷ others) log n m.wanted m
-      → count_by asks_for_ack others + length m.in_flight ≤ MAX_IN_FLIGHT
+      → count_by asks_for_ack others + length m.in_flight ≤ MAX_FLIGHT
   room_left first stands =
       let fewer = counted-front first others in let room = stands.room in omega (arith, fewer, room)
 
   in_flight_few : (first : Item) → Stands from start (first ∷ others) log n m.wanted m
-      → length m.in_flight ≤ MAX_IN_FLIGHT
+      → length m.in_flight ≤ MAX_FLIGHT
   in_flight_few first stands = let room = stands.room in omega (arith, room)
 
   -- nothing is taken into use
@@ -100,6 +101,7 @@ module _ (from : List Bool) (start : List Wanted) (m : Link) (others : List Item
   stands_still first stands = record {
     wanted_is = refl;
     once = stands.once;
+    closed = stands.closed;
     few = stands.few;
     last = stands.last;
     small = stands.small;
@@ -131,6 +133,7 @@ module _ (from : List Bool) (start : List Wanted) (m : Link) (others : List Item
       record {
         wanted_is = refl;
         once = stands.once;
+        closed = stands.closed;
         few = stands.few;
         last = same;
         small = small;
@@ -141,49 +144,41 @@ module _ (from : List Bool) (start : List Wanted) (m : Link) (others : List Item
         logged =
             logged_more from start log n.marks (set n.marks next true) m.wanted m.wanted
             (step_under (Some next)) stands.logged tt
-            (back_forth (ids_in_use m.in_flight m.wanted) n.marks next None small stands.marked.marked free
-            tt)
+            (back_forth (ids_in_use m.in_flight m.wanted) n.marks next None false small stands.marked.marked
+            free tt)
             (back_same m.wanted next (unused_both (ids_of m.in_flight) (open_ids m.wanted) next free).1);
       }
 
   -- a SUBSCRIBE is open
-  pub stands_opened : (filter : List ℕ) (next : ℕ) → wants m.wanted filter ≡ true → IsNext n next
+  stands_opened : (filter : List ℕ) (next : ℕ) → wants m.wanted filter ≡ true
+      → may_open m.wanted filter ≡ true → IsNext n next
       → next ≤ 65535 → Stands from start (item.Subscribe filter ∷ others) log n m.wanted m
-      → Stands from start others (log ++ record { packet_id = Some next; former = id_for m.wanted filter }
-      ∷ [])
-      (record {
-        marks = forth_marks n.marks (record {
-          packet_id = Some next;
-          former = id_for m.wanted filter;
-        });
-        last = next;
-      }) (opened m.wanted filter next) (subscribe_sent m filter)
-  stands_opened filter next wanted follows small stands =
+      → Stands from start others (log ++ open_step m.wanted next filter ∷ [])
+      (record { marks = forth_marks n.marks (open_step m.wanted next filter); last = next })
+      (opened m.wanted filter next)
+      (record m { last = next_packet_id m; wanted = opened m.wanted filter (next_packet_id m) })
+  stands_opened filter next wanted may follows small stands =
       let few = in_flight_few (item.Subscribe filter) stands in
       let same = next_is m n next follows stands.marked stands.last few stands.few in
       let free = next_fresh m n next follows stands.marked stands.small few stands.few in
       let unopened = (unused_both (ids_of m.in_flight) (open_ids m.wanted) next free).1 in
-      let former = id_for m.wanted filter in
-      let step : Step = record { packet_id = Some next; former = id_for m.wanted filter } in
+      let step : Step = open_step m.wanted next filter in
       let now =
       opened_marked (ids_of m.in_flight) m.wanted filter next n.marks small wanted stands.once
       stands.marked free in
-      let length_is = opened_length m.wanted filter next in
-      let most = stands.few in
+      let sent = sent_open m filter (record { once = stands.once; few = stands.few }) in
+      let most : length (open_ids (opened m.wanted filter (next_packet_id m))) ≤ MAX_OPEN_SUBSCRIBES =
+      (rw may at sent.few) in
       subst (λ k. Stands from start others
-      (log ++ record { packet_id = Some next; former = id_for m.wanted filter } ∷ [])
-      (record {
-        marks = forth_marks n.marks (record {
-          packet_id = Some next;
-          former = id_for m.wanted filter;
-        });
-        last = next;
-      }) (opened m.wanted filter next)
+      (log ++ open_step m.wanted next filter ∷ [])
+      (record { marks = forth_marks n.marks (open_step m.wanted next filter); last = next })
+      (opened m.wanted filter next)
       (record m { last = k; wanted = opened m.wanted filter k })) same
       (record {
         wanted_is = refl;
         once = opened_once m.wanted filter next stands.once;
-        few = omega (arith, length_is, most);
+        closed = opened_closed m.wanted filter next stands.closed;
+        few = rw (sym same) at most;
         last = refl;
         small = small;
         marked = now;
@@ -194,7 +189,7 @@ module _ (from : List Bool) (start : List Wanted) (m : Link) (others : List Item
             (free_former (ids_of m.in_flight) (opened m.wanted filter next) (set n.marks next true)
             (id_for m.wanted filter) now)
             (back_forth (ids_in_use m.in_flight m.wanted) n.marks next
-            (id_for m.wanted filter) small stands.marked.marked free
+            (id_for m.wanted filter) (owed_for m.wanted filter) small stands.marked.marked free
             (among_all (ids_of m.in_flight) (open_ids m.wanted) (id_for m.wanted filter)
             (id_among m.wanted filter)))
             (back_opened m.wanted filter next stands.once unopened);
@@ -204,6 +199,35 @@ module _ (from : List Bool) (start : List Wanted) (m : Link) (others : List Item
           → AmongThem (before ++ ids) former
       among_all before ids None there = tt
       among_all before ids (Some former) there = used_right before ids former there
+
+  -- one that may not be open is owed
+  stands_owed : (filter : List ℕ) (owed : Bool) → owed_for m.wanted filter ≡ owed
+      → may_open m.wanted filter ≡ false
+      → Stands from start (item.Subscribe filter ∷ others) log n m.wanted m
+      → (let step : Step =
+      if owed then no_step else record { packet_id = None; former = None; owed = false; owes = Some filter }
+      in
+      Stands from start others (log ++ step ∷ []) n (wanted_after m.wanted (item.Subscribe filter) step)
+      (record m { wanted = owing m.wanted filter }))
+  stands_owed filter true is shut stands =
+      subst (λ w. Stands from start others (log ++ no_step ∷ []) n m.wanted (record m { wanted = w }))
+      (sym (owing_same m.wanted filter stands.once is)) (stands_still (item.Subscribe filter) stands)
+  stands_owed filter false is shut stands =
+      let ids = owing_ids m.wanted filter in
+      let step : Step = record { packet_id = None; former = None; owed = false; owes = Some filter } in
+      record {
+        wanted_is = refl;
+        once = owing_once m.wanted filter stands.once;
+        closed = owing_closed m.wanted filter shut stands.closed;
+        few = rw ids stands.few;
+        last = stands.last;
+        small = stands.small;
+        marked = rw ids stands.marked;
+        room = room_left (item.Subscribe filter) stands;
+        logged =
+            logged_more from start log n.marks n.marks m.wanted (owing m.wanted filter) step
+            stands.logged tt refl (back_owing m.wanted filter stands.once is);
+      }
 
   -- an UNSUBSCRIBE uses its packet id up
   pub stands_passed : (filter : List ℕ) (next : ℕ) → IsNext n next → next ≤ 65535
@@ -218,6 +242,7 @@ module _ (from : List Bool) (start : List Wanted) (m : Link) (others : List Item
       record {
         wanted_is = refl;
         once = stands.once;
+        closed = stands.closed;
         few = stands.few;
         last = same;
         small = small;
@@ -249,12 +274,38 @@ module _ (from : List Bool) (start : List Wanted) (m : Link) (others : List Item
   publish_by p Allowed next follows small stands = publish_at p p.qos next refl follows small stands
   publish_by p (Denied denial) next follows small stands = stands_still (item.Publish p) stands
 
+  opened_by : (filter : List ℕ) (next : ℕ) (may : Bool) → may_open m.wanted filter ≡ may
+      → wants m.wanted filter ≡ true → IsNext n next → next ≤ 65535
+      → Stands from start (item.Subscribe filter ∷ others) log n m.wanted m
+      → StandsBy (item.Subscribe filter)
+      (if may then open_step m.wanted next filter else owe_step m.wanted filter)
+      (if may then record m { last = next_packet_id m; wanted = opened m.wanted filter (next_packet_id m) }
+      else record m { wanted = owing m.wanted filter })
+  opened_by filter next true is wanted follows small stands =
+      stands_opened filter next wanted is follows small stands
+  opened_by filter next false is wanted follows small stands =
+      owed_by filter (owed_for m.wanted filter) (stands_owed filter (owed_for m.wanted filter) refl is stands)
+    where
+      owed_by : (filter : List ℕ) (owed : Bool)
+          → (let step : Step =
+          if owed then no_step
+          else record { packet_id = None; former = None; owed = false; owes = Some filter } in
+          Stands from start others (log ++ step ∷ []) n (wanted_after m.wanted (item.Subscribe filter) step)
+          (record m { wanted = owing m.wanted filter }))
+          → StandsBy (item.Subscribe filter)
+          (if owed then no_step
+          else record { packet_id = None; former = None; owed = false; owes = Some filter })
+          (record m { wanted = owing m.wanted filter })
+      owed_by filter true stands = stands
+      owed_by filter false stands = stands
+
   subscribe_by : (filter : List ℕ) (next : ℕ) (here : Bool) → wants m.wanted filter ≡ here → IsNext n next
       → next ≤ 65535 → Stands from start (item.Subscribe filter ∷ others) log n m.wanted m
       → StandsBy (item.Subscribe filter)
-      (if here then record { packet_id = Some next; former = id_for m.wanted filter } else no_step)
+      (if here then subscribe_step m.wanted next filter else no_step)
       (if here then subscribe_sent m filter else m)
-  subscribe_by filter next true is follows small stands = stands_opened filter next is follows small stands
+  subscribe_by filter next true is follows small stands =
+      opened_by filter next (may_open m.wanted filter) refl is follows small stands
   subscribe_by filter next false is follows small stands = stands_still (item.Subscribe filter) stands
 
   unsubscribe_by : (filter : List ℕ) (next : ℕ) (here : Bool) → IsNext n next → next ≤ 65535
@@ -282,7 +333,7 @@ ids_alike m AtMostOnce = refl
 ids_alike m AtLeastOnce = refl
 
 -- what the first of the items lets out
-leaving_first : (policy : Policy) (m : Link) (first : Item) (others : List Item)
+pub leaving_first : (policy : Policy) (m : Link) (first : Item) (others : List Item)
     → leaving m (first ∷ others) (exits_of policy (first ∷ others))
     ≡ item_outs policy m.wanted (next_packet_id m) first
     ++ leaving (item_left policy m first) others (exits_of policy others)
@@ -294,7 +345,7 @@ leaving_first policy m (item.Unsubscribe filter) others = refl
 leaving_first policy m (item.Acknowledge packet_id) others = refl
 leaving_first policy m item.Ping others = refl
 
-link_first : (policy : Policy) (m : Link) (first : Item) (others : List Item)
+pub link_first : (policy : Policy) (m : Link) (first : Item) (others : List Item)
     → link_after m (first ∷ others) (exits_of policy (first ∷ others))
     ≡ link_after (item_left policy m first) others (exits_of policy others)
 link_first policy m (item.Publish p) others = refl
@@ -319,7 +370,9 @@ pinged_if m a b false first second = second
 pinged_left : (policy : Policy) (m : Link) (first : Item) → (item_left policy m first).pinged ≡ m.pinged
 pinged_left policy m (item.Publish p) = pinged_exited m p (exit policy p.origin p.name)
 pinged_left policy m (item.Subscribe filter) =
-    pinged_if m (subscribe_sent m filter) m (wants m.wanted filter) refl refl
+    pinged_if m (subscribe_sent m filter) m (wants m.wanted filter)
+    (pinged_if m (record m { last = next_packet_id m; wanted = opened m.wanted filter (next_packet_id m) })
+    (record m { wanted = owing m.wanted filter }) (may_open m.wanted filter) refl refl) refl
 pinged_left policy m (item.Unsubscribe filter) =
     pinged_if m m (unsubscribe_sent m) (wants m.wanted filter) refl refl
 pinged_left policy m (item.Acknowledge packet_id) = refl
@@ -338,7 +391,7 @@ planned_more policy from link items first others outs log n wanted next follows 
     subst (λ w. Stands from link.wanted (first ∷ others) log n w before.now)
     (sym before.stands.wanted_is) before.stands in
     let room = stands.room in
-    let few : length m.in_flight ≤ MAX_IN_FLIGHT = omega (arith, room) in
+    let few : length m.in_flight ≤ MAX_FLIGHT = omega (arith, room) in
     let same : next ≡ next_packet_id m = next_is m n next follows stands.marked stands.last few stands.few in
     subst (λ w. Planned policy from link items others (outs ++ item_outs policy w next first)
     (log ++ item_step policy w next first ∷ []) (numbered n first (item_step policy w next first))
@@ -362,44 +415,35 @@ planned_more policy from link items first others outs log n wanted next follows 
     })
 
 -- nothing left yet
-pub planned_first : (policy : Policy) (s : Sending) (n : Numbering) (wanted : List Wanted) (pinged : ℕ)
-    (outs : List Out) (log : List Step) → AreMarked (ids_in_use s.in_flight wanted) n.marks
-    → WantedOnce wanted
-    → length wanted ≤ MAX_WANTED → n.last ≤ 65535 → load s ≤ MAX_IN_FLIGHT → outs ≡ [] → log ≡ []
-    → Planned policy n.marks (link_of s n wanted pinged) s.waiting s.waiting outs log n wanted
-planned_first policy s n wanted pinged outs log marked once few small room no_outs no_log = record {
-  now = link_of s n wanted pinged;
-  stands = record {
-    wanted_is = refl;
-    once = once;
-    few = few;
-    last = refl;
-    small = small;
-    marked = marked;
-    room = room;
-    logged = rw no_log (record { can = tt; marks_back = refl; wanted_back = refl });
-  };
+pub planned_first : (policy : Policy) (from : List Bool) (link : Link) (items : List Item) (log : List Step)
+    (n : Numbering) (wanted : List Wanted) → Stands from link.wanted items [] n wanted link → log ≡ []
+    → Planned policy from link items items [] log n wanted
+planned_first policy from link items log n wanted stands no_log = rw no_log (record {
+  now = link;
+  stands = stands;
   pinged = refl;
-  outs_left =
-      ap (λ l. l ++ leaving (link_of s n wanted pinged) s.waiting (exits_of policy s.waiting)) no_outs;
+  outs_left = refl;
   link_left = refl;
-  plan_left = ap (λ l. l ++ plan_of policy (link_of s n wanted pinged) s.waiting) no_log;
-}
+  plan_left = refl;
+})
 
 -- the same in the words of the code
 pub planned_step : (policy : Policy) (from : List Bool) (link : Link) (items : List Item) (first : Item)
-    (others left : List Item) (outs outs_then : List Out) (log log_then : List Step) (step : Step)
-    (n then_n : Numbering) (wanted later : List Wanted) (next : ℕ)
-    → IsNext n next → next ≤ 65535 → Planned policy from link items left outs log n wanted
-    → left ≡ first ∷ others → outs_then ≡ outs ++ item_outs policy wanted next first
-    → step ≡ item_step policy wanted next first → log_then ≡ log ++ step ∷ [] → then_n ≡ numbered n first step
-    → later ≡ wanted_after wanted first step
-    → Planned policy from link items others outs_then log_then then_n later
-planned_step policy from link items first others left outs outs_then log log_then step n then_n wanted later
-    next follows small before left_is outs_is step_is log_is n_is wanted_is =
-    rw (outs_is, log_is, n_is, wanted_is, step_is)
-    (planned_more policy from link items first others outs log n wanted next follows small
-    (rw left_is at before))
+    (others left : List Item) (base outs outs_then more : List Out) (log log_then : List Step)
+    (n then_n : Numbering) (w later : WantedRoom)
+    → outs ≡ base ++ more → Planned policy from link items left more log n w.wanted
+    → left ≡ first ∷ others → LeftBy policy first outs outs_then log log_then n then_n w later
+    → (all : List Out) × (outs_then ≡ base ++ all)
+    × Planned policy from link items others all log_then then_n later.wanted
+planned_step policy from link items first others left base outs outs_then more log log_then n then_n w later
+    outs_is before left_is gone = (
+      more ++ item_outs policy w.wanted gone.next first,
+      gone.outs_are ∙ ap (λ l. l ++ item_outs policy w.wanted gone.next first) outs_is
+          ∙ append_assoc base more (item_outs policy w.wanted gone.next first),
+      rw (gone.log_is, gone.ids_are, gone.wanted_is)
+          (planned_more policy from link items first others more log n w.wanted gone.next gone.follows
+          gone.small (rw left_is at before)),
+    )
 
 pub planned_logged : (policy : Policy) (from : List Bool) (link : Link) (items others : List Item)
     (outs : List Out) (log : List Step) (n : Numbering) (wanted : List Wanted)
@@ -407,37 +451,14 @@ pub planned_logged : (policy : Policy) (from : List Bool) (link : Link) (items o
 planned_logged policy from link items others outs log n wanted planned =
     subst (λ w. Logged from link.wanted log n.marks w) planned.stands.wanted_is planned.stands.logged
 
--- what a step needs of the filters
-free_by : (wanted : List Wanted) (next : ℕ) (former : Option ℕ) (here : Bool)
-    → list_any (is_open next) wanted ≡ false
-    → IsFree wanted (if here then record { packet_id = Some next; former = former } else no_step).packet_id
-    × ((if here then record { packet_id = Some next; former = former } else no_step).packet_id ≡ None
-    → (if here then record { packet_id = Some next; former = former } else no_step) ≡ no_step)
-free_by wanted next former true free = (free, λ none. absurd (cc))
-free_by wanted next former false free = (tt, λ none. refl)
-
-step_is : (policy : Policy) (wanted : List Wanted) (next : ℕ) (first : Item)
-    → list_any (is_open next) wanted ≡ false → IsStep wanted first (item_step policy wanted next first)
-step_is policy wanted next (item.Publish p) free = refl
-step_is policy wanted next (item.Subscribe filter) free =
-    free_by wanted next (id_for wanted filter) (wants wanted filter) free
-step_is policy wanted next (item.Unsubscribe filter) free = tt
-step_is policy wanted next (item.Acknowledge packet_id) free = refl
-step_is policy wanted next item.Ping free = refl
-
-pub planned_free : (policy : Policy) (from : List Bool) (link : Link) (items others : List Item)
-    (outs : List Out) (log : List Step) (n : Numbering) (wanted : List Wanted) (next : ℕ) (first : Item)
-    (step : Step)
-    → IsNext n next → Planned policy from link items others outs log n wanted
-    → step ≡ item_step policy wanted next first → IsStep wanted first step
-planned_free policy from link items others outs log n wanted next first step follows planned is =
-    let m = planned.now in
-    let stands = planned.stands in
+-- the next packet id is open for none
+pub stands_free : (from : List Bool) (first : List Wanted) (others : List Item) (log : List Step)
+    (n : Numbering) (wanted : List Wanted) (now : Link) → Stands from first others log n wanted now
+    → NextIsFree n wanted
+stands_free from first others log n wanted now stands next follows =
     let room = stands.room in
-    let few : length m.in_flight ≤ MAX_IN_FLIGHT = omega (arith, room) in
-    let free : is_used (ids_in_use m.in_flight m.wanted) next ≡ false =
-    next_fresh m n next follows stands.marked stands.small few stands.few in
-    let shut : list_any (is_open next) m.wanted ≡ false =
-    fresh_open (ids_of m.in_flight) m.wanted next free in
-    rw is (step_is policy wanted next first
-    (subst (λ w. list_any (is_open next) w ≡ false) stands.wanted_is shut))
+    let few : length now.in_flight ≤ MAX_FLIGHT = omega (arith, room) in
+    let free : is_used (ids_in_use now.in_flight now.wanted) next ≡ false =
+    next_fresh now n next follows stands.marked stands.small few stands.few in
+    subst (λ w. list_any (is_open next) w ≡ false) stands.wanted_is
+    (fresh_open (ids_of now.in_flight) now.wanted next free)

@@ -1,5 +1,5 @@
 -- What a SUBSCRIBE that is sent makes of the filters and of the marks, and how it is taken back.
-use Rattle.std.proofs.Common.{Bor, arith, ◌≡◌, ℕ, ◌≤◌, length, zero, suc, Bool, true, false, ◌||◌, List, []}
+use Rattle.std.proofs.Common.{Bor, ◌≡◌, ℕ, ◌≤◌, nat_lt, length, zero, suc, Bool, true, false, ◌||◌, ◌&&◌, List, []}
 use Rattle.std.proofs.Common.{◌∷◌, ◌++◌, set, cond, if◌then◌else◌, refl, sym, ◌∙◌, ap, true≢false}
 use Rattle.std.specs.Prelude.{Option, Some, None}
 use Rattle.std.specs.List.{list_any, find}
@@ -10,12 +10,13 @@ use Rattle.std.proofs.lemmas.List.{append_assoc}
 use Rattle.std.proofs.lemmas.Slice.Eq.{bytes_eq-Decides}
 use Rattle.sng_outbox.specs.PacketIds.{is_id, is_used, is_marked}
 use Rattle.sng_history.specs.Good.{WantedOnce}
-use Rattle.sng_history.specs.Links.{Wanted, wants, opened, closed, open_id, open_ids, has_id, is_filter_of}
-use Rattle.sng_history.specs.Links.{is_open}
+use Rattle.sng_history.specs.Links.{Wanted, wants, opened, owing, closed, open_id, open_ids, has_id}
+use Rattle.sng_history.specs.Links.{is_filter_of, is_open, may_open}
+use Rattle.sng_history.specs.declared.limits.TheConstants.{MAX_OPEN_SUBSCRIBES}
 use Rattle.sng_history.specs.Packets.{filter_open}
 use Rattle.sng_history.specs.State.{with_wanted}
-use Rattle.sng_wanted.specs.Filters.{reopened, without_wanted, id_for, IsFree}
-use Rattle.sng_link.specs.Flights.{AreMarked}
+use Rattle.sng_wanted.specs.Filters.{reopened, forgiven, without_wanted, id_for, owed_for, IsFree}
+use Rattle.sng_link.specs.Flights.{AreMarked, OwedAreClosed}
 use Rattle.sng_link.specs.Steps.{marked}
 use Rattle.sng_link.proofs.Marks.{neither, one_between, one_less, distinct_less, unused_both, or_true}
 use Rattle.sng_link.proofs.Marks.{AmongThem}
@@ -32,18 +33,18 @@ open_used (w ∷ wanted) id =
     open_by id (open_ids wanted) w.open_id (list_any (is_open id) wanted) (open_used wanted id)
 
 -- filters that are not wanted
-no_opened : (wanted : List Wanted) (text : List ℕ) (id : ℕ) → wants wanted text ≡ false
+pub no_opened : (wanted : List Wanted) (text : List ℕ) (id : ℕ) → wants wanted text ≡ false
     → opened wanted text id ≡ wanted
 no_opened [] text id none = refl
 no_opened (w ∷ wanted) text id none =
     let both = neither (is_filter_of text w) (wants wanted text) none in
     rw both.0 (ap (λ l. w ∷ l) (no_opened wanted text id both.1))
 
-same_text : (a b : List ℕ) → bytes_eq a b ≡ true → a ≡ b
+pub same_text : (a b : List ℕ) → bytes_eq a b ≡ true → a ≡ b
 same_text a b is = (bytes_eq-Decides a b).0 is
 
 -- the others are of other filters
-others_differ : (w : Wanted) (wanted : List Wanted) (text : List ℕ) → WantedOnce (w ∷ wanted)
+pub others_differ : (w : Wanted) (wanted : List Wanted) (text : List ℕ) → WantedOnce (w ∷ wanted)
     → is_filter_of text w ≡ true → wants wanted text ≡ false
 others_differ w wanted text once here = rw (same_text text w.filter here) once.0
 
@@ -77,43 +78,63 @@ id_among (w ∷ wanted) text = by (is_filter_of text w) refl (id_among wanted te
         rw (id_later text w wanted is) (later_used w.open_id (id_for wanted text) (open_ids wanted) there)
 
 -- one that is open for none
-unopened : (wanted : List Wanted) (id : ℕ) (former : Option ℕ) → is_used (open_ids wanted) id ≡ false
-    → reopened wanted id former ≡ wanted
-unopened [] id former free = refl
-unopened (w ∷ wanted) id former free =
+unopened : (wanted : List Wanted) (id : ℕ) (former : Option ℕ) (owed : Bool)
+    → is_used (open_ids wanted) id ≡ false → reopened wanted id former owed ≡ wanted
+unopened [] id former owed free = refl
+unopened (w ∷ wanted) id former owed free =
     let none : (is_open id w || list_any (is_open id) wanted) ≡ false = open_used (w ∷ wanted) id ∙ free in
     let both = neither (is_open id w) (list_any (is_open id) wanted) none in
-    rw both.0 (ap (λ l. w ∷ l) (unopened wanted id former (sym (open_used wanted id) ∙ both.1)))
+    rw both.0 (ap (λ l. w ∷ l) (unopened wanted id former owed (sym (open_used wanted id) ∙ both.1)))
 
 pub back_same : (wanted : List Wanted) (id : ℕ) → is_used (open_ids wanted) id ≡ false
-    → reopened wanted id None ≡ wanted
-back_same wanted id free = unopened wanted id None free
+    → reopened wanted id None false ≡ wanted
+back_same wanted id free = unopened wanted id None false free
+
+owed_here : (text : List ℕ) (w : Wanted) (wanted : List Wanted) → is_filter_of text w ≡ true
+    → owed_for (w ∷ wanted) text ≡ w.owed
+owed_here text w wanted here = rw here refl
+
+owed_later : (text : List ℕ) (w : Wanted) (wanted : List Wanted) → is_filter_of text w ≡ false
+    → owed_for (w ∷ wanted) text ≡ owed_for wanted text
+owed_later text w wanted here = rw here refl
+
+or_none : (b : Bool) → (b || false) ≡ b
+or_none true = refl
+or_none false = refl
 
 -- a SUBSCRIBE that is taken back
 pub back_opened : (wanted : List Wanted) (text : List ℕ) (id : ℕ) → WantedOnce wanted
-    → is_used (open_ids wanted) id ≡ false → reopened (opened wanted text id) id (id_for wanted text) ≡ wanted
+    → is_used (open_ids wanted) id ≡ false
+    → reopened (opened wanted text id) id (id_for wanted text) (owed_for wanted text) ≡ wanted
 back_opened [] text id once free = refl
 back_opened (w ∷ wanted) text id once free =
     by (is_filter_of text w) refl (λ less. back_opened wanted text id once.1 less)
   where
     by : (here : Bool) → is_filter_of text w ≡ here
         → (is_used (open_ids wanted) id ≡ false
-        → reopened (opened wanted text id) id (id_for wanted text) ≡ wanted)
-        → reopened (opened (w ∷ wanted) text id) id (id_for (w ∷ wanted) text) ≡ w ∷ wanted
+        → reopened (opened wanted text id) id (id_for wanted text) (owed_for wanted text) ≡ wanted)
+        → reopened (opened (w ∷ wanted) text id) id (id_for (w ∷ wanted) text) (owed_for (w ∷ wanted) text)
+        ≡ w ∷ wanted
     by true is later =
         let none : (is_open id w || list_any (is_open id) wanted) ≡ false =
         open_used (w ∷ wanted) id ∙ free in
         let both = neither (is_open id w) (list_any (is_open id) wanted) none in
         let less : is_used (open_ids wanted) id ≡ false = sym (open_used wanted id) ∙ both.1 in
         let rest = no_opened wanted text id (others_differ w wanted text once is) in
-        ap (λ former. reopened (opened (w ∷ wanted) text id) id former) (id_some text w wanted is)
-        ∙ (rw (is, rest, eq-eqb id id refl) (ap (λ l. w ∷ l) (unopened wanted id w.open_id less)))
+        ap (λ former. reopened (opened (w ∷ wanted) text id) id former (owed_for (w ∷ wanted) text))
+        (id_some text w wanted is)
+        ∙ ap (λ owed. reopened (opened (w ∷ wanted) text id) id w.open_id owed) (owed_here text w wanted is)
+        ∙ (rw (is, rest, eq-eqb id id refl, or_none w.owed)
+        (ap (λ l. w ∷ l) (unopened wanted id w.open_id w.owed less)))
     by false is later =
         let none : (is_open id w || list_any (is_open id) wanted) ≡ false =
         open_used (w ∷ wanted) id ∙ free in
         let both = neither (is_open id w) (list_any (is_open id) wanted) none in
         let less : is_used (open_ids wanted) id ≡ false = sym (open_used wanted id) ∙ both.1 in
-        ap (λ former. reopened (opened (w ∷ wanted) text id) id former) (id_later text w wanted is)
+        ap (λ former. reopened (opened (w ∷ wanted) text id) id former (owed_for (w ∷ wanted) text))
+        (id_later text w wanted is)
+        ∙ ap (λ owed. reopened (opened (w ∷ wanted) text id) id (id_for wanted text) owed)
+        (owed_later text w wanted is)
         ∙ (rw (is, both.0) (ap (λ l. w ∷ l) (later less)))
 
 -- the marks of the packet ids once a SUBSCRIBE was sent
@@ -169,7 +190,7 @@ opened_wants [] text other id = refl
 opened_wants (w ∷ wanted) text other id = by (is_filter_of text w) (opened_wants wanted text other id)
   where
     by : (here : Bool) → wants (opened wanted text id) other ≡ wants wanted other
-        → (is_filter_of other (if here then record w { open_id = Some id } else w)
+        → (is_filter_of other (if here then record w { open_id = Some id; owed = false } else w)
         || wants (opened wanted text id) other) ≡ (is_filter_of other w || wants wanted other)
     by true later = ap (λ b. is_filter_of other w || b) later
     by false later = ap (λ b. is_filter_of other w || b) later
@@ -180,14 +201,10 @@ opened_once [] text id once = tt
 opened_once (w ∷ wanted) text id once = by (is_filter_of text w) (opened_once wanted text id once.1)
   where
     by : (here : Bool) → WantedOnce (opened wanted text id)
-        → WantedOnce ((if here then record w { open_id = Some id } else w) ∷ opened wanted text id)
+        → WantedOnce
+        ((if here then record w { open_id = Some id; owed = false } else w) ∷ opened wanted text id)
     by true later = (opened_wants wanted text w.filter id ∙ once.0, later)
     by false later = (opened_wants wanted text w.filter id ∙ once.0, later)
-
-pub opened_length : (wanted : List Wanted) (text : List ℕ) (id : ℕ)
-    → length (opened wanted text id) ≡ length wanted
-opened_length [] text id = refl
-opened_length (w ∷ wanted) text id = ap suc (opened_length wanted text id)
 
 set_off : (marks : List Bool) (id : ℕ) → is_marked (set marks id false) id ≡ false
 set_off [] id = refl
@@ -206,16 +223,6 @@ free_former before wanted marks (Some former) are =
 pub fresh_open : (before : List ℕ) (wanted : List Wanted) (id : ℕ)
     → is_used (before ++ open_ids wanted) id ≡ false → list_any (is_open id) wanted ≡ false
 fresh_open before wanted id free = open_used wanted id ∙ (unused_both before (open_ids wanted) id free).1
-
--- there are no more of them than filters
-pub few_open : (wanted : List Wanted) → length (open_ids wanted) ≤ length wanted
-few_open [] = omega arith
-few_open (w ∷ wanted) = by w.open_id (few_open wanted)
-  where
-    by : (o : Option ℕ) → length (open_ids wanted) ≤ length wanted
-        → length (open_id o ++ open_ids wanted) ≤ suc (length wanted)
-    by None later = omega (arith, later)
-    by (Some used) later = omega (arith, later)
 
 no_without : (wanted : List Wanted) (text : List ℕ) → wants wanted text ≡ false
     → without_wanted wanted text ≡ wanted
@@ -256,6 +263,14 @@ without_marked before (w ∷ wanted) text marks once are =
         )
         (later (rw (← append_assoc before (open_id w.open_id) (open_ids wanted)) at are))
 
+-- where none is open with the packet id
+pub none_closed : (wanted : List Wanted) (id : ℕ) → list_any (is_open id) wanted ≡ false
+    → closed wanted id ≡ wanted
+none_closed [] id none = refl
+none_closed (w ∷ wanted) id none =
+    let both = neither (is_open id w) (list_any (is_open id) wanted) none in
+    rw both.0 (ap (λ l. w ∷ l) (none_closed wanted id both.1))
+
 -- the marks once a SUBSCRIBE was answered
 pub closed_marked : (before : List ℕ) (wanted : List Wanted) (id : ℕ) (marks : List Bool)
     → list_any (is_open id) wanted ≡ true → AreMarked (before ++ open_ids wanted) marks
@@ -273,7 +288,8 @@ closed_marked before (w ∷ wanted) id marks there are =
         let same : used ≡ id = eqb-true used id is in
         let are_id : AreMarked (before ++ id ∷ open_ids wanted) marks = rw same at are in
         let apart = (distinct_less before (open_ids wanted) id are_id.distinct).0 in
-        let none = unopened wanted id None (unused_both before (open_ids wanted) id apart).1 in
+        let none = none_closed wanted id (open_used wanted id
+        ∙ (unused_both before (open_ids wanted) id apart).1) in
         rw none (one_less before (open_ids wanted) marks id are_id)
 
     by : (o : Option ℕ) → w.open_id ≡ o → (here : Bool) → has_id id w.open_id ≡ here
@@ -288,11 +304,6 @@ closed_marked before (w ∷ wanted) id marks there are =
         rw (is, ← append_assoc before (open_id w.open_id) (open_ids (closed wanted id)))
         (later more (rw (← append_assoc before (open_id w.open_id) (open_ids wanted)) at are))
 
--- where none is open with the packet id
-pub none_closed : (wanted : List Wanted) (id : ℕ) → list_any (is_open id) wanted ≡ false
-    → closed wanted id ≡ wanted
-none_closed wanted id none = unopened wanted id None (sym (open_used wanted id) ∙ none)
-
 pub open_any : (wanted : List Wanted) (id : ℕ)
     → is_some (filter_open wanted id) ≡ list_any (is_open id) wanted
 open_any [] id = refl
@@ -306,7 +317,7 @@ open_any (w ∷ wanted) id = by (is_open id w) (open_any wanted id)
 
 -- one more that is wanted has no open SUBSCRIBE
 open_last : (wanted : List Wanted) (text : List ℕ)
-    → open_ids (wanted ++ record { filter = text; open_id = None } ∷ []) ≡ open_ids wanted
+    → open_ids (wanted ++ record { filter = text; open_id = None; owed = false } ∷ []) ≡ open_ids wanted
 open_last [] text = refl
 open_last (w ∷ wanted) text = ap (λ l. open_id w.open_id ++ l) (open_last wanted text)
 
@@ -314,7 +325,8 @@ pub open_with : (wanted : List Wanted) (text : List ℕ) → open_ids (with_want
 open_with wanted text = by (wants wanted text)
   where
     by : (here : Bool) → open_ids
-        (if here then wanted else wanted ++ record { filter = text; open_id = None } ∷ []) ≡ open_ids wanted
+        (if here then wanted else wanted ++ record { filter = text; open_id = None; owed = false } ∷ [])
+        ≡ open_ids wanted
     by true = refl
     by false = open_last wanted text
 
@@ -327,3 +339,162 @@ some_copied o wanted id is = by o is ∙ open_any wanted id
         → is_some o ≡ is_some (filter_open wanted id)
     by None is = ap is_some is
     by (Some x) is = ap is_some is
+
+-- ---- what is owed
+
+-- a SUBSCRIBE that comes to be owed changes no packet id and no filter
+pub owing_ids : (wanted : List Wanted) (text : List ℕ) → open_ids (owing wanted text) ≡ open_ids wanted
+owing_ids [] text = refl
+owing_ids (w ∷ wanted) text = by (is_filter_of text w) (owing_ids wanted text)
+  where
+    by : (here : Bool) → open_ids (owing wanted text) ≡ open_ids wanted
+        → open_ids ((if here then record w { owed = true } else w) ∷ owing wanted text) ≡ open_ids (w ∷ wanted)
+    by true later = ap (λ l. open_id w.open_id ++ l) later
+    by false later = ap (λ l. open_id w.open_id ++ l) later
+
+pub owing_wants : (wanted : List Wanted) (text other : List ℕ)
+    → wants (owing wanted text) other ≡ wants wanted other
+owing_wants [] text other = refl
+owing_wants (w ∷ wanted) text other = by (is_filter_of text w) (owing_wants wanted text other)
+  where
+    by : (here : Bool) → wants (owing wanted text) other ≡ wants wanted other
+        → wants ((if here then record w { owed = true } else w) ∷ owing wanted text) other
+        ≡ wants (w ∷ wanted) other
+    by true later = ap (λ b. is_filter_of other w || b) later
+    by false later = ap (λ b. is_filter_of other w || b) later
+
+pub owing_once : (wanted : List Wanted) (text : List ℕ) → WantedOnce wanted → WantedOnce (owing wanted text)
+owing_once [] text once = tt
+owing_once (w ∷ wanted) text once = by (is_filter_of text w) (owing_once wanted text once.1)
+  where
+    by : (here : Bool) → WantedOnce (owing wanted text)
+        → WantedOnce ((if here then record w { owed = true } else w) ∷ owing wanted text)
+    by true later = (owing_wants wanted text w.filter ∙ once.0, later)
+    by false later = (owing_wants wanted text w.filter ∙ once.0, later)
+
+-- of a filter that is not wanted none is owed
+none_owing : (wanted : List Wanted) (text : List ℕ) → wants wanted text ≡ false → owing wanted text ≡ wanted
+none_owing [] text none = refl
+none_owing (w ∷ wanted) text none =
+    let both = neither (is_filter_of text w) (wants wanted text) none in
+    rw both.0 (ap (λ l. w ∷ l) (none_owing wanted text both.1))
+
+none_forgiven : (wanted : List Wanted) (text : List ℕ) → wants wanted text ≡ false
+    → forgiven wanted text ≡ wanted
+none_forgiven [] text none = refl
+none_forgiven (w ∷ wanted) text none =
+    let both = neither (is_filter_of text w) (wants wanted text) none in
+    rw both.0 (ap (λ l. w ∷ l) (none_forgiven wanted text both.1))
+
+-- where one is owed already nothing changes
+pub owing_same : (wanted : List Wanted) (text : List ℕ) → WantedOnce wanted → owed_for wanted text ≡ true
+    → owing wanted text ≡ wanted
+owing_same [] text once owed = refl
+owing_same (w ∷ wanted) text once owed =
+    by (is_filter_of text w) refl (λ is. owing_same wanted text once.1 is)
+  where
+    by : (here : Bool) → is_filter_of text w ≡ here
+        → (owed_for wanted text ≡ true → owing wanted text ≡ wanted)
+        → owing (w ∷ wanted) text ≡ w ∷ wanted
+    by true is later =
+        let there : w.owed ≡ true = sym (owed_here text w wanted is) ∙ owed in
+        let rest = none_owing wanted text (others_differ w wanted text once is) in
+        rw (is, rest) (ap (λ o. record w { owed = o } ∷ wanted) (sym there))
+    by false is later =
+        rw is (ap (λ l. w ∷ l) (later (sym (owed_later text w wanted is) ∙ owed)))
+
+-- one that came to be owed is taken back
+pub back_owing : (wanted : List Wanted) (text : List ℕ) → WantedOnce wanted → owed_for wanted text ≡ false
+    → forgiven (owing wanted text) text ≡ wanted
+back_owing [] text once owed = refl
+back_owing (w ∷ wanted) text once owed =
+    by (is_filter_of text w) refl (λ is. back_owing wanted text once.1 is)
+  where
+    by : (here : Bool) → is_filter_of text w ≡ here
+        → (owed_for wanted text ≡ false → forgiven (owing wanted text) text ≡ wanted)
+        → forgiven (owing (w ∷ wanted) text) text ≡ w ∷ wanted
+    by true is later =
+        let none : w.owed ≡ false = sym (owed_here text w wanted is) ∙ owed in
+        let away = others_differ w wanted text once is in
+        rw (is, none_owing wanted text away, is, none_forgiven wanted text away)
+        (ap (λ o. record w { owed = o } ∷ wanted) (sym none))
+    by false is later =
+        rw (is, is) (ap (λ l. w ∷ l) (later (sym (owed_later text w wanted is) ∙ owed)))
+
+-- ---- a filter of which one is owed has none that is open
+
+pub opened_closed : (wanted : List Wanted) (text : List ℕ) (id : ℕ) → OwedAreClosed wanted
+    → OwedAreClosed (opened wanted text id)
+opened_closed [] text id shut = tt
+opened_closed (w ∷ wanted) text id shut =
+    by (is_filter_of text w) (opened_closed wanted text id shut.1)
+  where
+    by : (here : Bool) → OwedAreClosed (opened wanted text id) → OwedAreClosed
+        ((if here then record w { open_id = Some id; owed = false } else w) ∷ opened wanted text id)
+    by true later = (λ owed. absurd (true≢false (sym owed)), later)
+    by false later = (shut.0, later)
+
+is_none : (o : Option ℕ) → is_some o ≡ false → o ≡ None
+is_none None is = refl
+is_none (Some id) is = absurd (true≢false is)
+
+later_false : (a b : Bool) → (a || b) ≡ false → b ≡ false
+later_false a b none = (neither a b none).1
+
+none_open_closed : (wanted : List Wanted) (text : List ℕ)
+    → list_any (λ w. is_filter_of text w && is_some w.open_id) wanted ≡ false
+    → OwedAreClosed wanted → OwedAreClosed (owing wanted text)
+none_open_closed [] text none shut = tt
+none_open_closed (w ∷ wanted) text none shut =
+    let both =
+    neither (is_filter_of text w && is_some w.open_id)
+    (list_any (λ w. is_filter_of text w && is_some w.open_id) wanted) none in
+    by (is_filter_of text w) refl both.0 (none_open_closed wanted text both.1 shut.1)
+  where
+    by : (here : Bool) → is_filter_of text w ≡ here → (is_filter_of text w && is_some w.open_id) ≡ false
+        → OwedAreClosed (owing wanted text) → OwedAreClosed (owing (w ∷ wanted) text)
+    by true is none later =
+        let away : is_some w.open_id ≡ false = ap (λ b. b && is_some w.open_id) (sym is) ∙ none in
+        rw is (λ owed. is_none w.open_id away, later)
+    by false is none later = rw is (shut.0, later)
+
+-- so one that may not be open is owed
+pub owing_closed : (wanted : List Wanted) (text : List ℕ) → may_open wanted text ≡ false
+    → OwedAreClosed wanted → OwedAreClosed (owing wanted text)
+owing_closed wanted text may shut =
+    none_open_closed wanted text (later_false (nat_lt (length (open_ids wanted)) MAX_OPEN_SUBSCRIBES)
+    (list_any (λ w. is_filter_of text w && is_some w.open_id) wanted) may) shut
+
+last_closed : (wanted : List Wanted) (text : List ℕ) → OwedAreClosed wanted
+    → OwedAreClosed (wanted ++ record { filter = text; open_id = None; owed = false } ∷ [])
+last_closed [] text shut = (λ owed. refl, tt)
+last_closed (w ∷ wanted) text shut = (shut.0, last_closed wanted text shut.1)
+
+pub closed_with : (wanted : List Wanted) (text : List ℕ) → OwedAreClosed wanted
+    → OwedAreClosed (with_wanted wanted text)
+closed_with wanted text shut = by (wants wanted text)
+  where
+    by : (here : Bool) → OwedAreClosed
+        (if here then wanted else wanted ++ record { filter = text; open_id = None; owed = false } ∷ [])
+    by true = shut
+    by false = last_closed wanted text shut
+
+pub closed_without : (wanted : List Wanted) (text : List ℕ) → OwedAreClosed wanted
+    → OwedAreClosed (without_wanted wanted text)
+closed_without [] text shut = tt
+closed_without (w ∷ wanted) text shut =
+    by (is_filter_of text w) refl (closed_without wanted text shut.1)
+  where
+    by : (here : Bool) → is_filter_of text w ≡ here → OwedAreClosed (without_wanted wanted text)
+        → OwedAreClosed (without_wanted (w ∷ wanted) text)
+    by true is later = rw is later
+    by false is later = rw is (shut.0, later)
+
+pub closed_closed : (wanted : List Wanted) (id : ℕ) → OwedAreClosed wanted → OwedAreClosed (closed wanted id)
+closed_closed [] id shut = tt
+closed_closed (w ∷ wanted) id shut = by (is_open id w) (closed_closed wanted id shut.1)
+  where
+    by : (here : Bool) → OwedAreClosed (closed wanted id)
+        → OwedAreClosed ((if here then record w { open_id = None } else w) ∷ closed wanted id)
+    by true later = (λ owed. refl, later)
+    by false later = (shut.0, later)

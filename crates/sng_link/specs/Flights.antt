@@ -1,7 +1,7 @@
 -- The publishes in flight and the filters that are wanted, and the marks of their packet ids (MQTT 3.1.1,
 -- 2.3.1).
 pub use Rattle.sng_wanted.specs.Filters.{without_wanted}
-use Rattle.std.specs.Prelude.{ℕ, ◌≡◌, Bool, false, List, [], ◌∷◌, ◌++◌, map}
+use Rattle.std.specs.Prelude.{ℕ, ◌≡◌, Bool, true, false, List, [], ◌∷◌, ◌++◌, map, None}
 use Rattle.sng_outbox.specs.PacketIds.{Numbering, AreInUse, is_used}
 use Rattle.sng_outbox.specs.Sending.{Sending}
 use Rattle.sng_outbox.specs.declared.in_flight.InFlight.{InFlight}
@@ -35,3 +35,8 @@ AreDistinct (packet_id ∷ ids) = (is_used ids packet_id ≡ false) × AreDistin
 pub record AreMarked (ids : List ℕ) (marks : List Bool) : Type 0 where
   pub marked : AreInUse ids marks
   pub distinct : AreDistinct ids
+
+-- a filter of which a SUBSCRIBE is owed has none that is open
+abbrev pub OwedAreClosed : List Wanted → Type 0
+OwedAreClosed [] = Unit {0}
+OwedAreClosed (w ∷ wanted) = (w.owed ≡ true → w.open_id ≡ None) × OwedAreClosed wanted

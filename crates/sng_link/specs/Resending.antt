@@ -1,13 +1,10 @@
 -- The publishes in flight as a connection begins: some stay, and the others are in flight no more. Then each
 -- filter is subscribed anew (MQTT 3.1.1, 3.8 and 4.4).
 use Rattle.std.specs.Prelude.{ℕ, ◌≡◌, Bool, true, false, List, [], ◌∷◌, ◌++◌, if◌then◌else◌, Some, None}
-use Rattle.sng_outbox.specs.PacketIds.{Numbering}
 use Rattle.sng_outbox.specs.declared.in_flight.InFlight.{InFlight}
-use Rattle.sng_book.specs.declared.out.Out.{Out}
-use Rattle.sng_history.specs.Exits.{subscribing}
-use Rattle.sng_history.specs.Links.{Link, Wanted, wants, subscribes_sent}
+use Rattle.sng_outbox.specs.Sending.{without_first}
+use Rattle.sng_history.specs.Links.{Wanted, wants}
 use Rattle.sng_link.specs.Steps.{marked}
-use Rattle.sng_link.specs.Taking.{Stands}
 use Rattle.sng_link.specs.declared.step.Step.{Step}
 
 -- those of which it is said that they stay
@@ -17,8 +14,23 @@ staying (sent ∷ flights) [] = sent ∷ flights
 staying (sent ∷ flights) (stay ∷ stays) = if stay then sent ∷ staying flights stays else staying flights stays
 
 -- the packet id of one that does not stay is free
+abbrev pub denied_id : ℕ → Bool → List ℕ
+denied_id packet_id stay = if stay then [] else packet_id ∷ []
+
+abbrev pub denied_ids : List InFlight → List Bool → List ℕ
+denied_ids [] stays = []
+denied_ids (sent ∷ flights) [] = []
+denied_ids (sent ∷ flights) (stay ∷ stays) = denied_id sent.packet_id stay ++ denied_ids flights stays
+
+-- those that are left once those with these packet ids are in flight no more
+abbrev pub without_all : List InFlight → List ℕ → List InFlight
+without_all flights [] = flights
+without_all flights (packet_id ∷ ids) = without_all (without_first flights packet_id) ids
+
 abbrev pub denied_step : ℕ → Bool → List Step
-denied_step packet_id stay = if stay then [] else record { packet_id = None; former = Some packet_id } ∷ []
+denied_step packet_id stay =
+    if stay then []
+    else record { packet_id = None; former = Some packet_id; owed = false; owes = None } ∷ []
 
 abbrev pub denied_steps : List InFlight → List Bool → List Step
 denied_steps [] stays = []
@@ -34,12 +46,3 @@ freed_all marks (step ∷ log) = freed_all (marked marks step.former false) log
 abbrev pub AllWanted : List Wanted → List (List ℕ) → Type 0
 AllWanted wanted [] = Unit {0}
 AllWanted wanted (filter ∷ filters) = (wants wanted filter ≡ true) × AllWanted wanted filters
-
--- of these filters each was subscribed anew but those that are left, with these outs and steps
-pub record Resubscribed (from : List Bool) (first : List Wanted) (link : Link) (filters left : List (List ℕ))
-    (outs : List Out) (log : List Step) (n : Numbering) (wanted : List Wanted) : Type 0 where
-  pub now : Link
-  pub stands : Stands from first [] log n wanted now
-  pub all : AllWanted now.wanted left
-  pub outs_left : outs ++ subscribing now left ≡ subscribing link filters
-  pub link_left : subscribes_sent now left ≡ subscribes_sent link filters

@@ -1,7 +1,7 @@
 -- What planning takes into use, and how that is given back (MQTT 3.1.1, 2.3.1).
 use Rattle.std.specs.Prelude.{ℕ, ◌≡◌, Bool, true, false, List, [], ◌∷◌, reverse, set, Option, Some, None}
 use Rattle.sng_history.specs.Links.{Wanted}
-use Rattle.sng_wanted.specs.Filters.{reopened, IsFree}
+use Rattle.sng_wanted.specs.Filters.{reopened, forgiven, IsFree}
 use Rattle.sng_link.specs.declared.step.Step.{Step}
 
 -- the marks with this packet id in use or not, where it is one
@@ -17,13 +17,19 @@ forth_marks marks step = marked (marked marks step.packet_id true) step.former f
 abbrev pub back_marks : List Bool → Step → List Bool
 back_marks marks step = marked (marked marks step.former true) step.packet_id false
 
-abbrev pub reopened_at : List Wanted → Option ℕ → Option ℕ → List Wanted
-reopened_at wanted None former = wanted
-reopened_at wanted (Some packet_id) former = reopened wanted packet_id former
+abbrev pub reopened_at : List Wanted → Option ℕ → Option ℕ → Bool → List Wanted
+reopened_at wanted None former owed = wanted
+reopened_at wanted (Some packet_id) former owed = reopened wanted packet_id former owed
 
--- the filters once a step was taken back: the former SUBSCRIBE is the open one
+abbrev pub forgiven_at : List Wanted → Option (List ℕ) → List Wanted
+forgiven_at wanted None = wanted
+forgiven_at wanted (Some filter) = forgiven wanted filter
+
+-- the filters once a step was taken back: the former SUBSCRIBE is the open one, or one is owed again; and none
+-- is owed that came to be by it
 abbrev pub back_wanted : List Wanted → Step → List Wanted
-back_wanted wanted step = reopened_at wanted step.packet_id step.former
+back_wanted wanted step =
+    forgiven_at (reopened_at wanted step.packet_id step.former step.owed) step.owes
 
 -- all steps were taken back, the newest being the first of these
 abbrev pub undone_marks : List Bool → List Step → List Bool

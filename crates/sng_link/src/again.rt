@@ -2,37 +2,33 @@
 //! allowed are sent again under their packet ids, as new messages of the new session, and the others are in
 //! flight no more (MQTT 3.1.1, 3.3.1.1 and 4.4). Behind them each filter that is wanted is subscribed anew
 //! (3.8).
-ghost use Rattle.std.specs.Prelude.{◌≡◌, ◌≤◌, ◌<◌, ◌+◌, ◌++◌, ℕ, Bool, List, [], map, set, length, remove};
-ghost use Rattle.std.specs.Prelude.{IfOk, OnOk, OnErr};
-ghost use Rattle.sng_outbox.specs.Sending.{Sending};
-ghost use Rattle.sng_outbox.specs.declared.limits.TheConstants.{MAX_IN_FLIGHT};
+ghost use Rattle.std.specs.Prelude.{◌≡◌, ◌≤◌, ◌++◌, ℕ, Bool, List, [], map, IfOk, OnOk, OnErr};
+ghost use Rattle.sng_grants.specs.declared.limits.TheConstants.{MAX_FLIGHT};
+ghost use Rattle.sng_outbox.specs.Sending.{load};
 ghost use Rattle.sng_book.specs.declared.out.Out.{Out as out_type};
 ghost use Rattle.sng_book.specs.Denials.{is_allowed};
-ghost use Rattle.sng_history.specs.Good.{WantedOnce};
 ghost use Rattle.sng_history.specs.Links.{Link, Wanted as Entry, filters_wanted, resumed, subscribes_sent};
 ghost use Rattle.sng_history.specs.Exits.{agains_of, beginning, resending, sent_again};
 ghost use Rattle.sng_history.specs.Verdicts.{exit};
-ghost use Rattle.sng_wanted.specs.declared.limits.TheConstants.{MAX_WANTED};
-ghost use Rattle.sng_link.specs.Flights.{link_of, ids_in_use, AreMarked};
-ghost use Rattle.sng_link.specs.Resending.{staying, denied_step, denied_steps, freed_all};
-ghost use Rattle.sng_link.specs.Resending.{AllWanted, Resubscribed};
+ghost use Rattle.sng_link.specs.Flights.{link_of, ids_in_use, AreMarked, OwedAreClosed};
+ghost use Rattle.sng_link.specs.Resending.{denied_id, denied_ids, denied_step, denied_steps, freed_all};
+ghost use Rattle.sng_link.specs.Resending.{without_all};
 ghost use Rattle.sng_link.specs.Steps.{Logged};
-ghost use Rattle.sng_link.specs.Taking.{Stands};
+ghost use Rattle.sng_link.specs.Taking.{Stands, Subscribed};
 
-use crate::leaving::{packet_of, subscribed};
+use crate::leaving::{leave, packet_of};
 use crate::step::{Step, undo};
-use mqtt_frames::encode_subscribe;
 use sng_book::{Decision, Out, Outs, OutsPair, Who};
 use sng_history::exit;
-use sng_outbox::{Outbox, PacketIds, Publication};
+use sng_outbox::{Item, Outbox, PacketIds, Publication};
 use sng_policy::InForce;
-use sng_text::{Qos, TopicFilter};
+use sng_text::TopicFilter;
 use sng_wanted::Wanted;
 use std::alloc::{AllocError, Global};
 
 /// What goes out as a connection begins. The publishes that are denied are in flight no more, and the
-/// SUBSCRIBEs are the open ones of their filters. An `Err` is a failed allocation; then everything is as
-/// before.
+/// SUBSCRIBEs are the open ones of their filters, or owed. An `Err` is a failed allocation; then everything is
+/// as before.
 pub fn begin(
     alloc: Global,
     policy: &InForce,
@@ -40,30 +36,38 @@ pub fn begin(
     ids: &mut PacketIds,
     wanted: &mut Wanted,
 ) -> Result<OutsPair, AllocError>
-    requires marked { AreMarked (ids_in_use outbox.old.in_flight wanted.old) ids.old.marks }
-    requires few { length wanted.old ≤ MAX_WANTED }
+    requires marked { AreMarked (ids_in_use outbox.old.sending.in_flight wanted.old.wanted) ids.old.marks }
+    requires closed { OwedAreClosed wanted.old.wanted }
+    requires few { load outbox.old.sending ≤ MAX_FLIGHT }
     ensures outs { IfOk result (λ outs. (clock pinged : ℕ) → outs
-        ≡ beginning (link_of outbox.old ids.old wanted.old pinged) clock
-        (agains_of policy.now outbox.old.in_flight)) }
-    ensures after { OnOk result ((clock pinged : ℕ) → link_of outbox.new ids.new wanted.new clock
-        ≡ subscribes_sent (resumed (link_of outbox.old ids.old wanted.old pinged) clock
-        (agains_of policy.now outbox.old.in_flight))
-        (filters_wanted (link_of outbox.old ids.old wanted.old pinged))) }
-    ensures marked { AreMarked (ids_in_use outbox.new.in_flight wanted.new) ids.new.marks }
-    ensures err { OnErr result ((outbox.new ≡ outbox.old) × (ids.new ≡ ids.old) × (wanted.new ≡ wanted.old)) }
+        ≡ beginning (link_of outbox.old.sending ids.old wanted.old.wanted pinged) clock
+        (agains_of policy.now outbox.old.sending.in_flight)) }
+    ensures after { OnOk result ((clock pinged : ℕ)
+        → link_of outbox.new.sending ids.new wanted.new.wanted clock
+        ≡ subscribes_sent (resumed (link_of outbox.old.sending ids.old wanted.old.wanted pinged) clock
+        (agains_of policy.now outbox.old.sending.in_flight))
+        (filters_wanted (link_of outbox.old.sending ids.old wanted.old.wanted pinged))) }
+    ensures marked { AreMarked (ids_in_use outbox.new.sending.in_flight wanted.new.wanted) ids.new.marks }
+    ensures closed { OwedAreClosed wanted.new.wanted }
+    ensures room { (outbox.new.places ≡ outbox.old.places) × (outbox.new.flights ≡ outbox.old.flights)
+        × (wanted.new.room ≡ wanted.old.room) }
+    ensures err { OnErr result ((outbox.new ≡ outbox.old) × (ids.new ≡ ids.old)
+        × (wanted.new ≡ wanted.old)) }
 {
     let last = ids.last();
-    let count = outbox.in_flight();
-    // No filter stands twice.
+    // No filter stands twice, and no more SUBSCRIBEs are open than may be.
     let stand = wanted.len();
+    let _opens = wanted.opens();
+    outbox.tidy();
+    let count = outbox.in_flight();
     let mut outs = Outs::with_capacity(alloc, count.saturating_mul(2).saturating_add(stand))?;
     let mut log = Vec::with_capacity(alloc, count.saturating_add(stand))?;
-    let stays = judge(alloc, policy, outbox, &mut outs, &mut log)?;
+    let denied = judge(alloc, policy, outbox, &mut outs, &mut log)?;
     let filters = wanted.filters(alloc)?;
     free_all(ids, log.as_slice());
-    match subscribe_all(alloc, filters.as_slice(), ids, wanted, outs, &mut log) {
+    match subscribe_all(alloc, policy, filters, ids, wanted, outs, &mut log) {
         Ok(outs) => {
-            forget_denied(outbox, stays.as_slice());
+            forget_all(outbox, denied.as_slice());
             Ok(outs)
         }
         Err(AllocError) => {
@@ -73,46 +77,55 @@ pub fn begin(
     }
 }
 
-/// What the publishes in flight let out, behind the outs, and for each whether it stays in flight. The log
-/// has the packet ids of those that do not. After an `Err` a part of it may be there.
+/// What the publishes in flight let out, behind the outs, and the packet ids of those that do not stay in
+/// flight. The log has a step for each of them. After an `Err` a part of it may be there.
 fn judge(
     alloc: Global,
     policy: &InForce,
     outbox: &Outbox,
     outs: &mut Outs,
     log: &mut Vec<Step>,
-) -> Result<Vec<bool>, AllocError>
+) -> Result<Vec<u16>, AllocError>
     requires { log.old.items ≡ [] }
-    ensures outs { OnOk result (outs.new
-        ≡ outs.old ++ resending outbox.now.in_flight (agains_of policy.now outbox.now.in_flight)) }
-    ensures stays { IfOk result (λ stays. stays.items
-        ≡ map is_allowed (agains_of policy.now outbox.now.in_flight)) }
-    ensures log { OnOk result (log.new.items
-        ≡ denied_steps outbox.now.in_flight (map is_allowed (agains_of policy.now outbox.now.in_flight))) }
+    ensures outs { OnOk result (outs.new ≡ outs.old
+        ++ resending outbox.now.sending.in_flight (agains_of policy.now outbox.now.sending.in_flight)) }
+    ensures denied { IfOk result (λ denied. denied.items ≡ denied_ids outbox.now.sending.in_flight
+        (map is_allowed (agains_of policy.now outbox.now.sending.in_flight))) }
+    ensures log { OnOk result (log.new.items ≡ denied_steps outbox.now.sending.in_flight
+        (map is_allowed (agains_of policy.now outbox.now.sending.in_flight))) }
 {
+    let mut denied = Vec::new(alloc);
     let count = outbox.in_flight();
-    let mut stays = Vec::with_capacity(alloc, count)?;
     for place in 0..count {
         let Some((packet_id, publication)) = outbox.again(place) else {
             unreachable!()
         };
-        let stay = sent_again(alloc, policy, packet_id, publication, outs)?;
-        stays.push(stay)?;
-        note_denied(packet_id, stay, log)?;
+        let stays = sent_again(alloc, policy, packet_id, publication, outs)?;
+        note_denied(packet_id, stays, &mut denied, log)?;
     }
-    Ok(stays)
+    Ok(denied)
 }
 
-/// The packet id will be free where its publish does not stay.
-fn note_denied(packet_id: u16, stay: bool, log: &mut Vec<Step>) -> Result<(), AllocError>
-    ensures { OnOk result (log.new.items ≡ log.old.items ++ denied_step packet_id stay) }
+/// The packet id is denied, and will be free, where its publish does not stay.
+fn note_denied(
+    packet_id: u16,
+    stays: bool,
+    denied: &mut Vec<u16>,
+    log: &mut Vec<Step>,
+) -> Result<(), AllocError>
+    ensures denied { OnOk result (denied.new.items ≡ denied.old.items ++ denied_id packet_id stays) }
+    ensures log { OnOk result (log.new.items ≡ log.old.items ++ denied_step packet_id stays) }
 {
-    if !stay {
-        log.push(Step {
-            packet_id: None,
-            former: Some(packet_id),
-        })?;
+    if stays {
+        return Ok(());
     }
+    denied.push(packet_id)?;
+    log.push(Step {
+        packet_id: None,
+        former: Some(packet_id),
+        owed: false,
+        owes: None,
+    })?;
     Ok(())
 }
 
@@ -127,40 +140,39 @@ fn free_all(ids: &mut PacketIds, log: &[Step])
     }
 }
 
-/// A SUBSCRIBE of each filter goes out, each with the next packet id, which is then the open one of the
-/// filter (3.8). They come behind the outs, and the answer has all. An `Err` is a failed allocation: the log
-/// has the steps that were taken so far.
+/// A SUBSCRIBE of each of these filters leaves, in order (3.8). They come behind the outs, and the answer has
+/// all. An `Err` is a failed allocation: the log has the steps that were taken so far.
 fn subscribe_all(
     alloc: Global,
-    filters: &[TopicFilter],
+    policy: &InForce,
+    filters: Vec<TopicFilter>,
     ids: &mut PacketIds,
     wanted: &mut Wanted,
     mut outs: Outs,
     log: &mut Vec<Step>,
 ) -> Result<OutsPair, AllocError>
-    requires stands { (from : List Bool) × (first : List Entry) × (link : Link)
-        × Stands from first [] log.old.items ids.old wanted.old link }
-    requires all { AllWanted wanted.old filters.now }
+    requires { (from : List Bool) × (first : List Entry) × (link : Link)
+        × Stands from first (map Item.Subscribe filters.items) log.old.items ids.old wanted.old.wanted link }
     ensures subscribed { IfOk result (λ pair. (from : List Bool) (first : List Entry) (link : Link)
-        → Stands from first [] log.old.items ids.old wanted.old link
+        → Stands from first (map Item.Subscribe filters.items) log.old.items ids.old wanted.old.wanted link
         → (more : List out_type) × (pair ≡ outs ++ more)
-        × Resubscribed from first link filters.now [] more log.new.items ids.new wanted.new) }
+        × Subscribed policy.now from first link (map Item.Subscribe filters.items) [] more log.new.items
+        ids.new wanted.new.wanted) }
+    ensures room { wanted.new.room ≡ wanted.old.room }
     ensures logged { (from : List Bool) (first : List Entry) (link : Link)
-        → Stands from first [] log.old.items ids.old wanted.old link
-        → Logged from first log.new.items ids.new.marks wanted.new }
+        → Stands from first (map Item.Subscribe filters.items) log.old.items ids.old wanted.old.wanted link
+        → Logged from first log.new.items ids.new.marks wanted.new.wanted }
 {
-    let mut next = ids.next();
     for filter in filters {
-        let packet = encode_subscribe(alloc, next, filter, Qos::AtLeastOnce)?;
-        outs.push(Out::Wire(packet))?;
-        let former = wanted.open_id(filter);
-        log.push(Step {
-            packet_id: Some(next),
-            former,
-        })?;
-        subscribed(ids, wanted, filter, next, former);
-        ids.count_from(next);
-        next = ids.next();
+        leave(
+            alloc,
+            policy,
+            ids,
+            wanted,
+            &Item::Subscribe(filter),
+            &mut outs,
+            log,
+        )?;
     }
     let pair = OutsPair::of(alloc, outs)?;
     Ok(pair)
@@ -193,17 +205,15 @@ fn sent_again(
     Ok(is_allowed)
 }
 
-/// The publishes that do not stay are in flight no more. Takes no memory.
-fn forget_denied(outbox: &mut Outbox, stays: &[bool])
-    requires { length outbox.old.in_flight ≡ length stays.now }
-    ensures { outbox.new ≡ record outbox.old { in_flight = staying outbox.old.in_flight stays.now } }
+/// The publishes with these packet ids are in flight no more. Takes no memory.
+fn forget_all(outbox: &mut Outbox, denied: &[u16])
+    ensures { outbox.new ≡ record outbox.old {
+      sending = record outbox.old.sending {
+        in_flight = without_all outbox.old.sending.in_flight denied.now;
+      };
+    } }
 {
-    let mut place = 0;
-    for stay in stays {
-        if *stay {
-            place += 1;
-        } else {
-            outbox.forget(place);
-        }
+    for packet_id in denied {
+        let _found = outbox.acked(*packet_id);
     }
 }

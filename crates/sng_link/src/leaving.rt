@@ -1,20 +1,17 @@
 //! What waits leaves for the broker, each publish judged by the policy in force (MQTT 3.1.1, 2.3.1, 3.3, 3.4,
 //! 3.8, 3.10 and 3.12).
-ghost use Rattle.std.specs.Prelude.{◌≡◌, ◌≤◌, ◌<◌, ℕ, [], ◌∷◌, ◌++◌, true, false, length, set, if◌then◌else◌};
-ghost use Rattle.std.specs.Prelude.{IfOk, OnOk};
+ghost use Rattle.std.specs.Prelude.{◌≡◌, ◌≤◌, ◌<◌, ℕ, List, [], ◌∷◌, ◌++◌, true, false, set, if◌then◌else◌};
+ghost use Rattle.std.specs.Prelude.{IfOk, OnOk, OnErr};
 ghost use Rattle.std.specs.List.{list_any};
-ghost use Rattle.sng_outbox.specs.declared.limits.TheConstants.{MAX_IN_FLIGHT};
-ghost use Rattle.sng_outbox.specs.Sending.{load};
-ghost use Rattle.sng_history.specs.Good.{WantedOnce};
-ghost use Rattle.sng_history.specs.Links.{wants, opened, is_open};
-ghost use Rattle.sng_history.specs.Exits.{packet_of, forwarded, subscribe_packet, unsubscribe_packet};
+ghost use Rattle.sng_book.specs.declared.out.Out.{Out as out_type};
+ghost use Rattle.sng_history.specs.Links.{wants, may_open, opened, is_open};
+ghost use Rattle.sng_history.specs.Exits.{packet_of, forwarded, unsubscribe_packet};
 ghost use Rattle.sng_history.specs.Verdicts.{exit};
-ghost use Rattle.sng_wanted.specs.declared.limits.TheConstants.{MAX_WANTED};
-ghost use Rattle.sng_wanted.specs.Filters.{id_for};
-ghost use Rattle.sng_link.specs.Flights.{link_of, ids_in_use, AreMarked};
-ghost use Rattle.sng_link.specs.Steps.{marked, Logged};
+ghost use Rattle.sng_link.specs.Flights.{link_of};
+ghost use Rattle.sng_link.specs.Steps.{marked, forth_marks, Logged};
 ghost use Rattle.sng_link.specs.Taking.{id_at, flight_id, item_outs, item_step, no_step, step_under};
-ghost use Rattle.sng_link.specs.Taking.{numbered, wanted_after, IsStep, Planned};
+ghost use Rattle.sng_link.specs.Taking.{subscribe_outs, subscribe_step, owe_step, numbered, wanted_after};
+ghost use Rattle.sng_link.specs.Taking.{owing_by, IsStep, NextIsFree, LeftBy, Stands, Planned};
 
 use crate::step::Step;
 use mqtt_frames::{
@@ -28,9 +25,9 @@ use sng_text::{Octets, Qos, TopicFilter};
 use sng_wanted::Wanted;
 use std::alloc::{AllocError, Global};
 
-/// What all items let out as they leave in order, with room made ahead for it, and for each the step by which
-/// it leaves. What the steps take into use is in use from then on. An `Err` is a failed allocation: the log
-/// has the steps that were taken so far.
+/// What all items that wait let out as they leave in order, behind the outs, and for each the step by which it
+/// leaves. What the steps take into use is in use from then on. An `Err` is a failed allocation: the log has the
+/// steps that were taken so far.
 pub fn plan(
     alloc: Global,
     policy: &InForce,
@@ -40,67 +37,113 @@ pub fn plan(
     mut outs: Outs,
     log: &mut Vec<Step>,
 ) -> Result<OutsPair, AllocError>
-    requires marked { AreMarked (ids_in_use outbox.now.in_flight wanted.old) ids.old.marks }
-    requires once { WantedOnce wanted.old }
-    requires few_wanted { length wanted.old ≤ MAX_WANTED }
-    requires small { ids.old.last ≤ 65535 }
-    requires few { load outbox.now ≤ MAX_IN_FLIGHT }
-    requires no_outs { outs ≡ [] }
+    requires stands { (pinged : ℕ) → Stands ids.old.marks wanted.old.wanted outbox.now.sending.waiting []
+        ids.old wanted.old.wanted (link_of outbox.now.sending ids.old wanted.old.wanted pinged) }
     requires no_log { log.old.items ≡ [] }
-    ensures planned { IfOk result (λ pair. (pinged : ℕ) → Planned policy.now ids.old.marks
-        (link_of outbox.now ids.old wanted.old pinged) outbox.now.waiting [] pair log.new.items ids.new
-        wanted.new) }
-    ensures logged { Logged ids.old.marks wanted.old log.new.items ids.new.marks wanted.new }
+    ensures planned { IfOk result (λ pair. (pinged : ℕ) → (more : List out_type) × (pair ≡ outs ++ more)
+        × Planned policy.now ids.old.marks
+        (link_of outbox.now.sending ids.old wanted.old.wanted pinged) outbox.now.sending.waiting [] more
+        log.new.items ids.new wanted.new.wanted) }
+    ensures room { wanted.new.room ≡ wanted.old.room }
+    ensures logged { Logged ids.old.marks wanted.old.wanted log.new.items ids.new.marks wanted.new.wanted }
 {
-    let mut next = ids.next();
     for item in outbox.iter() {
-        let step = leaves(alloc, policy, wanted, item, next, &mut outs)?;
-        log.push(step)?;
-        go(ids, wanted, item, step);
-        next = ids.next();
+        leave(alloc, policy, ids, wanted, item, &mut outs, log)?;
     }
     let pair = OutsPair::of(alloc, outs)?;
     Ok(pair)
 }
 
+/// One item leaves: what it lets out comes behind the outs, and its step behind the log. An `Err` is a failed
+/// allocation, and leaves a part of its outs: nothing else changes.
+pub fn leave(
+    alloc: Global,
+    policy: &InForce,
+    ids: &mut PacketIds,
+    wanted: &mut Wanted,
+    item: &Item,
+    outs: &mut Outs,
+    log: &mut Vec<Step>,
+) -> Result<(), AllocError>
+    requires { NextIsFree ids.old wanted.old.wanted }
+    ensures left { OnOk result (LeftBy policy.now item.now outs.old outs.new log.old.items log.new.items
+        ids.old ids.new wanted.old wanted.new) }
+    ensures err { OnErr result ((log.new.items ≡ log.old.items) × (ids.new ≡ ids.old)
+        × (wanted.new ≡ wanted.old)) }
+{
+    log.reserve(1)?;
+    let next = ids.next();
+    let step = leaves(alloc, policy, wanted, item, next, outs)?;
+    go(ids, wanted, item, &step);
+    log.push_reserved(step);
+    Ok(())
+}
+
 /// An item leaves by this step: its packet id is used up, and where an answer to it is waited for it is in
 /// use. That of a SUBSCRIBE is the open one of its filter, and the former one is free (3.8 and 3.10).
-fn go(ids: &mut PacketIds, wanted: &mut Wanted, item: &Item, step: Step)
-    requires { IsStep wanted.old item.now step }
-    ensures ids { ids.new ≡ numbered ids.old item.now step }
-    ensures wanted { wanted.new ≡ wanted_after wanted.old item.now step }
+fn go(ids: &mut PacketIds, wanted: &mut Wanted, item: &Item, step: &Step)
+    requires { IsStep wanted.old.wanted item.now step.now }
+    ensures ids { ids.new ≡ numbered ids.old item.now step.now }
+    ensures wanted { wanted.new
+        ≡ record wanted.old { wanted = wanted_after wanted.old.wanted item.now step.now } }
 {
-    let Some(packet_id) = step.packet_id else {
-        return;
-    };
     match item {
-        Item::Subscribe(filter) => {
-            subscribed(ids, wanted, filter, packet_id, step.former);
+        Item::Subscribe(filter) => go_subscribe(ids, wanted, filter, step),
+        Item::Publish(_) => {
+            if let Some(packet_id) = step.packet_id {
+                ids.mark(packet_id);
+            }
         }
-        Item::Publish(_) => ids.mark(packet_id),
         Item::Unsubscribe(_) | Item::Acknowledge(_) | Item::Ping => {}
     }
-    ids.count_from(packet_id);
+    if let Some(packet_id) = step.packet_id {
+        ids.count_from(packet_id);
+    }
+}
+
+/// A SUBSCRIBE of the filter leaves by this step, or is owed.
+fn go_subscribe(ids: &mut PacketIds, wanted: &mut Wanted, filter: &TopicFilter, step: &Step)
+    requires { IsStep wanted.old.wanted (Item.Subscribe filter.now) step.now }
+    ensures ids { ids.new ≡ record ids.old { marks = forth_marks ids.old.marks step.now } }
+    ensures wanted { wanted.new ≡ record wanted.old {
+      wanted = wanted_after wanted.old.wanted (Item.Subscribe filter.now) step.now;
+    } }
+{
+    if let Some(packet_id) = step.packet_id {
+        subscribed(ids, wanted, filter, packet_id, step.former);
+    }
+    owe(wanted, &step.owes);
 }
 
 /// The SUBSCRIBE with this packet id is the open one of the filter, and the former packet id is free.
-pub fn subscribed(
+fn subscribed(
     ids: &mut PacketIds,
     wanted: &mut Wanted,
     filter: &TopicFilter,
     packet_id: u16,
     former: Option<u16>,
 )
-    requires { list_any (is_open packet_id) wanted.old ≡ false }
+    requires free { list_any (is_open packet_id) wanted.old.wanted ≡ false }
+    requires may { may_open wanted.old.wanted filter.now ≡ true }
     ensures ids { ids.new ≡ record ids.old {
       marks = marked (set ids.old.marks packet_id true) former false;
     } }
-    ensures wanted { wanted.new ≡ opened wanted.old filter.now packet_id }
+    ensures wanted { wanted.new
+        ≡ record wanted.old { wanted = opened wanted.old.wanted filter.now packet_id } }
 {
     wanted.open(filter, packet_id);
     ids.mark(packet_id);
     if let Some(former) = former {
         ids.free(former);
+    }
+}
+
+/// A SUBSCRIBE of the filter is owed, where there is one.
+fn owe(wanted: &mut Wanted, filter: &Option<TopicFilter>)
+    ensures { wanted.new ≡ record wanted.old { wanted = owing_by wanted.old.wanted filter.now } }
+{
+    if let Some(filter) = filter {
+        wanted.owe(filter);
     }
 }
 
@@ -115,16 +158,14 @@ fn leaves(
     outs: &mut Outs,
 ) -> Result<Step, AllocError>
     requires { 0 < next }
-    ensures outs { OnOk result (outs.new ≡ outs.old ++ item_outs policy.now wanted.now next item.now) }
-    ensures step { IfOk result (λ step. step ≡ item_step policy.now wanted.now next item.now) }
+    ensures outs { OnOk result (outs.new
+        ≡ outs.old ++ item_outs policy.now wanted.now.wanted next item.now) }
+    ensures step { IfOk result (λ step. step ≡ item_step policy.now wanted.now.wanted next item.now) }
 {
     match item {
         Item::Publish(publication) => {
             let packet_id = forwarded(alloc, policy, publication, next, outs)?;
-            Ok(Step {
-                packet_id,
-                former: None,
-            })
+            Ok(step_under(packet_id))
         }
         Item::Subscribe(filter) => subscribes(alloc, wanted, filter, next, outs),
         Item::Unsubscribe(filter) => unsubscribes(alloc, wanted, filter, next, outs),
@@ -143,14 +184,22 @@ fn leaves(
 fn no_step() -> Step
     ensures { result ≡ no_step }
 {
+    step_under(None)
+}
+
+/// This packet id is used up, where it is one, and no former one is free.
+fn step_under(packet_id: Option<u16>) -> Step
+    ensures { result ≡ step_under packet_id }
+{
     Step {
-        packet_id: None,
+        packet_id,
         former: None,
+        owed: false,
+        owes: None,
     }
 }
 
-/// A SUBSCRIBE goes out at QoS 1 where its filter is wanted (3.8): its packet id is then the open one of the
-/// filter.
+/// A SUBSCRIBE has to leave where its filter is wanted (3.8).
 fn subscribes(
     alloc: Global,
     wanted: &Wanted,
@@ -159,19 +208,58 @@ fn subscribes(
     outs: &mut Outs,
 ) -> Result<Step, AllocError>
     requires { 0 < next }
-    ensures outs { OnOk result (outs.new
-        ≡ outs.old ++ (if wants wanted.now filter.now then subscribe_packet next filter.now ∷ [] else [])) }
-    ensures step { IfOk result (λ step. step ≡ (if wants wanted.now filter.now
-        then record { packet_id = Some next; former = id_for wanted.now filter.now } else no_step)) }
+    ensures outs { OnOk result (outs.new ≡ outs.old
+        ++ (if wants wanted.now.wanted filter.now then subscribe_outs wanted.now.wanted next filter.now
+        else [])) }
+    ensures step { IfOk result (λ step. step
+        ≡ (if wants wanted.now.wanted filter.now then subscribe_step wanted.now.wanted next filter.now
+        else no_step)) }
 {
-    if !wanted.is_wanted(filter) {
-        return Ok(no_step());
+    if wanted.is_wanted(filter) {
+        subscribe(alloc, wanted, filter, next, outs)
+    } else {
+        Ok(no_step())
+    }
+}
+
+/// The SUBSCRIBE goes out at QoS 1 where it may be open: its packet id is then the open one of the filter. Else
+/// it is owed.
+fn subscribe(
+    alloc: Global,
+    wanted: &Wanted,
+    filter: &TopicFilter,
+    next: u16,
+    outs: &mut Outs,
+) -> Result<Step, AllocError>
+    requires { 0 < next }
+    ensures outs { OnOk result (outs.new ≡ outs.old ++ subscribe_outs wanted.now.wanted next filter.now) }
+    ensures step { IfOk result (λ step. step ≡ subscribe_step wanted.now.wanted next filter.now) }
+{
+    if !wanted.may_open(filter) {
+        return owed_step(wanted, filter);
     }
     let packet = encode_subscribe(alloc, next, filter, Qos::AtLeastOnce)?;
     outs.push(Out::Wire(packet))?;
     Ok(Step {
         packet_id: Some(next),
         former: wanted.open_id(filter),
+        owed: wanted.is_owed(filter),
+        owes: None,
+    })
+}
+
+/// A SUBSCRIBE of the filter is owed, where none was.
+fn owed_step(wanted: &Wanted, filter: &TopicFilter) -> Result<Step, AllocError>
+    ensures { IfOk result (λ step. step ≡ owe_step wanted.now.wanted filter.now) }
+{
+    if wanted.is_owed(filter) {
+        return Ok(no_step());
+    }
+    Ok(Step {
+        packet_id: None,
+        former: None,
+        owed: false,
+        owes: Some(filter.copy()?),
     })
 }
 
@@ -184,20 +272,18 @@ fn unsubscribes(
     outs: &mut Outs,
 ) -> Result<Step, AllocError>
     requires { 0 < next }
-    ensures outs { OnOk result (outs.new
-        ≡ outs.old ++ (if wants wanted.now filter.now then [] else unsubscribe_packet next filter.now ∷ [])) }
+    ensures outs { OnOk result (outs.new ≡ outs.old
+        ++ (if wants wanted.now.wanted filter.now then []
+        else unsubscribe_packet next filter.now ∷ [])) }
     ensures step { IfOk result (λ step. step
-        ≡ (if wants wanted.now filter.now then no_step else step_under (Some next))) }
+        ≡ (if wants wanted.now.wanted filter.now then no_step else step_under (Some next))) }
 {
     if wanted.is_wanted(filter) {
         return Ok(no_step());
     }
     let packet = encode_unsubscribe(alloc, next, filter)?;
     outs.push(Out::Wire(packet))?;
-    Ok(Step {
-        packet_id: Some(next),
-        former: None,
-    })
+    Ok(step_under(Some(next)))
 }
 
 /// A publish leaves with the note of its judgement, and behind an allowed one its packet.

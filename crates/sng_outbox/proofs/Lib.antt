@@ -3,3 +3,4 @@ pub mod ItemLemmas
 pub mod LoadLemmas
 pub mod MarkLemmas
 pub mod PlaceLemmas
+pub mod SlotLemmas

@@ -1,43 +1,11 @@
 -- Where the first publish with a packet id stands, and what is left without it.
-use Rattle.std.proofs.Common.{◌≡◌, ℕ, ◌+◌, ◌<◌, ◌≤◌, Bool, true, false, ◌==◌, ◌||◌, not, List, [], ◌∷◌, ◌++◌}
-use Rattle.std.proofs.Common.{length, if◌then◌else◌, cond, refl, ap, arith}
+use Rattle.std.proofs.Common.{◌≡◌, ℕ, ◌≤◌, Bool, true, false, ◌==◌, ◌||◌, List, [], ◌∷◌, ◌++◌, length}
+use Rattle.std.proofs.Common.{if◌then◌else◌, refl, ap, arith}
 use Rattle.std.specs.Bool.{MatchBool}
-use Rattle.std.specs.List.{position_or_len, remove}
 use Rattle.std.proofs.lemmas.Bool.{eqb-true}
-use Rattle.std.proofs.Math.Numerals.{one-add}
 use Rattle.sng_outbox.specs.declared.in_flight.InFlight.{InFlight}
 use Rattle.sng_outbox.specs.Sending.{has_id, is_in_flight, without_first}
 use Rattle.sng_outbox.specs.Laws.{OneIsAcknowledged}
-
--- one is there where the place is within the list, and leaves its place
-pub taken_at : (xs : List InFlight) (id : ℕ) → position_or_len (has_id id) xs < length xs
-    → (is_in_flight xs id ≡ true) × (remove xs (position_or_len (has_id id) xs) ≡ without_first xs id)
-taken_at [] id = λ within. absurd (omega arith)
-taken_at (sent ∷ xs) id =
-    let place = position_or_len (has_id id) xs in
-    elim (has_id id sent) as (λ b. cond (not b) (1 + place) 0 < length (sent ∷ xs)
-    → ((b || is_in_flight xs id) ≡ true)
-    × (remove (sent ∷ xs) (cond (not b) (1 + place) 0) ≡ (if b then xs else sent ∷ without_first xs id))) [
-      | true ↦ λ _. (refl, refl)
-      | false ↦ λ within.
-          let later = taken_at xs id (omega arith) in
-          (later.0, rw (one-add place) (ap (λ l. sent ∷ l) later.1))
-    ]
-
--- and none where it is not, so that all stay
-pub none_at : (xs : List InFlight) (id : ℕ) → length xs ≤ position_or_len (has_id id) xs
-    → (is_in_flight xs id ≡ false) × (without_first xs id ≡ xs)
-none_at [] id = λ _. (refl, refl)
-none_at (sent ∷ xs) id =
-    let place = position_or_len (has_id id) xs in
-    elim (has_id id sent) as (λ b. length (sent ∷ xs) ≤ cond (not b) (1 + place) 0
-    → ((b || is_in_flight xs id) ≡ false)
-    × ((if b then xs else sent ∷ without_first xs id) ≡ sent ∷ xs)) [
-      | true ↦ λ beyond. absurd (omega arith)
-      | false ↦ λ beyond.
-          let later = none_at xs id (omega arith) in
-          (later.0, ap (λ l. sent ∷ l) later.1)
-    ]
 
 -- the list apart, at the first with the id
 abbrev Apart : List InFlight → ℕ → List InFlight → Type 0
@@ -65,3 +33,11 @@ apart_by sent xs id false false is later = ap (λ l. sent ∷ l) later
 pub apart : OneIsAcknowledged
 apart [] id = refl
 apart (sent ∷ xs) id = apart_by sent xs id (has_id id sent) (is_in_flight xs id) refl (apart xs id)
+
+-- no more are left than there were
+pub left-within : (xs : List InFlight) (id : ℕ) → length (without_first xs id) ≤ length xs
+left-within [] id = omega arith
+left-within (sent ∷ xs) id =
+    let later = left-within xs id in
+    elim (has_id id sent) as (λ b. length (if b then xs else sent ∷ without_first xs id) ≤ length (sent ∷ xs))
+    [ true ↦ omega arith | false ↦ omega (arith, later) ]

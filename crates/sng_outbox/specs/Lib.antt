@@ -1,3 +1,4 @@
+pub mod Flights
 pub mod Laws
 pub mod PacketIds
 pub mod Sending

@@ -8,12 +8,18 @@ use Rattle.sng_outbox.specs.declared.item.Item.{Item}
 use Rattle.sng_outbox.specs.declared.item.Item.TheVariants.{Publish, Subscribe, Unsubscribe, Acknowledge}
 use Rattle.sng_outbox.specs.declared.item.Item.TheVariants.{Ping}
 use Rattle.sng_outbox.specs.declared.in_flight.InFlight.{InFlight}
-use Rattle.sng_outbox.specs.declared.limits.TheConstants.{MAX_OUTBOX_ITEMS, MAX_IN_FLIGHT}
 
 -- the items that wait, the oldest first, and the publishes in flight, in the order of their sending
 pub record Sending : Type 0 where
   pub waiting : List Item
   pub in_flight : List InFlight
+
+-- the same with the room that there is: how many items may wait, and how many publishes of QoS 1 may wait or be
+-- in flight, without more memory
+pub record SendingRoom : Type 0 where
+  pub sending : Sending
+  pub places : ℕ
+  pub flights : ℕ
 
 abbrev pub nothing : Sending
 nothing = record { waiting = []; in_flight = [] }
@@ -46,11 +52,9 @@ publishes waiting = filter is_publish waiting
 abbrev pub load : Sending → ℕ
 load s = count_by asks_for_ack s.waiting + length s.in_flight
 
--- the item may be added: fewer items wait than may, and of publishes of QoS 1 fewer wait or are in flight
--- than may
-abbrev pub has_room : Sending → Item → Bool
-has_room s item =
-    not (asks_for_ack item && nat_le MAX_IN_FLIGHT (load s)) && nat_lt (length s.waiting) MAX_OUTBOX_ITEMS
+-- the item may be added without more memory: there is a place for it, and one in flight for a publish of QoS 1
+abbrev pub has_room : SendingRoom → Item → Bool
+has_room s item = not (asks_for_ack item && nat_le s.flights (load s.sending)) && nat_lt (length s.sending.waiting) s.places
 
 -- it was sent with this packet id
 abbrev pub has_id : ℕ → InFlight → Bool

@@ -2,6 +2,7 @@
 ghost use Rattle.std.specs.Prelude.{◌≡◌, ◌↔◌, IsTrue, IfOk};
 ghost use Rattle.sng_outbox.specs.Sending.{nothing};
 
+use crate::flights::Flights;
 use crate::{InFlight, Item};
 use std::alloc::{AllocError, Global};
 use std::collections::VecDeque;
@@ -28,14 +29,14 @@ impl OutboxCopy {
     pub(crate) fn of(
         alloc: Global,
         waiting: &VecDeque<Item>,
-        in_flight: &[InFlight],
+        in_flight: &Flights,
     ) -> Result<OutboxCopy, AllocError>
         ensures { IfOk result
-            (λ c. c ≡ record { waiting = waiting.now.items; in_flight = in_flight.now }) }
+            (λ c. c ≡ record { waiting = waiting.now.items; in_flight = in_flight.now.sent }) }
     {
         Ok(OutboxCopy {
             waiting: copy_items(alloc, waiting)?,
-            in_flight: copy_in_flight(alloc, in_flight)?,
+            in_flight: in_flight.copy(alloc)?,
         })
     }
 
@@ -67,16 +68,6 @@ fn copy_items(alloc: Global, items: &VecDeque<Item>) -> Result<Vec<Item>, AllocE
     let mut copies = Vec::with_capacity(alloc, items.len())?;
     for item in items.iter() {
         copies.push(item.copy()?)?;
-    }
-    Ok(copies)
-}
-
-fn copy_in_flight(alloc: Global, in_flight: &[InFlight]) -> Result<Vec<InFlight>, AllocError>
-    ensures { IfOk result (λ v. v.items ≡ in_flight.now) }
-{
-    let mut copies = Vec::with_capacity(alloc, in_flight.len())?;
-    for sent in in_flight {
-        copies.push(sent.copy()?)?;
     }
     Ok(copies)
 }

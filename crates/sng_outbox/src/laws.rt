@@ -1,16 +1,7 @@
 //! The laws of the outbox (MQTT 3.1.1, 2.3.1, 4.3.2 and 4.6). The functions here only state them: a contract
 //! is the law, and a call does nothing.
-ghost use Rattle.std.specs.Prelude.{◌≡◌};
 ghost use Rattle.sng_outbox.specs.Laws.{NextIdIsFree, MarksFollowUse, UndoneIsUnused, OneIsAcknowledged};
 ghost use Rattle.sng_outbox.specs.Laws.{PublishesAreKept};
-
-use crate::{MAX_IN_FLIGHT, MAX_OUTBOX_ITEMS};
-
-/// The limits.
-pub fn limits()
-    ensures items { MAX_OUTBOX_ITEMS ≡ 512 }
-    ensures in_flight { MAX_IN_FLIGHT ≡ 128 }
-{}
 
 /// The next packet id is not 0, is not in use, and is the first such id counted on from the last one.
 pub fn next_id_is_free()

@@ -4,10 +4,10 @@
 
 mod comparing;
 pub mod copying;
+mod flights;
 pub mod in_flight;
 pub mod item;
 pub mod laws;
-pub mod limits;
 pub mod origin;
 pub mod outbox;
 pub mod packet_ids;
@@ -15,7 +15,6 @@ pub mod packet_ids;
 pub use copying::OutboxCopy;
 pub use in_flight::InFlight;
 pub use item::{Item, Publication};
-pub use limits::{MAX_IN_FLIGHT, MAX_OUTBOX_ITEMS};
 pub use origin::Origin;
 pub use outbox::Outbox;
 pub use packet_ids::PacketIds;

@@ -1,5 +1,6 @@
 -- The search for a place ends with the fault of the text, test by test.
-use Rattle.std.proofs.Common.{◌≡◌, ℕ, suc, Bool, true, false, not, ◌&&◌, ◌||◌, ◌==◌, cond, ltb, List, [], ◌∷◌}
+use Rattle.std.proofs.Common.{◌≡◌, ℕ, suc, Bool, true, false, not, ◌&&◌, ◌||◌, ◌==◌, cond, ltb, nat_le, List}
+use Rattle.std.proofs.Common.{[], ◌∷◌}
 use Rattle.std.proofs.Common.{Option, Some, None, is_none, option_map, option_and_then, unwrap_or, ok_or}
 use Rattle.std.proofs.Common.{Result, Ok, Err, IfErr, codes, refl, sym, ap, ◌∙◌}
 use Rattle.std.specs.Str.{is_utf8}
@@ -14,15 +15,21 @@ use Rattle.sng_text.specs.Texts.{filter_fault, name_fault}
 use Rattle.sng_text.specs.declared.fault.TextFault.{TextFault}
 use Rattle.sng_grants.specs.Sources.{endless, with_grant}
 use Rattle.sng_grants.specs.Topics.{with_name}
+use Rattle.sng_grants.specs.Limits.{Limits}
 use Rattle.sng_grants.specs.declared.limits.TheConstants.{MAX_POLICY_CLIENTS, MAX_PAIRS, MAX_SOURCES}
-use Rattle.sng_grants.specs.declared.limits.TheConstants.{MAX_TOPICS}
+use Rattle.sng_grants.specs.declared.limits.TheConstants.{MAX_TOPICS, MAX_WAITING, MAX_FLIGHT, DEFAULT_CLIENTS}
+use Rattle.sng_grants.specs.declared.limits.TheConstants.{DEFAULT_SOURCES, DEFAULT_TOPICS, DEFAULT_WAITING}
+use Rattle.sng_grants.specs.declared.limits.TheConstants.{DEFAULT_FLIGHT}
 use Rattle.sng_grants.specs.declared.grant.Grant.{Grant}
 use Rattle.sng_grants.specs.declared.scope.Pair.{Pair}
 use Rattle.sng_scope.specs.Numerals.{topic_id_of}
 use Rattle.sng_scope.specs.Grants.{are_grant_members, end_of, grant_by_members, grant_of_data}
 use Rattle.sng_scope.specs.Grants.{grant_of_object, is_grant_member, lasting_grant_of}
 use Rattle.sng_scope.specs.Policies.{are_known, client_of, clients_of, clients_onto, is_known, is_policy_object}
-use Rattle.sng_scope.specs.Policies.{is_version, may_end, members_within, name_of_data, parts_of}
+use Rattle.sng_scope.specs.Policies.{is_version, may_end, may_limit, members_within, name_of_data, parts_of}
+use Rattle.sng_scope.specs.Policies.{parts_within}
+use Rattle.sng_scope.specs.PolicyLimits.{are_limits, is_limit, limit_of, limits_by_members, limits_of}
+use Rattle.sng_scope.specs.PolicyLimits.{limits_of_object, ranged}
 use Rattle.sng_scope.specs.Policies.{policy_of_data, sources_of, sources_onto, topics_of, topics_onto}
 use Rattle.sng_scope.specs.Scopes.{are_permissions, are_texts, is_text, says, pair_from, pair_of, pairs_of}
 use Rattle.sng_scope.specs.Scopes.{scope_of_items, text_and_array}
@@ -33,6 +40,8 @@ use Rattle.sng_scope.specs.declared.fault.PolicyFault.{PolicyFault}
 use Rattle.sng_scope.specs.declared.fault.PolicyFault.TheVariants as faults
 use Rattle.sng_places.specs.Flaws.{fault_of}
 use Rattle.sng_places.specs.Laws.{PlacesAreOfFaults, blamed, fault_at, forget}
+use Rattle.sng_places.specs.LimitPlaces.{least_of, limit_check, limit_members_check, limits_check, limits_in}
+use Rattle.sng_places.specs.LimitPlaces.{limits_or, limits_stop, most_of, no_other, other_limit}
 use Rattle.sng_places.specs.Places.{client_check, clients_check, clients_in, data_check, end_check}
 use Rattle.sng_places.specs.Places.{ending_check, grant_check, known_check, object_check}
 use Rattle.sng_places.specs.Places.{part_within, placed, sources_check, sources_in}
@@ -45,6 +54,8 @@ use Rattle.sng_places.specs.ScopePlaces.{scope_check, stop_at, texts_by, two_che
 use Rattle.sng_places.specs.declared.flaw.Flaw.TheVariants as flaws
 use Rattle.sng_places.specs.declared.location.Form.{Form}
 use Rattle.sng_places.specs.declared.location.Form.TheVariants as forms
+use Rattle.sng_places.specs.declared.location.LimitName.{LimitName}
+use Rattle.sng_places.specs.declared.location.LimitName.TheVariants as limit
 use Rattle.sng_places.specs.declared.location.Part.{Part}
 use Rattle.sng_places.specs.declared.location.Part.TheVariants as parts_of_a_policy
 use Rattle.sng_places.specs.declared.location.Location.{Location}
@@ -344,34 +355,36 @@ part_by part most d next rest k = by_object (as_object d)
     by_object None = refl
     by_object (Some ms) = by_limit (ltb most (members_len ms)) ms _ refl
 
-clients_part : (ends : Bool) (o : Option Data) → blamed fault_at (clients_in ends o) ≡ forget (clients_of ends o)
-clients_part ends None = refl
-clients_part ends (Some d) =
-    part_by parts_of_a_policy.Clients MAX_POLICY_CLIENTS d (clients_onto ends []) (clients_check ends)
+clients_part : (most : ℕ) (ends : Bool) (o : Option Data)
+    → blamed fault_at (clients_in most ends o) ≡ forget (clients_of most ends o)
+clients_part most ends None = refl
+clients_part most ends (Some d) =
+    part_by parts_of_a_policy.Clients most d (clients_onto ends []) (clients_check ends)
     (λ ms. clients ends ms [])
 
-sources_part : (ends : Bool) (o : Option Data) → blamed fault_at (sources_in ends o) ≡ forget (sources_of ends o)
-sources_part ends None = refl
-sources_part ends (Some d) =
-    part_by parts_of_a_policy.Sources MAX_SOURCES d (sources_onto ends []) (sources_check ends)
+sources_part : (most : ℕ) (ends : Bool) (o : Option Data)
+    → blamed fault_at (sources_in most ends o) ≡ forget (sources_of most ends o)
+sources_part most ends None = refl
+sources_part most ends (Some d) =
+    part_by parts_of_a_policy.Sources most d (sources_onto ends []) (sources_check ends)
     (λ ms. sources ends ms [])
 
-topics_part : (o : Option Data) → blamed fault_at (topics_in o) ≡ forget (topics_of o)
-topics_part None = refl
-topics_part (Some d) =
-    part_by parts_of_a_policy.Topics MAX_TOPICS d (topics_onto []) topics_check (λ ms. topics ms [])
+topics_part : (most : ℕ) (o : Option Data) → blamed fault_at (topics_in most o) ≡ forget (topics_of most o)
+topics_part most None = refl
+topics_part most (Some d) =
+    part_by parts_of_a_policy.Topics most d (topics_onto []) topics_check (λ ms. topics ms [])
 
 -- ---- policies
 
-are_known-none : (ms : Members) → are_known ms ≡ is_none (unknown_of ms)
-are_known-none no_members = refl
-are_known-none (member name d ms) =
-    found (is_known name) (are_known ms) (unknown_of ms) name (are_known-none ms)
+are_known-none : (limited : Bool) (ms : Members) → are_known limited ms ≡ is_none (unknown_of limited ms)
+are_known-none limited no_members = refl
+are_known-none limited (member name d ms) =
+    found (is_known limited name) (are_known limited ms) (unknown_of limited ms) name (are_known-none limited ms)
 
 abbrev is_version_in : Option Data → Bool
 is_version_in g =
-    unwrap_or (option_map (λ n. (n == 1) || (n == 2)) (option_and_then as_u64 (option_and_then as_number g)))
-    false
+    unwrap_or (option_map (λ n. (n == 1) || (n == 2) || (n == 4))
+    (option_and_then as_u64 (option_and_then as_number g))) false
 
 abbrev version_or : Bool → Result Unit Stop
 version_or b = cond b (Ok tt) (Err (places.stop_at all_places.Version flaws.OtherVersion))
@@ -384,37 +397,116 @@ known_by false o = refl
 known_by true None = refl
 known_by true (Some name) = refl
 
-version_by : (g : Option Data) (ms : Members)
+version_by : (limited : Bool) (g : Option Data) (ms : Members)
     → blamed fault_at ((ok_or g (places.stop_at all_places.Whole flaws.NoVersion) >>=
-    (λ version. version_or (is_version_in g))) >>= (λ version. known_check ms))
-    ≡ shaped (is_version_in g && are_known ms)
-version_by None ms = refl
-version_by (Some d) ms = rw (are_known-none ms) (known_by (is_version_in (Some d)) (unknown_of ms))
+    (λ version. version_or (is_version_in g))) >>= (λ version. known_check limited ms))
+    ≡ shaped (is_version_in g && are_known limited ms)
+version_by limited None ms = refl
+version_by limited (Some d) ms =
+    rw (are_known-none limited ms) (known_by (is_version_in (Some d)) (unknown_of limited ms))
 
 object_by : (d : Data) (o : Option Members)
     → blamed fault_at (ok_or o (places.stop_at all_places.Whole flaws.NotObject) >>=
-    (λ ms. version_check d >>= (λ version. known_check ms)))
-    ≡ shaped (is_version d && unwrap_or (option_map are_known o) false)
+    (λ ms. version_check d >>= (λ version. known_check (may_limit d) ms)))
+    ≡ shaped (is_version d && unwrap_or (option_map (are_known (may_limit d)) o) false)
 object_by d None = none (is_version d)
   where
     none : (b : Bool) → Err faults.Shape ≡ shaped (b && false)
     none true = refl
     none false = refl
-object_by d (Some ms) = version_by (get (codes "version") d) ms
+object_by d (Some ms) = version_by (may_limit d) (get (codes "version") d) ms
 
-all_parts : (d : Data) → blamed fault_at
-    (clients_in (may_end d) (get (codes "clients") d) >>=
-    (λ clients. sources_in (may_end d) (get (codes "sources") d) >>=
-    (λ sources. topics_in (get (codes "topics") d))))
-    ≡ forget (parts_of d)
-all_parts d =
+abbrev parts_check_within : Limits → Data → Result Unit Stop
+parts_check_within limits d =
+    clients_in limits.clients (may_end d) (get (codes "clients") d) >>=
+    (λ clients. sources_in limits.sources (may_end d) (get (codes "sources") d) >>=
+    (λ sources. topics_in limits.topics (get (codes "topics") d)))
+
+parts_in : (limits : Limits) (d : Data)
+    → blamed fault_at (parts_check_within limits d) ≡ forget (parts_within limits d)
+parts_in limits d =
     let ends : Bool = may_end d in
-    chain fault_at (clients_of ends (get (codes "clients") d)) _ (clients_in ends (get (codes "clients") d)) _
-    (clients_part ends (get (codes "clients") d))
-    (λ a. chain fault_at (sources_of ends (get (codes "sources") d)) _
-    (sources_in ends (get (codes "sources") d)) (topics_in (get (codes "topics") d))
-    (sources_part ends (get (codes "sources") d))
-    (λ b. topics_part (get (codes "topics") d) ∙ sym (made (topics_of (get (codes "topics") d)) _)))
+    chain fault_at (clients_of limits.clients ends (get (codes "clients") d)) _
+    (clients_in limits.clients ends (get (codes "clients") d)) _
+    (clients_part limits.clients ends (get (codes "clients") d))
+    (λ a. chain fault_at (sources_of limits.sources ends (get (codes "sources") d)) _
+    (sources_in limits.sources ends (get (codes "sources") d)) (topics_in limits.topics (get (codes "topics") d))
+    (sources_part limits.sources ends (get (codes "sources") d))
+    (λ b. topics_part limits.topics (get (codes "topics") d)
+    ∙ sym (made (topics_of limits.topics (get (codes "topics") d)) _)))
+
+-- ---- limits
+
+number_by : (stop : Stop) (least most : ℕ) (o : Option ℕ) → fault_at stop ≡ faults.Shape
+    → blamed fault_at
+    (cond (unwrap_or (option_map (λ n. nat_le least n && nat_le n most) o) false) (Ok tt) (Err stop))
+    ≡ forget (ok_or o faults.Shape >>= ranged least most)
+number_by stop least most None is = ap Err is
+number_by stop least most (Some n) is = tested (nat_le least n && nat_le n most)
+  where
+    tested : (b : Bool)
+        → blamed fault_at (cond b (Ok tt) (Err stop)) ≡ forget (cond b (Ok n) (Err faults.Shape))
+    tested true = refl
+    tested false = ap Err is
+
+limit_by : (name : LimitName) (default : ℕ) (o : Option Data)
+    → blamed fault_at (limit_check name o) ≡ forget (limit_of default (least_of name) (most_of name) o)
+limit_by name default None = refl
+limit_by name default (Some d) =
+    number_by _ (least_of name) (most_of name) (option_and_then as_u64 (as_number d)) refl
+
+are_limits-none : (ms : Members) → are_limits ms ≡ is_none (other_limit ms)
+are_limits-none no_members = refl
+are_limits-none (member name d ms) =
+    found (is_limit name) (are_limits ms) (other_limit ms) name (are_limits-none ms)
+
+no_other-shaped : (o : Option (List ℕ)) → blamed fault_at (no_other o) ≡ shaped (is_none o)
+no_other-shaped None = refl
+no_other-shaped (Some name) = refl
+
+limits_by : (d : Data) (o : Option Members)
+    → blamed fault_at (ok_or o (limits_stop all_places.Limits flaws.NotObject) >>=
+    (λ ms. limit_members_check d ms))
+    ≡ forget (limits_by_members o d)
+limits_by d None = refl
+limits_by d (Some ms) =
+    with_shape (are_limits ms) (no_other (other_limit ms)) _ (limits_of_object d)
+    (rw (are_limits-none ms) (no_other-shaped (other_limit ms)))
+    (chain fault_at (limit_of DEFAULT_CLIENTS 1 MAX_POLICY_CLIENTS (get (codes "clients") d)) _
+    (limit_check limit.Clients (get (codes "clients") d)) _
+    (limit_by limit.Clients DEFAULT_CLIENTS (get (codes "clients") d))
+    (λ a. chain fault_at (limit_of DEFAULT_FLIGHT DEFAULT_FLIGHT MAX_FLIGHT (get (codes "in_flight") d)) _
+    (limit_check limit.InFlight (get (codes "in_flight") d)) _
+    (limit_by limit.InFlight DEFAULT_FLIGHT (get (codes "in_flight") d))
+    (λ b. chain fault_at (limit_of DEFAULT_SOURCES 0 MAX_SOURCES (get (codes "sources") d)) _
+    (limit_check limit.Sources (get (codes "sources") d)) _
+    (limit_by limit.Sources DEFAULT_SOURCES (get (codes "sources") d))
+    (λ e. chain fault_at (limit_of DEFAULT_TOPICS 0 MAX_TOPICS (get (codes "topics") d)) _
+    (limit_check limit.Topics (get (codes "topics") d)) _
+    (limit_by limit.Topics DEFAULT_TOPICS (get (codes "topics") d))
+    (λ f. limit_by limit.Waiting DEFAULT_WAITING (get (codes "waiting") d)
+    ∙ sym (made (limit_of DEFAULT_WAITING DEFAULT_WAITING MAX_WAITING (get (codes "waiting") d)) _))))))
+
+limits_all : (o : Option Data) → blamed fault_at (limits_check o) ≡ forget (limits_of o)
+limits_all None = refl
+limits_all (Some d) = limits_by d (as_object d)
+
+-- what they bound is checked by the limits that were read
+within_limits : (d : Data) (c : Result Unit Stop) (r : Result Limits PolicyFault)
+    → blamed fault_at c ≡ forget r
+    → blamed fault_at (c >>= (λ checked. parts_check_within (limits_or r) d))
+    ≡ forget (r >>= (λ limits. parts_within limits d))
+within_limits d (Ok checked) (Ok limits) is = parts_in limits d
+within_limits d (Ok checked) (Err fault) is = absurd (cc)
+within_limits d (Err stop) (Ok limits) is = absurd (cc)
+within_limits d (Err stop) (Err fault) is = is
+
+all_parts : (d : Data)
+    → blamed fault_at (limits_check (get (codes "limits") d) >>=
+    (λ checked. parts_check_within (limits_in d) d)) ≡ forget (parts_of d)
+all_parts d =
+    within_limits d (limits_check (get (codes "limits") d)) (limits_of (get (codes "limits") d))
+    (limits_all (get (codes "limits") d))
 
 whole : (d : Data) → blamed fault_at (data_check d) ≡ forget (policy_of_data d)
 whole d =

@@ -10,11 +10,12 @@ use Rattle.sng_text.specs.ClientIds.{client_id_fault}
 use Rattle.sng_text.specs.Ipv4.{ipv4_of}
 use Rattle.sng_text.specs.Texts.{filter_fault, name_fault}
 use Rattle.sng_text.specs.declared.fault.TextFault.{TextFault}
-use Rattle.sng_grants.specs.declared.limits.TheConstants.{MAX_POLICY_CLIENTS, MAX_PAIRS, MAX_SOURCES}
-use Rattle.sng_grants.specs.declared.limits.TheConstants.{MAX_TOPICS}
+use Rattle.sng_grants.specs.Limits.{Limits}
+use Rattle.sng_grants.specs.declared.limits.TheConstants.{MAX_PAIRS}
 use Rattle.sng_scope.specs.Numerals.{topic_id_of}
 use Rattle.sng_scope.specs.Grants.{is_grant_member}
-use Rattle.sng_scope.specs.Policies.{is_known, may_end}
+use Rattle.sng_scope.specs.PolicyLimits.{is_limit}
+use Rattle.sng_scope.specs.Policies.{is_known, may_end, may_limit}
 use Rattle.sng_scope.specs.Scopes.{says}
 use Rattle.sng_scope.specs.Steps.{◌>>=◌}
 use Rattle.sng_scope.specs.Texts.{bytes_of, value_of}
@@ -22,10 +23,13 @@ use Rattle.sng_scope.specs.declared.fault.PolicyFault.{PolicyFault}
 use Rattle.sng_places.specs.Laws.{TestsAreInOrder}
 use Rattle.sng_places.specs.Order.{Rule, IsClient, IsSource, IsTopicId, IsText, IsPermission, Test}
 use Rattle.sng_places.specs.Order.{array_tests, each_test, end_tests, ending_tests, ends_at, first, flaw_of}
-use Rattle.sng_places.specs.Order.{grant_tests, held_tests, inner_tests, is_one_or_two, items_in, known_tests}
+use Rattle.sng_places.specs.Order.{grant_tests, held_tests, inner_tests, is_number_of_version, items_in, known_tests}
 use Rattle.sng_places.specs.Order.{members_tests, other_tests, pair_tests, pairs_tests, part_tests}
 use Rattle.sng_places.specs.Order.{scope_tests, tests_of, topic_tests, two_tests, unless_read, unless_some}
-use Rattle.sng_places.specs.Order.{unless_true, version_tests}
+use Rattle.sng_places.specs.Order.{unless_true, version_tests, limit_members_tests, limit_names_tests, limit_tests}
+use Rattle.sng_places.specs.Order.{limits_tests, parts_tests}
+use Rattle.sng_places.specs.LimitPlaces.{is_in_range, least_of, limit_check, limit_members_check, limits_check}
+use Rattle.sng_places.specs.LimitPlaces.{limits_in, most_of, no_other, other_limit}
 use Rattle.sng_places.specs.Places.{clients_check, clients_in, data_check, end_check, ending_check}
 use Rattle.sng_places.specs.Places.{grant_check, inside, known_check, object_grant_check, other_of, part_within}
 use Rattle.sng_places.specs.Places.{placed, sources_check, sources_in, stop_at, topics_check, topics_in}
@@ -38,6 +42,8 @@ use Rattle.sng_places.specs.declared.flaw.Flaw.{Flaw}
 use Rattle.sng_places.specs.declared.flaw.Flaw.TheVariants as flaws
 use Rattle.sng_places.specs.declared.location.Form.{Form}
 use Rattle.sng_places.specs.declared.location.Form.TheVariants.{Plain, Encoded}
+use Rattle.sng_places.specs.declared.location.LimitName.{LimitName}
+use Rattle.sng_places.specs.declared.location.LimitName.TheVariants as limit
 use Rattle.sng_places.specs.declared.location.Part.{Part}
 use Rattle.sng_places.specs.declared.location.Part.TheVariants.{Clients, Sources, Topics}
 use Rattle.sng_places.specs.declared.location.Location.{Location}
@@ -355,21 +361,22 @@ part_by part most rule tests check (number n) are = refl
 part_by part most rule tests check (string text) are = refl
 part_by part most rule tests check (array ds) are = refl
 
-clients_part : (ends : Bool) (o : Option Data)
-    → clients_in ends o ≡ first (part_tests Clients MAX_POLICY_CLIENTS IsClient (grant_tests ends) o)
-clients_part ends None = refl
-clients_part ends (Some d) =
-    part_by Clients MAX_POLICY_CLIENTS IsClient (grant_tests ends) (clients_check ends) d (clients ends)
+clients_part : (most : ℕ) (ends : Bool) (o : Option Data)
+    → clients_in most ends o ≡ first (part_tests Clients most IsClient (grant_tests ends) o)
+clients_part most ends None = refl
+clients_part most ends (Some d) =
+    part_by Clients most IsClient (grant_tests ends) (clients_check ends) d (clients ends)
 
-sources_part : (ends : Bool) (o : Option Data)
-    → sources_in ends o ≡ first (part_tests Sources MAX_SOURCES IsSource (grant_tests ends) o)
-sources_part ends None = refl
-sources_part ends (Some d) =
-    part_by Sources MAX_SOURCES IsSource (grant_tests ends) (sources_check ends) d (sources ends)
+sources_part : (most : ℕ) (ends : Bool) (o : Option Data)
+    → sources_in most ends o ≡ first (part_tests Sources most IsSource (grant_tests ends) o)
+sources_part most ends None = refl
+sources_part most ends (Some d) =
+    part_by Sources most IsSource (grant_tests ends) (sources_check ends) d (sources ends)
 
-topics_part : (o : Option Data) → topics_in o ≡ first (part_tests Topics MAX_TOPICS IsTopicId topic_tests o)
-topics_part None = refl
-topics_part (Some d) = part_by Topics MAX_TOPICS IsTopicId topic_tests topics_check d topics
+topics_part : (most : ℕ) (o : Option Data)
+    → topics_in most o ≡ first (part_tests Topics most IsTopicId topic_tests o)
+topics_part most None = refl
+topics_part most (Some d) = part_by Topics most IsTopicId topic_tests topics_check d topics
 
 -- ---- policies
 
@@ -380,14 +387,15 @@ known_step : (name : List ℕ) (b : Bool) (more : Option (List ℕ)) (rest : Res
 known_step name true more rest is = is
 known_step name false more rest is = refl
 
-known : (ms : Members) → known_check ms ≡ first (known_tests ms)
-known no_members = refl
-known (member name d ms) = known_step name (is_known name) (unknown_of ms) _ (known ms)
+known : (limited : Bool) (ms : Members) → known_check limited ms ≡ first (known_tests limited ms)
+known limited no_members = refl
+known limited (member name d ms) =
+    known_step name (is_known limited name) (unknown_of limited ms) _ (known limited ms)
 
 abbrev is_version_in : Option Data → Bool
 is_version_in g =
-    unwrap_or (option_map (λ n. (n == 1) || (n == 2)) (option_and_then as_u64 (option_and_then as_number g)))
-    false
+    unwrap_or (option_map (λ n. (n == 1) || (n == 2) || (n == 4))
+    (option_and_then as_u64 (option_and_then as_number g))) false
 
 abbrev version_or : Bool → Result Unit Stop
 version_or b = cond b (Ok tt) (Err (stop_at places.Version flaws.OtherVersion))
@@ -401,30 +409,78 @@ version_by : (g : Option Data) (c : Result Unit Stop) (ts : List Test) → c ≡
     → (ok_or g (stop_at places.Whole flaws.NoVersion) >>= (λ version. version_or (is_version_in g))) >>=
     (λ checked. c) ≡ ends_at places.Whole (unless_some g flaws.NoVersion) (first (version_tests g ++ ts))
 version_by None c ts is = refl
-version_by (Some d) c ts is = one_by (is_one_or_two d) c _ is
+version_by (Some d) c ts is = one_by (is_number_of_version d) c _ is
 
 nested : (a b c : Result Unit Stop) → (a >>= (λ x. b)) >>= (λ y. c) ≡ a >>= (λ x. b >>= (λ y. c))
 nested (Ok x) b c = refl
 nested (Err stop) b c = refl
 
-all_parts : (d : Data)
-    → clients_in (may_end d) (get (codes "clients") d) >>=
-    (λ a. sources_in (may_end d) (get (codes "sources") d) >>= (λ b. topics_in (get (codes "topics") d)))
-    ≡ first (part_tests Clients MAX_POLICY_CLIENTS IsClient (grant_tests (may_end d)) (get (codes "clients") d)
-    ++ (part_tests Sources MAX_SOURCES IsSource (grant_tests (may_end d)) (get (codes "sources") d)
-    ++ part_tests Topics MAX_TOPICS IsTopicId topic_tests (get (codes "topics") d)))
-all_parts d =
-    joined _ _ (part_tests Clients MAX_POLICY_CLIENTS IsClient (grant_tests (may_end d)) (get (codes "clients") d)) _
-    (clients_part (may_end d) (get (codes "clients") d))
-    (joined _ _ (part_tests Sources MAX_SOURCES IsSource (grant_tests (may_end d)) (get (codes "sources") d)) _
-    (sources_part (may_end d) (get (codes "sources") d))
-    (topics_part (get (codes "topics") d)))
+all_parts : (limits : Limits) (d : Data)
+    → clients_in limits.clients (may_end d) (get (codes "clients") d) >>=
+    (λ a. sources_in limits.sources (may_end d) (get (codes "sources") d) >>=
+    (λ b. topics_in limits.topics (get (codes "topics") d))) ≡ first (parts_tests limits d)
+all_parts limits d =
+    joined _ _ (part_tests Clients limits.clients IsClient (grant_tests (may_end d)) (get (codes "clients") d)) _
+    (clients_part limits.clients (may_end d) (get (codes "clients") d))
+    (joined _ _ (part_tests Sources limits.sources IsSource (grant_tests (may_end d)) (get (codes "sources") d)) _
+    (sources_part limits.sources (may_end d) (get (codes "sources") d))
+    (topics_part limits.topics (get (codes "topics") d)))
+
+-- ---- limits
+
+name_step : (name : List ℕ) (b : Bool) (more : Option (List ℕ)) (rest : Result Unit Stop)
+    → no_other more ≡ rest
+    → no_other (cond b more (Some name))
+    ≡ ends_at (places.LimitMember name) (unless_true b flaws.UnknownMember) rest
+name_step name true more rest is = is
+name_step name false more rest is = refl
+
+limit_names : (ms : Members) → no_other (other_limit ms) ≡ first (limit_names_tests ms)
+limit_names no_members = refl
+limit_names (member name d ms) = name_step name (is_limit name) (other_limit ms) _ (limit_names ms)
+
+limit_by : (place : Location) (flaw : Flaw) (b : Bool)
+    → cond b (Ok tt) (Err (stop_at place flaw)) ≡ ends_at place (unless_true b flaw) (Ok tt)
+limit_by place flaw true = refl
+limit_by place flaw false = refl
+
+one_limit : (name : LimitName) (o : Option Data) → limit_check name o ≡ first (limit_tests name o)
+one_limit name None = refl
+one_limit name (Some d) =
+    limit_by (places.Limit name) (flaws.NotLimit (least_of name) (most_of name))
+    (is_in_range (least_of name) (most_of name) d)
+
+limit_members : (ms : Members) (d : Data)
+    → limit_members_check d ms ≡ first (limit_members_tests (Some ms) d)
+limit_members ms d =
+    joined _ _ (limit_names_tests ms) _ (limit_names ms)
+    (joined _ _ (limit_tests limit.Clients (get (codes "clients") d)) _
+    (one_limit limit.Clients (get (codes "clients") d))
+    (joined _ _ (limit_tests limit.InFlight (get (codes "in_flight") d)) _
+    (one_limit limit.InFlight (get (codes "in_flight") d))
+    (joined _ _ (limit_tests limit.Sources (get (codes "sources") d)) _
+    (one_limit limit.Sources (get (codes "sources") d))
+    (joined _ _ (limit_tests limit.Topics (get (codes "topics") d)) _
+    (one_limit limit.Topics (get (codes "topics") d)) (one_limit limit.Waiting (get (codes "waiting") d))))))
+
+limits : (o : Option Data) → limits_check o ≡ first (limits_tests o)
+limits None = refl
+limits (Some (object ms)) = limit_members ms (object ms)
+limits (Some null) = refl
+limits (Some (boolean b)) = refl
+limits (Some (number n)) = refl
+limits (Some (string text)) = refl
+limits (Some (array ds)) = refl
 
 pub whole : (d : Data) → data_check d ≡ first (tests_of d)
 whole (object ms) =
-    nested (version_check (object ms)) (known_check ms) _
+    let limited : Bool = may_limit (object ms) in
+    let given : Option Data = get (codes "limits") (object ms) in
+    nested (version_check (object ms)) (known_check limited ms) _
     ∙ version_by (get (codes "version") (object ms)) _ _
-    (joined (known_check ms) _ (known_tests ms) _ (known ms) (all_parts (object ms)))
+    (joined (known_check limited ms) _ (known_tests limited ms) _ (known limited ms)
+    (joined (limits_check given) _ (limits_tests given) _ (limits given)
+    (all_parts (limits_in (object ms)) (object ms))))
 whole null = refl
 whole (boolean b) = refl
 whole (number n) = refl

@@ -5,9 +5,9 @@ use Rattle.std.proofs.lemmas.List.Elements.{All-nil, All-cons, All-append}
 use Rattle.serde_json.specs.Data.{Data, null, boolean, number, string, array, object, Items, no_items, item}
 use Rattle.serde_json.specs.Data.{Members, no_members, member}
 use Rattle.serde_json.specs.Find.{at, get, get_item}
-use Rattle.sng_grants.specs.declared.limits.TheConstants.{MAX_POLICY_CLIENTS, MAX_PAIRS, MAX_SOURCES}
-use Rattle.sng_grants.specs.declared.limits.TheConstants.{MAX_TOPICS}
-use Rattle.sng_scope.specs.Policies.{may_end}
+use Rattle.sng_grants.specs.Limits.{Limits}
+use Rattle.sng_grants.specs.declared.limits.TheConstants.{MAX_PAIRS}
+use Rattle.sng_scope.specs.Policies.{may_end, may_limit}
 use Rattle.sng_scope.specs.declared.fault.PolicyFault.{PolicyFault}
 use Rattle.sng_places.specs.Order.{Rule, HasScope, HasVersion, HoldsJson, IsArray, IsAtMost, IsClient}
 use Rattle.sng_places.specs.Order.{IsEncoded, IsEnd, IsFilter, IsGrantMember, IsKnown, IsObject, IsPair}
@@ -16,9 +16,14 @@ use Rattle.sng_places.specs.Order.{Test, array_tests, each_test, end_tests, endi
 use Rattle.sng_places.specs.Order.{held_by, held_tests, inner_tests, items_in, known_tests, members_in}
 use Rattle.sng_places.specs.Order.{members_tests, other_tests, pair_tests, pairs_tests, part_tests}
 use Rattle.sng_places.specs.Order.{scope_tests, test, topic_tests, version_tests, written_tests}
+use Rattle.sng_places.specs.Order.{IsLimit, IsLimitMember, limit_members_tests, limit_names_tests, limit_tests}
+use Rattle.sng_places.specs.Order.{limits_tests, parts_tests}
+use Rattle.sng_places.specs.LimitPlaces.{limit_text, limits_in}
 use Rattle.sng_places.specs.Standing.{HasMember, IsListed, IsWritten, Stands, ValuesStand, name_of, value_at}
 use Rattle.sng_places.specs.declared.location.Form.{Form}
 use Rattle.sng_places.specs.declared.location.Form.TheVariants.{Plain, Encoded}
+use Rattle.sng_places.specs.declared.location.LimitName.{LimitName}
+use Rattle.sng_places.specs.declared.location.LimitName.TheVariants as limit
 use Rattle.sng_places.specs.declared.location.Part.{Part}
 use Rattle.sng_places.specs.declared.location.Part.TheVariants.{Clients, Sources, Topics}
 use Rattle.sng_places.specs.declared.location.Location.{Location}
@@ -273,30 +278,80 @@ version : (d : Data) (o : Option Data) → get (codes "version") d ≡ o → Sta
 version d None is = nothing d
 version d (Some v) is = one_more d (test places.Version IsVersion v) [] is (nothing d)
 
-known : (d : Data) (ms : Members)
+known : (d : Data) (limited : Bool) (ms : Members)
     → ((name : List ℕ) (e : Data) → HasMember ms name e → HasMember (members_in d) name e)
-    → Standing d (known_tests ms)
-known d no_members has = nothing d
-known d (member name e ms) has =
-    one_more d (test (places.Member name) IsKnown (string name)) (known_tests ms)
-    (refl, (e, has name e (inl (refl, refl)))) (known d ms (λ other x more. has other x (inr more)))
+    → Standing d (known_tests limited ms)
+known d limited no_members has = nothing d
+known d limited (member name e ms) has =
+    one_more d (test (places.Member name) (IsKnown limited) (string name)) (known_tests limited ms)
+    (refl, (e, has name e (inl (refl, refl)))) (known d limited ms (λ other x more. has other x (inr more)))
+
+-- ---- limits
+
+limit_names : (d l : Data) → get (codes "limits") d ≡ Some l → (ms : Members)
+    → ((name : List ℕ) (e : Data) → HasMember ms name e → HasMember (members_in l) name e)
+    → Standing d (limit_names_tests ms)
+limit_names d l is no_members has = nothing d
+limit_names d l is (member name e ms) has =
+    one_more d (test (places.LimitMember name) IsLimitMember (string name)) (limit_names_tests ms)
+    (refl, (l, (is, (e, has name e (inl (refl, refl))))))
+    (limit_names d l is ms (λ other x more. has other x (inr more)))
+
+one_limit : (d l : Data) → get (codes "limits") d ≡ Some l → (name : LimitName) (o : Option Data)
+    → get (limit_text name) l ≡ o → Standing d (limit_tests name o)
+one_limit d l is name None there = nothing d
+one_limit d l is name (Some v) there =
+    one_more d (test (places.Limit name) (IsLimit name) v) [] (l, (is, there)) (nothing d)
+
+limit_members : (d : Data) (ms : Members) → get (codes "limits") d ≡ Some (object ms)
+    → Standing d (limit_members_tests (Some ms) (object ms))
+limit_members d ms is =
+    let l : Data = object ms in
+    let of : LimitName → List Test = λ name. limit_tests name (get (limit_text name) l) in
+    let stand : (name : LimitName) → Standing d (of name) =
+    λ name. one_limit d l is name (get (limit_text name) l) refl in
+    both d (limit_names_tests ms) _ (limit_names d l is ms (λ name e has. has))
+    (both d (of limit.Clients) _ (stand limit.Clients)
+    (both d (of limit.InFlight) _ (stand limit.InFlight)
+    (both d (of limit.Sources) _ (stand limit.Sources)
+    (both d (of limit.Topics) (of limit.Waiting) (stand limit.Topics) (stand limit.Waiting)))))
+
+no_limits : (d l : Data) → get (codes "limits") d ≡ Some l
+    → Standing d (test places.Limits IsObject l ∷ [])
+no_limits d l is = one_more d (test places.Limits IsObject l) [] is (nothing d)
+
+limits : (d : Data) (o : Option Data) → get (codes "limits") d ≡ o → Standing d (limits_tests o)
+limits d None is = nothing d
+limits d (Some (object ms)) is =
+    one_more d (test places.Limits IsObject (object ms)) (limit_members_tests (Some ms) (object ms)) is
+    (limit_members d ms is)
+limits d (Some null) is = no_limits d null is
+limits d (Some (boolean b)) is = no_limits d (boolean b) is
+limits d (Some (number n)) is = no_limits d (number n) is
+limits d (Some (string text)) is = no_limits d (string text) is
+limits d (Some (array ds)) is = no_limits d (array ds) is
+
+parts : (d : Data) (limits : Limits) → Standing d (parts_tests limits d)
+parts d limits =
+    let tests : Tests = grant_tests (may_end d) in
+    let clients : List Test = part_tests Clients limits.clients IsClient tests (get (codes "clients") d) in
+    let sources : List Test = part_tests Sources limits.sources IsSource tests (get (codes "sources") d) in
+    let topics : List Test = part_tests Topics limits.topics IsTopicId topic_tests (get (codes "topics") d) in
+    both d clients (sources ++ topics)
+    (in_part d Clients limits.clients IsClient tests (grant d (may_end d) Clients) (get (codes "clients") d) refl)
+    (both d sources topics
+    (in_part d Sources limits.sources IsSource tests (grant d (may_end d) Sources) (get (codes "sources") d) refl)
+    (in_part d Topics limits.topics IsTopicId topic_tests (topic d Topics) (get (codes "topics") d) refl))
 
 pub values_stand : ValuesStand
 values_stand d =
-    let tests : Tests = grant_tests (may_end d) in
-    let clients : List Test = part_tests Clients MAX_POLICY_CLIENTS IsClient tests (get (codes "clients") d) in
-    let sources : List Test = part_tests Sources MAX_SOURCES IsSource tests (get (codes "sources") d) in
-    let topics : List Test = part_tests Topics MAX_TOPICS IsTopicId topic_tests (get (codes "topics") d) in
     let versions : List Test = version_tests (get (codes "version") d) in
-    let names : List Test = known_tests (members_in d) in
-    let others : List Test = versions ++ (names ++ (clients ++ (sources ++ topics))) in
+    let names : List Test = known_tests (may_limit d) (members_in d) in
+    let given : List Test = limits_tests (get (codes "limits") d) in
+    let listed : List Test = parts_tests (limits_in d) d in
+    let others : List Test = versions ++ (names ++ (given ++ listed)) in
     one_more d (test places.Whole IsObject d) (test places.Whole HasVersion d ∷ others) refl
     (one_more d (test places.Whole HasVersion d) others refl
-    (both d versions (names ++ (clients ++ (sources ++ topics))) (version d (get (codes "version") d) refl)
-    (both d names (clients ++ (sources ++ topics)) (known d (members_in d) (λ name e has. has))
-    (both d clients (sources ++ topics)
-    (in_part d Clients MAX_POLICY_CLIENTS IsClient tests (grant d (may_end d) Clients)
-    (get (codes "clients") d) refl)
-    (both d sources topics (in_part d Sources MAX_SOURCES IsSource tests (grant d (may_end d) Sources)
-    (get (codes "sources") d) refl)
-    (in_part d Topics MAX_TOPICS IsTopicId topic_tests (topic d Topics) (get (codes "topics") d) refl))))))
+    (both d versions (names ++ (given ++ listed)) (version d (get (codes "version") d) refl)
+    (both d names (given ++ listed) (known d (may_limit d) (members_in d) (λ name e has. has))
+    (both d given listed (limits d (get (codes "limits") d) refl) (parts d (limits_in d))))))

@@ -6,7 +6,7 @@ use Rattle.sng_places.specs.declared.flaw.Flaw.TheVariants.{NotJson, NotObject, 
 use Rattle.sng_places.specs.declared.flaw.Flaw.TheVariants.{UnknownMember, NoScope, NotEnd, NotScope, NotPair, NotArray}
 use Rattle.sng_places.specs.declared.flaw.Flaw.TheVariants.{NotText, Base64, NotEncodedJson, Filter}
 use Rattle.sng_places.specs.declared.flaw.Flaw.TheVariants.{Permission, ClientId, Source, TopicId, TopicName}
-use Rattle.sng_places.specs.declared.flaw.Flaw.TheVariants.{TooMany}
+use Rattle.sng_places.specs.declared.flaw.Flaw.TheVariants.{NotLimit, TooMany}
 
 abbrev pub fault_of : Flaw → PolicyFault
 fault_of NotJson = faults.NotJson
@@ -28,4 +28,5 @@ fault_of (ClientId fault) = faults.BadClientId
 fault_of Source = faults.BadSource
 fault_of TopicId = faults.BadTopicId
 fault_of (TopicName text fault) = faults.BadTopicId
+fault_of (NotLimit least most) = faults.Shape
 fault_of (TooMany count most) = faults.TooMany

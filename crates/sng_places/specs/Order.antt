@@ -10,21 +10,25 @@ use Rattle.serde_json.specs.Find.{get, as_array, as_number, as_object, as_str, a
 use Rattle.sng_text.specs.ClientIds.{client_id_fault}
 use Rattle.sng_text.specs.Ipv4.{ipv4_of}
 use Rattle.sng_text.specs.Texts.{filter_fault, name_fault}
-use Rattle.sng_grants.specs.declared.limits.TheConstants.{MAX_POLICY_CLIENTS, MAX_PAIRS, MAX_SOURCES}
-use Rattle.sng_grants.specs.declared.limits.TheConstants.{MAX_TOPICS}
+use Rattle.sng_grants.specs.Limits.{Limits}
+use Rattle.sng_grants.specs.declared.limits.TheConstants.{MAX_PAIRS}
 use Rattle.sng_scope.specs.Numerals.{topic_id_of}
 use Rattle.sng_scope.specs.Grants.{is_grant_member}
-use Rattle.sng_scope.specs.Policies.{is_known, may_end}
+use Rattle.sng_scope.specs.PolicyLimits.{is_limit}
+use Rattle.sng_scope.specs.Policies.{is_known, may_end, may_limit}
 use Rattle.sng_scope.specs.Scopes.{says}
 use Rattle.sng_scope.specs.Steps.{◌>>=◌}
 use Rattle.sng_scope.specs.Texts.{bytes_of, value_of}
 use Rattle.sng_scope.specs.declared.fault.PolicyFault.{PolicyFault}
+use Rattle.sng_places.specs.LimitPlaces.{is_in_range, least_of, limits_in, most_of}
 use Rattle.sng_places.specs.Places.{stop_at}
 use Rattle.sng_places.specs.ScopePlaces.{two_of}
 use Rattle.sng_places.specs.declared.flaw.Flaw.{Flaw}
 use Rattle.sng_places.specs.declared.flaw.Flaw.TheVariants as flaws
 use Rattle.sng_places.specs.declared.location.Form.{Form}
 use Rattle.sng_places.specs.declared.location.Form.TheVariants.{Plain, Encoded}
+use Rattle.sng_places.specs.declared.location.LimitName.{LimitName}
+use Rattle.sng_places.specs.declared.location.LimitName.TheVariants as limit
 use Rattle.sng_places.specs.declared.location.Part.{Part}
 use Rattle.sng_places.specs.declared.location.Part.TheVariants.{Clients, Sources, Topics}
 use Rattle.sng_places.specs.declared.location.Location.{Location}
@@ -40,7 +44,9 @@ pub data Rule : Type 0 where
   IsObject : Rule
   HasVersion : Rule
   IsVersion : Rule
-  IsKnown : Rule
+  IsKnown : Bool → Rule
+  IsLimitMember : Rule
+  IsLimit : LimitName → Rule
   IsAtMost : ℕ → Rule
   IsClient : Rule
   IsSource : Rule
@@ -87,10 +93,10 @@ count_of (string text) = 0
 abbrev pub too_many : ℕ → ℕ → Option Flaw
 too_many most count = if nat_lt most count then Some (flaws.TooMany count most) else None
 
--- the whole number 1 or 2
-abbrev pub is_one_or_two : Data → Bool
-is_one_or_two d =
-    unwrap_or (option_map (λ n. (n == 1) || (n == 2)) (option_and_then as_u64 (as_number d))) false
+-- the whole number 1, 2 or 4
+abbrev pub is_number_of_version : Data → Bool
+is_number_of_version d =
+    unwrap_or (option_map (λ n. (n == 1) || (n == 2) || (n == 4)) (option_and_then as_u64 (as_number d))) false
 
 abbrev pub scope_flaw : Data → Option Flaw
 scope_flaw (array ds) = None
@@ -108,8 +114,11 @@ held_by text = bytes_of text >>= value_of
 abbrev pub flaw_of : Rule → Data → Option Flaw
 flaw_of IsObject d = unless_some (as_object d) flaws.NotObject
 flaw_of HasVersion d = unless_some (get (codes "version") d) flaws.NoVersion
-flaw_of IsVersion d = unless_true (is_one_or_two d) flaws.OtherVersion
-flaw_of IsKnown d = unless_true (is_known (text_of d)) flaws.UnknownMember
+flaw_of IsVersion d = unless_true (is_number_of_version d) flaws.OtherVersion
+flaw_of (IsKnown limited) d = unless_true (is_known limited (text_of d)) flaws.UnknownMember
+flaw_of IsLimitMember d = unless_true (is_limit (text_of d)) flaws.UnknownMember
+flaw_of (IsLimit name) d =
+    unless_true (is_in_range (least_of name) (most_of name) d) (flaws.NotLimit (least_of name) (most_of name))
 flaw_of (IsAtMost most) d = too_many most (count_of d)
 flaw_of IsClient d = option_map flaws.ClientId (client_id_fault (text_of d))
 flaw_of IsSource d = unless_some (ipv4_of (text_of d)) flaws.Source
@@ -249,17 +258,48 @@ abbrev pub version_tests : Option Data → List Test
 version_tests None = []
 version_tests (Some d) = test places.Version IsVersion d ∷ []
 
-abbrev pub known_tests : Members → List Test
-known_tests no_members = []
-known_tests (member name d ms) = test (places.Member name) IsKnown (string name) ∷ known_tests ms
+abbrev pub known_tests : Bool → Members → List Test
+known_tests limited no_members = []
+known_tests limited (member name d ms) =
+    test (places.Member name) (IsKnown limited) (string name) ∷ known_tests limited ms
 
--- every test of a policy: the object and its version, its members' names, then clients, sources and topics
+-- the limits: their members' names, and then each number
+abbrev pub limit_names_tests : Members → List Test
+limit_names_tests no_members = []
+limit_names_tests (member name d ms) =
+    test (places.LimitMember name) IsLimitMember (string name) ∷ limit_names_tests ms
+
+abbrev pub limit_tests : LimitName → Option Data → List Test
+limit_tests name None = []
+limit_tests name (Some d) = test (places.Limit name) (IsLimit name) d ∷ []
+
+abbrev pub limit_members_tests : Option Members → Data → List Test
+limit_members_tests None d = []
+limit_members_tests (Some ms) d =
+    limit_names_tests ms
+    ++ (limit_tests limit.Clients (get (codes "clients") d)
+    ++ (limit_tests limit.InFlight (get (codes "in_flight") d)
+    ++ (limit_tests limit.Sources (get (codes "sources") d)
+    ++ (limit_tests limit.Topics (get (codes "topics") d)
+    ++ limit_tests limit.Waiting (get (codes "waiting") d)))))
+
+abbrev pub limits_tests : Option Data → List Test
+limits_tests None = []
+limits_tests (Some d) = test places.Limits IsObject d ∷ limit_members_tests (as_object d) d
+
+-- those of the clients, the sources and the topics
+abbrev pub parts_tests : Limits → Data → List Test
+parts_tests limits d =
+    part_tests Clients limits.clients IsClient (grant_tests (may_end d)) (get (codes "clients") d)
+    ++ (part_tests Sources limits.sources IsSource (grant_tests (may_end d)) (get (codes "sources") d)
+    ++ part_tests Topics limits.topics IsTopicId topic_tests (get (codes "topics") d))
+
+-- every test of a policy: the object and its version, its members' names, the limits, then clients, sources and
+-- topics
 abbrev pub tests_of : Data → List Test
 tests_of d =
     test places.Whole IsObject d
     ∷ test places.Whole HasVersion d
     ∷ (version_tests (get (codes "version") d)
-    ++ (known_tests (members_in d)
-    ++ (part_tests Clients MAX_POLICY_CLIENTS IsClient (grant_tests (may_end d)) (get (codes "clients") d)
-    ++ (part_tests Sources MAX_SOURCES IsSource (grant_tests (may_end d)) (get (codes "sources") d)
-    ++ part_tests Topics MAX_TOPICS IsTopicId topic_tests (get (codes "topics") d)))))
+    ++ (known_tests (may_limit d) (members_in d)
+    ++ (limits_tests (get (codes "limits") d) ++ parts_tests (limits_in d) d)))

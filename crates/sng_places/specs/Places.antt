@@ -8,13 +8,13 @@ use Rattle.serde_json.specs.Find.{get, as_number, as_object, as_str, as_u64}
 use Rattle.sng_text.specs.ClientIds.{client_id_fault}
 use Rattle.sng_text.specs.Ipv4.{ipv4_of}
 use Rattle.sng_text.specs.Texts.{name_fault}
-use Rattle.sng_grants.specs.declared.limits.TheConstants.{MAX_POLICY_CLIENTS, MAX_SOURCES, MAX_TOPICS}
 use Rattle.sng_scope.specs.Numerals.{topic_id_of}
 use Rattle.sng_scope.specs.Grants.{is_grant_member}
-use Rattle.sng_scope.specs.Policies.{is_known, is_version, may_end}
+use Rattle.sng_scope.specs.Policies.{is_known, is_version, may_end, may_limit}
 use Rattle.sng_scope.specs.Steps.{◌>>=◌}
 use Rattle.sng_scope.specs.Texts.{value_of}
 use Rattle.sng_places.specs.ScopePlaces.{or_stop, scope_check}
+use Rattle.sng_places.specs.LimitPlaces.{limits_check, limits_in}
 use Rattle.sng_places.specs.declared.location.Form.{Form}
 use Rattle.sng_places.specs.declared.location.Form.TheVariants.{Plain}
 use Rattle.sng_places.specs.declared.location.Part.{Part}
@@ -128,24 +128,24 @@ part_within part most d =
     then Err (stop_at (places.Part part) (flaws.TooMany (members_len ms) most)) else Ok ms)
 
 -- what is absent is empty
-abbrev pub clients_in : Bool → Option Data → Result Unit Stop
-clients_in ends None = Ok tt
-clients_in ends (Some d) = part_within Clients MAX_POLICY_CLIENTS d >>= clients_check ends
+abbrev pub clients_in : ℕ → Bool → Option Data → Result Unit Stop
+clients_in most ends None = Ok tt
+clients_in most ends (Some d) = part_within Clients most d >>= clients_check ends
 
-abbrev pub sources_in : Bool → Option Data → Result Unit Stop
-sources_in ends None = Ok tt
-sources_in ends (Some d) = part_within Sources MAX_SOURCES d >>= sources_check ends
+abbrev pub sources_in : ℕ → Bool → Option Data → Result Unit Stop
+sources_in most ends None = Ok tt
+sources_in most ends (Some d) = part_within Sources most d >>= sources_check ends
 
-abbrev pub topics_in : Option Data → Result Unit Stop
-topics_in None = Ok tt
-topics_in (Some d) = part_within Topics MAX_TOPICS d >>= topics_check
+abbrev pub topics_in : ℕ → Option Data → Result Unit Stop
+topics_in most None = Ok tt
+topics_in most (Some d) = part_within Topics most d >>= topics_check
 
 -- ---- the policy
 
--- the first member that is not known
-abbrev pub unknown_of : Members → Option (List ℕ)
-unknown_of no_members = None
-unknown_of (member name d ms) = if is_known name then unknown_of ms else Some name
+-- the first member that is not known, of a policy that may set limits or may not
+abbrev pub unknown_of : Bool → Members → Option (List ℕ)
+unknown_of limited no_members = None
+unknown_of limited (member name d ms) = if is_known limited name then unknown_of limited ms else Some name
 
 -- the flaw of the version
 abbrev pub version_check : Data → Result Unit Stop
@@ -153,21 +153,22 @@ version_check d =
     ok_or (get (codes "version") d) (stop_at places.Whole flaws.NoVersion)
     >>= (λ version. if is_version d then Ok tt else Err (stop_at places.Version flaws.OtherVersion))
 
-abbrev pub known_check : Members → Result Unit Stop
-known_check ms = unless (unknown_of ms) (λ name. stop_at (places.Member name) flaws.UnknownMember)
+abbrev pub known_check : Bool → Members → Result Unit Stop
+known_check limited ms = unless (unknown_of limited ms) (λ name. stop_at (places.Member name) flaws.UnknownMember)
 
 abbrev pub object_check : Data → Result Unit Stop
 object_check d = do
   ms ← ok_or (as_object d) (stop_at places.Whole flaws.NotObject)
   version ← version_check d
-  known_check ms
+  known_check (may_limit d) ms
 
 abbrev pub data_check : Data → Result Unit Stop
 data_check d = do
   object ← object_check d
-  clients ← clients_in (may_end d) (get (codes "clients") d)
-  sources ← sources_in (may_end d) (get (codes "sources") d)
-  topics_in (get (codes "topics") d)
+  limits ← limits_check (get (codes "limits") d)
+  clients ← clients_in (limits_in d).clients (may_end d) (get (codes "clients") d)
+  sources ← sources_in (limits_in d).sources (may_end d) (get (codes "sources") d)
+  topics_in (limits_in d).topics (get (codes "topics") d)
 
 -- where the first fault of a text stands
 abbrev pub text_check : List ℕ → Result Unit Stop

@@ -5,6 +5,7 @@ use Rattle.serde_json.specs.Data.{Data, string, Members, no_members, member}
 use Rattle.serde_json.specs.Find.{at, get}
 use Rattle.sng_scope.specs.Texts.{value_of}
 use Rattle.sng_places.specs.Order.{Test, flaw_of, held_by, members_in, tests_of, text_of}
+use Rattle.sng_places.specs.LimitPlaces.{limit_text}
 use Rattle.sng_places.specs.Places.{text_check}
 use Rattle.sng_places.specs.declared.location.Form.{Form}
 use Rattle.sng_places.specs.declared.location.Form.TheVariants.{Plain, Encoded}
@@ -49,6 +50,12 @@ abbrev pub Stands : Data → Location → Data → Type 0
 Stands d places.Whole v = v ≡ d
 Stands d places.Version v = get (codes "version") d ≡ Some v
 Stands d (places.Member name) v = (v ≡ string name) × ((e : Data) × HasMember (members_in d) name e)
+Stands d places.Limits v = get (codes "limits") d ≡ Some v
+Stands d (places.LimitMember name) v =
+    (v ≡ string name) × ((l : Data) × ((get (codes "limits") d ≡ Some l)
+    × ((e : Data) × HasMember (members_in l) name e)))
+Stands d (places.Limit name) v =
+    (l : Data) × ((get (codes "limits") d ≡ Some l) × (get (limit_text name) l ≡ Some v))
 Stands d (places.Part part) v = get (name_of part) d ≡ Some v
 Stands d (places.Name part name) v = (v ≡ string name) × ((e : Data) × IsListed d part name e)
 Stands d (places.Value part name form spot) v =

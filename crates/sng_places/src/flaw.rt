@@ -15,9 +15,9 @@ pub enum Flaw {
     NotObject,
     /// The policy has no version.
     NoVersion,
-    /// The version is not the whole number 1 or 2.
+    /// The version is not the whole number 1, 2 or 4.
     OtherVersion,
-    /// A policy has no member of this name, nor has the object of a scope and its end.
+    /// A policy has no member of this name, nor have its limits or the object of a scope and its end.
     UnknownMember,
     /// The object of a scope and its end has no scope.
     NoScope,
@@ -47,6 +47,8 @@ pub enum Flaw {
     TopicId,
     /// The text is not a topic name, for this reason (MQTT 3.1.1, 4.7).
     TopicName(Octets, TextFault),
+    /// Not a whole number from the first of these to the second.
+    NotLimit(usize, usize),
     /// There are so many, and at most so many are allowed.
     TooMany(usize, usize),
 }
@@ -67,7 +69,8 @@ impl Flaw {
             | Flaw::NotScope
             | Flaw::NotPair
             | Flaw::NotArray
-            | Flaw::NotText => PolicyFault::Shape,
+            | Flaw::NotText
+            | Flaw::NotLimit(_, _) => PolicyFault::Shape,
             Flaw::Base64(_) => PolicyFault::BadBase64,
             Flaw::Filter(_, _) => PolicyFault::BadFilter,
             Flaw::Permission(_) => PolicyFault::BadPermission,

@@ -6,6 +6,7 @@ mod entries;
 pub mod flaw;
 mod grant;
 pub mod laws;
+mod limits;
 pub mod location;
 mod nesting;
 mod pair;
@@ -17,7 +18,7 @@ mod stop;
 mod text;
 
 pub use flaw::Flaw;
-pub use location::{Form, Location, Part, Spot};
+pub use location::{Form, LimitName, Location, Part, Spot};
 pub use policy::check_policy;
 pub use position::Position;
 pub use repeated::repeated_members;

@@ -9,6 +9,16 @@ pub enum Part {
     Topics,
 }
 
+/// A limit that a policy may set.
+#[derive(Clone, Copy, Debug, PartialEq, Eq)]
+pub enum LimitName {
+    Clients,
+    InFlight,
+    Sources,
+    Topics,
+    Waiting,
+}
+
 /// Where the JSON of a value stands.
 #[derive(Clone, Copy, Debug, PartialEq, Eq)]
 pub enum Form {
@@ -42,6 +52,12 @@ pub enum Location {
     Version,
     /// The member of the policy with this name, which is not known.
     Member(Octets),
+    /// The limits as a whole.
+    Limits,
+    /// The member of the limits with this name.
+    LimitMember(Octets),
+    /// The number of this limit.
+    Limit(LimitName),
     /// The clients, the sources or the topics as a whole.
     Part(Part),
     /// The name of a member of the part.

@@ -7,11 +7,11 @@ ghost use Rattle.sng_places.specs.Places.{text_check, data_check, object_check, 
 ghost use Rattle.sng_places.specs.Places.{unknown_of, part_within, clients_in, sources_in, topics_in};
 
 use crate::entries::{check_clients, check_sources, check_topics};
+use crate::limits::{check_limits, limits_in};
 use crate::text::octets;
 use crate::{Flaw, Location, Part, Stop};
 use serde_json::{Map, Value};
-use sng_grants::{MAX_POLICY_CLIENTS, MAX_SOURCES, MAX_TOPICS};
-use sng_scope::{PolicyFault, is_known, is_version, may_end, value_from};
+use sng_scope::{PolicyFault, is_known, is_version, may_end, may_limit, value_from};
 use std::alloc::Global;
 
 /// Ends with the first fault of the policy text, where it stands and what is wrong there. `Ok` for each text
@@ -33,13 +33,15 @@ fn check_value(alloc: Global, value: &Value) -> Result<(), Stop>
         ⊎ (data_check (view value.now) ≡ Err e)) }
 {
     check_object(alloc, value)?;
+    check_limits(alloc, value.get("limits"))?;
+    let limits = limits_in(value);
     let ends = may_end(value);
-    check_clients_in(alloc, ends, value)?;
-    check_sources_in(alloc, ends, value)?;
-    check_topics_in(alloc, value)
+    check_clients_in(alloc, limits.clients(), ends, value)?;
+    check_sources_in(alloc, limits.sources(), ends, value)?;
+    check_topics_in(alloc, limits.topics(), value)
 }
 
-/// Ends where the value is no object, has not the version 1 or 2, or has a member that is not known.
+/// Ends where the value is no object, has not the version 1, 2 or 4, or has a member that is not known.
 fn check_object(alloc: Global, value: &Value) -> Result<(), Stop>
     ensures ok { OnOk result (object_check (view value.now) ≡ Ok tt) }
     ensures err { IfErr result (λ e. (e ≡ Stop.Memory)
@@ -49,7 +51,7 @@ fn check_object(alloc: Global, value: &Value) -> Result<(), Stop>
         return Err(Stop::at(Location::Whole, Flaw::NotObject));
     };
     check_version(value)?;
-    check_known(alloc, members)
+    check_known(alloc, may_limit(value), members)
 }
 
 fn check_version(value: &Value) -> Result<(), Stop>
@@ -64,12 +66,12 @@ fn check_version(value: &Value) -> Result<(), Stop>
     Ok(())
 }
 
-fn check_known(alloc: Global, members: &Map<String, Value>) -> Result<(), Stop>
-    ensures ok { OnOk result (known_check (members_view members.now.entries) ≡ Ok tt) }
+fn check_known(alloc: Global, limited: bool, members: &Map<String, Value>) -> Result<(), Stop>
+    ensures ok { OnOk result (known_check limited (members_view members.now.entries) ≡ Ok tt) }
     ensures err { IfErr result (λ e. (e ≡ Stop.Memory)
-        ⊎ (known_check (members_view members.now.entries) ≡ Err e)) }
+        ⊎ (known_check limited (members_view members.now.entries) ≡ Err e)) }
 {
-    match unknown_of(members) {
+    match unknown_of(limited, members) {
         None => Ok(()),
         Some(name) => {
             let place = Location::Member(octets(alloc, name)?);
@@ -79,51 +81,47 @@ fn check_known(alloc: Global, members: &Map<String, Value>) -> Result<(), Stop>
 }
 
 /// The first name that is none of a policy's.
-fn unknown_of(members: &Map<String, Value>) -> Option<&str>
-    ensures { option_map (λ name. name.now) result ≡ unknown_of (members_view members.now.entries) }
+fn unknown_of(limited: bool, members: &Map<String, Value>) -> Option<&str>
+    ensures { option_map (λ name. name.now) result ≡ unknown_of limited (members_view members.now.entries) }
 {
     for (name, _) in members {
-        if !is_known(name.as_str()) {
+        if !is_known(limited, name.as_str()) {
             return Some(name.as_str());
         }
     }
     None
 }
 
-fn check_clients_in(alloc: Global, ends: bool, policy: &Value) -> Result<(), Stop>
-    ensures ok { OnOk result (clients_in ends (get (codes "clients") (view policy.now)) ≡ Ok tt) }
+fn check_clients_in(alloc: Global, most: usize, ends: bool, policy: &Value) -> Result<(), Stop>
+    ensures ok { OnOk result (clients_in most ends (get (codes "clients") (view policy.now)) ≡ Ok tt) }
     ensures err { IfErr result (λ e. (e ≡ Stop.Memory)
-        ⊎ (clients_in ends (get (codes "clients") (view policy.now)) ≡ Err e)) }
+        ⊎ (clients_in most ends (get (codes "clients") (view policy.now)) ≡ Err e)) }
 {
     match policy.get("clients") {
         None => Ok(()),
-        Some(part) => check_clients(
-            alloc,
-            ends,
-            part_within(Part::Clients, MAX_POLICY_CLIENTS, part)?,
-        ),
+        Some(part) => check_clients(alloc, ends, part_within(Part::Clients, most, part)?),
     }
 }
 
-fn check_sources_in(alloc: Global, ends: bool, policy: &Value) -> Result<(), Stop>
-    ensures ok { OnOk result (sources_in ends (get (codes "sources") (view policy.now)) ≡ Ok tt) }
+fn check_sources_in(alloc: Global, most: usize, ends: bool, policy: &Value) -> Result<(), Stop>
+    ensures ok { OnOk result (sources_in most ends (get (codes "sources") (view policy.now)) ≡ Ok tt) }
     ensures err { IfErr result (λ e. (e ≡ Stop.Memory)
-        ⊎ (sources_in ends (get (codes "sources") (view policy.now)) ≡ Err e)) }
+        ⊎ (sources_in most ends (get (codes "sources") (view policy.now)) ≡ Err e)) }
 {
     match policy.get("sources") {
         None => Ok(()),
-        Some(part) => check_sources(alloc, ends, part_within(Part::Sources, MAX_SOURCES, part)?),
+        Some(part) => check_sources(alloc, ends, part_within(Part::Sources, most, part)?),
     }
 }
 
-fn check_topics_in(alloc: Global, policy: &Value) -> Result<(), Stop>
-    ensures ok { OnOk result (topics_in (get (codes "topics") (view policy.now)) ≡ Ok tt) }
+fn check_topics_in(alloc: Global, most: usize, policy: &Value) -> Result<(), Stop>
+    ensures ok { OnOk result (topics_in most (get (codes "topics") (view policy.now)) ≡ Ok tt) }
     ensures err { IfErr result (λ e. (e ≡ Stop.Memory)
-        ⊎ (topics_in (get (codes "topics") (view policy.now)) ≡ Err e)) }
+        ⊎ (topics_in most (get (codes "topics") (view policy.now)) ≡ Err e)) }
 {
     match policy.get("topics") {
         None => Ok(()),
-        Some(part) => check_topics(alloc, part_within(Part::Topics, MAX_TOPICS, part)?),
+        Some(part) => check_topics(alloc, part_within(Part::Topics, most, part)?),
     }
 }
 

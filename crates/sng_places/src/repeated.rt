@@ -5,8 +5,8 @@ use json::{Error, Scratch, Value};
 use std::alloc::{AllocError, Global};
 
 /// The places of the members of the policy that stand more than once, each once and in the byte order of
-/// their names: those of the policy itself, and then those of its clients, sources and topics. None where the
-/// text is not JSON. Only memory can fail.
+/// their names: those of the policy itself, then those of its limits, and of its clients, sources and topics.
+/// None where the text is not JSON. Only memory can fail.
 pub fn repeated_members(alloc: Global, text: &[u8]) -> Result<Vec<Location>, AllocError> {
     let mut scratch = Scratch::new(alloc);
     let mut places = Vec::new(alloc);
@@ -15,6 +15,7 @@ pub fn repeated_members(alloc: Global, text: &[u8]) -> Result<Vec<Location>, All
             for name in repeated_names(alloc, &policy)?.as_slice() {
                 places.push(Location::Member(octets(alloc, name)?))?;
             }
+            push_limits(alloc, &mut places, policy.get("limits"))?;
             push_part(alloc, &mut places, Part::Clients, policy.get("clients"))?;
             push_part(alloc, &mut places, Part::Sources, policy.get("sources"))?;
             push_part(alloc, &mut places, Part::Topics, policy.get("topics"))?;
@@ -23,6 +24,21 @@ pub fn repeated_members(alloc: Global, text: &[u8]) -> Result<Vec<Location>, All
         Err(Error::OutOfMemory) => Err(AllocError),
         Err(Error::Invalid) | Err(Error::TooLong) | Err(Error::DuplicateKey) => Ok(places),
     }
+}
+
+/// Appends those of the limits, where they are there.
+fn push_limits(
+    alloc: Global,
+    places: &mut Vec<Location>,
+    value: Option<&Value<'_>>,
+) -> Result<(), AllocError> {
+    let Some(value) = value else {
+        return Ok(());
+    };
+    for name in repeated_names(alloc, value)?.as_slice() {
+        places.push(Location::LimitMember(octets(alloc, name)?))?;
+    }
+    Ok(())
 }
 
 /// Appends those of a part, where it is there.

@@ -1,8 +1,9 @@
 //! The policy in force: what is left of a policy at its clock, which rises. It is judged with no clock, and is
 //! let go by what ends.
-ghost use Rattle.std.specs.Prelude.{◌≡◌, ◌↔◌, ◌≤◌, [], false, IsTrue, IfOk, length};
+ghost use Rattle.std.specs.Prelude.{◌≡◌, ◌↔◌, ◌≤◌, false, IsTrue, IfOk, length};
 ghost use Rattle.std.specs.Option.{option_copied};
 ghost use Rattle.sng_grants.specs.Ends.{in_force, next_end};
+ghost use Rattle.sng_grants.specs.Policies.{no_policy};
 ghost use Rattle.sng_grants.specs.Sources.{is_reached, scope_of};
 ghost use Rattle.sng_policy.specs.Grants.{lists, lists_source, publish_grant, source_grant, receive_grant};
 ghost use Rattle.sng_policy.specs.Grants.{subscribe_grant, topic, topic_id};
@@ -11,7 +12,7 @@ ghost use Rattle.sng_policy.specs.Laws.{SaysOfFilter, JoinsReceiving};
 use crate::names::grant_by;
 use crate::subscriptions::subscribe_by;
 use crate::{FilterGrant, NameGrant, Permission};
-use sng_grants::{Policy, is_reached};
+use sng_grants::{Limits, Policy, is_reached};
 use sng_text::{ClientId, Compare, TopicFilter, TopicName};
 use std::alloc::{AllocError, Global};
 use std::marker::Model;
@@ -37,9 +38,9 @@ impl Model for InForce {
 }
 
 impl InForce {
-    /// Nothing is granted.
+    /// Nothing is granted, and no limit is set.
     pub fn new(alloc: Global) -> InForce
-        ensures { result ≡ record { clients = []; sources = []; topics = [] } }
+        ensures { result ≡ no_policy }
     {
         InForce::of(Policy::new(alloc))
     }
@@ -65,6 +66,13 @@ impl InForce {
         ensures { result.now ≡ self.now }
     {
         &self.policy
+    }
+
+    /// The limits that it sets.
+    pub fn limits(&self) -> Limits
+        ensures { result ≡ self.now.limits }
+    {
+        self.policy.limits()
     }
 
     /// Whether a part of it ends by this clock. Takes no memory.

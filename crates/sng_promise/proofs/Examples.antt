@@ -9,3 +9,4 @@ pub mod WorkedWills
 pub mod WorkedSleep
 pub mod WorkedBooks
 pub mod WorkedEnds
+pub mod WorkedLimits

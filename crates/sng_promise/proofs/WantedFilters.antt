@@ -3,6 +3,7 @@ pub mod HeldFilters
 pub mod UpstreamWords
 pub mod UpstreamSpeaks
 pub mod UpstreamLeaving
+pub mod UpstreamDebts
 pub mod UpstreamShort
 pub mod UpstreamOpen
 pub mod UpstreamJoins
@@ -11,7 +12,9 @@ pub mod UpstreamLaws
 pub mod UpstreamEnds
 pub mod UpstreamDropped
 pub mod UpstreamSettled
+pub mod UpstreamMarks
 pub mod UpstreamCarries
 pub mod UpstreamOwes
 pub mod UpstreamReleased
 pub mod UpstreamTold
+pub mod UpstreamFew

@@ -1,6 +1,7 @@
 -- Worked rows of devices without a session: histories that are lawful, and rows that are not.
 use Rattle.std.specs.Prelude.{ℕ, true, false, codes, List, [], ◌∷◌, Some, None}
 use Rattle.sng_grants.specs.Sources.{endless}
+use Rattle.sng_grants.specs.Policies.{no_policy}
 use Rattle.sng_grants.specs.declared.policy.Policy.{Policy}
 use Rattle.sng_book.specs.declared.address.Address.{Address}
 use Rattle.sng_book.specs.declared.decision.Decision.TheVariants.{Publish, Forward, Frame}
@@ -31,18 +32,16 @@ at ip = record { ip = ip; port = 4000 }
 -- the source may publish under `ab`
 abbrev pub grants_ab : Policy
 grants_ab =
-    record {
-      clients = [];
+    record no_policy {
       sources = (
         source,
         endless (record { filter = codes "ab"; publishes = true; subscribes = false } ∷ []),
       ) ∷ [];
-      topics = [];
     }
 
 -- nothing is granted
 abbrev pub grants_nothing : Policy
-grants_nothing = record { clients = []; sources = []; topics = [] }
+grants_nothing = no_policy
 
 -- a PUBLISH at QoS -1 under the short name `ab` with the payload `21`, with a Length of one octet and of
 -- three

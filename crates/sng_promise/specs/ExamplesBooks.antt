@@ -1,5 +1,6 @@
 -- Worked books whose scopes end: some that are lawful, and some that are not.
 use Rattle.std.specs.Prelude.{true, false, codes, List, [], ◌∷◌, Some}
+use Rattle.sng_grants.specs.Policies.{no_policy}
 use Rattle.sng_grants.specs.declared.policy.Policy.{Policy}
 use Rattle.sng_book.specs.declared.decision.Decision.TheVariants.{End}
 use Rattle.sng_book.specs.declared.outcome.Denial.TheVariants.{Grant}
@@ -17,8 +18,7 @@ use Rattle.sng_promise.specs.ExamplesClients.{s1, home, s1_home, ab, subscribe_a
 -- the source may publish under `ab` until the clock reaches 5,000 ms
 abbrev pub lends_ab : Policy
 lends_ab =
-    record {
-      clients = [];
+    record no_policy {
       sources = (
         source,
         record {
@@ -26,7 +26,6 @@ lends_ab =
           until = Some 5000;
         },
       ) ∷ [];
-      topics = [];
     }
 
 -- it publishes while it may
@@ -52,7 +51,7 @@ let_out_at_its_end = row Take (forward_ab Allowed ∷ packet_ab ∷ []) ∷ ends
 -- `s1` may subscribe under `a` until the clock reaches 5,000 ms
 abbrev pub lends_under_a : Policy
 lends_under_a =
-    record {
+    record no_policy {
       clients = (
         s1,
         record {
@@ -60,8 +59,6 @@ lends_under_a =
           until = Some 5000;
         },
       ) ∷ [];
-      sources = [];
-      topics = [];
     }
 
 -- it subscribes by `a/b`

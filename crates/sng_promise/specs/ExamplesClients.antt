@@ -1,6 +1,7 @@
 -- Worked rows of clients: histories that are lawful, and rows that are not.
 use Rattle.std.specs.Prelude.{ℕ, true, false, codes, List, [], ◌∷◌, Some, None}
 use Rattle.sng_grants.specs.Sources.{endless}
+use Rattle.sng_grants.specs.Policies.{no_policy}
 use Rattle.sng_grants.specs.declared.policy.Policy.{Policy}
 use Rattle.mqtt_frames.specs.declared.packet.Packet.{Packet}
 use Rattle.mqtt_frames.specs.declared.packet.Packet.TheVariants.{PublishAck}
@@ -22,24 +23,12 @@ use Rattle.sng_book.specs.declared.out.Out.{Out}
 use Rattle.sng_book.specs.declared.out.Out.TheVariants.{Send, Wire, Note}
 use Rattle.sng_book.specs.declared.row.Row.{Row}
 use Rattle.sng_history.specs.State.{State, opening, state_of}
+pub use Rattle.sng_history.specs.Samples.{s1, s2, home, away, connect_s1, connect_s2}
 use Rattle.sng_promise.specs.Examples.{row}
-
--- two addresses of one host
-abbrev pub home : Address
-home = record { ip = 10 ∷ 0 ∷ 0 ∷ 9 ∷ []; port = 4000 }
-
-abbrev pub away : Address
-away = record { ip = 10 ∷ 0 ∷ 0 ∷ 9 ∷ []; port = 4001 }
-
-abbrev pub s1 : List ℕ
-s1 = codes "s1"
-
-abbrev pub s2 : List ℕ
-s2 = codes "s2"
 
 -- `s1` alone has a scope, and both have an empty one
 abbrev pub one_listed : Policy
-one_listed = record {
+one_listed = record no_policy {
   clients = (
     s1,
     endless
@@ -49,20 +38,10 @@ one_listed = record {
           subscribes = false;
         } ∷ record { filter = codes "a/#"; publishes = false; subscribes = true } ∷ []),
   ) ∷ [];
-  sources = [];
-  topics = [];
 }
 
 abbrev pub both_listed : Policy
-both_listed =
-    record { clients = (s1, endless []) ∷ (s2, endless []) ∷ []; sources = []; topics = [] }
-
--- CONNECT with CleanSession and a Duration of 60 s
-abbrev pub connect_s1 : List ℕ
-connect_s1 = 0x08 ∷ 0x04 ∷ 0x04 ∷ 0x01 ∷ 0x00 ∷ 0x3c ∷ 0x73 ∷ 0x31 ∷ []
-
-abbrev pub connect_s2 : List ℕ
-connect_s2 = 0x08 ∷ 0x04 ∷ 0x04 ∷ 0x01 ∷ 0x00 ∷ 0x3c ∷ 0x73 ∷ 0x32 ∷ []
+both_listed = record no_policy { clients = (s1, endless []) ∷ (s2, endless []) ∷ [] }
 
 -- PINGREQ that names a client, and one that names none; DISCONNECT
 abbrev pub ping_s1 : List ℕ

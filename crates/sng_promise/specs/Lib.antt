@@ -4,3 +4,4 @@ pub mod ExamplesOnce
 pub mod ExamplesWills
 pub mod ExamplesSleep
 pub mod ExamplesBooks
+pub mod ExamplesLimits

@@ -142,12 +142,12 @@ pub fn one_client_at_an_address()
 
 /// In every lawful history a row whose datagram holds a CONNECT begins with its note, with the first rule
 /// that forbids it, in this order: a ProtocolId other than 1 is not supported; a client that the policy in
-/// force does not list has no scope; and a client that was never accepted finds its place full where
-/// `MAX_CLIENTS` were. One that is denied is answered by the rule's code. As one is accepted, the client is
-/// dismissed where it was, if that is elsewhere, another client at the address leaves, of each filter that a
-/// clean one leaves with nobody it is noted where there is no place to tell the broker, what waits for the
-/// client is gone if it is clean, CONNACK answers, and else what waits is handed over; one with Will is
-/// answered by WILLTOPICREQ, and what waits is kept. Nothing else is let out.
+/// force does not list has no scope; and a client that was never accepted finds its place full where as many
+/// were as the limit of that policy lets in. One that is denied is answered by the rule's code. As one is
+/// accepted, the client is dismissed where it was, if that is elsewhere, another client at the address leaves,
+/// of each filter that a clean one leaves with nobody it is noted where there is no place to tell the broker,
+/// what waits for the client is gone if it is clean, CONNACK answers, and else what waits is handed over; one
+/// with Will is answered by WILLTOPICREQ, and what waits is kept. Nothing else is let out.
 pub fn connects_are_judged()
     ensures { (h : List Row) → (row : Row) → (from : Address) → (connect : Connect) → Lawful opening (row ∷ h)
         → Brought row from (frame.Connect connect) → row.outs ≡ connect_answer h from connect }
@@ -156,8 +156,8 @@ pub fn connects_are_judged()
 /// In every lawful history a row whose datagram holds a PUBLISH without a session has one note, with the
 /// first rule that forbids it, in this order: a source that the policy in force does not list; a topic id
 /// whose type needs a session; a short id that is no name; a predefined id without a name; no pair with `pub`
-/// whose filter matches; a connection that is down; and `MAX_OUTBOX_ITEMS` items that wait. Nothing else is
-/// let out.
+/// whose filter matches; a connection that is down; and as many items that wait as its limit allows. Nothing
+/// else is let out.
 pub fn device_publishes_are_judged()
     ensures { (h : List Row) → (row : Row) → (from : Address) → (p : Publish) → Lawful opening (row ∷ h)
         → Brought row from (frame.Publish p) → is_without_session p.flags.qos ≡ true
@@ -173,7 +173,8 @@ pub fn device_publishes_are_judged()
 /// PUBLISH of QoS 0, 1 or 2 are the first two of these; a topic id of the reserved type; a short id that is no
 /// name; a predefined id without a name; an id that was not told; no pair with `pub` whose filter matches; a
 /// connection that is down; at QoS 2, `MAX_OPEN_IDS` MsgIds of the client that are open; at QoS 1 and 2,
-/// `MAX_IN_FLIGHT` publishes of QoS 1 that wait or are in flight; and `MAX_OUTBOX_ITEMS` items that wait.
+/// as many publishes of QoS 1 that wait or are in flight, and then as many items that wait, as the limits of
+/// the policy in force allow.
 /// PUBACK answers one that is denied, and one of QoS 1 that is allowed, and PUBREC one of QoS 2. But a repeat,
 /// one of QoS 2 of an active client whose MsgId is open, PUBREC answers alone, without a note (`once` says
 /// more).
@@ -194,8 +195,8 @@ pub fn asks_are_judged()
 /// id, that is no topic filter; a short id that is no name; a predefined id without a name; a filter that is
 /// not covered, with a gap; a connection that is down; a text that is a name of other than two octets without
 /// an id where `MAX_TOPIC_IDS` names were told; a filter that does not stand for the client where
-/// `MAX_SUBSCRIPTIONS` do; and `MAX_OUTBOX_ITEMS` items that wait. SUBACK answers, with the QoS that is
-/// granted and the topic id. `covered`: where the scope of the client holds filters, a SUBSCRIBE that is well
+/// `MAX_SUBSCRIPTIONS` do; and as many items that wait as the limit allows. SUBACK answers, with the QoS that
+/// is granted and the topic id. `covered`: where the scope of the client holds filters, a SUBSCRIBE that is well
 /// formed is denied as not covered where its filter matches a name that may not be received, and the gap is
 /// such a name; else it is allowed where there is room. `unsubscribes`: an UNSUBSCRIBE needs no grant;
 /// UNSUBACK answers. `replaces`: as the policy is replaced, of each client in the order of first acceptance
@@ -300,7 +301,7 @@ pub fn messages_are_handed_over()
 /// supported, and are noted alone. `broken`: what is no
 /// message is noted alone. `packets`: of a packet of the broker a message comes to each client that it
 /// concerns, in the order of first acceptance; one under a text that is no topic name is noted, and an
-/// acknowledgement that is owed while `MAX_OUTBOX_ITEMS` items wait; a SUBACK that refuses ends the filter
+/// acknowledgement that is owed while no more items may wait; a SUBACK that refuses ends the filter
 /// whose open SUBSCRIBE has its packet id, for each client for whom it stands, in the order of first
 /// acceptance; what else acknowledges or answers the gateway lets nothing out; and any other is not
 /// supported.

@@ -1,9 +1,11 @@
 //! Worked rows: histories that are lawful by the definitions, and rows that are not.
 ghost use Rattle.std.specs.Prelude.{◌∷◌, [], codes};
 ghost use Rattle.sng_book.specs.declared.event.Event.TheVariants.{Datagram, Broker, Up, Take, Replace, Tick};
+ghost use Rattle.sng_book.specs.declared.decision.Decision.TheVariants.{Left};
 ghost use Rattle.sng_book.specs.declared.outcome.Denial.TheVariants.{Grant};
 ghost use Rattle.sng_book.specs.declared.outcome.GrantDenial.TheVariants.{MissingPub};
 ghost use Rattle.sng_book.specs.declared.outcome.Outcome.TheVariants.{Allowed, Denied};
+ghost use Rattle.sng_book.specs.declared.out.Out.TheVariants.{Note};
 ghost use Rattle.sng_history.specs.State.{opening};
 ghost use Rattle.sng_history.specs.Books.{LawfulBook};
 ghost use Rattle.sng_history.specs.Lawful.{LawfulRow, Lawful};
@@ -14,6 +16,8 @@ ghost use Rattle.sng_promise.specs.Examples.{kept_while_down};
 ghost use Rattle.sng_promise.specs.Examples.{waits, waits_replaced, waits_down};
 ghost use Rattle.sng_promise.specs.ExamplesBooks.{denied_at_its_end, let_out_at_its_end};
 ghost use Rattle.sng_promise.specs.ExamplesBooks.{ended_at_its_end, kept_at_its_end};
+ghost use Rattle.sng_promise.specs.ExamplesLimits.{lets_one, finds_full, no_place, refused_since, let_in_since};
+ghost use Rattle.sng_promise.specs.ExamplesLimits.{answered, comes_again, at_less, at_more, at_both};
 ghost use Rattle.sng_promise.specs.ExamplesClients.{home, away, s1, s2, connect_s1, connect_s2, disconnect};
 ghost use Rattle.sng_promise.specs.ExamplesClients.{lets_in, welcome, bye};
 ghost use Rattle.sng_promise.specs.ExamplesClients.{not_listed, moves, takes_over, goes, pings, at_home};
@@ -80,6 +84,25 @@ pub fn unlawful_clients()
     ensures both_there { LawfulRow at_home (Datagram home connect_s2) (lets_in s2 ∷ welcome home ∷ []) → ⊥ }
     ensures unanswered { LawfulRow at_home (Datagram away connect_s1) (lets_in s1 ∷ welcome away ∷ []) → ⊥ }
     ensures unnoted { LawfulRow at_home (Datagram home disconnect) (bye home ∷ []) → ⊥ }
+{}
+
+/// Lawful histories of the limit of clients that a policy sets: a second client is refused by that of the policy in
+/// force, though the policy before let in two (`less`), and let in by it, though the policy before let in one
+/// (`more`). Once two were let in, a policy that lets in one puts nobody out: a client is answered (`answered`), and
+/// may come again (`again`).
+pub fn lawful_limits()
+    ensures less { Lawful opening refused_since }
+    ensures more { Lawful opening let_in_since }
+    ensures answered { Lawful opening answered }
+    ensures again { Lawful opening comes_again }
+{}
+
+/// Rows that may not come: a second client is let in, or refused, by the limit of the policy before; and a client
+/// is put out by a policy that lets in one.
+pub fn unlawful_limits()
+    ensures let_in { LawfulRow at_less (Datagram away connect_s2) (lets_in s2 ∷ welcome away ∷ []) → ⊥ }
+    ensures refused { LawfulRow at_more (Datagram away connect_s2) (finds_full s2 ∷ no_place away ∷ []) → ⊥ }
+    ensures put_out { LawfulRow at_both (Replace (lets_one s2)) (Note (Left s1) ∷ []) → ⊥ }
 {}
 
 /// Lawful histories of what a client asks for: a REGISTER of a name that is not granted is refused, and a

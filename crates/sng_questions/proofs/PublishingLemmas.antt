@@ -1,10 +1,17 @@
 -- A source may publish exactly where a name is granted that it can say.
-use Rattle.std.proofs.Common.{◌≡◌, ℕ, ◌&&◌, ◌||◌, true, false, List, [], ◌∷◌, inl, inr, ap, refl, ◌∙◌}
+use Rattle.std.proofs.Common.{◌≡◌, ℕ, ◌&&◌, ◌||◌, true, false, List, [], ◌∷◌, inl, inr, ap, refl, sym, ◌∙◌}
+use Rattle.std.proofs.Common.{is_some}
 use Rattle.std.specs.List.{AllByRecursion as AllOf}
-use Rattle.std.proofs.lemmas.Bool.{and_from, and_parts, or_cases, or_left, or_right}
+use Rattle.std.proofs.lemmas.Bool.{and_from, and_parts, both_ways, cases_Bool, false_from_ne_true, or_cases}
+use Rattle.std.proofs.lemmas.Bool.{or_left, or_right}
 use Rattle.std.proofs.lemmas.List.Elements.{recursion_from_All}
+use Rattle.std.proofs.lemmas.Slice.Eq.{bytes_eq-Decides}
+use Rattle.std.specs.Str.{bytes_eq}
 use Rattle.sng_text.specs.Matching.{matches}
-use Rattle.sng_text.specs.Texts.{is_filter}
+use Rattle.sng_text.specs.Texts.{is_filter, is_name}
+use Rattle.sng_text.proofs.NameLemmas.{name-plain}
+use Rattle.sng_text.proofs.SelfLemmas.{matches_itself, matches_same}
+use Rattle.sng_grants.specs.Topics.{id_of}
 use Rattle.sng_grants.specs.declared.scope.Pair.{Pair}
 use Rattle.sng_policy.specs.Grants.{is_granted}
 use Rattle.sng_policy.specs.declared.permission.Permission.TheVariants.{Publish}
@@ -34,6 +41,29 @@ topic_matched (topic ∷ topics) filter name is matched =
     elim is [
       | inl here ↦ or_left _ (matches_topic topics filter) (ap (matches filter) here ∙ matched)
       | inr there ↦ or_right (matches filter topic.1) _ (topic_matched topics filter name there matched)
+    ]
+
+-- ---- a name, which matches itself alone
+
+other_name : (name other : List ℕ) → is_name name ≡ true → bytes_eq other name ≡ false
+    → matches name other ≡ false
+other_name name other is differs =
+    false_from_ne_true (matches name other) (λ (matched : matches name other ≡ true).
+    let same = matches_same name other (name-plain name is) matched in
+    both_ways (bytes_eq other name) differs ((bytes_eq-Decides other name).1 (sym same)))
+
+same_name : (name other : List ℕ) → is_name name ≡ true → bytes_eq other name ≡ true
+    → matches name other ≡ true
+same_name name other is same =
+    matches_itself name other (name-plain name is) (sym ((bytes_eq-Decides other name).0 same))
+
+pub found_by_name : (topics : Topics) (name : List ℕ) → is_name name ≡ true
+    → is_some (id_of topics name) ≡ matches_topic topics name
+found_by_name [] name is = refl
+found_by_name (topic ∷ topics) name is =
+    elim (cases_Bool (bytes_eq topic.1 name)) [
+      | inl same ↦ rw (same, same_name name topic.1 is same) refl
+      | inr differs ↦ rw (differs, other_name name topic.1 is differs) (found_by_name topics name is)
     ]
 
 -- ---- one pair

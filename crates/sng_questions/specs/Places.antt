@@ -7,6 +7,7 @@ use Rattle.sng_text.specs.Texts.{has_byte, is_hash, is_ordinary}
 use Rattle.sng_text.specs.declared.fault.TextFault.{TextFault}
 use Rattle.sng_text.specs.declared.fault.TextFault.TheVariants as texts
 use Rattle.sng_text.specs.declared.limits.TheConstants.{MAX_CLIENT_ID, MAX_FILTER, MAX_NAME}
+use Rattle.sng_places.specs.LimitPlaces.{limit_text}
 use Rattle.sng_places.specs.declared.flaw.Flaw.{Flaw}
 use Rattle.sng_places.specs.declared.flaw.Flaw.TheVariants as flaws
 use Rattle.sng_places.specs.declared.location.Form.{Form}
@@ -52,6 +53,9 @@ abbrev pub place_text : Location → List ℕ
 place_text places.Whole = codes "the policy"
 place_text places.Version = codes "version"
 place_text (places.Member name) = name_text name
+place_text places.Limits = codes "limits"
+place_text (places.LimitMember name) = codes "limits." ++ name_text name
+place_text (places.Limit name) = codes "limits." ++ limit_text name
 place_text (places.Part part) = part_text part
 place_text (places.Name part name) = member_text part name
 place_text (places.Value part name form spot) = member_text part name ++ (form_text form ++ spot_text spot)
@@ -126,6 +130,9 @@ abbrev pub unit_text : Location → List ℕ
 unit_text places.Whole = codes "members"
 unit_text places.Version = codes "members"
 unit_text (places.Member name) = codes "members"
+unit_text places.Limits = codes "members"
+unit_text (places.LimitMember name) = codes "members"
+unit_text (places.Limit name) = codes "members"
 unit_text (places.Part part) = part_text part
 unit_text (places.Name part name) = codes "pairs"
 unit_text (places.Value part name form spot) = codes "pairs"
@@ -138,7 +145,7 @@ abbrev pub words_of : Flaw → List ℕ
 words_of flaws.NotJson = codes "not JSON"
 words_of flaws.NotObject = codes "not an object"
 words_of flaws.NoVersion = codes "no member version"
-words_of flaws.OtherVersion = codes "not the whole number 1 or 2"
+words_of flaws.OtherVersion = codes "not the whole number 1, 2 or 4"
 words_of flaws.UnknownMember = codes "there is no such member"
 words_of flaws.NoScope = codes "no member scope"
 words_of flaws.NotEnd = codes "not a whole number of ms from 0 to 18446744073709551615"
@@ -154,11 +161,17 @@ words_of (flaws.ClientId fault) = codes "not a client id: "
 words_of flaws.Source = codes "not an IPv4 address in decimal without leading zeros"
 words_of flaws.TopicId = codes "not a topic id from 1 to 65534 in decimal without leading zeros"
 words_of (flaws.TopicName text fault) = codes "not a topic name"
+words_of (flaws.NotLimit least most) = codes "not a whole number from "
 words_of (flaws.TooMany count most) = codes "too many"
 
 abbrev pub many_text : Location → ℕ → ℕ → List ℕ
 many_text place count most = decimal count
     ++ (codes " " ++ (unit_text place ++ (codes ", at most " ++ decimal most)))
+
+-- not a whole number from the least to the most
+abbrev pub range_text : ℕ → ℕ → List ℕ
+range_text least most =
+    count_text (codes "not a whole number from ") least ++ count_text (codes " to ") most
 
 abbrev pub flaw_text : Location → Flaw → List ℕ
 flaw_text place flaws.NotJson = words_of flaws.NotJson
@@ -180,6 +193,7 @@ flaw_text place (flaws.ClientId fault) = words_of (flaws.ClientId fault) ++ clie
 flaw_text place flaws.Source = words_of flaws.Source
 flaw_text place flaws.TopicId = words_of flaws.TopicId
 flaw_text place (flaws.TopicName text fault) = quoted_text text ++ topic_text text fault
+flaw_text place (flaws.NotLimit least most) = range_text least most
 flaw_text place (flaws.TooMany count most) = many_text place count most
 
 -- ---- the line of a place, with its line feed

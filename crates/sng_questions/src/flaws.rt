@@ -3,7 +3,7 @@ ghost use Rattle.std.specs.Prelude.{◌≡◌, ◌++◌, OnOk, option_map, lengt
 ghost use Rattle.sng_text.specs.Levels.{levels_of};
 ghost use Rattle.sng_questions.specs.Places.{shown_text, quoted_text, level_text, first_misplaced};
 ghost use Rattle.sng_questions.specs.Places.{misplaced_text, bytes_text, count_text, filter_text, topic_text};
-ghost use Rattle.sng_questions.specs.Places.{client_text, unit_text, words_of, many_text, flaw_text};
+ghost use Rattle.sng_questions.specs.Places.{client_text, unit_text, words_of, many_text, flaw_text, range_text};
 
 use crate::limits::MAX_SHOWN;
 use crate::places::push_part;
@@ -47,6 +47,7 @@ pub fn push_flaw(line: &mut Vec<u8>, place: &Location, flaw: &Flaw) -> Result<()
             push_quoted(line, text.as_slice())?;
             push_topic(line, text.as_slice(), *fault)
         }
+        Flaw::NotLimit(least, most) => push_range(line, *least, *most),
         Flaw::TooMany(count, most) => push_many(line, place, *count, *most),
     }
 }
@@ -59,7 +60,7 @@ fn words_of(flaw: &Flaw) -> &'static str
         Flaw::NotJson => "not JSON",
         Flaw::NotObject => "not an object",
         Flaw::NoVersion => "no member version",
-        Flaw::OtherVersion => "not the whole number 1 or 2",
+        Flaw::OtherVersion => "not the whole number 1, 2 or 4",
         Flaw::UnknownMember => "there is no such member",
         Flaw::NoScope => "no member scope",
         Flaw::NotEnd => "not a whole number of ms from 0 to 18446744073709551615",
@@ -75,8 +76,16 @@ fn words_of(flaw: &Flaw) -> &'static str
         Flaw::Source => "not an IPv4 address in decimal without leading zeros",
         Flaw::TopicId => "not a topic id from 1 to 65534 in decimal without leading zeros",
         Flaw::TopicName(_, _) => "not a topic name",
+        Flaw::NotLimit(_, _) => "not a whole number from ",
         Flaw::TooMany(_, _) => "too many",
     }
+}
+
+fn push_range(line: &mut Vec<u8>, least: usize, most: usize) -> Result<(), AllocError>
+    ensures { OnOk result (line.new.items ≡ line.old.items ++ range_text least most) }
+{
+    push_count(line, "not a whole number from ", least)?;
+    push_count(line, " to ", most)
 }
 
 fn push_many(
@@ -101,6 +110,9 @@ fn push_unit(line: &mut Vec<u8>, place: &Location) -> Result<(), AllocError>
         Location::Whole
         | Location::Version
         | Location::Member(_)
+        | Location::Limits
+        | Location::LimitMember(_)
+        | Location::Limit(_)
         | Location::Other(_, _, _)
         | Location::End(_, _) => line.extend_from_slice(b"members"),
         Location::Part(part) => push_part(line, *part),

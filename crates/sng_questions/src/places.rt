@@ -1,11 +1,12 @@
 //! How the place of a fault of a policy text is printed, and what is wrong there.
 ghost use Rattle.std.specs.Prelude.{◌≡◌, ◌++◌, OnOk};
+ghost use Rattle.sng_places.specs.LimitPlaces.{limit_text};
 ghost use Rattle.sng_questions.specs.Places.{part_text, index_text, spot_text, form_text, member_text};
 ghost use Rattle.sng_questions.specs.Places.{place_text, position_text, where_text, found_text};
 
 use crate::flaws::push_flaw;
 use sng_book::print::{push_decimal, push_name};
-use sng_places::{Flaw, Form, Found, Location, Part, Position, Spot};
+use sng_places::{Flaw, Form, Found, LimitName, Location, Part, Position, Spot};
 use std::alloc::AllocError;
 
 /// Appends the line of a fault. A text that is not JSON has it at this position.
@@ -50,6 +51,15 @@ pub fn push_place(line: &mut Vec<u8>, place: &Location) -> Result<(), AllocError
         Location::Whole => line.extend_from_slice(b"the policy"),
         Location::Version => line.extend_from_slice(b"version"),
         Location::Member(name) => push_name(line, name.as_slice()),
+        Location::Limits => line.extend_from_slice(b"limits"),
+        Location::LimitMember(name) => {
+            line.extend_from_slice(b"limits.")?;
+            push_name(line, name.as_slice())
+        }
+        Location::Limit(name) => {
+            line.extend_from_slice(b"limits.")?;
+            push_limit(line, *name)
+        }
         Location::Part(part) => push_part(line, *part),
         Location::Name(part, name) => push_member(line, *part, name.as_slice()),
         Location::Value(part, name, form, spot) => {
@@ -72,6 +82,19 @@ pub fn push_place(line: &mut Vec<u8>, place: &Location) -> Result<(), AllocError
             push_form(line, *form)?;
             push_spot(line, *spot)
         }
+    }
+}
+
+/// Appends the name of the limit.
+fn push_limit(line: &mut Vec<u8>, name: LimitName) -> Result<(), AllocError>
+    ensures { OnOk result (line.new.items ≡ line.old.items ++ limit_text name) }
+{
+    match name {
+        LimitName::Clients => line.extend_from_slice(b"clients"),
+        LimitName::InFlight => line.extend_from_slice(b"in_flight"),
+        LimitName::Sources => line.extend_from_slice(b"sources"),
+        LimitName::Topics => line.extend_from_slice(b"topics"),
+        LimitName::Waiting => line.extend_from_slice(b"waiting"),
     }
 }
 

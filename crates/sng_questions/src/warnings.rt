@@ -97,7 +97,7 @@ fn push_source(
     push_ip(&mut member, source)?;
     let pairs = grant.scope.pairs();
     push_end(lines, member.as_slice(), grant.until)?;
-    push_silent(lines, topics, member.as_slice(), pairs)?;
+    push_silent(alloc, lines, topics, member.as_slice(), pairs)?;
     push_scope(alloc, lines, member.as_slice(), pairs)?;
     Ok(())
 }
@@ -119,6 +119,7 @@ fn push_end(lines: &mut Vec<u8>, member: &[u8], until: Option<u64>) -> Result<()
 
 /// Appends the line of a source that has pairs, and can never publish.
 fn push_silent(
+    alloc: Global,
     lines: &mut Vec<u8>,
     topics: &Topics,
     member: &[u8],
@@ -127,7 +128,7 @@ fn push_silent(
     ensures { OnOk result (lines.new.items
         ≡ lines.old.items ++ silent_lines topics.now member.now pairs.now) }
 {
-    if pairs.is_empty() || may_publish(topics, pairs) {
+    if pairs.is_empty() || may_publish(alloc, topics, pairs)? {
         return Ok(());
     }
     push_warning(

@@ -1,6 +1,7 @@
 -- A message for one client.
-use Rattle.std.specs.Prelude.{ℕ, Bool, ◌&&◌, nat_le, List, length}
+use Rattle.std.specs.Prelude.{ℕ, Bool, false, ◌&&◌, nat_le, List, [], ◌∷◌, length}
 use Rattle.sng_text.specs.declared.qos.Qos.{Qos}
+use Rattle.sng_text.specs.declared.qos.Qos.TheVariants.{AtMostOnce}
 use Rattle.sng_queue.specs.declared.limits.TheConstants.{MAX_WAITING_NAME, MAX_WAITING_PAYLOAD}
 
 pub record Message : Type 0 where
@@ -11,6 +12,11 @@ pub record Message : Type 0 where
 
 abbrev pub message : List ℕ → List ℕ → Qos → Bool → Message
 message name payload qos retain = record { name = name; payload = payload; qos = qos; retain = retain }
+
+-- of a list of one message that one
+abbrev pub only : List Message → Message
+only [] = message [] [] AtMostOnce false
+only (m ∷ messages) = m
 
 -- a PUBLISH with the payload is no longer than a datagram, and neither is a REGISTER with the name
 abbrev pub is_sendable : List ℕ → List ℕ → Bool

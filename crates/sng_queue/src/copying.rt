@@ -3,9 +3,9 @@ ghost use Rattle.std.specs.Prelude.{◌≡◌, IfOk};
 ghost use Rattle.std.specs.Option.{option_copied};
 
 use crate::{Exchange, Waiting};
-use circular_buffer::HeapCircularBuffer;
 use sng_text::{Compare, all_same};
 use std::alloc::{AllocError, Global};
+use std::collections::LinkedList;
 use std::marker::Model;
 
 /// The messages that wait for a client, the oldest first, and the open exchange. It is never changed, and has
@@ -29,11 +29,11 @@ impl QueueCopy {
     /// two share. Only memory can fail.
     pub(crate) fn of(
         alloc: Global,
-        waiting: &HeapCircularBuffer<Waiting>,
+        waiting: &LinkedList<Waiting>,
         exchange: &Option<Exchange>,
     ) -> Result<QueueCopy, AllocError>
         ensures { IfOk result
-            (λ c. c ≡ record { waiting = waiting.now.items; exchange = exchange.now }) }
+            (λ c. c ≡ record { waiting = waiting.now; exchange = exchange.now }) }
     {
         Ok(QueueCopy {
             waiting: copy_messages(alloc, waiting)?,
@@ -62,11 +62,8 @@ impl Compare for QueueCopy {
     }
 }
 
-fn copy_messages(
-    alloc: Global,
-    messages: &HeapCircularBuffer<Waiting>,
-) -> Result<Vec<Waiting>, AllocError>
-    ensures { IfOk result (λ v. v.items ≡ messages.now.items) }
+fn copy_messages(alloc: Global, messages: &LinkedList<Waiting>) -> Result<Vec<Waiting>, AllocError>
+    ensures { IfOk result (λ v. v.items ≡ messages.now) }
 {
     let mut copies = Vec::with_capacity(alloc, messages.len())?;
     for message in messages.iter() {

@@ -7,6 +7,7 @@ pub mod exchange;
 pub mod kind;
 pub mod laws;
 pub mod limits;
+pub mod parcel;
 pub mod queue;
 pub mod waiting;
 
@@ -14,5 +15,6 @@ pub use copying::QueueCopy;
 pub use exchange::{Exchange, Sending};
 pub use kind::TopicIdKind;
 pub use limits::{MAX_QUEUED, MAX_TRIES, MAX_WAITING_NAME, MAX_WAITING_PAYLOAD};
+pub use parcel::Parcel;
 pub use queue::Queue;
 pub use waiting::Waiting;

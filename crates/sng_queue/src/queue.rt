@@ -8,46 +8,47 @@ ghost use Rattle.sng_queue.specs.Messages.{Message};
 ghost use Rattle.sng_queue.specs.Exchanges.{IsExchangeOn, repeat, MayRepeat};
 ghost use Rattle.sng_queue.specs.Buffers.{nothing, settled, settle, announce, await_ack};
 
-use crate::{Exchange, MAX_QUEUED, QueueCopy, Sending, TopicIdKind, Waiting};
-use circular_buffer::{HeapCircularBuffer, Iter};
+use crate::{Exchange, MAX_QUEUED, Parcel, QueueCopy, Sending, TopicIdKind, Waiting};
 use std::alloc::{AllocError, Global};
+use std::collections::LinkedList;
+use std::collections::linked_list::Iter;
 use std::marker::Model;
 
 /// The messages that wait for a client, the oldest first, and at most one exchange: a topic id is announced
-/// for the front, or a message that left the front waits for its PUBACK. Room for all is made once, so no
-/// later call but `copy` takes memory. Contracts see the list and the exchange.
+/// for the front, or a message that left the front waits for its PUBACK. A message brings the memory for its
+/// place (`Parcel`), so no call but `copy` takes memory. Contracts see the list and the exchange.
 #[derive(Debug, Drop)]
 pub struct Queue {
-    waiting: HeapCircularBuffer<Waiting>,
+    waiting: LinkedList<Waiting>,
     exchange: Option<Exchange>,
 }
 
 impl Model for Queue {
-    ghost use Rattle.std.specs.Prelude.{◌≡◌};
+    ghost use Rattle.std.specs.Prelude.{◌≤◌, length};
     ghost use Rattle.sng_queue.specs.declared.limits.TheConstants.{MAX_QUEUED};
     ghost use Rattle.sng_queue.specs.Exchanges.{IsExchangeOn};
     ghost use Rattle.sng_queue.specs.Buffers.{Buffer};
 
     ghost Value = { Buffer };
 
-    ghost view = { λ q. record { waiting = q.waiting.items; exchange = q.exchange } };
+    ghost view = { λ q. record { waiting = q.waiting; exchange = q.exchange } };
 
-    ghost invariant = { λ q. (q.waiting.capacity ≡ MAX_QUEUED) × IsExchangeOn q.waiting.items q.exchange };
+    ghost invariant = { λ q. (length q.waiting ≤ MAX_QUEUED) × IsExchangeOn q.waiting q.exchange };
 }
 
 impl Queue {
-    /// A queue in which nothing waits and no exchange is open. Only memory can fail.
-    pub fn new(alloc: Global) -> Result<Queue, AllocError>
-        ensures { IfOk result (λ q. q ≡ nothing) }
+    /// A queue in which nothing waits and no exchange is open. Takes no memory.
+    pub fn new(alloc: Global) -> Queue
+        ensures { result ≡ nothing }
     {
-        Ok(Queue {
-            waiting: HeapCircularBuffer::with_capacity(alloc, MAX_QUEUED)?,
+        Queue {
+            waiting: LinkedList::new(alloc),
             exchange: None,
-        })
+        }
     }
 
     /// Adds a message behind the others. Where `MAX_QUEUED` wait it is given back, and nothing changes.
-    pub fn push(&mut self, message: Waiting) -> Result<(), Waiting>
+    pub fn push(&mut self, message: Parcel) -> Result<(), Parcel>
         ensures { MatchResult result
             (λ _. (length self.old.waiting < MAX_QUEUED)
             × (self.new ≡ record self.old { waiting = self.old.waiting ++ message ∷ [] }))
@@ -55,7 +56,14 @@ impl Queue {
             × (refused ≡ message)
             × (self.new ≡ self.old)) }
     {
-        self.waiting.try_push_back(message)
+        if self.is_full() {
+            return Err(message);
+        }
+        let mut place = message.into_place();
+        match self.waiting.append(&mut place) {
+            Ok(()) => Ok(()),
+            Err(_) => unreachable!(),
+        }
     }
 
     /// How many messages wait, `MAX_QUEUED` at the most.
@@ -84,7 +92,7 @@ impl Queue {
     pub fn at(&self, place: usize) -> Option<&Waiting>
         ensures { option_copied result ≡ slice_get self.now.waiting place }
     {
-        self.waiting.get(place)
+        self.waiting.iter().nth(place)
     }
 
     /// The messages, the oldest first.

@@ -1,30 +1,36 @@
 -- Each scope and each policy that a text gives keeps to its bounds.
 use Rattle.std.proofs.Common.{◌≡◌, ℕ, suc, ◌+◌, ◌≤◌, Bool, true, false, not, cond, ltb, List, [], ◌∷◌, length}
 use Rattle.std.proofs.Common.{All, Ordering, Less, Equal, Greater, Option, Some, None, ok_or, Result, Ok, Err}
-use Rattle.std.proofs.Common.{IfOk, codes, refl, arith}
+use Rattle.std.proofs.Common.{IfOk, codes, refl, subst, arith, leb, ◌&&◌, option_and_then}
 use Rattle.std.specs.Ordering.{nat_cmp, match_ordering}
 use Rattle.std.specs.Cmp.Lexicographic.{slice_cmp}
 use Rattle.std.specs.BTreeMap.{insert_entry}
 use Rattle.std.specs.Map.{keys_of, values_of}
-use Rattle.std.proofs.lemmas.Bool.{ltb-false}
+use Rattle.std.proofs.lemmas.Bool.{ltb-false, leb-true}
 use Rattle.std.proofs.lemmas.List.Elements.{All-nil, All-cons}
 use Rattle.std.proofs.lemmas.Map.Views.{All-keys-insert_entry, All-values-insert_entry}
 use Rattle.serde_json.specs.Data.{Data, null, boolean, number, string, array, object, Items, no_items, item}
 use Rattle.serde_json.specs.Data.{Members, no_members, member}
 use Rattle.serde_json.specs.Events.{items_len, members_len}
-use Rattle.serde_json.specs.Find.{as_object, as_str, get}
+use Rattle.serde_json.specs.Find.{as_number, as_object, as_str, as_u64, get}
 use Rattle.sng_text.specs.ClientIds.{is_client_id}
 use Rattle.sng_text.specs.Texts.{is_filter, is_name}
 use Rattle.sng_scope.proofs.KeyLemmas.{client_of-client, ipv4_of-address, topic_id_of-id}
 use Rattle.sng_text.specs.Ipv4.{IsAddress, ipv4_of}
 use Rattle.sng_grants.specs.declared.limits.TheConstants.{MAX_POLICY_CLIENTS, MAX_PAIRS, MAX_SOURCES}
-use Rattle.sng_grants.specs.declared.limits.TheConstants.{MAX_TOPICS}
+use Rattle.sng_grants.specs.declared.limits.TheConstants.{MAX_TOPICS, MAX_WAITING, MAX_FLIGHT}
+use Rattle.sng_grants.specs.declared.limits.TheConstants.{DEFAULT_CLIENTS, DEFAULT_SOURCES, DEFAULT_TOPICS}
+use Rattle.sng_grants.specs.declared.limits.TheConstants.{DEFAULT_WAITING, DEFAULT_FLIGHT}
+use Rattle.sng_grants.specs.Limits.{Limits, IsBetween, AreLimits}
 use Rattle.sng_scope.specs.Bounds.{AreWithin, IsGrant, IsPolicy, ScopesAreBounded, PoliciesAreBounded}
 use Rattle.sng_grants.specs.Scopes.{IsScope}
 use Rattle.sng_scope.specs.Numerals.{topic_id_of}
 use Rattle.sng_scope.specs.Policies.{client_of, name_of_data, clients_onto, sources_onto, topics_onto}
 use Rattle.sng_scope.specs.Policies.{members_within, clients_of, sources_of, topics_of, is_policy_object}
-use Rattle.sng_scope.specs.Policies.{may_end, parts_of, policy_of_data}
+use Rattle.sng_scope.specs.Policies.{may_end, parts_of, parts_within, policy_of_data}
+use Rattle.sng_scope.specs.PolicyLimits.{are_limits, limit_of, limits_by_members, limits_of, limits_of_object}
+use Rattle.sng_scope.specs.PolicyLimits.{ranged}
+use Rattle.sng_grants.specs.Limits.{default_limits}
 use Rattle.sng_scope.specs.Grants.{lasting_grant_of, end_of, grant_of_object, are_grant_members}
 use Rattle.sng_scope.specs.Grants.{grant_by_members, grant_of_data}
 use Rattle.sng_scope.specs.Scopes.{are_texts, are_permissions, pair_parts, pair_of, pairs_of, scope_of_items}
@@ -34,18 +40,18 @@ use Rattle.sng_grants.specs.Topics.{IsTopicId, with_name}
 use Rattle.sng_scope.specs.Steps.{◌>>=◌}
 use Rattle.sng_grants.specs.declared.grant.Grant.{Grant}
 use Rattle.sng_grants.specs.declared.scope.Pair.{Pair}
-use Rattle.sng_grants.specs.declared.policy.Policy.{Policy}
+use Rattle.sng_grants.specs.Policies.{Policy, ListsWithin}
 use Rattle.sng_scope.specs.declared.fault.PolicyFault.{PolicyFault}
 use Rattle.sng_scope.specs.declared.fault.PolicyFault.TheVariants.{Shape, BadFilter, BadPermission, BadSource}
 use Rattle.sng_scope.specs.declared.fault.PolicyFault.TheVariants.{BadTopicId, TooMany}
 
 -- what holds after a step, since each value that the step gives leads to it
-after : {A B E : Type 0} (r : Result A E) (next : A → Result B E) (P : A → Type 0) (Q : B → Type 0) → IfOk r P
+pub after : {A B E : Type 0} (r : Result A E) (next : A → Result B E) (P : A → Type 0) (Q : B → Type 0) → IfOk r P
     → ((a : A) → P a → IfOk (next a) Q) → IfOk (r >>= next) Q
 after (Ok a) next P Q h k = k a h
 after (Err e) next P Q h k = tt
 
-after_any : {A B E : Type 0} (r : Result A E) (next : A → Result B E) (Q : B → Type 0)
+pub after_any : {A B E : Type 0} (r : Result A E) (next : A → Result B E) (Q : B → Type 0)
     → ((a : A) → IfOk (next a) Q) → IfOk (r >>= next) Q
 after_any (Ok a) next Q k = k a
 after_any (Err e) next Q k = tt
@@ -217,37 +223,130 @@ members_within-few most d =
     after_any (ok_or (as_object d) Shape) _ (λ ms. members_len ms ≤ most)
     (λ ms. few_members (ltb most (members_len ms)) most ms refl)
 
-clients_of-within : (ends : Bool) (o : Option Data) → IfOk (clients_of ends o) (AreWithin MAX_POLICY_CLIENTS IsClient IsGrant)
-clients_of-within ends None = record { few = omega arith; keys = All-nil IsClient; values = All-nil IsGrant }
-clients_of-within ends (Some d) =
-    after (members_within MAX_POLICY_CLIENTS d) (clients_onto ends []) (λ ms. members_len ms ≤ MAX_POLICY_CLIENTS)
-    (AreWithin MAX_POLICY_CLIENTS IsClient IsGrant) (members_within-few MAX_POLICY_CLIENTS d)
-    (λ ms few. clients_onto-within ends ms MAX_POLICY_CLIENTS [] (omega arith) (All-nil IsClient)
-    (All-nil IsGrant))
+clients_of-within : (most : ℕ) (ends : Bool) (o : Option Data)
+    → IfOk (clients_of most ends o) (AreWithin most IsClient IsGrant)
+clients_of-within most ends None = record { few = omega arith; keys = All-nil IsClient; values = All-nil IsGrant }
+clients_of-within most ends (Some d) =
+    after (members_within most d) (clients_onto ends []) (λ ms. members_len ms ≤ most)
+    (AreWithin most IsClient IsGrant) (members_within-few most d)
+    (λ ms few. clients_onto-within ends ms most [] (omega arith) (All-nil IsClient) (All-nil IsGrant))
 
-sources_of-within : (ends : Bool) (o : Option Data) → IfOk (sources_of ends o) (AreWithin MAX_SOURCES IsAddress IsGrant)
-sources_of-within ends None = record { few = omega arith; keys = All-nil IsAddress; values = All-nil IsGrant }
-sources_of-within ends (Some d) =
-    after (members_within MAX_SOURCES d) (sources_onto ends []) (λ ms. members_len ms ≤ MAX_SOURCES)
-    (AreWithin MAX_SOURCES IsAddress IsGrant) (members_within-few MAX_SOURCES d)
-    (λ ms few. sources_onto-within ends ms MAX_SOURCES [] (omega arith) (All-nil IsAddress) (All-nil IsGrant))
+sources_of-within : (most : ℕ) (ends : Bool) (o : Option Data)
+    → IfOk (sources_of most ends o) (AreWithin most IsAddress IsGrant)
+sources_of-within most ends None = record { few = omega arith; keys = All-nil IsAddress; values = All-nil IsGrant }
+sources_of-within most ends (Some d) =
+    after (members_within most d) (sources_onto ends []) (λ ms. members_len ms ≤ most)
+    (AreWithin most IsAddress IsGrant) (members_within-few most d)
+    (λ ms few. sources_onto-within ends ms most [] (omega arith) (All-nil IsAddress) (All-nil IsGrant))
 
-topics_of-within : (o : Option Data) → IfOk (topics_of o) (AreWithin MAX_TOPICS IsTopicId IsName)
-topics_of-within None = record { few = omega arith; keys = All-nil IsTopicId; values = All-nil IsName }
-topics_of-within (Some d) =
-    after (members_within MAX_TOPICS d) (topics_onto []) (λ ms. members_len ms ≤ MAX_TOPICS)
-    (AreWithin MAX_TOPICS IsTopicId IsName) (members_within-few MAX_TOPICS d)
-    (λ ms few. topics_onto-within ms MAX_TOPICS [] (omega arith) (All-nil IsTopicId) (All-nil IsName))
+topics_of-within : (most : ℕ) (o : Option Data) → IfOk (topics_of most o) (AreWithin most IsTopicId IsName)
+topics_of-within most None = record { few = omega arith; keys = All-nil IsTopicId; values = All-nil IsName }
+topics_of-within most (Some d) =
+    after (members_within most d) (topics_onto []) (λ ms. members_len ms ≤ most)
+    (AreWithin most IsTopicId IsName) (members_within-few most d)
+    (λ ms few. topics_onto-within ms most [] (omega arith) (All-nil IsTopicId) (All-nil IsName))
+
+-- ---- limits
+
+in_range : (a b : Bool) (least most n : ℕ) → leb least n ≡ a → leb n most ≡ b
+    → IfOk (cond (a && b) (Ok n) (Err Shape)) (IsBetween least most)
+in_range false b least most n above below = tt
+in_range true false least most n above below = tt
+in_range true true least most n above below = (leb-true least n above, leb-true n most below)
+
+limit_of-between : (default least most : ℕ) (o : Option Data) → IsBetween least most default
+    → IfOk (limit_of default least most o) (IsBetween least most)
+limit_of-between default least most None is = is
+limit_of-between default least most (Some d) is =
+    after_any (ok_or (option_and_then as_u64 (as_number d)) Shape) (ranged least most) (IsBetween least most)
+    (λ n. in_range (leb least n) (leb n most) least most n refl refl)
+
+limits_of_object-limits : (d : Data) → IfOk (limits_of_object d) AreLimits
+limits_of_object-limits d =
+    after (limit_of DEFAULT_CLIENTS 1 MAX_POLICY_CLIENTS (get (codes "clients") d)) _
+    (IsBetween 1 MAX_POLICY_CLIENTS) AreLimits
+    (limit_of-between DEFAULT_CLIENTS 1 MAX_POLICY_CLIENTS (get (codes "clients") d)
+    (omega arith, omega arith)) (λ clients c.
+    after (limit_of DEFAULT_FLIGHT DEFAULT_FLIGHT MAX_FLIGHT (get (codes "in_flight") d)) _
+    (IsBetween DEFAULT_FLIGHT MAX_FLIGHT) AreLimits
+    (limit_of-between DEFAULT_FLIGHT DEFAULT_FLIGHT MAX_FLIGHT (get (codes "in_flight") d)
+    (omega arith, omega arith)) (λ in_flight f.
+    after (limit_of DEFAULT_SOURCES 0 MAX_SOURCES (get (codes "sources") d)) _
+    (IsBetween 0 MAX_SOURCES) AreLimits
+    (limit_of-between DEFAULT_SOURCES 0 MAX_SOURCES (get (codes "sources") d)
+    (omega arith, omega arith)) (λ sources s.
+    after (limit_of DEFAULT_TOPICS 0 MAX_TOPICS (get (codes "topics") d)) _
+    (IsBetween 0 MAX_TOPICS) AreLimits
+    (limit_of-between DEFAULT_TOPICS 0 MAX_TOPICS (get (codes "topics") d)
+    (omega arith, omega arith)) (λ topics t.
+    after (limit_of DEFAULT_WAITING DEFAULT_WAITING MAX_WAITING (get (codes "waiting") d)) _
+    (IsBetween DEFAULT_WAITING MAX_WAITING) AreLimits
+    (limit_of-between DEFAULT_WAITING DEFAULT_WAITING MAX_WAITING (get (codes "waiting") d)
+    (omega arith, omega arith)) (λ waiting w.
+    record { clients = c; sources = s; topics = t; waiting = w; in_flight = f })))))
+
+limits_known : (b : Bool) (r : Result Limits PolicyFault) → IfOk r AreLimits
+    → IfOk (cond b r (Err Shape)) AreLimits
+limits_known true r h = h
+limits_known false r h = tt
+
+by_members-limits : (o : Option Members) (d : Data) → IfOk (limits_by_members o d) AreLimits
+by_members-limits None d = tt
+by_members-limits (Some ms) d = limits_known (are_limits ms) (limits_of_object d) (limits_of_object-limits d)
+
+default-limits : AreLimits default_limits
+default-limits = record {
+  clients = (omega arith, omega arith);
+  sources = (omega arith, omega arith);
+  topics = (omega arith, omega arith);
+  waiting = (omega arith, omega arith);
+  in_flight = (omega arith, omega arith);
+}
+
+limits_of-limits : (o : Option Data) → IfOk (limits_of o) AreLimits
+limits_of-limits None = default-limits
+limits_of-limits (Some d) = by_members-limits (as_object d) d
+
+-- ---- the policy
+
+-- each part keeps to whatever its length keeps to
+abbrev pub ClientsFit : Policy → Type 0
+ClientsFit policy = (most : ℕ) → length policy.clients ≤ most → AreWithin most IsClient IsGrant policy.clients
+
+abbrev pub SourcesFit : Policy → Type 0
+SourcesFit policy = (most : ℕ) → length policy.sources ≤ most → AreWithin most IsAddress IsGrant policy.sources
+
+abbrev pub TopicsFit : Policy → Type 0
+TopicsFit policy = (most : ℕ) → length policy.topics ≤ most → AreWithin most IsTopicId IsName policy.topics
+
+-- so a policy does that lists no more than its limits allow
+pub policy-within : (parts policy : Policy) (limits : Limits) → parts ≡ policy → limits ≡ policy.limits
+    → AreLimits limits → ListsWithin policy → ClientsFit parts → SourcesFit parts → TopicsFit parts
+    → IsPolicy policy
+policy-within parts policy limits same set are lists clients sources topics = record {
+  limits = subst AreLimits set are;
+  clients = subst ClientsFit same clients policy.limits.clients lists.clients;
+  sources = subst SourcesFit same sources policy.limits.sources lists.sources;
+  topics = subst TopicsFit same topics policy.limits.topics lists.topics;
+}
+
+parts_within-policy : (limits : Limits) (d : Data) → AreLimits limits → IfOk (parts_within limits d) IsPolicy
+parts_within-policy limits d are =
+    after (clients_of limits.clients (may_end d) (get (codes "clients") d)) _
+    (AreWithin limits.clients IsClient IsGrant) IsPolicy
+    (clients_of-within limits.clients (may_end d) (get (codes "clients") d)) (λ clients c.
+    after (sources_of limits.sources (may_end d) (get (codes "sources") d)) _
+    (AreWithin limits.sources IsAddress IsGrant) IsPolicy
+    (sources_of-within limits.sources (may_end d) (get (codes "sources") d)) (λ sources s.
+    after (topics_of limits.topics (get (codes "topics") d)) _
+    (AreWithin limits.topics IsTopicId IsName) IsPolicy
+    (topics_of-within limits.topics (get (codes "topics") d)) (λ topics t.
+    record { limits = are; clients = c; sources = s; topics = t })))
 
 parts_of-policy : (d : Data) → IfOk (parts_of d) IsPolicy
 parts_of-policy d =
-    after (clients_of (may_end d) (get (codes "clients") d)) _ (AreWithin MAX_POLICY_CLIENTS IsClient IsGrant) IsPolicy
-    (clients_of-within (may_end d) (get (codes "clients") d)) (λ clients c.
-    after (sources_of (may_end d) (get (codes "sources") d)) _ (AreWithin MAX_SOURCES IsAddress IsGrant) IsPolicy
-    (sources_of-within (may_end d) (get (codes "sources") d)) (λ sources s.
-    after (topics_of (get (codes "topics") d)) _ (AreWithin MAX_TOPICS IsTopicId IsName) IsPolicy
-    (topics_of-within (get (codes "topics") d)) (λ topics t.
-    record { clients = c; sources = s; topics = t })))
+    after (limits_of (get (codes "limits") d)) (λ limits. parts_within limits d) AreLimits IsPolicy
+    (limits_of-limits (get (codes "limits") d)) (λ limits are. parts_within-policy limits d are)
 
 shaped : (b : Bool) (r : Result Policy PolicyFault) → IfOk r IsPolicy → IfOk (cond b r (Err Shape)) IsPolicy
 shaped true r h = h

@@ -10,5 +10,6 @@ pub mod OntoLemmas
 pub mod ScopeBackLemmas
 pub mod PolicyBackLemmas
 pub mod WriteLemmas
+pub mod VersionLemmas
 pub mod ShapeLemmas
 pub mod DottedLemmas

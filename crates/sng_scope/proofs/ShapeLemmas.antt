@@ -1,18 +1,19 @@
 -- What is written of a policy is shallow and has no float.
 use Rattle.std.proofs.Common.{◌≡◌, ℕ, ◌≤◌, max, Bool, true, false, ◌||◌, List, [], ◌∷◌, Ordering, Less, Equal}
-use Rattle.std.proofs.Common.{Greater, nat_cmp, refl, arith, Option, Some, None}
+use Rattle.std.proofs.Common.{Greater, nat_cmp, refl, arith, Option, Some, None, codes, if◌then◌else◌}
 use Rattle.std.specs.Cmp.Lexicographic.{slice_cmp}
 use Rattle.std.specs.Fmt.{decimal}
 use Rattle.std.specs.Ordering.{match_ordering}
-use Rattle.serde_json.specs.Data.{Data, string, Members, no_members, member, put, depth, items_depth}
+use Rattle.serde_json.specs.Data.{Data, string, object, Members, no_members, member, put, depth, items_depth}
 use Rattle.serde_json.specs.Data.{members_depth}
 use Rattle.serde_json.specs.Read.{max_depth}
 use Rattle.serde_json.specs.Written.{has_float, members_have_float}
-use Rattle.sng_grants.specs.declared.policy.Policy.{Policy}
+use Rattle.sng_grants.specs.Limits.{are_default}
+use Rattle.sng_grants.specs.Policies.{Policy}
 use Rattle.sng_grants.specs.declared.grant.Grant.{Grant}
 use Rattle.sng_grants.specs.declared.scope.Pair.{Pair}
 use Rattle.sng_scope.specs.Written.{pair_data, pairs_data, scope_data, scope_until, grant_data, with_members}
-use Rattle.sng_scope.specs.Written.{dotted, policy_data}
+use Rattle.sng_scope.specs.Written.{dotted, clients_data, limits_data, later_members, policy_data}
 
 -- ---- depth
 
@@ -73,13 +74,22 @@ grant-depth grant = until-depth grant.scope grant.until
 name-depth : (name : List ℕ) → depth (string name) ≤ 3
 name-depth name = omega arith
 
+-- with the limits and without
+depth_by : (b : Bool) (policy : Policy) → members_depth (later_members policy) ≤ 5
+    → depth (clients_data policy.clients) ≤ 5
+    → depth (object (member (codes "clients") (clients_data policy.clients)
+    (if b then later_members policy
+    else member (codes "limits") (limits_data policy.limits) (later_members policy)))) ≤ max_depth
+depth_by true policy later clients = omega arith
+depth_by false policy later clients = omega arith
+
 pub policy-depth : (policy : Policy) → depth (policy_data policy) ≤ max_depth
 policy-depth policy =
     let clients = with-depth (λ (client : List ℕ). client) grant_data 4 grant-depth policy.clients no_members
     (omega arith) in
     let sources = with-depth dotted grant_data 4 grant-depth policy.sources no_members (omega arith) in
     let topics = with-depth decimal string 3 name-depth policy.topics no_members (omega arith) in
-    omega arith
+    depth_by (are_default policy.limits) policy (omega arith) (omega arith)
 
 -- ---- floats
 
@@ -139,9 +149,17 @@ until-float pairs (Some end) = neither _ _ refl (neither _ _ (scope-float pairs)
 grant-float : (grant : Grant) → has_float (grant_data grant) ≡ false
 grant-float grant = until-float grant.scope grant.until
 
+-- with the limits and without
+float_by : (b : Bool) (policy : Policy) → members_have_float (later_members policy) ≡ false
+    → members_have_float (if b then later_members policy
+    else member (codes "limits") (limits_data policy.limits) (later_members policy)) ≡ false
+float_by true policy later = later
+float_by false policy later = neither _ _ refl later
+
 pub policy-float : (policy : Policy) → has_float (policy_data policy) ≡ false
 policy-float policy =
     neither _ _
     (with-float (λ (client : List ℕ). client) grant_data grant-float policy.clients no_members refl)
+    (float_by (are_default policy.limits) policy
     (neither _ _ (with-float dotted grant_data grant-float policy.sources no_members refl)
-    (neither _ _ (with-float decimal string (λ name. refl) policy.topics no_members refl) refl))
+    (neither _ _ (with-float decimal string (λ name. refl) policy.topics no_members refl) refl)))

@@ -33,7 +33,8 @@ name_of Memory = codes "Memory"
 abbrev pub sentence_of : PolicyFault → List ℕ
 sentence_of NotJson =
     codes "the text is not JSON in UTF-8, or a scope given as a text does not decode to such JSON"
-sentence_of Shape = codes "the text is JSON, but not of the shape of a policy of version 1 or 2 or of a scope"
+sentence_of Shape =
+    codes "the text is JSON, but not of the shape of a policy of version 1, 2 or 4 or of a scope"
 sentence_of BadFilter = codes "a filter in a scope is not a valid topic filter, or is too long"
 sentence_of BadPermission = codes "a permission in a scope is neither `pub` nor `sub`"
 sentence_of BadBase64 = codes "a scope given as a text is not base64url without padding"

@@ -4,6 +4,7 @@ pub mod Numerals
 pub mod Scopes
 pub mod Texts
 pub mod Grants
+pub mod PolicyLimits
 pub mod Policies
 pub mod Bounds
 pub mod Laws

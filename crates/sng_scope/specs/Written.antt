@@ -1,5 +1,6 @@
 -- The canonical text of a policy: JSON on one line (RFC 8259), without blanks, its members in the byte order of
--- their names. It is of version 2 where a scope ends, and else of version 1.
+-- their names. It is of version 4 where a limit is set, else of version 2 where a scope ends, and else of
+-- version 1.
 use Rattle.std.specs.Prelude.{ℕ, Bool, true, false, List, [], ◌∷◌, ◌++◌, map, codes, slice_index, is_some}
 use Rattle.std.specs.Prelude.{Option, Some, None, if◌then◌else◌}
 use Rattle.std.specs.Fmt.{decimal}
@@ -8,9 +9,10 @@ use Rattle.serde_json.specs.Data.{Members, no_members, member, put}
 use Rattle.serde_json.specs.View.{items_of}
 use Rattle.serde_json.specs.Written.{compact_text}
 use Rattle.sng_grants.specs.Ends.{next_end}
+use Rattle.sng_grants.specs.Limits.{Limits, are_default}
 use Rattle.sng_grants.specs.declared.grant.Grant.{Grant}
 use Rattle.sng_grants.specs.declared.scope.Pair.{Pair}
-use Rattle.sng_grants.specs.declared.policy.Policy.{Policy}
+use Rattle.sng_grants.specs.Policies.{Policy}
 
 -- `pub` stands before `sub`
 abbrev pub permissions_data : Bool → Bool → Items
@@ -63,15 +65,44 @@ topics_data topics = object (with_members decimal string no_members topics)
 
 -- the least version that has what the policy needs
 abbrev pub version_for : Policy → ℕ
-version_for policy = if is_some (next_end policy) then 2 else 1
+version_for policy = if are_default policy.limits then (if is_some (next_end policy) then 2 else 1) else 4
 
--- an object of all four members
+-- an object of all five limits
+abbrev pub limits_data : Limits → Data
+limits_data limits =
+    object (member (codes "clients") (number (unsigned limits.clients))
+    (member (codes "in_flight") (number (unsigned limits.in_flight))
+    (member (codes "sources") (number (unsigned limits.sources))
+    (member (codes "topics") (number (unsigned limits.topics))
+    (member (codes "waiting") (number (unsigned limits.waiting)) no_members)))))
+
+-- the members behind the clients and the limits
+abbrev pub members_behind : Data → Data → ℕ → Members
+members_behind sources topics version =
+    member (codes "sources") sources
+    (member (codes "topics") topics
+    (member (codes "version") (number (unsigned version)) no_members))
+
+abbrev pub later_members : Policy → Members
+later_members policy =
+    members_behind (sources_data policy.sources) (topics_data policy.topics) (version_for policy)
+
+-- an object of these members, without limits and with them
+abbrev pub plain_data : Data → Data → Data → ℕ → Data
+plain_data clients sources topics version =
+    object (member (codes "clients") clients (members_behind sources topics version))
+
+abbrev pub limited_data : Limits → Data → Data → Data → ℕ → Data
+limited_data limits clients sources topics version =
+    object (member (codes "clients") clients
+    (member (codes "limits") (limits_data limits) (members_behind sources topics version)))
+
+-- an object of all its members, among them `limits` where a limit is set
 abbrev pub policy_data : Policy → Data
 policy_data policy =
     object (member (codes "clients") (clients_data policy.clients)
-    (member (codes "sources") (sources_data policy.sources)
-    (member (codes "topics") (topics_data policy.topics)
-    (member (codes "version") (number (unsigned (version_for policy))) no_members))))
+    (if are_default policy.limits then later_members policy
+    else member (codes "limits") (limits_data policy.limits) (later_members policy)))
 
 abbrev pub policy_text : Policy → List ℕ
 policy_text policy = compact_text (policy_data policy)

@@ -78,7 +78,7 @@ impl PolicyFault {
                 "the text is not JSON in UTF-8, or a scope given as a text does not decode to such JSON"
             }
             PolicyFault::Shape => {
-                "the text is JSON, but not of the shape of a policy of version 1 or 2 or of a scope"
+                "the text is JSON, but not of the shape of a policy of version 1, 2 or 4 or of a scope"
             }
             PolicyFault::BadFilter => {
                 "a filter in a scope is not a valid topic filter, or is too long"

@@ -1,14 +1,16 @@
-//! The members of a policy object: the version, the clients, the sources and the topics.
+//! The members of a policy object: the version, the limits, the clients, the sources and the topics.
 ghost use Rattle.std.specs.Prelude.{◌≡◌, ◌⊎◌, IfOk, IfErr, Ok, Err, MatchResult, nat_lt, length, ◌≤◌};
 ghost use Rattle.serde_json.specs.Events.{members_len};
 ghost use Rattle.serde_json.specs.View.{view, members_view};
-ghost use Rattle.sng_scope.specs.Policies.{is_known, are_known, is_version, may_end, is_policy_object};
+ghost use Rattle.sng_scope.specs.Policies.{is_known, are_known, is_version, may_end, may_limit};
+ghost use Rattle.sng_scope.specs.Policies.{is_policy_object};
 ghost use Rattle.sng_scope.specs.Policies.{members_within, parts_of, policy_of_data};
 
 mod clients;
 mod sources;
 mod topics;
 
+use crate::limits_form::limits_from;
 use crate::{Policy, PolicyFault};
 use clients::clients_in;
 use serde_json::{Map, Value};
@@ -34,14 +36,16 @@ fn parts_from(alloc: Global, value: &Value) -> Result<Policy, PolicyFault>
     ensures err { IfErr result (λ e. (e ≡ PolicyFault.Memory)
         ⊎ (parts_of (view value.now) ≡ Err e)) }
 {
+    let limits = limits_from(value.get("limits"))?;
     let ends = may_end(value);
-    let clients = clients_in(alloc, ends, value)?;
-    let sources = sources_in(alloc, ends, value)?;
-    let topics = topics_in(alloc, value)?;
+    let clients = clients_in(alloc, limits.clients(), ends, value)?;
+    let sources = sources_in(alloc, limits.sources(), ends, value)?;
+    let topics = topics_in(alloc, limits.topics(), value)?;
     Ok(Policy {
         clients,
         sources,
         topics,
+        limits,
     })
 }
 
@@ -51,47 +55,61 @@ fn is_policy_object(value: &Value) -> bool
 {
     match value.as_object() {
         None => false,
-        Some(members) => is_version(value) && are_known(members),
+        Some(members) => is_version(value) && are_known(may_limit(value), members),
     }
 }
 
-/// Whether the value has the member `version`, the whole number 1 or 2.
+/// Whether the value has the member `version`, the whole number 1, 2 or 4.
 pub fn is_version(value: &Value) -> bool
     ensures { result ≡ is_version (view value.now) }
 {
     match value.get("version").and_then(Value::as_u64) {
         None => false,
-        Some(version) => version == 1 || version == 2,
+        Some(version) => version == 1 || version == 2 || version == 4,
     }
 }
 
-/// Whether its version is 2, of which scopes may end.
+/// Whether its version is 2 or 4, of which scopes may end.
 pub fn may_end(value: &Value) -> bool
     ensures { result ≡ may_end (view value.now) }
 {
     match value.get("version").and_then(Value::as_u64) {
         None => false,
-        Some(version) => version == 2,
+        Some(version) => version == 2 || version == 4,
+    }
+}
+
+/// Whether its version is 4, which may set limits.
+pub fn may_limit(value: &Value) -> bool
+    ensures { result ≡ may_limit (view value.now) }
+{
+    match value.get("version").and_then(Value::as_u64) {
+        None => false,
+        Some(version) => version == 4,
     }
 }
 
 /// Whether each name is one that a policy may have.
-fn are_known(members: &Map<String, Value>) -> bool
-    ensures { result ≡ are_known (members_view members.now.entries) }
+fn are_known(limited: bool, members: &Map<String, Value>) -> bool
+    ensures { result ≡ are_known limited (members_view members.now.entries) }
 {
     for (name, _) in members {
-        if !is_known(name.as_str()) {
+        if !is_known(limited, name.as_str()) {
             return false;
         }
     }
     true
 }
 
-/// Whether a policy may have a member of this name.
-pub fn is_known(name: &str) -> bool
-    ensures { result ≡ is_known name.now }
+/// Whether a policy may have a member of this name, where it may set limits and where it may not.
+pub fn is_known(limited: bool, name: &str) -> bool
+    ensures { result ≡ is_known limited name.now }
 {
-    name == "version" || name == "clients" || name == "sources" || name == "topics"
+    name == "version"
+        || name == "clients"
+        || name == "sources"
+        || name == "topics"
+        || (limited && name == "limits")
 }
 
 /// The members of an object that has no more of them than `most`.

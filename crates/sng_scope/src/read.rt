@@ -10,9 +10,9 @@ use crate::{Policy, PolicyFault, Scope};
 use std::alloc::Global;
 
 /// The policy that the text is, or the first of its faults. A policy text is an object with `version`, the
-/// number 1 or 2, and as wanted `clients` (scopes by client id), `sources` (scopes by IPv4 address) and
-/// `topics` (topic names by topic id): at most `MAX_POLICY_CLIENTS`, `MAX_SOURCES` and `MAX_TOPICS` of them. In
-/// version 2 a scope may be an object of the scope and its end, a time in ms.
+/// number 1, 2 or 4, and as wanted `clients` (scopes by client id), `sources` (scopes by IPv4 address) and
+/// `topics` (topic names by topic id): no more of them than its limits allow. In versions 2 and 4 a scope may be
+/// an object of the scope and its end, a time in ms, and version 4 may set the limits by `limits`.
 /// `docs/policy.md` has the form and the order of faults.
 pub fn read_policy(alloc: Global, text: &[u8]) -> Result<Policy, PolicyFault>
     ensures ok { IfOk result (λ p. policy_of text.now ≡ Ok p) }

@@ -6,7 +6,7 @@ ghost use Rattle.sng_script.specs.declared.limits.TheConstants.{MAX_READS, MAX_L
 /// The limits in numbers.
 pub fn limits()
     ensures reads { MAX_READS ≡ 1000000 }
-    ensures line { MAX_LINE ≡ 67108864 }
+    ensures line { MAX_LINE ≡ 268435456 }
 {}
 
 /// Each port is read from its decimal digits.

@@ -19,8 +19,7 @@ use Rattle.sng_sessions.specs.Standing.{client_at}
 use Rattle.sng_sessions.specs.Kept.{qos_held, Keeps}
 use Rattle.sng_sessions.proofs.HeldLemmas.{some-held}
 use Rattle.sng_standing.specs.declared.node.Node.{Node}
-use Rattle.sng_standing.specs.Holders.{NoneIsGreater, IsGreatestAt}
-use Rattle.sng_standing.specs.Tree.{qos_at}
+use Rattle.sng_standing.specs.Holders.{IsGreatestAt}
 
 same_text : (a b : List ℕ) → bytes_eq a b ≡ true → a ≡ b
 same_text a b is = (bytes_decides a b).0 is

@@ -1,17 +1,14 @@
 -- Whom the tree of filters finds is who holds a filter among the clients.
-use Rattle.std.proofs.Common.{◌≡◌, ◌≢◌, ℕ, zero, suc, ◌+◌, ◌<◌, ◌≤◌, ◌==◌, Bool, true, false, ◌||◌, List, []}
+use Rattle.std.proofs.Common.{◌≡◌, ◌≢◌, ℕ, zero, suc, ◌+◌, ◌==◌, Bool, true, false, ◌||◌, List, []}
 use Rattle.std.proofs.Common.{◌∷◌}
-use Rattle.std.proofs.Common.{◌++◌, map, length, take, drop, Option, Some, None, is_some, ◌⊎◌, inl, inr}
-use Rattle.std.proofs.Common.{if◌then◌else◌, add-one, refl, sym, ap, ◌∙◌, subst, true≢false, arith}
-use Rattle.std.proofs.lemmas.Bool.{eqb-true, eqb-false, eq-eqb, or_parts, or_left, or_right}
-use Rattle.std.specs.Bool.{MatchBool}
+use Rattle.std.proofs.Common.{take, drop, Option, None, is_some}
+use Rattle.std.proofs.Common.{add-one, refl, sym, ap, ◌∙◌, true≢false, arith}
+use Rattle.std.proofs.lemmas.Bool.{eqb-true, eqb-false, or_left, or_right}
 use Rattle.sng_text.specs.declared.qos.Qos.{Qos}
-use Rattle.sng_fan.specs.declared.held.Held.{Held}
-use Rattle.sng_fan.specs.Subscriptions.{stands}
 use Rattle.sng_history.specs.Clients.{Client}
 use Rattle.sng_history.specs.Standing.{holds, is_held}
 use Rattle.sng_sessions.specs.Standing.{client_at}
-use Rattle.sng_sessions.specs.Kept.{qos_held, Keeps}
+use Rattle.sng_sessions.specs.Kept.{Keeps}
 use Rattle.sng_sessions.proofs.HeldLemmas.{some-held}
 use Rattle.sng_standing.specs.declared.node.Node.{Node}
 use Rattle.sng_standing.specs.Standing.{IsHeldBy, IsHeldBeside}

@@ -1,20 +1,18 @@
 -- A list in order of places that says of each place what is found there is that of the clients in order.
-use Rattle.std.proofs.Common.{◌≡◌, ◌≢◌, ℕ, zero, suc, ◌+◌, ◌-◌, ◌<◌, ◌≤◌, ◌==◌, Bool, true, false, List, []}
+use Rattle.std.proofs.Common.{◌≡◌, ℕ, suc, ◌+◌, ◌-◌, ◌<◌, ◌≤◌, ◌==◌, Bool, true, false, List, []}
 use Rattle.std.proofs.Common.{◌∷◌}
-use Rattle.std.proofs.Common.{◌++◌, map, Option, Some, None, is_some, cond, nat_lt, zero-add, refl, sym, ap}
+use Rattle.std.proofs.Common.{map, Some, None, is_some, cond, nat_lt, zero-add, refl, sym, ap}
 use Rattle.std.proofs.Common.{◌∙◌, subst}
 use Rattle.std.proofs.Common.{true≢false, arith}
 use Rattle.std.proofs.lemmas.Bool.{eqb-true, eqb-false, eq-eqb, ltb-true}
 use Rattle.std.proofs.lemmas.Map.Keys.{sorted_head, sorted_tail}
 use Rattle.std.specs.List.{AllByRecursion}
-use Rattle.std.specs.List.Sorted.{IsStrictlySortedBy}
 use Rattle.std.specs.Ordering.{nat_cmp}
 use Rattle.std.proofs.Common.{Less, Equal, Greater}
-use Rattle.sng_text.specs.declared.qos.Qos.{Qos}
 use Rattle.sng_fan.specs.Greatest.{greatest_qos}
 use Rattle.sng_history.specs.Clients.{Client}
 use Rattle.sng_sessions.specs.Standing.{client_at}
-use Rattle.sng_sessions.specs.Holding.{holder_at, holders_from}
+use Rattle.sng_sessions.specs.Holding.{holders_from}
 use Rattle.sng_sessions.specs.Kept.{Keeps}
 use Rattle.sng_sessions.proofs.GreatestHeld.{greatest-held}
 use Rattle.sng_standing.specs.declared.holder.Holder.{Holder}

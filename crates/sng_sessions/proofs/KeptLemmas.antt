@@ -1,15 +1,15 @@
 -- The tree of filters goes on saying what the clients hold, as clients move.
-use Rattle.std.proofs.Common.{◌≡◌, ℕ, zero, suc, ◌+◌, ◌<◌, ◌==◌, Bool, true, false, ◌&&◌, ◌||◌, List, [], ◌∷◌}
+use Rattle.std.proofs.Common.{◌≡◌, ℕ, zero, suc, ◌<◌, ◌==◌, Bool, true, false, ◌&&◌, List, [], ◌∷◌}
 use Rattle.std.proofs.Common.{◌++◌, map, length, Option, Some, None, if◌then◌else◌, refl, sym, ap, ◌∙◌, subst}
 use Rattle.std.proofs.Common.{arith, ◌≢◌}
 use Rattle.std.proofs.lemmas.Bool.{eqb-true, eqb-false, eq-eqb}
 use Rattle.std.specs.Str.{bytes_eq}
 use Rattle.sng_text.specs.declared.qos.Qos.{Qos}
 use Rattle.sng_fan.specs.declared.held.Held.{Held}
-use Rattle.sng_fan.specs.Subscriptions.{stands, is_full, with_filter, without_filter, IsOneClients}
+use Rattle.sng_fan.specs.Subscriptions.{stands, is_full, with_filter, without_filter}
 use Rattle.sng_fan.proofs.HeldLemmas.{once_kept}
 use Rattle.sng_history.proofs.FiltersFit.{once_more}
-use Rattle.sng_history.specs.Clients.{Client, blank}
+use Rattle.sng_history.specs.Clients.{Client}
 use Rattle.sng_sessions.specs.Standing.{client_at}
 use Rattle.sng_sessions.specs.Moving.{moved_at}
 use Rattle.sng_sessions.specs.Kept.{qos_held, SaysHeld, SameOfOthers, Keeps}

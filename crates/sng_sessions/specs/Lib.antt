@@ -1,4 +1,5 @@
 pub mod Standing
+pub mod Filters
 pub mod Moving
 pub mod Kept
 pub mod Holding

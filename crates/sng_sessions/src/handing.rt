@@ -5,10 +5,11 @@ ghost use Rattle.sng_history.specs.Handing.{number_after};
 ghost use Rattle.sng_sessions.specs.Handed.{opened, settled_times, pushed, handed_by, delivered, answered};
 ghost use Rattle.sng_sessions.specs.Places.{client_of, clients_of, moved_at};
 
+use crate::ids::NewName;
 use crate::session::Session;
 use indexmap::IndexMap;
-use sng_queue::{Queue, TopicIdKind, Waiting};
-use sng_text::{ClientId, TopicName};
+use sng_queue::{Parcel, Queue, TopicIdKind};
+use sng_text::ClientId;
 
 /// The exchange that a hand-over begins.
 #[derive(Debug, Drop)]
@@ -16,7 +17,7 @@ pub enum Opens {
     /// None.
     Nothing,
     /// An id of the name is announced for the front, and waits for its REGACK.
-    Announcing(TopicName),
+    Announcing(NewName),
     /// The front leaves under a topic id of this kind, and waits for its PUBACK.
     Awaiting(TopicIdKind, u16),
 }
@@ -72,11 +73,11 @@ fn open(session: &mut Session, opens: Opens, clock: u64)
 }
 
 /// An id of the name is announced, where there is one.
-fn announce(session: &mut Session, name: TopicName, clock: u64)
+fn announce(session: &mut Session, name: NewName, clock: u64)
     ensures { (id : List ℕ) → opened clock (Opens.Announcing name) (client_of (id, session.old))
         ≡ client_of (id, session.new) }
 {
-    if session.ids.table().is_full_for(&name) {
+    if session.ids.is_full_for(name.name()) {
         return;
     }
     session.number = number_after(session.number);
@@ -95,7 +96,7 @@ pub fn number_after(number: u16) -> u16
 pub fn deliver_at(
     clients: &mut IndexMap<ClientId, Session>,
     place: usize,
-    message: Waiting,
+    message: Parcel,
     opens: Opens,
     clock: u64,
 )
@@ -108,7 +109,7 @@ pub fn deliver_at(
     }
 }
 
-fn push(queue: &mut Queue, message: Waiting)
+fn push(queue: &mut Queue, message: Parcel)
     ensures { queue.new ≡ pushed message queue.old }
 {
     match queue.push(message) {

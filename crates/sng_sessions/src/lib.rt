@@ -4,6 +4,7 @@
 #![tactic(auto)]
 
 pub mod copying;
+pub mod filters;
 pub mod handing;
 pub mod ids;
 mod places;
@@ -15,6 +16,7 @@ pub mod wills;
 
 pub use copying::{ClientCopy, SessionsCopy};
 pub use handing::{Handed, Opens, number_after};
+pub use ids::{ClientIds, NewName};
 pub use sessions::Sessions;
 pub use sleeping::{Change, is_tried_out, is_unanswered};
 pub use wills::Stating;

@@ -20,17 +20,17 @@ ghost use Rattle.sng_sessions.specs.Standing.{client_at, told_at};
 ghost use Rattle.sng_sessions.specs.Places.{clients_of, holds_at, stands_at, is_place, presence_in, was_at};
 ghost use Rattle.sng_sessions.specs.Places.{Indexed, moved_at, vacated, settled};
 
-use crate::ids::ClientIds;
+use crate::filters::ClientFilters;
+use crate::ids::{ClientIds, NewName};
 use crate::session::{Presence, Session};
 use crate::subscribing::end_all;
 use indexmap::IndexMap;
 use sng_book::Address;
-use sng_fan::subscriptions::Subscriptions;
 use sng_frames::Connect;
 use sng_queue::Queue;
 use sng_standing::Standing;
 use sng_states::{ClientState, OpenIds};
-use sng_text::{ClientId, TopicName};
+use sng_text::ClientId;
 use sng_wills::WillDialogue;
 
 /// The client at this place leaves, and its address is free. Takes no memory.
@@ -94,7 +94,7 @@ fn release(places: &mut IndexMap<Address, usize>, before: Option<Presence>)
 pub struct NewTables {
     pub ids: ClientIds,
     pub queue: Queue,
-    pub filters: Subscriptions,
+    pub filters: ClientFilters,
     pub wills: WillDialogue,
 }
 
@@ -360,7 +360,7 @@ pub fn hear_at(clients: &mut IndexMap<ClientId, Session>, place: usize, clock: u
 pub fn tell_if(
     clients: &mut IndexMap<ClientId, Session>,
     place: usize,
-    name: Option<TopicName>,
+    name: Option<NewName>,
     clock: u64,
 )
     requires { ForSome name (λ n.
@@ -375,7 +375,7 @@ pub fn tell_if(
 }
 
 /// The client at this place is heard, and is told the id that the name has from now on. Takes no memory.
-pub fn tell_at(clients: &mut IndexMap<ClientId, Session>, place: usize, name: TopicName, clock: u64)
+pub fn tell_at(clients: &mut IndexMap<ClientId, Session>, place: usize, name: NewName, clock: u64)
     requires { is_full_for name (client_at (clients_of clients.old.entries) place).ids ≡ false }
     ensures { clients_of clients.new.entries
         ≡ moved_at place (told_at clock (Some name) Allowed) (clients_of clients.old.entries) }
@@ -386,7 +386,7 @@ pub fn tell_at(clients: &mut IndexMap<ClientId, Session>, place: usize, name: To
 }
 
 /// The same of one session.
-fn tell(session: &mut Session, name: TopicName, clock: u64)
+fn tell(session: &mut Session, name: NewName, clock: u64)
     requires { is_full_for name session.old.ids ≡ false }
     ensures { session.new ≡ record session.old {
       presence = record session.old.presence { heard = clock };

@@ -4,9 +4,9 @@ ghost use Rattle.sng_states.specs.States.{has_session, is_active};
 ghost use Rattle.sng_states.specs.OpenIds.{has_id};
 ghost use Rattle.sng_states.specs.Silence.{overdue};
 
+use crate::filters::ClientFilters;
 use crate::ids::ClientIds;
 use sng_book::Address;
-use sng_fan::subscriptions::Subscriptions;
 use sng_frames::Publish;
 use sng_queue::Queue;
 use sng_states::{ClientState, OpenIds, overdue};
@@ -56,7 +56,7 @@ pub struct Session {
     /// What waits for it, and the exchange that is open.
     pub queue: Queue,
     /// The filters that stand for it.
-    pub filters: Subscriptions,
+    pub filters: ClientFilters,
     /// Its will, where it has one, and the dialogue about it.
     pub wills: WillDialogue,
     /// The MsgIds of its publishes at QoS 2 that it has not released yet.

@@ -21,8 +21,9 @@ ghost use Rattle.sng_sessions.specs.Sleeping.{changed};
 ghost use Rattle.sng_sessions.specs.Willing.{stating_at};
 
 use crate::copying::SessionsCopy;
+use crate::filters::ClientFilters;
 use crate::handing::{Handed, Opens, answer_at, deliver_at, hand_at};
-use crate::ids::ClientIds;
+use crate::ids::{ClientIds, NewName};
 use crate::places::{NewTables, admit, hear_at, leave_at, lose_at, readmit, tell_at, tell_if};
 use crate::session::Session;
 use crate::sleeping::{Change, change_at};
@@ -31,10 +32,8 @@ use crate::wills::{Stating, state_at};
 use indexmap::IndexMap;
 use sng_book::Address;
 use sng_fan::Held;
-use sng_fan::subscriptions::Subscriptions;
 use sng_frames::{Connect, Publish};
-use sng_ids::IdTable;
-use sng_queue::{Queue, Waiting};
+use sng_queue::{Parcel, Queue};
 use sng_standing::{Holder, Standing};
 use sng_states::{ClientState, OpenIds};
 use sng_text::{ClientId, Qos, TopicFilter, TopicName};
@@ -141,11 +140,11 @@ impl Sessions {
     }
 
     /// The topic ids that the client at this place was told. Takes no memory.
-    pub fn ids(&self, place: usize) -> &IdTable
+    pub fn ids(&self, place: usize) -> &ClientIds
         requires { place < length self.now }
-        ensures { result.now.ids ≡ (client_at self.now place).ids }
+        ensures { result.now ≡ (client_at self.now place).ids }
     {
-        self.clients[place].ids.table()
+        &self.clients[place].ids
     }
 
     /// The MsgId of the last message to the client at this place, 0 before the first. Takes no memory.
@@ -270,7 +269,7 @@ impl Sessions {
     }
 
     /// The client at this place is heard, and is told the id that the name has from now on. Takes no memory.
-    pub fn tell(&mut self, place: usize, name: TopicName, clock: u64)
+    pub fn tell(&mut self, place: usize, name: NewName, clock: u64)
         requires { is_full_for name (client_at self.old place).ids ≡ false }
         ensures { self.new ≡ moved_at place (told_at clock (Some name) Allowed) self.old }
     {
@@ -286,7 +285,7 @@ impl Sessions {
 
     /// A message comes to wait for the client at this place, where fewer wait than may, and an exchange
     /// begins. Takes no memory.
-    pub fn deliver(&mut self, place: usize, message: Waiting, opens: Opens, clock: u64)
+    pub fn deliver(&mut self, place: usize, message: Parcel, opens: Opens, clock: u64)
         ensures { self.new ≡ moved_at place (delivered clock message opens) self.old }
     {
         deliver_at(&mut self.clients, place, message, opens, clock);
@@ -344,7 +343,7 @@ impl Sessions {
         &mut self,
         alloc: Global,
         place: usize,
-        name: Option<TopicName>,
+        name: Option<NewName>,
         filter: TopicFilter,
         qos: Qos,
         clock: u64,
@@ -405,9 +404,9 @@ impl Sessions {
             }
             None => {
                 let tables = NewTables {
-                    ids: ClientIds::new(alloc)?,
-                    queue: Queue::new(alloc)?,
-                    filters: Subscriptions::new(alloc)?,
+                    ids: ClientIds::new(alloc),
+                    queue: Queue::new(alloc),
+                    filters: ClientFilters::new(),
                     wills: WillDialogue::new(alloc),
                 };
                 self.clients.reserve(1)?;

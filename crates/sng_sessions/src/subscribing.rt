@@ -7,9 +7,9 @@ ghost use Rattle.sng_sessions.specs.Standing.{client_at, standing_at};
 ghost use Rattle.sng_sessions.specs.Kept.{SaysHeld, SameOfOthers, Keeps};
 ghost use Rattle.sng_sessions.specs.Places.{clients_of, moved_at};
 
+use crate::filters::ClientFilters;
 use crate::session::Session;
 use indexmap::IndexMap;
-use sng_fan::subscriptions::Subscriptions;
 use sng_standing::Standing;
 use sng_text::{ClientId, Qos, TopicFilter};
 use std::alloc::{AllocError, Global};
@@ -54,11 +54,16 @@ fn stand(
     ensures held { SaysHeld standing.new place session.new.filters }
     ensures others { SameOfOthers standing.old standing.new place }
 {
-    standing.add(alloc, place, &filter, qos)?;
-    match session.filters.add(filter, qos) {
+    let mut filters = session.filters.take(alloc)?;
+    if let Err(error) = standing.add(alloc, place, &filter, qos) {
+        session.filters.put(filters);
+        return Err(error);
+    }
+    match filters.add(filter, qos) {
         Ok(()) => {}
         Err(_) => unreachable!(),
     }
+    session.filters.put(filters);
     Ok(())
 }
 
@@ -92,7 +97,7 @@ fn end_one(session: &mut Session, standing: &mut Standing, place: usize, filter:
 }
 
 /// No filter stands any more for the client at this place. Takes no memory.
-pub fn end_all(filters: &mut Subscriptions, standing: &mut Standing, place: usize)
+pub fn end_all(filters: &mut ClientFilters, standing: &mut Standing, place: usize)
     requires { SaysHeld standing.old place filters.old }
     ensures filters { filters.new ≡ [] }
     ensures held { SaysHeld standing.new place [] }

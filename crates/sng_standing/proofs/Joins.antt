@@ -1,17 +1,19 @@
 -- What is found in several places, and in the entries of a map one by one.
-use Rattle.std.proofs.Common.{◌≡◌, ℕ, true, false, ◌==◌, List, [], ◌∷◌, Option, Some, None, cond, ◌⊎◌}
+use Rattle.std.proofs.Common.{◌≡◌, ℕ, true, false, ◌==◌, List, [], ◌∷◌, ◌++◌, Option, Some, None, cond, ◌⊎◌}
 use Rattle.std.proofs.Common.{if◌then◌else◌, refl, sym, ap, ◌∙◌, inl, inr}
 use Rattle.std.proofs.lemmas.Bool.{cases_Bool}
 use Rattle.std.proofs.lemmas.Map.{lookup-none}
 use Rattle.std.proofs.lemmas.Map.Entries.{none_past_head}
 use Rattle.std.proofs.lemmas.Map.Keys.{sorted_tail, IsDistinct-from_sorted}
-use Rattle.std.specs.BTreeMap.{is_at}
+use Rattle.std.specs.Borrow.{Bor}
+use Rattle.std.specs.BTreeMap.{BTreeMap, get, is_at}
 use Rattle.std.specs.Cmp.{unsigned_ties, nat_eq_equiv, nat_cmp_total, eq_by_cmp_equiv}
 use Rattle.std.specs.List.Sorted.{IsStrictlySortedBy}
 use Rattle.std.specs.Map.{lookup, keys_of}
 use Rattle.std.specs.Ordering.{nat_cmp, is_eq, eq_by_cmp}
 use Rattle.sng_text.specs.declared.qos.Qos.{Qos}
 use Rattle.sng_text.specs.declared.qos.Qos.TheVariants.{AtMostOnce, AtLeastOnce}
+use Rattle.sng_standing.specs.Found.{best_of}
 use Rattle.sng_standing.specs.Greatest.{joined}
 
 pub joined-none : (a : Option Qos) → joined a None ≡ a
@@ -55,6 +57,14 @@ as_great_right None b q is = is
 as_great_right (Some p) None q is = cc
 as_great_right (Some AtMostOnce) (Some r) q is = is
 as_great_right (Some AtLeastOnce) (Some r) q is = refl
+
+-- one filter more
+pub best_behind : (found : List (Bor (BTreeMap ℕ Qos))) (holders : Bor (BTreeMap ℕ Qos)) (n : ℕ)
+    → best_of (found ++ holders ∷ []) n ≡ joined (best_of found n) (get nat_cmp holders.now n)
+best_behind [] holders n = joined-none (get nat_cmp holders.now n)
+best_behind (first ∷ found) holders n =
+    ap (joined (get nat_cmp first.now n)) (best_behind found holders n)
+    ∙ sym (joined-assoc (get nat_cmp first.now n) (best_of found n) (get nat_cmp holders.now n))
 
 -- the entries taken one by one
 abbrev pub gathered : Option Qos → List (ℕ × Qos) → ℕ → Option Qos

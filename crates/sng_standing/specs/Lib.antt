@@ -1,3 +1,4 @@
+pub mod Found
 pub mod Greatest
 pub mod Holders
 pub mod Standing

@@ -10,12 +10,11 @@ use crate::adding::add_at;
 use crate::asking::{clients_of, node_at};
 use crate::ending::end_at;
 use crate::finding::find;
-use crate::found::listed;
+use crate::found::holders_of;
 use crate::{Holder, Node};
 use sng_fan::Held;
 use sng_text::{Qos, TopicFilter, TopicName};
 use std::alloc::{AllocError, Global};
-use std::collections::BTreeMap;
 use std::marker::Model;
 
 /// Which filters stand for which clients, each at which QoS. A client is a number. Contracts see who holds
@@ -127,8 +126,8 @@ impl Standing {
     pub fn holders(&self, alloc: Global, name: &TopicName) -> Result<Vec<Holder>, AllocError>
         ensures { IfOk result (λ list. AreHolders self.now name.now list.items) }
     {
-        let mut found = BTreeMap::new(alloc);
+        let mut found = Vec::new(alloc);
         find(&self.root, name.text(), &mut found)?;
-        listed(alloc, &found)
+        holders_of(alloc, found.as_slice())
     }
 }

@@ -1,20 +1,17 @@
 -- What goes to those who hold a filter that matches is what goes to all clients: nothing goes to the others.
-use Rattle.std.proofs.Common.{◌≡◌, ℕ, zero, suc, ◌+◌, ◌<◌, Bool, true, false, List, [], ◌∷◌, ◌++◌, length}
-use Rattle.std.proofs.Common.{Option, Some, None, if◌then◌else◌, zero-add, refl, sym, ap, ◌∙◌, subst, arith}
-use Rattle.std.proofs.lemmas.List.{append-nil, append_assoc}
+use Rattle.std.proofs.Common.{◌≡◌, ℕ, suc, ◌+◌, ◌<◌, Bool, true, false, List, [], ◌∷◌, ◌++◌, length}
+use Rattle.std.proofs.Common.{Option, Some, None, if◌then◌else◌, zero-add, refl, sym, ap, ◌∙◌, arith}
 use Rattle.std.specs.Option.{option_map}
 use Rattle.sng_text.specs.declared.qos.Qos.{Qos}
 use Rattle.sng_grants.specs.declared.policy.Policy.{Policy}
 use Rattle.sng_states.specs.States.{is_due_messages}
 use Rattle.sng_fan.specs.Greatest.{greatest_qos}
-use Rattle.sng_book.specs.declared.out.Out.{Out}
 use Rattle.sng_history.specs.Arriving.{lesser}
 use Rattle.sng_history.specs.Clients.{Client}
 use Rattle.sng_sessions.specs.Standing.{client_at}
 use Rattle.sng_sessions.specs.Holding.{holder_at, holders_from}
 use Rattle.sng_standing.specs.declared.holder.Holder.{Holder}
 use Rattle.sng_turns.specs.declared.deliver.Incoming.{Incoming}
-use Rattle.sng_turns.specs.declared.deliver.Kept.{Kept}
 use Rattle.sng_turns.specs.Delivering.{due_outs, due_kept, deliver_outs, deliver_kept, all_outs, all_kept}
 use Rattle.sng_turns.specs.Delivering.{held_outs, held_kept, holders_outs, holders_kept, AreWithin}
 

@@ -18,7 +18,7 @@ use bytes::Bytes;
 use sng_book::{Denial, Outcome, Outs, Place, RoomDenial};
 use sng_history::receive;
 use sng_policy::InForce;
-use sng_queue::Waiting;
+use sng_queue::{Parcel, Waiting};
 use sng_sessions::{Opens, Sessions};
 use sng_standing::Holder;
 use sng_text::{Qos, TopicName};
@@ -47,7 +47,7 @@ struct Arrival<'a> {
 #[derive(Drop)]
 pub struct Kept {
     pub place: usize,
-    pub message: Waiting,
+    pub message: Parcel,
     pub opens: Opens,
 }
 
@@ -163,9 +163,9 @@ fn arrive(
     }
     if is_free(sessions, place) {
         let opens = turn(alloc, policy, arrival, sessions, place, outs)?;
-        keep_opened(arrival, place, opens, kept)
+        keep_opened(alloc, arrival, place, opens, kept)
     } else {
-        keep(arrival, place, Opens::Nothing, kept)
+        keep(alloc, arrival, place, Opens::Nothing, kept)
     }
 }
 
@@ -216,6 +216,7 @@ fn turn(
 
 /// A message that took its turn is kept where an exchange begins by it.
 fn keep_opened(
+    alloc: Global,
     arrival: Arrival<'_>,
     place: usize,
     opens: Opens,
@@ -226,7 +227,7 @@ fn keep_opened(
         ≡ kept.old.items ++ kept_opened place (arrived arrival.entry) opens) }
 {
     if is_open(&opens) {
-        keep(arrival, place, opens, kept)
+        keep(alloc, arrival, place, opens, kept)
     } else {
         Ok(())
     }
@@ -234,6 +235,7 @@ fn keep_opened(
 
 /// The message is kept for the client at this place.
 fn keep(
+    alloc: Global,
     arrival: Arrival<'_>,
     place: usize,
     opens: Opens,
@@ -246,7 +248,7 @@ fn keep(
     let Arrival { message, qos } = arrival;
     let name = message.name.copy()?;
     let payload = message.payload.clone()?;
-    let message = Waiting::new(name, payload, qos, message.retain);
+    let message = Parcel::new(alloc, Waiting::new(name, payload, qos, message.retain))?;
     kept.push(Kept {
         place,
         message,

@@ -27,10 +27,10 @@ pub fn hand_over(
 ) -> Result<Handed, AllocError>
     requires { first ≤ length queue.now.waiting }
     ensures outs { OnOk result (outs.new ≡ outs.old ++ hand_outs policy.now to.entry.id.now to.entry.address
-        to.entry.ids.now.ids (id_or_none to.entry.confirming) to.entry.number
+        to.entry.ids.now (id_or_none to.entry.confirming) to.entry.number
         (drop first queue.now.waiting)) }
     ensures plan { IfOk result (λ handed. handed
-        ≡ hand_plan policy.now to.entry.id.now to.entry.ids.now.ids (id_or_none to.entry.confirming) first
+        ≡ hand_plan policy.now to.entry.id.now to.entry.ids.now (id_or_none to.entry.confirming) first
         (drop first queue.now.waiting)) }
 {
     for place in first..queue.len() {
@@ -71,10 +71,10 @@ fn turn(
     outs: &mut Outs,
 ) -> Result<Opens, AllocError>
     ensures outs { OnOk result (outs.new ≡ outs.old
-        ++ message_outs policy.now to.entry.id.now to.entry.address to.entry.ids.now.ids
+        ++ message_outs policy.now to.entry.id.now to.entry.address to.entry.ids.now
         (id_or_none to.entry.confirming) to.entry.number message.now) }
     ensures opens { IfOk result (λ opens. opens
-        ≡ message_opens policy.now to.entry.id.now to.entry.ids.now.ids (id_or_none to.entry.confirming)
+        ≡ message_opens policy.now to.entry.id.now to.entry.ids.now (id_or_none to.entry.confirming)
         message.now) }
 {
     let name = message.name();

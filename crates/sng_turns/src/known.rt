@@ -4,9 +4,9 @@ ghost use Rattle.sng_ids.specs.Ids.{confirmed, id_of};
 ghost use Rattle.sng_history.specs.Requests.{id_in};
 ghost use Rattle.sng_turns.specs.HandingOver.{fixed_id, known_id, id_or_none};
 
-use sng_ids::IdTable;
 use sng_policy::InForce;
 use sng_queue::TopicIdKind;
+use sng_sessions::ClientIds;
 use sng_text::TopicName;
 
 /// A topic id, and of which kind it is.
@@ -41,11 +41,11 @@ pub fn fixed_id(policy: &InForce, name: &TopicName) -> Option<KnownId>
 /// has confirmed one more. Takes no memory.
 pub fn known_id(
     fixed: Option<KnownId>,
-    ids: &IdTable,
+    ids: &ClientIds,
     confirming: Option<u16>,
     name: &TopicName,
 ) -> Option<KnownId>
-    ensures { result ≡ known_id fixed (confirmed (id_or_none confirming) ids.now.ids) name.now }
+    ensures { result ≡ known_id fixed (confirmed (id_or_none confirming) ids.now) name.now }
 {
     match fixed {
         Some(known) => Some(known),
@@ -60,8 +60,8 @@ pub fn known_id(
 }
 
 /// The id of the name that the client knows, once it has confirmed one more.
-fn told_id(ids: &IdTable, confirming: Option<u16>, name: &TopicName) -> Option<u16>
-    ensures { result ≡ id_of name.now (confirmed (id_or_none confirming) ids.now.ids) }
+fn told_id(ids: &ClientIds, confirming: Option<u16>, name: &TopicName) -> Option<u16>
+    ensures { result ≡ id_of name.now (confirmed (id_or_none confirming) ids.now) }
 {
     match confirming {
         Some(id) => confirmed_id(ids, id, name),
@@ -70,8 +70,8 @@ fn told_id(ids: &IdTable, confirming: Option<u16>, name: &TopicName) -> Option<u
 }
 
 /// The same, once it has confirmed this id.
-fn confirmed_id(ids: &IdTable, id: u16, name: &TopicName) -> Option<u16>
-    ensures { result ≡ id_of name.now (confirmed id ids.now.ids) }
+fn confirmed_id(ids: &ClientIds, id: u16, name: &TopicName) -> Option<u16>
+    ensures { result ≡ id_of name.now (confirmed id ids.now) }
 {
     if ids.id_for(name) == id && ids.name_of(id).is_some() {
         return Some(id);

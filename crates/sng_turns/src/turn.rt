@@ -12,9 +12,8 @@ ghost use Rattle.sng_turns.specs.HandingOver.{awaiting, mail_of};
 use crate::known::KnownId;
 use sng_book::{Address, Decision, Denial, GrantDenial, Out, Outcome, Outs, Place, RoomDenial};
 use sng_frames::{Flags, FrameQos, TopicIdType, write_publish, write_register};
-use sng_ids::IdTable;
 use sng_queue::{Sending, TopicIdKind, Waiting};
-use sng_sessions::{Opens, number_after};
+use sng_sessions::{ClientIds, NewName, Opens, number_after};
 use sng_text::{ClientId, Octets, Qos, TopicName};
 use std::alloc::{AllocError, Global};
 
@@ -24,7 +23,7 @@ pub struct Recipient<'a> {
     pub id: &'a ClientId,
     pub address: Address,
     /// The topic ids that it was told.
-    pub ids: &'a IdTable,
+    pub ids: &'a ClientIds,
     /// The one of them that it has confirmed just now.
     pub confirming: Option<u16>,
     /// The MsgId that it was given last.
@@ -53,10 +52,10 @@ pub fn take_turn(
     requires name { length mail.name.now ≤ MAX_WAITING_NAME }
     requires payload { length mail.payload.now ≤ MAX_WAITING_PAYLOAD }
     ensures outs { OnOk result (outs.new ≡ outs.old
-        ++ turn_outs to.entry.id.now to.entry.address to.entry.ids.now.ids to.entry.number
+        ++ turn_outs to.entry.id.now to.entry.address to.entry.ids.now to.entry.number
         (mail_of mail.entry) outcome known) }
     ensures opens { IfOk result (λ opens. opens
-        ≡ turn_opens to.entry.ids.now.ids (mail_of mail.entry) outcome known) }
+        ≡ turn_opens to.entry.ids.now (mail_of mail.entry) outcome known) }
 {
     match outcome {
         Outcome::Allowed => offer(alloc, to, mail, known, outs),
@@ -79,10 +78,10 @@ fn offer(
     requires name { length mail.name.now ≤ MAX_WAITING_NAME }
     requires payload { length mail.payload.now ≤ MAX_WAITING_PAYLOAD }
     ensures outs { OnOk result (outs.new ≡ outs.old
-        ++ offer_outs to.entry.id.now to.entry.address to.entry.ids.now.ids to.entry.number
+        ++ offer_outs to.entry.id.now to.entry.address to.entry.ids.now to.entry.number
         (mail_of mail.entry) known) }
     ensures opens { IfOk result (λ opens. opens
-        ≡ offer_opens to.entry.ids.now.ids (mail_of mail.entry) known) }
+        ≡ offer_opens to.entry.ids.now (mail_of mail.entry) known) }
 {
     if let Some(known) = known {
         note_hand(to.id, mail.name, Outcome::Allowed, outs)?;
@@ -99,7 +98,8 @@ fn offer(
     let id = to.ids.id_for(mail.name);
     let datagram = write_register(alloc, id, number_after(to.number), mail.name.text())?;
     outs.push(Out::Send(to.address, Octets::from(datagram)))?;
-    Ok(Opens::Announcing(mail.name.copy()?))
+    let name = NewName::new(alloc, mail.name.copy()?)?;
+    Ok(Opens::Announcing(name))
 }
 
 /// A message at QoS 1 waits for its PUBACK.

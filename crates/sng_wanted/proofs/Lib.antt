@@ -1,4 +1,5 @@
-mod ShownLemmas
-mod PlaceLemmas
+mod OpenLemmas
 mod OrderLemmas
-pub mod Ceilings
+mod OwedLemmas
+mod PlaceLemmas
+mod ShownLemmas

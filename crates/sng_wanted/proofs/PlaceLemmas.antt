@@ -9,10 +9,11 @@ use Rattle.std.proofs.lemmas.List.{get_or-set_same, get_or-set_other}
 use Rattle.std.proofs.Math.ListN.{length-set}
 use Rattle.indexmap.specs.Layout.{set_value_at}
 use Rattle.sng_history.specs.Links.{Wanted, has_id, is_open}
+use Rattle.sng_wanted.specs.declared.want.Stand.{Stand}
 use Rattle.sng_wanted.specs.declared.want.Want.{Want}
 use Rattle.sng_wanted.specs.declared.want.Want.TheVariants.{Ended, Stands}
 use Rattle.sng_wanted.specs.Filters.{reopened}
-use Rattle.sng_wanted.specs.Shown.{Entry, shown, open_in, open_at, want_of, IsOpenOnce, IsIndexed}
+use Rattle.sng_wanted.specs.Shown.{Entry, shown, open_in, open_at, owed_at, want_of, IsOpenOnce, IsIndexed}
 
 some_is : (a b : ℕ) → Some a ≡ Some b → a ≡ b
 some_is a b same = cc
@@ -65,6 +66,24 @@ indexed_closed es places place w within none indexed = record {
   whole = indexed.whole;
   found =
       λ p id there. closing_by es places place p id w (p == place) refl none indexed
+      (sym (open_at-set es place w p within) ∙ there);
+}
+
+restood_by : (es : List Entry) (places : List ℕ) (place p id : ℕ) (w : Want) (here : Bool)
+    → (p == place) ≡ here → open_in w ≡ open_at es place → IsIndexed es places
+    → (if here then open_in w else open_at es p) ≡ Some id → get_or places id 0 ≡ p
+restood_by es places place p id w true is same indexed there =
+    let at : p ≡ place = eqb-true p place is in
+    indexed.found p id (ap (λ q. open_at es q) at ∙ sym same ∙ there)
+restood_by es places place p id w false is same indexed there = indexed.found p id there
+
+-- and one that leaves the same open there
+pub indexed_restood : (es : List Entry) (places : List ℕ) (place : ℕ) (w : Want) → place < length es
+    → open_in w ≡ open_at es place → IsIndexed es places → IsIndexed (set_value_at es place w) places
+indexed_restood es places place w within same indexed = record {
+  whole = indexed.whole;
+  found =
+      λ p id there. restood_by es places place p id w (p == place) refl same indexed
       (sym (open_at-set es place w p within) ∙ there);
 }
 
@@ -200,12 +219,12 @@ pub any_open : (es : List Entry) (p id : ℕ) → open_at es p ≡ Some id → l
 any_open [] p id there = absurd (none_open id there)
 any_open ((k, Ended) ∷ es) zero id there = absurd (none_open id there)
 any_open ((k, Stands o) ∷ es) zero id there =
-    let here : has_id id o ≡ true = ap (λ o. has_id id o) there ∙ eq-eqb id id refl in
+    let here : has_id id o.open_id ≡ true = ap (λ o. has_id id o) there ∙ eq-eqb id id refl in
     rw here refl
 any_open ((k, Ended) ∷ es) (suc p) id there = any_open es p id there
 any_open ((k, Stands o) ∷ es) (suc p) id there =
     let later : list_any (is_open id) (shown es) ≡ true = any_open es p id there in
-    elim (has_id id o) as (λ b. (b || list_any (is_open id) (shown es)) ≡ true)
+    elim (has_id id o.open_id) as (λ b. (b || list_any (is_open id) (shown es)) ≡ true)
     [ true ↦ refl | false ↦ later ]
 
 opening_by : (es : List Entry) (places : List ℕ) (place id p other : ℕ) (w : Want) (here : Bool)
@@ -234,16 +253,16 @@ indexed_opened es places place id w within now small fresh indexed = record {
 
 -- one more at the end, with no open packet id
 open_more : (es : List Entry) (text : List ℕ) (p : ℕ)
-    → open_at (es ++ (text, Stands None) ∷ []) p ≡ open_at es p
+    → open_at (es ++ (text, Stands (record { open_id = None; owed = false })) ∷ []) p ≡ open_at es p
 open_more [] text zero = refl
 open_more [] text (suc p) = refl
 open_more (e ∷ es) text zero = refl
 open_more (e ∷ es) text (suc p) = open_more es text p
 
 pub indexed_more : (es : List Entry) (text : List ℕ) (places : List ℕ) → IsIndexed es places
-    → IsIndexed (es ++ (text, Stands None) ∷ []) places
+    → IsIndexed (es ++ (text, Stands (record { open_id = None; owed = false })) ∷ []) places
 indexed_more es text places indexed =
-    indexed_same es (es ++ (text, Stands None) ∷ []) places (open_more es text) indexed
+    indexed_same es (es ++ (text, Stands (record { open_id = None; owed = false })) ∷ []) places (open_more es text) indexed
 
 has_open : (o : Option ℕ) (id : ℕ) → has_id id o ≡ true → o ≡ Some id
 has_open None id is = absurd (true≢false (sym is))
@@ -257,20 +276,20 @@ abbrev pub Nowhere : List Entry → ℕ → Type 0
 Nowhere es id = (q : ℕ) → open_at es q ≡ Some id → ⊥
 
 -- and then what it is reopened with changes nothing
-pub none_reopened : (es : List Entry) (id : ℕ) (former : Option ℕ) → Nowhere es id
-    → reopened (shown es) id former ≡ shown es
-none_reopened [] id former none = refl
-none_reopened ((k, Ended) ∷ es) id former none = none_reopened es id former (λ q. none (suc q))
-none_reopened ((k, Stands o) ∷ es) id former none =
-    let unlike : has_id id o ≡ false = closed_off o id (λ is. none zero is) in
-    rw unlike (ap (λ l. record { filter = k; open_id = o } ∷ l)
-    (none_reopened es id former (λ q. none (suc q))))
+pub none_reopened : (es : List Entry) (id : ℕ) (former : Option ℕ) (owes : Bool) → Nowhere es id
+    → reopened (shown es) id former owes ≡ shown es
+none_reopened [] id former owes none = refl
+none_reopened ((k, Ended) ∷ es) id former owes none = none_reopened es id former owes (λ q. none (suc q))
+none_reopened ((k, Stands o) ∷ es) id former owes none =
+    let unlike : has_id id o.open_id ≡ false = closed_off o.open_id id (λ is. none zero is) in
+    rw unlike (ap (λ l. record { filter = k; open_id = o.open_id; owed = o.owed } ∷ l)
+    (none_reopened es id former owes (λ q. none (suc q))))
 
 pub none_found : (es : List Entry) (id : ℕ) → Nowhere es id → find (is_open id) (shown es) ≡ None
 none_found [] id none = refl
 none_found ((k, Ended) ∷ es) id none = none_found es id (λ q. none (suc q))
 none_found ((k, Stands o) ∷ es) id none =
-    let unlike : has_id id o ≡ false = closed_off o id (λ is. none zero is) in
+    let unlike : has_id id o.open_id ≡ false = closed_off o.open_id id (λ is. none zero is) in
     rw unlike (none_found es id (λ q. none (suc q)))
 
 later_nowhere : (e : Entry) (es : List Entry) (id : ℕ) → Only (e ∷ es) id zero → Nowhere es id
@@ -279,25 +298,28 @@ later_nowhere e es id only q there = let none : suc q ≡ zero = only (suc q) th
 later_only : (e : Entry) (es : List Entry) (p id : ℕ) → Only (e ∷ es) id (suc p) → Only es id p
 later_only e es p id only q at = let more : suc q ≡ suc p = only (suc q) at in omega arith
 
-not_first : (k : List ℕ) (o : Option ℕ) (es : List Entry) (p id : ℕ) → Only ((k, Stands o) ∷ es) id (suc p)
-    → has_id id o ≡ false
-not_first k o es p id only = closed_off o id (λ is. let first : zero ≡ suc p = only zero is in omega arith)
+not_first : (k : List ℕ) (o : Stand) (es : List Entry) (p id : ℕ) → Only ((k, Stands o) ∷ es) id (suc p)
+    → has_id id o.open_id ≡ false
+not_first k o es p id only =
+    closed_off o.open_id id (λ is. let first : zero ≡ suc p = only zero is in omega arith)
 
 -- the filter at the place is reopened, and no other
-pub at_reopened : (es : List Entry) (p id : ℕ) (former : Option ℕ) → open_at es p ≡ Some id → Only es id p
-    → shown (set_value_at es p (Stands former)) ≡ reopened (shown es) id former
-at_reopened [] p id former there only = absurd (none_open id there)
-at_reopened ((k, Ended) ∷ es) zero id former there only = absurd (none_open id there)
-at_reopened ((k, Stands o) ∷ es) zero id former there only =
-    let here : has_id id o ≡ true = ap (λ o. has_id id o) there ∙ eq-eqb id id refl in
-    rw here (ap (λ l. record { filter = k; open_id = former } ∷ l)
-    (sym (none_reopened es id former (later_nowhere (k, Stands o) es id only))))
-at_reopened ((k, Ended) ∷ es) (suc p) id former there only =
-    at_reopened es p id former there (later_only (k, Ended) es p id only)
-at_reopened ((k, Stands o) ∷ es) (suc p) id former there only =
-    let unlike : has_id id o ≡ false = not_first k o es p id only in
-    rw unlike (ap (λ l. record { filter = k; open_id = o } ∷ l)
-    (at_reopened es p id former there (later_only (k, Stands o) es p id only)))
+pub at_reopened : (es : List Entry) (p id : ℕ) (former : Option ℕ) (owes : Bool) → open_at es p ≡ Some id
+    → Only es id p
+    → shown (set_value_at es p (Stands (record { open_id = former; owed = owes || owed_at es p })))
+    ≡ reopened (shown es) id former owes
+at_reopened [] p id former owes there only = absurd (none_open id there)
+at_reopened ((k, Ended) ∷ es) zero id former owes there only = absurd (none_open id there)
+at_reopened ((k, Stands o) ∷ es) zero id former owes there only =
+    let here : has_id id o.open_id ≡ true = ap (λ o. has_id id o) there ∙ eq-eqb id id refl in
+    rw here (ap (λ l. record { filter = k; open_id = former; owed = owes || o.owed } ∷ l)
+    (sym (none_reopened es id former owes (later_nowhere (k, Stands o) es id only))))
+at_reopened ((k, Ended) ∷ es) (suc p) id former owes there only =
+    at_reopened es p id former owes there (later_only (k, Ended) es p id only)
+at_reopened ((k, Stands o) ∷ es) (suc p) id former owes there only =
+    let unlike : has_id id o.open_id ≡ false = not_first k o es p id only in
+    rw unlike (ap (λ l. record { filter = k; open_id = o.open_id; owed = o.owed } ∷ l)
+    (at_reopened es p id former owes there (later_only (k, Stands o) es p id only)))
 
 -- and it is the one that is found
 pub at_found : (es : List Entry) (p id : ℕ) (e : Entry) → slice_get es p ≡ Some e → open_at es p ≡ Some id
@@ -306,21 +328,31 @@ pub at_found : (es : List Entry) (p id : ℕ) (e : Entry) → slice_get es p ≡
 at_found [] p id e is there only = absurd (none_open id there)
 at_found ((k, Ended) ∷ es) zero id e is there only = absurd (none_open id there)
 at_found ((k, Stands o) ∷ es) zero id e is there only =
-    let here : has_id id o ≡ true = ap (λ o. has_id id o) there ∙ eq-eqb id id refl in
+    let here : has_id id o.open_id ≡ true = ap (λ o. has_id id o) there ∙ eq-eqb id id refl in
     rw here (ap (λ (x : Option Entry). option_map (λ (e : Entry). e.0) x) is)
 at_found ((k, Ended) ∷ es) (suc p) id e is there only =
     at_found es p id e is there (later_only (k, Ended) es p id only)
 at_found ((k, Stands o) ∷ es) (suc p) id e is there only =
-    let unlike : has_id id o ≡ false = not_first k o es p id only in
+    let unlike : has_id id o.open_id ≡ false = not_first k o es p id only in
     rw unlike (at_found es p id e is there (later_only (k, Stands o) es p id only))
 
 -- where a packet id is open something stands
 pub open_stands : (es : List Entry) (p id : ℕ) → open_at es p ≡ Some id
-    → want_of es p ≡ Some (Stands (Some id))
+    → (s : Stand) × (want_of es p ≡ Some (Stands s)) × (s.open_id ≡ Some id)
 open_stands [] p id there = absurd (none_open id there)
 open_stands ((k, Ended) ∷ es) zero id there = absurd (none_open id there)
-open_stands ((k, Stands o) ∷ es) zero id there = ap (λ o. Some (Stands o)) there
+open_stands ((k, Stands o) ∷ es) zero id there = (o, refl, there)
 open_stands (e ∷ es) (suc p) id there = open_stands es p id there
+
+pub stands_open : (es : List Entry) (p : ℕ) (s : Stand) → want_of es p ≡ Some (Stands s)
+    → open_at es p ≡ s.open_id
+stands_open [] p s is = absurd (cc)
+stands_open ((k, Ended) ∷ es) zero s is = absurd (cc)
+stands_open ((k, Stands o) ∷ es) zero s is = ap (λ (x : Stand). x.open_id) (same_stand o s is)
+  where
+    same_stand : (o s : Stand) → Some (Stands o) ≡ Some (Stands s) → o ≡ s
+    same_stand o s is = cc
+stands_open (e ∷ es) (suc p) s is = stands_open es p s is
 
 pub open_within : (es : List Entry) (p id : ℕ) → open_at es p ≡ Some id → p < length es
 open_within [] p id there = absurd (none_open id there)

@@ -1,6 +1,6 @@
 -- What is shown of the filters as they are kept.
 use Rattle.std.proofs.Common.{◌≡◌, ℕ, zero, suc, ◌+◌, ◌-◌, ◌<◌, ◌≤◌, ◌||◌, Bool, true, false, true≢false}
-use Rattle.std.proofs.Common.{List, [], ◌∷◌, ◌++◌, Option, Some, None, length, slice_get, filter, map, take}
+use Rattle.std.proofs.Common.{List, [], ◌∷◌, ◌++◌, Some, None, length, slice_get, filter, map, take}
 use Rattle.std.proofs.Common.{drop, cond, refl, sym, ◌∙◌, ap, arith}
 use Rattle.std.specs.List.{IsDistinct, AllByRecursion}
 use Rattle.std.specs.Prelude.{OnOk, IsOk, Ok, Err}
@@ -14,6 +14,7 @@ use Rattle.indexmap.specs.IndexMap.{insert_entry}
 use Rattle.indexmap.specs.Layout.{set_value_at}
 use Rattle.sng_history.specs.Good.{WantedOnce}
 use Rattle.sng_history.specs.Links.{Wanted, wants, opened, is_filter_of}
+use Rattle.sng_wanted.specs.declared.want.Stand.{Stand}
 use Rattle.sng_wanted.specs.declared.want.Want.{Want}
 use Rattle.sng_wanted.specs.declared.want.Want.TheVariants.{Ended, Stands}
 use Rattle.sng_wanted.specs.Filters.{without_wanted, id_for}
@@ -72,7 +73,7 @@ pub standing_nowhere : (es : List Entry) (text : List ℕ) (place : ℕ) → Alo
 standing_nowhere es text place alone is = absurd (no_place es text place alone is)
 
 -- the filter that stands
-pub alone_wants : (es : List Entry) (text : List ℕ) (place : ℕ) (o : Option ℕ) → Alone es text place
+pub alone_wants : (es : List Entry) (text : List ℕ) (place : ℕ) (o : Stand) → Alone es text place
     → want_of es place ≡ Some (Stands o) → wants (shown es) text ≡ true
 alone_wants [] text place o alone is = absurd alone
 alone_wants ((k, Ended) ∷ es) text zero o alone is = absurd (cc)
@@ -81,18 +82,19 @@ alone_wants ((k, Ended) ∷ es) text (suc place) o alone is = alone_wants es tex
 alone_wants ((k, Stands p) ∷ es) text (suc place) o alone is =
     rw alone.0 (alone_wants es text place o alone.1 is)
 
-same_stands : (p o : Option ℕ) → Some (Stands p) ≡ Some (Stands o) → p ≡ o
+pub same_stands : (p o : Stand) → Some (Stands p) ≡ Some (Stands o) → p ≡ o
 same_stands p o is = cc
 
-pub alone_id : (es : List Entry) (text : List ℕ) (place : ℕ) (o : Option ℕ) → Alone es text place
-    → want_of es place ≡ Some (Stands o) → id_for (shown es) text ≡ o
+pub alone_id : (es : List Entry) (text : List ℕ) (place : ℕ) (o : Stand) → Alone es text place
+    → want_of es place ≡ Some (Stands o) → id_for (shown es) text ≡ o.open_id
 alone_id [] text place o alone is = absurd alone
 alone_id ((k, Ended) ∷ es) text zero o alone is = absurd (cc)
-alone_id ((k, Stands p) ∷ es) text zero o alone is = rw alone.0 (same_stands p o is)
+alone_id ((k, Stands p) ∷ es) text zero o alone is =
+    rw alone.0 (ap (λ (s : Stand). s.open_id) (same_stands p o is))
 alone_id ((k, Ended) ∷ es) text (suc place) o alone is = alone_id es text place o alone.1 is
 alone_id ((k, Stands p) ∷ es) text (suc place) o alone is = rw alone.0 (alone_id es text place o alone.1 is)
 
-pub alone_ended : (es : List Entry) (text : List ℕ) (place : ℕ) (o : Option ℕ) → Alone es text place
+pub alone_ended : (es : List Entry) (text : List ℕ) (place : ℕ) (o : Stand) → Alone es text place
     → want_of es place ≡ Some (Stands o)
     → shown (set_value_at es place Ended) ≡ without_wanted (shown es) text
 alone_ended [] text place o alone is = absurd alone
@@ -101,22 +103,22 @@ alone_ended ((k, Stands p) ∷ es) text zero o alone is =
     rw alone.0 (sym (none_without (shown es) text (absent_wants es text alone.1)))
 alone_ended ((k, Ended) ∷ es) text (suc place) o alone is = alone_ended es text place o alone.1 is
 alone_ended ((k, Stands p) ∷ es) text (suc place) o alone is =
-    rw alone.0 (ap (λ l. record { filter = k; open_id = p } ∷ l) (alone_ended es text place o alone.1 is))
+    rw alone.0 (ap (λ l. record { filter = k; open_id = p.open_id; owed = p.owed } ∷ l) (alone_ended es text place o alone.1 is))
 
-pub alone_opened : (es : List Entry) (text : List ℕ) (place : ℕ) (o : Option ℕ) (id : ℕ) → Alone es text place
+pub alone_opened : (es : List Entry) (text : List ℕ) (place : ℕ) (o : Stand) (id : ℕ) → Alone es text place
     → want_of es place ≡ Some (Stands o)
-    → shown (set_value_at es place (Stands (Some id))) ≡ opened (shown es) text id
+    → shown (set_value_at es place (Stands (record { open_id = Some id; owed = false }))) ≡ opened (shown es) text id
 alone_opened [] text place o id alone is = absurd alone
 alone_opened ((k, Ended) ∷ es) text zero o id alone is = absurd (cc)
 alone_opened ((k, Stands p) ∷ es) text zero o id alone is =
-    rw alone.0 (ap (λ l. record { filter = k; open_id = Some id } ∷ l)
+    rw alone.0 (ap (λ l. record { filter = k; open_id = Some id; owed = false } ∷ l)
     (sym (none_opened (shown es) text id (absent_wants es text alone.1))))
 alone_opened ((k, Ended) ∷ es) text (suc place) o id alone is = alone_opened es text place o id alone.1 is
 alone_opened ((k, Stands p) ∷ es) text (suc place) o id alone is =
-    rw alone.0 (ap (λ l. record { filter = k; open_id = p } ∷ l) (alone_opened es text place o id alone.1 is))
+    rw alone.0 (ap (λ l. record { filter = k; open_id = p.open_id; owed = p.owed } ∷ l) (alone_opened es text place o id alone.1 is))
 
 -- as many stand as before, or one fewer
-pub fewer_ended : (es : List Entry) (place : ℕ) (o : Option ℕ) → want_of es place ≡ Some (Stands o)
+pub fewer_ended : (es : List Entry) (place : ℕ) (o : Stand) → want_of es place ≡ Some (Stands o)
     → length (shown es) ≡ length (shown (set_value_at es place Ended)) + 1
 fewer_ended [] place o is = absurd (cc)
 fewer_ended ((k, Ended) ∷ es) zero o is = absurd (cc)
@@ -125,7 +127,7 @@ fewer_ended ((k, Ended) ∷ es) (suc place) o is = fewer_ended es place o is
 fewer_ended ((k, Stands p) ∷ es) (suc place) o is =
     let more = fewer_ended es place o is in omega (arith, more)
 
-pub many_changed : (es : List Entry) (place : ℕ) (o p : Option ℕ) → want_of es place ≡ Some (Stands o)
+pub many_changed : (es : List Entry) (place : ℕ) (o p : Stand) → want_of es place ≡ Some (Stands o)
     → length (shown (set_value_at es place (Stands p))) ≡ length (shown es)
 many_changed [] place o p is = absurd (cc)
 many_changed ((k, Ended) ∷ es) zero o p is = absurd (cc)
@@ -135,16 +137,17 @@ many_changed ((k, Stands q) ∷ es) (suc place) o p is = ap suc (many_changed es
 
 -- one more at the end
 pub shown_more : (es : List Entry) (text : List ℕ)
-    → shown (es ++ (text, Stands None) ∷ []) ≡ shown es ++ record { filter = text; open_id = None } ∷ []
+    → shown (es ++ (text, Stands (record { open_id = None; owed = false })) ∷ [])
+    ≡ shown es ++ record { filter = text; open_id = None; owed = false } ∷ []
 shown_more [] text = refl
 shown_more ((k, Ended) ∷ es) text = shown_more es text
-shown_more ((k, Stands p) ∷ es) text = ap (λ l. record { filter = k; open_id = p } ∷ l) (shown_more es text)
+shown_more ((k, Stands p) ∷ es) text = ap (λ l. record { filter = k; open_id = p.open_id; owed = p.owed } ∷ l) (shown_more es text)
 
 -- after a sweep
 pub shown_swept : (es : List Entry) → shown (filter is_standing es) ≡ shown es
 shown_swept [] = refl
 shown_swept ((k, Ended) ∷ es) = shown_swept es
-shown_swept ((k, Stands p) ∷ es) = ap (λ l. record { filter = k; open_id = p } ∷ l) (shown_swept es)
+shown_swept ((k, Stands p) ∷ es) = ap (λ l. record { filter = k; open_id = p.open_id; owed = p.owed } ∷ l) (shown_swept es)
 
 pub many_swept : (es : List Entry) → length (filter is_standing es) ≡ length (shown es)
 many_swept [] = refl
@@ -331,7 +334,7 @@ pub copied_more : (all copies : List Wanted) (k : List ℕ) (w : Want) (es : Lis
     → copies ++ shown ((k, w) ∷ es) ≡ all → (copies ++ shown ((k, w) ∷ [])) ++ shown es ≡ all
 copied_more all copies k Ended es is = rw (append-nil copies) is
 copied_more all copies k (Stands o) es is =
-    append_assoc copies (record { filter = k; open_id = o } ∷ []) (shown es) ∙ is
+    append_assoc copies (record { filter = k; open_id = o.open_id; owed = o.owed } ∷ []) (shown es) ∙ is
 
 pub drop_all : (es : List Entry) → drop (length es) es ≡ []
 drop_all [] = refl

@@ -10,7 +10,7 @@ use std::alloc::{AllocError, Global};
 use std::marker::Model;
 
 /// The filters that stand for anybody, in order of first standing, each with the packet id of its open
-/// SUBSCRIBE. It is never changed, and has no room for more. Contracts see them.
+/// SUBSCRIBE and whether one is owed. It is never changed, and has no room for more. Contracts see them.
 #[derive(Debug, Drop)]
 pub struct WantedCopy {
     entries: Vec<WantedFilter>,
@@ -72,8 +72,8 @@ fn copy_standing(
     ensures { OnOk result (copies.new.items
         ≡ copies.old.items ++ shown ((filter.now, want) ∷ [])) }
 {
-    if let Want::Stands(open_id) = want {
-        copies.push(WantedFilter::new(filter.copy()?, open_id))?;
+    if let Want::Stands(stand) = want {
+        copies.push(WantedFilter::new(filter.copy()?, stand))?;
     }
     Ok(())
 }

@@ -4,12 +4,11 @@
 pub mod copying;
 pub mod filter;
 pub mod laws;
-pub mod limits;
+mod owing;
 mod places;
 mod want;
 pub mod wanted;
 
 pub use copying::WantedCopy;
 pub use filter::WantedFilter;
-pub use limits::MAX_WANTED;
 pub use wanted::Wanted;

@@ -2,22 +2,15 @@
 ghost use Rattle.std.specs.Prelude.{◌≡◌, ◌<◌, ◌≤◌, ◌+◌, [], ◌∷◌, ◌++◌, true, false, length, filter, IfSome};
 ghost use Rattle.indexmap.specs.IndexMap.{spare};
 ghost use Rattle.indexmap.specs.Layout.{set_value_at};
-ghost use Rattle.sng_wanted.specs.declared.limits.TheConstants.{MAX_WANTED};
-ghost use Rattle.sng_wanted.specs.declared.places.TheConstants.{ROOM};
 ghost use Rattle.sng_history.specs.Links.{wants};
 ghost use Rattle.sng_wanted.specs.Shown.{shown, is_standing, open_at, Absent, Apart, IsPlaceOf, HasRoom};
 ghost use Rattle.sng_wanted.specs.Shown.{want_of, IsStandingAt};
-ghost use Rattle.sng_wanted.specs.Shown.{IsIndexed, IsOpenOnce, IsPlaceOpen};
+ghost use Rattle.sng_wanted.specs.Shown.{IsIndexed, IsOpenOnce, IsPlaceOpen, NoneOwedBefore};
 
-use crate::MAX_WANTED;
-use crate::want::Want;
+use crate::want::{Stand, Want};
 use indexmap::IndexMap;
 use sng_text::TopicFilter;
 use std::mem;
-
-/// How many filters are kept at the most, those that ended among them. So a sweep for lack of room comes only
-/// after as many filters ended as may be wanted.
-pub const ROOM: usize = 2 * MAX_WANTED;
 
 /// The place of the filter, where it is kept.
 fn place_of(filters: &IndexMap<TopicFilter, Want>, filter: &TopicFilter) -> Option<usize>
@@ -39,17 +32,17 @@ fn want_at(filters: &IndexMap<TopicFilter, Want>, place: usize) -> Option<Want>
     Some(*want)
 }
 
-/// The place of the filter that stands, and the packet id of its open SUBSCRIBE.
+/// The place of the filter that stands, and how it does.
 pub fn standing(
     filters: &IndexMap<TopicFilter, Want>,
     filter: &TopicFilter,
-) -> Option<(usize, Option<u16>)>
+) -> Option<(usize, Stand)>
     ensures { IsStandingAt filters.now.entries filter.now result }
 {
     let place = place_of(filters, filter)?;
     match want_at(filters, place)? {
         Want::Ended => None,
-        Want::Stands(open_id) => Some((place, open_id)),
+        Want::Stands(stand) => Some((place, stand)),
     }
 }
 
@@ -70,7 +63,7 @@ fn open_at(filters: &IndexMap<TopicFilter, Want>, place: usize) -> Option<u16>
 {
     match want_at(filters, place)? {
         Want::Ended => None,
-        Want::Stands(open_id) => open_id,
+        Want::Stands(stand) => stand.open_id,
     }
 }
 
@@ -105,55 +98,60 @@ fn find_places(filters: &IndexMap<TopicFilter, Want>, places: &mut [usize])
     }
 }
 
-/// Whether the filter is not kept, and one more has room.
-fn fits(filters: &IndexMap<TopicFilter, Want>, filter: &TopicFilter) -> bool
-    ensures { result ≡ true → Absent filter.now filters.now.entries × (length filters.now.entries < ROOM) }
+/// Whether the filter is not kept, and one more has room, where there is room for twice so many.
+fn fits(filters: &IndexMap<TopicFilter, Want>, filter: &TopicFilter, room: usize) -> bool
+    ensures { result ≡ true → Absent filter.now filters.now.entries
+        × (length filters.now.entries < room + room) }
 {
     match place_of(filters, filter) {
-        None => filters.len() < ROOM,
+        None => filters.len().saturating_sub(room) < room,
         Some(_) => false,
     }
 }
 
-/// Makes room for the filter, which is not wanted. Where it is kept as one that ended, or there is no place,
-/// all that ended are swept out. Takes no memory.
+/// Makes room for the filter, which is not wanted, where there is room for twice so many. Where it is kept as
+/// one that ended, or there is no place, all that ended are swept out. Answers before which place none is owed,
+/// which is known of the one that is given. Takes no memory.
 pub fn make_room(
     filters: &mut IndexMap<TopicFilter, Want>,
     other: &mut IndexMap<TopicFilter, Want>,
     places: &mut Vec<usize>,
     filter: &TopicFilter,
-)
+    room: usize,
+    first_owed: usize,
+) -> usize
     requires new { wants (shown filters.old.entries) filter.now ≡ false }
-    requires few { length (shown filters.old.entries) < MAX_WANTED }
+    requires few { length (shown filters.old.entries) < room }
     requires indexed { IsIndexed filters.old.entries places.old.items }
-    requires room { HasRoom ROOM (length filters.old.entries) (spare filters.old) }
+    requires owed { NoneOwedBefore filters.old.entries first_owed }
+    requires room { HasRoom (room + room) (length filters.old.entries) (spare filters.old) }
     requires empty { other.old.entries ≡ [] }
-    requires other_room { ROOM ≤ spare other.old }
+    requires other_room { room + room ≤ spare other.old }
     ensures absent { Absent filter.now filters.new.entries }
-    ensures place { length filters.new.entries < ROOM }
+    ensures place { length filters.new.entries < room + room }
     ensures shown { shown filters.new.entries ≡ shown filters.old.entries }
     ensures indexed { IsIndexed filters.new.entries places.new.items }
-    ensures room { HasRoom ROOM (length filters.new.entries) (spare filters.new) }
+    ensures owed { NoneOwedBefore filters.new.entries result }
+    ensures room { HasRoom (room + room) (length filters.new.entries) (spare filters.new) }
     ensures empty { other.new.entries ≡ [] }
-    ensures other_room { ROOM ≤ spare other.new }
+    ensures other_room { room + room ≤ spare other.new }
 {
-    if fits(filters, filter) {
-        return;
+    if fits(filters, filter, room) {
+        return first_owed;
     }
     sweep(filters, other);
     find_places(filters, places);
+    0
 }
 
 /// Takes the filters out that ended, in one pass. The others stay in order. Takes no memory.
 fn sweep(filters: &mut IndexMap<TopicFilter, Want>, other: &mut IndexMap<TopicFilter, Want>)
-    requires room { HasRoom ROOM (length filters.old.entries) (spare filters.old) }
-    requires few { length (shown filters.old.entries) < MAX_WANTED }
+    requires few { length (shown filters.old.entries) < spare other.old }
     requires empty { other.old.entries ≡ [] }
-    requires other_room { ROOM ≤ spare other.old }
     ensures entries { filters.new.entries ≡ filter is_standing filters.old.entries }
-    ensures room { HasRoom ROOM (length filters.new.entries) (spare filters.new) }
+    ensures room { spare other.old ≤ length filters.new.entries + spare filters.new }
     ensures empty { other.new.entries ≡ [] }
-    ensures other_room { ROOM ≤ spare other.new }
+    ensures other_room { length filters.old.entries + spare filters.old ≤ spare other.new }
 {
     move_standing(filters, other);
     mem::swap(filters, other);
@@ -161,11 +159,10 @@ fn sweep(filters: &mut IndexMap<TopicFilter, Want>, other: &mut IndexMap<TopicFi
 
 /// Moves the filters that stand to the other map, in order, and leaves this one empty.
 fn move_standing(from: &mut IndexMap<TopicFilter, Want>, to: &mut IndexMap<TopicFilter, Want>)
-    requires few { length (shown from.old.entries) < MAX_WANTED }
+    requires few { length (shown from.old.entries) < spare to.old }
     requires empty { to.old.entries ≡ [] }
-    requires room { ROOM ≤ spare to.old }
     ensures entries { to.new.entries ≡ filter is_standing from.old.entries }
-    ensures room { HasRoom ROOM (length to.new.entries) (spare to.new) }
+    ensures room { spare to.old ≤ length to.new.entries + spare to.new }
     ensures empty { from.new.entries ≡ [] }
     ensures from_room { length from.old.entries + spare from.old ≤ spare from.new }
 {

@@ -39,9 +39,12 @@ use Rattle.sng_history.specs.Entering.{entering, served, serving}
 use Rattle.sng_history.specs.Standing.{drop_notes}
 use Rattle.sng_history.specs.Good.{Each, Away, Distinct, AtRest}
 use Rattle.sng_laws.specs.ViewsClients.{phase_of, address_of, is_among}
+use Rattle.sng_laws.specs.ViewsClients.{accepted}
 use Rattle.sng_laws.specs.LawsState.{ClientShown}
 use Rattle.sng_laws.specs.LawsRules.{judged}
+use Rattle.sng_laws.specs.LawsRules.{Rule}
 use Rattle.sng_laws.specs.LawsEnds.{stays_by, clean_answer}
+use Rattle.sng_laws.specs.LawsEnds.{untold}
 use Rattle.sng_laws.specs.LawsHanding.{gone_answer}
 use Rattle.sng_laws.specs.LawsAnswers.{connect_rules, bye_at, old_place, others_leave}
 use Rattle.sng_history.proofs.Own.{same_means, flat_same, each_with}
@@ -57,7 +60,9 @@ use Rattle.sng_promise.proofs.Standing.LawEnds.{Kept, drops_shown}
 use Rattle.sng_promise.proofs.Answers.LawDisconnects.{gone_spelled}
 use Rattle.sng_history.proofs.Booleans.{and_no}
 use Rattle.sng_history.proofs.ClientIds.{length_ids}
-use Rattle.sng_history.specs.declared.limits.TheConstants.{MAX_CLIENTS}
+use Rattle.sng_grants.specs.declared.policy.Policy.{Policy}
+use Rattle.sng_grants.specs.Limits.{Limits}
+use Rattle.sng_laws.specs.Views.{last_policy}
 
 -- ---- the verdict
 
@@ -73,12 +78,25 @@ ruled id true true true r = refl
 ruled id true true false true = refl
 ruled id true true false false = refl
 
+-- the rules, by these limits
+abbrev rules_by : List Row → Connect → Limits → List Rule
+rules_by h c limits =
+    (not (c.protocol_id == 1), Form NotSupported)
+    ∷ (not (lists (last_policy h) c.client_id), Grant (NoScope c.client_id))
+    ∷ (
+      not (is_among c.client_id (accepted h)) && not (nat_lt (length (accepted h)) limits.clients),
+      Room (Full place.Clients),
+    )
+    ∷ []
+
 pub entry_ruled : (h : List Row) (s : State) (c : Connect) → StateShown h s
     → entry s c ≡ judged (connect_rules h c)
 entry_ruled h s c shown =
+    let first : entry s c ≡ judged (rules_by h c s.policy.limits) =
     rw (sym shown.policy, sym shown.order, known_among c.client_id s.clients, length_ids s.clients)
     (ruled c.client_id (c.protocol_id == 1) (lists s.policy c.client_id) (is_known c.client_id s.clients)
-    (nat_lt (length s.clients) MAX_CLIENTS))
+    (nat_lt (length s.clients) s.policy.limits.clients)) in
+    first ∙ ap (λ (p : Policy). judged (rules_by h c p.limits)) shown.policy
 
 -- ---- another client at the address leaves
 
@@ -272,3 +290,4 @@ clean_row h s from c st is =
     (each_with (ClientShown h) AtRest
     (λ x. Kept h (stays_by c) x (client_next s (ByConnect from c) x)) s.clients
     (λ x known rest. kept_entry h s from c x is known rest.busy) st.shown.clients st.good.rest)
+    ∙ ap (λ (p : Policy). map (λ end. Note note.Outbox) (untold p.limits h (stays_by c))) st.shown.policy

@@ -36,18 +36,20 @@ use Rattle.sng_history.specs.Whole.{spell, part, drained_outs}
 use Rattle.sng_history.specs.Steps.{outs_by}
 use Rattle.sng_history.specs.Good.{Each, AtRest}
 use Rattle.sng_laws.specs.ViewsClients.{address_of, accepted}
-use Rattle.sng_laws.specs.ViewsStanding.{standing_of, is_its, is_answered, is_refusal, filter_with, wanted}
+use Rattle.sng_laws.specs.ViewsStanding.{standing_of}
+use Rattle.sng_laws.specs.ViewsWanted.{is_its, is_answered, is_refusal, filter_with, wanted}
 use Rattle.sng_laws.specs.ViewsHanding.{meant_for}
 use Rattle.sng_laws.specs.LawsState.{ClientShown}
 use Rattle.sng_laws.specs.LawsHanding.{arrivals}
 use Rattle.sng_laws.specs.LawsAsks.{message_answer, suback_answer, packet_answer}
 use Rattle.sng_history.proofs.Own.{each_map, each_with, flat_same}
-use Rattle.sng_outbox.specs.declared.limits.TheConstants.{MAX_OUTBOX_ITEMS}
 use Rattle.sng_promise.proofs.Clients.SeenOrder.{StateShown}
 use Rattle.sng_promise.proofs.Clients.SeenState.{Stands}
 use Rattle.sng_promise.proofs.Clients.LawHere.{settled}
 use Rattle.sng_promise.proofs.Standing.LawEnds.{flat_ids}
 use Rattle.sng_promise.proofs.Handing.LawArrivals.{none_leaves, arrived}
+use Rattle.sng_grants.specs.declared.policy.Policy.{Policy}
+use Rattle.sng_laws.specs.Views.{last_limits}
 
 -- ---- a message
 
@@ -64,19 +66,20 @@ message_by name (Some packet_id) true false = refl
 message_out : (h : List Row) (s : State) (p : Publish) → Stands h s
     → outs_by s (ByPacket (packet.Publish p)) ≡ message_answer h p
 message_out h s p st =
+    let limits : s.policy.limits ≡ last_limits h = ap (λ (policy : Policy). policy.limits) st.shown.policy in
     let c = ByPacket (packet.Publish p) in
     let g : Client → List Out = λ x. part (around s c) [] (fixed_for s c x) x in
     let f : List ℕ → List Out = λ id. arrivals h id (address_of id h) (meant_for id p h) in
     let each =
     each_with (ClientShown h) AtRest (λ x. g x ≡ f x.id) s.clients
     (λ x is rest. arrived h s p x st.shown is rest) st.shown.clients st.good.rest in
-    ap (λ outs. outs ++ answer_outs s.up s.link (answer_of (packet.Publish p)))
+    ap (λ outs. outs ++ answer_outs s.policy.limits s.up s.link (answer_of (packet.Publish p)))
     (flat_ids g f s.clients each ∙ ap (flat_map f) st.shown.order)
-    ∙ (rw (sym st.shown.up, sym st.shown.waits)
+    ∙ (rw (sym st.shown.up, sym st.shown.waits, limits)
     (ap (λ outs. flat_map f (accepted h) ++ outs)
-    (message_by p.name p.packet_id s.up (nat_lt (length s.link.waiting) MAX_OUTBOX_ITEMS))
+    (message_by p.name p.packet_id s.up (nat_lt (length s.link.waiting) (last_limits h).waiting))
     ∙ sym (append_assoc (flat_map f (accepted h)) (misnamed p.name)
-    (if is_some p.packet_id && (s.up && not (nat_lt (length s.link.waiting) MAX_OUTBOX_ITEMS))
+    (if is_some p.packet_id && (s.up && not (nat_lt (length s.link.waiting) (last_limits h).waiting))
     then Note note.Outbox ∷ [] else []))))
 
 -- ---- any other packet
@@ -186,7 +189,7 @@ suback_by : (h : List Row) (s : State) (sent : Packet) (packet_id : ℕ) (codes 
     → StateShown h s
     → s.link.wanted ≡ wanted h
     → flat_map (ends_out s sent (refused_filter s.link (subscribe_answer packet_id codes))) s.clients
-    ++ answer_outs s.up s.link (subscribe_answer packet_id codes)
+    ++ answer_outs s.policy.limits s.up s.link (subscribe_answer packet_id codes)
     ≡ (if is_refusal codes then suback_answer h (filter_with packet_id (wanted h)) else [])
 suback_by h s sent packet_id [] shown is =
     append-nil (flat_map (ends_out s sent None) s.clients) ∙ none_out s sent s.clients
@@ -203,7 +206,7 @@ suback_out : (h : List Row) (s : State) (answer : SubscribeAck) → Stands h s �
 suback_out h s answer st is =
     let sent = packet.SubscribeAck answer in
     let says = subscribe_answer answer.packet_id answer.codes in
-    ap (λ outs. outs ++ answer_outs s.up s.link says)
+    ap (λ outs. outs ++ answer_outs s.policy.limits s.up s.link says)
     (parts_out s sent (refused_filter s.link says) refl
     (bare_suback answer.packet_id answer.codes) st.good.rest)
     ∙ suback_by h s sent answer.packet_id answer.codes st.shown is
@@ -211,10 +214,10 @@ suback_out h s answer st is =
 -- a packet that ends nothing
 other_out : (h : List Row) (s : State) (sent : Packet) → Stands h s
     → refused_filter s.link (answer_of sent) ≡ None → Bare (answer_of sent)
-    → answer_outs s.up s.link (answer_of sent) ≡ packet_answer h sent
+    → answer_outs s.policy.limits s.up s.link (answer_of sent) ≡ packet_answer h sent
     → outs_by s (ByPacket sent) ≡ packet_answer h sent
 other_out h s sent st none bare judged =
-    ap (λ outs. outs ++ answer_outs s.up s.link (answer_of sent))
+    ap (λ outs. outs ++ answer_outs s.policy.limits s.up s.link (answer_of sent))
     (parts_out s sent None none bare st.good.rest ∙ none_out s sent s.clients)
     ∙ judged
 

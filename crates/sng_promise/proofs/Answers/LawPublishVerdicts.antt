@@ -6,6 +6,7 @@ use Rattle.std.specs.Prelude.{nat_le}
 use Rattle.std.specs.declared.result.Result.{Result}
 use Rattle.std.proofs.lemmas.List.Sums.{sum_by-append}
 use Rattle.std.proofs.lemmas.Bool.Decides.{nat_tests}
+use Rattle.sng_grants.specs.Limits.{flight_limit}
 use Rattle.sng_text.specs.Texts.{is_name}
 use Rattle.sng_grants.specs.Sources.{scope_of}
 use Rattle.sng_policy.specs.Grants.{lists, topic}
@@ -20,7 +21,6 @@ use Rattle.sng_outbox.specs.declared.item.Item.{Item}
 use Rattle.sng_outbox.specs.declared.item.Item.TheVariants as item
 use Rattle.sng_outbox.specs.declared.item.Publication.{Publication}
 use Rattle.sng_outbox.specs.declared.origin.Origin.TheVariants as origin
-use Rattle.sng_outbox.specs.declared.limits.TheConstants.{MAX_IN_FLIGHT, MAX_OUTBOX_ITEMS}
 use Rattle.sng_book.specs.declared.decision.Decision.TheVariants as note
 use Rattle.sng_book.specs.declared.decision.Decision.{Decision}
 use Rattle.sng_book.specs.declared.decision.Who.TheVariants as who
@@ -107,25 +107,29 @@ load_same h s shown flights =
 abbrev pub is_crowded : State → FrameQos → Bool
 is_crowded s q =
     is_acknowledged q && not (nat_lt
-    (load (record { waiting = s.link.waiting; in_flight = s.link.in_flight })) MAX_IN_FLIGHT)
+    (load (record { waiting = s.link.waiting; in_flight = s.link.in_flight }))
+    (flight_limit s.policy.limits))
 
 not_not : (b : Bool) → b ≡ not (not b)
 not_not true = refl
 not_not false = refl
 
-flight_free : (s : State) (q : FrameQos) → has_flight s.link (qos_of q) ≡ not (is_crowded s q)
+flight_free : (s : State) (q : FrameQos) → has_flight s.policy.limits s.link (qos_of q) ≡ not (is_crowded s q)
 flight_free s qos.AtLeastOnce =
-    not_not (nat_lt (load (record { waiting = s.link.waiting; in_flight = s.link.in_flight })) MAX_IN_FLIGHT)
+    not_not (nat_lt (load (record { waiting = s.link.waiting; in_flight = s.link.in_flight }))
+    (flight_limit s.policy.limits))
 flight_free s qos.AtMostOnce = refl
 flight_free s qos.ExactlyOnce =
-    not_not (nat_lt (load (record { waiting = s.link.waiting; in_flight = s.link.in_flight })) MAX_IN_FLIGHT)
+    not_not (nat_lt (load (record { waiting = s.link.waiting; in_flight = s.link.in_flight }))
+    (flight_limit s.policy.limits))
 flight_free s qos.WithoutSession = refl
 
 abbrev pub has_items : State → Bool
-has_items s = nat_lt (length s.link.waiting) MAX_OUTBOX_ITEMS
+has_items s = nat_lt (length s.link.waiting) s.policy.limits.waiting
 
 -- at another QoS than 2
-pub room_free : (s : State) (q : FrameQos) → room s (qos_of q) ≡ judged (room_table s.up false (is_crowded s q) (has_items s))
+pub room_free : (s : State) (q : FrameQos) → room s (qos_of q)
+    ≡ judged (room_table s.up false (is_crowded s q) (has_items s))
 room_free s q = rw (flight_free s q) (room_judged s.up false (is_crowded s q) (has_items s))
 
 -- at QoS 2, where the MsgId is not open

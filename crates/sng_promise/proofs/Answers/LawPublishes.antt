@@ -4,12 +4,12 @@ use Rattle.std.proofs.Common.{ap, sym, ◌∙◌, if◌then◌else◌, length, O
 use Rattle.std.specs.Prelude.{◌&&◌, not, nat_lt, Option, None, Some}
 use Rattle.std.specs.declared.result.Result.{Result}
 use Rattle.std.proofs.lemmas.List.{append-nil}
+use Rattle.sng_grants.specs.Limits.{flight_limit}
 use Rattle.sng_policy.specs.Grants.{lists}
 use Rattle.sng_states.specs.declared.limits.TheConstants.{MAX_OPEN_IDS}
 use Rattle.sng_frames.specs.declared.qos.FrameQos.{FrameQos}
 use Rattle.sng_frames.specs.declared.qos.FrameQos.TheVariants as qos
 use Rattle.sng_frames.specs.declared.messages.publish.Publish.{Publish}
-use Rattle.sng_outbox.specs.declared.limits.TheConstants.{MAX_IN_FLIGHT, MAX_OUTBOX_ITEMS}
 use Rattle.sng_book.specs.declared.address.Address.{Address}
 use Rattle.sng_book.specs.declared.decision.Decision.{Decision}
 use Rattle.sng_book.specs.declared.decision.Decision.TheVariants as note
@@ -31,6 +31,7 @@ use Rattle.sng_history.specs.Verdicts.{publish_named, publish_once_by, publish_o
 use Rattle.sng_history.specs.Whole.{spell, replied, stranger_to, drops, frame_row, drained_outs}
 use Rattle.sng_history.specs.Steps.{notes_for}
 use Rattle.sng_laws.specs.Views.{last_policy, is_up}
+use Rattle.sng_laws.specs.Views.{last_limits}
 use Rattle.sng_laws.specs.ViewsMessages.{is_exactly_once}
 use Rattle.sng_laws.specs.ViewsHanding.{names_known}
 use Rattle.sng_laws.specs.ViewsClients.{names_told, those_at}
@@ -55,6 +56,7 @@ use Rattle.sng_promise.proofs.Answers.LawUnsupported.{by_cause, code_same}
 use Rattle.sng_promise.proofs.Answers.LawPings.{active_same}
 use Rattle.sng_promise.proofs.Answers.LawPublishVerdicts.{load_same, type_table, type_judged, said_of}
 use Rattle.sng_promise.proofs.Answers.LawPublishVerdicts.{is_crowded, room_table, room_free}
+use Rattle.sng_grants.specs.declared.policy.Policy.{Policy}
 
 -- ---- the note
 
@@ -101,8 +103,8 @@ asked_said s x told knows p more rest true true active listed is room =
 abbrev pub room_shown : List Row → List ℕ → Publish → List Rule
 room_shown h id p =
     room_table (is_up h) (is_exactly_once p.flags.qos && not (nat_lt (length (open_of id h)) MAX_OPEN_IDS))
-    (is_acknowledged p.flags.qos && not (nat_lt (unacknowledged h) MAX_IN_FLIGHT))
-    (nat_lt (length (waiting h)) MAX_OUTBOX_ITEMS)
+    (is_acknowledged p.flags.qos && not (nat_lt (unacknowledged h) (flight_limit (last_limits h))))
+    (nat_lt (length (waiting h)) (last_limits h).waiting)
 
 -- the verdict on a PUBLISH, as the rows show it
 pub asked_judged : (h : List Row) (s : State) (x : Client) (p : Publish) (more : Outcome) → StateShown h s
@@ -119,16 +121,19 @@ asked_judged h s x p more shown is room =
     (lists s.policy x.id) refl refl is.ids room)
 
 pub crowded_same : (h : List Row) (s : State) (q : FrameQos) → StateShown h s → s.link.in_flight ≡ in_flight h
-    → is_crowded s q ≡ (is_acknowledged q && not (nat_lt (unacknowledged h) MAX_IN_FLIGHT))
+    → is_crowded s q ≡ (is_acknowledged q && not (nat_lt (unacknowledged h) (flight_limit (last_limits h))))
 crowded_same h s q shown flights =
-    ap (λ n. is_acknowledged q && not (nat_lt n MAX_IN_FLIGHT)) (load_same h s shown flights)
+    ap (λ n. is_acknowledged q && not (nat_lt n (flight_limit s.policy.limits))) (load_same h s shown flights)
+    ∙ ap (λ (policy : Policy). is_acknowledged q && not (nat_lt (unacknowledged h) (flight_limit policy.limits)))
+    shown.policy
 
 publish_room : (h : List Row) (s : State) (id : List ℕ) (p : Publish) → StateShown h s
     → s.link.in_flight ≡ in_flight h → is_exactly_once p.flags.qos ≡ false
     → room s (qos_of p.flags.qos) ≡ judged (room_shown h id p)
 publish_room h s id p shown flights other =
+    let limits : s.policy.limits ≡ last_limits h = ap (λ (policy : Policy). policy.limits) shown.policy in
     room_free s p.flags.qos
-    ∙ rw (other, crowded_same h s p.flags.qos shown flights, shown.up, shown.waits) refl
+    ∙ rw (other, crowded_same h s p.flags.qos shown flights, shown.up, shown.waits, limits) refl
 
 publish_judged : (h : List Row) (s : State) (x : Client) (p : Publish) → StateShown h s
     → s.link.in_flight ≡ in_flight h → ClientShown h x → is_exactly_once p.flags.qos ≡ false

@@ -31,6 +31,7 @@ use Rattle.sng_history.specs.Verdicts.{is_active, is_repeat, may_ask, once_room,
 use Rattle.sng_history.specs.Whole.{spell, replied, stranger_to, drops, frame_row, drained_outs, part}
 use Rattle.sng_history.specs.Steps.{notes_for}
 use Rattle.sng_laws.specs.Views.{last_policy}
+use Rattle.sng_laws.specs.Views.{last_limits}
 use Rattle.sng_laws.specs.ViewsMessages.{is_exactly_once}
 use Rattle.sng_laws.specs.ViewsClients.{names_told, those_at}
 use Rattle.sng_laws.specs.ViewsFlight.{in_flight}
@@ -54,6 +55,7 @@ use Rattle.sng_promise.proofs.Answers.LawUnsupported.{by_cause, code_same}
 use Rattle.sng_promise.proofs.Answers.LawPings.{active_same}
 use Rattle.sng_promise.proofs.Answers.LawPublishVerdicts.{once_free}
 use Rattle.sng_promise.proofs.Answers.LawPublishes.{ask_by, once_is, asked_judged, room_shown, crowded_same}
+use Rattle.sng_grants.specs.declared.policy.Policy.{Policy}
 
 -- ---- whether it is a repeat
 
@@ -71,8 +73,9 @@ once_room_shown : (h : List Row) (s : State) (x : Client) (p : Publish) (q : Fra
     → is_open p.msg_id x.unreleased ≡ false
     → once_room s x p ≡ judged (room_shown h x.id p)
 once_room_shown h s x p qos.ExactlyOnce is twice shown flights opened absent =
+    let limits : s.policy.limits ≡ last_limits h = ap (λ (policy : Policy). policy.limits) shown.policy in
     once_free s x p p.flags.qos is absent
-    ∙ rw (is, crowded_same h s qos.ExactlyOnce shown flights, shown.up, shown.waits, opened.many) refl
+    ∙ rw (is, crowded_same h s qos.ExactlyOnce shown flights, shown.up, shown.waits, opened.many, limits) refl
 once_room_shown h s x p qos.AtMostOnce is twice shown flights opened absent = absurd (let e = twice in cc)
 once_room_shown h s x p qos.AtLeastOnce is twice shown flights opened absent = absurd (let e = twice in cc)
 once_room_shown h s x p qos.WithoutSession is twice shown flights opened absent = absurd (let e = twice in cc)

@@ -122,7 +122,7 @@ replace_kept h s policy x shown = record {
 
 end_spelled : (h : List Row) (a : Around) (policy : Policy) (dropped : List Release) (id text : List ℕ)
     (z : Client) (notes : List Decision) (o : Outcome) (more : List Out) → z.id ≡ id
-    → drop_note dropped id text ≡ untold_note h (stays_under policy) id text
+    → drop_note dropped id text ≡ untold_note policy.limits h (stays_under policy) id text
     → ((y : Client) → y.id ≡ id → spell a dropped y notes ≡ more)
     → spell a dropped z (end_of id text o ++ notes) ≡ end_by h policy id text o ++ more
 end_spelled h a policy dropped id text z notes Allowed more same noted rest = rest z same
@@ -130,12 +130,12 @@ end_spelled h a policy dropped id text z notes (Denied rule) more same noted res
     ap (λ outs. Note (note.End id text (Denied rule)) ∷ outs)
     (ap (λ first. first ++ spell a dropped (without text z) notes)
     (ap (λ i. drop_note dropped i text) same ∙ noted)
-    ∙ ap (λ last. untold_note h (stays_under policy) id text ++ last) (rest (without text z) same))
+    ∙ ap (λ last. untold_note policy.limits h (stays_under policy) id text ++ last) (rest (without text z) same))
 
 ends_spelled : (h : List Row) (a : Around) (policy : Policy) (dropped : List Release) (id : List ℕ)
     (held : List Held) (z : Client)
     → z.id ≡ id
-    → ((text : List ℕ) → drop_note dropped id text ≡ untold_note h (stays_under policy) id text)
+    → ((text : List ℕ) → drop_note dropped id text ≡ untold_note policy.limits h (stays_under policy) id text)
     → spell a dropped z (ends_under policy id held)
     ≡ flat_map (λ text. end_by h policy id text (judged (cover_rules policy id text))) (texts_of held)
 ends_spelled h a policy dropped id [] z same noted = refl

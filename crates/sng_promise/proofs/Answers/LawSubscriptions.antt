@@ -42,6 +42,7 @@ use Rattle.sng_history.specs.Answers.{flags_of, id_given}
 use Rattle.sng_history.specs.Whole.{spell, drained_outs, replied, granted_to, stranger_to, drops, frame_row}
 use Rattle.sng_history.specs.Steps.{notes_for}
 use Rattle.sng_laws.specs.Views.{last_policy}
+use Rattle.sng_laws.specs.Views.{last_limits}
 use Rattle.sng_laws.specs.ViewsHanding.{names_known}
 use Rattle.sng_laws.specs.ViewsClients.{phase_of, tells_id, names_told, is_among, those_at}
 use Rattle.sng_laws.specs.ViewsStanding.{standing_of}
@@ -56,7 +57,6 @@ use Rattle.sng_laws.specs.LawsSubscriptions.{subscribe_rules, qos_granted, id_gr
 use Rattle.sng_laws.specs.LawsSubscriptions.{subscribe_stranger, subscribe_answer}
 use Rattle.sng_history.proofs.Asks.{of_subscribe}
 use Rattle.sng_history.proofs.Places.{here_is}
-use Rattle.sng_outbox.specs.declared.limits.TheConstants.{MAX_OUTBOX_ITEMS}
 use Rattle.sng_promise.proofs.Clients.SeenClients.{heard_if}
 use Rattle.sng_promise.proofs.Names.Marked.{marked, id_marked, full_marked}
 use Rattle.sng_promise.proofs.Names.SeenIds.{gets_same}
@@ -99,9 +99,10 @@ room_judged h s x r text shown is =
     ≡ (not (stands held text) && not (nat_lt (length held) MAX_SUBSCRIPTIONS)) =
     ap (λ all. is_full all text) is.filters
     ∙ ap (λ b. not (stands held text) && b) (most_by (length held) MAX_SUBSCRIPTIONS) in
+    let limits : s.policy.limits ≡ last_limits h = ap (λ (policy : Policy). policy.limits) shown.policy in
     room_by s.up (gets_id r.flags.id_type text && is_full_for text x.ids) (is_full x.filters text)
-    (nat_lt (length s.link.waiting) MAX_OUTBOX_ITEMS)
-    ∙ rw (full, crowded, shown.up, shown.waits) refl
+    (nat_lt (length s.link.waiting) s.policy.limits.waiting)
+    ∙ rw (full, crowded, shown.up, shown.waits, limits) refl
 
 -- a client that may ask
 named_judged : (h : List Row) (s : State) (x : Client) (r : TopicRequest) (named : Result (List ℕ) Denial)

@@ -52,6 +52,7 @@ use Rattle.sng_promise.proofs.Answers.LawPings.{active_same}
 use Rattle.sng_promise.proofs.Answers.LawForms.{read_as, verdict_as, read}
 use Rattle.sng_promise.proofs.Answers.LawReplaced.{and_true}
 use Rattle.sng_history.proofs.OneEnds.{without_stands}
+use Rattle.sng_laws.specs.LawsEnds.{untold_note}
 
 -- ---- an UNSUBSCRIBE
 
@@ -135,7 +136,9 @@ unsubscribe_named_so h s from r x (Ok text) shown active is =
     rw (unsubscribe_asks s.policy x r (Ok text) active is)
     (ap (λ outs. Note (note.Unsubscribe (who.Client x.id) (Some text) Allowed) ∷ outs)
     (append-nil (noted ++ ack ∷ [])
-    ∙ ap (λ outs. outs ++ ack ∷ []) (drop_shown h s c (stays_without h from text) x.id text shown each)))
+    ∙ ap (λ outs. outs ++ ack ∷ [])
+    (drop_shown h s c (stays_without h from text) x.id text shown each
+    ∙ ap (λ (p : Policy). untold_note p.limits h (stays_without h from text) x.id text) shown.policy)))
 unsubscribe_named_so h s from r x (Err rule) shown active is =
     rw (unsubscribe_asks s.policy x r (Err rule) active is) refl
 

@@ -48,6 +48,7 @@ use Rattle.sng_laws.specs.ViewsClients.{phase_of, is_admitted, is_among, accepte
 use Rattle.sng_laws.specs.ViewsClients.{is_awaiting}
 use Rattle.sng_history.specs.Links.{Link, packet_id_by, exited, resumed, filters_wanted, subscribe_left}
 use Rattle.sng_history.specs.Links.{unsubscribe_left}
+use Rattle.sng_history.specs.Links.{outgoing}
 use Rattle.sng_history.specs.Exits.{exits_of, forwarded, subscribe_leaves, unsubscribe_leaves, subscribing}
 use Rattle.sng_history.specs.Exits.{leaving, agains_of, sent_again}
 use Rattle.sng_history.specs.Exits.{resending}
@@ -175,7 +176,7 @@ leaving_admits id policy link (item.Acknowledge packet_id ∷ items) = leaving_a
 leaving_admits id policy link (item.Ping ∷ items) = leaving_admits id policy link items
 
 take_admits : (s : State) (id : List ℕ) (b : Bool) → s.up ≡ b → is_admitted id (outs_of s Take) ≡ false
-take_admits s id true is = rw is (leaving_admits id s.policy s.link s.link.waiting)
+take_admits s id true is = rw is (leaving_admits id s.policy s.link (outgoing s.link))
 take_admits s id false is = rw is refl
 
 wires_alone : (id : List ℕ) (xs : List Out) → Wires xs → is_admitted id xs ≡ false
@@ -206,10 +207,10 @@ dropped_admits id true (Some packet_id) = refl
 dropped_admits id false (Some packet_id) = refl
 
 packet_admits : (s : State) (id : List ℕ) (brought : Answer)
-    → is_admitted id (answer_outs s.up s.link brought) ≡ false
+    → is_admitted id (answer_outs s.policy.limits s.up s.link brought) ≡ false
 packet_admits s id (Delivers p) =
-    misnamed_admits id p.name (dropped (has_place s.link) (owed s.up p)) (is_name p.name) refl
-    (dropped_admits id (has_place s.link) (owed s.up p))
+    misnamed_admits id p.name (dropped (has_place s.policy.limits s.link) (owed s.up p)) (is_name p.name) refl
+    (dropped_admits id (has_place s.policy.limits s.link) (owed s.up p))
 packet_admits s id (Acknowledges packet_id) = refl
 packet_admits s id (Grants packet_id) = refl
 packet_admits s id (Refuses packet_id) = refl
@@ -237,7 +238,8 @@ row_admits s (Datagram from datagram) ids id unknown none =
     datagram_admits s from (frame_of datagram) ids id unknown none
 row_admits s (Broker packet) ids id unknown none =
     let c = ByPacket packet in
-    admitted_append id (client_rows s c [] (notes_for s c)) (answer_outs s.up s.link (answer_of packet))
+    admitted_append id (client_rows s c [] (notes_for s c))
+    (answer_outs s.policy.limits s.up s.link (answer_of packet))
     (admitted_rows s c [] id (λ x. packet_note s packet x id)) (packet_admits s id (answer_of packet))
 row_admits s Up ids id unknown none =
     let anew = subscribing (resumed s.link s.clock (exits_for s ByUp)) (filters_wanted s.link) in
@@ -253,10 +255,10 @@ row_admits s (Replace policy) ids id unknown none =
 row_admits s (Tick clock) ids id unknown none =
     let c = ByTick clock in
     let now = later s.clock clock in
-    let link = with_wills s.link now s.clients in
-    admitted_append id (client_rows s c [] (notes_for s c)) (ping_dropped s.up link now)
+    let link = with_wills s.policy.limits s.link now s.clients in
+    admitted_append id (client_rows s c [] (notes_for s c)) (ping_dropped s.policy.limits s.up link now)
     (admitted_rows s c [] id (λ x. tick_note s now x id))
-    (dropped_ping id (is_ping_due s.up link now) (has_place link))
+    (dropped_ping id (is_ping_due s.up link now) (has_place s.policy.limits link))
 
 -- ---- all rows
 

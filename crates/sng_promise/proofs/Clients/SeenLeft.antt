@@ -2,6 +2,7 @@
 use Rattle.std.proofs.Common.{ℕ, Bool, true, false, List, [], ◌∷◌, ◌++◌, refl, sym, if◌then◌else◌}
 use Rattle.std.proofs.Common.{subst}
 use Rattle.std.specs.Prelude.{Option, Some, None}
+use Rattle.sng_grants.specs.Limits.{Limits}
 use Rattle.sng_grants.specs.declared.policy.Policy.{Policy}
 use Rattle.sng_book.specs.declared.address.Address.{Address}
 use Rattle.sng_book.specs.declared.decision.Decision.{Decision}
@@ -58,10 +59,10 @@ unplaced_unseen : (a : Around) (id : List ℕ) (p : Publication) (o : Outcome)
 unplaced_unseen a id p Allowed = tt
 unplaced_unseen a id p (Denied rule) = (will_unseen a (who.Client id) (Some p.name) rule, tt)
 
-dropped_unseen : (a : Around) (link : Link) (id : List ℕ) (ps : List Publication)
-    → Every (Unseen a) (will_dropped link id ps)
-dropped_unseen a link id [] = tt
-dropped_unseen a link id (p ∷ ps) = unplaced_unseen a id p (room_in link p.qos)
+dropped_unseen : (limits : Limits) (a : Around) (link : Link) (id : List ℕ) (ps : List Publication)
+    → Every (Unseen a) (will_dropped limits link id ps)
+dropped_unseen limits a link id [] = tt
+dropped_unseen limits a link id (p ∷ ps) = unplaced_unseen a id p (room_in limits link p.qos)
 
 -- what is open is sent again
 alike_repeated : (clock : ℕ) (o : Outcome) (x : Client) → Alike x (repeated clock o x)
@@ -81,19 +82,20 @@ tick_shows a policy link clock now xs x m = by_overdue (is_lost_at clock x)
   where
     by_overdue : (b : Bool)
         → let n =
-        if b then lost_notes (all_placed link (testaments clock (before x.id xs))) x
+        if b then lost_notes policy.limits (all_placed policy.limits link (testaments clock (before x.id xs))) x
         else again_notes policy clock x in
         Shows x.id (kept_of x m None None now false) n (notes_by a n x)
     by_overdue true =
         let gone = all_gone x.id x.buffer.waiting in
-        let left = all_placed link (testaments clock (before x.id xs)) in
-        let dropped = will_dropped left x.id (will_of x.id x.wills.will) in
+        let limits = policy.limits in
+        let left = all_placed limits link (testaments clock (before x.id xs)) in
+        let dropped = will_dropped limits left x.id (will_of x.id x.wills.will) in
         shows_more x.id (kept_of x m None None now false) a (note.Lost x.id) (gone ++ dropped) (lost x)
         (rw (same_self x.id) (refl, refl, refl, refl))
         (ends_each x.id a (gone ++ dropped) (lost x)
         (every_append (Unseen a) gone dropped
         (every_gone (Unseen a) x.id x.buffer.waiting (unseen_messages a x.id))
-        (dropped_unseen a left x.id (will_of x.id x.wills.will))))
+        (dropped_unseen limits a left x.id (will_of x.id x.wills.will))))
     by_overdue false =
         let again = again_notes policy clock x in
         ends_show x m a now again (ends_each x.id a again x

@@ -129,7 +129,7 @@ shown_row by h s e good shown =
           (λ x is. is.filters) shown.clients)
           (each_map (ClientShown h) (λ x. x.wills.will ≡ will_of x.id h) s.clients
           (λ x is. is.will) shown.clients)
-          (each_left (λ x. notes_of x.id outs ≡ fixed_for s c x) s.clients (newcomers_for s c) own);
+          (each_left (λ x. notes_of x.id outs ≡ fixed_for s c x) s.clients (newcomers_for s c) own) moved.policy;
       pinged = pinged_row h s e connected;
       order = order_row s e h shown.order;
       clients = each_map (Seen rows) (ClientShown rows) after (λ x is. is.shown) seen;

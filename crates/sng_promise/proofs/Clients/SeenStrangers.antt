@@ -140,11 +140,11 @@ row_idle s (ByBroken from rule) id unknown none =
 row_idle s (ByPacket p) id unknown none =
     let c = ByPacket p in
     let own = flat_map (part_for s c []) s.clients in
-    let rest = answer_outs s.up s.link (answer_of p) in
+    let rest = answer_outs s.policy.limits s.up s.link (answer_of p) in
     none_idle id (notes_of id (own ++ rest))
     (notes_append id own rest
     ∙ (ap (λ notes. notes ++ notes_of id rest) (parts_none s c [] id unknown)
-    ∙ (mute_packet s.up s.link (answer_of p)).notes id))
+    ∙ (mute_packet s.policy.limits s.up s.link (answer_of p)).notes id))
 row_idle s ByUp id unknown none = none_idle id (notes_of id (outs_by s ByUp)) (up_none s id)
 row_idle s ByDown id unknown none = none_idle id [] refl
 row_idle s ByTake id unknown none = none_idle id (notes_of id (outs_by s ByTake)) (take_none s id s.up refl)
@@ -155,11 +155,11 @@ row_idle s (ByTick clock) id unknown none =
     let c = ByTick clock in
     let own = flat_map (part_for s c []) s.clients in
     let now = later s.clock clock in
-    let link = with_wills s.link now s.clients in
-    none_idle id (notes_of id (own ++ ping_dropped s.up link now))
-    (notes_append id own (ping_dropped s.up link now)
-    ∙ (ap (λ notes. notes ++ notes_of id (ping_dropped s.up link now)) (parts_none s c [] id unknown)
-    ∙ (mute_ping s.up link now).notes id))
+    let link = with_wills s.policy.limits s.link now s.clients in
+    none_idle id (notes_of id (own ++ ping_dropped s.policy.limits s.up link now))
+    (notes_append id own (ping_dropped s.policy.limits s.up link now)
+    ∙ (ap (λ notes. notes ++ notes_of id (ping_dropped s.policy.limits s.up link now)) (parts_none s c [] id unknown)
+    ∙ (mute_ping s.policy.limits s.up link now).notes id))
 
 -- ---- what the rows show of it
 

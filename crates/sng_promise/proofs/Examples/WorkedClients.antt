@@ -105,7 +105,7 @@ hello id = record {
 pub cause_s1 : (from : Address) → cause_of (Datagram from connect_s1) ≡ ByConnect from (hello s1)
 cause_s1 from = rw (s1_utf8, s1_chars) refl
 
-cause_s2 : (from : Address) → cause_of (Datagram from connect_s2) ≡ ByConnect from (hello s2)
+pub cause_s2 : (from : Address) → cause_of (Datagram from connect_s2) ≡ ByConnect from (hello s2)
 cause_s2 from = rw (s2_utf8, s2_chars) refl
 
 abbrev one_in : State
@@ -127,7 +127,7 @@ two_is =
     ap (λ s. after s (cause_of (Datagram away connect_s2)) (lets_in s2 ∷ welcome away ∷ [])) one_is
     ∙ ap (λ c. after one_in c (lets_in s2 ∷ welcome away ∷ [])) (cause_s2 away)
 
-came : (s t : State) (e : Event) (c : Cause) (outs : List Out) → s ≡ t → cause_of e ≡ c → LawfulBy t c outs
+pub came : (s t : State) (e : Event) (c : Cause) (outs : List Out) → s ≡ t → cause_of e ≡ c → LawfulBy t c outs
     → LawfulRow s e outs
 came s t e c outs state cause l =
     subst (λ t. LawfulBy t (cause_of e) outs) (sym state) (subst (λ c. LawfulBy t c outs) (sym cause) l)

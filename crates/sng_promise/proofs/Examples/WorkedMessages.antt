@@ -36,7 +36,7 @@ under_utf8 = is_utf8-from_IsUtf8 (97 ∷ 47 ∷ 35 ∷ []) (IsUtf8-from_ascii (9
 
 -- `s1` is at home; it was told these ids, and these filters stand for it, of which the broker is to be told
 abbrev wanted_for : List ℕ → Wanted
-wanted_for text = record { filter = text; open_id = None }
+wanted_for text = record { filter = text; open_id = None; owed = false }
 
 abbrev held_for : List ℕ → Held
 held_for text = record { filter = text; qos = AtLeastOnce }

@@ -6,6 +6,7 @@ use Rattle.std.specs.Prelude.{◌&&◌, not, drop, Option, Some, None}
 use Rattle.std.specs.List.{flat_map}
 use Rattle.std.specs.declared.result.Result.{Result}
 use Rattle.std.specs.Str.{bytes_eq}
+use Rattle.sng_grants.specs.Limits.{Limits}
 use Rattle.sng_text.specs.Texts.{is_name}
 use Rattle.sng_policy.specs.Grants.{lists_source}
 use Rattle.sng_states.specs.States.{has_session}
@@ -283,15 +284,15 @@ delivered_tells : (told : Names) (named place : Bool) (packet_id : Option ℕ)
 delivered_tells told true place packet_id = dropped_tells told place packet_id
 delivered_tells told false place packet_id = (tt, dropped_tells told place packet_id)
 
-answer_tells : (told : Names) (up : Bool) (link : Link) (answer : Answer)
-    → AllTell told (answer_outs up link answer)
-answer_tells told up link (Delivers p) =
-    delivered_tells told (is_name p.name) (has_place link) (owed up p)
-answer_tells told up link (Acknowledges packet_id) = tt
-answer_tells told up link (Grants packet_id) = tt
-answer_tells told up link (Refuses packet_id) = tt
-answer_tells told up link Confirms = tt
-answer_tells told up link Strange = (tt, tt)
+answer_tells : (limits : Limits) (told : Names) (up : Bool) (link : Link) (answer : Answer)
+    → AllTell told (answer_outs limits up link answer)
+answer_tells limits told up link (Delivers p) =
+    delivered_tells told (is_name p.name) (has_place limits link) (owed up p)
+answer_tells limits told up link (Acknowledges packet_id) = tt
+answer_tells limits told up link (Grants packet_id) = tt
+answer_tells limits told up link (Refuses packet_id) = tt
+answer_tells limits told up link Confirms = tt
+answer_tells limits told up link Strange = (tt, tt)
 
 ping_tells : (told : Names) (due place : Bool)
     → (let noted : List Out = if due then (if place then [] else Note note.Outbox ∷ []) else [] in
@@ -355,8 +356,8 @@ row_tells told s (ByBroken from rule) each =
 row_tells told s (ByPacket p) each =
     let c = ByPacket p in
     tell_both told (flat_map (λ x. part (around s c) [] (fixed_for s c x) x) s.clients)
-    (answer_outs s.up s.link (answer_of p)) (rows_tell told s c [] (λ x. refl) each)
-    (answer_tells told s.up s.link (answer_of p))
+    (answer_outs s.policy.limits s.up s.link (answer_of p)) (rows_tell told s c [] (λ x. refl) each)
+    (answer_tells s.policy.limits told s.up s.link (answer_of p))
 row_tells told s ByUp each = exits_tell told (outs_by s ByUp) (row_exits s event.Up refl)
 row_tells told s ByDown each = tt
 row_tells told s ByTake each = exits_tell told (outs_by s ByTake) (row_exits s event.Take refl)
@@ -365,10 +366,10 @@ row_tells told s (ByReplace policy) each =
 row_tells told s (ByTick clock) each =
     let c = ByTick clock in
     let now = later s.clock clock in
-    let link = with_wills s.link now s.clients in
+    let link = with_wills s.policy.limits s.link now s.clients in
     tell_both told (flat_map (λ x. part (around s c) [] (fixed_for s c x) x) s.clients)
-    (ping_dropped s.up link now) (rows_tell told s c [] (λ x. refl) each)
-    (ping_tells told (is_ping_due s.up link now) (has_place link))
+    (ping_dropped s.policy.limits s.up link now) (rows_tell told s c [] (λ x. refl) each)
+    (ping_tells told (is_ping_due s.up link now) (has_place s.policy.limits link))
 
 -- ---- the law
 

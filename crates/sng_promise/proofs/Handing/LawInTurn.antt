@@ -166,11 +166,11 @@ row_calm s (ByBroken from rule) id unknown =
 row_calm s (ByPacket p) id unknown =
     let c = ByPacket p in
     let own = flat_map (part_for s c []) s.clients in
-    let rest = answer_outs s.up s.link (answer_of p) in
+    let rest = answer_outs s.policy.limits s.up s.link (answer_of p) in
     none_calm id (own ++ rest)
     (notes_append id own rest
     ∙ (ap (λ notes. notes ++ notes_of id rest) (parts_none s c [] id unknown)
-    ∙ (mute_packet s.up s.link (answer_of p)).notes id))
+    ∙ (mute_packet s.policy.limits s.up s.link (answer_of p)).notes id))
 row_calm s ByUp id unknown = none_calm id (outs_by s ByUp) (up_none s id)
 row_calm s ByDown id unknown = none_calm id [] refl
 row_calm s ByTake id unknown = none_calm id (outs_by s ByTake) (take_none s id s.up refl)
@@ -180,12 +180,12 @@ row_calm s (ByTick clock) id unknown =
     let c = ByTick clock in
     let own = flat_map (part_for s c []) s.clients in
     let now = later s.clock clock in
-    let link = with_wills s.link now s.clients in
-    let rest = ping_dropped s.up link now in
+    let link = with_wills s.policy.limits s.link now s.clients in
+    let rest = ping_dropped s.policy.limits s.up link now in
     none_calm id (own ++ rest)
     (notes_append id own rest
     ∙ (ap (λ notes. notes ++ notes_of id rest) (parts_none s c [] id unknown)
-    ∙ (mute_ping s.up link now).notes id))
+    ∙ (mute_ping s.policy.limits s.up link now).notes id))
 
 -- ---- the law
 

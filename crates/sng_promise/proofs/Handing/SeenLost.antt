@@ -3,6 +3,7 @@
 use Rattle.std.proofs.Common.{◌≡◌, ℕ, Bool, true, false, List, [], ◌∷◌, ◌++◌, refl, ap, sym, ◌∙◌, subst}
 use Rattle.std.proofs.Common.{if◌then◌else◌}
 use Rattle.std.specs.Prelude.{Option, Some, None, slice_get, ◌||◌, ◌&&◌}
+use Rattle.sng_grants.specs.Limits.{Limits}
 use Rattle.sng_states.specs.States.{takes_messages}
 use Rattle.sng_queue.specs.declared.exchange.Exchange.{Exchange}
 use Rattle.sng_queue.specs.declared.exchange.Exchange.TheVariants.{Announcing, Acknowledging}
@@ -65,25 +66,28 @@ unplaced_moved a id due p (Denied rule) v x shown =
     quiet_shown a id due (note.Will (who.Client id) (Some p.name) (Denied rule)) v x
     (quiet_will a id id due (Some p.name) rule) shown
 
-dropped_moved : (a : Around) (id : List ℕ) (due : List Message) (link : Link) (ps : List Publication)
+dropped_moved : (limits : Limits) (a : Around) (id : List ℕ) (due : List Message) (link : Link)
+    (ps : List Publication)
     (v : View) (x : Client)
     → Shown due v x
-    → Moved a id due (will_dropped link id ps) v x
-dropped_moved a id due link [] v x shown = shown
-dropped_moved a id due link (p ∷ ps) v x shown = unplaced_moved a id due p (room_in link p.qos) v x shown
+    → Moved a id due (will_dropped limits link id ps) v x
+dropped_moved limits a id due link [] v x shown = shown
+dropped_moved limits a id due link (p ∷ ps) v x shown =
+    unplaced_moved a id due p (room_in limits link p.qos) v x shown
 
-lost_moved : (a : Around) (id : List ℕ) (due : List Message) (link : Link) (ps : List Publication) (v : View)
+lost_moved : (limits : Limits) (a : Around) (id : List ℕ) (due : List Message) (link : Link)
+    (ps : List Publication) (v : View)
     (x : Client) → Shown due v x
-    → Moved a id due (note.Lost id ∷ (all_gone id x.buffer.waiting ++ will_dropped link id ps)) v x
-lost_moved a id due link ps v x shown =
-    let notes = all_gone id x.buffer.waiting ++ will_dropped link id ps in (
+    → Moved a id due (note.Lost id ∷ (all_gone id x.buffer.waiting ++ will_dropped limits link id ps)) v x
+lost_moved limits a id due link ps v x shown =
+    let notes = all_gone id x.buffer.waiting ++ will_dropped limits link id ps in (
       record { phase = λ m fits. rw (same_self id) refl; turn = tt },
       subst (λ w. Moved a id due notes w (lost x)) (sym (view_lost a id due v))
-          (moved_more a id due (all_gone id x.buffer.waiting) (will_dropped link id ps) (closed_view v)
+          (moved_more a id due (all_gone id x.buffer.waiting) (will_dropped limits link id ps) (closed_view v)
           (lost x)
           (gone_moved a id due x.buffer.waiting (closed_view v)
           (lost x) refl refl shown.settling shown.telling shown.given)
-          (λ w y is. dropped_moved a id due link ps w y is)),
+          (λ w y is. dropped_moved limits a id due link ps w y is)),
     )
 
 -- ---- what is open is sent again
@@ -227,9 +231,9 @@ tick_moved a due link clock xs v x ticks shown = by_overdue (is_lost_at clock x)
   where
     by_overdue : (b : Bool)
         → Moved a x.id due
-        (if b then lost_notes (all_placed link (testaments clock (before x.id xs))) x
+        (if b then lost_notes a.policy.limits (all_placed a.policy.limits link (testaments clock (before x.id xs))) x
         else again_notes a.policy clock x) v x
     by_overdue true =
-        lost_moved a x.id due (all_placed link (testaments clock (before x.id xs)))
+        lost_moved a.policy.limits a x.id due (all_placed a.policy.limits link (testaments clock (before x.id xs)))
         (will_of x.id x.wills.will) v x shown
     by_overdue false = again_moved a due clock v x ticks shown

@@ -162,7 +162,7 @@ note_fixed P s (ByBroken from rule) fixes =
 note_fixed P s (ByPacket p) fixes =
     let c = ByPacket p in
     note_both P (flat_map (λ x. part (around s c) [] (fixed_for s c x) x) s.clients)
-    (answer_outs s.up s.link (answer_of p))
+    (answer_outs s.policy.limits s.up s.link (answer_of p))
     (note_rows P s c [] fixes.dropped fixes.own) fixes.nobody
 note_fixed P s ByUp fixes = fixes.nobody
 note_fixed P s ByDown fixes = tt
@@ -172,11 +172,11 @@ note_fixed P s (ByReplace policy) fixes =
     (drops s (ByReplace policy) (notes_for s (ByReplace policy))) fixes.dropped fixes.own
 note_fixed P s (ByTick clock) fixes =
     let c = ByTick clock in
-    let link = with_wills s.link (later s.clock clock) s.clients in
-    let last = ping_dropped s.up link (later s.clock clock) in
+    let link = with_wills s.policy.limits s.link (later s.clock clock) s.clients in
+    let last = ping_dropped s.policy.limits s.up link (later s.clock clock) in
     note_both P (flat_map (λ x. part (around s c) [] (fixed_for s c x) x) s.clients) last
     (note_rows P s c [] fixes.dropped fixes.own)
-    (note_ping P (is_ping_due s.up link (later s.clock clock)) (has_place link) fixes.dropped)
+    (note_ping P (is_ping_due s.up link (later s.clock clock)) (has_place s.policy.limits link) fixes.dropped)
 
 -- ---- where it holds of each note of nobody
 
@@ -189,7 +189,8 @@ nobody_each P s (BySource from p) is =
 nobody_each P s (ByBroken from rule) is =
     (is.foreign (note.Frame (who.Address from) (Denied rule)) (λ id. refl), tt)
 nobody_each P s (ByPacket p) is =
-    note_foreign P (answer_outs s.up s.link (answer_of p)) is (mute_packet s.up s.link (answer_of p)).notes
+    note_foreign P (answer_outs s.policy.limits s.up s.link (answer_of p)) is
+    (mute_packet s.policy.limits s.up s.link (answer_of p)).notes
 nobody_each P s ByUp is = note_foreign P (outs_by s ByUp) is (up_none s)
 nobody_each P s ByDown is = tt
 nobody_each P s ByTake is = note_foreign P (outs_by s ByTake) is (λ id. take_none s id s.up refl)

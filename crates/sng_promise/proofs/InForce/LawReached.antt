@@ -3,6 +3,7 @@ use Rattle.std.proofs.Common.{◌≡◌, ℕ, Bool, true, false, List, [], ◌�
 use Rattle.std.specs.Prelude.{◌&&◌, not, drop, Option, Some, None}
 use Rattle.std.specs.List.{flat_map}
 use Rattle.std.specs.Str.{bytes_eq}
+use Rattle.sng_grants.specs.Limits.{Limits}
 use Rattle.sng_text.specs.Texts.{is_name}
 use Rattle.sng_states.specs.States.{has_session}
 use Rattle.sng_frames.specs.declared.messages.connect.Connect.{Connect}
@@ -136,13 +137,14 @@ delivered_reach : (named place : Bool) (packet_id : Option ℕ)
 delivered_reach true place packet_id = dropped_reach place packet_id
 delivered_reach false place packet_id = dropped_reach place packet_id
 
-answer_reach : (up : Bool) (link : Link) (answer : Answer) → Reaches false (answer_outs up link answer)
-answer_reach up link (Delivers p) = delivered_reach (is_name p.name) (has_place link) (owed up p)
-answer_reach up link (Acknowledges packet_id) = tt
-answer_reach up link (Grants packet_id) = tt
-answer_reach up link (Refuses packet_id) = tt
-answer_reach up link Confirms = tt
-answer_reach up link Strange = tt
+answer_reach : (limits : Limits) (up : Bool) (link : Link) (answer : Answer)
+    → Reaches false (answer_outs limits up link answer)
+answer_reach limits up link (Delivers p) = delivered_reach (is_name p.name) (has_place limits link) (owed up p)
+answer_reach limits up link (Acknowledges packet_id) = tt
+answer_reach limits up link (Grants packet_id) = tt
+answer_reach limits up link (Refuses packet_id) = tt
+answer_reach limits up link Confirms = tt
+answer_reach limits up link Strange = tt
 
 ping_reach : (due place : Bool)
     → (let noted : List Out = if due then (if place then [] else Note note.Outbox ∷ []) else [] in
@@ -172,9 +174,9 @@ row_reach s (ByBroken from rule) =
     frame_reach s c (Note (note.Frame (who.Address from) (Denied rule)) ∷ []) (notes_for s c) tt
 row_reach s (ByPacket p) =
     let c = ByPacket p in
-    reach_both false (client_rows s c [] (notes_for s c)) (answer_outs s.up s.link (answer_of p))
+    reach_both false (client_rows s c [] (notes_for s c)) (answer_outs s.policy.limits s.up s.link (answer_of p))
     (rows_reach s c [] (notes_for s c))
-    (answer_reach s.up s.link (answer_of p))
+    (answer_reach s.policy.limits s.up s.link (answer_of p))
 row_reach s ByUp = exits_reach false (outs_by s ByUp) (row_exits s event.Up refl)
 row_reach s ByDown = tt
 row_reach s ByTake = exits_reach false (outs_by s ByTake) (row_exits s event.Take refl)
@@ -182,10 +184,11 @@ row_reach s (ByReplace policy) =
     let c = ByReplace policy in rows_reach s c (drops s c (notes_for s c)) (notes_for s c)
 row_reach s (ByTick clock) =
     let c = ByTick clock in
-    let link = with_wills s.link (later s.clock clock) s.clients in
-    reach_both false (client_rows s c [] (notes_for s c)) (ping_dropped s.up link (later s.clock clock))
+    let link = with_wills s.policy.limits s.link (later s.clock clock) s.clients in
+    reach_both false (client_rows s c [] (notes_for s c))
+    (ping_dropped s.policy.limits s.up link (later s.clock clock))
     (rows_reach s c [] (notes_for s c))
-    (ping_reach (is_ping_due s.up link (later s.clock clock)) (has_place link))
+    (ping_reach (is_ping_due s.up link (later s.clock clock)) (has_place s.policy.limits link))
 
 -- ---- the law
 

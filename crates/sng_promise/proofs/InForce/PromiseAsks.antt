@@ -206,7 +206,7 @@ read_subscribe : (s : State) (x : Client) (r : TopicRequest) (named : Result (Li
 read_subscribe s x r (Ok text) is form =
     covers_first s.policy x.id text (coverage s.policy x.id text) s.up
     (gets_id r.flags.id_type text && is_full_for text x.ids)
-    (is_full x.filters text) (has_place s.link)
+    (is_full x.filters text) (has_place s.policy.limits s.link)
     (covers s.policy x.id text (named_filter s.policy r.flags.id_type r.topic text is))
 read_subscribe s x r (Err rule) is form = inl form
 

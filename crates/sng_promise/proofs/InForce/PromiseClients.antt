@@ -2,6 +2,7 @@
 use Rattle.std.proofs.Common.{◌≡◌, inl, ℕ, Bool, true, false, List, [], ◌∷◌, ◌++◌, refl, if◌then◌else◌}
 use Rattle.std.specs.Prelude.{Option, Some, None, not}
 use Rattle.std.specs.Str.{bytes_eq}
+use Rattle.sng_grants.specs.Limits.{Limits}
 use Rattle.sng_states.specs.States.{is_due_messages}
 use Rattle.sng_grants.specs.declared.policy.Policy.{Policy}
 use Rattle.sng_fan.specs.declared.held.Held.{Held}
@@ -203,20 +204,21 @@ every_refused policy x (Some text) =
 
 -- ---- a tick
 
-every_lost : (policy : Policy) (link : Link) (x : Client) → Every (Stands policy) (lost_notes link x)
-every_lost policy link x = (
+every_lost : (limits : Limits) (policy : Policy) (link : Link) (x : Client)
+    → Every (Stands policy) (lost_notes limits link x)
+every_lost limits policy link x = (
   tt,
   every_append (Stands policy) (all_gone x.id x.buffer.waiting)
-      (will_dropped link x.id (will_of x.id x.wills.will))
-      (every_gone policy x.id x.buffer.waiting) (every_will policy link x.id (will_of x.id x.wills.will)),
+      (will_dropped limits link x.id (will_of x.id x.wills.will))
+      (every_gone policy x.id x.buffer.waiting) (every_will limits policy link x.id (will_of x.id x.wills.will)),
 )
 
 every_tick : (s : State) (clock : ℕ) (x : Client) → Every (Stands s.policy) (fixed_for s (ByTick clock) x)
 every_tick s clock x =
     let now = later s.clock clock in
-    let link = all_placed s.link (testaments now (before x.id s.clients)) in
-    every_either s.policy (is_lost_at now x) (lost_notes link x) (again_notes s.policy now x)
-    (every_lost s.policy link x)
+    let link = all_placed s.policy.limits s.link (testaments now (before x.id s.clients)) in
+    every_either s.policy (is_lost_at now x) (lost_notes s.policy.limits link x) (again_notes s.policy now x)
+    (every_lost s.policy.limits s.policy link x)
     (every_again s.policy now x)
 
 -- ---- whatever the cause

@@ -12,7 +12,6 @@ use Rattle.sng_book.specs.declared.outcome.FormDenial.TheVariants.{NotSupported}
 use Rattle.sng_book.specs.declared.outcome.GrantDenial.TheVariants.{NoScope}
 use Rattle.sng_book.specs.declared.outcome.RoomDenial.TheVariants.{Full}
 use Rattle.sng_book.specs.declared.outcome.Outcome.TheVariants.{Allowed, Denied}
-use Rattle.sng_history.specs.declared.limits.TheConstants.{MAX_CLIENTS}
 use Rattle.sng_history.specs.Clients.{Client}
 use Rattle.sng_history.specs.State.{State, is_known}
 use Rattle.sng_history.specs.Verdicts.{and_then, entry}
@@ -35,7 +34,7 @@ pub entry_stands : (s : State) (connect : Connect)
 entry_stands s connect =
     let id = connect.client_id in
     may_connect s.policy id (connect.protocol_id == 1) (lists s.policy id)
-    (is_known id s.clients || nat_lt (length s.clients) MAX_CLIENTS) refl
+    (is_known id s.clients || nat_lt (length s.clients) s.policy.limits.clients) refl
 
 pub connect_stands : (s : State) (connect : Connect) (x : Client) → bytes_eq connect.client_id x.id ≡ true
     → Stands s.policy (note.Connect x.id (entry s connect))

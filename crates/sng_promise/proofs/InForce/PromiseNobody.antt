@@ -2,6 +2,7 @@
 -- source, of a stranger, and of the broker.
 use Rattle.std.proofs.Common.{◌≡◌, inl, ℕ, Bool, true, false, List, [], ◌∷◌, ◌++◌, refl, if◌then◌else◌}
 use Rattle.std.specs.Prelude.{Option, Some, None}
+use Rattle.sng_grants.specs.Limits.{Limits}
 use Rattle.sng_text.specs.Texts.{is_name}
 use Rattle.sng_grants.specs.declared.policy.Policy.{Policy}
 use Rattle.sng_outbox.specs.declared.in_flight.InFlight.{InFlight}
@@ -28,6 +29,7 @@ use Rattle.sng_history.specs.Causes.{ToPublishOnce, ToRelease}
 use Rattle.sng_history.specs.Links.{Link, wants, packet_id_by, exited, resumed, filters_wanted}
 use Rattle.sng_history.specs.Links.{next_packet_id, subscribe_sent}
 use Rattle.sng_history.specs.Links.{subscribe_left, unsubscribe_left}
+use Rattle.sng_history.specs.Links.{may_open, outgoing}
 use Rattle.sng_history.specs.Packets.{Answer, Delivers, Acknowledges, Grants, Refuses, Confirms, Strange}
 use Rattle.sng_history.specs.Packets.{answer_of, answer_outs}
 use Rattle.sng_history.specs.Packets.{dropped, owed, has_place}
@@ -36,6 +38,7 @@ use Rattle.sng_history.specs.Verdicts.{exit}
 use Rattle.sng_history.specs.Exits.{exits_of, agains_of, forwarded, subscribe_packet, unsubscribe_packet}
 use Rattle.sng_history.specs.Exits.{subscribe_leaves}
 use Rattle.sng_history.specs.Exits.{unsubscribe_leaves, subscribing, leaving, sent_again, resending}
+use Rattle.sng_history.specs.Exits.{subscribe_out}
 use Rattle.sng_history.specs.Whole.{stranger_to}
 use Rattle.sng_history.specs.Steps.{outs_by}
 use Rattle.sng_laws.specs.LawsPromise.{MayLeave, Stands}
@@ -59,14 +62,29 @@ each_forwarded policy p packet_id Allowed may = (may, tt)
 each_forwarded policy p packet_id (Denied rule) may = (may, tt)
 
 -- the SUBSCRIBE and the UNSUBSCRIBE of a filter are packets, and no notes
+each_out : (policy : Policy) (link : Link) (text : List ℕ) → EachNote (Stands policy) (subscribe_out link text)
+each_out policy link text = by_open (may_open link.wanted text)
+  where
+    by_open : (b : Bool) → EachNote (Stands policy)
+        (if b then subscribe_packet (next_packet_id link) text ∷ [] else [])
+    by_open true = tt
+    by_open false = tt
+
 each_subscribe : (policy : Policy) (link : Link) (text : List ℕ)
     → EachNote (Stands policy) (subscribe_leaves link text)
 each_subscribe policy link text = by_wanted (wants link.wanted text)
   where
-    by_wanted : (b : Bool) → EachNote (Stands policy)
-        (if b then subscribe_packet (next_packet_id link) text ∷ [] else [])
-    by_wanted true = tt
+    by_wanted : (b : Bool) → EachNote (Stands policy) (if b then subscribe_out link text else [])
+    by_wanted true = each_out policy link text
     by_wanted false = tt
+
+each_subscribing : (policy : Policy) (link : Link) (texts : List (List ℕ))
+    → EachNote (Stands policy) (subscribing link texts)
+each_subscribing policy link [] = tt
+each_subscribing policy link (text ∷ texts) =
+    let next = subscribe_sent link text in
+    note_both (Stands policy) (subscribe_out link text) (subscribing next texts) (each_out policy link text)
+    (each_subscribing policy next texts)
 
 each_unsubscribe : (policy : Policy) (link : Link) (text : List ℕ)
     → EachNote (Stands policy) (unsubscribe_leaves link text)
@@ -100,7 +118,7 @@ each_leaving policy link (item.Acknowledge packet_id ∷ items) = each_leaving p
 each_leaving policy link (item.Ping ∷ items) = each_leaving policy link items
 
 each_take : (s : State) (up : Bool) → s.up ≡ up → EachNote (Stands s.policy) (outs_by s ByTake)
-each_take s true is = rw is (each_leaving s.policy s.link s.link.waiting)
+each_take s true is = rw is (each_leaving s.policy s.link (outgoing s.link))
 each_take s false is = rw is tt
 
 -- ---- a connection begins
@@ -119,11 +137,6 @@ each_resending policy (sent ∷ flights) =
     let o = exit policy p.origin p.name in
     note_both (Stands policy) (sent_again sent o) (resending flights (agains_of policy flights))
     (each_again policy sent o (may_leave policy p.origin p.name)) (each_resending policy flights)
-
-each_subscribing : (policy : Policy) (link : Link) (texts : List (List ℕ))
-    → EachNote (Stands policy) (subscribing link texts)
-each_subscribing policy link [] = tt
-each_subscribing policy link (text ∷ texts) = each_subscribing policy (subscribe_sent link text) texts
 
 each_beginning : (s : State) → EachNote (Stands s.policy) (outs_by s ByUp)
 each_beginning s =
@@ -165,14 +178,15 @@ each_delivered : (policy : Policy) (named place : Bool) (packet_id : Option ℕ)
 each_delivered policy true place packet_id = each_dropped policy place packet_id
 each_delivered policy false place packet_id = ((refl, refl), each_dropped policy place packet_id)
 
-each_answer : (policy : Policy) (up : Bool) (link : Link) (answer : Answer)
-    → EachNote (Stands policy) (answer_outs up link answer)
-each_answer policy up link (Delivers p) = each_delivered policy (is_name p.name) (has_place link) (owed up p)
-each_answer policy up link (Acknowledges packet_id) = tt
-each_answer policy up link (Grants packet_id) = tt
-each_answer policy up link (Refuses packet_id) = tt
-each_answer policy up link Confirms = tt
-each_answer policy up link Strange = ((refl, refl), tt)
+each_answer : (limits : Limits) (policy : Policy) (up : Bool) (link : Link) (answer : Answer)
+    → EachNote (Stands policy) (answer_outs limits up link answer)
+each_answer limits policy up link (Delivers p) =
+    each_delivered policy (is_name p.name) (has_place limits link) (owed up p)
+each_answer limits policy up link (Acknowledges packet_id) = tt
+each_answer limits policy up link (Grants packet_id) = tt
+each_answer limits policy up link (Refuses packet_id) = tt
+each_answer limits policy up link Confirms = tt
+each_answer limits policy up link Strange = ((refl, refl), tt)
 
 -- ---- whatever the cause
 
@@ -182,7 +196,7 @@ nobody_stands s (ByConnect from connect) broken = (entry_stands s connect, tt)
 nobody_stands s (ByMessage from request) broken = each_stranger s.policy from request
 nobody_stands s (BySource from p) broken = (source_stands s from.ip p, tt)
 nobody_stands s (ByBroken from rule) broken = ((refl, broken), tt)
-nobody_stands s (ByPacket p) broken = each_answer s.policy s.up s.link (answer_of p)
+nobody_stands s (ByPacket p) broken = each_answer s.policy.limits s.policy s.up s.link (answer_of p)
 nobody_stands s ByUp broken = each_beginning s
 nobody_stands s ByDown broken = tt
 nobody_stands s ByTake broken = each_take s s.up refl

@@ -1,6 +1,7 @@
 -- The policy speaks first in each verdict, and want of the connection or of room behind it.
 use Rattle.std.proofs.Common.{◌≡◌, ℕ, Bool, true, false, List, [], ◌∷◌, refl, sym, subst, if◌then◌else◌}
 use Rattle.std.specs.Prelude.{not, is_some}
+use Rattle.sng_grants.specs.Limits.{Limits}
 use Rattle.sng_text.specs.declared.qos.Qos.{Qos}
 use Rattle.sng_text.specs.declared.qos.Qos.TheVariants.{AtLeastOnce}
 use Rattle.sng_grants.specs.Sources.{scope_of}
@@ -64,14 +65,15 @@ room_if : (b : Bool) (o : Outcome) (rule : Denial) → IsRoom o → is_of_room r
 room_if true o rule one two = one
 room_if false o rule one two = two
 
-pub link_room : (link : Link) (q : Qos) → IsRoom (room_in link q)
-link_room link q =
-    room_if (has_flight link q) (if has_place link then Allowed else Denied (Room (Full place.Outbox)))
+pub link_room : (limits : Limits) (link : Link) (q : Qos) → IsRoom (room_in limits link q)
+link_room limits link q =
+    room_if (has_flight limits link q) (if has_place limits link then Allowed else Denied (Room (Full place.Outbox)))
     (Room (Full place.InFlight))
-    (room_if (has_place link) Allowed (Room (Full place.Outbox)) tt refl) refl
+    (room_if (has_place limits link) Allowed (Room (Full place.Outbox)) tt refl) refl
 
 pub publish_room : (s : State) (q : Qos) → IsRoom (room s q)
-publish_room s q = room_if s.up (room_in s.link q) (Room UpstreamDown) (link_room s.link q) refl
+publish_room s q = room_if s.up (room_in s.policy.limits s.link q) (Room UpstreamDown)
+    (link_room s.policy.limits s.link q) refl
 
 full_room : (full : Bool) (o : Outcome) → IsRoom o
     → IsRoom (if full then Denied (Room (Full place.Exchanges)) else o)
@@ -82,8 +84,8 @@ full_room false o room = room
 pub publish_once_room : (s : State) (x : Client) (p : Publish) → IsRoom (once_room s x p)
 publish_once_room s x p =
     room_if s.up (once_room_in s x p) (Room UpstreamDown)
-    (full_room (ids_open.is_full_for p.msg_id x.unreleased) (room_in s.link AtLeastOnce)
-    (link_room s.link AtLeastOnce)) refl
+    (full_room (ids_open.is_full_for p.msg_id x.unreleased) (room_in s.policy.limits s.link AtLeastOnce)
+    (link_room s.policy.limits s.link AtLeastOnce)) refl
 
 ids_room : (b : Bool) → IsRoom (if b then Denied (Room (Full place.Ids)) else Allowed)
 ids_room true = refl

@@ -2,6 +2,7 @@
 -- finds no place.
 use Rattle.std.proofs.Common.{◌≡◌, inl, ℕ, Bool, true, false, List, [], ◌∷◌, refl, sym, subst, if◌then◌else◌}
 use Rattle.std.specs.Prelude.{is_some, Option, Some, None}
+use Rattle.sng_grants.specs.Limits.{Limits}
 use Rattle.sng_text.specs.Texts.{is_name}
 use Rattle.sng_grants.specs.declared.policy.Policy.{Policy}
 use Rattle.sng_wills.specs.Stated.{awaited_topic}
@@ -96,7 +97,8 @@ every_unplaced : (policy : Policy) (id : List ℕ) (p : Publication) (o : Outcom
 every_unplaced policy id p Allowed room = tt
 every_unplaced policy id p (Denied rule) room = (rw room tt, tt)
 
-pub every_will : (policy : Policy) (link : Link) (id : List ℕ) (ps : List Publication)
-    → Every (Stands policy) (will_dropped link id ps)
-every_will policy link id [] = tt
-every_will policy link id (p ∷ ps) = every_unplaced policy id p (room_in link p.qos) (link_room link p.qos)
+pub every_will : (limits : Limits) (policy : Policy) (link : Link) (id : List ℕ) (ps : List Publication)
+    → Every (Stands policy) (will_dropped limits link id ps)
+every_will limits policy link id [] = tt
+every_will limits policy link id (p ∷ ps) = every_unplaced policy id p (room_in limits link p.qos)
+    (link_room limits link p.qos)

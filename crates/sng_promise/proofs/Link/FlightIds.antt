@@ -2,7 +2,7 @@
 use Rattle.std.proofs.Common.{◌≡◌, ℕ, ◌+◌, ◌-◌, ◌*◌, ◌/◌, ◌%◌, ◌≤◌, ◌==◌, Bool, true, false, List, [], ◌∷◌}
 use Rattle.std.proofs.Common.{◌++◌, map, length, drop, cond}
 use Rattle.std.proofs.Common.{refl, ap, sym, ◌∙◌, subst, arith, length-append}
-use Rattle.std.specs.Prelude.{◌||◌, not, if◌then◌else◌, Option, Some, None}
+use Rattle.std.specs.Prelude.{◌||◌, not, if◌then◌else◌, Some}
 use Rattle.std.proofs.lemmas.Bool.{eqb-true, eqb-false, ne_eqb}
 use Rattle.std.proofs.lemmas.List.{append_assoc, length-map}
 use Rattle.std.proofs.Math.Seq.{drop-append_seam}
@@ -14,16 +14,15 @@ use Rattle.sng_outbox.specs.Sending.{has_id, without_first}
 use Rattle.sng_outbox.specs.declared.in_flight.InFlight.{InFlight}
 use Rattle.sng_outbox.specs.declared.item.Publication.{Publication}
 use Rattle.sng_outbox.proofs.IdLemmas.{next_free}
-use Rattle.sng_outbox.specs.declared.limits.TheConstants.{MAX_IN_FLIGHT}
+use Rattle.sng_grants.specs.declared.limits.TheConstants.{MAX_FLIGHT}
 use Rattle.sng_book.specs.declared.outcome.Outcome.{Outcome}
 use Rattle.sng_book.specs.declared.outcome.Outcome.TheVariants.{Allowed, Denied}
-use Rattle.sng_history.specs.Links.{Link, Wanted, open_id, open_ids, next_packet_id, still_in_flight}
+use Rattle.sng_history.specs.Links.{Link, open_ids, next_packet_id, still_in_flight}
 use Rattle.sng_history.specs.Exits.{packet_of}
 use Rattle.sng_history.proofs.Ceilings.{ids_suffice}
-use Rattle.sng_history.specs.declared.limits.TheConstants.{MAX_CLIENTS}
+use Rattle.sng_history.proofs.FewOpen.{FewOpen}
 use Rattle.sng_laws.specs.ViewsFlight.{number_in, id_before, id_shown, others}
 use Rattle.sng_laws.specs.LawsFlight.{AreIds}
-use Rattle.sng_fan.specs.declared.limits.TheConstants.{MAX_SUBSCRIPTIONS}
 
 -- ---- a number in its octets
 
@@ -186,11 +185,11 @@ still_ids (sent ∷ flights) (Denied rule ∷ outcomes) are = still_ids flights 
 
 -- ---- the next id
 
--- the packet ids of a link are apart, the last one that was given is in range, and few filters are wanted
+-- the packet ids of a link are apart, the last one that was given is in range, and few SUBSCRIBEs are open
 pub record Fit (link : Link) : Type 0 where
   pub ids : AreIds (ids_of link.in_flight)
   pub last : link.last ≤ 65535
-  pub few : length link.wanted ≤ MAX_CLIENTS * MAX_SUBSCRIPTIONS
+  pub few : FewOpen link.wanted
 
 -- an id that may be given to one more publish
 pub record Free (link : Link) (n : ℕ) : Type 0 where
@@ -198,22 +197,13 @@ pub record Free (link : Link) (n : ℕ) : Type 0 where
   pub small : n ≤ 65535
   pub unused : is_used (ids_of link.in_flight) n ≡ false
 
-one_open : (w : Wanted) (wanted : List Wanted) (used : Option ℕ) → length (open_ids wanted) ≤ length wanted
-    → length (open_id used ++ open_ids wanted) ≤ length (w ∷ wanted)
-one_open w wanted None rest = omega (arith, rest)
-one_open w wanted (Some packet_id) rest = omega (arith, rest)
-
-open_few : (wanted : List Wanted) → length (open_ids wanted) ≤ length wanted
-open_few [] = omega arith
-open_few (w ∷ wanted) = one_open w wanted w.open_id (open_few wanted)
-
 first_unused : (xs ys : List ℕ) (n : ℕ) → is_used (xs ++ ys) n ≡ false → is_used xs n ≡ false
 first_unused [] ys n none = refl
 first_unused (x ∷ xs) ys n none =
     both_false (x == n) (is_used xs n) (first_false (x == n) (is_used (xs ++ ys) n) none)
     (first_unused xs ys n (later_false (x == n) (is_used (xs ++ ys) n) none))
 
-pub next_is_free : (link : Link) → Fit link → length link.in_flight ≤ MAX_IN_FLIGHT
+pub next_is_free : (link : Link) → Fit link → length link.in_flight ≤ MAX_FLIGHT
     → Free link (next_packet_id link)
 next_is_free link fit few =
     let count : length (ids_of link.in_flight) ≡ length link.in_flight =
@@ -223,7 +213,7 @@ next_is_free link fit few =
     length-append (ids_of link.in_flight) (open_ids link.wanted) in
     let free =
     next_free (ids_of link.in_flight ++ open_ids link.wanted) link.last
-    (omega (arith, open_few link.wanted, fit.few, few, ids_suffice)) fit.last in
+    (omega (arith, fit.few.few, few, ids_suffice)) fit.last in
     record {
       some = free.0;
       small = free.1;

@@ -1,7 +1,9 @@
 -- What a new connection lets out for the broker: what is in flight, each with its note and its own packet.
 use Rattle.std.proofs.Common.{◌≡◌, ℕ, ◌≤◌, Bool, true, false, List, [], ◌∷◌, ◌++◌, refl, ap, sym, ◌∙◌, subst}
 use Rattle.std.proofs.Common.{if◌then◌else◌}
+use Rattle.std.proofs.Common.{map}
 use Rattle.std.specs.Prelude.{Option, Some, None}
+use Rattle.std.specs.Prelude.{filter}
 use Rattle.std.proofs.lemmas.List.{append-nil, map-append}
 use Rattle.sng_text.specs.declared.qos.Qos.{Qos}
 use Rattle.sng_text.specs.declared.qos.Qos.TheVariants.{AtMostOnce, AtLeastOnce}
@@ -22,21 +24,30 @@ use Rattle.sng_history.specs.Notes.{exits_in, exit_of}
 use Rattle.sng_history.specs.Links.{Link, wants, next_packet_id, packet_id_by, sent_by, exited}
 use Rattle.sng_history.specs.Links.{subscribe_sent, subscribe_left}
 use Rattle.sng_history.specs.Links.{unsubscribe_left}
+use Rattle.sng_history.specs.Links.{Wanted, may_open, opened, owing}
 use Rattle.sng_history.specs.Verdicts.{exit}
 use Rattle.sng_history.specs.Exits.{packet_of, exits_of, forwarded, subscribe_leaves, unsubscribe_leaves}
 use Rattle.sng_history.specs.Exits.{subscribing, leaving}
+use Rattle.sng_history.specs.Exits.{subscribe_out}
 use Rattle.sng_laws.specs.ViewsLink.{listed, Departure, departures, wires_in}
+use Rattle.sng_laws.specs.ViewsLink.{waiting}
 use Rattle.sng_laws.specs.ViewsFlight.{id_shown, return, agains, id_left}
 use Rattle.sng_laws.specs.LawsFlight.{Given, given_publishes, AreNext}
 use Rattle.sng_laws.specs.LawsFlight.{subscribe_with, PacketsFor}
 use Rattle.sng_laws.specs.LawsFlight.{subscribes_with}
+use Rattle.sng_laws.specs.LawsFlight.{given_subscribe, subscribe_by}
 use Rattle.sng_history.proofs.WantedKept.{left_same, same_wants}
 use Rattle.sng_promise.proofs.Link.FlightIds.{ids_of, shown}
 use Rattle.sng_promise.proofs.WantedFilters.UpstreamSpeaks.{next_is, exited_last, subscribe_last}
 use Rattle.sng_promise.proofs.WantedFilters.UpstreamSpeaks.{unsubscribe_last}
+use Rattle.sng_promise.proofs.WantedFilters.UpstreamSpeaks.{wires_both}
 use Rattle.sng_promise.proofs.Link.LawLink.{Wires, subscribe_wires, unsubscribe_wires}
+use Rattle.sng_promise.proofs.Link.LawLink.{wires_depart, out_wires}
 use Rattle.sng_promise.proofs.Link.LawLinkOrder.{later_exits}
 use Rattle.sng_promise.proofs.Link.LawAgainBegins.{wires_again}
+use Rattle.sng_history.specs.Links as links
+use Rattle.sng_laws.specs.ViewsWanted.{outgoing, wanted}
+use Rattle.sng_book.specs.declared.row.Row.{Row}
 
 -- ---- at a take
 
@@ -68,6 +79,13 @@ none_again policy link (item.Ping ∷ items) = none_again policy link items
 -- the packet ids that a link gave
 abbrev pub given_by : Link → Given
 given_by link = record { in_flight = ids_of link.in_flight; wanted = link.wanted; last = link.last }
+
+-- what leaves is what the rows show
+pub outgoing_same : (h : List Row) (link : Link) → link.waiting ≡ waiting h → link.wanted ≡ wanted h
+    → links.outgoing link ≡ outgoing h
+outgoing_same h link waits are =
+    ap (λ items. map item.Subscribe (links.filters_owed link) ++ items) waits
+    ∙ ap (λ all. map item.Subscribe (map (λ (w : Wanted). w.filter) (filter (λ w. w.owed) all)) ++ waiting h) are
 
 -- the packet ids of a publish that leaves are the next one, and those of the link then
 record Leaves (link after : Link) (ids : List ℕ) : Type 0 where
@@ -151,6 +169,68 @@ packets_first held link p items (Denied rule) outs small rest =
     (record { whom = who_of p.origin; name = p.name; outcome = Denied rule; packet = None }) items outs
     (gives_none link) rest
 
+-- a SUBSCRIBE that has to leave
+either : (b : Bool) (one two : Link) → (if b then given_by one else given_by two) ≡ given_by (if b then one else two)
+either true one two = refl
+either false one two = refl
+
+pub given_sent : (link : Link) (text : List ℕ)
+    → given_subscribe (given_by link) text ≡ given_by (subscribe_sent link text)
+given_sent link text =
+    either (may_open link.wanted text)
+    (record link { last = next_packet_id link; wanted = opened link.wanted text (next_packet_id link) })
+    (record link { wanted = owing link.wanted text })
+
+wired : (b : Bool) (sent : List ℕ)
+    → (if b then Wire sent ∷ [] else []) ≡ map (λ octets. Wire octets) (if b then sent ∷ [] else [])
+wired true sent = refl
+wired false sent = refl
+
+pub out_by : (link : Link) (text : List ℕ)
+    → subscribe_out link text ≡ map (λ octets. Wire octets) (subscribe_by (given_by link) text)
+out_by link text = wired (may_open link.wanted text) (subscribe_with (next_packet_id link) text)
+
+pub all_out : (link : Link) (texts : List (List ℕ))
+    → subscribing link texts ≡ map (λ octets. Wire octets) (subscribes_with (given_by link) texts)
+all_out link [] = refl
+all_out link (text ∷ texts) =
+    let next = subscribe_sent link text in
+    let given = given_by link in
+    let first = subscribe_by given text in
+    ap (λ outs. outs ++ subscribing next texts) (out_by link text)
+    ∙ (ap (λ more. map (λ octets. Wire octets) first ++ more)
+    (all_out next texts
+    ∙ ap (λ from. map (λ octets. Wire octets) (subscribes_with from texts)) (sym (given_sent link text)))
+    ∙ sym (map-append (λ octets. Wire octets) first (subscribes_with (given_subscribe given text) texts)))
+
+wires_sent : (sent : List (List ℕ)) → wires_in (map (λ octets. Wire octets) sent) ≡ sent
+wires_sent [] = refl
+wires_sent (octets ∷ sent) = ap (λ more. octets ∷ more) (wires_sent sent)
+
+subscribe_goes : (held : List ℕ → Bool) (given : Given) (text : List ℕ) (items : List Item)
+    (ds : List Departure) (sent rest : List (List ℕ))
+    → held text ≡ true → sent ≡ subscribe_by given text ++ rest
+    → PacketsFor held (given_subscribe given text) items ds rest
+    → PacketsFor held given (item.Subscribe text ∷ items) ds sent
+subscribe_goes held given text items ds sent rest is same packets = rw is (rest, (same, packets))
+
+subscribe_then : (held : List ℕ → Bool) (link : Link) (text : List ℕ) (items : List Item) (outs : List Out)
+    → held text ≡ true
+    → PacketsFor held (given_by (subscribe_sent link text)) items (departures outs) (wires_in outs)
+    → PacketsFor held (given_by link) (item.Subscribe text ∷ items)
+    (departures (subscribe_out link text ++ outs))
+    (wires_in (subscribe_out link text ++ outs))
+subscribe_then held link text items outs is packets =
+    let out = subscribe_out link text in
+    let given = given_by link in
+    subst (λ ds. PacketsFor held given (item.Subscribe text ∷ items) ds (wires_in (out ++ outs)))
+    (sym (wires_depart out outs (out_wires link text)))
+    (subscribe_goes held given text items (departures outs) (wires_in (out ++ outs)) (wires_in outs) is
+    (wires_both out outs
+    ∙ ap (λ sent. sent ++ wires_in outs) (ap wires_in (out_by link text) ∙ wires_sent (subscribe_by given text)))
+    (subst (λ after. PacketsFor held after items (departures outs) (wires_in outs)) (sym (given_sent link text))
+    packets))
+
 subscribe_first : (held : List ℕ → Bool) (link : Link) (text : List ℕ) (items : List Item) (outs : List Out)
     (b : Bool)
     → wants link.wanted text ≡ b → held text ≡ b
@@ -158,7 +238,8 @@ subscribe_first : (held : List ℕ → Bool) (link : Link) (text : List ℕ) (it
     → PacketsFor held (given_by link) (item.Subscribe text ∷ items)
     (departures (subscribe_leaves link text ++ outs))
     (wires_in (subscribe_leaves link text ++ outs))
-subscribe_first held link text items outs true is same = rw (is, same) (λ rest. (wires_in outs, (refl, rest)))
+subscribe_first held link text items outs true is same =
+    rw is (λ packets. subscribe_then held link text items outs same packets)
 subscribe_first held link text items outs false is same =
     rw (is, same) (λ rest. (wires_in outs, (refl, rest)))
 
@@ -211,13 +292,10 @@ take_wires held policy link (item.Ping ∷ items) small same = (
   (refl, take_wires held policy link items small same),
 )
 
--- and those that a new connection begins with
+-- and the SUBSCRIBEs of these filters
 pub all_subscribe : (link : Link) (texts : List (List ℕ))
     → wires_in (subscribing link texts) ≡ subscribes_with (given_by link) texts
-all_subscribe link [] = refl
-all_subscribe link (text ∷ texts) =
-    ap (λ more. subscribe_with (next_packet_id link) text ∷ more)
-    (all_subscribe (subscribe_sent link text) texts)
+all_subscribe link texts = ap wires_in (all_out link texts) ∙ wires_sent (subscribes_with (given_by link) texts)
 
 pub wires_none : (xs : List Out) → Wires xs → agains xs ≡ []
 wires_none [] are = refl

@@ -16,6 +16,7 @@ use Rattle.sng_book.specs.declared.row.Row.{Row}
 use Rattle.sng_history.specs.Causes.{cause_of}
 use Rattle.sng_history.specs.Verdicts.{exit}
 use Rattle.sng_history.specs.Links.{Link, packet_id_by, exited, subscribe_left, unsubscribe_left}
+use Rattle.sng_history.specs.Links.{outgoing}
 use Rattle.sng_history.specs.Exits.{exits_of, forwarded, subscribe_leaves, unsubscribe_leaves, leaving}
 use Rattle.sng_history.specs.Exits.{agains_of, sent_again, resending}
 use Rattle.sng_history.specs.State.{State, opening, state_of}
@@ -82,7 +83,7 @@ again_exit policy (sent ∷ flights) more only =
 -- ---- the laws
 
 take_exits : (s : State) (b : Bool) → s.up ≡ b → OnlyExits (outs_of s Take)
-take_exits s true is = rw is (all_exit s.policy s.link s.link.waiting)
+take_exits s true is = rw is (all_exit s.policy s.link (outgoing s.link))
 take_exits s false is = rw is tt
 
 pub row_exits : (s : State) (e : Event) → is_upstream e ≡ true → OnlyExits (outs_of s e)

@@ -8,7 +8,9 @@ use Rattle.sng_book.specs.declared.out.Out.{Out}
 use Rattle.sng_book.specs.declared.row.Row.{Row}
 use Rattle.sng_history.specs.Causes.{ByPacket, ByUp, ByReplace, ByTick, cause_of, datagram_cause}
 use Rattle.sng_history.specs.Links.{Link, wants, still_in_flight, resumed, filters_wanted}
-use Rattle.sng_laws.specs.ViewsStanding.{held_in, wanted}
+use Rattle.sng_history.specs.Links.{outgoing}
+use Rattle.sng_laws.specs.ViewsStanding.{held_in}
+use Rattle.sng_laws.specs.ViewsWanted.{wanted}
 use Rattle.sng_promise.proofs.Link.LawRows.{anew, anew_wires}
 use Rattle.sng_promise.proofs.Standing.StandingState.{standing_shown, held_shown}
 use Rattle.sng_promise.proofs.WantedFilters.UpstreamWanted.{wanted_shown}
@@ -31,6 +33,7 @@ use Rattle.sng_promise.proofs.Link.SeenLast.{rest_shown}
 use Rattle.sng_promise.proofs.Link.LawAgainBegins.{all_return, again_wires}
 use Rattle.sng_promise.proofs.Link.LawAgain.{none_again, given_by, take_wires}
 use Rattle.sng_promise.proofs.Link.LawAgain.{all_subscribe, wires_none, no_agains}
+use Rattle.sng_promise.proofs.Link.LawAgain.{outgoing_same}
 use Rattle.sng_promise.proofs.Link.LawWires.{datagram_still, broker_wires, replace_wires, tick_wires}
 
 -- ---- judged again
@@ -40,7 +43,7 @@ RowReturns h e outs =
     MatchBool (is_beginning e) (AllReturn (last_policy h) (in_flight h) (agains outs)) (agains outs ≡ [])
 
 take_returns : (s : State) (b : Bool) → s.up ≡ b → agains (outs_of s Take) ≡ []
-take_returns s true is = rw is (none_again s.policy s.link s.link.waiting)
+take_returns s true is = rw is (none_again s.policy s.link (outgoing s.link))
 take_returns s false is = rw is refl
 
 row_returns : (h : List Row) (s : State) (e : Event) → Stands h s → s.link.in_flight ≡ in_flight h
@@ -108,9 +111,9 @@ begun_same h s are =
 
 take_packets : (s : State) (held : List ℕ → Bool) (b : Bool) → s.up ≡ b → s.link.last ≤ 65535
     → ((text : List ℕ) → wants s.link.wanted text ≡ held text)
-    → MatchBool b (PacketsFor held (given_by s.link) s.link.waiting (departures (outs_of s Take))
+    → MatchBool b (PacketsFor held (given_by s.link) (outgoing s.link) (departures (outs_of s Take))
     (wires_in (outs_of s Take))) (wires_in (outs_of s Take) ≡ [])
-take_packets s held true is small same = rw is (take_wires held s.policy s.link s.link.waiting small same)
+take_packets s held true is small same = rw is (take_wires held s.policy s.link (outgoing s.link) small same)
 take_packets s held false is small same = rw is refl
 
 up_packets : (h : List Row) (s : State) → RestShown h s.link → PacketsAt Up h (outs_of s Up)
@@ -129,7 +132,7 @@ row_packets h s (Broker sent) st are small same = broker_wires s sent
 row_packets h s Up st are small same = up_packets h s are
 row_packets h s Down st are small same = refl
 row_packets h s Take st are small same =
-    rw (sym (given_same h s.link are), sym st.shown.up, sym st.shown.waits)
+    rw (sym (given_same h s.link are), sym st.shown.up, sym (outgoing_same h s.link st.shown.waits are.wanted))
     (take_packets s (held_in h) s.up refl small same)
 row_packets h s (Replace policy) st are small same = replace_wires s policy
 row_packets h s (Tick clock) st are small same = tick_wires s clock

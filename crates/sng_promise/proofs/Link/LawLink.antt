@@ -14,11 +14,12 @@ use Rattle.sng_book.specs.declared.out.Out.TheVariants.{Send, Wire, Note}
 use Rattle.sng_history.specs.Verdicts.{exit}
 use Rattle.sng_text.specs.declared.qos.Qos.{Qos}
 use Rattle.sng_text.specs.declared.qos.Qos.TheVariants.{AtMostOnce, AtLeastOnce}
-use Rattle.sng_history.specs.Links.{Link, wants, next_packet_id, packet_id_by, exited, subscribe_sent}
+use Rattle.sng_history.specs.Links.{Link, wants, may_open, next_packet_id, packet_id_by, exited, subscribe_sent}
 use Rattle.sng_history.specs.Links.{subscribe_left, unsubscribe_left}
 use Rattle.sng_history.specs.Exits.{packet_of, exits_of, forwarded, subscribe_packet, unsubscribe_packet}
 use Rattle.sng_history.specs.Exits.{subscribe_leaves}
 use Rattle.sng_history.specs.Exits.{unsubscribe_leaves, subscribing, leaving}
+use Rattle.sng_history.specs.Exits.{subscribe_out}
 use Rattle.sng_laws.specs.ViewsLink.{publications, departures}
 use Rattle.sng_laws.specs.ViewsLink.{sends_in}
 use Rattle.sng_laws.specs.LawsRules.{judged, publish_rules}
@@ -45,15 +46,30 @@ unsubscribe_if : (b : Bool) (packet_id : ℕ) (text : List ℕ)
 unsubscribe_if true packet_id text = tt
 unsubscribe_if false packet_id text = (refl, tt)
 
+wires_both : (xs ys : List Out) → Wires xs → Wires ys → Wires (xs ++ ys)
+wires_both [] ys one two = two
+wires_both (Wire sent ∷ xs) ys one two = (one.0, wires_both xs ys one.1 two)
+wires_both (Send to datagram ∷ xs) ys one two = absurd one
+wires_both (Note said ∷ xs) ys one two = absurd one
+
+pub out_wires : (link : Link) (text : List ℕ) → Wires (subscribe_out link text)
+out_wires link text = subscribe_if (may_open link.wanted text) (next_packet_id link) text
+
 pub subscribe_wires : (link : Link) (text : List ℕ) → Wires (subscribe_leaves link text)
-subscribe_wires link text = subscribe_if (wants link.wanted text) (next_packet_id link) text
+subscribe_wires link text = leaves_if (wants link.wanted text)
+  where
+    leaves_if : (b : Bool) → Wires (if b then subscribe_out link text else [])
+    leaves_if true = out_wires link text
+    leaves_if false = tt
 
 pub unsubscribe_wires : (link : Link) (text : List ℕ) → Wires (unsubscribe_leaves link text)
 unsubscribe_wires link text = unsubscribe_if (wants link.wanted text) (next_packet_id link) text
 
 pub subscribing_wires : (link : Link) (texts : List (List ℕ)) → Wires (subscribing link texts)
 subscribing_wires link [] = tt
-subscribing_wires link (text ∷ texts) = (refl, subscribing_wires (subscribe_sent link text) texts)
+subscribing_wires link (text ∷ texts) =
+    wires_both (subscribe_out link text) (subscribing (subscribe_sent link text) texts) (out_wires link text)
+    (subscribing_wires (subscribe_sent link text) texts)
 
 pub wires_depart : (xs ys : List Out) → Wires xs → departures (xs ++ ys) ≡ departures ys
 wires_depart [] ys are = refl

@@ -11,7 +11,6 @@ use Rattle.sng_outbox.specs.Sending.{publishes}
 use Rattle.sng_outbox.specs.declared.item.Item.{Item}
 use Rattle.sng_outbox.specs.declared.item.Item.TheVariants as item
 use Rattle.sng_outbox.specs.declared.item.Publication.{Publication}
-use Rattle.sng_outbox.specs.declared.limits.TheConstants.{MAX_OUTBOX_ITEMS}
 use Rattle.sng_book.specs.declared.decision.Decision.{Decision}
 use Rattle.sng_book.specs.declared.decision.Decision.TheVariants as note
 use Rattle.sng_book.specs.declared.outcome.Outcome.{Outcome}
@@ -22,6 +21,7 @@ use Rattle.sng_history.specs.Notes.{exits_in, exit_of}
 use Rattle.sng_history.specs.Verdicts.{exit}
 use Rattle.sng_history.specs.Links.{Link, packet_id_by, exited}
 use Rattle.sng_history.specs.Links.{subscribe_left, unsubscribe_left}
+use Rattle.sng_history.specs.Links.{outgoing, filters_owed}
 use Rattle.sng_history.specs.Exits.{exits_of, forwarded}
 use Rattle.sng_history.specs.Exits.{subscribe_leaves}
 use Rattle.sng_history.specs.Exits.{unsubscribe_leaves, leaving}
@@ -37,6 +37,7 @@ use Rattle.sng_laws.specs.ViewsLink.{testaments_with, pings_with, asks_ping, pin
 use Rattle.sng_laws.specs.LawsLink.{about_asked, about_left, AllDepart}
 use Rattle.sng_laws.specs.LawsReached.{lets_go, Announced}
 use Rattle.sng_promise.proofs.Link.LawLink.{subscribe_wires, unsubscribe_wires, wires_unsent}
+use Rattle.sng_laws.specs.Views.{limits_at}
 
 -- ---- any other row
 
@@ -87,9 +88,15 @@ publications_published : (ps : List Publication) (items : List Item)
 publications_published [] items = refl
 publications_published (p ∷ ps) items = ap (λ rest. p ∷ rest) (publications_published ps items)
 
-none_subscribed : (texts : List (List ℕ)) → publications (map item.Subscribe texts) ≡ []
+pub none_subscribed : (texts : List (List ℕ)) → publications (map item.Subscribe texts) ≡ []
 none_subscribed [] = refl
 none_subscribed (text ∷ texts) = none_subscribed texts
+
+-- a SUBSCRIBE that is owed is no publish
+pub outgoing_published : (link : Link) → publications (outgoing link) ≡ publications link.waiting
+outgoing_published link =
+    publications_append (map item.Subscribe (filters_owed link)) link.waiting
+    ∙ ap (λ first. first ++ publications link.waiting) (none_subscribed (filters_owed link))
 
 none_told : (texts : List (List ℕ)) (ids : List ℕ) (more : List Item)
     → publications (map item.Unsubscribe texts ++ (map item.Acknowledge ids ++ more)) ≡ publications more
@@ -144,7 +151,7 @@ pub publications_added : (e : Event) (h : List Row) (items : List Item) (outs : 
     → publications (added e h items outs) ≡ asked_with e h outs
 publications_added e h items outs =
     let first = items_for (message_at e) outs in
-    let texts = told_with e h outs (MAX_OUTBOX_ITEMS - length items) in
+    let texts = told_with e h outs ((limits_at e h).waiting - length items) in
     let wills = testaments_with e h outs in
     let more = map item.Publish wills ++ pings_with e h outs in
     publications_append first (map item.Unsubscribe texts

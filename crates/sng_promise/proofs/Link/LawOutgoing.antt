@@ -37,17 +37,20 @@ use Rattle.sng_laws.specs.Views.{last_policy, is_up}
 use Rattle.sng_laws.specs.ViewsFlight.{in_flight}
 use Rattle.sng_laws.specs.ViewsStanding.{held_in}
 use Rattle.sng_laws.specs.LawsState.{RestShown}
-use Rattle.sng_laws.specs.LawsFlight.{Given, given_publishes, given_at, next_given, subscribe_with}
+use Rattle.sng_laws.specs.LawsFlight.{Given, given_publishes, given_at, next_given}
 use Rattle.sng_laws.specs.LawsFlight.{unsubscribe_with, subscribes_with}
+use Rattle.sng_laws.specs.LawsFlight.{subscribe_by}
 use Rattle.sng_laws.specs.LawsOutgoing.{publish_judged, leaving_outs, given_leaving}
 use Rattle.sng_laws.specs.LawsOutgoing.{taken_outs, take_answer, again_outs, still_allowed, up_answer}
 use Rattle.sng_history.proofs.Keeping.{exact_by}
 use Rattle.sng_promise.proofs.Answers.LawRules.{exit_ruled}
 use Rattle.sng_promise.proofs.Link.LawAgain.{given_by}
+use Rattle.sng_promise.proofs.Link.LawAgain.{out_by, given_sent, outgoing_same, all_out}
 use Rattle.sng_promise.proofs.Link.SeenLast.{rest_shown}
 use Rattle.sng_promise.proofs.Clients.SeenState.{Stands, stands}
 use Rattle.sng_promise.proofs.Standing.StandingState.{standing_shown, held_shown}
 use Rattle.sng_history.proofs.WantedKept.{left_same, same_wants}
+use Rattle.sng_history.specs.Links as links
 
 -- ---- at a take
 
@@ -100,7 +103,12 @@ subscribe_taken : (policy : Policy) (held : List ℕ → Bool) (link : Link) (te
     → Rest policy held items (if b then subscribe_sent link text else link)
     → Rest policy held (item.Subscribe text ∷ items) link
 subscribe_taken policy held link text items true is same rest =
-    rw (is, same) (ap (λ outs. Wire (subscribe_with (next_packet_id link) text) ∷ outs) rest)
+    let next = subscribe_sent link text in
+    let given = given_by link in
+    rw (is, same)
+    (ap (λ outs. outs ++ leaving next items (exits_of policy items)) (out_by link text)
+    ∙ ap (λ more. map (λ octets. Wire octets) (subscribe_by given text) ++ more)
+    (rest ∙ ap (λ from. taken_outs policy held from items) (sym (given_sent link text))))
 subscribe_taken policy held link text items false is same rest = rw (is, same) rest
 
 unsubscribe_taken : (policy : Policy) (held : List ℕ → Bool) (link : Link) (text : List ℕ) (items : List Item)
@@ -146,8 +154,8 @@ given_shown h link are = rw (are.in_flight, are.wanted, are.last) refl
 take_by : (s : State) (held : List ℕ → Bool) (b : Bool) → s.up ≡ b
     → ((text : List ℕ) → wants s.link.wanted text ≡ held text)
     → outs_of s Take
-    ≡ (if b then taken_outs s.policy held (given_by s.link) s.link.waiting else [])
-take_by s held true is same = rw is (all_taken s.policy held s.link s.link.waiting same)
+    ≡ (if b then taken_outs s.policy held (given_by s.link) (links.outgoing s.link) else [])
+take_by s held true is same = rw is (all_taken s.policy held s.link (links.outgoing s.link) same)
 take_by s held false is same = rw is refl
 
 take_whole : (h : List Row) (s : State) → Stands h s → RestShown h s.link
@@ -156,13 +164,13 @@ take_whole : (h : List Row) (s : State) → Stands h s → RestShown h s.link
 take_whole h s st are same =
     let held = held_in h in
     let given = given_at (in_flight h) h in
+    let items = links.outgoing s.link in
     take_by s held s.up refl same
-    ∙ (ap (λ b. if b then taken_outs s.policy held (given_by s.link) s.link.waiting else []) st.shown.up
-    ∙ (ap (λ policy. if is_up h then taken_outs policy held (given_by s.link) s.link.waiting else [])
-    st.shown.policy
-    ∙ (ap (λ g. if is_up h then taken_outs (last_policy h) held g s.link.waiting else [])
-    (given_shown h s.link are)
-    ∙ ap (λ items. if is_up h then taken_outs (last_policy h) held given items else []) st.shown.waits)))
+    ∙ (ap (λ b. if b then taken_outs s.policy held (given_by s.link) items else []) st.shown.up
+    ∙ (ap (λ policy. if is_up h then taken_outs policy held (given_by s.link) items else []) st.shown.policy
+    ∙ (ap (λ g. if is_up h then taken_outs (last_policy h) held g items else []) (given_shown h s.link are)
+    ∙ ap (λ leave. if is_up h then taken_outs (last_policy h) held given leave else [])
+    (outgoing_same h s.link st.shown.waits are.wanted))))
 
 -- ---- as a connection begins
 
@@ -197,13 +205,6 @@ still_same policy (sent ∷ flights) =
     (still_same policy flights)
     ∙ ap (λ o. if is_allowed o then sent ∷ rest else rest) (exit_ruled policy p.origin p.name)
 
-subscribed_anew : (link : Link) (texts : List (List ℕ))
-    → subscribing link texts ≡ map (λ octets. Wire octets) (subscribes_with (given_by link) texts)
-subscribed_anew link [] = refl
-subscribed_anew link (text ∷ texts) =
-    ap (λ outs. Wire (subscribe_with (next_packet_id link) text) ∷ outs)
-    (subscribed_anew (subscribe_sent link text) texts)
-
 -- all of it, where these are in flight under the policy and these filters stand
 abbrev begun : Policy → List InFlight → List Row → List (List ℕ) → List Out
 begun policy flights h texts =
@@ -219,7 +220,7 @@ up_whole h s st are =
     ap (λ outs. outs ++ subscribing link (filters_wanted s.link)) (resent s.policy flights)
     ∙ (ap (λ outs. flat_map (λ sent. again_outs sent (publish_judged s.policy sent.publication)) flights
     ++ outs)
-    (subscribed_anew link (filters_wanted s.link)
+    (all_out link (filters_wanted s.link)
     ∙ ap (λ g. map (λ octets. Wire octets) (subscribes_with g (filters_wanted s.link))) given)
     ∙ (ap (λ policy. begun policy flights h (filters_wanted s.link)) st.shown.policy
     ∙ (ap (λ sent. begun (last_policy h) sent h (filters_wanted s.link)) are.in_flight

@@ -13,7 +13,9 @@ use Rattle.sng_book.specs.declared.out.Out.{Out}
 use Rattle.sng_book.specs.declared.row.Row.{Row}
 use Rattle.sng_history.specs.Causes.{ByPacket, ByUp, ByReplace, ByTick, cause_of, datagram_cause}
 use Rattle.sng_history.specs.Links.{resumed, filters_wanted}
+use Rattle.sng_history.specs.Links.{outgoing}
 use Rattle.sng_history.specs.Exits.{subscribing}
+use Rattle.sng_history.specs.Exits.{leaving, exits_of}
 use Rattle.sng_history.specs.State.{State, opening, state_of}
 use Rattle.sng_history.specs.Lawful.{Lawful, exits_for}
 use Rattle.sng_history.specs.Steps.{outs_of}
@@ -27,7 +29,7 @@ use Rattle.sng_laws.specs.LawsLink.{EachUpstream}
 use Rattle.sng_history.proofs.Says.{says}
 use Rattle.sng_history.proofs.Keeping.{exact_by}
 use Rattle.sng_promise.proofs.Link.LawLink.{all_depart, all_announced}
-use Rattle.sng_promise.proofs.Link.LawLinkOrder.{all_unsent, no_departures, none_announced}
+use Rattle.sng_promise.proofs.Link.LawLinkOrder.{all_unsent, no_departures, none_announced, outgoing_published}
 use Rattle.sng_promise.proofs.Link.LawLink.{Wires, subscribing_wires, wires_gone, wires_kept, wires_alone}
 use Rattle.sng_promise.proofs.Link.LawLinkOrder.{about_all, publications_append, publications_added}
 use Rattle.sng_promise.proofs.Link.LawLinkOrder.{publications_kept}
@@ -52,7 +54,11 @@ RowDeparts h e outs =
 take_departs : (s : State) (b : Bool) → s.up ≡ b
     → MatchBool b (AllDepart s.policy (publications s.link.waiting) (departures (outs_of s Take)))
     (departures (outs_of s Take) ≡ [])
-take_departs s true is = rw is (all_depart s.policy s.link s.link.waiting)
+take_departs s true is =
+    rw is
+    (subst (λ ps. AllDepart s.policy ps (departures
+    (leaving s.link (outgoing s.link) (exits_of s.policy (outgoing s.link)))))
+    (outgoing_published s.link) (all_depart s.policy s.link (outgoing s.link)))
 take_departs s false is = rw is refl
 
 row_departs : (h : List Row) (s : State) (e : Event) → Stands h s → RowDeparts h e (outs_of s e)
@@ -72,7 +78,7 @@ row_departs h s (Tick clock) st =
     no_departures (outs_of s (Tick clock)) (says s (ByTick clock) st.good.apart).exits
 
 take_announced : (s : State) (b : Bool) → s.up ≡ b → Announced false (outs_of s Take)
-take_announced s true is = rw is (all_announced s.policy s.link s.link.waiting false)
+take_announced s true is = rw is (all_announced s.policy s.link (outgoing s.link) false)
 take_announced s false is = rw is tt
 
 row_announced : (s : State) (e : Event) → Announced false (outs_of s e)
@@ -98,7 +104,7 @@ row_timely h s (Replace policy) up never = replace_wires s policy
 row_timely h s (Tick clock) up never = tick_wires s clock
 
 take_unsent : (s : State) (b : Bool) → s.up ≡ b → sends_in (outs_of s Take) ≡ []
-take_unsent s true is = rw is (all_unsent s.policy s.link s.link.waiting)
+take_unsent s true is = rw is (all_unsent s.policy s.link (outgoing s.link))
 take_unsent s false is = rw is refl
 
 pub row_unsent : (s : State) (e : Event) → is_upstream e ≡ true → sends_in (outs_of s e) ≡ []

@@ -7,6 +7,7 @@ use Rattle.std.specs.List.{flat_map}
 use Rattle.std.specs.Str.{bytes_eq}
 use Rattle.std.specs.declared.result.Result.{Result}
 use Rattle.mqtt_frames.specs.declared.packet.Packet.{Packet}
+use Rattle.sng_grants.specs.Limits.{Limits}
 use Rattle.sng_grants.specs.declared.policy.Policy.{Policy}
 use Rattle.sng_states.specs.States.{has_session}
 use Rattle.sng_text.specs.Texts.{is_name}
@@ -215,22 +216,23 @@ dropped_wires place None = refl
 dropped_wires true (Some packet_id) = refl
 dropped_wires false (Some packet_id) = refl
 
-pub packet_wires : (up : Bool) (link : Link) (a : Answer) → wires_in (answer_outs up link a) ≡ []
-packet_wires up link (Delivers p) =
-    misnamed_wires (is_name p.name) (dropped (has_place link) (owed up p))
-    (dropped_wires (has_place link) (owed up p))
-packet_wires up link (Acknowledges packet_id) = refl
-packet_wires up link (Grants packet_id) = refl
-packet_wires up link (Refuses packet_id) = refl
-packet_wires up link Confirms = refl
-packet_wires up link Strange = refl
+pub packet_wires : (limits : Limits) (up : Bool) (link : Link) (a : Answer)
+    → wires_in (answer_outs limits up link a) ≡ []
+packet_wires limits up link (Delivers p) =
+    misnamed_wires (is_name p.name) (dropped (has_place limits link) (owed up p))
+    (dropped_wires (has_place limits link) (owed up p))
+packet_wires limits up link (Acknowledges packet_id) = refl
+packet_wires limits up link (Grants packet_id) = refl
+packet_wires limits up link (Refuses packet_id) = refl
+packet_wires limits up link Confirms = refl
+packet_wires limits up link Strange = refl
 
 -- the whole row of a packet
 pub broker_wires : (s : State) (sent : Packet) → wires_in (outs_by s (ByPacket sent)) ≡ []
 broker_wires s sent =
     let c = ByPacket sent in
-    wires_append (client_rows s c [] (notes_for s c)) (answer_outs s.up s.link (answer_of sent))
-    (rows_wires s c [] (notes_for s c)) (packet_wires s.up s.link (answer_of sent))
+    wires_append (client_rows s c [] (notes_for s c)) (answer_outs s.policy.limits s.up s.link (answer_of sent))
+    (rows_wires s c [] (notes_for s c)) (packet_wires s.policy.limits s.up s.link (answer_of sent))
 
 -- and that of a replacement
 pub replace_wires : (s : State) (policy : Policy) → wires_in (outs_by s (ByReplace policy)) ≡ []
@@ -238,8 +240,9 @@ replace_wires s policy =
     let c = ByReplace policy in rows_wires s c (drops s c (notes_for s c)) (notes_for s c)
 
 -- and that of a tick
-ping_wires : (up : Bool) (link : Link) (clock : ℕ) → wires_in (ping_dropped up link clock) ≡ []
-ping_wires up link clock = by_due (is_ping_due up link clock) (has_place link)
+ping_wires : (limits : Limits) (up : Bool) (link : Link) (clock : ℕ)
+    → wires_in (ping_dropped limits up link clock) ≡ []
+ping_wires limits up link clock = by_due (is_ping_due up link clock) (has_place limits link)
   where
     by_due : (due place : Bool) → wires_in (if due then (if place then [] else Note note.Outbox ∷ []) else [])
         ≡ []
@@ -251,6 +254,6 @@ pub tick_wires : (s : State) (clock : ℕ) → wires_in (outs_by s (ByTick clock
 tick_wires s clock =
     let c = ByTick clock in
     let now = later s.clock clock in
-    let link = with_wills s.link now s.clients in
-    wires_append (client_rows s c [] (notes_for s c)) (ping_dropped s.up link now)
-    (rows_wires s c [] (notes_for s c)) (ping_wires s.up link now)
+    let link = with_wills s.policy.limits s.link now s.clients in
+    wires_append (client_rows s c [] (notes_for s c)) (ping_dropped s.policy.limits s.up link now)
+    (rows_wires s c [] (notes_for s c)) (ping_wires s.policy.limits s.up link now)

@@ -3,7 +3,7 @@ use Rattle.std.proofs.Common.{◌≡◌, ℕ, ◌+◌, ◌≤◌, Bool, true, fa
 use Rattle.std.proofs.Common.{ap, sym, ◌∙◌, subst, arith}
 use Rattle.std.proofs.Common.{length-append}
 use Rattle.std.specs.Prelude.{if◌then◌else◌, count_by, Some}
-use Rattle.std.proofs.lemmas.List.{append-nil, append_assoc, map-append, length-map}
+use Rattle.std.proofs.lemmas.List.{append-nil, append_assoc, map-append}
 use Rattle.sng_text.specs.declared.qos.Qos.{Qos}
 use Rattle.sng_text.specs.declared.qos.Qos.TheVariants.{AtMostOnce, AtLeastOnce}
 use Rattle.sng_grants.specs.declared.policy.Policy.{Policy}
@@ -13,13 +13,14 @@ use Rattle.sng_outbox.specs.declared.item.Item.{Item}
 use Rattle.sng_outbox.specs.declared.item.Item.TheVariants as item
 use Rattle.sng_outbox.specs.declared.item.Publication.{Publication}
 use Rattle.sng_outbox.proofs.LoadLemmas.{counted-front}
-use Rattle.sng_outbox.specs.declared.limits.TheConstants.{MAX_IN_FLIGHT}
+use Rattle.sng_grants.specs.declared.limits.TheConstants.{MAX_FLIGHT}
 use Rattle.sng_book.specs.declared.outcome.Outcome.{Outcome}
 use Rattle.sng_book.specs.declared.outcome.Outcome.TheVariants.{Allowed, Denied}
 use Rattle.sng_book.specs.declared.out.Out.{Out}
-use Rattle.sng_history.specs.Links.{Link, Wanted, wants, opened, packet_id_by, next_packet_id, sent_by}
+use Rattle.sng_history.specs.Links.{Link, wants, packet_id_by, next_packet_id, sent_by}
 use Rattle.sng_history.specs.Links.{exited, subscribe_left}
 use Rattle.sng_history.specs.Links.{unsubscribe_left, link_after}
+use Rattle.sng_history.specs.Links.{may_open, subscribe_sent, subscribes_sent}
 use Rattle.sng_history.specs.Verdicts.{exit}
 use Rattle.sng_history.specs.Exits.{packet_of, exits_of, forwarded, subscribe_leaves, unsubscribe_leaves}
 use Rattle.sng_history.specs.Exits.{leaving}
@@ -28,6 +29,7 @@ use Rattle.sng_laws.specs.ViewsLink.{publications, departures}
 use Rattle.sng_laws.specs.ViewsFlight.{id_shown, flights_of}
 use Rattle.sng_laws.specs.LawsFlight.{AreIds}
 use Rattle.sng_promise.proofs.Link.FlightIds.{ids_of, ids_push, Fit, Free, next_is_free, shown}
+use Rattle.sng_history.proofs.FewOpen.{sent_open}
 
 -- the link moves so that these are in flight, too
 pub record Moves (link after : Link) (new : List InFlight) : Type 0 where
@@ -82,7 +84,7 @@ given link p n m fit is same free = record {
 }
 
 sent_moves : (link : Link) (p : Publication) (q : Qos) → Fit link
-    → length link.in_flight + cond (is_at_least_once q) 1 0 ≤ MAX_IN_FLIGHT
+    → length link.in_flight + cond (is_at_least_once q) 1 0 ≤ MAX_FLIGHT
     → Moves link (sent_by link p q) (new_by link p q)
 sent_moves link p AtMostOnce fit few = stays link fit
 sent_moves link p AtLeastOnce fit few =
@@ -93,7 +95,7 @@ sent_moves link p AtLeastOnce fit few =
 -- the first that leaves
 first_moves : (link : Link) (p : Publication) (o : Outcome) (ps : List Publication) (outs : List Out)
     (after : Link)
-    → Fit link → length link.in_flight + cond (is_at_least_once p.qos) 1 0 ≤ MAX_IN_FLIGHT
+    → Fit link → length link.in_flight + cond (is_at_least_once p.qos) 1 0 ≤ MAX_FLIGHT
     → (Fit (exited link p o) → length (exited link p o).in_flight ≤ length link.in_flight
     + cond (is_at_least_once p.qos) 1 0
     → Moves (exited link p o) after (flights_of ps (departures outs)))
@@ -109,28 +111,52 @@ first_moves link p (Denied rule) ps outs after fit few rest = rest fit (omega ar
 
 -- ---- a SUBSCRIBE and an UNSUBSCRIBE
 
-opened_few : (wanted : List Wanted) (text : List ℕ) (n : ℕ) → length (opened wanted text n) ≡ length wanted
-opened_few wanted text n = length-map wanted _
+-- what a SUBSCRIBE that has to leave keeps of the link
+record Kept (link after : Link) : Type 0 where
+  in_flight : after.in_flight ≡ link.in_flight
+  pinged : after.pinged ≡ link.pinged
+  last : after.last ≤ 65535
+
+sent_kept : (link : Link) (text : List ℕ) (may : Bool) → may_open link.wanted text ≡ may → Fit link
+    → length link.in_flight ≤ MAX_FLIGHT → Kept link (subscribe_sent link text)
+sent_kept link text true is fit few =
+    rw is (record { in_flight = refl; pinged = refl; last = (next_is_free link fit few).small })
+sent_kept link text false is fit few = rw is (record { in_flight = refl; pinged = refl; last = fit.last })
+
+sent_moves_on : (link : Link) (text : List ℕ) → Fit link → length link.in_flight ≤ MAX_FLIGHT
+    → Moves link (subscribe_sent link text) []
+sent_moves_on link text fit few =
+    let kept = sent_kept link text (may_open link.wanted text) refl fit few in
+    record {
+      in_flight = kept.in_flight ∙ sym (append-nil link.in_flight);
+      pinged = kept.pinged;
+      fit = record {
+        ids = subst (λ (flights : List InFlight). AreIds (ids_of flights)) (sym kept.in_flight) fit.ids;
+        last = kept.last;
+        few = sent_open link text fit.few;
+      };
+    }
+
+-- as each of these has to leave
+pub all_subscribed : (link : Link) (texts : List (List ℕ)) → Fit link → length link.in_flight ≤ MAX_FLIGHT
+    → Moves link (subscribes_sent link texts) []
+all_subscribed link [] fit few = stays link fit
+all_subscribed link (text ∷ texts) fit few =
+    let next = subscribe_sent link text in
+    let one = sent_moves_on link text fit few in
+    let same : length next.in_flight ≡ length link.in_flight =
+    ap length (one.in_flight ∙ append-nil link.in_flight) in
+    moves_on link next (subscribes_sent next texts) [] [] one
+    (all_subscribed next texts one.fit (omega (arith, same, few)))
 
 subscribe_moves : (link : Link) (text : List ℕ) (b : Bool) → wants link.wanted text ≡ b → Fit link
-    → length link.in_flight ≤ MAX_IN_FLIGHT
+    → length link.in_flight ≤ MAX_FLIGHT
     → Moves link (subscribe_left link text) []
-subscribe_moves link text true is fit few =
-    let free : Free link (next_packet_id link) = next_is_free link fit few in
-    rw is (record {
-      in_flight = sym (append-nil link.in_flight);
-      pinged = refl;
-      fit =
-          record {
-            ids = fit.ids;
-            last = free.small;
-            few = omega (arith, fit.few, opened_few link.wanted text (next_packet_id link));
-          };
-    })
+subscribe_moves link text true is fit few = rw is (sent_moves_on link text fit few)
 subscribe_moves link text false is fit few = rw is (stays link fit)
 
 unsubscribe_moves : (link : Link) (text : List ℕ) (b : Bool) → wants link.wanted text ≡ b → Fit link
-    → length link.in_flight ≤ MAX_IN_FLIGHT
+    → length link.in_flight ≤ MAX_FLIGHT
     → Moves link (unsubscribe_left link text) []
 unsubscribe_moves link text true is fit few = rw is (stays link fit)
 unsubscribe_moves link text false is fit few =
@@ -146,7 +172,7 @@ unsubscribe_moves link text false is fit few =
 -- ---- all of them
 
 pub all_move : (policy : Policy) (link : Link) (items : List Item) → Fit link
-    → length link.in_flight + count_by asks_for_ack items ≤ MAX_IN_FLIGHT
+    → length link.in_flight + count_by asks_for_ack items ≤ MAX_FLIGHT
     → Moves link (link_after link items (exits_of policy items))
     (flights_of (publications items) (departures (leaving link items (exits_of policy items))))
 all_move policy link [] fit few = stays link fit

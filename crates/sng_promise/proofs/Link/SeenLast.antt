@@ -25,10 +25,12 @@ use Rattle.sng_history.specs.Notes.{exits_in}
 use Rattle.sng_history.specs.Links.{Link, wants, next_packet_id, packet_id_by, sent_by, exited, resumed}
 use Rattle.sng_history.specs.Links.{filters_wanted, subscribe_sent, subscribes_sent, subscribe_left}
 use Rattle.sng_history.specs.Links.{unsubscribe_left, link_after}
+use Rattle.sng_history.specs.Links.{may_open, outgoing}
 use Rattle.sng_history.specs.State.{State, opening, state_of, link_moved}
 use Rattle.sng_history.specs.Verdicts.{exit}
 use Rattle.sng_history.specs.Exits.{packet_of, exits_of, agains_of, forwarded, subscribe_leaves}
 use Rattle.sng_history.specs.Exits.{unsubscribe_leaves, subscribing, leaving, sent_again, resending}
+use Rattle.sng_history.specs.Exits.{subscribe_out}
 use Rattle.sng_history.specs.Lawful.{Lawful, exits_for}
 use Rattle.sng_history.specs.Steps.{outs_of}
 use Rattle.sng_laws.specs.LawsState.{RestShown}
@@ -38,6 +40,7 @@ use Rattle.sng_history.proofs.Says.{says}
 use Rattle.sng_history.proofs.Keeping.{exact_by}
 use Rattle.sng_promise.proofs.Link.FlightIds.{shown}
 use Rattle.sng_promise.proofs.Link.LawLinkOrder.{departed_note, later_exits}
+use Rattle.sng_promise.proofs.Link.LawLinkOrder.{outgoing_published}
 use Rattle.sng_promise.proofs.Link.LawAgain.{ids_by}
 use Rattle.sng_promise.proofs.Link.LawRows.{anew}
 use Rattle.sng_promise.proofs.Link.LawWires.{datagram_still, broker_wires, replace_wires, tick_wires}
@@ -48,6 +51,7 @@ use Rattle.sng_promise.proofs.WantedFilters.UpstreamWords.{ping_quiet}
 use Rattle.sng_promise.proofs.WantedFilters.UpstreamSpeaks.{Speaks, ShortEnds, next_is, exited_speaks}
 use Rattle.sng_promise.proofs.WantedFilters.UpstreamLeaving.{ShortTexts}
 use Rattle.sng_promise.proofs.WantedFilters.UpstreamSpeaks.{subscribe_speaks, unsubscribe_speaks}
+use Rattle.sng_promise.proofs.WantedFilters.UpstreamSpeaks.{subscribed_last, outgoing_short}
 use Rattle.sng_promise.proofs.WantedFilters.UpstreamOpen.{WantedShown, speaks_of, texts_short}
 use Rattle.sng_promise.proofs.WantedFilters.UpstreamWanted.{wanted_shown}
 use Rattle.sng_promise.proofs.WantedFilters.UpstreamWanted.{answered_last}
@@ -93,12 +97,19 @@ forwarded_last : (link : Link) (p : Publication) (ps : List Publication) (outs :
 forwarded_last link p ps outs Allowed small = sent_last link p ps outs p.qos small
 forwarded_last link p ps outs (Denied rule) small = refl
 
+out_last : (link : Link) (text : List ℕ) (ps : List Publication) (outs : List Out) (may : Bool)
+    → may_open link.wanted text ≡ may → link.last ≤ 65535 → length text ≤ 65535
+    → Last ps (subscribe_out link text ++ outs) link.last ≡ Last ps outs (subscribe_sent link text).last
+out_last link text ps outs true is small short =
+    rw (is, (subscribe_read (next_packet_id link) text (next_is link small) short).ids) refl
+out_last link text ps outs false is small short = rw is refl
+
 subscribe_last : (link : Link) (text : List ℕ) (ps : List Publication) (outs : List Out) (b : Bool)
     → wants link.wanted text ≡ b → Speaks link
     → Last ps (subscribe_leaves link text ++ outs) link.last ≡ Last ps outs (subscribe_left link text).last
 subscribe_last link text ps outs true is speaks =
-    let read = subscribe_read (next_packet_id link) text (next_is link speaks.last) (speaks.short text is) in
-    rw (is, read.ids) refl
+    rw is
+    (out_last link text ps outs (may_open link.wanted text) refl speaks.last (speaks.short text is))
 subscribe_last link text ps outs false is speaks = rw is refl
 
 unsubscribe_last : (link : Link) (text : List ℕ) (ps : List Publication) (outs : List Out) (b : Bool)
@@ -155,8 +166,9 @@ anew_last : (ps : List Publication) (link : Link) (texts : List (List ℕ)) → 
     → ShortTexts texts → Last ps (subscribing link texts) link.last ≡ (subscribes_sent link texts).last
 anew_last ps link [] small short = refl
 anew_last ps link (text ∷ texts) small short =
-    rw (subscribe_read (next_packet_id link) text (next_is link small) short.0).ids
-    (anew_last ps (subscribe_sent link text) texts (next_is link small).small short.1)
+    let next = subscribe_sent link text in
+    out_last link text ps (subscribing next texts) (may_open link.wanted text) refl small short.0
+    ∙ anew_last ps next texts (subscribed_last link text small) short.1
 
 -- ---- all rows
 
@@ -180,7 +192,12 @@ up_moves s speaks =
 
 take_moves : (s : State) (b : Bool) → s.up ≡ b → Speaks s.link → ShortEnds s.link.waiting
     → Moves s Take (outs_of s Take)
-take_moves s true is speaks ends = rw is (sym (leaving_last s.policy s.link s.link.waiting speaks ends))
+take_moves s true is speaks ends =
+    let items = outgoing s.link in
+    let outs = leaving s.link items (exits_of s.policy items) in
+    rw is
+    (sym (ap (λ ps. Last ps outs s.link.last) (sym (outgoing_published s.link))
+    ∙ leaving_last s.policy s.link items speaks (outgoing_short s.link ends)))
 take_moves s false is speaks ends = rw is refl
 
 row_moves : (h : List Row) (s : State) (e : Event) → Stands h s → WantedShown h s → Moves s e (outs_of s e)

@@ -2,6 +2,7 @@
 use Rattle.std.proofs.Common.{◌≡◌, ℕ, ◌-◌, Bool, true, false, List, [], ◌++◌, map, length}
 use Rattle.std.proofs.Common.{refl, ap, sym, ◌∙◌}
 use Rattle.std.proofs.Common.{if◌then◌else◌, Ok, Err}
+use Rattle.std.proofs.Common.{subst}
 use Rattle.std.specs.Prelude.{not, take, Option, Some, None, ◌&&◌}
 use Rattle.std.specs.declared.result.Result.{Result}
 use Rattle.std.proofs.lemmas.List.{append-nil}
@@ -15,7 +16,6 @@ use Rattle.sng_frames.specs.declared.frame.SnFrame.TheVariants as frame
 use Rattle.sng_outbox.specs.Sending.{publishes}
 use Rattle.sng_outbox.specs.declared.item.Item.{Item}
 use Rattle.sng_outbox.specs.declared.item.Item.TheVariants as item
-use Rattle.sng_outbox.specs.declared.limits.TheConstants.{MAX_OUTBOX_ITEMS}
 use Rattle.sng_book.specs.declared.address.Address.{Address}
 use Rattle.sng_book.specs.declared.event.Event.{Event}
 use Rattle.sng_book.specs.declared.event.Event.TheVariants.{Datagram, Broker, Up, Down, Take, Replace, Tick}
@@ -32,6 +32,7 @@ use Rattle.sng_history.specs.Notes.{notes_of}
 use Rattle.sng_history.specs.Standing.{released}
 use Rattle.sng_history.specs.Standing.{unsubscribes}
 use Rattle.sng_history.specs.State.{State}
+use Rattle.sng_history.specs.State.{policy_by}
 use Rattle.sng_history.specs.Verdicts.{source_ask}
 use Rattle.sng_history.specs.Lawful.{fixed_for}
 use Rattle.sng_history.specs.Steps.{outs_by, outs_of, clients_next}
@@ -51,6 +52,8 @@ use Rattle.sng_promise.proofs.Link.SeenTicks.{Said}
 use Rattle.sng_promise.proofs.Link.SeenPings.{Connected, tick_waits}
 use Rattle.sng_promise.proofs.Link.SeenReleases.{note_shown, outs_shown, ids_of, FiltersShown}
 use Rattle.sng_promise.proofs.Link.SeenReleases.{unsubscribes_are}
+use Rattle.sng_grants.specs.declared.policy.Policy.{Policy}
+use Rattle.sng_laws.specs.Views.{last_policy, policy_after}
 
 -- ---- what waits after a datagram, given of which filters the broker would be told
 
@@ -60,21 +63,22 @@ Waits s c items told gone =
 
 -- a message of a session
 message_waits : (s : State) (from : Address) (request : Request) (gone : List (List ℕ))
-    → unsubscribes s.link (released s.clients (clients_next s (ByMessage from request)))
+    → unsubscribes s.policy.limits s.link (released s.clients (clients_next s (ByMessage from request)))
     ≡ map item.Unsubscribe gone
     → Waits s (ByMessage from request)
     (items_in (publish_asked request) (outs_by s (ByMessage from request))) true gone
 message_waits s from request gone is =
     let outs = outs_by s (ByMessage from request) in
     ap (λ items. s.link.waiting ++ (items
-    ++ unsubscribes s.link (released s.clients (clients_next s (ByMessage from request)))))
+    ++ unsubscribes s.policy.limits s.link (released s.clients (clients_next s (ByMessage from request)))))
     (sym (message_asks s from request) ∙ outs_shown (publish_asked request) outs)
     ∙ ap (λ more. s.link.waiting ++ (items_in (publish_asked request) outs ++ more))
     (is ∙ sym (append-nil (map item.Unsubscribe gone)))
 
 publish_waits : (s : State) (from : Address) (p : Publish) (q : FrameQos) (gone : List (List ℕ))
     → let c = publish_cause from p q in
-    unsubscribes s.link (released s.clients (clients_next s c)) ≡ map item.Unsubscribe gone
+    unsubscribes (policy_by c s.policy).limits s.link (released s.clients (clients_next s c))
+    ≡ map item.Unsubscribe gone
     → Waits s c (items_in (Some p) (outs_by s c)) (not (is_without_session q)) gone
 publish_waits s from p qos.WithoutSession gone is =
     let said = source_ask s from.ip p in
@@ -87,14 +91,16 @@ publish_waits s from p qos.ExactlyOnce gone is = message_waits s from (ToPublish
 
 disconnect_waits : (s : State) (from : Address) (duration : Option ℕ) (gone : List (List ℕ))
     → let c = datagram_cause from (Ok (frame.Disconnect duration)) in
-    unsubscribes s.link (released s.clients (clients_next s c)) ≡ map item.Unsubscribe gone
+    unsubscribes (policy_by c s.policy).limits s.link (released s.clients (clients_next s c))
+    ≡ map item.Unsubscribe gone
     → Waits s c (items_for (message_in (Ok (frame.Disconnect duration))) (outs_by s c)) true gone
 disconnect_waits s from None gone is = message_waits s from ToLeave gone is
 disconnect_waits s from (Some duration) gone is = message_waits s from (ToSleep duration) gone is
 
 datagram_waits : (s : State) (from : Address) (read : Result SnFrame FrameFault) (gone : List (List ℕ))
     → let c = datagram_cause from read in
-    unsubscribes s.link (released s.clients (clients_next s c)) ≡ map item.Unsubscribe gone
+    unsubscribes (policy_by c s.policy).limits s.link (released s.clients (clients_next s c))
+    ≡ map item.Unsubscribe gone
     → Waits s c (items_for (message_in read) (outs_by s c)) (is_spoken (message_in read)) gone
 datagram_waits s from (Ok (frame.Connect connect)) gone is =
     ap (λ more. s.link.waiting ++ more) (is ∙ sym (append-nil (map item.Unsubscribe gone)))
@@ -140,33 +146,38 @@ pub waits_row : (s : State) (e : Event) (h : List Row) → Connected h s → s.l
     → ids_of s.clients ≡ accepted h
     → Each (FiltersShown h) s.clients → Each (WillShown h) s.clients
     → Each (λ x. notes_of x.id (outs_of s e) ≡ fixed_for s (cause_of e) x) s.clients
+    → policy_by (cause_of e) s.policy ≡ policy_after e (last_policy h)
     → waiting_next s (cause_of e) ≡ kept e h (waiting h) ++ added e h (waiting h) (outs_of s e)
-waits_row s (Datagram from datagram) h is items apart order shown wills own =
+waits_row s (Datagram from datagram) h is items apart order shown wills own same =
     let e = Datagram from datagram in
+    let outs = outs_of s e in
+    let gone = released_among e h outs [] (accepted h) in
     rw (sym items)
+    (subst (λ (p : Policy). Waits s (cause_of e) (items_for (message_in (frame_of datagram)) outs)
+    (is_spoken (message_in (frame_of datagram))) (take (p.limits.waiting - length s.link.waiting) gone)) same
     (datagram_waits s from (frame_of datagram)
-    (take (MAX_OUTBOX_ITEMS - length s.link.waiting) (released_among e h (outs_of s e) [] (accepted h)))
-    (unsubscribes_are h s e shown own order))
-waits_row s (Broker sent) h is items apart order shown wills own =
+    (take ((policy_by (cause_of e) s.policy).limits.waiting - length s.link.waiting) gone)
+    (unsubscribes_are h s e shown own order)))
+waits_row s (Broker sent) h is items apart order shown wills own same =
     let owed =
     map item.Acknowledge (if s.up && not (is_outbox_noted (outs_of s (Broker sent))) then message_id sent
     else []) in
     rw (sym is.up, sym items) (ap (λ more. s.link.waiting ++ more)
     (packet_waits s sent ∙ sym (append-nil owed)))
-waits_row s Up h is items apart order shown wills own =
+waits_row s Up h is items apart order shown wills own same =
     rw (sym is.up, sym items) (up_waits s.up s.link.waiting)
-waits_row s Down h is items apart order shown wills own =
+waits_row s Down h is items apart order shown wills own same =
     rw (sym items) (sym (append-nil (publishes s.link.waiting)))
-waits_row s Take h is items apart order shown wills own =
+waits_row s Take h is items apart order shown wills own same =
     rw (sym is.up, sym items) (take_waits s.up s.link.waiting)
-waits_row s (Replace policy) h is items apart order shown wills own =
+waits_row s (Replace policy) h is items apart order shown wills own same =
     let e = Replace policy in
     let gone =
-    take (MAX_OUTBOX_ITEMS - length s.link.waiting) (released_among e h (outs_of s e) [] (accepted h)) in
+    take (policy.limits.waiting - length s.link.waiting) (released_among e h (outs_of s e) [] (accepted h)) in
     rw (sym items)
     (ap (λ more. s.link.waiting ++ more)
     (unsubscribes_are h s e shown own order ∙ sym (append-nil (map item.Unsubscribe gone))))
-waits_row s (Tick clock) h is items apart order shown wills own =
+waits_row s (Tick clock) h is items apart order shown wills own same =
     let e = Tick clock in
     let said =
     each_with (WillShown h) (λ x. notes_of x.id (outs_of s e) ≡ fixed_for s (ByTick clock) x)

@@ -4,6 +4,7 @@ use Rattle.std.proofs.Common.{if◌then◌else◌}
 use Rattle.std.specs.Prelude.{◌&&◌, ◌||◌, not, Option, Some, None, slice_get}
 use Rattle.std.specs.List.{flat_map}
 use Rattle.std.proofs.lemmas.List.{append_assoc}
+use Rattle.sng_grants.specs.Limits.{Limits}
 use Rattle.sng_text.specs.Texts.{is_name}
 use Rattle.mqtt_frames.specs.declared.packet.SubscribeCode.{SubscribeCode}
 use Rattle.mqtt_frames.specs.declared.packet.SubscribeCode.TheVariants as code
@@ -67,36 +68,37 @@ nothing_owed true true = refl
 nothing_owed true false = refl
 nothing_owed false noted = refl
 
-answer_waits : (up : Bool) (link : Link) (packet_id : ℕ) (codes : List SubscribeCode)
+answer_waits : (limits : Limits) (up : Bool) (link : Link) (packet_id : ℕ) (codes : List SubscribeCode)
     → let a = subscribe_answer packet_id codes in
-    acknowledgements up link a ≡ map item.Acknowledge
-    (if up && not (is_outbox_noted (answer_outs up link a)) then [] else [])
-answer_waits up link packet_id [] = nothing_owed up false
-answer_waits up link packet_id (code.Refused ∷ codes) = nothing_owed up false
-answer_waits up link packet_id (code.Granted qos ∷ codes) = nothing_owed up false
+    acknowledgements limits up link a ≡ map item.Acknowledge
+    (if up && not (is_outbox_noted (answer_outs limits up link a)) then [] else [])
+answer_waits limits up link packet_id [] = nothing_owed up false
+answer_waits limits up link packet_id (code.Refused ∷ codes) = nothing_owed up false
+answer_waits limits up link packet_id (code.Granted qos ∷ codes) = nothing_owed up false
 
-answered_waits : (up : Bool) (link : Link) (sent : Packet)
-    → acknowledgements up link (answer_of sent)
-    ≡ map item.Acknowledge (if up && not (is_outbox_noted (answer_outs up link (answer_of sent)))
+answered_waits : (limits : Limits) (up : Bool) (link : Link) (sent : Packet)
+    → acknowledgements limits up link (answer_of sent)
+    ≡ map item.Acknowledge (if up && not (is_outbox_noted (answer_outs limits up link (answer_of sent)))
     then message_id sent else [])
-answered_waits up link (packet.Publish p) =
-    owed_waits up (has_place link) p.packet_id
+answered_waits limits up link (packet.Publish p) =
+    owed_waits up (has_place limits link) p.packet_id
     ∙ ap (λ noted. map item.Acknowledge (if up && not noted then listed p.packet_id else []))
-    (sym (named_waits (is_name p.name) (dropped (has_place link) (owed up p))))
-answered_waits up link (packet.PublishAck packet_id) = nothing_owed up false
-answered_waits up link (packet.Connect connect) =
-    nothing_owed up (is_outbox_noted (answer_outs up link (answer_of (packet.Connect connect))))
-answered_waits up link (packet.ConnectAck answer) =
-    nothing_owed up (is_outbox_noted (answer_outs up link (answer_of (packet.ConnectAck answer))))
-answered_waits up link (packet.Subscribe request) =
-    nothing_owed up (is_outbox_noted (answer_outs up link (answer_of (packet.Subscribe request))))
-answered_waits up link (packet.SubscribeAck answer) = answer_waits up link answer.packet_id answer.codes
-answered_waits up link (packet.Unsubscribe request) =
-    nothing_owed up (is_outbox_noted (answer_outs up link (answer_of (packet.Unsubscribe request))))
-answered_waits up link (packet.UnsubscribeAck packet_id) = nothing_owed up false
-answered_waits up link packet.PingRequest = nothing_owed up false
-answered_waits up link packet.PingResponse = nothing_owed up false
-answered_waits up link packet.Disconnect = nothing_owed up false
+    (sym (named_waits (is_name p.name) (dropped (has_place limits link) (owed up p))))
+answered_waits limits up link (packet.PublishAck packet_id) = nothing_owed up false
+answered_waits limits up link (packet.Connect connect) =
+    nothing_owed up (is_outbox_noted (answer_outs limits up link (answer_of (packet.Connect connect))))
+answered_waits limits up link (packet.ConnectAck answer) =
+    nothing_owed up (is_outbox_noted (answer_outs limits up link (answer_of (packet.ConnectAck answer))))
+answered_waits limits up link (packet.Subscribe request) =
+    nothing_owed up (is_outbox_noted (answer_outs limits up link (answer_of (packet.Subscribe request))))
+answered_waits limits up link (packet.SubscribeAck answer) =
+    answer_waits limits up link answer.packet_id answer.codes
+answered_waits limits up link (packet.Unsubscribe request) =
+    nothing_owed up (is_outbox_noted (answer_outs limits up link (answer_of (packet.Unsubscribe request))))
+answered_waits limits up link (packet.UnsubscribeAck packet_id) = nothing_owed up false
+answered_waits limits up link packet.PingRequest = nothing_owed up false
+answered_waits limits up link packet.PingResponse = nothing_owed up false
+answered_waits limits up link packet.Disconnect = nothing_owed up false
 
 -- a note of a client is none of a place in the outbox, nor is anything behind it, where no UNSUBSCRIBE is
 -- dropped
@@ -197,10 +199,10 @@ rows_unnoted s packet (x ∷ xs) outs =
     ∙ rows_unnoted s packet xs outs)
 
 pub packet_waits : (s : State) (sent : Packet)
-    → acknowledgements s.up s.link (answer_of sent)
+    → acknowledgements s.policy.limits s.up s.link (answer_of sent)
     ≡ map item.Acknowledge (if s.up && not (is_outbox_noted (outs_by s (ByPacket sent))) then message_id sent
     else [])
 packet_waits s sent =
-    answered_waits s.up s.link sent
+    answered_waits s.policy.limits s.up s.link sent
     ∙ ap (λ noted. map item.Acknowledge (if s.up && not noted then message_id sent else []))
-    (sym (rows_unnoted s sent s.clients (answer_outs s.up s.link (answer_of sent))))
+    (sym (rows_unnoted s sent s.clients (answer_outs s.policy.limits s.up s.link (answer_of sent))))

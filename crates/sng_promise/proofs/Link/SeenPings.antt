@@ -37,6 +37,7 @@ use Rattle.sng_history.specs.Lawful.{exits_for, fixed_for}
 use Rattle.sng_history.specs.Links.{Link, wants, sent_by, exited, subscribe_sent, subscribes_sent}
 use Rattle.sng_history.specs.Links.{subscribe_left, unsubscribe_left}
 use Rattle.sng_history.specs.Links.{unsubscribe_sent, resumed, filters_wanted, link_after}
+use Rattle.sng_history.specs.Links.{may_open, next_packet_id, opened, owing, outgoing}
 use Rattle.sng_history.specs.Packets.{has_place, answer_of, subscribe_answer, answered}
 use Rattle.sng_history.specs.State.{State, later, link_moved}
 use Rattle.sng_history.specs.Steps.{outs_of}
@@ -115,7 +116,7 @@ pub record Connected (h : List Row) (s : State) : Type 0 where
 
 -- the link once the wills wait, and whether a PINGREQ is due then, and finds a place
 abbrev after_wills : State → ℕ → Link
-after_wills s clock = with_wills s.link (later s.clock clock) s.clients
+after_wills s clock = with_wills s.policy.limits s.link (later s.clock clock) s.clients
 
 abbrev is_due : State → ℕ → Bool
 is_due s clock = ticking.is_ping_due s.up (after_wills s clock) (later s.clock clock)
@@ -127,17 +128,17 @@ due_same h s clock is =
       sym is.up,
       sym is.clock,
       sym is.pinged,
-      (all_alongside s.link (testaments (later s.clock clock) s.clients)).pinged,
+      (all_alongside s.policy.limits s.link (testaments (later s.clock clock) s.clients)).pinged,
     ) refl
 
 asks_same : (h : List Row) (s : State) (clock : ℕ) → Connected h s
     → asks_ping (Tick clock) h (views.pinged h) (outs_of s (Tick clock))
-    ≡ (is_due s clock && has_place (after_wills s clock))
+    ≡ (is_due s clock && has_place s.policy.limits (after_wills s clock))
 asks_same h s clock is =
-    let dropped = ping_dropped s.up (after_wills s clock) (later s.clock clock) in
+    let dropped = ping_dropped s.policy.limits s.up (after_wills s clock) (later s.clock clock) in
     ap (λ due. due && not (is_outbox_noted (outs_of s (Tick clock)))) (due_same h s clock is)
     ∙ (ap (λ noted. is_due s clock && not noted) (rows_unnoted s clock s.clients dropped)
-    ∙ asks_if (is_due s clock) (has_place (after_wills s clock)))
+    ∙ asks_if (is_due s clock) (has_place s.policy.limits (after_wills s clock)))
 
 pinged_waits : (link : Link) (clock : ℕ) (b : Bool)
     → (let after : Link = if b then record (with_item link item.Ping) { pinged = clock } else link in
@@ -156,14 +157,15 @@ tick_waits h s clock is apart said =
     let outs = outs_of s (Tick clock) in
     let now = later s.clock clock in
     let link = after_wills s clock in
-    let wills = laid s.link (testaments now s.clients) in
-    let asked = is_due s clock && has_place link in
+    let wills = laid s.policy.limits s.link (testaments now s.clients) in
+    let asked = is_due s clock && has_place s.policy.limits link in
     let pings = if asked then item.Ping ∷ [] else [] in
     let noted : testaments_in h outs outs ≡ wills =
-    tick_laid s clock h outs (ping_dropped s.up link now) apart said
-    ∙ (ap (λ more. wills ++ more) (none_asked h outs (is_due s clock) (has_place link)) ∙ append-nil wills) in
+    tick_laid s clock h outs (ping_dropped s.policy.limits s.up link now) apart said
+    ∙ (ap (λ more. wills ++ more) (none_asked h outs (is_due s clock) (has_place s.policy.limits link))
+    ∙ append-nil wills) in
     pinged_waits link now asked
-    ∙ (ap (λ items. items ++ pings) (all_wait s.link (testaments now s.clients))
+    ∙ (ap (λ items. items ++ pings) (all_wait s.policy.limits s.link (testaments now s.clients))
     ∙ (append_assoc s.link.waiting (map item.Publish wills) pings
     ∙ (ap (λ ps. s.link.waiting ++ (map item.Publish ps ++ pings)) (sym noted)
     ∙ ap (λ b. s.link.waiting ++ (map item.Publish (testaments_in h outs outs)
@@ -204,6 +206,12 @@ either_pinged : (b : Bool) (one two link : Link) → one.pinged ≡ link.pinged 
 either_pinged true one two link is are = is
 either_pinged false one two link is are = are
 
+sent_alike : (link : Link) (text : List ℕ) → (subscribe_sent link text).pinged ≡ link.pinged
+sent_alike link text =
+    either_pinged (may_open link.wanted text)
+    (record link { last = next_packet_id link; wanted = opened link.wanted text (next_packet_id link) })
+    (record link { wanted = owing link.wanted text }) link refl refl
+
 left_pinged : (link : Link) (items : List Item) (outcomes : List Outcome)
     → (link_after link items outcomes).pinged ≡ link.pinged
 left_pinged link [] outcomes = refl
@@ -212,7 +220,7 @@ left_pinged link (item.Publish p ∷ items) (o ∷ outcomes) =
     left_pinged (exited link p o) items outcomes ∙ exited_pinged link p o
 left_pinged link (item.Subscribe text ∷ items) outcomes =
     left_pinged (subscribe_left link text) items outcomes
-    ∙ either_pinged (wants link.wanted text) (subscribe_sent link text) link link refl refl
+    ∙ either_pinged (wants link.wanted text) (subscribe_sent link text) link link (sent_alike link text) refl
 left_pinged link (item.Unsubscribe text ∷ items) outcomes =
     left_pinged (unsubscribe_left link text) items outcomes
     ∙ either_pinged (wants link.wanted text) link (unsubscribe_sent link) link refl refl
@@ -221,7 +229,7 @@ left_pinged link (item.Ping ∷ items) outcomes = left_pinged link items outcome
 
 anew_pinged : (link : Link) (texts : List (List ℕ)) → (subscribes_sent link texts).pinged ≡ link.pinged
 anew_pinged link [] = refl
-anew_pinged link (text ∷ texts) = anew_pinged (subscribe_sent link text) texts
+anew_pinged link (text ∷ texts) = anew_pinged (subscribe_sent link text) texts ∙ sent_alike link text
 
 -- a tick lets wills and a PINGREQ wait, and moves nothing else but that
 pub record Along (link after : Link) : Type 0 where
@@ -237,8 +245,8 @@ along_if link clock false = record { in_flight = refl; last = refl; wanted = ref
 pub ticked_along : (s : State) (clock : ℕ) → Along s.link (link_moved s (ByTick clock) [])
 ticked_along s clock =
     let link = after_wills s clock in
-    let one = all_alongside s.link (testaments (later s.clock clock) s.clients) in
-    let two = along_if link (later s.clock clock) (is_due s clock && has_place link) in
+    let one = all_alongside s.policy.limits s.link (testaments (later s.clock clock) s.clients) in
+    let two = along_if link (later s.clock clock) (is_due s clock && has_place s.policy.limits link) in
     record {
       in_flight = two.in_flight ∙ one.in_flight;
       last = two.last ∙ one.last;
@@ -264,13 +272,13 @@ pinged_row h s Up is =
     anew_pinged (resumed s.link s.clock (exits_for s (cause_of Up))) (filters_wanted s.link) ∙ is.clock
 pinged_row h s Down is = is.pinged
 pinged_row h s Take is =
-    either_pinged s.up (link_after s.link s.link.waiting (exits_for s (cause_of Take))) s.link s.link
-    (left_pinged s.link s.link.waiting (exits_for s (cause_of Take))) refl
+    either_pinged s.up (link_after s.link (outgoing s.link) (exits_for s (cause_of Take))) s.link s.link
+    (left_pinged s.link (outgoing s.link) (exits_for s (cause_of Take))) refl
     ∙ is.pinged
 pinged_row h s (Replace policy) is = is.pinged
 pinged_row h s (Tick clock) is =
     let now = later s.clock clock in
     let link = after_wills s clock in
-    ticked_if link now (is_due s clock && has_place link)
+    ticked_if link now (is_due s clock && has_place s.policy.limits link)
     ∙ (ap (λ b. if b then now else link.pinged) (sym (asks_same h s clock is))
-    ∙ rw ((all_alongside s.link (testaments now s.clients)).pinged, is.pinged, is.clock) refl)
+    ∙ rw ((all_alongside s.policy.limits s.link (testaments now s.clients)).pinged, is.pinged, is.clock) refl)

@@ -3,6 +3,7 @@ use Rattle.std.proofs.Common.{◌≡◌, ℕ, Bool, true, false, List, [], ◌�
 use Rattle.std.proofs.Common.{if◌then◌else◌}
 use Rattle.std.specs.Prelude.{◌||◌, not, Option, Some, None}
 use Rattle.std.proofs.lemmas.List.{append_assoc, append-nil, map-append}
+use Rattle.sng_grants.specs.Limits.{Limits}
 use Rattle.sng_wills.specs.declared.will.Will.{Will}
 use Rattle.sng_outbox.specs.declared.item.Item.TheVariants as item
 use Rattle.sng_outbox.specs.declared.item.Publication.{Publication}
@@ -33,9 +34,10 @@ use Rattle.sng_history.proofs.Own.{same_self}
 -- ---- the link, as wills are placed
 
 -- of these publishes those that find a place, one after another
-abbrev pub laid : Link → List Publication → List Publication
-laid link [] = []
-laid link (p ∷ ps) = (if is_allowed (room_in link p.qos) then p ∷ [] else []) ++ laid (placed link p) ps
+abbrev pub laid : (limits : Limits) → Link → List Publication → List Publication
+laid limits link [] = []
+laid limits link (p ∷ ps) = (if is_allowed (room_in limits link p.qos) then p ∷ [] else [])
+    ++ laid limits (placed limits link p) ps
 
 placed_waits : (link : Link) (p : Publication) (b : Bool)
     → (let after : Link = if b then with_item link (item.Publish p) else link in after).waiting
@@ -43,14 +45,14 @@ placed_waits : (link : Link) (p : Publication) (b : Bool)
 placed_waits link p true = refl
 placed_waits link p false = sym (append-nil link.waiting)
 
-pub all_wait : (link : Link) (ps : List Publication)
-    → (all_placed link ps).waiting ≡ link.waiting ++ map item.Publish (laid link ps)
-all_wait link [] = sym (append-nil link.waiting)
-all_wait link (p ∷ ps) =
-    let first = if is_allowed (room_in link p.qos) then p ∷ [] else [] in
-    let rest = laid (placed link p) ps in
-    all_wait (placed link p) ps
-    ∙ (ap (λ items. items ++ map item.Publish rest) (placed_waits link p (is_allowed (room_in link p.qos)))
+pub all_wait : (limits : Limits) (link : Link) (ps : List Publication)
+    → (all_placed limits link ps).waiting ≡ link.waiting ++ map item.Publish (laid limits link ps)
+all_wait limits link [] = sym (append-nil link.waiting)
+all_wait limits link (p ∷ ps) =
+    let first = if is_allowed (room_in limits link p.qos) then p ∷ [] else [] in
+    let rest = laid limits (placed limits link p) ps in
+    all_wait limits (placed limits link p) ps
+    ∙ (ap (λ items. items ++ map item.Publish rest) (placed_waits link p (is_allowed (room_in limits link p.qos)))
     ∙ (append_assoc link.waiting (map item.Publish first) (map item.Publish rest)
     ∙ ap (λ items. link.waiting ++ items) (sym (map-append item.Publish first rest))))
 
@@ -66,11 +68,12 @@ placed_alongside : (link : Link) (p : Publication) (b : Bool)
 placed_alongside link p true = record { in_flight = refl; last = refl; wanted = refl; pinged = refl }
 placed_alongside link p false = record { in_flight = refl; last = refl; wanted = refl; pinged = refl }
 
-pub all_alongside : (link : Link) (ps : List Publication) → Alongside link (all_placed link ps)
-all_alongside link [] = record { in_flight = refl; last = refl; wanted = refl; pinged = refl }
-all_alongside link (p ∷ ps) =
-    let one = placed_alongside link p (is_allowed (room_in link p.qos)) in
-    let more = all_alongside (placed link p) ps in
+pub all_alongside : (limits : Limits) (link : Link) (ps : List Publication)
+    → Alongside link (all_placed limits link ps)
+all_alongside limits link [] = record { in_flight = refl; last = refl; wanted = refl; pinged = refl }
+all_alongside limits link (p ∷ ps) =
+    let one = placed_alongside link p (is_allowed (room_in limits link p.qos)) in
+    let more = all_alongside limits (placed limits link p) ps in
     record {
       in_flight = more.in_flight ∙ one.in_flight;
       last = more.last ∙ one.last;
@@ -78,13 +81,14 @@ all_alongside link (p ∷ ps) =
       pinged = more.pinged ∙ one.pinged;
     }
 
-pub laid_append : (link : Link) (ps qs : List Publication)
-    → laid link (ps ++ qs) ≡ laid link ps ++ laid (all_placed link ps) qs
-laid_append link [] qs = refl
-laid_append link (p ∷ ps) qs =
-    let first = if is_allowed (room_in link p.qos) then p ∷ [] else [] in
-    ap (λ more. first ++ more) (laid_append (placed link p) ps qs)
-    ∙ sym (append_assoc first (laid (placed link p) ps) (laid (all_placed (placed link p) ps) qs))
+pub laid_append : (limits : Limits) (link : Link) (ps qs : List Publication)
+    → laid limits link (ps ++ qs) ≡ laid limits link ps ++ laid limits (all_placed limits link ps) qs
+laid_append limits link [] qs = refl
+laid_append limits link (p ∷ ps) qs =
+    let first = if is_allowed (room_in limits link p.qos) then p ∷ [] else [] in
+    ap (λ more. first ++ more) (laid_append limits (placed limits link p) ps qs)
+    ∙ sym (append_assoc first (laid limits (placed limits link p) ps)
+    (laid limits (all_placed limits (placed limits link p) ps) qs))
 
 -- ---- what the row says of one will
 
@@ -121,34 +125,35 @@ gone_denies : (id client : List ℕ) (waiting : List Message) (more : List Decis
 gone_denies id client [] more = refl
 gone_denies id client (m ∷ waiting) more = gone_denies id client waiting more
 
-abbrev is_left_out : Link → List Publication → Bool
-is_left_out link [] = false
-is_left_out link (p ∷ ps) = not (is_allowed (room_in link p.qos))
+abbrev is_left_out : (limits : Limits) → Link → List Publication → Bool
+is_left_out limits link [] = false
+is_left_out limits link (p ∷ ps) = not (is_allowed (room_in limits link p.qos))
 
 one_denies : (id : List ℕ) (p : Publication) (o : Outcome) → denies id (unplaced id p o) ≡ not (is_allowed o)
 one_denies id p Allowed = refl
 one_denies id p (Denied rule) = rw (same_self id) refl
 
-dropped_denies : (link : Link) (id : List ℕ) (ps : List Publication)
-    → denies id (will_dropped link id ps) ≡ is_left_out link ps
-dropped_denies link id [] = refl
-dropped_denies link id (p ∷ ps) = one_denies id p (room_in link p.qos)
+dropped_denies : (limits : Limits) (link : Link) (id : List ℕ) (ps : List Publication)
+    → denies id (will_dropped limits link id ps) ≡ is_left_out limits link ps
+dropped_denies limits link id [] = refl
+dropped_denies limits link id (p ∷ ps) = one_denies id p (room_in limits link p.qos)
 
-lost_denies : (link : Link) (x : Client)
-    → denies x.id (lost_notes link x) ≡ is_left_out link (will_of x.id x.wills.will)
-lost_denies link x =
-    gone_denies x.id x.id x.buffer.waiting (will_dropped link x.id (will_of x.id x.wills.will))
-    ∙ dropped_denies link x.id (will_of x.id x.wills.will)
+lost_denies : (limits : Limits) (link : Link) (x : Client)
+    → denies x.id (lost_notes limits link x) ≡ is_left_out limits link (will_of x.id x.wills.will)
+lost_denies limits link x =
+    gone_denies x.id x.id x.buffer.waiting (will_dropped limits link x.id (will_of x.id x.wills.will))
+    ∙ dropped_denies limits link x.id (will_of x.id x.wills.will)
 
 -- what waits of its will
 laid_if : (p : Publication) (b : Bool) → (if not b then [] else p ∷ []) ≡ (if b then p ∷ [] else []) ++ []
 laid_if p true = refl
 laid_if p false = refl
 
-will_laid : (link : Link) (id : List ℕ) (will : Option Will)
-    → (if is_left_out link (will_of id will) then [] else published_for id will) ≡ laid link (will_of id will)
-will_laid link id None = refl
-will_laid link id (Some will) =
+will_laid : (limits : Limits) (link : Link) (id : List ℕ) (will : Option Will)
+    → (if is_left_out limits link (will_of id will) then [] else published_for id will)
+    ≡ laid limits link (will_of id will)
+will_laid limits link id None = refl
+will_laid limits link id (Some will) =
     let p : Publication =
     record {
       origin = origin.Client id;
@@ -157,12 +162,12 @@ will_laid link id (Some will) =
       qos = will.qos;
       retain = will.retain;
     } in
-    laid_if p (is_allowed (room_in link p.qos))
+    laid_if p (is_allowed (room_in limits link p.qos))
 
-pub lost_laid : (h : List Row) (all : List Out) (link : Link) (x : Client)
-    → notes_of x.id all ≡ lost_notes link x
+pub lost_laid : (limits : Limits) (h : List Row) (all : List Out) (link : Link) (x : Client)
+    → notes_of x.id all ≡ lost_notes limits link x
     → x.wills.will ≡ views.will_of x.id h
-    → testament_by h all (note.Lost x.id) ≡ laid link (will_of x.id x.wills.will)
-lost_laid h all link x own shown =
-    rw (outs_deny x.id all ∙ (ap (denies x.id) own ∙ lost_denies link x), sym shown)
-    (will_laid link x.id x.wills.will)
+    → testament_by h all (note.Lost x.id) ≡ laid limits link (will_of x.id x.wills.will)
+lost_laid limits h all link x own shown =
+    rw (outs_deny x.id all ∙ (ap (denies x.id) own ∙ lost_denies limits link x), sym shown)
+    (will_laid limits link x.id x.wills.will)

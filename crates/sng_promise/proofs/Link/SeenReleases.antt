@@ -12,7 +12,6 @@ use Rattle.sng_frames.specs.declared.qos.FrameQos.TheVariants as qos
 use Rattle.sng_frames.specs.declared.messages.publish.Publish.{Publish}
 use Rattle.sng_outbox.specs.declared.item.Item.TheVariants as item
 use Rattle.sng_outbox.specs.declared.origin.Origin.TheVariants as origin
-use Rattle.sng_outbox.specs.declared.limits.TheConstants.{MAX_OUTBOX_ITEMS}
 use Rattle.sng_book.specs.Denials.{is_allowed}
 use Rattle.sng_book.specs.declared.decision.Decision.{Decision}
 use Rattle.sng_book.specs.declared.decision.Decision.TheVariants as note
@@ -31,6 +30,7 @@ use Rattle.sng_history.specs.Notes.{notes_of}
 use Rattle.sng_history.specs.Standing.{is_held, ended, Release, releases_of, released_from, released}
 use Rattle.sng_history.specs.Standing.{places_left, unsubscribes}
 use Rattle.sng_history.specs.State.{State, around, qos_of, item_asked, asked_by, asked_all}
+use Rattle.sng_history.specs.State.{policy_by}
 use Rattle.sng_history.specs.Lawful.{fixed_for}
 use Rattle.sng_history.specs.Steps.{outs_of, newcomers_for, client_next, clients_next}
 use Rattle.sng_history.specs.Good.{Each}
@@ -231,8 +231,8 @@ FiltersShown h x = x.filters ≡ standing_of x.id h
 pub unsubscribes_are : (h : List Row) (s : State) (e : Event) → Each (FiltersShown h) s.clients
     → Each (λ x. notes_of x.id (outs_of s e) ≡ fixed_for s (cause_of e) x) s.clients
     → ids_of s.clients ≡ accepted h
-    → unsubscribes s.link (released s.clients (clients_next s (cause_of e)))
-    ≡ map item.Unsubscribe (take (MAX_OUTBOX_ITEMS - length s.link.waiting)
+    → unsubscribes (policy_by (cause_of e) s.policy).limits s.link (released s.clients (clients_next s (cause_of e)))
+    ≡ map item.Unsubscribe (take ((policy_by (cause_of e) s.policy).limits.waiting - length s.link.waiting)
     (released_among e h (outs_of s e) [] (accepted h)))
 unsubscribes_are h s e shown own order =
     let c = cause_of e in
@@ -241,8 +241,11 @@ unsubscribes_are h s e shown own order =
     each_with (FiltersShown h) (λ x. notes_of x.id (outs_of s e) ≡ fixed_for s c x)
     (λ x. Moves e h (outs_of s e) x (f x)) s.clients
     (λ x was is. moves_row h s e x was is) shown own in
-    ap (λ all. unsubscribes s.link (released s.clients all)) (map-append f s.clients (newcomers_for s c))
-    ∙ (told_items (places_left s.link) (released s.clients (map f s.clients ++ map f (newcomers_for s c)))
-    ∙ ap (λ all. map item.Unsubscribe (take (MAX_OUTBOX_ITEMS - length s.link.waiting) all))
+    ap (λ all. unsubscribes (policy_by (cause_of e) s.policy).limits s.link (released s.clients all))
+    (map-append f s.clients (newcomers_for s c))
+    ∙ (told_items (places_left (policy_by (cause_of e) s.policy).limits s.link)
+    (released s.clients (map f s.clients ++ map f (newcomers_for s c)))
+    ∙ ap (λ all. map item.Unsubscribe
+    (take ((policy_by (cause_of e) s.policy).limits.waiting - length s.link.waiting) all))
     (released_are e h (outs_of s e) f [] s.clients (map f (newcomers_for s c)) tt moves
     ∙ ap (released_among e h (outs_of s e) []) order))

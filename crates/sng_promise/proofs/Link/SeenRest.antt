@@ -3,7 +3,7 @@ use Rattle.std.proofs.Common.{◌≡◌, ℕ, ◌+◌, ◌≤◌, Bool, true, fa
 use Rattle.std.proofs.Common.{◌∙◌, subst, arith}
 use Rattle.std.proofs.Common.{if◌then◌else◌, map}
 use Rattle.std.specs.Prelude.{count_by}
-use Rattle.std.proofs.lemmas.List.{append-nil, length-map}
+use Rattle.std.proofs.lemmas.List.{append-nil}
 use Rattle.mqtt_frames.specs.declared.packet.SubscribeAck.{SubscribeAck}
 use Rattle.mqtt_frames.specs.declared.packet.SubscribeCode.{SubscribeCode}
 use Rattle.mqtt_frames.specs.declared.packet.SubscribeCode.TheVariants as code
@@ -13,7 +13,7 @@ use Rattle.sng_grants.specs.declared.policy.Policy.{Policy}
 use Rattle.sng_frames.specs.Reading.{frame_of}
 use Rattle.sng_outbox.specs.Sending.{asks_for_ack}
 use Rattle.sng_outbox.specs.declared.in_flight.InFlight.{InFlight}
-use Rattle.sng_outbox.specs.declared.limits.TheConstants.{MAX_IN_FLIGHT}
+use Rattle.sng_grants.specs.declared.limits.TheConstants.{MAX_FLIGHT}
 use Rattle.sng_book.specs.declared.outcome.Outcome.{Outcome}
 use Rattle.sng_book.specs.declared.outcome.Outcome.TheVariants.{Allowed, Denied}
 use Rattle.sng_book.specs.declared.event.Event.{Event}
@@ -22,13 +22,16 @@ use Rattle.sng_book.specs.declared.out.Out.{Out}
 use Rattle.sng_book.specs.declared.row.Row.{Row}
 use Rattle.sng_history.specs.Causes.{ByUp, ByTake, cause_of, ByTick}
 use Rattle.sng_history.specs.Notes.{exits_in}
-use Rattle.sng_history.specs.Links.{Link, opened, closed, next_packet_id, still_in_flight, resumed}
-use Rattle.sng_history.specs.Links.{filters_wanted, subscribe_sent}
+use Rattle.sng_history.specs.Links.{Link, closed, still_in_flight, resumed}
+use Rattle.sng_history.specs.Links.{filters_wanted}
 use Rattle.sng_history.specs.Links.{subscribes_sent}
+use Rattle.sng_history.specs.Links.{outgoing, filters_owed, link_after}
 use Rattle.sng_history.specs.Packets.{subscribe_answer, answer_of, answered}
+use Rattle.sng_history.specs.Packets.{Grants}
 use Rattle.sng_history.specs.State.{State, opening, state_of, link_moved}
 use Rattle.sng_history.specs.Verdicts.{exit}
 use Rattle.sng_history.specs.Exits.{agains_of, sent_again, resending}
+use Rattle.sng_history.specs.Exits.{exits_of, leaving}
 use Rattle.sng_history.specs.Lawful.{Lawful, exits_for}
 use Rattle.sng_history.specs.Steps.{outs_of}
 use Rattle.sng_laws.specs.Views.{is_up}
@@ -37,13 +40,19 @@ use Rattle.sng_laws.specs.ViewsFlight.{agains, allowed_again, others, flights_of
 use Rattle.sng_laws.specs.ViewsFlight.{in_flight}
 use Rattle.sng_history.proofs.Keeping.{exact_by}
 use Rattle.sng_promise.proofs.Clients.SeenState.{Stands, stands}
-use Rattle.sng_promise.proofs.Link.FlightIds.{Fit, Free, next_is_free, without_ids, one_other, still_ids}
-use Rattle.sng_history.proofs.FewWanted.{few_wanted}
+use Rattle.sng_promise.proofs.Link.FlightIds.{Fit, without_ids, one_other, still_ids}
+use Rattle.sng_history.proofs.FewOpen.{FewOpen, answered_open}
 use Rattle.sng_history.proofs.WaitingFlight.{subscribes_flights}
 use Rattle.sng_promise.proofs.Link.LawRows.{anew}
 use Rattle.sng_promise.proofs.Link.SeenFlight.{Moves, all_move}
+use Rattle.sng_promise.proofs.Link.SeenFlight.{all_subscribed}
 use Rattle.sng_promise.proofs.Link.SeenPings.{datagram_unmoved, ticked_along}
 use Rattle.sng_laws.specs.LawsFlight.{AreIds}
+use Rattle.sng_history.specs.Good.{Good}
+use Rattle.sng_promise.proofs.Link.LawLinkOrder.{outgoing_published}
+use Rattle.sng_outbox.specs.declared.item.Item.{Item}
+use Rattle.sng_outbox.specs.declared.item.Item.TheVariants as item
+use Rattle.sng_outbox.proofs.LoadLemmas.{counted-front}
 
 -- what a row makes of the link, but for what waits
 record Moved (h : List Row) (e : Event) (outs : List Out) (link : Link) : Type 0 where
@@ -75,12 +84,14 @@ unmoved h e outs link same none was = record {
 
 closed_flights : (h : List Row) (link : Link) (packet_id : ℕ) → Flights h link
     → Flights h (record link { wanted = closed link.wanted packet_id })
-closed_flights h link packet_id was =
-    let same : length (closed link.wanted packet_id) ≡ length link.wanted = length-map link.wanted _ in
-    record {
-      shown = record { in_flight = was.shown.in_flight };
-      fit = record { ids = was.fit.ids; last = was.fit.last; few = omega (arith, same, was.fit.few) };
-    }
+closed_flights h link packet_id was = record {
+  shown = record { in_flight = was.shown.in_flight };
+  fit = record {
+    ids = was.fit.ids;
+    last = was.fit.last;
+    few = answered_open link (Grants packet_id) was.fit.few;
+  };
+}
 
 suback_moved : (h : List Row) (answer : SubscribeAck) (outs : List Out) (link : Link)
     (codes : List SubscribeCode) → Flights h link
@@ -149,15 +160,9 @@ again_stays policy (sent ∷ flights) more =
     (agains_of policy flights)
     (resending flights (agains_of policy flights)) more (again_stays policy flights more)
 
-anew_fit : (link : Link) (texts : List (List ℕ)) → Fit link → length link.in_flight ≤ MAX_IN_FLIGHT
+anew_fit : (link : Link) (texts : List (List ℕ)) → Fit link → length link.in_flight ≤ MAX_FLIGHT
     → Fit (subscribes_sent link texts)
-anew_fit link [] fit few = fit
-anew_fit link (text ∷ texts) fit few =
-    let free : Free link (next_packet_id link) = next_is_free link fit few in
-    let same : length (opened link.wanted text (next_packet_id link)) ≡ length link.wanted =
-    length-map link.wanted _ in
-    anew_fit (subscribe_sent link text) texts
-    (record { ids = fit.ids; last = free.small; few = omega (arith, same, fit.few) }) few
+anew_fit link texts fit few = (all_subscribed link texts fit few).fit
 
 still_fewer : (flights : List InFlight) (outcomes : List Outcome)
     → length (still_in_flight flights outcomes) ≤ length flights
@@ -191,11 +196,28 @@ up_moved h s st was =
 
 -- ---- what waits leaves
 
+owed_count : (texts : List (List ℕ)) (items : List Item)
+    → count_by asks_for_ack (map item.Subscribe texts ++ items) ≡ count_by asks_for_ack items
+owed_count [] items = refl
+owed_count (text ∷ texts) items =
+    omega (
+      arith,
+      counted-front (item.Subscribe text) (map item.Subscribe texts ++ items),
+      owed_count texts items,
+    )
+
 take_moves : (s : State) (up : Bool) → s.up ≡ up → Fit s.link
-    → length s.link.in_flight + count_by asks_for_ack s.link.waiting ≤ MAX_IN_FLIGHT
+    → length s.link.in_flight + count_by asks_for_ack s.link.waiting ≤ MAX_FLIGHT
     → Moves s.link (link_moved s ByTake (exits_for s ByTake))
     (if up then flights_of (publications s.link.waiting) (departures (outs_of s Take)) else [])
-take_moves s true is fit few = rw is (all_move s.policy s.link s.link.waiting fit few)
+take_moves s true is fit few =
+    let items = outgoing s.link in
+    let outcomes = exits_of s.policy items in
+    let ds = departures (leaving s.link items outcomes) in
+    let count : count_by asks_for_ack items ≡ count_by asks_for_ack s.link.waiting =
+    owed_count (filters_owed s.link) s.link.waiting in
+    rw is (subst (λ ps. Moves s.link (link_after s.link items outcomes) (flights_of ps ds))
+    (outgoing_published s.link) (all_move s.policy s.link items fit (omega (arith, few, count))))
 take_moves s false is fit few =
     rw is (record { in_flight = sym (append-nil s.link.in_flight); pinged = refl; fit = fit })
 
@@ -241,15 +263,18 @@ row_moved h s (Tick clock) st was =
             subst (λ flights. AreIds (map (λ sent. sent.packet_id) flights))
             (sym along.in_flight) was.fit.ids;
         last = subst (λ n. n ≤ 65535) (sym along.last) was.fit.last;
-        few = omega (arith, ap length along.wanted, was.fit.few);
+        few = subst FewOpen (sym along.wanted) was.fit.few;
       };
     })
+
+open_of : {s : State} → Good s → FewOpen s.link.wanted
+open_of good = record { once = good.wanted_once; few = good.few_subscribes }
 
 pub flights_shown : (h : List Row) → Lawful opening h → Flights h (state_of opening h).link
 flights_shown [] l =
     record {
       shown = record { in_flight = refl };
-      fit = record { ids = tt; last = omega arith; few = omega arith };
+      fit = record { ids = tt; last = omega arith; few = record { once = tt; few = omega arith } };
     }
 flights_shown (row ∷ h) l =
     let s = state_of opening h in
@@ -266,6 +291,6 @@ flights_shown (row ∷ h) l =
           record {
             ids = moved.fit.ids;
             last = moved.fit.last;
-            few = few_wanted (state_of opening (row ∷ h)) (stands (row ∷ h) l).good;
+            few = open_of (stands (row ∷ h) l).good;
           };
     }

@@ -6,6 +6,7 @@ use Rattle.std.specs.Prelude.{Option, Some, None, slice_get}
 use Rattle.std.specs.List.{flat_map}
 use Rattle.std.proofs.lemmas.Grind.{flat_map-append}
 use Rattle.std.proofs.lemmas.List.{append_assoc, append-nil}
+use Rattle.sng_grants.specs.Limits.{Limits}
 use Rattle.sng_outbox.specs.declared.item.Publication.{Publication}
 use Rattle.sng_queue.specs.Messages.{Message}
 use Rattle.sng_book.specs.declared.address.Address.{Address}
@@ -90,25 +91,25 @@ unplaced_bare : (s : State) (clock : ℕ) (h : List Row) (all : List Out) (id : 
 unplaced_bare s clock h all id p Allowed = tt
 unplaced_bare s clock h all id p (Denied rule) = ((λ x rest. refl), tt)
 
-dropped_bare : (s : State) (clock : ℕ) (h : List Row) (all : List Out) (link : Link) (id : List ℕ)
+dropped_bare : (limits : Limits) (s : State) (clock : ℕ) (h : List Row) (all : List Out) (link : Link) (id : List ℕ)
     (ps : List Publication)
-    → Every (Bare (tick_around s clock) h all) (will_dropped link id ps)
-dropped_bare s clock h all link id [] = tt
-dropped_bare s clock h all link id (p ∷ ps) = unplaced_bare s clock h all id p (room_in link p.qos)
+    → Every (Bare (tick_around s clock) h all) (will_dropped limits link id ps)
+dropped_bare limits s clock h all link id [] = tt
+dropped_bare limits s clock h all link id (p ∷ ps) = unplaced_bare s clock h all id p (room_in limits link p.qos)
 
-lost_spelled : (s : State) (clock : ℕ) (h : List Row) (all : List Out) (link : Link) (x : Client)
+lost_spelled : (limits : Limits) (s : State) (clock : ℕ) (h : List Row) (all : List Out) (link : Link) (x : Client)
     (rest : List Out)
-    → testaments_in h all (spell (tick_around s clock) [] x (lost_notes link x) ++ rest)
+    → testaments_in h all (spell (tick_around s clock) [] x (lost_notes limits link x) ++ rest)
     ≡ testament_by h all (note.Lost x.id) ++ testaments_in h all rest
-lost_spelled s clock h all link x rest =
+lost_spelled limits s clock h all link x rest =
     let a = tick_around s clock in
     let gone = all_gone x.id x.buffer.waiting in
-    let dropped = will_dropped link x.id (will_of x.id x.wills.will) in
+    let dropped = will_dropped limits link x.id (will_of x.id x.wills.will) in
     ap (λ more. testament_by h all (note.Lost x.id) ++ more)
     (spell_bare a h all (lost x) (gone ++ dropped) rest
     (every_append (Bare a h all) gone dropped
     (every_gone (Bare a h all) x.id x.buffer.waiting (bare_messages a h all x.id))
-    (dropped_bare s clock h all link x.id (will_of x.id x.wills.will))))
+    (dropped_bare limits s clock h all link x.id (will_of x.id x.wills.will))))
 
 abbrev pub tick_part : State → ℕ → Client → List Out
 tick_part s clock x = part (tick_around s clock) [] (fixed_for s (ByTick clock) x) x
@@ -154,15 +155,16 @@ drained_bare h all z rest = by_drained (is_drained z)
 
 part_laid : (s : State) (clock : ℕ) (h : List Row) (all : List Out) (link : Link) (x : Client)
     (rest : List Out) (b : Bool)
-    → notes_of x.id all ≡ (if b then lost_notes link x else again_notes s.policy (later s.clock clock) x)
+    → notes_of x.id all ≡ (if b then lost_notes s.policy.limits link x else again_notes s.policy
+    (later s.clock clock) x)
     → x.wills.will ≡ views.will_of x.id h
     → testaments_in h all
     (spell (tick_around s clock) [] x
-    (if b then lost_notes link x else again_notes s.policy (later s.clock clock) x) ++ rest)
-    ≡ laid link (if b then will_of x.id x.wills.will else []) ++ testaments_in h all rest
+    (if b then lost_notes s.policy.limits link x else again_notes s.policy (later s.clock clock) x) ++ rest)
+    ≡ laid s.policy.limits link (if b then will_of x.id x.wills.will else []) ++ testaments_in h all rest
 part_laid s clock h all link x rest true own shown =
-    lost_spelled s clock h all link x rest
-    ∙ ap (λ first. first ++ testaments_in h all rest) (lost_laid h all link x own shown)
+    lost_spelled s.policy.limits s clock h all link x rest
+    ∙ ap (λ first. first ++ testaments_in h all rest) (lost_laid s.policy.limits h all link x own shown)
 part_laid s clock h all link x rest false own shown = again_spelled s clock h all x rest
 
 -- ---- all clients
@@ -178,49 +180,52 @@ rows_laid : (s : State) (clock : ℕ) (h : List Row) (all : List Out) (done rest
     → Each (Said s clock h all) rest
     → let now = later s.clock clock in
     testaments_in h all (flat_map (tick_part s clock) rest ++ more)
-    ≡ laid (all_placed s.link (testaments now done)) (testaments now rest) ++ testaments_in h all more
+    ≡ laid s.policy.limits (all_placed s.policy.limits s.link (testaments now done)) (testaments now rest)
+    ++ testaments_in h all more
 rows_laid s clock h all done [] more is apart said = refl
 rows_laid s clock h all done (x ∷ rest) more is apart said =
     let now = later s.clock clock in
-    let left = all_placed s.link (testaments now done) in
+    let left = all_placed s.policy.limits s.link (testaments now done) in
     let outs = flat_map (tick_part s clock) rest ++ more in
     let z = notes_by (tick_around s clock) (fixed_for s (ByTick clock) x) x in
     let known : before x.id s.clients ≡ done = ap (before x.id) is ∙ before_is done x rest apart in
     let own =
     subst
     (λ ids. notes_of x.id all
-    ≡ (if is_lost_at now x then lost_notes (all_placed s.link (testaments now ids)) x
+    ≡ (if is_lost_at now x then lost_notes s.policy.limits (all_placed s.policy.limits s.link (testaments now ids)) x
     else again_notes s.policy now x)) known said.0.own in
     let next = done ++ x ∷ [] in
     let shifted : done ++ x ∷ rest ≡ next ++ rest = sym (append_assoc done (x ∷ []) rest) in
-    let after : all_placed s.link (testaments now next) ≡ all_placed left (testament now x) =
-    ap (all_placed s.link)
+    let after : all_placed s.policy.limits s.link (testaments now next)
+    ≡ all_placed s.policy.limits left (testament now x) =
+    ap (all_placed s.policy.limits s.link)
     (flat_map-append (testament now) done (x ∷ [])
     ∙ ap (λ ps. testaments now done ++ ps) (append-nil (testament now x)))
-    ∙ placed_append s.link (testaments now done) (testament now x) in
+    ∙ placed_append s.policy.limits s.link (testaments now done) (testament now x) in
     ap (testaments_in h all) (append_assoc (tick_part s clock x) (flat_map (tick_part s clock) rest) more)
     ∙ (ap (testaments_in h all) (append_assoc
     (spell (tick_around s clock) [] x (fixed_for s (ByTick clock) x)) (drained_outs z) outs)
     ∙ (ap
     (λ ids. testaments_in h all
     (spell (tick_around s clock) [] x
-    (if is_lost_at now x then lost_notes (all_placed s.link (testaments now ids)) x
+    (if is_lost_at now x then lost_notes s.policy.limits (all_placed s.policy.limits s.link (testaments now ids)) x
     else again_notes s.policy now x) ++
     (drained_outs z ++ outs))) known
     ∙ (part_laid s clock h all left x (drained_outs z ++ outs) (is_lost_at now x) own said.0.will
-    ∙ (ap (λ wills. laid left (testament now x) ++ wills)
+    ∙ (ap (λ wills. laid s.policy.limits left (testament now x) ++ wills)
     (drained_bare h all z outs
     ∙ rows_laid s clock h all next rest more (is ∙ shifted) (subst Distinct shifted apart) said.1
-    ∙ ap (λ link. laid link (testaments now rest) ++ testaments_in h all more) after)
+    ∙ ap (λ link. laid s.policy.limits link (testaments now rest) ++ testaments_in h all more) after)
     ∙ (sym
-    (append_assoc (laid left (testament now x))
-    (laid (all_placed left (testament now x)) (testaments now rest)) (testaments_in h all more))
+    (append_assoc (laid s.policy.limits left (testament now x))
+    (laid s.policy.limits (all_placed s.policy.limits left (testament now x)) (testaments now rest))
+    (testaments_in h all more))
     ∙ ap (λ wills. wills ++ testaments_in h all more)
-    (sym (laid_append left (testament now x) (testaments now rest))))))))
+    (sym (laid_append s.policy.limits left (testament now x) (testaments now rest))))))))
 
 -- the wills of a tick
 pub tick_laid : (s : State) (clock : ℕ) (h : List Row) (all more : List Out) → Distinct s.clients
     → Each (Said s clock h all) s.clients
     → testaments_in h all (flat_map (tick_part s clock) s.clients ++ more)
-    ≡ laid s.link (testaments (later s.clock clock) s.clients) ++ testaments_in h all more
+    ≡ laid s.policy.limits s.link (testaments (later s.clock clock) s.clients) ++ testaments_in h all more
 tick_laid s clock h all more apart said = rows_laid s clock h all [] s.clients more refl apart said

@@ -2,6 +2,7 @@
 use Rattle.std.proofs.Common.{◌≡◌, ℕ, Bool, true, false, List, [], ◌∷◌, ◌++◌, refl, sym, subst, if◌then◌else◌}
 use Rattle.std.specs.Prelude.{◌==◌, ◌||◌, Option, Some, None, not}
 use Rattle.std.specs.Str.{bytes_eq}
+use Rattle.sng_grants.specs.Limits.{Limits}
 use Rattle.sng_grants.specs.declared.policy.Policy.{Policy}
 use Rattle.sng_fan.specs.declared.held.Held.{Held}
 use Rattle.mqtt_frames.specs.declared.packet.Packet.{Packet}
@@ -191,16 +192,16 @@ unplaced_mute : (id client : List ℕ) (p : Publication) (o : Outcome) → Every
 unplaced_mute id client p Allowed = tt
 unplaced_mute id client p (Denied rule) = (λ r names none. refl, tt)
 
-dropped_mute : (id client : List ℕ) (link : Link) (ps : List Publication)
-    → Every (Mute id) (will_dropped link client ps)
-dropped_mute id client link [] = tt
-dropped_mute id client link (p ∷ ps) = unplaced_mute id client p (room_in link p.qos)
+dropped_mute : (limits : Limits) (id client : List ℕ) (link : Link) (ps : List Publication)
+    → Every (Mute id) (will_dropped limits link client ps)
+dropped_mute limits id client link [] = tt
+dropped_mute limits id client link (p ∷ ps) = unplaced_mute id client p (room_in limits link p.qos)
 
-lost_mute : (id : List ℕ) (link : Link) (x : Client) → Every (Mute id) (lost_notes link x)
-lost_mute id link x = (
+lost_mute : (limits : Limits) (id : List ℕ) (link : Link) (x : Client) → Every (Mute id) (lost_notes limits link x)
+lost_mute limits id link x = (
   λ r names none. refl,
-  every_append (Mute id) (all_gone x.id x.buffer.waiting) (will_dropped link x.id (will_of x.id x.wills.will))
-      (gone_mute id x.id x.buffer.waiting) (dropped_mute id x.id link (will_of x.id x.wills.will)),
+  every_append (Mute id) (all_gone x.id x.buffer.waiting) (will_dropped limits link x.id (will_of x.id x.wills.will))
+      (gone_mute id x.id x.buffer.waiting) (dropped_mute limits id x.id link (will_of x.id x.wills.will)),
 )
 
 -- what is open with it is sent again, or is over
@@ -233,9 +234,9 @@ exchange_again_told id policy x (Some open_one) =
 tick_told : (s : State) (clock : ℕ) (x : Client) (id : List ℕ) → OneTold id (fixed_for s (ByTick clock) x)
 tick_told s clock x id =
     let now = later s.clock clock in
-    let link = all_placed s.link (testaments now (before x.id s.clients)) in
-    told_either id (is_lost_at now x) (lost_notes link x) (again_notes s.policy now x)
-    (told_mute id (lost_notes link x) (lost_mute id link x))
+    let link = all_placed s.policy.limits s.link (testaments now (before x.id s.clients)) in
+    told_either id (is_lost_at now x) (lost_notes s.policy.limits link x) (again_notes s.policy now x)
+    (told_mute id (lost_notes s.policy.limits link x) (lost_mute s.policy.limits id link x))
     (told_if id (is_repeating now x) (exchange_again s.policy x x.buffer.exchange)
     (exchange_again_told id s.policy x x.buffer.exchange))
 

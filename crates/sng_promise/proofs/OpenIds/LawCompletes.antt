@@ -213,9 +213,9 @@ row_closed s (ByBroken from rule) other =
     frame_closed s c (Note (note.Frame (who.Address from) (Denied rule)) ∷ []) (notes_for s c) other tt
 row_closed s (ByPacket p) other =
     let c = ByPacket p in
-    both_closed (client_rows s c [] (notes_for s c)) (answer_outs s.up s.link (answer_of p))
+    both_closed (client_rows s c [] (notes_for s c)) (answer_outs s.policy.limits s.up s.link (answer_of p))
     (rows_closed s c [] (notes_for s c) other)
-    (none_closed (answer_outs s.up s.link (answer_of p)) (packet_none s (answer_of p)))
+    (none_closed (answer_outs s.policy.limits s.up s.link (answer_of p)) (packet_none s (answer_of p)))
 row_closed s ByUp other = none_closed (outs_by s ByUp) (up_none s)
 row_closed s ByDown other = tt
 row_closed s ByTake other = none_closed (outs_by s ByTake) (take_none s s.up refl)
@@ -224,10 +224,11 @@ row_closed s (ByReplace policy) other =
 row_closed s (ByTick clock) other =
     let c = ByTick clock in
     let now = later s.clock clock in
-    let link = with_wills s.link now s.clients in
-    both_closed (client_rows s c [] (notes_for s c)) (ping_dropped s.up link now)
+    let link = with_wills s.policy.limits s.link now s.clients in
+    both_closed (client_rows s c [] (notes_for s c)) (ping_dropped s.policy.limits s.up link now)
     (rows_closed s c [] (notes_for s c) other)
-    (none_closed (ping_dropped s.up link now) (ping_dropped_none (is_ping_due s.up link now) (has_place link)))
+    (none_closed (ping_dropped s.policy.limits s.up link now)
+    (ping_dropped_none (is_ping_due s.up link now) (has_place s.policy.limits link)))
 
 -- ---- the event and its cause
 

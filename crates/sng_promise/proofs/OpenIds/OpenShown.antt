@@ -1,5 +1,5 @@
--- Which MsgIds of each client are open in the state that a lawful history leads to is what its rows show; each is
--- shown once, and no more than may be.
+-- Which MsgIds of each client are open in the state that a lawful history leads to is what its rows show;
+-- each is shown once, and no more than may be.
 use Rattle.std.proofs.Common.{◌≡◌, ℕ, ◌≤◌, Bool, true, false, List, [], ◌∷◌, ◌++◌, refl, ap, sym, subst, ◌∙◌}
 use Rattle.std.proofs.Common.{arith}
 use Rattle.std.proofs.Common.{if◌then◌else◌, Ok, Err, length}
@@ -111,7 +111,8 @@ either_kept true x y z one two = one
 either_kept false x y z one two = two
 
 confirmed_kept : (r : TopicAck) (x : Client) → (confirmed_with r x).unreleased ≡ x.unreleased
-confirmed_kept r x = either_kept (r.code.0 == 0) x (record (closed x) { ids = confirmed r.topic_id x.ids }) x refl refl
+confirmed_kept r x = either_kept (r.code.0 == 0) x (record (closed x) { ids = confirmed r.topic_id x.ids }) x
+    refl refl
 
 -- what answers a message of a client leaves what is open, but a PUBREL
 abbrev is_releasing : Request → Bool
@@ -248,7 +249,7 @@ room_cases : (P : Decision → Type 0) (s : State) (x : Client) (p : Publish) (n
 room_cases P s x p name Allowed is active cases =
     cases.allowed name active
     (not_full (exit s.policy (origin.Client x.id) name) s.up (is_full_for p.msg_id x.unreleased)
-    (Room UpstreamDown) (Room (Full place.Exchanges)) (room_in s.link AtLeastOnce) is)
+    (Room UpstreamDown) (Room (Full place.Exchanges)) (room_in s.policy.limits s.link AtLeastOnce) is)
 room_cases P s x p name (Denied rule) is active cases = cases.denied (Some name) rule
 
 named_cases : (P : Decision → Type 0) (s : State) (x : Client) (p : Publish)

@@ -6,6 +6,7 @@ use Rattle.std.specs.Prelude.{Option, Some, None}
 use Rattle.std.specs.List.{flat_map}
 use Rattle.std.specs.declared.result.Result.{Result}
 use Rattle.mqtt_frames.specs.declared.packet.Packet.{Packet}
+use Rattle.sng_grants.specs.Limits.{Limits}
 use Rattle.sng_text.specs.Texts.{is_name}
 use Rattle.sng_frames.specs.Reading.{frame_of}
 use Rattle.sng_frames.specs.declared.fault.FrameFault.{FrameFault}
@@ -94,24 +95,25 @@ dropped_none room None = tt
 dropped_none true (Some packet_id) = tt
 dropped_none false (Some packet_id) = tt
 
-packet_none : (up : Bool) (link : Link) (a : Answer) → NoneSent (answer_outs up link a)
-packet_none up link (Delivers p) =
-    misnamed_none (is_name p.name) (dropped (has_place link) (owed up p))
-    (dropped_none (has_place link) (owed up p))
-packet_none up link (Acknowledges packet_id) = tt
-packet_none up link (Grants packet_id) = tt
-packet_none up link (Refuses packet_id) = tt
-packet_none up link Confirms = tt
-packet_none up link Strange = tt
+packet_none : (limits : Limits) (up : Bool) (link : Link) (a : Answer) → NoneSent (answer_outs limits up link a)
+packet_none limits up link (Delivers p) =
+    misnamed_none (is_name p.name) (dropped (has_place limits link) (owed up p))
+    (dropped_none (has_place limits link) (owed up p))
+packet_none limits up link (Acknowledges packet_id) = tt
+packet_none limits up link (Grants packet_id) = tt
+packet_none limits up link (Refuses packet_id) = tt
+packet_none limits up link Confirms = tt
+packet_none limits up link Strange = tt
 
 packet_away : (id : List ℕ) (s : State) (p : Packet) (place : Address) → Each (Sleeper id place) s.clients
     → sent_to place (outs_by s (ByPacket p)) ≡ []
 packet_away id s p place sleep =
     let c = ByPacket p in
     away_both place (flat_map (λ x. part (around s c) [] (fixed_for s c x) x) s.clients)
-    (answer_outs s.up s.link (answer_of p))
+    (answer_outs s.policy.limits s.up s.link (answer_of p))
     (rows_away id s c [] place refl refl sleep)
-    (none_away place (answer_outs s.up s.link (answer_of p)) (packet_none s.up s.link (answer_of p)))
+    (none_away place (answer_outs s.policy.limits s.up s.link (answer_of p))
+    (packet_none s.policy.limits s.up s.link (answer_of p)))
 
 ping_none : (due room : Bool) → NoneSent (if due then (if room then [] else Note note.Outbox ∷ []) else [])
 ping_none true true = tt
@@ -123,11 +125,12 @@ tick_away : (id : List ℕ) (s : State) (clock : ℕ) (place : Address) → Each
 tick_away id s clock place sleep =
     let c = ByTick clock in
     let now = later s.clock clock in
-    let link = with_wills s.link now s.clients in
+    let link = with_wills s.policy.limits s.link now s.clients in
     away_both place (flat_map (λ x. part (around s c) [] (fixed_for s c x) x) s.clients)
-    (ping_dropped s.up link now)
+    (ping_dropped s.policy.limits s.up link now)
     (rows_away id s c [] place refl refl sleep)
-    (none_away place (ping_dropped s.up link now) (ping_none (is_ping_due s.up link now) (has_place link)))
+    (none_away place (ping_dropped s.policy.limits s.up link now)
+    (ping_none (is_ping_due s.up link now) (has_place s.policy.limits link)))
 
 -- ---- any event
 

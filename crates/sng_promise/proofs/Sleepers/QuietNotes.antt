@@ -3,6 +3,7 @@ use Rattle.std.proofs.Common.{◌≡◌, ℕ, Bool, true, false, List, [], ◌�
 use Rattle.std.proofs.Common.{if◌then◌else◌}
 use Rattle.std.specs.Prelude.{◌&&◌, is_none, Option, Some, None}
 use Rattle.std.specs.List.{list_any}
+use Rattle.sng_grants.specs.Limits.{Limits}
 use Rattle.sng_grants.specs.declared.policy.Policy.{Policy}
 use Rattle.sng_fan.specs.declared.held.Held.{Held}
 use Rattle.sng_states.specs.States.{takes_messages, is_awake}
@@ -119,20 +120,20 @@ quiet_unplaced : (s : State) (clock : ℕ) (id : List ℕ) (p : Publication) (o 
 quiet_unplaced s clock id p Allowed = tt
 quiet_unplaced s clock id p (Denied rule) = (record { sends = λ dropped x. tt; sleeps = λ x is. is }, tt)
 
-quiet_dropped : (s : State) (clock : ℕ) (link : Link) (id : List ℕ) (ps : List Publication)
-    → Every (Quiet (around s (ByTick clock))) (will_dropped link id ps)
-quiet_dropped s clock link id [] = tt
-quiet_dropped s clock link id (p ∷ ps) = quiet_unplaced s clock id p (room_in link p.qos)
+quiet_dropped : (limits : Limits) (s : State) (clock : ℕ) (link : Link) (id : List ℕ) (ps : List Publication)
+    → Every (Quiet (around s (ByTick clock))) (will_dropped limits link id ps)
+quiet_dropped limits s clock link id [] = tt
+quiet_dropped limits s clock link id (p ∷ ps) = quiet_unplaced s clock id p (room_in limits link p.qos)
 
-pub quiet_lost : (s : State) (clock : ℕ) (link : Link) (x : Client)
-    → Every (Quiet (around s (ByTick clock))) (lost_notes link x)
-quiet_lost s clock link x =
+pub quiet_lost : (limits : Limits) (s : State) (clock : ℕ) (link : Link) (x : Client)
+    → Every (Quiet (around s (ByTick clock))) (lost_notes limits link x)
+quiet_lost limits s clock link x =
     let a = around s (ByTick clock) in
     let will = will_of x.id x.wills.will in (
       record { sends = λ dropped y. tt; sleeps = λ y is. refl },
-      every_append (Quiet a) (all_gone x.id x.buffer.waiting) (will_dropped link x.id will)
+      every_append (Quiet a) (all_gone x.id x.buffer.waiting) (will_dropped limits link x.id will)
           (quiet_gone a x.id x.buffer.waiting)
-          (quiet_dropped s clock link x.id will),
+          (quiet_dropped limits s clock link x.id will),
     )
 
 pub quiet_again : (a : Around) (policy : Policy) (clock : ℕ) (x : Client) → takes_messages x.phase ≡ false

@@ -75,9 +75,9 @@ every_quiet s (ByReplace policy) x other away is =
 every_quiet s (ByTick clock) x other away is =
     let a = around s (ByTick clock) in
     let now = later s.clock clock in
-    let link = all_placed s.link (testaments now (before x.id s.clients)) in
-    quiet_either a (is_lost_at now x) (lost_notes link x) (again_notes s.policy now x)
-    (quiet_lost s clock link x)
+    let link = all_placed s.policy.limits s.link (testaments now (before x.id s.clients)) in
+    quiet_either a (is_lost_at now x) (lost_notes s.policy.limits link x) (again_notes s.policy now x)
+    (quiet_lost s.policy.limits s clock link x)
     (quiet_again a s.policy now x is)
 
 -- ---- the part of the client

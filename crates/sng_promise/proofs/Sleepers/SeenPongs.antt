@@ -28,7 +28,7 @@ use Rattle.sng_history.specs.Clients.{Client, same_address, is_here, is_drained,
 use Rattle.sng_history.specs.Exits.{leaving, exits_of, resending, subscribing}
 use Rattle.sng_history.specs.Good.{Each, AtRest, Good}
 use Rattle.sng_history.specs.Lawful.{exits_for, fixed_for}
-use Rattle.sng_history.specs.Links.{resumed, filters_wanted}
+use Rattle.sng_history.specs.Links.{resumed, filters_wanted, outgoing}
 use Rattle.sng_history.specs.Packets.{Answer, Delivers, Acknowledges, Grants, Refuses, Confirms, Strange}
 use Rattle.sng_history.specs.Packets.{answer_of, has_place, owed}
 use Rattle.sng_history.specs.Packets.{misnamed, dropped, answer_outs}
@@ -181,11 +181,11 @@ dropped_none place None = tt
 dropped_none true (Some packet_id) = tt
 dropped_none false (Some packet_id) = tt
 
-pub packet_none : (s : State) (brought : Answer) → NoPong (answer_outs s.up s.link brought)
+pub packet_none : (s : State) (brought : Answer) → NoPong (answer_outs s.policy.limits s.up s.link brought)
 packet_none s (Delivers p) =
-    both_none (misnamed p.name) (dropped (has_place s.link) (owed s.up p))
+    both_none (misnamed p.name) (dropped (has_place s.policy.limits s.link) (owed s.up p))
     (misnamed_none p.name (is_name p.name) refl)
-    (dropped_none (has_place s.link) (owed s.up p))
+    (dropped_none (has_place s.policy.limits s.link) (owed s.up p))
 packet_none s (Acknowledges packet_id) = tt
 packet_none s (Grants packet_id) = tt
 packet_none s (Refuses packet_id) = tt
@@ -205,8 +205,8 @@ quiet_author s c y none stays = record {
 
 pub take_none : (s : State) (up : Bool) → s.up ≡ up → NoPong (outs_by s ByTake)
 take_none s true is =
-    rw is (none_sends (leaving s.link s.link.waiting (exits_of s.policy s.link.waiting))
-    (all_unsent s.policy s.link s.link.waiting))
+    rw is (none_sends (leaving s.link (outgoing s.link) (exits_of s.policy (outgoing s.link)))
+    (all_unsent s.policy s.link (outgoing s.link)))
 take_none s false is = rw is tt
 
 pub up_none : (s : State) → NoPong (outs_by s ByUp)
@@ -250,7 +250,7 @@ row_told s (ByBroken from rule) good =
     (λ x away. rw away refl) good.places good.rest
 row_told s (ByPacket p) good =
     let c = ByPacket p in
-    after_rows s c (client_rows s c [] (notes_for s c)) (answer_outs s.up s.link (answer_of p))
+    after_rows s c (client_rows s c [] (notes_for s c)) (answer_outs s.policy.limits s.up s.link (answer_of p))
     (packet_none s (answer_of p))
     (rows_told s c [] s.clients (λ x. quiet_author s c x refl
     (settled_for s c x refl (settled_packet (around s c) s p x))) good.places)
@@ -265,8 +265,8 @@ row_told s (ByReplace policy) good =
 row_told s (ByTick clock) good =
     let c = ByTick clock in
     let now = later s.clock clock in
-    let link = with_wills s.link now s.clients in
-    after_rows s c (client_rows s c [] (notes_for s c)) (ping_dropped s.up link now)
-    (ping_dropped_none (is_ping_due s.up link now) (has_place link))
+    let link = with_wills s.policy.limits s.link now s.clients in
+    after_rows s c (client_rows s c [] (notes_for s c)) (ping_dropped s.policy.limits s.up link now)
+    (ping_dropped_none (is_ping_due s.up link now) (has_place s.policy.limits link))
     (rows_told s c [] s.clients (λ x. quiet_author s c x refl
     (settled_for s c x refl (settled_tick s clock x))) good.places)

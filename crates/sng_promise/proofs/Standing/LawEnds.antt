@@ -16,6 +16,7 @@ use Rattle.sng_history.specs.Clients.{Client}
 use Rattle.sng_history.specs.Standing.{holds, is_held, ended, Release, releases_of, released_from, released}
 use Rattle.sng_history.specs.Standing.{places_left, is_release, drop_notes, drop_note}
 use Rattle.sng_history.specs.State.{State}
+use Rattle.sng_history.specs.State.{policy_by}
 use Rattle.sng_history.specs.Whole.{drops}
 use Rattle.sng_history.specs.Steps.{client_next, notes_for}
 use Rattle.sng_history.specs.Good.{Each}
@@ -24,7 +25,6 @@ use Rattle.sng_laws.specs.LawsEnds.{Stays, texts_of, stays_for, stands_for, endi
 use Rattle.sng_laws.specs.LawsEnds.{untold, is_end, untold_note}
 use Rattle.sng_history.proofs.Own.{same_self, each_append}
 use Rattle.sng_history.proofs.ClientIds.{ids_of}
-use Rattle.sng_outbox.specs.declared.limits.TheConstants.{MAX_OUTBOX_ITEMS}
 use Rattle.sng_promise.proofs.Clients.SeenOrder.{ids_append, StateShown}
 use Rattle.sng_history.proofs.Booleans.{or_right}
 
@@ -145,12 +145,13 @@ pairs_drop (suc n) (r ∷ rs) = pairs_drop n rs
 
 pub untold_pairs : (h : List Row) (s : State) (c : Cause) (stays : Stays) → StateShown h s
     → Each (λ x. Kept h stays x (client_next s c x)) s.clients
-    → pairs (drops s c (notes_for s c)) ≡ untold h stays
+    → pairs (drops s c (notes_for s c)) ≡ untold (policy_by c s.policy).limits h stays
 untold_pairs h s c stays shown each =
     let all = released s.clients (map (client_next s c) s.clients) in
-    pairs_drop (places_left s.link) all
-    ∙ (ap (λ n. drop n (pairs all)) (ap (λ items. MAX_OUTBOX_ITEMS - length items) shown.waits)
-    ∙ ap (drop (places h)) (released_pairs h stays (client_next s c) [] s.clients tt each
+    pairs_drop (places_left (policy_by c s.policy).limits s.link) all
+    ∙ (ap (λ n. drop n (pairs all)) (ap (λ items. (policy_by c s.policy).limits.waiting - length items) shown.waits)
+    ∙ ap (drop (places (policy_by c s.policy).limits h))
+    (released_pairs h stays (client_next s c) [] s.clients tt each
     ∙ ap (λ ids. last_ends_from h stays [] ids) shown.order))
 
 any_pairs : (id text : List ℕ) (rs : List Release)
@@ -161,7 +162,7 @@ any_pairs id text (r ∷ rs) = ap (λ b. is_release id text r || b) (any_pairs i
 -- what is noted behind one end
 pub drop_shown : (h : List Row) (s : State) (c : Cause) (stays : Stays) (id text : List ℕ) → StateShown h s
     → Each (λ x. Kept h stays x (client_next s c x)) s.clients
-    → drop_note (drops s c (notes_for s c)) id text ≡ untold_note h stays id text
+    → drop_note (drops s c (notes_for s c)) id text ≡ untold_note (policy_by c s.policy).limits h stays id text
 drop_shown h s c stays id text shown each =
     ap (λ b. if b then Note note.Outbox ∷ [] else [])
     (any_pairs id text (drops s c (notes_for s c))
@@ -174,7 +175,8 @@ noted_pairs (r ∷ rs) = ap (λ outs. Note note.Outbox ∷ outs) (noted_pairs rs
 
 pub drops_shown : (h : List Row) (s : State) (c : Cause) (stays : Stays) → StateShown h s
     → Each (λ x. Kept h stays x (client_next s c x)) s.clients
-    → drop_notes (drops s c (notes_for s c)) ≡ map (λ end. Note note.Outbox) (untold h stays)
+    → drop_notes (drops s c (notes_for s c)) ≡ map (λ end. Note note.Outbox)
+    (untold (policy_by c s.policy).limits h stays)
 drops_shown h s c stays shown each =
     noted_pairs (drops s c (notes_for s c))
     ∙ ap (map (λ end. Note note.Outbox)) (untold_pairs h s c stays shown each)

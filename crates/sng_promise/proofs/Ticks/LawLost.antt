@@ -6,7 +6,6 @@ use Rattle.std.specs.Str.{bytes_eq}
 use Rattle.sng_queue.specs.Messages.{Message}
 use Rattle.sng_outbox.specs.declared.item.Item.{Item}
 use Rattle.sng_outbox.specs.declared.item.Publication.{Publication}
-use Rattle.sng_outbox.specs.declared.limits.TheConstants.{MAX_OUTBOX_ITEMS}
 use Rattle.sng_frames.specs.Reading.{frame_of}
 use Rattle.sng_book.specs.declared.address.Address.{Address}
 use Rattle.sng_book.specs.declared.decision.Decision.TheVariants as note
@@ -24,6 +23,7 @@ use Rattle.sng_history.specs.Causes.{cause_of}
 use Rattle.sng_history.specs.State.{State}
 use Rattle.sng_history.specs.Steps.{outs_by}
 use Rattle.sng_laws.specs.Views.{ticks, greatest}
+use Rattle.sng_laws.specs.Views.{last_limits}
 use Rattle.sng_laws.specs.ViewsClients.{phase_of, is_among, accepted, address_of}
 use Rattle.sng_laws.specs.ViewsHanding.{Opening, Announced, HandedOver, is_at_least_once, progress_of}
 use Rattle.sng_laws.specs.ViewsHanding.{waits_for}
@@ -78,7 +78,7 @@ will_unlost h items id client (p ∷ ps) = refused_unlost id client p (judged (p
 ping_unlost : (h : List Row) (came : ℕ) (items : List Item) (id : List ℕ)
     → is_lost_in id (ping_noted h came items) ≡ false
 ping_unlost h came items id =
-    by_due (is_ping_due (Tick came) h (pinged h) && not (nat_lt (length items) MAX_OUTBOX_ITEMS))
+    by_due (is_ping_due (Tick came) h (pinged h) && not (nat_lt (length items) (last_limits h).waiting))
   where
     by_due : (b : Bool) → is_lost_in id (if b then Note note.Outbox ∷ [] else []) ≡ false
     by_due true = refl

@@ -97,7 +97,8 @@ connect_ends : (s : State) (from : Address) (connect : Connect) (text : List ℕ
     → entry s connect ≡ o
     → is_outbox_noted (outs_by s (ByConnect from connect)) ≡ false
     → is_held s.clients text ≡ true → is_held (clients_next s (ByConnect from connect)) text ≡ false
-    → unsubscribes (lets_go_of s.link (released s.clients (clients_next s (ByConnect from connect)))) text
+    → unsubscribes (lets_go_of s.policy.limits s.link
+    (released s.clients (clients_next s (ByConnect from connect)))) text
     ≡ true
 connect_ends s from connect text Allowed is quiet stood gone =
     lets s (ByConnect from connect) text (entry_dropped s from connect is quiet) stood gone
@@ -111,14 +112,14 @@ connect_carries : (s : State) (from : Address) (connect : Connect) → Good s
     → Carries s (ByConnect from connect)
 connect_carries s from connect good quiet text u was =
     let c = ByConnect from connect in
-    held_carries s c (lets_go_of s.link (released s.clients (clients_next s c))) text u good refl
+    held_carries s c (lets_go_of s.policy.limits s.link (released s.clients (clients_next s c))) text u good refl
     (connect_ends s from connect text (entry s connect) refl quiet)
     (λ is_not is. absurd (never (is_held s.clients text) (fewer_held s c text refl is) is_not)) was
 
 pub replace_carries : (s : State) (policy : Policy) → Good s → Carries s (ByReplace policy)
 replace_carries s policy good quiet text u was =
     let c = ByReplace policy in
-    held_carries s c (lets_go_of s.link (released s.clients (clients_next s c))) text u good refl
+    held_carries s c (lets_go_of policy.limits s.link (released s.clients (clients_next s c))) text u good refl
     (lets s c text (rows_dropped s c (λ x. refl) quiet))
     (λ is_not is. absurd (never (is_held s.clients text) (fewer_held s c text refl is) is_not)) was
 
@@ -146,7 +147,8 @@ message_ends : (s : State) (from : Address) (request : Request) (text : List ℕ
     → any_from (ByMessage from request) s.clients ≡ b
     → is_outbox_noted (outs_by s (ByMessage from request)) ≡ false
     → is_held s.clients text ≡ true → is_held (clients_next s (ByMessage from request)) text ≡ false
-    → unsubscribes (lets_go_of s.link (released s.clients (clients_next s (ByMessage from request)))) text
+    → unsubscribes (lets_go_of s.policy.limits s.link
+    (released s.clients (clients_next s (ByMessage from request)))) text
     ≡ true
 message_ends s from request text true is quiet stood gone =
     let c = ByMessage from request in
@@ -185,7 +187,7 @@ message_carries : (s : State) (from : Address) (request : Request) → Good s
 message_carries s from request good quiet text u was =
     let c = ByMessage from request in
     let asked = asked_for s c in
-    let gone = lets_go_of s.link (released s.clients (clients_next s c)) in
+    let gone = lets_go_of s.policy.limits s.link (released s.clients (clients_next s c)) in
     held_carries s c (asked ++ gone) text u good refl
     (λ stood ends. unsubscribes_both asked gone text
     ∙ or_right (unsubscribes asked text) (unsubscribes gone text)

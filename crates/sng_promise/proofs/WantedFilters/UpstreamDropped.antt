@@ -16,6 +16,7 @@ use Rattle.sng_history.specs.Clients.{Client}
 use Rattle.sng_history.specs.Standing.{Release, is_held, ended, releases_of, released_from, released}
 use Rattle.sng_history.specs.Standing.{places_left, is_release, drop_notes}
 use Rattle.sng_history.specs.State.{State, around}
+use Rattle.sng_history.specs.State.{policy_by}
 use Rattle.sng_history.specs.Verdicts.{entry}
 use Rattle.sng_history.specs.Answers.{welcome}
 use Rattle.sng_history.specs.Whole.{moved, beside}
@@ -156,7 +157,7 @@ rows_dropped s c none quiet =
     let outs = flat_map (part_for s c D) s.clients in
     let all : AllTell D outs (released s.clients (map (client_next s c) s.clients)) =
     tell_from s c D outs [] s.clients (each_tells s c D s.clients none) in
-    none_told D D outs refl (tell_drop D outs (places_left s.link)
+    none_told D D outs refl (tell_drop D outs (places_left (policy_by c s.policy).limits s.link)
     (released s.clients (map (client_next s c) s.clients)) all) quiet
 
 -- a CONNECT that is accepted

@@ -42,7 +42,7 @@ use Rattle.sng_history.specs.Steps.{outs_by, outs_of, clients_next, asked_for, n
 use Rattle.sng_history.specs.Good.{Good}
 use Rattle.sng_laws.specs.ViewsMessages.{message_in, message_at, subscribe_in}
 use Rattle.sng_laws.specs.ViewsStanding.{begun_with, begun_by, begun_in, begun, joining}
-use Rattle.sng_laws.specs.ViewsStanding.{wanted}
+use Rattle.sng_laws.specs.ViewsWanted.{wanted}
 use Rattle.sng_history.proofs.Own.{same_self}
 use Rattle.sng_history.proofs.Says.{message_asks}
 use Rattle.sng_history.proofs.Wanted.{subscribes}

@@ -6,7 +6,8 @@ use Rattle.sng_history.specs.Links.{Wanted}
 use Rattle.sng_history.specs.State.{opening, state_of}
 use Rattle.sng_history.specs.Lawful.{Lawful}
 use Rattle.sng_history.specs.Good.{WantedOnce}
-use Rattle.sng_laws.specs.ViewsStanding.{is_for, held_in, wanted}
+use Rattle.sng_laws.specs.ViewsStanding.{is_for, held_in}
+use Rattle.sng_laws.specs.ViewsWanted.{wanted}
 use Rattle.sng_laws.specs.LawsStanding.{EachOnce}
 use Rattle.sng_promise.proofs.Clients.SeenState.{stands}
 use Rattle.sng_promise.proofs.Standing.StandingState.{standing_shown, held_shown}

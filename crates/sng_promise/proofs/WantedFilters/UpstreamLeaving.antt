@@ -17,14 +17,17 @@ use Rattle.sng_book.specs.declared.outcome.Outcome.TheVariants.{Allowed, Denied}
 use Rattle.sng_history.specs.Links.{Link, wants, next_packet_id, packet_id_by, sent_by, exited}
 use Rattle.sng_history.specs.Links.{subscribe_sent, subscribes_sent}
 use Rattle.sng_history.specs.Links.{subscribe_left, unsubscribe_left, link_after}
+use Rattle.sng_history.specs.Links.{Wanted, may_open}
 use Rattle.sng_history.specs.Verdicts.{exit}
 use Rattle.sng_history.specs.Exits.{exits_of, agains_of, forwarded, leaving, sent_again, resending}
 use Rattle.sng_history.specs.Exits.{subscribing, subscribe_leaves}
 use Rattle.sng_history.specs.Exits.{unsubscribe_leaves}
-use Rattle.sng_laws.specs.ViewsStanding.{Word, words_sent}
-use Rattle.sng_laws.specs.ViewsStanding.{with_words, said_upstream}
+use Rattle.sng_history.specs.Exits.{subscribe_out}
+use Rattle.sng_laws.specs.ViewsWanted.{words_sent}
+use Rattle.sng_laws.specs.ViewsWanted.{said_upstream}
 use Rattle.sng_history.proofs.Own.{same_means}
 use Rattle.sng_history.proofs.WantedKept.{or_no, left_same}
+use Rattle.sng_history.proofs.WantedKept.{same_wants, sent_filters}
 use Rattle.sng_history.proofs.Wanted.{subscribes}
 use Rattle.sng_promise.proofs.WantedFilters.UpstreamWords.{publish_quiet, ack_quiet, subscribe_read}
 use Rattle.sng_promise.proofs.WantedFilters.UpstreamWords.{unsubscribe_read}
@@ -35,16 +38,18 @@ use Rattle.sng_promise.proofs.WantedFilters.UpstreamSpeaks.{unsubscribe_last, ex
 use Rattle.sng_promise.proofs.WantedFilters.UpstreamSpeaks.{unsubscribe_speaks, words_append, unsubscribes}
 use Rattle.sng_promise.proofs.WantedFilters.UpstreamSpeaks.{settled, Says}
 use Rattle.sng_promise.proofs.WantedFilters.UpstreamSpeaks.{says_then, says_nothing, not_or, or_turn, idle_if}
+use Rattle.sng_promise.proofs.WantedFilters.UpstreamSpeaks.{owes, opened_owes, owing_owes, none_owes}
+use Rattle.sng_promise.proofs.WantedFilters.UpstreamSpeaks.{said_both, subscribed_last}
 
 sent_wanted : (link : Link) (p : Publication) (q : Qos) → (sent_by link p q).wanted ≡ link.wanted
 sent_wanted link p AtMostOnce = refl
 sent_wanted link p AtLeastOnce = refl
 
-exited_wanted : (link : Link) (p : Publication) (o : Outcome) → (exited link p o).wanted ≡ link.wanted
+pub exited_wanted : (link : Link) (p : Publication) (o : Outcome) → (exited link p o).wanted ≡ link.wanted
 exited_wanted link p Allowed = sent_wanted link p p.qos
 exited_wanted link p (Denied rule) = refl
 
-forwarded_quiet : (p : Publication) (packet_id : Option ℕ) (o : Outcome)
+pub forwarded_quiet : (p : Publication) (packet_id : Option ℕ) (o : Outcome)
     → words_sent (forwarded p packet_id o) ≡ []
 forwarded_quiet p packet_id Allowed =
     rw (publish_quiet (record {
@@ -56,17 +61,49 @@ forwarded_quiet p packet_id Allowed =
     })).words refl
 forwarded_quiet p packet_id (Denied rule) = refl
 
+-- a SUBSCRIBE of a wanted filter that has to leave
+open_or : (d b o : Bool) → ((d || b) || (not d && o)) ≡ (d || (b || o))
+open_or true b o = refl
+open_or false b o = refl
+
+owing_or : (d b o w : Bool) → (d ≡ true → w ≡ true) → (b || (o || (d && w))) ≡ (d || (b || o))
+owing_or true b o w same = rw (same refl) (yes b o)
+  where
+    yes : (b o : Bool) → (b || (o || true)) ≡ true
+    yes true o = refl
+    yes false true = refl
+    yes false false = refl
+owing_or false b o w same = ap (λ c. b || c) (or_no o)
+
+out_said : (link : Link) (filter : List ℕ) (may : Bool) → may_open link.wanted filter ≡ may
+    → link.last ≤ 65535 → length filter ≤ 65535 → wants link.wanted filter ≡ true
+    → (text : List ℕ) (before : Bool)
+    → (said_upstream (words_sent (subscribe_out link filter)) text before
+    || owes (subscribe_sent link filter).wanted text)
+    ≡ (bytes_eq text filter || (before || owes link.wanted text))
+out_said link filter true is small short wanted text before =
+    rw (is, (subscribe_read (next_packet_id link) filter (next_is link small) short).words)
+    (ap (λ b. (bytes_eq text filter || before) || b)
+    (opened_owes link.wanted filter text (next_packet_id link))
+    ∙ open_or (bytes_eq text filter) before (owes link.wanted text))
+out_said link filter false is small short wanted text before =
+    rw is
+    (ap (λ b. before || b) (owing_owes link.wanted filter text)
+    ∙ owing_or (bytes_eq text filter) before (owes link.wanted text) (wants link.wanted text)
+    (λ same. ap (wants link.wanted) (same_means text filter same) ∙ wanted))
+
 -- a SUBSCRIBE
 subscribe_words : (link : Link) (filter : List ℕ) (b : Bool) → wants link.wanted filter ≡ b → Speaks link
     → Says link (subscribe_left link filter) (item.Subscribe filter ∷ [])
     (words_sent (subscribe_leaves link filter))
 subscribe_words link filter true is speaks =
-    rw (
-      is,
-      (subscribe_read (next_packet_id link) filter (next_is link speaks.last)
-          (speaks.short filter is)).words,
-    )
-    (record { wanted = refl; said = λ text before. begins (wants link.wanted text) text before refl })
+    rw is
+    (record {
+      said = λ text before.
+          out_said link filter (may_open link.wanted filter) refl speaks.last (speaks.short filter is) is text
+          before
+          ∙ begins (wants link.wanted text) text (before || owes link.wanted text) refl;
+    })
   where
     begins : (w : Bool) (text : List ℕ) (before : Bool) → wants link.wanted text ≡ w
         → (bytes_eq text filter || before) ≡ settled w (item.Subscribe filter ∷ []) text before
@@ -79,7 +116,11 @@ subscribe_words link filter true is speaks =
             ∙ (ap (wants link.wanted) (same_means text filter same) ∙ is) in cc)
         other false same = refl
 subscribe_words link filter false is speaks =
-    rw is (record { wanted = refl; said = λ text before. none (wants link.wanted text) text before refl })
+    rw is
+    (record {
+      said = λ text before.
+          none (wants link.wanted text) text (before || owes link.wanted text) refl;
+    })
   where
     none : (w : Bool) (text : List ℕ) (before : Bool) → wants link.wanted text ≡ w
         → before ≡ settled w (item.Subscribe filter ∷ []) text before
@@ -99,8 +140,17 @@ unsubscribe_words : (link : Link) (filter : List ℕ) (b : Bool) → wants link.
     (words_sent (unsubscribe_leaves link filter))
 unsubscribe_words link filter false is speaks short =
     rw (is, (unsubscribe_read (next_packet_id link) filter (next_is link speaks.last) short).words)
-    (record { wanted = refl; said = λ text before. ends (wants link.wanted text) text before refl })
+    (record {
+      said = λ text before.
+          end_or (bytes_eq text filter) before (owes link.wanted text)
+          (λ same. none_owes link.wanted text (ap (wants link.wanted) (same_means text filter same) ∙ is))
+          ∙ ends (wants link.wanted text) text (before || owes link.wanted text) refl;
+    })
   where
+    end_or : (d b o : Bool) → (d ≡ true → o ≡ false) → ((not d && b) || o) ≡ (not d && (b || o))
+    end_or true b o none = none refl
+    end_or false b o none = refl
+
     ends : (w : Bool) (text : List ℕ) (before : Bool) → wants link.wanted text ≡ w
         → (not (bytes_eq text filter) && before) ≡ settled w (item.Unsubscribe filter ∷ []) text before
     ends false text before wanted = ap (λ b. not b && before) (sym (or_no (bytes_eq text filter)))
@@ -112,7 +162,11 @@ unsubscribe_words link filter false is speaks short =
             ∙ (ap (wants link.wanted) (same_means text filter same) ∙ is) in cc)
         other false same = refl
 unsubscribe_words link filter true is speaks short =
-    rw is (record { wanted = refl; said = λ text before. none (wants link.wanted text) text before refl })
+    rw is
+    (record {
+      said = λ text before.
+          none (wants link.wanted text) text (before || owes link.wanted text) refl;
+    })
   where
     none : (w : Bool) (text : List ℕ) (before : Bool) → wants link.wanted text ≡ w
         → before ≡ settled w (item.Unsubscribe filter ∷ []) text before
@@ -157,7 +211,10 @@ pub leaving_says : (policy : Policy) (link : Link) (items : List Item) → Speak
     → Says link (link_after link items (exits_of policy items)) items
     (words_sent (leaving link items (exits_of policy items)))
 leaving_says policy link [] speaks short =
-    record { wanted = refl; said = λ text before. none_said (wants link.wanted text) before }
+    record {
+      said =
+          λ text before. none_said (wants link.wanted text) (before || owes link.wanted text);
+    }
 leaving_says policy link (item.Publish p ∷ items) speaks short =
     let o = exit policy p.origin p.name in
     let mid = exited link p o in
@@ -203,13 +260,13 @@ leaving_says policy link (item.Acknowledge packet_id ∷ items) speaks short =
     let later = leaving_says policy link items speaks short.1 in
     subst (Says link (link_after link items (exits_of policy items)) (item.Acknowledge packet_id ∷ items))
     (sym (ap (λ first. first ++ words_sent more) (ack_quiet packet_id).words))
-    (record { wanted = later.wanted; said = later.said })
+    (record { said = later.said })
 leaving_says policy link (item.Ping ∷ items) speaks short =
     let more = leaving link items (exits_of policy items) in
     let later = leaving_says policy link items speaks short.1 in
     subst (Says link (link_after link items (exits_of policy items)) (item.Ping ∷ items))
     (sym (ap (λ first. first ++ words_sent more) ping_quiet.words))
-    (record { wanted = later.wanted; said = later.said })
+    (record { said = later.said })
 
 -- ---- a connection begins
 
@@ -244,29 +301,43 @@ abbrev pub ShortTexts : List (List ℕ) → Type 0
 ShortTexts [] = Unit {0}
 ShortTexts (filter ∷ filters) = (length filter ≤ 65535) × ShortTexts filters
 
-pub record Subscribes (link : Link) (filters : List (List ℕ)) (words : List Word) : Type 0 where
-  pub wanted : with_words link.wanted words ≡ (subscribes_sent link filters).wanted
-  pub said : (text : List ℕ) (before : Bool)
-      → said_upstream words text before ≡ (is_one filters text || before)
+-- these are wanted
+abbrev pub EachWanted : List Wanted → List (List ℕ) → Type 0
+EachWanted wanted [] = Unit {0}
+EachWanted wanted (filter ∷ filters) = (wants wanted filter ≡ true) × EachWanted wanted filters
+
+pub still_each : (a b : List Wanted) (filters : List (List ℕ)) → ((text : List ℕ) → wants b text ≡ wants a text)
+    → EachWanted a filters → EachWanted b filters
+still_each a b [] same each = tt
+still_each a b (filter ∷ filters) same each = (same filter ∙ each.0, still_each a b filters same each.1)
 
 pub subscribing_says : (link : Link) (filters : List (List ℕ)) → link.last ≤ 65535 → ShortTexts filters
-    → Subscribes link filters (words_sent (subscribing link filters))
-subscribing_says link [] small short = record { wanted = refl; said = λ text before. refl }
-subscribing_says link (filter ∷ filters) small short =
+    → EachWanted link.wanted filters → (text : List ℕ) (before : Bool)
+    → (said_upstream (words_sent (subscribing link filters)) text before
+    || owes (subscribes_sent link filters).wanted text)
+    ≡ (is_one filters text || (before || owes link.wanted text))
+subscribing_says link [] small short each text before = refl
+subscribing_says link (filter ∷ filters) small short each text before =
     let mid = subscribe_sent link filter in
-    let later = subscribing_says mid filters (next_is link small).small short.1 in
-    rw (subscribe_read (next_packet_id link) filter (next_is link small) short.0).words
-    (record {
-      wanted = later.wanted;
-      said = λ text before. later.said text (bytes_eq text filter || before)
-          ∙ or_turn (bytes_eq text filter) (is_one filters text) before;
-    })
+    let out = subscribe_out link filter in
+    let after = (subscribes_sent mid filters).wanted in
+    let same : (one : List ℕ) → wants mid.wanted one ≡ wants link.wanted one =
+    λ one. same_wants mid.wanted link.wanted (sent_filters link filter) one in
+    ap (λ words. said_upstream words text before || owes after text)
+    (words_append out (subscribing mid filters))
+    ∙ (ap (λ b. b || owes after text)
+    (said_both (words_sent out) (words_sent (subscribing mid filters)) text before)
+    ∙ (subscribing_says mid filters (subscribed_last link filter small) short.1
+    (still_each link.wanted mid.wanted filters same each.1) text (said_upstream (words_sent out) text before)
+    ∙ (ap (λ b. is_one filters text || b)
+    (out_said link filter (may_open link.wanted filter) refl small short.0 each.0 text before)
+    ∙ or_turn (bytes_eq text filter) (is_one filters text) (before || owes link.wanted text))))
 
 pub sent_small : (link : Link) (filters : List (List ℕ)) → link.last ≤ 65535
     → (subscribes_sent link filters).last ≤ 65535
 sent_small link [] small = small
 sent_small link (filter ∷ filters) small =
-    sent_small (subscribe_sent link filter) filters (next_is link small).small
+    sent_small (subscribe_sent link filter) filters (subscribed_last link filter small)
 
 pub after_small : (policy : Policy) (link : Link) (items : List Item) → link.last ≤ 65535
     → (link_after link items (exits_of policy items)).last ≤ 65535

@@ -21,48 +21,67 @@ use Rattle.sng_history.specs.Causes.{ByTick}
 use Rattle.sng_history.specs.Clients.{Around, Client, message_due, start_by, notes_by}
 use Rattle.sng_history.specs.Outgoing.{delivered_notes}
 use Rattle.sng_history.specs.Links.{Link, Wanted, wants, resumed, filters_wanted}
+use Rattle.sng_history.specs.Links.{outgoing, filters_owed}
 use Rattle.sng_history.specs.Packets.{answer_of, subscribe_answer, refused_filter, acknowledgements}
 use Rattle.sng_history.specs.Standing.{holds, is_held}
 use Rattle.sng_history.specs.State.{State, around, later}
+use Rattle.sng_history.specs.State.{link_moved}
 use Rattle.sng_history.specs.Exits.{agains_of}
 use Rattle.sng_history.specs.Lawful.{refused_end, fixed_for}
+use Rattle.sng_history.specs.Lawful.{exits_for}
 use Rattle.sng_history.specs.Steps.{outs_of, newcomers_for, client_next, clients_next}
 use Rattle.sng_history.specs.Steps.{next_by}
 use Rattle.sng_history.specs.Good.{Good}
-use Rattle.sng_laws.specs.ViewsStanding.{words_sent, said_upstream, filter_with, is_same, is_refusal}
-use Rattle.sng_laws.specs.ViewsStanding.{refuses, wanted}
+use Rattle.sng_laws.specs.ViewsWanted.{words_sent, said_upstream, filter_with, is_same, is_refusal}
+use Rattle.sng_laws.specs.ViewsWanted.{refuses, wanted}
 use Rattle.sng_history.proofs.Own.{same_means}
 use Rattle.sng_history.proofs.Steady.{start_filters, client_filters}
 use Rattle.sng_history.proofs.Ticked.{Growing, ticked_holds}
-use Rattle.sng_history.proofs.WantedKept.{or_no}
+use Rattle.sng_history.proofs.WantedKept.{ticked_wanted}
 use Rattle.sng_history.proofs.Hands.{Calm, messages_calm, notes_calm, every_delivered}
 use Rattle.sng_history.proofs.Statements.{notes_both}
 use Rattle.sng_history.proofs.NothingNew.{present_held}
 use Rattle.sng_history.proofs.Holding.{unmoved, wanted_held_next}
 use Rattle.sng_promise.proofs.WantedFilters.UpstreamSpeaks.{ShortEnds, settled, Speaks}
+use Rattle.sng_promise.proofs.WantedFilters.UpstreamSpeaks.{none_owes, outgoing_short}
+use Rattle.sng_promise.proofs.WantedFilters.UpstreamSpeaks.{owes}
 use Rattle.sng_promise.proofs.WantedFilters.UpstreamLeaving.{is_one, leaving_says}
 use Rattle.sng_promise.proofs.WantedFilters.UpstreamLeaving.{subscribing_says}
 use Rattle.sng_promise.proofs.WantedFilters.UpstreamOpen.{texts_short, begun_words}
+use Rattle.sng_promise.proofs.WantedFilters.UpstreamOpen.{each_among}
 use Rattle.sng_promise.proofs.WantedFilters.UpstreamSettled.{Owes, settled_more, settled_right}
+use Rattle.sng_promise.proofs.WantedFilters.UpstreamSettled.{settled_less, settled_front}
 use Rattle.sng_promise.proofs.WantedFilters.UpstreamCarries.{same_held}
+use Rattle.sng_promise.proofs.WantedFilters.UpstreamMarks.{marks_carry, answered_owes, owes_next}
+use Rattle.sng_grants.specs.Limits.{Limits}
 
 -- ---- a tick
 
 -- what joins is a will or a PINGREQ
-owed_grows : (text : List ℕ) (u : Bool)
-    → Growing (λ link. settled (wants link.wanted text) link.waiting text u ≡ wants link.wanted text)
-owed_grows text u = record {
+owed_grows : (limits : Limits) (text : List ℕ) (u : Bool)
+    → Growing limits (λ link. settled (wants link.wanted text) link.waiting text u ≡ wants link.wanted text)
+owed_grows limits text u = record {
   publish =
       λ link p room was. settled_more (wants link.wanted text) link.waiting (item.Publish p ∷ []) text u was;
   ping = λ link clock was. settled_more (wants link.wanted text) link.waiting (item.Ping ∷ []) text u was;
 }
 
-pub tick_owes : (s : State) (clock : ℕ) (text : List ℕ) (u : Bool) → Owes s text u
+tick_kept : (s : State) (clock : ℕ) (text : List ℕ) (u : Bool) → Owes s text u
     → Owes (next_by s (ByTick clock)) text u
-tick_owes s clock text u was =
-    ticked_holds (λ link. settled (wants link.wanted text) link.waiting text u ≡ wants link.wanted text)
-    (owed_grows text u)
+tick_kept s clock text u was =
+    ticked_holds s.policy.limits (λ link. settled (wants link.wanted text) link.waiting text u
+    ≡ wants link.wanted text)
+    (owed_grows s.policy.limits text u)
     s.up s.link (later s.clock clock) s.clients was
+
+pub tick_owes : (s : State) (clock : ℕ) (text : List ℕ) (u : Bool) → Good s
+    → Owes s text (u || owes s.link.wanted text)
+    → Owes (next_by s (ByTick clock)) text (u || owes (next_by s (ByTick clock)).link.wanted text)
+tick_owes s clock text u good was =
+    marks_carry s (ByTick clock) text u good
+    (ap (λ wanted. owes wanted text)
+    (ticked_wanted s.policy.limits s.up s.link (later s.clock clock) s.clients))
+    (tick_kept s clock text (u || owes s.link.wanted text) was)
 
 -- ---- a packet of the broker
 
@@ -200,32 +219,80 @@ refused_settles w false items more text u was =
 refused_settles true true items more text u was = settled_right false (items ++ more) text
 refused_settles false true items more text u was = settled_right false (items ++ more) text
 
-pub broker_owes : (s : State) (sent : Packet) (text : List ℕ) (u : Bool) → Good s → Owes s text u
+packet_wants : (s : State) (sent : Packet) (text : List ℕ) → Good s
+    → wants (next_by s (ByPacket sent)).link.wanted text
+    ≡ (wants s.link.wanted text && not (is_same text (refused_filter s.link (answer_of sent))))
+packet_wants s sent text good =
+    let r = is_same text (refused_filter s.link (answer_of sent)) in
+    wanted_held_next s (ByPacket sent) good text
+    ∙ (packet_held s sent text ∙ ap (λ b. b && not r) (sym (good.wanted_held text)))
+
+broker_kept : (s : State) (sent : Packet) (text : List ℕ) (u : Bool) → Good s → Owes s text u
     → Owes (next_by s (ByPacket sent)) text (not (refuses sent s.link.wanted text) && u)
-broker_owes s sent text u good was =
+broker_kept s sent text u good was =
     let c = ByPacket sent in
     let r = is_same text (refused_filter s.link (answer_of sent)) in
-    let w : wants (next_by s c).link.wanted text ≡ (wants s.link.wanted text && not r) =
-    wanted_held_next s c good text
-    ∙ (packet_held s sent text ∙ ap (λ b. b && not r) (sym (good.wanted_held text))) in
-    let more = acknowledgements s.up s.link (answer_of sent) in
+    let w = packet_wants s sent text good in
+    let more = acknowledgements s.policy.limits s.up s.link (answer_of sent) in
     ap (λ b. settled (wants (next_by s c).link.wanted text) (s.link.waiting ++ more) text (not b && u))
     (refuses_same s.link sent text)
     ∙ (ap (λ b. settled b (s.link.waiting ++ more) text (not r && u)) w
     ∙ (refused_settles (wants s.link.wanted text) r s.link.waiting more text u was ∙ sym w))
 
+-- what is not refused is as good as kept as before
+refused_less : (r u o : Bool) → ((not r && u) || false) ≡ true → (not r && (u || o)) ≡ true
+refused_less true u o is = absurd cc
+refused_less false true o is = refl
+refused_less false false o is = absurd cc
+
+not_refused : (w r : Bool) → (w && not r) ≡ true → r ≡ false
+not_refused w false is = refl
+not_refused true true is = absurd cc
+not_refused false true is = absurd cc
+
+pub broker_owes : (s : State) (sent : Packet) (text : List ℕ) (u : Bool) → Good s
+    → Owes s text (u || owes s.link.wanted text)
+    → Owes (next_by s (ByPacket sent)) text
+    ((not (refuses sent s.link.wanted text) && u) || owes (next_by s (ByPacket sent)).link.wanted text)
+broker_owes s sent text u good was =
+    let c = ByPacket sent in
+    let next = (next_by s c).link in
+    let r = refuses sent s.link.wanted text in
+    let o = owes s.link.wanted text in
+    let same : owes (link_moved s c (exits_for s c)).wanted text ≡ o = answered_owes s.link (answer_of sent) text in
+    settled_less (wants next.wanted text) next.waiting text (not r && (u || o))
+    ((not r && u) || owes next.wanted text) (broker_kept s sent text (u || o) good was)
+    (λ is. let no : r ≡ false =
+    refuses_same s.link sent text
+    ∙ not_refused (wants s.link.wanted text) (is_same text (refused_filter s.link (answer_of sent)))
+    (sym (packet_wants s sent text good) ∙ is) in
+    rw no (ap (λ b. u || b) (owes_next s c text good is ∙ same)))
+    (λ is_not some. refused_less r u o
+    (ap (λ b. (not r && u) || b) (sym (none_owes next.wanted text is_not)) ∙ some))
+
 -- ---- a take, and a connection that begins
 
+-- once what leaves left, the broker keeps the filter, or a SUBSCRIBE is owed, just where it is wanted
+pub take_said : (s : State) (text : List ℕ) (u : Bool) → s.up ≡ true → Speaks s.link
+    → ShortEnds s.link.waiting → Owes s text (u || owes s.link.wanted text)
+    → (said_upstream (words_sent (outs_of s Take)) text u || owes (next_by s ByTake).link.wanted text)
+    ≡ wants s.link.wanted text
+take_said s text u up speaks ends was =
+    let says = leaving_says s.policy s.link (outgoing s.link) speaks (outgoing_short s.link ends) in
+    rw up
+    (says.said text u
+    ∙ settled_front (wants s.link.wanted text) (filters_owed s.link) s.link.waiting text
+    (u || owes s.link.wanted text) was)
+
 pub take_owes : (s : State) (text : List ℕ) (u : Bool) → Good s → s.up ≡ true → Speaks s.link
-    → ShortEnds s.link.waiting → Owes s text u
-    → Owes (next_by s ByTake) text (said_upstream (words_sent (outs_of s Take)) text u)
+    → ShortEnds s.link.waiting → Owes s text (u || owes s.link.wanted text)
+    → Owes (next_by s ByTake) text
+    (said_upstream (words_sent (outs_of s Take)) text u || owes (next_by s ByTake).link.wanted text)
 take_owes s text u good up speaks ends was =
     let w : wants (next_by s ByTake).link.wanted text ≡ wants s.link.wanted text =
     wanted_held_next s ByTake good text
     ∙ (same_held s ByTake text (λ x. unmoved s ByTake x refl) ∙ sym (good.wanted_held text)) in
-    let says = leaving_says s.policy s.link s.link.waiting speaks ends in
-    let words : said_upstream (words_sent (outs_of s Take)) text u ≡ wants s.link.wanted text =
-    rw up (says.said text u ∙ was) in
+    let words = take_said s text u up speaks ends was in
     let empty : (next_by s ByTake).link.waiting ≡ [] = rw up refl in
     ap (λ b. settled (wants (next_by s ByTake).link.wanted text) (next_by s ByTake).link.waiting text b)
     (words ∙ sym w)
@@ -236,18 +303,26 @@ one_wanted : (wanted : List Wanted) (text : List ℕ)
 one_wanted [] text = refl
 one_wanted (w ∷ wanted) text = ap (λ b. bytes_eq text w.filter || b) (one_wanted wanted text)
 
+all_told : (w o : Bool) → (w ≡ false → o ≡ false) → (w || (false || o)) ≡ w
+all_told true o none = refl
+all_told false o none = none refl
+
 -- what the broker is told as a connection begins
 pub up_said : (s : State) (text : List ℕ) → Speaks s.link
-    → said_upstream (words_sent (outs_of s Up)) text false ≡ wants s.link.wanted text
+    → (said_upstream (words_sent (outs_of s Up)) text false || owes (next_by s ByUp).link.wanted text)
+    ≡ wants s.link.wanted text
 up_said s text speaks =
-    ap (λ words. said_upstream words text false) (begun_words s)
-    ∙ ((subscribing_says (resumed s.link s.clock (agains_of s.policy s.link.in_flight))
-    (filters_wanted s.link) speaks.last
-    (texts_short s.link.wanted speaks.short)).said text false
-    ∙ (or_no (is_one (filters_wanted s.link) text) ∙ one_wanted s.link.wanted text))
+    let wanted = s.link.wanted in
+    ap (λ words. said_upstream words text false || owes (next_by s ByUp).link.wanted text) (begun_words s)
+    ∙ (subscribing_says (resumed s.link s.clock (agains_of s.policy s.link.in_flight))
+    (filters_wanted s.link) speaks.last (texts_short wanted speaks.short)
+    (each_among wanted wanted (λ one is. is)) text false
+    ∙ (ap (λ b. b || (false || owes wanted text)) (one_wanted wanted text)
+    ∙ all_told (wants wanted text) (owes wanted text) (none_owes wanted text)))
 
 pub up_owes : (s : State) (text : List ℕ) → Good s → Speaks s.link
-    → Owes (next_by s ByUp) text (said_upstream (words_sent (outs_of s Up)) text false)
+    → Owes (next_by s ByUp) text
+    (said_upstream (words_sent (outs_of s Up)) text false || owes (next_by s ByUp).link.wanted text)
 up_owes s text good speaks =
     let w : wants (next_by s ByUp).link.wanted text ≡ wants s.link.wanted text =
     wanted_held_next s ByUp good text

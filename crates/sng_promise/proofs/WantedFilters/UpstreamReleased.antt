@@ -12,6 +12,7 @@ use Rattle.sng_history.specs.Clients.{Client}
 use Rattle.sng_history.specs.Standing.{Release, holds, is_held, ended, releases_of, released_from, released}
 use Rattle.sng_history.specs.Standing.{places_left, dropped_of, unsubscribes as lets_go_of}
 use Rattle.sng_history.specs.State.{State}
+use Rattle.sng_history.specs.State.{policy_by}
 use Rattle.sng_history.specs.Steps.{newcomers_for, client_next, clients_next}
 use Rattle.sng_history.proofs.Own.{same_self, same_means}
 use Rattle.sng_history.proofs.NothingNew.{held_both}
@@ -143,16 +144,18 @@ taken_whole (suc n) [] none = refl
 taken_whole (suc n) (r ∷ rs) none = ap (λ more. r ∷ more) (taken_whole n rs none)
 
 pub lets : (s : State) (c : Cause) (text : List ℕ)
-    → dropped_of s.link (released s.clients (map (client_next s c) s.clients)) ≡ []
+    → dropped_of (policy_by c s.policy).limits s.link (released s.clients (map (client_next s c) s.clients)) ≡ []
     → is_held s.clients text ≡ true → is_held (clients_next s c) text ≡ false
-    → unsubscribes (lets_go_of s.link (released s.clients (clients_next s c))) text ≡ true
+    → unsubscribes (lets_go_of (policy_by c s.policy).limits s.link (released s.clients (clients_next s c)))
+    text ≡ true
 lets s c text none stood gone =
     let f = client_next s c in
     let rs = released s.clients (clients_next s c) in
     let same : released s.clients (map f s.clients ++ map f (newcomers_for s c)) ≡ rs =
     ap (released s.clients) (sym (map-append f s.clients (newcomers_for s c))) in
     ap (λ all. unsubscribes (map (λ r. item.Unsubscribe r.filter) all) text)
-    (taken_whole (places_left s.link) rs (ap (dropped_of s.link) (released_clients s c) ∙ none))
+    (taken_whole (places_left (policy_by c s.policy).limits s.link) rs
+    (ap (dropped_of (policy_by c s.policy).limits s.link) (released_clients s c) ∙ none))
     ∙ (lets_items rs text
     ∙ (sym (ap (λ all. lets_go all text) same)
     ∙ released_has f (map f (newcomers_for s c)) [] s.clients text refl stood

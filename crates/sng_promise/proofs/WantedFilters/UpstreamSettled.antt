@@ -1,5 +1,6 @@
 -- What makes the broker keep just the wanted filters still does as more waits.
 use Rattle.std.proofs.Common.{◌≡◌, ℕ, Bool, true, false, List, [], ◌∷◌, ◌++◌, refl, ap, sym, ◌∙◌}
+use Rattle.std.proofs.Common.{map}
 use Rattle.std.specs.Prelude.{◌&&◌, ◌||◌, not, filter}
 use Rattle.std.specs.Str.{bytes_eq}
 use Rattle.sng_outbox.specs.declared.item.Item.{Item}
@@ -85,3 +86,37 @@ settled_right false items text = and_false (unsubscribes items text)
     and_false : (a : Bool) → (not a && false) ≡ false
     and_false true = refl
     and_false false = refl
+
+-- the SUBSCRIBEs that are owed leave before what waits
+pub settled_front : (w : Bool) (texts : List (List ℕ)) (items : List Item) (text : List ℕ) (u : Bool)
+    → settled w items text u ≡ w
+    → settled w (map item.Subscribe texts ++ items) text u ≡ w
+settled_front true texts items text u was =
+    let first = map item.Subscribe texts in
+    ap (λ b. b || u) (subscribes_both first items text)
+    ∙ front_true (subscribes first text) (subscribes items text) u was
+  where
+    front_true : (a b u : Bool) → (b || u) ≡ true → ((a || b) || u) ≡ true
+    front_true true b u is = refl
+    front_true false b u is = is
+settled_front false texts items text u was =
+    ap (λ b. not b && u)
+    (unsubscribes_both (map item.Subscribe texts) items text
+    ∙ ap (λ b. b || unsubscribes items text) (none_ends texts))
+    ∙ was
+  where
+    none_ends : (texts : List (List ℕ)) → unsubscribes (map item.Subscribe texts) text ≡ false
+    none_ends [] = refl
+    none_ends (one ∷ texts) = none_ends texts
+
+-- less is kept of a filter that is not wanted
+pub settled_less : (w : Bool) (items : List Item) (text : List ℕ) (u v : Bool) → settled w items text u ≡ w
+    → (w ≡ true → v ≡ u)
+    → (w ≡ false → v ≡ true → u ≡ true) → settled w items text v ≡ w
+settled_less true items text u v was same less = ap (λ b. subscribes items text || b) (same refl) ∙ was
+settled_less false items text u v was same less = fewer (unsubscribes items text) u v was (less refl)
+  where
+    fewer : (a u v : Bool) → (not a && u) ≡ false → (v ≡ true → u ≡ true) → (not a && v) ≡ false
+    fewer true u v none less = refl
+    fewer false u false none less = refl
+    fewer false u true none less = absurd (let bad : true ≡ false = sym (less refl) ∙ none in cc)

@@ -11,12 +11,14 @@ use Rattle.sng_history.specs.Clients.{Client}
 use Rattle.sng_history.specs.Standing.{Release, holds, is_held, ended, releases_of, released_from, released}
 use Rattle.sng_history.specs.Standing.{unsubscribes, places_left}
 use Rattle.sng_history.specs.State.{State}
+use Rattle.sng_history.specs.State.{policy_by}
 use Rattle.sng_history.specs.Steps.{clients_next}
 use Rattle.sng_history.specs.Good.{Each}
 use Rattle.sng_promise.proofs.WantedFilters.HeldFilters.{OwnFilters, AreFilters, are_keep, stands_filter}
 use Rattle.sng_promise.proofs.WantedFilters.HeldFilters.{filter_short}
 use Rattle.sng_history.proofs.WaitingItems.{Added, each_next, waiting_next}
 use Rattle.sng_promise.proofs.WantedFilters.UpstreamSpeaks.{ShortEnd, ShortEnds}
+use Rattle.sng_grants.specs.Limits.{Limits}
 
 -- ---- what stands for somebody
 
@@ -84,11 +86,12 @@ ends_released zero rs short = tt
 ends_released (suc n) [] short = tt
 ends_released (suc n) (r ∷ rs) short = (short.0, ends_released n rs short.1)
 
-ends_let_go : (s : State) (after : List Client) → Each OwnFilters s.clients
-    → ShortEnds (unsubscribes s.link (released s.clients after))
-ends_let_go s after short =
-    ends_released (places_left s.link) (released s.clients after) (short_from [] s.clients after short)
+ends_let_go : (limits : Limits) (s : State) (after : List Client) → Each OwnFilters s.clients
+    → ShortEnds (unsubscribes limits s.link (released s.clients after))
+ends_let_go limits s after short =
+    ends_released (places_left limits s.link) (released s.clients after) (short_from [] s.clients after short)
 
 pub ends_next : (s : State) (c : Cause) → Each OwnFilters s.clients → ShortEnds s.link.waiting
     → ShortEnds (waiting_next s c)
-ends_next s c short all = each_next ShortEnd ends_added s c (ends_let_go s (clients_next s c) short) all
+ends_next s c short all =
+    each_next ShortEnd ends_added s c (ends_let_go (policy_by c s.policy).limits s (clients_next s c) short) all

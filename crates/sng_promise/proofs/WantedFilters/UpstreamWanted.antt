@@ -3,6 +3,7 @@ use Rattle.std.proofs.Common.{◌≡◌, ℕ, ◌≤◌, Bool, true, false, List
 use Rattle.std.proofs.Common.{subst}
 use Rattle.std.proofs.Common.{arith}
 use Rattle.std.specs.Prelude.{filter}
+use Rattle.std.specs.Prelude.{◌&&◌}
 use Rattle.mqtt_frames.specs.declared.packet.SubscribeCode.{SubscribeCode}
 use Rattle.mqtt_frames.specs.declared.packet.SubscribeCode.TheVariants as code
 use Rattle.mqtt_frames.specs.declared.packet.Packet.{Packet}
@@ -14,6 +15,7 @@ use Rattle.sng_history.specs.Causes.{Cause, cause_of}
 use Rattle.sng_history.specs.Causes.{ByConnect, ByMessage, BySource, ByBroken, ByPacket, ByUp, ByDown, ByTake}
 use Rattle.sng_history.specs.Causes.{ByReplace, ByTick}
 use Rattle.sng_history.specs.Links.{Link, Wanted, resumed, filters_wanted}
+use Rattle.sng_history.specs.Links.{outgoing}
 use Rattle.sng_history.specs.Packets.{answer_of, answered, subscribe_answer}
 use Rattle.sng_history.specs.Standing.{is_held}
 use Rattle.sng_history.specs.State.{State, opening, after, state_of}
@@ -21,28 +23,36 @@ use Rattle.sng_history.specs.State.{link_moved}
 use Rattle.sng_history.specs.Exits.{agains_of}
 use Rattle.sng_history.specs.Lawful.{Lawful, exits_for}
 use Rattle.sng_history.specs.Steps.{outs_of, clients_next, next_by, next_of}
-use Rattle.sng_history.specs.Good.{Good}
 use Rattle.sng_laws.specs.ViewsMessages.{message_at, subscribe_in}
 use Rattle.sng_laws.specs.ViewsClients.{accepted}
 use Rattle.sng_laws.specs.ViewsStanding.{begun, joining}
-use Rattle.sng_laws.specs.ViewsStanding.{words_sent, with_words}
-use Rattle.sng_laws.specs.ViewsStanding.{answered_by, held_in, wanted_then, wanted}
+use Rattle.sng_laws.specs.ViewsWanted.{words_sent, with_words}
+use Rattle.sng_laws.specs.ViewsStanding.{held_in}
+use Rattle.sng_laws.specs.ViewsWanted.{answered_by, wanted_then, wanted}
+use Rattle.sng_laws.specs.ViewsWanted.{has_to_leave}
 use Rattle.sng_history.proofs.Keeping.{exact_by, next_same}
 use Rattle.sng_history.proofs.ClientIds.{ids_of}
 use Rattle.sng_promise.proofs.Clients.SeenState.{stands}
+use Rattle.sng_promise.proofs.Clients.SeenState.{Stands}
 use Rattle.sng_promise.proofs.Standing.StandingState.{StandingShown, standing_shown, held_shown}
 use Rattle.sng_promise.proofs.WantedFilters.UpstreamLeaving.{sent_small, after_small}
 use Rattle.sng_promise.proofs.WantedFilters.HeldFilters.{filters_next}
 use Rattle.sng_promise.proofs.WantedFilters.UpstreamShort.{ends_next}
 use Rattle.sng_promise.proofs.Link.SeenPings.{ticked_along}
 use Rattle.sng_promise.proofs.WantedFilters.UpstreamOpen.{WantedShown, speaks_of, moves}
+use Rattle.sng_promise.proofs.WantedFilters.UpstreamOpen.{has_left}
 use Rattle.sng_promise.proofs.WantedFilters.UpstreamJoins.{event_joins}
+use Rattle.sng_history.proofs.Wanted.{subscribes}
+use Rattle.sng_laws.specs.Views.{is_up}
+use Rattle.sng_laws.specs.ViewsLink.{subscribe_waits}
+use Rattle.sng_promise.proofs.WantedFilters.UpstreamDebts.{marked, marks_agree, agree_all}
+use Rattle.sng_book.specs.declared.event.Event.TheVariants.{Datagram, Broker, Up, Down, Take, Replace, Tick}
 
 -- ---- the packet id that was given last
 
 take_last : (s : State) (b : Bool) → s.up ≡ b → s.link.last ≤ 65535
     → (link_moved s ByTake (exits_for s ByTake)).last ≤ 65535
-take_last s true is small = rw is (after_small s.policy s.link s.link.waiting small)
+take_last s true is small = rw is (after_small s.policy s.link (outgoing s.link) small)
 take_last s false is small = rw is small
 
 -- no answer moves it
@@ -85,11 +95,25 @@ same_keep : (keep other : List ℕ → Bool) (wanted : List Wanted) → ((text :
 same_keep keep other [] same = refl
 same_keep keep other (w ∷ wanted) same = rw (same w.filter, same_keep keep other wanted same) refl
 
-wanted_row : (by : ℕ) (h : List Row) (s : State) (e : Event) → Good s → WantedShown h s
+-- what has to leave is what the rows show
+leaves_same : (h : List Row) (s : State) (e : Event) → Stands h s → (text : List ℕ)
+    → has_left s e text ≡ has_to_leave e h text
+leaves_same h s Take st text =
+    ap (λ up. up && subscribes s.link.waiting text) st.shown.up
+    ∙ ap (λ items. is_up h && subscribe_waits items text) st.shown.waits
+leaves_same h s Up st text = refl
+leaves_same h s Down st text = refl
+leaves_same h s (Datagram from datagram) st text = refl
+leaves_same h s (Broker sent) st text = refl
+leaves_same h s (Replace policy) st text = refl
+leaves_same h s (Tick clock) st text = refl
+
+wanted_row : (by : ℕ) (h : List Row) (s : State) (e : Event) → Stands h s → WantedShown h s
     → ids_of (next_of s e).clients ≡ accepted (record { by = by; event = e; outs = outs_of s e } ∷ h)
     → StandingShown (record { by = by; event = e; outs = outs_of s e } ∷ h) (next_of s e)
     → WantedShown (record { by = by; event = e; outs = outs_of s e } ∷ h) (next_of s e)
-wanted_row by h s e good shown order standing =
+wanted_row by h s e st shown order standing =
+    let good = st.good in
     let c = cause_of e in
     let outs = outs_of s e in
     let rows = record { by = by; event = e; outs = outs } ∷ h in
@@ -100,8 +124,12 @@ wanted_row by h s e good shown order standing =
           ∙ (ap (λ v. joining v texts)
           (same_keep (is_held (clients_next s c)) (held_in rows) w
           (λ text. sym (held_shown rows (next_of s e) text order standing.filters)))
-          ∙ (ap (wanted_then rows texts) (moves s e (speaks_of s good shown.last shown.filters) shown.ends)
-          ∙ ap (λ v. wanted_then rows texts (answered_by e (with_words v (words_sent outs)))) shown.wanted));
+          ∙ (ap (wanted_then rows texts) (moves s e (speaks_of s good shown.last shown.filters) shown.ends
+          good.wanted_once)
+          ∙ ap (λ v. wanted_then rows texts (answered_by e (with_words v (words_sent outs))))
+          (ap (marked (has_left s e)) shown.wanted
+          ∙ marks_agree (has_left s e) (has_to_leave e h) (wanted h)
+          (agree_all (has_left s e) (has_to_leave e h) (wanted h) (leaves_same h s e st)))));
       last = last_next s c shown.last;
       filters = filters_next s c shown.filters;
       ends = ends_next s c shown.filters shown.ends;
@@ -114,18 +142,18 @@ AtNext by h e outs s =
     → StandingShown (record { by = by; event = e; outs = outs } ∷ h) s
     → WantedShown (record { by = by; event = e; outs = outs } ∷ h) s
 
-wanted_after : (by : ℕ) (h : List Row) (s : State) (e : Event) (outs : List Out) → outs ≡ outs_of s e → Good s
+wanted_after : (by : ℕ) (h : List Row) (s : State) (e : Event) (outs : List Out) → outs ≡ outs_of s e → Stands h s
     → WantedShown h s
     → AtNext by h e outs (after s (cause_of e) outs)
-wanted_after by h s e outs is good shown =
+wanted_after by h s e outs is st shown =
     subst (λ o. AtNext by h e o (after s (cause_of e) o)) (sym is)
-    (subst (AtNext by h e (outs_of s e)) (sym (next_same s (cause_of e) good))
-    (wanted_row by h s e good shown))
+    (subst (AtNext by h e (outs_of s e)) (sym (next_same s (cause_of e) st.good))
+    (wanted_row by h s e st shown))
 
 pub wanted_shown : (h : List Row) → Lawful opening h → WantedShown h (state_of opening h)
 wanted_shown [] l = record { wanted = refl; last = omega arith; filters = tt; ends = tt }
 wanted_shown (row ∷ h) l =
     let s = state_of opening h in
     wanted_after row.by h s row.event row.outs (exact_by s (cause_of row.event) row.outs l.1)
-    (stands h l.0).good (wanted_shown h l.0)
+    (stands h l.0) (wanted_shown h l.0)
     (stands (row ∷ h) l).shown.order (standing_shown (row ∷ h) l)

@@ -29,7 +29,7 @@ use Rattle.mqtt_frames.specs.declared.wire.decode.Front.{Front}
 use Rattle.mqtt_frames.proofs.Groups.{length-remaining_length}
 use Rattle.mqtt_frames.proofs.SpelledIsRead.{kind_of-first}
 use Rattle.mqtt_frames.proofs.StreamIsGrammar.{written-read}
-use Rattle.sng_laws.specs.ViewsStanding.{words_in, words_read}
+use Rattle.sng_laws.specs.ViewsWanted.{words_in, words_read}
 use Rattle.sng_laws.specs.ViewsFlight.{id_in, id_read}
 
 -- ---- a packet that says nothing of filters

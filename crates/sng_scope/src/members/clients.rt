@@ -12,15 +12,22 @@ use sng_grants::MAX_POLICY_CLIENTS;
 use sng_text::{ClientId, TextFault};
 use std::alloc::Global;
 
-/// The clients that the policy lists: none where it has no such member.
-pub fn clients_in(alloc: Global, ends: bool, policy: &Value) -> Result<Clients, PolicyFault>
-    ensures ok { IfOk result (λ c. clients_of ends (get (codes "clients") (view policy.now)) ≡ Ok c) }
+/// The clients that the policy lists, at most so many: none where it has no such member.
+pub fn clients_in(
+    alloc: Global,
+    most: usize,
+    ends: bool,
+    policy: &Value,
+) -> Result<Clients, PolicyFault>
+    requires { most ≤ MAX_POLICY_CLIENTS }
+    ensures ok { IfOk result (λ c. clients_of most ends (get (codes "clients") (view policy.now)) ≡ Ok c) }
     ensures err { IfErr result (λ e. (e ≡ PolicyFault.Memory)
-        ⊎ (clients_of ends (get (codes "clients") (view policy.now)) ≡ Err e)) }
+        ⊎ (clients_of most ends (get (codes "clients") (view policy.now)) ≡ Err e)) }
+    ensures few { IfOk result (λ c. length c ≤ most) }
 {
     match policy.get("clients") {
         None => Ok(Clients::new(alloc)),
-        Some(clients) => clients_of(alloc, ends, members_within(clients, MAX_POLICY_CLIENTS)?),
+        Some(clients) => clients_of(alloc, ends, members_within(clients, most)?),
     }
 }
 
@@ -33,6 +40,7 @@ fn clients_of(
     ensures ok { IfOk result (λ c. clients_onto ends [] (members_view members.now.entries) ≡ Ok c) }
     ensures err { IfErr result (λ e. (e ≡ PolicyFault.Memory)
         ⊎ (clients_onto ends [] (members_view members.now.entries) ≡ Err e)) }
+    ensures few { IfOk result (λ c. length c ≤ length members.now.entries) }
 {
     let mut clients = Clients::new(alloc);
     for (name, value) in members {

@@ -12,15 +12,22 @@ use sng_grants::MAX_SOURCES;
 use sng_text::read_ipv4;
 use std::alloc::Global;
 
-/// The sources that the policy lists: none where it has no such member.
-pub fn sources_in(alloc: Global, ends: bool, policy: &Value) -> Result<Sources, PolicyFault>
-    ensures ok { IfOk result (λ s. sources_of ends (get (codes "sources") (view policy.now)) ≡ Ok s) }
+/// The sources that the policy lists, at most so many: none where it has no such member.
+pub fn sources_in(
+    alloc: Global,
+    most: usize,
+    ends: bool,
+    policy: &Value,
+) -> Result<Sources, PolicyFault>
+    requires { most ≤ MAX_SOURCES }
+    ensures ok { IfOk result (λ s. sources_of most ends (get (codes "sources") (view policy.now)) ≡ Ok s) }
     ensures err { IfErr result (λ e. (e ≡ PolicyFault.Memory)
-        ⊎ (sources_of ends (get (codes "sources") (view policy.now)) ≡ Err e)) }
+        ⊎ (sources_of most ends (get (codes "sources") (view policy.now)) ≡ Err e)) }
+    ensures few { IfOk result (λ s. length s ≤ most) }
 {
     match policy.get("sources") {
         None => Ok(Sources::new(alloc)),
-        Some(sources) => sources_of(alloc, ends, members_within(sources, MAX_SOURCES)?),
+        Some(sources) => sources_of(alloc, ends, members_within(sources, most)?),
     }
 }
 
@@ -33,6 +40,7 @@ fn sources_of(
     ensures ok { IfOk result (λ s. sources_onto ends [] (members_view members.now.entries) ≡ Ok s) }
     ensures err { IfErr result (λ e. (e ≡ PolicyFault.Memory)
         ⊎ (sources_onto ends [] (members_view members.now.entries) ≡ Err e)) }
+    ensures few { IfOk result (λ s. length s ≤ length members.now.entries) }
 {
     let mut sources = Sources::new(alloc);
     for (name, value) in members {

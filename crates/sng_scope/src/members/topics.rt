@@ -12,15 +12,17 @@ use sng_grants::{MAX_TOPICS, Names};
 use sng_text::{TextFault, TopicName};
 use std::alloc::Global;
 
-/// The topics that the policy names: none where it has no such member.
-pub fn topics_in(alloc: Global, policy: &Value) -> Result<Topics, PolicyFault>
-    ensures ok { IfOk result (λ t. topics_of (get (codes "topics") (view policy.now)) ≡ Ok t) }
+/// The topics that the policy names, at most so many: none where it has no such member.
+pub fn topics_in(alloc: Global, most: usize, policy: &Value) -> Result<Topics, PolicyFault>
+    requires { most ≤ MAX_TOPICS }
+    ensures ok { IfOk result (λ t. topics_of most (get (codes "topics") (view policy.now)) ≡ Ok t) }
     ensures err { IfErr result (λ e. (e ≡ PolicyFault.Memory)
-        ⊎ (topics_of (get (codes "topics") (view policy.now)) ≡ Err e)) }
+        ⊎ (topics_of most (get (codes "topics") (view policy.now)) ≡ Err e)) }
+    ensures few { IfOk result (λ t. length t ≤ most) }
 {
     match policy.get("topics") {
         None => Ok(Topics::new(alloc)),
-        Some(topics) => topics_of(alloc, members_within(topics, MAX_TOPICS)?),
+        Some(topics) => topics_of(alloc, members_within(topics, most)?),
     }
 }
 
@@ -30,6 +32,7 @@ fn topics_of(alloc: Global, members: &Map<String, Value>) -> Result<Topics, Poli
     ensures ok { IfOk result (λ t. topics_onto [] (members_view members.now.entries) ≡ Ok t) }
     ensures err { IfErr result (λ e. (e ≡ PolicyFault.Memory)
         ⊎ (topics_onto [] (members_view members.now.entries) ≡ Err e)) }
+    ensures few { IfOk result (λ t. length t ≤ length members.now.entries) }
 {
     let mut names = Names::new(alloc);
     for (name, value) in members {

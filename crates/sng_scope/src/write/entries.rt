@@ -1,5 +1,5 @@
 //! Clients, sources and topics as JSON objects.
-ghost use Rattle.std.specs.Prelude.{◌≡◌, true, IfOk};
+ghost use Rattle.std.specs.Prelude.{◌≡◌, ◌≤◌, ℕ, true, length, IfOk};
 ghost use Rattle.serde_json.specs.View.{view};
 ghost use Rattle.sng_text.specs.ClientIds.{is_client_id};
 ghost use Rattle.sng_text.specs.Ipv4.{IsAddress};
@@ -13,14 +13,14 @@ use super::scopes::grant_value;
 use super::texts::{decimal_of, dotted_of, string_of, text_of};
 use crate::{Clients, Sources, Topics};
 use serde_json::{Map, Value, put};
-use sng_grants::{MAX_POLICY_CLIENTS, MAX_SOURCES, MAX_TOPICS};
 use std::alloc::{AllocError, Global};
 
 /// The grants by client id.
 pub fn clients_value(alloc: Global, clients: &Clients) -> Result<Value, AllocError>
     ensures json { IfOk result (λ v. view v ≡ clients_data clients.now) }
     ensures within { IfOk result
-        (λ v. AreWithin MAX_POLICY_CLIENTS (λ client. is_client_id client ≡ true) IsGrant clients.now) }
+        (λ v. (most : ℕ) → length clients.now ≤ most
+        → AreWithin most (λ client. is_client_id client ≡ true) IsGrant clients.now) }
     ensures ordered { IfOk result (λ v. AreInOrder clients.now) }
 {
     let mut members = Map::new(alloc);
@@ -35,7 +35,8 @@ pub fn clients_value(alloc: Global, clients: &Clients) -> Result<Value, AllocErr
 /// The grants by IPv4 address.
 pub fn sources_value(alloc: Global, sources: &Sources) -> Result<Value, AllocError>
     ensures json { IfOk result (λ v. view v ≡ sources_data sources.now) }
-    ensures within { IfOk result (λ v. AreWithin MAX_SOURCES IsAddress IsGrant sources.now) }
+    ensures within { IfOk result
+        (λ v. (most : ℕ) → length sources.now ≤ most → AreWithin most IsAddress IsGrant sources.now) }
     ensures ordered { IfOk result (λ v. AreInOrder sources.now) }
 {
     let mut members = Map::new(alloc);
@@ -52,7 +53,8 @@ pub fn sources_value(alloc: Global, sources: &Sources) -> Result<Value, AllocErr
 pub fn topics_value(alloc: Global, topics: &Topics) -> Result<Value, AllocError>
     ensures json { IfOk result (λ v. view v ≡ topics_data topics.now) }
     ensures within { IfOk result
-        (λ v. AreWithin MAX_TOPICS IsTopicId (λ name. is_name name ≡ true) topics.now) }
+        (λ v. (most : ℕ) → length topics.now ≤ most
+        → AreWithin most IsTopicId (λ name. is_name name ≡ true) topics.now) }
     ensures ordered { IfOk result (λ v. AreIdsInOrder topics.now) }
 {
     let mut members = Map::new(alloc);

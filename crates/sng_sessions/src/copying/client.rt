@@ -59,10 +59,10 @@ impl ClientCopy {
         Ok(ClientCopy {
             id: id.copy()?,
             presence: session.presence,
-            ids: session.ids.table().copy()?,
+            ids: session.ids.copy()?,
             number: session.number,
             queue: session.queue.copy(alloc)?,
-            filters: session.filters.copy()?,
+            filters: session.filters.copy(alloc)?,
             wills: session.wills.copy()?,
             unreleased: session.unreleased.copy(),
         })

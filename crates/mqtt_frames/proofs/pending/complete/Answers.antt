@@ -1,9 +1,10 @@
-use Rattle.std.proofs.Common.{◌≡◌, ℕ, ◌+◌, List, ◌++◌, length, length-append, drop, ap, sym, ◌∙◌, arith}
+use Rattle.std.proofs.Common.{◌≡◌, ℕ, ◌+◌, ◌-◌, List, ◌++◌, length, length-append, drop, ap, sym, subst}
+use Rattle.std.proofs.Common.{◌∙◌, arith}
 use Rattle.mqtt_frames.specs.declared.header.Header.TheVariants as headers
 use Rattle.mqtt_frames.specs.Reading.{body_of}
 use Rattle.mqtt_frames.specs.Headers.{header_at}
-use Rattle.mqtt_frames.specs.Streams.{read_all, behind_body}
-use Rattle.mqtt_frames.proofs.PieceLemmas.{is_part, whole-read}
+use Rattle.mqtt_frames.specs.Streams.{read_all, behind_body, Lacks}
+use Rattle.mqtt_frames.proofs.PieceLemmas.{is_part, whole-read, lacks_part}
 use Rattle.mqtt_frames.proofs.pending.complete.Goals as goal
 
 pub overflow_sub-missing : goal.overflow_sub-missing
@@ -34,3 +35,17 @@ returns-else-is_err-clause-ok c =
     ∙ ap (λ (b : List ℕ). behind_body (body_of c.args.kind (drop c.args.start b)) behind)
     (sym c.in_ok-extend_from_slice-2.ensures.items) in
     rw read c.completed-taken.ensures.ok
+
+pub returns-then-piece-missing-clause-missing : goal.returns-then-piece-missing-clause-missing
+returns-then-piece-missing-clause-missing c =
+    let held = c.args.held.now.items in
+    let piece = c.args.piece.now in
+    let missing = c.args.start + c.args.rest - c.len-before.result - length piece in
+    let bytes : c.extend_from_slice.new.self.items ≡ held ++ piece =
+    c.in_ok-extend_from_slice.ensures.items
+    ∙ ap (λ (b : List ℕ). b ++ piece) c.in_ok-reserve_exact.ensures.items in
+    let sum : length (held ++ piece) + missing ≡ c.args.start + c.args.rest =
+    omega (arith, length-append held piece, c.len-before.ensures, c.if-piece-missing.true) in
+    subst (λ (b : List ℕ). Lacks b missing) (sym bytes)
+    (lacks_part (held ++ piece) c.args.kind c.args.start c.args.rest missing (sym c.requires.header)
+    c.if-total-gt-MAX_PACKET.false sum)

@@ -4,6 +4,6 @@ use Rattle.sng_core.proofs.register.register.Goals as goal
 
 pub returns-clause-next : goal.returns-clause-next
 returns-clause-next c =
-    c.tell.ensures
+    c.in_ok-tell.ensures.ok
     ∙ told_judged c.args.policy.now c.args.clock c.args.register.name c.args.sessions.now c.args.place
     c.in_ok-judged.judged c.requires c.in_ok-judged.ensures

@@ -4,7 +4,9 @@ use Rattle.sng_link.proofs.taking.carry_out.Given as goal
 
 abbrev pub invariant-loop-step : goal.invariant-loop-step
 invariant-loop-step l = record {
-  as_many : length (drop l.step-index l.plan) ≡ length l.outbox.waiting;
-  left : l.outbox.in_flight ++ flights l.outbox.waiting (drop l.step-index l.plan)
-      ≡ l.fn.outbox.in_flight ++ flights l.fn.outbox.waiting l.plan;
+  as_many : length (drop l.step-index l.plan) ≡ length l.outbox.sending.waiting;
+  left : l.outbox.sending.in_flight ++ flights l.outbox.sending.waiting (drop l.step-index l.plan)
+      ≡ l.fn.outbox.sending.in_flight ++ flights l.fn.outbox.sending.waiting l.plan;
+  places : l.outbox.places ≡ l.fn.outbox.places;
+  flights : l.outbox.flights ≡ l.fn.outbox.flights;
 }

@@ -1,40 +1,43 @@
-use Rattle.std.proofs.Common.{◌≡◌, ◌++◌, []}
-use Rattle.sng_link.specs.Flights.{link_of}
-use Rattle.sng_link.specs.Taking.{flights}
-use Rattle.sng_link.proofs.Taken.{whole_plan, all_outs, link_taken, marked_taken}
+use Rattle.std.proofs.Common.{◌≡◌, ◌≤◌, arith, ◌∙◌, ap, refl}
+use Rattle.sng_outbox.specs.PacketIds.{Numbering}
+use Rattle.sng_wanted.specs.Filters.{WantedRoom}
+use Rattle.sng_link.proofs.Renewing.{starts}
 use Rattle.sng_link.proofs.taking.take.Goals as goal
 
-pub carry_out-requires : goal.carry_out-requires
-carry_out-requires c =
-    rw c.as_slice.ensures.value
-    (whole_plan c.args.policy.now c.args.ids.now.marks
-    (link_of c.args.outbox.now c.args.ids.now c.args.wanted.now 0) c.args.outbox.now.waiting
-    c.in-Ok.outs c.plan.new.log.items c.plan.new.ids
-    c.plan.new.wanted (c.in-Ok.ensures.planned 0))
+pub leave_all-requires-clause-stands : goal.leave_all-requires-clause-stands
+leave_all-requires-clause-stands c pinged =
+    let small : c.args.ids.now.last ≤ 65535 = omega arith in
+    starts c.args.outbox.now.sending c.args.ids.now c.args.wanted.now.wanted pinged c.requires.marked
+    c.len-stand.ensures.once c.requires.closed c.opens-opens.ensures.few small c.requires.few
 
-pub returns-in-Ok-clause-outs : goal.returns-in-Ok-clause-outs
-returns-in-Ok-clause-outs c pinged =
-    all_outs c.args.policy.now c.args.ids.now.marks
-    (link_of c.args.outbox.now c.args.ids.now c.args.wanted.now pinged) c.args.outbox.now.waiting
-    c.in-Ok.outs c.plan.new.log.items c.plan.new.ids
-    c.plan.new.wanted (c.in-Ok.ensures.planned pinged)
+pub undo-requires : goal.undo-requires
+undo-requires c = c.in-Err.ensures.logged.can
 
-pub returns-in-Ok-clause-after : goal.returns-in-Ok-clause-after
-returns-in-Ok-clause-after c pinged =
-    let s = c.args.outbox.now in
-    let left : c.carry_out.new.outbox
-    ≡ record { waiting = []; in_flight = s.in_flight ++ flights s.waiting c.plan.new.log.items } =
-    rw c.as_slice.ensures.value at c.carry_out.ensures in
-    link_taken c.args.policy.now c.args.ids.now.marks s c.carry_out.new.outbox c.args.ids.now c.plan.new.ids
-    c.args.wanted.now c.plan.new.wanted pinged c.in-Ok.outs c.plan.new.log.items
-    (c.in-Ok.ensures.planned pinged) left
+pub returns-in-Err-clause-marked : goal.returns-in-Err-clause-marked
+returns-in-Err-clause-marked c =
+    let logged = c.in-Err.ensures.logged in
+    rw (c.undo.ensures.marks, logged.marks_back, c.undo.ensures.wanted, logged.wanted_back, c.in-Err.ensures.err)
+    c.requires.marked
 
-pub returns-in-Ok-clause-marked : goal.returns-in-Ok-clause-marked
-returns-in-Ok-clause-marked c =
-    let s = c.args.outbox.now in
-    let left : c.carry_out.new.outbox
-    ≡ record { waiting = []; in_flight = s.in_flight ++ flights s.waiting c.plan.new.log.items } =
-    rw c.as_slice.ensures.value at c.carry_out.ensures in
-    marked_taken c.args.policy.now c.args.ids.now.marks s c.carry_out.new.outbox c.args.ids.now c.plan.new.ids
-    c.args.wanted.now c.plan.new.wanted c.in-Ok.outs c.plan.new.log.items
-    (c.in-Ok.ensures.planned 0) left
+pub returns-in-Err-clause-closed : goal.returns-in-Err-clause-closed
+returns-in-Err-clause-closed c =
+    let logged = c.in-Err.ensures.logged in
+    rw (c.undo.ensures.wanted, logged.wanted_back) c.requires.closed
+
+same_numbers : (a b : Numbering) → a.marks ≡ b.marks → a.last ≡ b.last → a ≡ b
+same_numbers a b marks last =
+    ap (λ m. record { marks = m; last = a.last }) marks ∙ ap (λ l. record { marks = b.marks; last = l }) last
+
+same_filters : (a b c : WantedRoom) (back : _) → a ≡ record b { wanted = back } → back ≡ c.wanted
+    → b.room ≡ c.room → a ≡ c
+same_filters a b c back is back_is room = is ∙ (rw (back_is, room) refl)
+
+pub returns-in-Err-clause-err : goal.returns-in-Err-clause-err
+returns-in-Err-clause-err c =
+    let logged = c.in-Err.ensures.logged in (
+      c.in-Err.ensures.err,
+      same_numbers c.undo.new.ids c.args.ids.now (c.undo.ensures.marks ∙ logged.marks_back)
+          (c.undo.ensures.last ∙ c.last-last.ensures),
+      same_filters c.undo.new.wanted c.leave_all.new.wanted c.args.wanted.now _ c.undo.ensures.wanted
+          logged.wanted_back c.in-Err.ensures.room.2,
+    )

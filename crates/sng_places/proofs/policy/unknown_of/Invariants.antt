@@ -5,4 +5,4 @@ use Rattle.sng_places.proofs.policy.unknown_of.Given as goal
 
 abbrev pub invariant-loop-name : goal.invariant-loop-name
 invariant-loop-name l =
-    unknown_of (members_view l.name-iterator) ≡ unknown_of (members_view l.members.entries)
+    unknown_of l.limited (members_view l.name-iterator) ≡ unknown_of l.limited (members_view l.members.entries)

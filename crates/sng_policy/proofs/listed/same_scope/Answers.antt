@@ -1,4 +1,4 @@
-use Rattle.std.proofs.Common.{◌≡◌, arith}
+use Rattle.std.proofs.Common.{◌≡◌, false, arith}
 use Rattle.std.proofs.lemmas.Bool.Decides.{Decides-at}
 use Rattle.std.proofs.lemmas.Grind.{common_steps}
 use Rattle.sng_policy.specs.Grants.{same_scope}
@@ -11,3 +11,15 @@ returns-in-Some-Some-clause-same c =
     grind (arith, common_steps) in
     Decides-at c.same_grant.result _ value
     (same_scope-Decides c.args.before.now c.args.after.now c.args.client.now)
+
+pub returns-in_default-clause-same : goal.returns-in_default-clause-same
+returns-in_default-clause-same c =
+    let value : false ≡ same_scope c.args.before.now c.args.after.now c.args.client.now =
+    grind (arith, common_steps) in
+    Decides-at false _ value (same_scope-Decides c.args.before.now c.args.after.now c.args.client.now)
+
+pub returns-in_default-2-clause-same : goal.returns-in_default-2-clause-same
+returns-in_default-2-clause-same c =
+    let value : false ≡ same_scope c.args.before.now c.args.after.now c.args.client.now =
+    grind (arith, common_steps) in
+    Decides-at false _ value (same_scope-Decides c.args.before.now c.args.after.now c.args.client.now)

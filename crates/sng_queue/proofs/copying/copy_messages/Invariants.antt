@@ -5,5 +5,5 @@ abbrev pub invariant-loop-message : goal.invariant-loop-message
 invariant-loop-message l = record {
   can_next : (goal.iterator-loop-message).can_next l.message-iterator;
   is_finite : (goal.iterator-loop-message).is_finite l.message-iterator;
-  copied : l.copies.items ++ l.message-iterator ≡ l.messages.items;
+  copied : l.copies.items ++ l.message-iterator ≡ l.messages;
 }

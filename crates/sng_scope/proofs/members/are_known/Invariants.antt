@@ -4,4 +4,5 @@ use Rattle.sng_scope.specs.Policies.{are_known}
 use Rattle.sng_scope.proofs.members.are_known.Given as goal
 
 abbrev pub invariant-loop-name : goal.invariant-loop-name
-invariant-loop-name l = are_known (members_view l.name-iterator) ≡ are_known (members_view l.members.entries)
+invariant-loop-name l =
+    are_known l.limited (members_view l.name-iterator) ≡ are_known l.limited (members_view l.members.entries)

@@ -1,4 +1,4 @@
-use Rattle.std.proofs.Common.{ℕ, suc, ◌≡◌, ◌+◌, ◌∷◌, drop, drop-cons, add-one, refl, sym, ap, subst, ◌∙◌}
+use Rattle.std.proofs.Common.{suc, ◌≡◌, ◌+◌, ◌∷◌, drop, drop-cons, add-one, refl, sym, ap, subst, ◌∙◌}
 use Rattle.std.proofs.lemmas.List.{drop_all}
 use Rattle.sng_fan.specs.declared.held.Held.{Held}
 use Rattle.sng_sessions.proofs.HoldingsMade.{Growing, Once, all_grown, growing_on, growing_start, once_drop}

@@ -1,5 +1,5 @@
 -- The holders are all to whom the message may be due.
-use Rattle.std.proofs.Common.{◌≡◌, ◌++◌, sym, ap, ◌∙◌, subst}
+use Rattle.std.proofs.Common.{◌++◌, sym, ap, ◌∙◌, subst}
 use Rattle.std.proofs.lemmas.Result.{IfOk-weaker, on_ok_weaker}
 use Rattle.sng_turns.specs.Delivering.{holders_outs, holders_kept, AreWithin}
 use Rattle.sng_turns.proofs.HolderLemmas.{outs-all, kept-all, all-within}

@@ -19,7 +19,7 @@ loop-filter-init c =
       is_finite = tt;
       kept = ap drain_kept same ∙ kept;
       from_room = rw same (omega (arith, room, many));
-      room = let room = c.requires.room in omega (arith, room);
+      room = omega arith;
       moved =
           rw (same, rest, c.requires.empty)
           (moved_first c.args.from.now.entries

@@ -1,8 +1,6 @@
 use Rattle.std.proofs.Common.{◌≡◌, ◌≤◌, ◌+◌, [], length}
 use Rattle.indexmap.specs.IndexMap.{spare}
 use Rattle.indexmap.specs.Drain.{drain_rest, drain_kept, drain_room}
-use Rattle.sng_wanted.specs.declared.places.TheConstants.{ROOM}
-use Rattle.sng_wanted.specs.Shown.{HasRoom}
 use Rattle.sng_wanted.proofs.ShownLemmas.{Moved}
 use Rattle.sng_wanted.proofs.places.move_standing.Given as goal
 
@@ -12,6 +10,6 @@ invariant-loop-filter l = record {
   is_finite : (goal.iterator-loop-filter).is_finite l.filter-iterator;
   kept : drain_kept l.filter-iterator ≡ [];
   from_room : length l.fn.from.entries + spare l.fn.from ≤ drain_room l.filter-iterator;
-  room : HasRoom ROOM (length l.to.entries) (spare l.to);
+  room : spare l.fn.to ≤ length l.to.entries + spare l.to;
   moved : Moved l.fn.from.entries l.to.entries (drain_rest l.filter-iterator);
 }

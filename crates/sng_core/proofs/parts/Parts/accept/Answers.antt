@@ -22,8 +22,9 @@ returns-clause-next c =
     c.in_ok-handed.ensures.plan ∙ ap
     (λ place. own_plan s.policy connect (at_place s.clients place)) c.find-place.ensures.place in
     ap (λ link. with_both s link c.enter.new.sessions)
-    (c.let_go.ensures ∙ ap (let_go s.link) c.in_ok-alone.ensures)
-    ∙ (ap (with_both s (let_go s.link (alone_by connect s.clients))) (c.in_ok-enter.ensures.ok
+    (c.let_go.ensures ∙ (λ i. let_go (c.limits-limits.ensures i) (c.room.ensures.link i)
+    (c.in_ok-alone.ensures i)))
+    ∙ (ap (with_both s (let_go s.policy.limits s.link (alone_by connect s.clients))) (c.in_ok-enter.ensures.ok
     ∙ (λ i. moved_if (c.find-place.ensures.place i) (handed_by s.clock (handed i))
     (entered s.clock c.args.from connect s.clients)))
     ∙ ap (λ t. connect_next t c.args.from connect Allowed) c.self.view_is)
@@ -34,7 +35,8 @@ returns-clause-outs c =
     let from = c.args.from in
     let connect = c.args.connect in
     let count =
-    c.unplaced-dropped.ensures ∙ ap (λ texts. length texts - places_left s.link) c.in_ok-alone.ensures in
+    c.unplaced-dropped.ensures
+    ∙ (λ i. length (c.in_ok-alone.ensures i) - places_left (c.limits-limits.ensures i) s.link) in
     c.in_ok-outs-2.ensures
     ∙ (c.in_ok-handed.ensures.outs
     ∙ (ap (λ outs. outs ++ own_outs s.policy from connect (at_place s.clients c.find-place.result))

@@ -9,7 +9,6 @@ use Rattle.sng_history.specs.Good.{Good}
 use Rattle.sng_core.specs.Forms.{taken_outs, taken_next, begun_next}
 use Rattle.sng_history.specs.Exits.{agains_of, beginning}
 use Rattle.sng_core.proofs.IdleRows.{up_row, down_row, take_row}
-use Rattle.sng_core.proofs.SubscribeRows.{wanted_room}
 use Rattle.sng_core.proofs.parts.Parts.perform.Goals as goal
 
 up_next : {E : Type 0} (s after : State) (e : Event) (result : Result (List Out) E) → Good s → e ≡ event.Up
@@ -34,10 +33,10 @@ returns-in-Up-clause-outs c =
     c.begin_connection.ensures.outs
 
 pub begin_connection-requires : goal.begin_connection-requires
-begin_connection-requires c = wanted_room c.args.self.now c.requires
+begin_connection-requires c = c.requires.few
 
 pub take-requires : goal.take-requires
-take-requires c = wanted_room c.args.self.now c.requires
+take-requires c = c.requires.few
 
 pub returns-in-Down-clause-next : goal.returns-in-Down-clause-next
 returns-in-Down-clause-next c =

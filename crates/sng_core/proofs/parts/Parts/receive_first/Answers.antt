@@ -1,15 +1,19 @@
 -- What is asked for has room, and what comes of it is what was judged.
 use Rattle.std.proofs.Common.{◌≡◌, ◌<◌, ℕ, List, Option, Some, None, ap, sym, subst, ◌∙◌, length}
 use Rattle.sng_frames.specs.declared.messages.publish.Publish.{Publish}
+use Rattle.sng_outbox.specs.declared.item.Item.TheVariants as item
 use Rattle.sng_outbox.specs.declared.item.Publication.{Publication}
 use Rattle.sng_book.specs.declared.outcome.Outcome.{Outcome}
+use Rattle.sng_history.specs.Links.{Link}
 use Rattle.sng_history.specs.State.{State}
+use Rattle.sng_history.specs.Ticking.{with_item}
 use Rattle.sng_history.specs.Verdicts.{once_room}
+use Rattle.sng_link.specs.Rooms.{LinkRoom}
 use Rattle.sng_core.specs.declared.verdict.Judged.{Judged}
 use Rattle.sng_core.specs.Forms.{client_at, publish_judged, publication_by}
 use Rattle.sng_core.specs.Receiving.{once_judged, once_noted, once_asked, first_outs, first_next}
 use Rattle.sng_core.specs.contracts.parts.Parts.{the_view}
-use Rattle.sng_core.proofs.Asked.{once_has_room, first_made, joined_none}
+use Rattle.sng_core.proofs.Asked.{first_made, joined_none}
 use Rattle.sng_core.proofs.parts.Parts.receive_first.Goals as goal
 
 -- the room, in the state that the fields make
@@ -33,18 +37,8 @@ asked_of : (p : Publish) (place : ℕ) (s : State) (id : List ℕ) (j : Judged) 
 asked_of p place s id j asked is made read own =
     sym read ∙ made ∙ ap (λ name. publication_by name p j.name j.outcome) own
 
-pub push-requires : goal.push-requires
-push-requires c =
-    let place = c.args.place in
-    let p = c.args.publish in
-    let s = the_view c.self.inside in
-    once_has_room s c.id.result.now p (client_at s.clients place) c.once_room-room.result
-    c.in_ok-judged.judged c.in-Some.publication
-    (room_of s c.args.self.now p place _ c.self.view_is c.once_room-room.ensures)
-    c.in_ok-judged.ensures (sym c.in_ok-asked.ensures ∙ c.in-Some.is)
-
-pub returns-in-Some-clause-outs : goal.returns-in-Some-clause-outs
-returns-in-Some-clause-outs c =
+pub returns-in_ok-room-in-Some-clause-outs : goal.returns-in_ok-room-in-Some-clause-outs
+returns-in_ok-room-in-Some-clause-outs c =
     let place = c.args.place in
     let p = c.args.publish in
     let s = the_view c.self.inside in
@@ -54,8 +48,8 @@ returns-in-Some-clause-outs c =
     c.in_ok-judged.ensures)
     ∙ ap (λ t. first_outs t p (client_at t.clients place)) c.self.view_is
 
-pub returns-in-Some-clause-next : goal.returns-in-Some-clause-next
-returns-in-Some-clause-next c =
+pub returns-in_ok-room-in-Some-clause-next : goal.returns-in_ok-room-in-Some-clause-next
+returns-in_ok-room-in-Some-clause-next c =
     let place = c.args.place in
     let p = c.args.publish in
     let s = the_view c.self.inside in
@@ -68,7 +62,9 @@ returns-in-Some-clause-next c =
     let asked_is =
     asked_of p place s c.id.result.now j c.in_ok-asked.asked (Some c.in-Some.publication)
     c.in_ok-asked.ensures c.in-Some.is c.id.ensures in
-    first_made s p place j (Some c.in-Some.publication) _ _ inside judged_is asked_is c.push.ensures
+    first_made s p place j (Some c.in-Some.publication) _ _ inside judged_is asked_is
+    (ap (λ (l : LinkRoom). l.link) c.push.ensures.next
+    ∙ ap (λ (link : Link). with_item link (item.Publish c.in-Some.publication)) c.room.ensures.link)
     c.change.ensures
     ∙ ap (λ t. first_next t p place) c.self.view_is
 

@@ -2,7 +2,6 @@
 use Rattle.std.proofs.Common.{None, Some, sym, ◌∙◌}
 use Rattle.sng_core.proofs.Found.{here_within}
 use Rattle.sng_core.proofs.RequestRows.{request_row}
-use Rattle.sng_core.proofs.SubscribeRows.{wanted_room}
 use Rattle.sng_core.proofs.parts.Parts.request.Goals as goal
 
 pub returns-in_default-clause-outs : goal.returns-in_default-clause-outs
@@ -28,9 +27,6 @@ returns-clause-next c =
     ∙ (request_row c.args.self.now c.args.from c.args.request (Some c.in-Some.place) c.requires.good
     (sym c.in-Some.is ∙ c.requires.at)).next
 
-pub requested-requires-clause-few : goal.requested-requires-clause-few
-requested-requires-clause-few c = wanted_room c.args.self.now c.requires.good
-
-pub requested-requires-clause-place : goal.requested-requires-clause-place
-requested-requires-clause-place c =
+pub requested-requires : goal.requested-requires
+requested-requires c =
     here_within c.args.from c.args.self.now.clients (Some c.in-Some.place) (sym c.in-Some.is ∙ c.requires.at)

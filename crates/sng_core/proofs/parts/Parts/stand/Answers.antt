@@ -1,4 +1,4 @@
 use Rattle.sng_core.proofs.parts.Parts.stand.Goals as goal
 
-pub keep-requires-clause-room : goal.keep-requires-clause-room
-keep-requires-clause-room c = c.requires.room c.in-Some.filter c.in-Some.is c.in-Allowed.is
+pub keep-requires : goal.keep-requires
+keep-requires c = c.requires c.in-Some.filter c.in-Some.is c.in-Allowed.is

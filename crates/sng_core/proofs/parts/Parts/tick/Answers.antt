@@ -1,4 +1,4 @@
-use Rattle.std.proofs.Common.{sym, ◌∙◌}
+use Rattle.std.proofs.Common.{sym}
 use Rattle.sng_core.proofs.EndingRows.{ended_outs, ended_next_is, quiet_outs, quiet_next}
 use Rattle.sng_core.proofs.parts.Parts.tick.Goals as goal
 

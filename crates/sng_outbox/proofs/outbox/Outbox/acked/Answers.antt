@@ -1,31 +1,18 @@
-use Rattle.std.proofs.Common.{◌<◌, ◌≤◌, length, sym, arith}
-use Rattle.sng_outbox.proofs.PlaceLemmas.{taken_at, none_at}
+use Rattle.std.proofs.Common.{length, ap, arith}
+use Rattle.sng_outbox.specs.Flights.{Tracked}
+use Rattle.sng_outbox.proofs.PlaceLemmas.{left-within}
 use Rattle.sng_outbox.proofs.outbox.Outbox.acked.Goals as goal
 
-pub returns-then-place-len-clause-found : goal.returns-then-place-len-clause-found
-returns-then-place-len-clause-found c =
-    let place_is = rw c.deref.ensures.value at c.place_of-place.ensures in
-    let beyond : length c.self.inside.in_flight.items ≤ c.place_of-place.result = omega arith in
-    rw (← c.self.view_is) (sym (none_at c.self.inside.in_flight.items c.args.packet_id
-    (rw place_is at beyond)).0)
-
-pub returns-then-place-len-clause-rest : goal.returns-then-place-len-clause-rest
-returns-then-place-len-clause-rest c =
-    let place_is = rw c.deref.ensures.value at c.place_of-place.ensures in
-    let beyond : length c.self.inside.in_flight.items ≤ c.place_of-place.result = omega arith in
-    rw (← c.self.view_is) (rw (none_at c.self.inside.in_flight.items c.args.packet_id
-    (rw place_is at beyond)).1)
-
-pub returns-clause-found : goal.returns-clause-found
-returns-clause-found c =
-    let place_is = rw c.deref.ensures.value at c.place_of-place.ensures in
-    let within : c.place_of-place.result < length c.self.inside.in_flight.items = omega arith in
-    rw (← c.self.view_is) (sym (taken_at c.self.inside.in_flight.items c.args.packet_id
-    (rw place_is at within)).0)
-
-pub returns-clause-rest : goal.returns-clause-rest
-returns-clause-rest c =
-    let place_is = rw c.deref.ensures.value at c.place_of-place.ensures in
-    let within : c.place_of-place.result < length c.self.inside.in_flight.items = omega arith in
-    rw (← c.self.view_is, c.remove-acknowledged.ensures.items, place_is)
-    (rw (taken_at c.self.inside.in_flight.items c.args.packet_id (rw place_is at within)).1)
+pub invariant_of-self : goal.invariant_of-self
+invariant_of-self c =
+    let sent = ap (λ (t : Tracked). length t.sent) c.remove.ensures.rest in
+    let slots = ap (λ (t : Tracked). t.slots) c.remove.ensures.rest in
+    let less = left-within c.self.inside.in_flight.sent c.args.packet_id in
+    let load = c.self.invariant.3 in
+    let most = c.self.invariant.4 in (
+      c.self.invariant.0,
+      c.self.invariant.1,
+      c.self.invariant.2,
+      omega (arith, sent, less, load),
+      omega (arith, slots, most),
+    )

@@ -2,7 +2,6 @@ use Rattle.std.proofs.Common.{◌≡◌, ◌≤◌, length, refl, ◌∙◌, sym
 use Rattle.std.specs.List.{count_by}
 use Rattle.std.proofs.lemmas.Fn.{filter_same}
 use Rattle.std.proofs.lemmas.List.Sums.{length-filter, count_by-le-length}
-use Rattle.sng_outbox.specs.declared.limits.TheConstants.{MAX_OUTBOX_ITEMS}
 use Rattle.sng_outbox.specs.Sending.{is_publish, asks_for_ack, publishes}
 use Rattle.sng_outbox.proofs.LoadLemmas.{counted-publishes}
 use Rattle.sng_outbox.proofs.outbox.Outbox.keep_publishes.Goals as goal
@@ -12,7 +11,7 @@ invariant_of-self c =
     let waiting = c.self.inside.waiting.items in
     let kept : c.retain.new.self.items ≡ publishes waiting =
     filter_same _ is_publish _ (λ x b f' k. search rules) _ _ c.retain.ensures.filtered in
-    let fewer : length (publishes waiting) ≤ MAX_OUTBOX_ITEMS =
+    let fewer : length (publishes waiting) ≤ c.self.inside.places =
     omega (
       arith,
       length-filter is_publish waiting,

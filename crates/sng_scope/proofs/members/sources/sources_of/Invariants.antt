@@ -1,10 +1,9 @@
 use Rattle.std.proofs.Common.{◌≡◌, ◌+◌, ◌≤◌, [], length}
 use Rattle.serde_json.specs.View.{members_view}
-use Rattle.sng_grants.specs.declared.limits.TheConstants.{MAX_SOURCES}
 use Rattle.sng_scope.specs.Policies.{sources_onto}
 use Rattle.sng_scope.proofs.members.sources.sources_of.Given as goal
 
 abbrev pub invariant-loop-name : goal.invariant-loop-name
 invariant-loop-name l =
     (sources_onto l.ends l.sources (members_view l.name-iterator) ≡ sources_onto l.ends [] (members_view l.members.entries))
-    × (length l.sources + length l.name-iterator ≤ MAX_SOURCES)
+    × (length l.sources + length l.name-iterator ≤ length l.members.entries)

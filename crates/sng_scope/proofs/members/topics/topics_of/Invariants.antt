@@ -2,7 +2,6 @@ use Rattle.std.proofs.Common.{◌≡◌, ◌+◌, ◌≤◌, [], length, All}
 use Rattle.std.specs.Map.{keys_of}
 use Rattle.serde_json.specs.View.{members_view}
 use Rattle.sng_grants.specs.Topics.{IsTopicId}
-use Rattle.sng_grants.specs.declared.limits.TheConstants.{MAX_TOPICS}
 use Rattle.sng_scope.specs.Policies.{topics_onto}
 use Rattle.sng_scope.proofs.members.topics.topics_of.Given as goal
 
@@ -10,6 +9,6 @@ abbrev pub invariant-loop-name : goal.invariant-loop-name
 invariant-loop-name l = record {
   read : topics_onto l.names (members_view l.name-iterator)
       ≡ topics_onto [] (members_view l.members.entries);
-  few : length l.names + length l.name-iterator ≤ MAX_TOPICS;
+  few : length l.names + length l.name-iterator ≤ length l.members.entries;
   ids : All IsTopicId (keys_of l.names);
 }

@@ -44,11 +44,11 @@ loop-client-preserved c =
     }
 
 pub returns-clause-within : goal.returns-clause-within
-returns-clause-within c =
+returns-clause-within c = λ most few.
     let l = c.loop-client.invariant in
     let none = c.in-None.ensures.steps.0 in
     record {
-      few = c.len-count.ensures.few;
+      few = few;
       keys = l.keys (subst (λ (es : Entries). All IsClient (keys_of es)) (sym none) (All-nil IsClient));
       values = l.values (subst (λ (es : Entries). All IsGrant (values_of es)) (sym none) (All-nil IsGrant));
     }

@@ -37,11 +37,11 @@ loop-source-preserved c =
     }
 
 pub returns-clause-within : goal.returns-clause-within
-returns-clause-within c =
+returns-clause-within c = λ most few.
     let l = c.loop-source.invariant in
     let none = c.in-None.ensures.steps.0 in
     record {
-      few = c.len-count.ensures.few;
+      few = few;
       keys = l.keys (subst (λ (es : Entries). All IsAddress (keys_of es)) (sym none) (All-nil IsAddress));
       values = l.values (subst (λ (es : Entries). All IsGrant (values_of es)) (sym none) (All-nil IsGrant));
     }

@@ -40,10 +40,10 @@ loop-id-preserved c =
     }
 
 pub returns-clause-within : goal.returns-clause-within
-returns-clause-within c =
+returns-clause-within c = λ most few.
     let none = c.in-None.ensures.steps.0 in
     record {
-      few = c.len-count.ensures.few;
+      few = few;
       keys = c.len-count.ensures.ids;
       values = c.loop-id.invariant.values
           (subst (λ (es : Entries). All IsName (values_of es)) (sym none) (All-nil IsName));

@@ -7,4 +7,6 @@ pub invariant_of-self : goal.invariant_of-self
 invariant_of-self c =
     let size : length c.confirm.new.self.ids ≡ length c.self.inside.table.ids =
     ap length c.confirm.ensures.ids ∙ length-confirmed c.args.id _ in
-    omega (arith, c.self.invariant, size, c.confirm.ensures.spare)
+    λ some.
+    let before = c.self.invariant (omega (arith, size, some)) in
+    omega (arith, before, size, c.confirm.ensures.spare)

@@ -1,7 +1,6 @@
 -- The clients that the tree finds are those who hold a filter that matches.
-use Rattle.std.proofs.Common.{◌≡◌, ap, ◌∙◌, subst}
+use Rattle.std.proofs.Common.{ap, ◌∙◌}
 use Rattle.std.proofs.lemmas.Result.{IfOk-weaker}
-use Rattle.std.specs.Prelude.{IfOk}
 use Rattle.sng_sessions.specs.Holding.{holders_from}
 use Rattle.sng_sessions.proofs.HoldersListed.{are-holders}
 use Rattle.sng_sessions.proofs.sessions.Sessions.holders.Goals as goal

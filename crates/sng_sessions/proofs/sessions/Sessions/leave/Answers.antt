@@ -1,5 +1,5 @@
 -- Who leaves holds what it held.
-use Rattle.std.proofs.Common.{refl, sym, ap, ◌∙◌}
+use Rattle.std.proofs.Common.{refl}
 use Rattle.sng_history.specs.Entering.{left_at}
 use Rattle.sng_sessions.proofs.KeptLemmas.{keeps-kept}
 use Rattle.sng_sessions.proofs.sessions.Sessions.leave.Goals as goal

@@ -1,5 +1,5 @@
 -- Who is lost holds what it held.
-use Rattle.std.proofs.Common.{refl, sym, ap, ◌∙◌}
+use Rattle.std.proofs.Common.{refl}
 use Rattle.sng_history.specs.Clients.{lost}
 use Rattle.sng_sessions.proofs.KeptLemmas.{keeps-kept}
 use Rattle.sng_sessions.proofs.sessions.Sessions.lose.Goals as goal

@@ -1,9 +1,7 @@
 use Rattle.std.proofs.Common.{ℕ, ap, subst, ◌∙◌}
 use Rattle.std.proofs.lemmas.Result.{IfOk-weaker}
-use Rattle.std.specs.BTreeMap.{is_at}
-use Rattle.std.specs.Map.{lookup}
-use Rattle.std.specs.Ordering.{nat_cmp}
 use Rattle.std.specs.Prelude.{IfOk}
+use Rattle.sng_standing.specs.Found.{best_of}
 use Rattle.sng_standing.specs.Greatest.{joined, greatest_at}
 use Rattle.sng_standing.specs.Holders.{AreHolders}
 use Rattle.sng_standing.proofs.Listed.{are_holders}
@@ -13,11 +11,11 @@ pub returns : goal.returns
 returns c =
     let root = c.self.inside.root in
     let name = c.args.name.now in
-    let each = λ (n : ℕ). c.in_ok-find.ensures n
-    ∙ ap (λ es. joined (lookup (is_at (nat_cmp n)) es) (greatest_at root n c.text.result.now))
-    c.new-found.ensures.empty
+    let each = λ (n : ℕ). ap (λ found. best_of found n) c.as_slice.ensures.value ∙ c.in_ok-find.ensures n
+    ∙ ap (λ found. joined (best_of found n) (greatest_at root n c.text.result.now))
+    c.new-found.ensures.items
     ∙ ap (greatest_at root n) c.text.ensures.value in
-    subst (λ tree. IfOk c.listed.result (λ list. AreHolders tree name list.items)) c.self.view_is
-    (IfOk-weaker c.listed.result _ _
-    (λ list is. are_holders root name list.items c.find.new.found.entries is c.listed.ensures.ordered each
-    c.self.invariant c.text.ensures.name) c.listed.ensures.list)
+    subst (λ tree. IfOk c.holders_of.result (λ list. AreHolders tree name list.items)) c.self.view_is
+    (IfOk-weaker c.holders_of.result _ _
+    (λ list are. are_holders root name c.as_slice.result.now list.items are each
+    c.self.invariant c.text.ensures.name) c.holders_of.ensures)

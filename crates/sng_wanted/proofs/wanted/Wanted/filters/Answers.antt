@@ -20,7 +20,7 @@ loop-filter-preserved c =
       can_next = tt;
       is_finite = tt;
       copied = rw c.in_ok-copy_standing.ensures
-          (texts_more (map (λ (w : Wanted). w.filter) c.args.self.now) c.loop-filter.filters.items
+          (texts_more (map (λ (w : Wanted). w.filter) c.args.self.now.wanted) c.loop-filter.filters.items
           c.in-Some.filter.now c.in-Some.want.now c.next.new.self
           (rw step at c.loop-filter.invariant.copied));
     }
